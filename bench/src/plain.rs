@@ -9,7 +9,8 @@ fn numbers(word: &str) -> Vec<isize> {
     word.split(',').map(|n| n.parse().expect("a number")).collect()
 }
 
-/// One axis: how many entries, from one to the next, and from the place of its first entry to that of the view's.
+/// One axis: how many coordinates, from one to the next, and from the place of its first coordinate to that of the
+/// view's.
 struct Axis {
     len: isize,
     stride: isize,

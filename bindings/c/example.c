@@ -12,7 +12,7 @@ static const char pixels[] =
     "..#......."
     "..#.......";
 
-/* Ends the program where a call was refused, with what its status means. */
+/* Ends the program where a call failed, with what its status means. */
 static void expect_ok(int32_t status) {
     char text[ND_TEXT_SIZE];
     size_t used;

@@ -12,12 +12,12 @@
  * Statuses. Each call returns one of ND_OK to ND_OUT_OF_MEMORY. After any status but ND_OK nothing has been written.
  * ND_BAD_ARGUMENT is a number that has no meaning (an order, a mode, a fit, a kind of element), or a list to be written of
  * another count than is due. It comes before every other status, ND_OUT_OF_MEMORY too. Only the counts of what nd_places and
- * nd_slice write are tested last. ND_OUT_OF_MEMORY may come where a list that is read has more than four entries, in place of
+ * nd_slice write are tested last. ND_OUT_OF_MEMORY may come where a list that is read has more than four numbers, in place of
  * every status but a ND_BAD_ARGUMENT that comes first.
  *
  * What the caller ensures. Nothing else can make a call misbehave:
  *   - no pointer is null, and each is aligned as its type asks; for an empty list pass the address of anything of the type;
- *   - each count is true: so many entries can be read, and written where the list is written;
+ *   - each count is true: so many numbers can be read, and written where the list is written;
  *   - what a call writes overlaps nothing else that it is given, and no other thread uses it meanwhile;
  *   - `malloc`, `realloc` and `free` are those of one allocator, which aligns a block to each power of two up to 16 that divides
  *     its size;

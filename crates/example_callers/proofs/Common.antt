@@ -43,8 +43,8 @@ handed_on Y (Ok x) error fault is same = absurd is
 handed_on Y (Err e) error fault is same = ap (λ f. shape_fault {X = Y} (Err f)) is ∙ same
 
 -- where it has none, there was none
-pub unrefused : {X : Type 0} {fault : Option ErrorKind} (Y : Type 0) (result : Result X LayoutError) (error : LayoutError) → IsErrAnd
+pub without_error : {X : Type 0} {fault : Option ErrorKind} (Y : Type 0) (result : Result X LayoutError) (error : LayoutError) → IsErrAnd
     result (λ e. e ≡ error) → shape_fault {X = Y} (Err error) ≡ fault
     → shape_fault result ≡ None → fault ≡ None
-unrefused Y (Ok x) error is same none = absurd is
-unrefused Y (Err e) error is same none = sym same ∙ sym (ap (λ f. shape_fault {X = Y} (Err f)) is) ∙ none
+without_error Y (Ok x) error is same none = absurd is
+without_error Y (Err e) error is same none = sym same ∙ sym (ap (λ f. shape_fault {X = Y} (Err f)) is) ∙ none

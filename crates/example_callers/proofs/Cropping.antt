@@ -4,20 +4,20 @@ use Rattle.std.specs.Prelude.{IfOk, IsTrue, None, slice_index}
 use Rattle.ndarray_layout.specs.declared.Fit.TheVariants.{Strict}
 use Rattle.ndarray_layout.specs.declared.LayoutError.{LayoutError}
 use Rattle.ndarray_layout.specs.declared.SliceInfoElem.{SliceInfoElem}
-use Rattle.ndarray_layout.specs.ArgumentFault.{in_count}
+use Rattle.ndarray_layout.specs.SliceFault.{in_count}
 use Rattle.ndarray_layout.specs.Indices.{is_index}
 use Rattle.ndarray_layout.specs.Descends.{Descends}
 use Rattle.ndarray_layout.specs.Picks.{picks, slice_with}
 use Rattle.ndarray_layout.specs.Selected.{selected}
 use Rattle.ndarray_layout.specs.ShapeFault.{shape_fault}
 use Rattle.ndarray_layout.specs.Sliced.{sliced_shape}
-use Rattle.ndarray_layout.specs.SlicedView.{slice_of, slice_refusal}
+use Rattle.ndarray_layout.specs.SlicedView.{slice_of, view_slice_fault}
 use Rattle.ndarray_layout.specs.View.{View, place_at}
-use Rattle.ndarray_layout.proofs.laws.ArgumentFault.{elements_of_no_fault}
-use Rattle.ndarray_layout.proofs.laws.SlicedView.{fits_of_no_refusal}
+use Rattle.ndarray_layout.proofs.laws.SliceFault.{elements_of_no_fault}
+use Rattle.ndarray_layout.proofs.laws.SlicedView.{no_argument_fault}
 use Rattle.ndarray_layout.proofs.laws.UnitStep.{length-picks_by_one, ranges, selected_by_ranges}
 
--- two axes, of which as many entries are picked as lie between the bounds
+-- two axes, of which as many coordinates are picked as lie between the bounds
 rows_between : (rows top bottom : ℕ) → length (picks Strict rows (slice_with (pos top) (Some (pos bottom)) (pos 1))) ≡ bottom - top
 rows_between rows top bottom = length-picks_by_one Strict rows (pos top) (Some (pos bottom))
 
@@ -45,10 +45,10 @@ sizes_of_band top bottom (rows ∷ columns ∷ []) count =
 sizes_of_band top bottom (rows ∷ columns ∷ more ∷ shape) count = absurd (omega arith)
 
 -- an argument with two elements that fits is for two axes
-two_axes : (view : View) (elems : List SliceInfoElem) → in_count elems ≡ 2 → None ≡ slice_refusal Strict (Some 2) view.shape elems
+two_axes : (view : View) (elems : List SliceInfoElem) → in_count elems ≡ 2 → None ≡ view_slice_fault Strict (Some 2) view.shape elems
     → 2 ≡ length view.shape
 two_axes view elems two none = sym two
-    ∙ (elements_of_no_fault Strict view.shape elems (fits_of_no_refusal Strict (Some 2) view.shape elems (sym none))).0
+    ∙ (elements_of_no_fault Strict view.shape elems (no_argument_fault Strict (Some 2) view.shape elems (sym none))).0
 
 -- a picture between bounds of its rows and of its columns
 module _ {elems : List SliceInfoElem} (view : View) (top left : ℕ) (bottom right : Option ℤ)
@@ -66,7 +66,7 @@ module _ {elems : List SliceInfoElem} (view : View) (top left : ℕ) (bottom rig
 
   pub shape_of_crop : (made : Result View LayoutError) (shape : List ℕ)
       → (2 ≡ length view.shape → sliced_shape Strict (ranges (top ∷ left ∷ []) (bottom ∷ right ∷ [])) view.shape ≡ shape)
-      → shape_fault made ≡ slice_refusal Strict (Some 2) view.shape elems → IfOk made (λ crop. crop ≡ slice_of Strict elems view)
+      → shape_fault made ≡ view_slice_fault Strict (Some 2) view.shape elems → IfOk made (λ crop. crop ≡ slice_of Strict elems view)
       → IfOk made (λ crop. crop.shape ≡ shape)
   shape_of_crop (Ok crop) shape left_of fault is =
       ap (λ made. made.shape) is

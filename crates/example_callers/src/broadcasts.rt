@@ -29,7 +29,7 @@ pub fn on_common_shape<D: Lengths>(
         (λ common. broadcast_fault common one.now.shape)
         (common_shape one.now.shape other.now.shape)
         (Some IncompatibleShape) }
-    ensures refused { (kind : ErrorKind) → shape_fault result ≡ Some kind → option_map_or
+    ensures failed { (kind : ErrorKind) → shape_fault result ≡ Some kind → option_map_or
         (λ common. broadcast_fault common one.now.shape)
         (common_shape one.now.shape other.now.shape)
         (Some IncompatibleShape) ≡ Some kind }
@@ -41,9 +41,9 @@ pub fn on_common_shape<D: Lengths>(
         Some both.0.shape) }
     ensures one { IfOk result (λ both. both.0 ≡ broadcast_of both.0.shape one.now) }
     ensures other { IfOk result (λ both. both.1 ≡ broadcast_of both.0.shape other.now) }
-    ensures inside { IfOk result (λ both. (len : ℕ) → LiesWithin len one.now →
+    ensures in_bounds { IfOk result (λ both. (len : ℕ) → LiesWithin len one.now →
         LiesWithin len both.0) }
-    ensures inside_other { IfOk result (λ both. (len : ℕ) → LiesWithin len other.now →
+    ensures in_bounds_other { IfOk result (λ both. (len : ℕ) → LiesWithin len other.now →
         LiesWithin len both.1) }
 {
     let shape: D = co_broadcast(alloc, one.dim(), other.dim())?;

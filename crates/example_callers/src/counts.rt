@@ -40,7 +40,7 @@ fn pixel_at<D: Dimension>(
 ) -> Result<u8, AllocError>
 where
     D::Pattern: IntoDimension<Dim = D>,
-    requires inside { LiesWithin (length pixels.now) view.now }
+    requires in_bounds { LiesWithin (length pixels.now) view.now }
     requires index { is_index view.now.shape (D.Pattern.lens item) ≡ true }
     ensures pixel { IfOk result (λ pixel. pixel ≡
         slice_index pixels.now (magnitude (place_at view.now (D.Pattern.lens item)))) }

@@ -1,7 +1,7 @@
 //! Parts of a picture by bounds.
 ghost use Rattle.std.specs.Prelude.{◌≡◌, ℕ, ◌+◌, ◌-◌, pos, [], ◌∷◌, IfOk, IfSome, IsOk, IsTrue, None, Some, map, slice_get, slice_index};
 ghost use Rattle.ndarray_layout.specs.declared.Fit.TheVariants.{Strict};
-ghost use Rattle.ndarray_layout.specs.ArgumentFault.{argument_fault};
+ghost use Rattle.ndarray_layout.specs.SliceFault.{argument_fault};
 ghost use Rattle.ndarray_layout.specs.DistinctPlaces.{HasDistinctPlaces};
 ghost use Rattle.ndarray_layout.specs.Indices.{is_index};
 ghost use Rattle.ndarray_layout.specs.ShapeFault.{shape_fault};
@@ -27,7 +27,7 @@ pub fn band(
         (rows.end - rows.start) ∷ slice_index picture.now.shape 1 ∷ []) }
     ensures place { IfOk result (λ band. (i j : ℕ) → IsTrue (is_index band.shape (i ∷ j ∷ [])) →
         place_at band (i ∷ j ∷ []) ≡ place_at picture.now ((rows.start + i) ∷ j ∷ [])) }
-    ensures inside { IfOk result (λ band. (len : ℕ) → LiesWithin len picture.now →
+    ensures in_bounds { IfOk result (λ band. (len : ℕ) → LiesWithin len picture.now →
         LiesWithin len band) }
     ensures distinct { IfOk result (λ band. HasDistinctPlaces picture.now →
         HasDistinctPlaces band) }
@@ -55,7 +55,7 @@ pub fn crop(
     ensures place { IfOk result (λ crop. (i j : ℕ) → IsTrue (is_index crop.shape (i ∷ j ∷ [])) →
         place_at crop (i ∷ j ∷ []) ≡
         place_at picture.now ((rows.start + i) ∷ (columns.start + j) ∷ [])) }
-    ensures inside { IfOk result (λ crop. (len : ℕ) → LiesWithin len picture.now →
+    ensures in_bounds { IfOk result (λ crop. (len : ℕ) → LiesWithin len picture.now →
         LiesWithin len crop) }
     ensures distinct { IfOk result (λ crop. HasDistinctPlaces picture.now →
         HasDistinctPlaces crop) }

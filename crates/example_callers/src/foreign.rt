@@ -72,7 +72,7 @@ pub fn from_bytes<D: Lengths>(
     ensures shape { IfOk result (λ view. view.shape ≡ D.list dim) }
     ensures strides { IfOk result (λ view.
         map (λ stride. stride *ℤ pos elem_size) view.strides ≡ all_signed (D.list byte_strides)) }
-    ensures inside { IfOk result (λ view. LiesWithin len view) }
+    ensures in_bounds { IfOk result (λ view. LiesWithin len view) }
     ensures distinct { IfOk result (λ view. mode ≡ OwnedMutable → HasDistinctPlaces view) }
 {
     let mut strides = byte_strides;

@@ -3,9 +3,9 @@ ghost use Rattle.std.specs.Option.{option_or};
 ghost use Rattle.std.specs.Prelude.{◌≡◌, ℕ, pos, Contains, IfNone, IfOk, IfSome, IsOk, None, map};
 ghost use Rattle.ndarray_layout.specs.declared.Fit.TheVariants.{Strict};
 ghost use Rattle.ndarray_layout.specs.declared.Order.TheVariants.{RowMajor};
-ghost use Rattle.ndarray_layout.specs.ArgumentFault.{argument_fault};
+ghost use Rattle.ndarray_layout.specs.SliceFault.{argument_fault};
 ghost use Rattle.ndarray_layout.specs.DistinctPlaces.{HasDistinctPlaces};
-ghost use Rattle.ndarray_layout.specs.Meet.{Meet};
+ghost use Rattle.ndarray_layout.specs.Intersect.{Intersect};
 ghost use Rattle.ndarray_layout.specs.ShapeFault.{shape_fault};
 ghost use Rattle.ndarray_layout.specs.SlicedView.{slice_of};
 ghost use Rattle.ndarray_layout.specs.View.{view_places};
@@ -47,10 +47,10 @@ pub fn separate_places<D: Lengths, A: SliceElems, B: SliceElems>(
         view_places RowMajor (slice_of Strict (B.list second.now) view.now))) }
     ensures separate { IfOk result (λ parts. IfSome parts (λ places.
         (n : ℕ) → Contains places.0.items n → Contains places.1.items n → ⊥)) }
-    ensures meet { IfOk result (λ parts. IfNone parts
-        (Meet Strict view.now.shape (A.list first.now) (B.list second.now))) }
+    ensures intersect { IfOk result (λ parts. IfNone parts
+        (Intersect Strict view.now.shape (A.list first.now) (B.list second.now))) }
     ensures memory { shape_fault result ≡ None →
-        Meet Strict view.now.shape (A.list first.now) (B.list second.now) → IsOk result }
+        Intersect Strict view.now.shape (A.list first.now) (B.list second.now) → IsOk result }
 {
     if view.meets(first, second, Fit::Strict)? {
         return Ok(None);

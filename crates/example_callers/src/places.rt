@@ -21,7 +21,7 @@ pub fn picture(pixels: &[u8], rows: usize, columns: usize) -> Result<Strided<Ix2
     ensures place { IfOk result (λ picture. (row column : ℕ) →
         place_at picture (row ∷ column ∷ []) ≡ pos (row * columns + column)) }
     ensures distinct { IfOk result (λ picture. HasDistinctPlaces picture) }
-    ensures inside { IfOk result (λ picture. LiesWithin (length pixels.now) picture) }
+    ensures in_bounds { IfOk result (λ picture. LiesWithin (length pixels.now) picture) }
 {
     let (shape, strides) = (new_ix2(rows, columns), new_ix2(columns, 1));
     let mode = CanIndexCheckMode::OwnedMutable;

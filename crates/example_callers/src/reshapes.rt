@@ -29,6 +29,6 @@ pub fn along_shape<D: Lengths, E: Lengths>(
     match view.reshape(alloc, shape, Order::RowMajor) {
         Ok(same) => Ok(Some(same)),
         Err(LayoutError::Shape(_)) => Ok(None),
-        Err(LayoutError::Memory(refused)) => Err(refused),
+        Err(LayoutError::Memory(failed)) => Err(failed),
     }
 }

@@ -9,7 +9,7 @@ ghost use Rattle.ndarray_layout.specs.DistinctPlaces.{HasDistinctPlaces};
 ghost use Rattle.ndarray_layout.specs.Indices.{is_index};
 ghost use Rattle.ndarray_layout.specs.Lengths.{NeedsNoMemory};
 ghost use Rattle.ndarray_layout.specs.FlatIndex.{index_of_flat_in, flat_index_in};
-ghost use Rattle.ndarray_layout.specs.ReshapedView.{reshape_refusal};
+ghost use Rattle.ndarray_layout.specs.ReshapedView.{view_reshape_fault};
 ghost use Rattle.ndarray_layout.specs.ShapeFault.{shape_fault};
 ghost use Rattle.ndarray_layout.specs.View.{LiesWithin, place_at};
 
@@ -36,7 +36,7 @@ pub fn grid(
     ensures place { IfOk result (λ grid. (i j : ℕ) →
         IsTrue (is_index (rows ∷ columns ∷ []) (i ∷ j ∷ [])) →
         place_at grid (i ∷ j ∷ []) ≡ pos (i * columns + j)) }
-    ensures inside { IfOk result (λ grid. LiesWithin (length items.now) grid) }
+    ensures in_bounds { IfOk result (λ grid. LiesWithin (length items.now) grid) }
     ensures distinct { IfOk result (λ grid. HasDistinctPlaces grid) }
 {
     let shape = StrideShape {
@@ -58,7 +58,7 @@ pub fn in_shape(alloc: Global, items: &[u8], dim: IxDyn) -> Result<Strided<IxDyn
         IsOk result }
     ensures place { IfOk result (λ view. (index : List ℕ) → IsTrue (is_index (lengths dim) index) →
         place_at view index ≡ pos (flat_index_in RowMajor (lengths dim) index)) }
-    ensures inside { IfOk result (λ view. LiesWithin (length items.now) view) }
+    ensures in_bounds { IfOk result (λ view. LiesWithin (length items.now) view) }
     ensures distinct { IfOk result (λ view. HasDistinctPlaces view) }
 {
     let shape = StrideShape {
@@ -78,7 +78,7 @@ pub fn in_rows<D: Lengths>(
     rows: usize,
     columns: usize,
 ) -> Result<Strided<Ix2>, LayoutError>
-    ensures fault { shape_fault result ≡ reshape_refusal RowMajor (rows ∷ columns ∷ []) view.now }
+    ensures fault { shape_fault result ≡ view_reshape_fault RowMajor (rows ∷ columns ∷ []) view.now }
     ensures memory { shape_fault result ≡ None → IsOk result }
     ensures place { IfOk result (λ grid. (i j : ℕ) →
         IsTrue (is_index (rows ∷ columns ∷ []) (i ∷ j ∷ [])) →
@@ -87,7 +87,7 @@ pub fn in_rows<D: Lengths>(
     ensures line { IfOk result (λ grid. (len i j : ℕ) → view.now.shape ≡ len ∷ [] →
         IsTrue (is_index (rows ∷ columns ∷ []) (i ∷ j ∷ [])) →
         place_at grid (i ∷ j ∷ []) ≡ place_at view.now ((i * columns + j) ∷ [])) }
-    ensures inside { IfOk result (λ grid. (len : ℕ) → LiesWithin len view.now →
+    ensures in_bounds { IfOk result (λ grid. (len : ℕ) → LiesWithin len view.now →
         LiesWithin len grid) }
     ensures distinct { IfOk result (λ grid. HasDistinctPlaces view.now → HasDistinctPlaces grid) }
 {

@@ -1,8 +1,8 @@
-//! Slices a view, and walks over the places of what is left.
+//! Slices a view, and iterates over the places of what is left.
 ghost use Rattle.std.specs.Prelude.{◌≡◌, ℕ, ◌-◌, ◌*◌, pos, negsuc, [], ◌∷◌, IfOk, IsOk, IsTrue, None, Some, length, map, slice_get, slice_index};
 ghost use Rattle.ndarray_layout.specs.declared.Fit.TheVariants.{Strict};
 ghost use Rattle.ndarray_layout.specs.declared.Order.TheVariants.{RowMajor};
-ghost use Rattle.ndarray_layout.specs.ArgumentFault.{argument_fault};
+ghost use Rattle.ndarray_layout.specs.SliceFault.{argument_fault};
 ghost use Rattle.ndarray_layout.specs.DistinctPlaces.{HasDistinctPlaces};
 ghost use Rattle.ndarray_layout.specs.Indices.{is_index};
 ghost use Rattle.ndarray_layout.specs.ShapeFault.{shape_fault};
@@ -29,7 +29,7 @@ pub fn alternate_rows(alloc: Global, picture: &Strided<Ix2>) -> Result<Strided<I
     ensures place { IfOk result (λ rows. (i j : ℕ) → IsTrue (is_index rows.shape (i ∷ j ∷ [])) →
         place_at rows (i ∷ j ∷ []) ≡ place_at picture.now
         ((slice_index picture.now.shape 0 - 1 - 2 * i) ∷ j ∷ [])) }
-    ensures inside { IfOk result (λ rows. (len : ℕ) → LiesWithin len picture.now →
+    ensures in_bounds { IfOk result (λ rows. (len : ℕ) → LiesWithin len picture.now →
         LiesWithin len rows) }
     ensures distinct { IfOk result (λ rows. HasDistinctPlaces picture.now →
         HasDistinctPlaces rows) }

@@ -2,7 +2,7 @@
 ghost use Rattle.std.specs.Option.{IfSome, IsSome};
 ghost use Rattle.std.specs.Prelude.{◌≡◌, ◌↔◌, ℕ, ◌+◌, ◌-◌, pos, [], ◌∷◌, IfOk, IsOk, IsTrue, None, Some, length, slice_get};
 ghost use Rattle.ndarray_layout.specs.declared.Fit.TheVariants.{Strict};
-ghost use Rattle.ndarray_layout.specs.ArgumentFault.{argument_fault};
+ghost use Rattle.ndarray_layout.specs.SliceFault.{argument_fault};
 ghost use Rattle.ndarray_layout.specs.DistinctPlaces.{HasDistinctPlaces};
 ghost use Rattle.ndarray_layout.specs.Indices.{is_index};
 ghost use Rattle.ndarray_layout.specs.ShapeFault.{shape_fault};
@@ -34,7 +34,7 @@ pub fn transposed_part(
     ensures place { IfOk result (λ part. (i j : ℕ) → IsTrue (is_index part.shape (i ∷ j ∷ [])) →
         place_at part (i ∷ j ∷ []) ≡
         place_at picture.now ((rows.start + j) ∷ (columns.start + i) ∷ [])) }
-    ensures inside { IfOk result (λ part. (len : ℕ) → LiesWithin len picture.now →
+    ensures in_bounds { IfOk result (λ part. (len : ℕ) → LiesWithin len picture.now →
         LiesWithin len part) }
     ensures distinct { IfOk result (λ part. HasDistinctPlaces picture.now →
         HasDistinctPlaces part) }

@@ -27,7 +27,7 @@ pub fn write_parts<D: Lengths>(
         All (IsWritten picture.old.view picture.new.items) (map write_of parts.now)) }
     ensures kept { IfOk result (λ done. IsTrue done →
         KeepsOthers picture.old.view (map write_of parts.now) picture.old.items picture.new.items) }
-    ensures refused { IfOk result (λ done. done ≡ false → picture.new ≡ picture.old) }
+    ensures failed { IfOk result (λ done. done ≡ false → picture.new ≡ picture.old) }
     ensures view { picture.new.view ≡ picture.old.view }
     ensures no_memory { OnErr result (picture.new ≡ picture.old) }
     ensures asked { OnErr result (IsFaultOfWrites picture.old.view.shape
@@ -37,7 +37,7 @@ pub fn write_parts<D: Lengths>(
     match picture.multi_set(alloc, parts) {
         Ok(()) => Ok(true),
         Err(LayoutError::Shape(_)) => Ok(false),
-        Err(LayoutError::Memory(refused)) => Err(refused),
+        Err(LayoutError::Memory(failed)) => Err(failed),
     }
 }
 
@@ -55,7 +55,7 @@ pub fn with_two_parts<D: Lengths>(
     ensures kept { IfOk result (λ pixels.
         KeepsOthers picture.view (map write_of parts.now) picture.items pixels.items) }
     ensures count { IfOk result (λ pixels. length pixels.items ≡ length picture.items) }
-    ensures handed_back { IfErr result (λ refusal. refusal.1 ≡ picture) }
+    ensures handed_back { IfErr result (λ error. error.1 ≡ picture) }
 {
     let mut picture = picture;
     match picture.multi_set(alloc, parts) {

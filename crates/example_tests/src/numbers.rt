@@ -2,7 +2,7 @@
 use std::alloc::Global;
 use test_tables::{List, Words};
 
-/// So many pixels; `None` where memory is refused.
+/// So many pixels; `None` where an allocation fails.
 pub fn pixels(alloc: Global, count: usize) -> Option<Vec<u8>> {
     let mut pixels = Vec::with_capacity(alloc, count).ok()?;
     for number in 0..count {
@@ -11,7 +11,7 @@ pub fn pixels(alloc: Global, count: usize) -> Option<Vec<u8>> {
     Some(pixels)
 }
 
-/// The numbers of pixels; `None` where memory is refused.
+/// The numbers of pixels; `None` where an allocation fails.
 fn numbers(alloc: Global, pixels: &[u8]) -> Option<Vec<usize>> {
     let mut numbers = Vec::with_capacity(alloc, pixels.len()).ok()?;
     for pixel in pixels {

@@ -17,7 +17,7 @@ fn are_places<D: Lengths>(
     Some(answer.is_list(view.dim().slice()) && are(places.as_slice(), answer.word()?)?)
 }
 
-/// Whether a call made such a view, or was refused so.
+/// Whether a call made such a view, or failed so.
 pub fn is_made<D: Lengths>(
     alloc: Global,
     made: Result<Strided<D>, LayoutError>,
@@ -29,7 +29,7 @@ pub fn is_made<D: Lengths>(
     }
 }
 
-/// Whether a call made two such views, or was refused so.
+/// Whether a call made two such views, or failed so.
 fn are_made(
     alloc: Global,
     made: Result<Vec<Strided<Ix2>>, LayoutError>,

@@ -59,7 +59,7 @@ fn are_alternate(alloc: Global, pixels: &[u8], view: &Strided<Ix2>, answer: &str
 
 /// The view that a row lays out over so many pixels.
 fn view(alloc: Global, layout: &Layout, len: usize) -> Option<Strided<IxDyn>>
-    ensures inside { IfSome result (λ view. LiesWithin len view) }
+    ensures in_bounds { IfSome result (λ view. LiesWithin len view) }
     ensures distinct { IfSome result (λ view. HasDistinctPlaces view) }
 {
     let shape = made(alloc, layout.shape.as_slice())?;
@@ -188,7 +188,7 @@ fn is_along(
     }
 }
 
-/// Whether two parts of a view have these places, or share an index, or one is refused so.
+/// Whether two parts of a view have these places, or share an index, or one fails so.
 fn are_separate(
     alloc: Global,
     view: &Strided<IxDyn>,

@@ -8,15 +8,15 @@ use Rattle.ndarray_layout.specs.declared.Fit.TheVariants.{Strict}
 use Rattle.ndarray_layout.specs.declared.Slice.{Slice}
 use Rattle.ndarray_layout.specs.Picks.{picks, slice_with}
 use Rattle.ndarray_layout.specs.Signed.{magnitude}
-use Rattle.ndarray_layout.specs.SliceFault.{SliceFits}
+use Rattle.ndarray_layout.specs.AxisFault.{SliceFits}
 use Rattle.ndarray_layout.proofs.laws.Between.{pick_up, pick_down}
 use Rattle.ndarray_layout.proofs.laws.Picks.{length-picks}
 
--- a slice fits an axis, and picks so many entries of it, the one at each position as given
+-- a slice fits an axis, and picks so many coordinates of it, the one at each position as given
 pub record IsPick (len : ℕ) (slice : Slice) (picked : ℕ) (from : ℕ → ℕ) : Type 0 where
   pub fits : SliceFits Strict len slice
   pub count : length (picks Strict len slice) ≡ picked
-  pub entry : (j : ℕ) → j < picked → get_or (picks Strict len slice) j 0 ≡ from j
+  pub coordinate : (j : ℕ) → j < picked → get_or (picks Strict len slice) j 0 ≡ from j
 
 ceil_by_one : (n : ℕ) → div_ceil n 1 ≡ n
 ceil_by_one n = search (arith, rules)
@@ -27,8 +27,8 @@ all_of len n = let same : len - 0 ≡ len = omega arith in ap (λ (m : ℕ). div
 -- a slice that fits picks so many, and the one at each position of the picks as given
 picks_so : (len : ℕ) (slice : Slice) (picked : ℕ) (from : ℕ → ℕ) → SliceFits Strict len slice → length (picks Strict len slice) ≡ picked
     → ((j : ℕ) → j < length (picks Strict len slice) → get_or (picks Strict len slice) j 0 ≡ from j) → IsPick len slice picked from
-picks_so len slice picked from fits count entry =
-    record { fits = fits; count = count; entry = λ j h. entry j (subst (λ n. j < n) (sym count) h) }
+picks_so len slice picked from fits count coordinate =
+    record { fits = fits; count = count; coordinate = λ j h. coordinate j (subst (λ n. j < n) (sym count) h) }
 
 -- a range between two bounds, by a step of one upward or downward
 span_fits : (len start end : ℕ) (step : ℤ) → leb start len ≡ true → leb end len ≡ true → IsFalse (magnitude step == 0)
@@ -43,7 +43,7 @@ of_span len start end first last =
     picks_so len slice (end - start) (λ j. start + j) fits (length-picks Strict len slice fits ∙ ceil_by_one (end - start))
     (λ j h. (let picked = pick_up 1 start end j (lit< tt) h in omega (arith, picked)))
 
--- all of an axis, from the first or from the last entry on
+-- all of an axis, from the first or from the last coordinate on
 axis_fits : (len : ℕ) (step : ℤ) → IsFalse (magnitude step == 0) → SliceFits Strict len (slice_with (pos 0) None step)
 axis_fits len step moves =
     record { start_within = le-leb 0 len (omega arith); end_within = le-leb len len (omega arith); step_moves = moves }
@@ -68,6 +68,6 @@ all len =
     record {
       fits = by_one.fits;
       count = by_one.count ∙ ceil_by_one len;
-      entry = λ j h. by_one.entry j
+      coordinate = λ j h. by_one.coordinate j
           (subst (λ n. j < n) (sym (ceil_by_one len)) h) ∙ omega arith;
     }

@@ -9,10 +9,10 @@ use Rattle.ndarray_layout.specs.Descends.{Descends}
 use Rattle.ndarray_layout.specs.Indices.{is_index}
 use Rattle.ndarray_layout.specs.Selected.{selected}
 use Rattle.ndarray_layout.specs.Sliced.{sliced_shape}
-use Rattle.ndarray_layout.specs.SlicedView.{slice_of, slice_refusal}
+use Rattle.ndarray_layout.specs.SlicedView.{slice_of, view_slice_fault}
 use Rattle.ndarray_layout.specs.View.{View, place_at}
 use Rattle.ndarray_layout.proofs.laws.Picks.{pick_below}
-use Rattle.ndarray_layout.proofs.laws.SliceFault.{no_fault_of_fits}
+use Rattle.ndarray_layout.proofs.laws.AxisFault.{no_fault_of_fits}
 use Rattle.example_tiles_edits.specs.declared.picture.Extent.{Extent}
 use Rattle.example_tiles_edits.specs.Picture.{IsWithin, Position}
 use Rattle.example_tiles_edits.specs.declared.edit.Edit.{Edit}
@@ -28,23 +28,23 @@ element_of s = elem.Slice s.start s.end s.step
 -- ---- what two slices leave of two axes
 module _ {rows columns : ℕ} {one other : Slice} {r c : ℕ} {f g : ℕ → ℕ} (first : IsPick rows one r f)
     (second : IsPick columns other c g) where
-  not_refused : slice_refusal Strict (Some 2) (rows ∷ columns ∷ []) (element_of one ∷ element_of other ∷ []) ≡ None
-  not_refused = rw (no_fault_of_fits Strict rows one first.fits, no_fault_of_fits Strict columns other second.fits) refl
+  not_at_fault : view_slice_fault Strict (Some 2) (rows ∷ columns ∷ []) (element_of one ∷ element_of other ∷ []) ≡ None
+  not_at_fault = rw (no_fault_of_fits Strict rows one first.fits, no_fault_of_fits Strict columns other second.fits) refl
 
   shape_left : sliced_shape Strict (element_of one ∷ element_of other ∷ []) (rows ∷ columns ∷ []) ≡ r ∷ c ∷ []
   shape_left = rw (first.count, second.count) refl
 
   stands_for : (i j : ℕ) → i < r → j < c
       → selected Strict (element_of one ∷ element_of other ∷ []) (rows ∷ columns ∷ []) (i ∷ j ∷ []) ≡ f i ∷ g j ∷ []
-  stands_for i j below right = rw (first.entry i below, second.entry j right) refl
+  stands_for i j below right = rw (first.coordinate i below, second.coordinate j right) refl
 
 pick_within : {len : ℕ} {slice : Slice} {count : ℕ} {f : ℕ → ℕ} (j : ℕ) → IsPick len slice count f → j < count → f j < len
 pick_within {len} {slice} j pick below =
-    subst (λ n. n < len) (pick.entry j below) (pick_below Strict len slice j pick.fits (subst (λ n. j < n) (sym pick.count) below))
+    subst (λ n. n < len) (pick.coordinate j below) (pick_below Strict len slice j pick.fits (subst (λ n. j < n) (sym pick.count) below))
 
 -- ---- what an edit that fits leaves of an extent
 pub record IsSlice (extent : Extent) (edit : Edit) (elements : List SliceInfoElem) : Type 0 where
-  pub none : slice_refusal Strict (Some 2) (shape_of extent) elements ≡ None
+  pub none : view_slice_fault Strict (Some 2) (shape_of extent) elements ≡ None
   pub shape : sliced_shape Strict elements (shape_of extent) ≡ shape_of (extent_after extent edit)
   pub sources : (at : Position) → IsWithin (extent_after extent edit) at
       → selected Strict elements (shape_of extent) (index_of at) ≡ index_of (source extent edit at)
@@ -55,7 +55,7 @@ of_picks : {one other : Slice} {f g : ℕ → ℕ} (extent : Extent) (edit : Edi
     → ((at : Position) → (f at.row ≡ (source extent edit at).row) × (g at.column ≡ (source extent edit at).column))
     → IsSlice extent edit (element_of one ∷ element_of other ∷ [])
 of_picks extent edit first second from = record {
-  none = not_refused first second;
+  none = not_at_fault first second;
   shape = shape_left first second;
   sources = λ at within. stands_for first second at.row at.column within.row_below within.column_below
       ∙ rw ((from at).0, (from at).1) refl;

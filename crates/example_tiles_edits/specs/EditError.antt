@@ -1,11 +1,11 @@
--- The edit by which a call is refused.
+-- The edit that the error of a call names.
 use Rattle.std.specs.Prelude.{◌≡◌, ℕ, Option, Some, None, Result, Ok, Err, refl}
 use Rattle.example_tiles_edits.specs.declared.edit.Edit.TheVariants.{FlipRows}
 use Rattle.example_tiles_edits.specs.declared.edit.Misfit.{Misfit}
 use Rattle.example_tiles_edits.specs.declared.editing.EditError.{EditError}
 use Rattle.example_tiles_edits.specs.declared.editing.EditError.TheVariants as error
 
--- the edit that doesn't fit; none where memory is refused
+-- the edit that doesn't fit; none where an allocation fails
 abbrev pub misfit_of : {A : Type 0} → Result A EditError → Option Misfit
 misfit_of (Ok x) = None
 misfit_of (Err (error.Misfit misfit)) = Some misfit

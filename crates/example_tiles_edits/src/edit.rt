@@ -146,7 +146,7 @@ impl Edit {
         ensures fits { is_some result ≡ fits extent self }
         ensures left { IfSome result (λ left.
             Leave (self ∷ []) extent view.now left.0 left.1) }
-        ensures inside { IfSome result (λ left. (len : ℕ) → LiesWithin len view.now →
+        ensures in_bounds { IfSome result (λ left. (len : ℕ) → LiesWithin len view.now →
             LiesWithin len left.1) }
     {
         let left = self.extent_after(extent)?;

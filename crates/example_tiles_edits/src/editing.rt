@@ -19,7 +19,7 @@ pub enum EditError {
     /// An edit doesn't fit.
     #[error(transparent)]
     Misfit(Misfit),
-    /// Memory was refused.
+    /// An allocation failed.
     #[error("out of memory")]
     Memory,
 }
@@ -48,7 +48,7 @@ impl From<AllocError> for EditError {
 fn whole_view(alloc: Global, extent: Extent) -> Strided<Ix2>
     requires { pixel_count extent < 2 ^ 63 }
     ensures view { result ≡ whole_view extent }
-    ensures inside { LiesWithin (pixel_count extent) result }
+    ensures in_bounds { LiesWithin (pixel_count extent) result }
 {
     let shape = StrideShape {
         dim: new_ix2(extent.rows as usize, extent.columns as usize),
@@ -72,7 +72,7 @@ fn view_after(
     ensures left { MatchResult result
         (λ left. (first_misfit edits.now extent ≡ None) × Leave edits.now extent view left.0 left.1)
         (λ misfit. first_misfit edits.now extent ≡ Some misfit) }
-    ensures inside { IfOk result (λ left. (len : ℕ) → LiesWithin len view →
+    ensures in_bounds { IfOk result (λ left. (len : ℕ) → LiesWithin len view →
         LiesWithin len left.1) }
 {
     let (mut extent, mut view) = (extent, view);

@@ -17,7 +17,7 @@ pub enum ReadError {
     /// A pixel is above the value of white.
     #[error("pixel {0} is above the value of white")]
     TooWhite(usize),
-    /// Memory was refused.
+    /// An allocation failed.
     #[error("out of memory")]
     Memory,
 }

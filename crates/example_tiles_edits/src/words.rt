@@ -11,7 +11,7 @@ pub enum WordsError {
     /// No edit begins with the word of this number, counted from 1.
     #[error("argument {0}: expected `crop A..B C..D`, `flip rows`, `flip columns` or `every N`")]
     Unreadable(usize),
-    /// Memory was refused.
+    /// An allocation failed.
     #[error("out of memory")]
     Memory,
 }

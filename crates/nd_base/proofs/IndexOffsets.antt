@@ -6,7 +6,7 @@ use Rattle.std.proofs.lemmas.Bool.{and_right, cases_Bool, cases_lt}
 use Rattle.std.proofs.lemmas.Int.{ints}
 use Rattle.std.proofs.lemmas.List.{drop_all}
 use Rattle.nd_base.proofs.laws.Definitions.{is_index, offset_of, all_signed, limit, magnitude, signed, reach}
-use Rattle.nd_base.proofs.laws.IsIndex.{entry_of_index}
+use Rattle.nd_base.proofs.laws.IsIndex.{coordinate_of_index}
 use Rattle.std.proofs.lemmas.Nat.{mul-le}
 
 -- a list of another count is no index
@@ -17,31 +17,31 @@ is_index_of_count (len ∷ shape) [] ne = refl
 is_index_of_count (len ∷ shape) (i ∷ index) ne =
     and_right (nat_lt i len) (is_index shape index) (is_index_of_count shape index (λ e. ne (omega arith)))
 
--- nor is one with an entry past the end of its axis
-pub is_index_of_entry : (shape index : List ℕ) (axis : ℕ) → axis < length shape → get_or shape axis 0 ≤ get_or index axis 0
+-- nor is one with a coordinate past the end of its axis
+pub is_index_of_coordinate : (shape index : List ℕ) (axis : ℕ) → axis < length shape → get_or shape axis 0 ≤ get_or index axis 0
     → is_index shape index ≡ false
-is_index_of_entry shape index axis l past = elim (cases_Bool (is_index shape index)) [
-  | inl here ↦ absurd (omega (arith, entry_of_index shape index axis here l))
+is_index_of_coordinate shape index axis l past = elim (cases_Bool (is_index shape index)) [
+  | inl here ↦ absurd (omega (arith, coordinate_of_index shape index axis here l))
   | inr none ↦ none
 ]
 
--- how far an entry lies from the first one
-abbrev pub entry_offset : ℕ → ℤ → ℕ
-entry_offset entry stride = entry * magnitude stride
+-- how far a coordinate lies from the first one
+abbrev pub coordinate_offset : ℕ → ℤ → ℕ
+coordinate_offset coordinate stride = coordinate * magnitude stride
 
--- an entry's offset is that far on one side or the other
-pub entry_offset_bounds : (entry : ℕ) (stride : ℤ)
-    → (neg_ℤ (pos (entry_offset entry stride)) ≤ℤ (pos entry *ℤ stride)) × ((pos entry *ℤ stride) ≤ℤ pos (entry_offset entry stride))
-entry_offset_bounds entry (pos s) = (omega (arith, ints), omega (arith, ints))
-entry_offset_bounds entry (negsuc s) = (omega (arith, ints), omega (arith, ints))
+-- a coordinate's offset is that far on one side or the other
+pub coordinate_offset_bounds : (coordinate : ℕ) (stride : ℤ)
+    → (neg_ℤ (pos (coordinate_offset coordinate stride)) ≤ℤ (pos coordinate *ℤ stride)) × ((pos coordinate *ℤ stride) ≤ℤ pos (coordinate_offset coordinate stride))
+coordinate_offset_bounds coordinate (pos s) = (omega (arith, ints), omega (arith, ints))
+coordinate_offset_bounds coordinate (negsuc s) = (omega (arith, ints), omega (arith, ints))
 
--- an entry below the length lies no farther than the axis reaches
-pub entry_offset_le : (len entry : ℕ) (stride : ℤ) → entry < len → entry_offset entry stride ≤ reach len stride
-entry_offset_le len entry stride h = mul-le entry (magnitude stride) (len - 1) (magnitude stride) (omega arith) (omega arith)
+-- a coordinate below the length lies no farther than the axis reaches
+pub coordinate_offset_le : (len coordinate : ℕ) (stride : ℤ) → coordinate < len → coordinate_offset coordinate stride ≤ reach len stride
+coordinate_offset_le len coordinate stride h = mul-le coordinate (magnitude stride) (len - 1) (magnitude stride) (omega arith) (omega arith)
 
--- a sum of offsets so far, and an entry to be added to it: the entry and what comes after it lie no farther than `whole`
-pub record IsNextPart (sum : ℤ) (entry : ℕ) (stride : ℤ) (rest whole : ℕ) : Type 0 where
-  pub far : entry_offset entry stride + rest ≤ whole
+-- a sum of offsets so far, and a coordinate to be added to it: the coordinate and what comes after it lie no farther than `whole`
+pub record IsNextPart (sum : ℤ) (coordinate : ℕ) (stride : ℤ) (rest whole : ℕ) : Type 0 where
+  pub far : coordinate_offset coordinate stride + rest ≤ whole
   pub low : pos whole ≤ℤ (sum +ℤ pos limit)
   pub high : (sum +ℤ pos whole) ≤ℤ pos limit
 
@@ -52,10 +52,10 @@ pub record IsAdded (sum own : ℤ) (rest : ℕ) : Type 0 where
   pub low : pos rest ≤ℤ ((sum +ℤ own) +ℤ pos limit)
   pub high : ((sum +ℤ own) +ℤ pos rest) ≤ℤ pos limit
 
-pub added : {sum : ℤ} {entry : ℕ} {stride : ℤ} {rest whole : ℕ} → IsNextPart sum entry stride rest whole
-    → IsAdded sum (pos entry *ℤ stride) rest
-added {entry = entry} {stride = stride} next =
-    let bounds = entry_offset_bounds entry stride in
+pub added : {sum : ℤ} {coordinate : ℕ} {stride : ℤ} {rest whole : ℕ} → IsNextPart sum coordinate stride rest whole
+    → IsAdded sum (pos coordinate *ℤ stride) rest
+added {coordinate = coordinate} {stride = stride} next =
+    let bounds = coordinate_offset_bounds coordinate stride in
     record {
       part = omega (arith, ints, bounds, next.far, next.low, next.high);
       whole = omega (arith, ints, bounds, next.far, next.low, next.high);

@@ -1,10 +1,10 @@
 pub mod Below
 pub mod Definitions
 pub mod Dim
-pub mod Entries
+pub mod Coordinates
 pub mod Faults
 pub mod Indices
-pub mod Inside
+pub mod Bounds
 pub mod IsIndex
 pub mod Lists
 pub mod NonzeroSize
@@ -13,9 +13,9 @@ pub mod Options
 pub mod Place
 pub mod FlatIndex
 pub mod Reach
-pub mod Reading
+pub mod AsRead
 pub mod Signed
 pub mod Size
 pub mod Span
 pub mod Times
-pub mod Turned
+pub mod Flipped

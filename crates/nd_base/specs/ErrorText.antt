@@ -1,4 +1,4 @@
--- What a refusal prints.
+-- What an error prints.
 use Rattle.std.specs.Prelude.{◌≡◌, ℕ, List, ◌++◌, codes, refl}
 use Rattle.nd_base.specs.declared.error.ErrorKind.{ErrorKind}
 use Rattle.nd_base.specs.declared.error.ErrorKind.TheVariants.{IncompatibleShape, IncompatibleLayout, RangeLimited, OutOfBounds}
@@ -13,7 +13,7 @@ kind_text OutOfBounds = codes "OutOfBounds: out of bounds indexing"
 kind_text Unsupported = codes "Unsupported: unsupported operation"
 kind_text Overflow = codes "Overflow: arithmetic overflow"
 
--- the whole text of a refusal
+-- the whole text of an error
 abbrev pub shape_error_text : ErrorKind → List ℕ
 shape_error_text kind = codes "ShapeError/" ++ kind_text kind
 

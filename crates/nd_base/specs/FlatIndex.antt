@@ -2,10 +2,10 @@
 use Rattle.std.specs.Prelude.{◌≡◌, ℕ, ◌+◌, ◌*◌, ◌/◌, ◌%◌, List, [], ◌∷◌, refl}
 use Rattle.nd_base.specs.declared.order.Order.{Order}
 use Rattle.nd_base.specs.declared.order.Order.TheVariants.{RowMajor, ColumnMajor}
-use Rattle.nd_base.specs.Reading.{as_read}
+use Rattle.nd_base.specs.AsRead.{as_read}
 use Rattle.nd_base.specs.Size.{size}
 
--- the flat index in row-major order: each entry counts as many indices as the axes after it have together
+-- the flat index in row-major order: each coordinate counts as many indices as the axes after it have together
 abbrev pub flat_index : List ℕ → List ℕ → ℕ
 flat_index [] index = 0
 flat_index (len ∷ lens) [] = 0

@@ -22,7 +22,7 @@ abbrev pub indices_in : Order → List ℕ → List (List ℕ)
 indices_in RowMajor shape = indices shape
 indices_in ColumnMajor shape = indices_column_major shape
 
--- as many entries as the shape has axes, each below its length
+-- as many coordinates as the shape has axes, each below its length
 abbrev pub is_index : List ℕ → List ℕ → Bool
 is_index [] [] = true
 is_index [] (i ∷ index) = false

@@ -3,9 +3,9 @@ use Rattle.std.specs.Prelude.{◌≡◌, ℕ, ◌*◌, ℤ, pos, negsuc, List, [
 use Rattle.nd_base.specs.Signed.{magnitude}
 use Rattle.nd_base.specs.Span.{sum_over_axes}
 
--- the sum of each entry times the magnitude of its stride
+-- the sum of each coordinate times the magnitude of its stride
 abbrev pub farthest_offset : List ℤ → List ℕ → ℕ
-farthest_offset strides index = sum_over_axes (λ entry stride. entry * magnitude stride) index strides
+farthest_offset strides index = sum_over_axes (λ coordinate stride. coordinate * magnitude stride) index strides
 
 -- example
 steps_back_and_forth : farthest_offset (negsuc 2 ∷ pos 1 ∷ []) (1 ∷ 2 ∷ []) ≡ 5

@@ -1,11 +1,11 @@
--- The fault of a shape for which a call refused it; a refusal of memory is none.
+-- The fault of a shape that the error of a call names; an error of memory is none.
 use Rattle.std.specs.Prelude.{◌≡◌, Option, Some, None, Result, Ok, Err, refl}
 use Rattle.nd_base.specs.declared.error.ErrorKind.{ErrorKind}
 use Rattle.nd_base.specs.declared.error.ErrorKind.TheVariants.{OutOfBounds}
 use Rattle.nd_base.specs.declared.error.LayoutError.{LayoutError}
 use Rattle.nd_base.specs.declared.error.LayoutError.TheVariants.{Shape, Memory}
 
--- none where the call succeeded or was refused memory
+-- none where the call succeeded or an allocation failed
 abbrev pub shape_fault : {X : Type 0} → Result X LayoutError → Option ErrorKind
 shape_fault (Ok x) = None
 shape_fault (Err (Shape kind)) = Some kind

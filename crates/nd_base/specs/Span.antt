@@ -6,12 +6,12 @@ use Rattle.nd_base.specs.Signed.{magnitude}
 abbrev pub reach : ℕ → ℤ → ℕ
 reach len stride = (len - 1) * magnitude stride
 
--- how far it reaches below its first entry
+-- how far it reaches below its first coordinate
 abbrev pub reach_down : ℕ → ℤ → ℕ
 reach_down len (pos stride) = 0
 reach_down len (negsuc stride) = reach len (negsuc stride)
 
--- how far it reaches above its first entry
+-- how far it reaches above its first coordinate
 abbrev pub reach_up : ℕ → ℤ → ℕ
 reach_up len (pos stride) = reach len (pos stride)
 reach_up len (negsuc stride) = 0

@@ -1,6 +1,6 @@
 //! What the operators of every dimension type do: arithmetic of lists, number by number.
 ghost use Rattle.std.specs.Prelude.{◌≡◌, ℕ};
-ghost use Rattle.nd_base.specs.Entrywise.{sums, differences, products, scaled, SumsFit, DifferencesFit, ProductsFit, ScaledFit};
+ghost use Rattle.nd_base.specs.Elementwise.{sums, differences, products, scaled, SumsFit, DifferencesFit, ProductsFit, ScaledFit};
 
 use crate::dim::Dim;
 use crate::lengths::Lengths;

@@ -15,5 +15,9 @@ ghost use Rattle.nd_base.specs.Indices.{is_index as is_index_of_shape};
 pub fn is_index(shape: &[usize], index: &[usize]) -> bool
     ensures { result ≡ is_index_of_shape shape.now index.now }
 {
-    shape.len() == index.len() && shape.iter().zip(index).all(|(len, entry)| entry < len)
+    shape.len() == index.len()
+        && shape
+            .iter()
+            .zip(index)
+            .all(|(len, coordinate)| coordinate < len)
 }

@@ -9,7 +9,7 @@ ghost use Rattle.nd_base.specs.Signed.{signed, all_signed};
 ghost use Rattle.nd_base.specs.Size.{limit};
 ghost use Rattle.nd_base.specs.ValidLayout.{IsValidLayout};
 
-use crate::strides::stride_offset;
+use crate::signed_strides::stride_offset;
 
 /// An offset, moved from coordinate 0 of an axis to another one.
 #[inline(always)]
@@ -33,11 +33,11 @@ fn moved(offset: isize, coordinate: usize, stride: usize) -> isize
 /// (1,2) along the strides `[3,1]`: 5. The project's own.
 #[inline(always)]
 pub fn index_offset(index: &[usize], strides: &[usize]) -> isize
-    requires small { All (λ entry. entry ≤ limit) index.now }
+    requires small { All (λ coordinate. coordinate ≤ limit) index.now }
     requires fits { farthest_offset (all_signed strides.now) index.now ≤ limit }
     ensures { result ≡ offset_of (all_signed strides.now) index.now }
 {
-    // (by number, since a `zip` asks both lists for their end at each entry)
+    // (by number, since a `zip` asks both lists for their end at each coordinate)
     let axes = index.len().min(strides.len());
     let mut offset = 0isize;
     for axis in 0..axes {

@@ -1,10 +1,10 @@
 //! The operators of dimensions. Their conditions rule out other counts and results that do not fit.
 ghost use Rattle.std.specs.Prelude.{◌≡◌, ◌↔◌, [], ◌∷◌, replicate, IsTrue};
 ghost use Rattle.nd_base.specs.Dim.{lengths, kept};
-ghost use Rattle.nd_base.specs.Entrywise.{sums, differences, products, scaled, SumsFit, DifferencesFit, ProductsFit, ScaledFit};
+ghost use Rattle.nd_base.specs.Elementwise.{sums, differences, products, scaled, SumsFit, DifferencesFit, ProductsFit, ScaledFit};
 
 use crate::dim::{Dim, Ix1};
-use crate::entries::{add_to, multiply_by, scale, subtract_from};
+use crate::elementwise::{add_to, multiply_by, scale, subtract_from};
 use crate::numbers::Numbers;
 use std::ops::{Add, AddAssign, Mul, MulAssign, Sub, SubAssign};
 

@@ -4,8 +4,8 @@ pub mod Packed
 pub mod PackedLayouts
 pub mod Products
 pub mod Stepped
-pub mod StrideAxes
-pub mod StrideOrder
-pub mod StridePlaces
-pub mod Turned
+pub mod StrideAxesLoop
+pub mod StrideOrderLoop
+pub mod StridePositions
+pub mod WriteFromBack
 pub mod laws

@@ -1,4 +1,4 @@
--- The step at one axis, where a shape begins with the axis that moves fastest: the entries before it are at their ends and become 0.
+-- The step at one axis, where a shape begins with the axis that moves fastest: the coordinates before it are at their ends and become 0.
 use Rattle.std.proofs.Common.{◌≡◌, ℕ, ◌+◌, ◌-◌, ◌*◌, ◌<◌, ◌≤◌, true, List, [], ◌∷◌, ◌++◌, length, get_or, set, take, drop, replicate}
 use Rattle.std.proofs.Common.{reverse, refl, sym, ap, ap₂, subst, ◌∙◌, arith, append_assoc}
 use Rattle.std.proofs.lemmas.Bool.{and_from, and_parts, lt-ltb}
@@ -8,11 +8,11 @@ use Rattle.std.proofs.lemmas.List.{take_all, take_more}
 use Rattle.nd_base.specs.declared.order.Order.TheVariants.{ColumnMajor}
 use Rattle.nd_base.proofs.laws.Definitions.{is_index, index_of_flat, index_of_flat_in, flat_index, flat_index_in, size}
 use Rattle.nd_base.proofs.laws.FlatIndex.{index_of_flat-flat_index, flat_index-lt-size, flat_index-zeros}
-use Rattle.nd_base.proofs.laws.IsIndex.{entry_of_index, is_index-reverse, is_index-zeros, length_of_index, nonempty_from_index}
+use Rattle.nd_base.proofs.laws.IsIndex.{coordinate_of_index, is_index-reverse, is_index-zeros, length_of_index, nonempty_from_index}
 use Rattle.nd_base.proofs.laws.Lists.{reverse-replicate, reverse_parts}
 use Rattle.nd_base.proofs.laws.Size.{size-reverse, size_take_more}
 
--- ---- the step of one entry, where those after it are at their ends
+-- ---- the step of one coordinate, where those after it are at their ends
 record IsStepped (shape index stepped : List ℕ) : Type 0 where
   within : is_index shape stepped ≡ true
   flat_indices : flat_index shape stepped ≡ flat_index shape index + 1
@@ -42,14 +42,14 @@ next_is {shape = shape} {new = new} step = (
 )
 
 -- ---- along the axes, the fastest one first
--- before an axis the entries of an index were at their ends, and are 0
-pub record IsTurned (axis : ℕ) (shape old index : List ℕ) : Type 0 where
+-- before an axis the coordinates of an index were at their ends, and are 0
+pub record IsCarried (axis : ℕ) (shape old index : List ℕ) : Type 0 where
   here : is_index shape old ≡ true
   written : index ≡ replicate axis 0 ++ drop axis old
   ended : flat_index (reverse (take axis shape)) (reverse (take axis old)) + 1 ≡ size (take axis shape)
 
-pub turned_first : (shape old : List ℕ) → is_index shape old ≡ true → IsTurned 0 shape old old
-turned_first shape old here = record { here = here; written = refl; ended = refl }
+pub carried_first : (shape old : List ℕ) → is_index shape old ≡ true → IsCarried 0 shape old old
+carried_first shape old here = record { here = here; written = refl; ended = refl }
 
 -- the axes before one come after it where they are read from the back
 parts_of : (xs : List ℕ) (k : ℕ) → k < length xs → reverse xs ≡ reverse (drop (k + 1) xs) ++ get_or xs k 0 ∷ reverse (take k xs)
@@ -61,32 +61,32 @@ parts_of xs k below =
 before_more : (xs : List ℕ) (k : ℕ) → k < length xs → reverse (take (k + 1) xs) ≡ get_or xs k 0 ∷ reverse (take k xs)
 before_more xs k below = ap reverse (take_more xs k 0 below) ∙ reverse-append (take k xs) (get_or xs k 0 ∷ [])
 
-module _ {k : ℕ} {shape old index : List ℕ} (below : k < length shape) (at : IsTurned k shape old index) where
+module _ {k : ℕ} {shape old index : List ℕ} (below : k < length shape) (at : IsCarried k shape old index) where
   in_old : k < length old
   in_old = omega (arith, length_of_index shape old at.here)
 
   split : index ≡ replicate k 0 ++ get_or old k 0 ∷ drop (k + 1) old
   split = at.written ∙ ap (λ ys. replicate k 0 ++ ys) (drop_more old k 0 in_old)
 
-  write : (entry : ℕ) → set index k entry ≡ replicate k 0 ++ entry ∷ drop (k + 1) old
-  write entry =
-      ap (λ xs. set xs k entry) split
-      ∙ set_at (replicate k 0) (get_or old k 0) (drop (k + 1) old) entry k (length-replicate k 0)
+  write : (coordinate : ℕ) → set index k coordinate ≡ replicate k 0 ++ coordinate ∷ drop (k + 1) old
+  write coordinate =
+      ap (λ xs. set xs k coordinate) split
+      ∙ set_at (replicate k 0) (get_or old k 0) (drop (k + 1) old) coordinate k (length-replicate k 0)
 
   same : get_or index k 0 ≡ get_or old k 0
   same =
-      let place : k ≡ length (replicate {A = ℕ} k 0) + 0 = omega (arith, length-replicate {A = ℕ} k 0) in
-      ap₂ (λ xs n. get_or xs n 0) split place ∙ get_or-append-add (replicate k 0) (get_or old k 0 ∷ drop (k + 1) old) 0 0
+      let position : k ≡ length (replicate {A = ℕ} k 0) + 0 = omega (arith, length-replicate {A = ℕ} k 0) in
+      ap₂ (λ xs n. get_or xs n 0) split position ∙ get_or-append-add (replicate k 0) (get_or old k 0 ∷ drop (k + 1) old) 0 0
 
-  -- its entry is below its length
-  pub turned_entry : get_or index k 0 < get_or shape k 0
-  turned_entry = omega (arith, same, entry_of_index shape old k at.here below)
+  -- its coordinate is below its length
+  pub carried_coordinate : get_or index k 0 < get_or shape k 0
+  carried_coordinate = omega (arith, same, coordinate_of_index shape old k at.here below)
 
-  -- an entry at its end becomes 0
-  pub turned_more : get_or shape k 0 ≤ get_or index k 0 + 1 → IsTurned (k + 1) shape old (set index k 0)
-  turned_more last =
+  -- a coordinate at its end becomes 0
+  pub carried_more : get_or shape k 0 ≤ get_or index k 0 + 1 → IsCarried (k + 1) shape old (set index k 0)
+  carried_more last =
       let rest = size (take k shape) in
-      let end : get_or old k 0 + 1 ≡ get_or shape k 0 = omega (arith, same, turned_entry) in
+      let end : get_or old k 0 + 1 ≡ get_or shape k 0 = omega (arith, same, carried_coordinate) in
       let whole : rest * get_or shape k 0 ≡ get_or old k 0 * rest + rest = ap (λ n. rest * n) (sym end) ∙ omega arith in
       record {
         here = at.here;
@@ -129,17 +129,17 @@ module _ {k : ℕ} {shape old index : List ℕ} (below : k < length shape) (at :
       ∙ sym (write (get_or index k 0 + 1))
 
   -- another one is counted up, to the index of the next flat index
-  pub turned_step : get_or index k 0 + 1 < get_or shape k 0
+  pub carried_step : get_or index k 0 + 1 < get_or shape k 0
       → (flat_index_in ColumnMajor shape old + 1 < size shape)
       × (set index k (get_or index k 0 + 1) ≡ index_of_flat_in ColumnMajor shape (flat_index_in ColumnMajor shape old + 1))
-  turned_step more =
+  carried_step more =
       let next = next_is (counted more) in
       (omega (arith, next.0, size-reverse shape), sym from_back ∙ ap reverse next.1)
 
 -- where all have turned, this was the last index and is the first
-pub turned_end : {axis : ℕ} {shape old index : List ℕ} → axis ≡ length shape → IsTurned axis shape old index
+pub carried_end : {axis : ℕ} {shape old index : List ℕ} → axis ≡ length shape → IsCarried axis shape old index
     → (flat_index_in ColumnMajor shape old + 1 ≡ size shape) × (index ≡ replicate (length shape) 0)
-turned_end {axis = axis} {shape = shape} {old = old} all at =
+carried_end {axis = axis} {shape = shape} {old = old} all at =
     let count = length_of_index shape old at.here in
     let whole : take axis shape ≡ shape = take_all axis shape (omega arith) in
     let whole_old : take axis old ≡ old = take_all axis old (omega arith) in (

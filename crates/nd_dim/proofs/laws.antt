@@ -1,5 +1,5 @@
 pub mod AxesInOrder
 pub mod Contiguous
-pub mod OneStretch
+pub mod OneInterval
 pub mod Rearranged
 pub mod Strides

@@ -1,4 +1,4 @@
--- Lists that have an entry for each axis, with the axes in another order.
+-- Lists that have an item for each axis, with the axes in another order.
 use Rattle.std.specs.List.{list_all, list_any, position_or_len}
 use Rattle.std.specs.Prelude.{◌≡◌, ℕ, Bool, true, false, ◌&&◌, ◌==◌, List, [], ◌∷◌, length, map, slice_index_or, refl}
 use Rattle.nd_base.specs.declared.axis.Axis.{Axis}
@@ -8,9 +8,9 @@ use Rattle.nd_base.specs.Indices.{below}
 abbrev pub axis_numbers : List Axis → List ℕ
 axis_numbers axes = map (λ axis. axis.0) axes
 
--- the entries of a list in the order of these axes
+-- the items of a list in the order of these axes
 abbrev pub reordered : {X : Type 0} → X → List ℕ → List X → List X
-reordered otherwise axes entries = map (λ axis. slice_index_or entries axis otherwise) axes
+reordered otherwise axes items = map (λ axis. slice_index_or items axis otherwise) axes
 
 -- a list of n axes has each axis below n, and so each of them once
 abbrev pub is_axis_order : ℕ → List ℕ → Bool

@@ -22,15 +22,15 @@ comes_before strides axis other = nat_lt (magnitude_at strides axis) (magnitude_
 -- every axis once, each before the next
 pub record IsStrideOrder (strides : List ℤ) (order : List ℕ) : Type 0 where
   pub each_once : IsPermutation (below (length strides)) order
-  pub in_order : (place : ℕ) → place + 1 < length order
-      → comes_before strides (slice_index order place) (slice_index order (place + 1)) ≡ true
+  pub in_order : (position : ℕ) → position + 1 < length order
+      → comes_before strides (slice_index order position) (slice_index order (position + 1)) ≡ true
 
--- an axis of more than one entry
+-- an axis longer than 1
 abbrev pub IsLong : List ℕ → ℕ → Type 0
 IsLong lens axis = (axis < length lens) × (1 < slice_index lens axis)
 
--- of the axes of more than one entry one whose magnitude leads those of all others; where several do, the one that is taken of
--- equals; where no axis has more than one entry, the axis `otherwise`
+-- of the axes longer than 1 one whose magnitude leads those of all others; where several do, the one that is taken of
+-- equals; where no axis has more than one coordinate, the axis `otherwise`
 pub record IsLeadingAxis
     (leads taken_of_equals : ℕ → ℕ → Type 0) (otherwise : ℕ) (lens : List ℕ) (strides : List ℤ) (axis : ℕ) : Type 0 where
   pub exists : axis < length lens
@@ -40,11 +40,11 @@ pub record IsLeadingAxis
       → taken_of_equals axis other
   pub without_long : ((other : ℕ) → IsLong lens other → ⊥) → axis ≡ otherwise
 
--- of the axes of more than one entry the last among those of the least stride; without such an axis the last one
+-- of the axes longer than 1 the last among those of the least stride; without such an axis the last one
 abbrev pub IsLeastStrideAxis : List ℕ → List ℤ → ℕ → Type 0
 IsLeastStrideAxis lens = IsLeadingAxis (λ m n. m ≤ n) (λ axis other. other ≤ axis) (length lens - 1) lens
 
--- of the axes of more than one entry the last among those of the greatest stride; without such an axis the first one
+-- of the axes longer than 1 the last among those of the greatest stride; without such an axis the first one
 abbrev pub IsGreatestStrideAxis : List ℕ → List ℤ → ℕ → Type 0
 IsGreatestStrideAxis lens = IsLeadingAxis (λ m n. n ≤ m) (λ axis other. other ≤ axis) 0 lens
 
@@ -64,8 +64,8 @@ not_by_number order = both_ways (comes_before (pos 3 ∷ pos 1 ∷ []) 0 1) refl
 not_every_axis : IsStrideOrder (pos 3 ∷ pos 1 ∷ []) (1 ∷ []) → ⊥
 not_every_axis order = both_ways (nat_eq 1 2) refl (eq-eqb 1 2 (length_permutation (0 ∷ 1 ∷ []) (1 ∷ []) order.each_once))
 
-least_is_of_more_entries : IsLeastStrideAxis (1 ∷ 3 ∷ []) (pos 0 ∷ pos 2 ∷ []) 0 → ⊥
-least_is_of_more_entries least = lt→ltb 1 1 (least.long 1 (lit< tt, lit< tt)).1
+least_is_of_more_coordinates : IsLeastStrideAxis (1 ∷ 3 ∷ []) (pos 0 ∷ pos 2 ∷ []) 0 → ⊥
+least_is_of_more_coordinates least = lt→ltb 1 1 (least.long 1 (lit< tt, lit< tt)).1
 
 least_is_last_of_equals : IsLeastStrideAxis (3 ∷ 3 ∷ []) (negsuc 1 ∷ pos 2 ∷ []) 0 → ⊥
 least_is_last_of_equals least = le→nltb 0 1 (least.of_equals 1 (lit< tt, lit< tt) refl)

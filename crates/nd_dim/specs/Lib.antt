@@ -2,7 +2,7 @@ pub mod AxesInOrder
 pub mod AxisOrder
 pub mod Contiguous
 pub mod LastLen
-pub mod OneStretch
+pub mod OneInterval
 pub mod Strides
 pub use Rattle.nd_base.specs.Dim
 pub use Rattle.nd_base.specs.Indices

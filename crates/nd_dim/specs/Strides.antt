@@ -23,7 +23,7 @@ default_strides lens = (if is_empty lens then replicate (length lens) 0 else map
 abbrev pub fortran_strides : List ℕ → List ℕ
 fortran_strides lens = (if is_empty lens then replicate (length lens) 0 else map (size_until lens) (below (length lens)))
 
--- one stride for each axis on both sides, equal wherever an axis has more than one entry
+-- one stride for each axis on both sides, equal wherever an axis has more than one coordinate
 pub record AreEquivalent (lens strides others : List ℕ) : Type 0 where
   pub strides_count : length strides ≡ length lens
   pub others_count : length others ≡ length lens
@@ -52,8 +52,8 @@ agree_where_long zero within long = absurd (lt→ltb 1 1 long)
 agree_where_long (suc zero) within long = refl
 agree_where_long (suc (suc axis)) within long = refl
 
-differ_at_one_entry : AreEquivalent (1 ∷ 3 ∷ []) (7 ∷ 1 ∷ []) (9 ∷ 1 ∷ [])
-differ_at_one_entry = record { strides_count = refl; others_count = refl; agree = agree_where_long }
+differ_at_one_coordinate : AreEquivalent (1 ∷ 3 ∷ []) (7 ∷ 1 ∷ []) (9 ∷ 1 ∷ [])
+differ_at_one_coordinate = record { strides_count = refl; others_count = refl; agree = agree_where_long }
 
-differ_at_three_entries : AreEquivalent (1 ∷ 3 ∷ []) (7 ∷ 1 ∷ []) (7 ∷ 2 ∷ []) → ⊥
-differ_at_three_entries same = both_ways (nat_eq 1 2) refl (eq-eqb 1 2 (same.agree 1 (lit< tt) (lit< tt)))
+differ_at_three_coordinates : AreEquivalent (1 ∷ 3 ∷ []) (7 ∷ 1 ∷ []) (7 ∷ 2 ∷ []) → ⊥
+differ_at_three_coordinates same = both_ways (nat_eq 1 2) refl (eq-eqb 1 2 (same.agree 1 (lit< tt) (lit< tt)))

@@ -1,4 +1,4 @@
-//! Which layouts fill their stretch of memory without a gap.
+//! Which layouts fill their interval of memory without a gap.
 ghost use Rattle.std.specs.Prelude.{◌≡◌, ◌≤◌, ◌↔◌, IsTrue, length};
 ghost use Rattle.nd_base.specs.Signed.{all_signed};
 ghost use Rattle.nd_base.specs.Size.{size, nonzero_size, limit};
@@ -67,7 +67,7 @@ fn is_packed(lens: &[usize], strides: &[usize]) -> bool
     true
 }
 
-/// Whether the indices fill a stretch of memory without a gap, by a rule on lengths and strides.
+/// Whether the indices fill an interval of memory without a gap, by a rule on lengths and strides.
 /// `Dimension::is_contiguous` says the rule.
 #[inline(always)]
 pub(crate) fn is_contiguous(lens: &[usize], strides: &[usize]) -> bool

@@ -15,13 +15,13 @@ ghost use Rattle.nd_base.specs.ValidLayout.{IsValidLayout};
 ghost use Rattle.nd_dim.specs.AxisOrder.{IsLeastStrideAxis, IsGreatestStrideAxis, IsStrideOrder};
 ghost use Rattle.nd_dim.specs.Contiguous.{is_contiguous as is_contiguous_layout};
 ghost use Rattle.nd_dim.specs.LastLen.{last_len as last_of_lengths};
-ghost use Rattle.nd_dim.specs.OneStretch.{FillsStretch};
+ghost use Rattle.nd_dim.specs.OneInterval.{FillsInterval};
 ghost use Rattle.nd_dim.specs.Strides.{default_strides as default_strides_of, fortran_strides as fortran_strides_of, AreEquivalent};
 
 use crate::axis_edits::{insert_axis_into, last_len, remove_axis_into, set_last_len};
 use crate::contiguous::is_contiguous;
 use crate::conversion::IntoDimension;
-use crate::next_index::{step_by_columns, step_by_rows};
+use crate::next_index::{advance_column_major, advance_row_major};
 use crate::sizes::{checked_size, product};
 use crate::stride_axes::{max_stride_axis, min_stride_axis};
 use crate::stride_order::fill_stride_order;
@@ -202,7 +202,7 @@ pub trait Dimension: Lengths + Arithmetic + Scale {
             else None) }
     {
         let mut next = index;
-        if step_by_rows(self.slice(), next.slice_mut()) {
+        if advance_row_major(self.slice(), next.slice_mut()) {
             Some(next)
         } else {
             None
@@ -232,7 +232,7 @@ pub trait Dimension: Lengths + Arithmetic + Scale {
             (flat_index_in ColumnMajor (Self.list self.now) (Self.list index.old) + 1)
             else replicate (length (Self.list self.now)) 0) }
     {
-        step_by_columns(self.slice(), index.slice_mut())
+        advance_column_major(self.slice(), index.slice_mut())
     }
 
     /// Zeros, as many as the type fixes; one where it fixes no count.
@@ -279,7 +279,7 @@ pub trait Dimension: Lengths + Arithmetic + Scale {
     #[inline]
     final fn stride_offset(index: &Self, strides: &Self) -> isize
         requires same_count { length (Self.list index.now) ≡ length (Self.list strides.now) }
-        requires small { All (λ entry. entry ≤ limit) (Self.list index.now) }
+        requires small { All (λ coordinate. coordinate ≤ limit) (Self.list index.now) }
         requires fits { farthest_offset (all_signed (Self.list strides.now)) (Self.list index.now)
             ≤ limit }
         ensures { result ≡ offset_of (all_signed (Self.list strides.now)) (Self.list index.now) }
@@ -327,7 +327,7 @@ pub trait Dimension: Lengths + Arithmetic + Scale {
         set_last_len(self.slice_mut(), len);
     }
 
-    /// Whether the indices of a shape fill a stretch of memory without a gap, by a rule on lengths
+    /// Whether the indices of a shape fill an interval of memory without a gap, by a rule on lengths
     /// and strides.
     ///
     /// It is true where the strides are those in row-major order. With one axis it is also true
@@ -350,7 +350,7 @@ pub trait Dimension: Lengths + Arithmetic + Scale {
         ensures rule { result ≡
             is_contiguous_layout (Self.list dim.now) (all_signed (Self.list strides.now)) }
         ensures exact { is_empty (Self.list dim.now) ≡ false → (IsTrue result ↔
-            FillsStretch (Self.list dim.now) (all_signed (Self.list strides.now))) }
+            FillsInterval (Self.list dim.now) (all_signed (Self.list strides.now))) }
     {
         is_contiguous(dim.slice(), strides.slice())
     }

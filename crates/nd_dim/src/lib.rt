@@ -27,7 +27,7 @@ pub use nd_base::{
     new_ix5, new_ix6, new_ixdyn, set_axis_of, signed, stride_offset, stride_offset_checked,
     unsigned,
 };
-pub use next_index::{step_by_columns, step_by_rows};
+pub use next_index::{advance_column_major, advance_row_major};
 pub use remove_axis::RemoveAxis;
 pub use sequence::{Forward, Reverse, Sequence, SequenceMut, item};
 pub use shape_arg::ShapeArg;

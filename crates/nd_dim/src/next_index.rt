@@ -1,4 +1,4 @@
-//! Steps from one index of a shape to the next.
+//! From one index of a shape to the next.
 ghost use Rattle.std.specs.Prelude.{◌≡◌, ◌+◌, ◌<◌, ◌↔◌, if◌then◌else◌, true, length, replicate, IsTrue};
 ghost use Rattle.nd_base.specs.declared.order.Order.TheVariants.{ColumnMajor};
 ghost use Rattle.nd_base.specs.Indices.{is_index};
@@ -10,7 +10,7 @@ use crate::sequence::{Forward, Reverse, Sequence, SequenceMut, item};
 /// Moves an index to the next one, where both sequences begin with the axis that moves fastest.
 /// Returns whether there is one; the last index becomes the first, all 0, with `false`.
 #[inline(always)]
-fn step<S: Sequence, I: SequenceMut>(shape: &S, index: &mut I) -> bool
+fn advance<S: Sequence, I: SequenceMut>(shape: &S, index: &mut I) -> bool
     requires { is_index (S.items shape.now) (I.items index.old) ≡ true }
     ensures more { IsTrue result ↔
         (flat_index_in ColumnMajor (S.items shape.now) (I.items index.old) + 1
@@ -45,14 +45,14 @@ fn step<S: Sequence, I: SequenceMut>(shape: &S, index: &mut I) -> bool
 ///
 /// After (0,2) of `[2,3]`: (1,0). The step of ndarray's `next_for`.
 #[inline(always)]
-pub fn step_by_rows(shape: &[usize], index: &mut [usize]) -> bool
+pub fn advance_row_major(shape: &[usize], index: &mut [usize]) -> bool
     requires { is_index shape.now index.old ≡ true }
     ensures more { IsTrue result ↔ (flat_index shape.now index.old + 1 < size shape.now) }
     ensures next { index.new ≡ (if result
         then index_of_flat shape.now (flat_index shape.now index.old + 1)
         else replicate (length shape.now) 0) }
 {
-    step(&Reverse(shape), &mut Reverse(index))
+    advance(&Reverse(shape), &mut Reverse(index))
 }
 
 /// Moves an index of a shape to the next one in column-major order, where the first axis moves
@@ -65,7 +65,7 @@ pub fn step_by_rows(shape: &[usize], index: &mut [usize]) -> bool
 ///
 /// After (1,0) of `[2,3]`: (0,1). The step of ndarray's `next_for_f`.
 #[inline(always)]
-pub fn step_by_columns(shape: &[usize], index: &mut [usize]) -> bool
+pub fn advance_column_major(shape: &[usize], index: &mut [usize]) -> bool
     requires { is_index shape.now index.old ≡ true }
     ensures more { IsTrue result
         ↔ (flat_index_in ColumnMajor shape.now index.old + 1 < size shape.now) }
@@ -76,5 +76,5 @@ pub fn step_by_columns(shape: &[usize], index: &mut [usize]) -> bool
         (flat_index_in ColumnMajor shape.now index.old + 1)
         else replicate (length shape.now) 0) }
 {
-    step(&Forward(shape), &mut Forward(index))
+    advance(&Forward(shape), &mut Forward(index))
 }

@@ -11,8 +11,8 @@ pub(crate) fn fill_stride_order(strides: &[usize], order: &mut [usize])
     requires { length strides.now ≡ length order.old }
     ensures { IsStrideOrder (all_signed strides.now) order.new }
 {
-    for (axis, place) in order.iter_mut().enumerate() {
-        *place = axis;
+    for (axis, position) in order.iter_mut().enumerate() {
+        *position = axis;
     }
     order.sort_unstable_by_key(|axis| (magnitude_at(strides, *axis), *axis));
 }

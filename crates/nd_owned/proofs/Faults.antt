@@ -16,8 +16,8 @@ use Rattle.ndarray_layout.specs.declared.Fit.TheVariants.{Strict}
 use Rattle.ndarray_layout.specs.declared.LayoutError.{LayoutError}
 use Rattle.ndarray_layout.specs.declared.LayoutError.TheVariants.{Shape, Memory}
 use Rattle.ndarray_layout.specs.declared.SliceInfoElem.{SliceInfoElem}
-use Rattle.ndarray_layout.specs.ArgumentFault.{argument_fault}
-use Rattle.ndarray_layout.specs.Meet.{Meet}
+use Rattle.ndarray_layout.specs.SliceFault.{argument_fault}
+use Rattle.ndarray_layout.specs.Intersect.{Intersect}
 use Rattle.ndarray_layout.specs.ShapeFault.{shape_fault}
 use Rattle.nd_owned.specs.private.Checks.{IsIntersectionFaultOf}
 use Rattle.nd_owned.proofs.Placed.{IsItem}
@@ -128,15 +128,15 @@ pub of_two : {T : Type 0} (shape : List ℕ) (writes : List (Write T)) {after : 
     → slice_get writes i ≡ Some write → after ≡ drop (i + 1) writes
     → IsIntersectionFaultOf shape write.slice after (Some kind) → IsIntersectionFault shape writes (Some kind)
 of_two {T = T} shape writes {after} i {write} kind here e (is, at, shared) =
-    let meets = λ (one : Write T). λ (other : Write T). Meet Strict shape one.slice other.slice in
+    let intersects = λ (one : Write T). λ (other : Write T). Intersect Strict shape one.slice other.slice in
     let there : slice_get after at ≡ slice_get writes (i + 1 + at) = ap (λ xs. slice_get xs at) e ∙ got_later (i + 1) writes at in (
       is,
       (
         i,
         i + 1 + at,
         omega arith,
-        subst (λ one. IsSomeAnd one (λ w. IsSomeAnd (slice_get writes (i + 1 + at)) (meets w))) (sym here)
-            (subst (λ other. IsSomeAnd other (meets write)) there shared),
+        subst (λ one. IsSomeAnd one (λ w. IsSomeAnd (slice_get writes (i + 1 + at)) (intersects w))) (sym here)
+            (subst (λ other. IsSomeAnd other (intersects write)) there shared),
       ),
     )
 

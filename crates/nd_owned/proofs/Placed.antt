@@ -7,10 +7,10 @@ use Rattle.std.proofs.lemmas.Grind.{flat_map-append}
 use Rattle.std.proofs.lemmas.List.{append-nil, drop_more, get_or-append-add, get_or_append_left, length-append, map-append, nil_from_length}
 use Rattle.std.proofs.lemmas.List.{take-append-drop, take_more}
 use Rattle.std.proofs.lemmas.List.Elements.{All-append, All-head, All-tail, Contains-append_left, Contains-append_right}
-use Rattle.ndarray_layout.specs.Inside.{IsInside}
+use Rattle.ndarray_layout.specs.Bounds.{IsInBounds}
 use Rattle.ndarray_layout.proofs.laws.Lists.{map_same}
 use Rattle.nd_owned.specs.Owned.{item_at_place}
-use Rattle.nd_owned.specs.private.Written.{AreInside, HasWritten}
+use Rattle.nd_owned.specs.private.Written.{AreInBounds, HasWritten}
 
 -- an item of a list is the same whatever stands for a missing one
 pub other_default : {X : Type 0} (xs : List X) (i : ℕ) (d e : X) → i < length xs → get_or xs i d ≡ get_or xs i e
@@ -101,20 +101,20 @@ pub none_written : {X : Type 0} {stored : List X} → HasWritten [] [] stored st
 none_written = record { written = refl; kept = λ place spared. refl }
 
 -- what is at a place that a write spares stays
-stays : {X : Type 0} (count : ℕ) {places : List ℤ} {items old new : List X} (z : ℤ) → HasWritten places items old new → IsInside count z
+stays : {X : Type 0} (count : ℕ) {places : List ℤ} {items old new : List X} (z : ℤ) → HasWritten places items old new → IsInBounds count z
     → (Contains places z → ⊥) → item_at_place new z ≡ item_at_place old z
-stays count (pos place) write inside spared = write.kept place spared
-stays count (negsuc n) write inside spared = absurd inside
+stays count (pos place) write in_bounds spared = write.kept place spared
+stays count (negsuc n) write in_bounds spared = absurd in_bounds
 
 -- one write after another, at places of their own
-pub both_written : {X : Type 0} (count : ℕ) {first second : List ℤ} {items more old mid new : List X} → All (IsInside count) first
+pub both_written : {X : Type 0} (count : ℕ) {first second : List ℤ} {items more old mid new : List X} → All (IsInBounds count) first
     → AllPairs (λ one other. one ≢ other) (first ++ second) → HasWritten first items old mid → HasWritten second more mid new
     → HasWritten (first ++ second) (items ++ more) old new
-both_written count {first} {second} {items} {more} {mid} {new} inside distinct one other =
+both_written count {first} {second} {items} {more} {mid} {new} in_bounds distinct one other =
     let apart = parts_apart first second distinct in
     let earlier : map (item_at_place new) first ≡ map (item_at_place mid) first =
     map_same (item_at_place new) (item_at_place mid) first (λ k d below.
-    stays count (get_or first k d) other (inside k d below) (apart k d below)) in
+    stays count (get_or first k d) other (in_bounds k d below) (apart k d below)) in
     record {
       written =
           map-append (item_at_place new) first second
@@ -139,10 +139,10 @@ module _ {all first second : List ℤ} (cut : AreBoth all first second) where
   second_distinct distinct =
       pairs_second (λ one other. one ≢ other) first second (subst (AllPairs (λ one other. one ≢ other)) cut.are distinct)
 
-  pub parts_written : {X : Type 0} (count : ℕ) {items these those old mid new : List X} → All (IsInside count) first
+  pub parts_written : {X : Type 0} (count : ℕ) {items these those old mid new : List X} → All (IsInBounds count) first
       → AllPairs (λ one other. one ≢ other) all → AreBoth items these those → HasWritten first these old mid
       → HasWritten second those mid new → HasWritten all items old new
-  parts_written count {items} {these} {those} {old} {new = new} inside distinct given one other =
+  parts_written count {items} {these} {those} {old} {new = new} in_bounds distinct given one other =
       subst (λ places. HasWritten places items old new) (sym cut.are)
       (subst (λ xs. HasWritten (first ++ second) xs old new) (sym given.are)
-      (both_written count inside (subst (AllPairs (λ one other. one ≢ other)) cut.are distinct) one other))
+      (both_written count in_bounds (subst (AllPairs (λ one other. one ≢ other)) cut.are distinct) one other))

@@ -9,7 +9,7 @@ use Rattle.std.proofs.lemmas.List.FromFn.{get_or-map-range_with_len, length-map-
 use Rattle.std.proofs.lemmas.List.FromFn.{take-map-range_with_len}
 use Rattle.std.proofs.lemmas.Option.{slice_get-get_or}
 use Rattle.ndarray_layout.specs.Indices.{below}
-use Rattle.ndarray_layout.specs.Inside.{IsInside}
+use Rattle.ndarray_layout.specs.Bounds.{IsInBounds}
 use Rattle.ndarray_layout.specs.Rows.{row_places}
 use Rattle.ndarray_layout.proofs.laws.Rows.{get_or-row_places, length-row_places, row_more}
 use Rattle.nd_owned.specs.Owned.{item_at_place}
@@ -18,16 +18,16 @@ use Rattle.nd_owned.proofs.Placed.{IsItem, all_first, both_written, one_written,
 
 -- ---- a row
 -- its first places
-pub take-row_places : (start : ℕ) (stride : ℤ) (len entry : ℕ) → entry ≤ len
-    → take entry (row_places start stride len) ≡ row_places start stride entry
-take-row_places start stride len entry within = take-map-range_with_len (λ n. pos start +ℤ (pos n *ℤ stride)) 0 len entry within
+pub take-row_places : (start : ℕ) (stride : ℤ) (len coordinate : ℕ) → coordinate ≤ len
+    → take coordinate (row_places start stride len) ≡ row_places start stride coordinate
+take-row_places start stride len coordinate within = take-map-range_with_len (λ n. pos start +ℤ (pos n *ℤ stride)) 0 len coordinate within
 
--- each place of a row that lies inside does
-pub entry_inside : (count start : ℕ) (stride : ℤ) (len entry : ℕ) → All (IsInside count) (row_places start stride len) → entry < len
-    → IsInside count (pos start +ℤ (pos entry *ℤ stride))
-entry_inside count start stride len entry inside below =
-    subst (IsInside count) (get_or-row_places start stride len entry (pos 0) below)
-    (inside entry (pos 0) (omega (arith, length-row_places start stride len)))
+-- each place of a row that lies in bounds does
+pub coordinate_in_bounds : (count start : ℕ) (stride : ℤ) (len coordinate : ℕ) → All (IsInBounds count) (row_places start stride len) → coordinate < len
+    → IsInBounds count (pos start +ℤ (pos coordinate *ℤ stride))
+coordinate_in_bounds count start stride len coordinate in_bounds below =
+    subst (IsInBounds count) (get_or-row_places start stride len coordinate (pos 0) below)
+    (in_bounds coordinate (pos 0) (omega (arith, length-row_places start stride len)))
 
 -- the first place
 pub start_there : {start : ℕ} (stride : ℤ) → pos start ≡ pos start +ℤ (pos 0 *ℤ stride)
@@ -35,35 +35,35 @@ start_there (pos s) = omega (arith, ints)
 start_there (negsuc s) = omega (arith, ints)
 
 -- where it has one, it begins there
-pub begins : (count start : ℕ) (stride : ℤ) (len : ℕ) → All (IsInside count) (row_places start stride len) → 0 < len → start < count
-begins count start stride len inside some = subst (IsInside count) (sym (start_there stride)) (entry_inside count start stride len 0 inside
+pub begins : (count start : ℕ) (stride : ℤ) (len : ℕ) → All (IsInBounds count) (row_places start stride len) → 0 < len → start < count
+begins count start stride len in_bounds some = subst (IsInBounds count) (sym (start_there stride)) (coordinate_in_bounds count start stride len 0 in_bounds
     some)
 
 -- the place after another one
-one_more_step : (entry : ℕ) (stride : ℤ) → pos (entry + 1) *ℤ stride ≡ (pos entry *ℤ stride) +ℤ stride
-one_more_step entry (pos s) = omega (arith, ints)
-one_more_step entry (negsuc s) = omega (arith, ints)
+one_more_step : (coordinate : ℕ) (stride : ℤ) → pos (coordinate + 1) *ℤ stride ≡ (pos coordinate *ℤ stride) +ℤ stride
+one_more_step coordinate (pos s) = omega (arith, ints)
+one_more_step coordinate (negsuc s) = omega (arith, ints)
 
-pub next_there : (start entry : ℕ) {place : ℕ} (stride : ℤ) → pos place ≡ pos start +ℤ (pos entry *ℤ stride)
-    → pos place +ℤ stride ≡ pos start +ℤ (pos (entry + 1) *ℤ stride)
-next_there start entry stride is = omega (arith, ints, one_more_step entry stride)
+pub next_there : (start coordinate : ℕ) {place : ℕ} (stride : ℤ) → pos place ≡ pos start +ℤ (pos coordinate *ℤ stride)
+    → pos place +ℤ stride ≡ pos start +ℤ (pos (coordinate + 1) *ℤ stride)
+next_there start coordinate stride is = omega (arith, ints, one_more_step coordinate stride)
 
--- the place of an entry of a row
-pub record IsAtEntry (start : ℕ) (stride : ℤ) (entry place : ℕ) : Type 0 where
-  pub is : pos place ≡ pos start +ℤ (pos entry *ℤ stride)
+-- the place of a coordinate of a row
+pub record IsAtCoordinate (start : ℕ) (stride : ℤ) (coordinate place : ℕ) : Type 0 where
+  pub is : pos place ≡ pos start +ℤ (pos coordinate *ℤ stride)
 
-pub at_entry : (start : ℕ) (stride : ℤ) (entry : ℕ) {place : ℕ} → pos place ≡ pos start +ℤ (pos entry *ℤ stride)
-    → IsAtEntry start stride entry place
-at_entry start stride entry here = record { is = here }
+pub at_coordinate : (start : ℕ) (stride : ℤ) (coordinate : ℕ) {place : ℕ} → pos place ≡ pos start +ℤ (pos coordinate *ℤ stride)
+    → IsAtCoordinate start stride coordinate place
+at_coordinate start stride coordinate here = record { is = here }
 
 -- one item more of a row that is read
-pub read_more : {X : Type 0} (first old : List X) {stored new : List X} {start : ℕ} {stride : ℤ} {entry place : ℕ} {x : X}
-    → IsItem stored place x → IsAtEntry start stride entry place → new ≡ old ++ x ∷ []
-    → map Some old ≡ map Some first ++ map (item_at_place stored) (row_places start stride entry)
-    → map Some new ≡ map Some first ++ map (item_at_place stored) (row_places start stride (entry + 1))
-read_more first old {stored} {start = start} {stride} {entry} {place} {x} item at pushed before =
-    let so_far = map (item_at_place stored) (row_places start stride entry) in
-    let last : Some x ≡ item_at_place stored (pos start +ℤ (pos entry *ℤ stride)) = ap Some item.is
+pub read_more : {X : Type 0} (first old : List X) {stored new : List X} {start : ℕ} {stride : ℤ} {coordinate place : ℕ} {x : X}
+    → IsItem stored place x → IsAtCoordinate start stride coordinate place → new ≡ old ++ x ∷ []
+    → map Some old ≡ map Some first ++ map (item_at_place stored) (row_places start stride coordinate)
+    → map Some new ≡ map Some first ++ map (item_at_place stored) (row_places start stride (coordinate + 1))
+read_more first old {stored} {start = start} {stride} {coordinate} {place} {x} item at pushed before =
+    let so_far = map (item_at_place stored) (row_places start stride coordinate) in
+    let last : Some x ≡ item_at_place stored (pos start +ℤ (pos coordinate *ℤ stride)) = ap Some item.is
     ∙ sym (slice_get-get_or stored place x item.below) ∙ ap (item_at_place stored) at.is in
     ap (map Some) pushed
     ∙ map-append Some old (x ∷ [])
@@ -71,8 +71,8 @@ read_more first old {stored} {start = start} {stride} {entry} {place} {x} item a
     ∙ append_assoc (map Some first) so_far (Some x ∷ [])
     ∙ ap (λ item. map Some first ++ (so_far ++ item ∷ [])) last
     ∙ ap (λ items. map Some first ++ items)
-    (sym (map-append (item_at_place stored) (row_places start stride entry) ((pos start +ℤ (pos entry *ℤ stride)) ∷ []))
-    ∙ ap (map (item_at_place stored)) (sym (row_more start stride entry)))
+    (sym (map-append (item_at_place stored) (row_places start stride coordinate) ((pos start +ℤ (pos coordinate *ℤ stride)) ∷ []))
+    ∙ ap (map (item_at_place stored)) (sym (row_more start stride coordinate)))
 
 -- an item after the first one
 pub after_first : {X : Type 0} {items others : List X} {first x : X} (i : ℕ) → items ≡ first ∷ others → x ≡ get_or others i x
@@ -81,30 +81,30 @@ after_first {others} {first} {x} i cut is = is ∙ ap (λ n. get_or (first ∷ o
     (sym cut)
 
 -- one item more of a row that is written
-pub write_more : {X : Type 0} (count : ℕ) {start : ℕ} {stride : ℤ} {entry place : ℕ} {items old mid : List X} {x : X}
-    → All (IsInside count) (row_places start stride (length items))
-    → AllPairs (λ one other. one ≢ other) (row_places start stride (length items)) → IsItem items entry x → place < length mid
-    → IsAtEntry start stride entry place → HasWritten (row_places start stride entry) (take entry items) old mid
-    → HasWritten (row_places start stride (entry + 1)) (take (entry + 1) items) old (set mid place x)
-write_more count {start} {stride} {entry} {place} {items} {old} {mid} {x} inside distinct item within at before =
+pub write_more : {X : Type 0} (count : ℕ) {start : ℕ} {stride : ℤ} {coordinate place : ℕ} {items old mid : List X} {x : X}
+    → All (IsInBounds count) (row_places start stride (length items))
+    → AllPairs (λ one other. one ≢ other) (row_places start stride (length items)) → IsItem items coordinate x → place < length mid
+    → IsAtCoordinate start stride coordinate place → HasWritten (row_places start stride coordinate) (take coordinate items) old mid
+    → HasWritten (row_places start stride (coordinate + 1)) (take (coordinate + 1) items) old (set mid place x)
+write_more count {start} {stride} {coordinate} {place} {items} {old} {mid} {x} in_bounds distinct item within at before =
     let all = row_places start stride (length items) in
-    let first = row_places start stride entry in
-    let last = pos start +ℤ (pos entry *ℤ stride) in
-    let others = drop (entry + 1) all in
+    let first = row_places start stride coordinate in
+    let last = pos start +ℤ (pos coordinate *ℤ stride) in
+    let others = drop (coordinate + 1) all in
     let cut : all ≡ (first ++ last ∷ []) ++ others =
-    sym (take-append-drop (entry + 1) all) ∙ ap (λ places. places ++ others) (take-row_places start stride (length items) (entry + 1)
-    (omega (arith, item.below)) ∙ row_more start stride entry) in
+    sym (take-append-drop (coordinate + 1) all) ∙ ap (λ places. places ++ others) (take-row_places start stride (length items) (coordinate + 1)
+    (omega (arith, item.below)) ∙ row_more start stride coordinate) in
     let here : HasWritten (last ∷ []) (x ∷ []) mid (set mid place x) = subst (λ z. HasWritten (z ∷ []) (x ∷ []) mid (set mid place x)) at.is
     (one_written within) in
-    let both : HasWritten (first ++ last ∷ []) (take entry items ++ x ∷ []) old (set mid place x) =
+    let both : HasWritten (first ++ last ∷ []) (take coordinate items ++ x ∷ []) old (set mid place x) =
     both_written count
-    (all_first (IsInside count) first (last ∷ []) (all_first (IsInside count) (first ++ last ∷ []) others
-    (subst (All (IsInside count)) cut inside)))
+    (all_first (IsInBounds count) first (last ∷ []) (all_first (IsInBounds count) (first ++ last ∷ []) others
+    (subst (All (IsInBounds count)) cut in_bounds)))
     (pairs_first (λ one other. one ≢ other) (first ++ last ∷ []) others (subst (AllPairs (λ one other. one ≢ other)) cut distinct)) before
     here in
-    let more : take (entry + 1) items ≡ take entry items ++ x ∷ [] = take_more items entry x item.below
-    ∙ ap (λ y. take entry items ++ y ∷ []) (sym item.is) in
-    subst (λ places. HasWritten places (take (entry + 1) items) old (set mid place x)) (sym (row_more start stride entry))
+    let more : take (coordinate + 1) items ≡ take coordinate items ++ x ∷ [] = take_more items coordinate x item.below
+    ∙ ap (λ y. take coordinate items ++ y ∷ []) (sym item.is) in
+    subst (λ places. HasWritten places (take (coordinate + 1) items) old (set mid place x)) (sym (row_more start stride coordinate))
     (subst (λ done. HasWritten (first ++ last ∷ []) done old (set mid place x)) (sym more) both)
 
 -- ---- a row of neighbours
@@ -123,7 +123,7 @@ got_between (x ∷ xs) zero (suc n) within = ap (λ items. Some x ∷ items) (la
 got_between (x ∷ xs) (suc a) (suc n) within = later x xs a (suc n) ∙ got_between xs a (suc n) (omega arith)
 
 at_neighbours : {X : Type 0} (xs : List X) (start a n : ℕ)
-    → map (item_at_place xs) (map (λ entry. pos start +ℤ (pos entry *ℤ pos 1)) (range_with_len a n))
+    → map (item_at_place xs) (map (λ coordinate. pos start +ℤ (pos coordinate *ℤ pos 1)) (range_with_len a n))
     ≡ map (slice_get xs) (range_with_len (start + a) n)
 at_neighbours xs start a zero = refl
 at_neighbours xs start a (suc n) =
@@ -140,18 +140,18 @@ read_neighbours xs start len within =
     let from : start + 0 ≡ start = omega arith in
     at_neighbours xs start 0 len ∙ ap (λ m. map (slice_get xs) (range_with_len m len)) from ∙ got_between xs start len within
 
--- where the last place of a row is inside, the row is
-pub neighbours_within : (count start len : ℕ) → 0 < len → All (IsInside count) (row_places start (pos 1) len) → start + len ≤ count
-neighbours_within count start zero some inside = absurd (omega arith)
-neighbours_within count start (suc len) some inside =
-    let last : start + len * 1 < count = entry_inside count start (pos 1) (suc len) len inside (omega arith) in
+-- where the last place of a row is in bounds, the row is
+pub neighbours_within : (count start len : ℕ) → 0 < len → All (IsInBounds count) (row_places start (pos 1) len) → start + len ≤ count
+neighbours_within count start zero some in_bounds = absurd (omega arith)
+neighbours_within count start (suc len) some in_bounds =
+    let last : start + len * 1 < count = coordinate_in_bounds count start (pos 1) (suc len) len in_bounds (omega arith) in
     omega arith
 
 -- so is one along a stride of 1
-pub copied_within : (count start : ℕ) {stride : ℤ} (len : ℕ) → All (IsInside count) (row_places start stride len) → stride ≡ pos 1 → 0 < len
+pub copied_within : (count start : ℕ) {stride : ℤ} (len : ℕ) → All (IsInBounds count) (row_places start stride len) → stride ≡ pos 1 → 0 < len
     → start + len ≤ count
-copied_within count start len inside one some =
-    neighbours_within count start len some (subst (λ s. All (IsInside count) (row_places start s len)) one inside)
+copied_within count start len in_bounds one some =
+    neighbours_within count start len some (subst (λ s. All (IsInBounds count) (row_places start s len)) one in_bounds)
 
 -- what is before and after items that are put in place of others
 got_outside : {X : Type 0} (old items : List X) (start stop place : ℕ) → (stop ≡ start + length items) × (stop ≤ length old)
@@ -187,17 +187,17 @@ put_in {old} {items} start within =
     record {
       written = read_neighbours new start (length items) long ∙ ap (map Some) there;
       kept = λ place spared. got_outside old items start (start + length items) place (refl, within)
-          (λ low high. spared (at_entry place low high));
+          (λ low high. spared (at_coordinate place low high));
     }
   where
-    at_entry : (place : ℕ) → start ≤ place → place < start + length items → Contains (row_places start (pos 1) (length items)) (pos place)
-    at_entry place low high =
-        let entry = place - start in
-        let under : entry < length items = omega arith in
-        let same : start + entry * 1 ≡ place = omega arith in (
-          entry,
+    at_coordinate : (place : ℕ) → start ≤ place → place < start + length items → Contains (row_places start (pos 1) (length items)) (pos place)
+    at_coordinate place low high =
+        let coordinate = place - start in
+        let under : coordinate < length items = omega arith in
+        let same : start + coordinate * 1 ≡ place = omega arith in (
+          coordinate,
           omega (arith, length-row_places start (pos 1) (length items)),
-          get_or-row_places start (pos 1) (length items) entry
+          get_or-row_places start (pos 1) (length items) coordinate
               (pos place) under ∙ ap pos same,
         )
 

@@ -11,13 +11,13 @@ use Rattle.std.proofs.lemmas.List.Sorted.{IsNonDecreasingBy-push}
 use Rattle.ndarray_layout.specs.declared.Fit.TheVariants.{Strict}
 use Rattle.ndarray_layout.specs.declared.SliceInfoElem.{SliceInfoElem}
 use Rattle.ndarray_layout.specs.declared.SliceInfoElem.TheVariants as elem
-use Rattle.ndarray_layout.specs.ArgumentFault.{argument_fault, in_count}
-use Rattle.ndarray_layout.specs.Meet.{Meet, axis_picks, elem_picks}
+use Rattle.ndarray_layout.specs.SliceFault.{argument_fault, in_count}
+use Rattle.ndarray_layout.specs.Intersect.{Intersect, axis_picks, elem_picks}
 use Rattle.ndarray_layout.specs.Picks.{between}
 use Rattle.ndarray_layout.specs.Signed.{magnitude}
-use Rattle.ndarray_layout.proofs.laws.ArgumentFault.{elements_of_no_fault}
+use Rattle.ndarray_layout.proofs.laws.SliceFault.{elements_of_no_fault}
 use Rattle.ndarray_layout.proofs.laws.Between.{between_above, between_below}
-use Rattle.ndarray_layout.proofs.laws.Meet.{meet_symmetric}
+use Rattle.ndarray_layout.proofs.laws.Intersect.{intersect_symmetric}
 use Rattle.nd_owned.specs.private.Ranges.{AreInOrder, HasRange, IsBetween, IsPast, elem_on, end_on, start_on}
 use Rattle.nd_owned.specs.Writes.{Write, slices_fault}
 use Rattle.nd_owned.proofs.Faults.{this}
@@ -62,11 +62,11 @@ coordinate [] (elem.Slice start end step ∷ elems) index axis is all = absurd (
 coordinate [] (elem.Index i ∷ elems) index axis is all = absurd (omega (arith, is.there))
 coordinate (len ∷ shape) (elem.Slice start end step ∷ elems) [] axis is all = absurd all
 coordinate (len ∷ shape) (elem.Index i ∷ elems) [] axis is all = absurd all
-coordinate (len ∷ shape) (elem.Slice start end step ∷ elems) (entry ∷ index) zero is all = all.0
-coordinate (len ∷ shape) (elem.Index i ∷ elems) (entry ∷ index) zero is all = all.0
-coordinate (len ∷ shape) (elem.Slice start end step ∷ elems) (entry ∷ index) (suc axis) is all =
+coordinate (len ∷ shape) (elem.Slice start end step ∷ elems) (next_coordinate ∷ index) zero is all = all.0
+coordinate (len ∷ shape) (elem.Index i ∷ elems) (next_coordinate ∷ index) zero is all = all.0
+coordinate (len ∷ shape) (elem.Slice start end step ∷ elems) (next_coordinate ∷ index) (suc axis) is all =
     coordinate shape elems index axis (after_first shape elems axis (omega (arith, is.count)) is) all.1
-coordinate (len ∷ shape) (elem.Index i ∷ elems) (entry ∷ index) (suc axis) is all =
+coordinate (len ∷ shape) (elem.Index i ∷ elems) (next_coordinate ∷ index) (suc axis) is all =
     let others = after_first shape elems axis (omega (arith, is.count)) is in
     coordinate shape elems index axis others all.1
 
@@ -84,18 +84,18 @@ module _ (shape : List ℕ) (axis : ℕ) where
   -- slices whose ranges are apart share no index
   apart_on : (one other : List SliceInfoElem) → HasRange shape axis one → HasRange shape axis other
       → end_on shape axis one ≤ start_on shape axis other
-      → (argument_fault Strict shape one ≡ None) × (argument_fault Strict shape other ≡ None) → Meet Strict shape one other → ⊥
-  apart_on one other first second past fit meet =
-      let low = picked_between one meet.0 first fit.0 meet.2 in
-      let high = picked_between other meet.0 second fit.1 meet.3 in
+      → (argument_fault Strict shape one ≡ None) × (argument_fault Strict shape other ≡ None) → Intersect Strict shape one other → ⊥
+  apart_on one other first second past fit intersect =
+      let low = picked_between one intersect.0 first fit.0 intersect.2 in
+      let high = picked_between other intersect.0 second fit.1 intersect.3 in
       omega (arith, low.1, high.0)
 
   -- whichever of them is past the other
   pub apart_either : (one other : List SliceInfoElem) → IsPast shape axis one other ⊎ IsPast shape axis other one
-      → (argument_fault Strict shape one ≡ None) × (argument_fault Strict shape other ≡ None) → Meet Strict shape one other → ⊥
-  apart_either one other (inl past) fit meet = apart_on one other past.first past.second past.past fit meet
-  apart_either one other (inr past) fit meet =
-      apart_on other one past.first past.second past.past (fit.1, fit.0) (meet_symmetric Strict shape one other meet)
+      → (argument_fault Strict shape one ≡ None) × (argument_fault Strict shape other ≡ None) → Intersect Strict shape one other → ⊥
+  apart_either one other (inl past) fit intersect = apart_on one other past.first past.second past.past fit intersect
+  apart_either one other (inr past) fit intersect =
+      apart_on other one past.first past.second past.past (fit.1, fit.0) (intersect_symmetric Strict shape one other intersect)
 
 -- slices in order, with none that begins after a number
 pub record SoFar {T : Type 0} (shape : List ℕ) (axis last : ℕ) (writes : List (Write T)) : Type 0 where
@@ -146,7 +146,7 @@ order_left {T = T} {shape = shape} {axis = axis} n writes order =
 pub apart_from_here : {T : Type 0} {shape : List ℕ} {axis : ℕ} (slice : List SliceInfoElem) (writes : List (Write T)) {first : Write T}
     {after : List (Write T)} → writes ≡ first ∷ after → AreInOrder shape axis writes → IsPast shape axis slice first.slice
     → argument_fault Strict shape slice ≡ None → slices_fault shape writes ≡ None
-    → All (λ other. Meet Strict shape slice other.slice → ⊥) writes
+    → All (λ other. Intersect Strict shape slice other.slice → ⊥) writes
 apart_from_here {shape = shape} {axis = axis} slice writes {first} {after} cut order past fits others_fit = λ k d below.
     let other = get_or writes k d in
     let head : get_or writes 0 d ≡ first = ap (λ ws. get_or ws 0 d) cut in
@@ -172,7 +172,7 @@ module _ {T : Type 0} (shape : List ℕ) (writes : List (Write T)) (i : ℕ) whe
       → drop i writes ≡ first ∷ after → IfSome axis (λ number. AreInOrder shape number writes)
       → IsSomeAnd axis (λ number. IsPast shape number slice first.slice)
       → (argument_fault Strict shape slice ≡ None) × (slices_fault shape (drop i writes) ≡ None)
-      → All (λ other. Meet Strict shape slice other.slice → ⊥) (drop i writes)
+      → All (λ other. Intersect Strict shape slice other.slice → ⊥) (drop i writes)
   apart_in_order None slice cut order past fit = absurd past
   apart_in_order (Some axis) slice cut order past fit =
       apart_from_here slice (drop i writes) cut (order_left i writes order) past fit.0 fit.1

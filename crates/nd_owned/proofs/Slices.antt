@@ -12,7 +12,7 @@ use Rattle.ndarray_layout.specs.declared.ErrorKind.{ErrorKind}
 use Rattle.ndarray_layout.specs.declared.Fit.TheVariants.{Strict}
 use Rattle.ndarray_layout.specs.declared.Order.{Order}
 use Rattle.ndarray_layout.specs.declared.Order.TheVariants.{RowMajor}
-use Rattle.ndarray_layout.specs.ArgumentFault.{argument_fault}
+use Rattle.ndarray_layout.specs.SliceFault.{argument_fault}
 use Rattle.ndarray_layout.specs.DistinctPlaces.{HasDistinctPlaces}
 use Rattle.ndarray_layout.specs.Indices.{indices_in, is_index}
 use Rattle.ndarray_layout.specs.Size.{size}
@@ -20,7 +20,7 @@ use Rattle.ndarray_layout.specs.Sliced.{sliced_shape}
 use Rattle.ndarray_layout.specs.SlicedView.{slice_of}
 use Rattle.ndarray_layout.specs.View.{View, IsView, place_at, view_places}
 use Rattle.ndarray_layout.proofs.laws.Indices.{All-indices_in, AllPairs-indices_in}
-use Rattle.ndarray_layout.proofs.laws.SharePlace.{meet_of_shared_place}
+use Rattle.ndarray_layout.proofs.laws.SharePlace.{intersect_of_shared_place}
 use Rattle.ndarray_layout.proofs.laws.SlicedView.{Descends-slice_of}
 use Rattle.ndarray_layout.proofs.laws.View.{length-view_places}
 use Rattle.nd_owned.specs.Owned.{item_at_place}
@@ -118,7 +118,7 @@ no_shared_place : {T : Type 0} {view : View} (one other : Write T) {place : ℤ}
 no_shared_place {view} one other {place} v distinct (fits, also) apart (here, there) =
     let first = listed RowMajor (slice_of Strict one.slice view) place here in
     let second = listed RowMajor (slice_of Strict other.slice view) place there in
-    apart (meet_of_shared_place Strict one.slice other.slice v fits also distinct
+    apart (intersect_of_shared_place Strict one.slice other.slice v fits also distinct
     (first.0, first.1, (second.0, second.1, first.2 ∙ sym second.2)))
 
 -- a place is listed once by one slice

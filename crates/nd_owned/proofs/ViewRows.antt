@@ -6,7 +6,7 @@ use Rattle.std.proofs.lemmas.List.{length-append, map-append}
 use Rattle.ndarray_layout.specs.declared.Order.TheVariants.{RowMajor}
 use Rattle.ndarray_layout.specs.declared.Row.{Row}
 use Rattle.ndarray_layout.specs.Indices.{below}
-use Rattle.ndarray_layout.specs.Inside.{IsInside}
+use Rattle.ndarray_layout.specs.Bounds.{IsInBounds}
 use Rattle.ndarray_layout.specs.LayoutOrder.{LiesInOrder}
 use Rattle.ndarray_layout.specs.Rows.{row_places, rows_places, view_rows}
 use Rattle.ndarray_layout.specs.Size.{size}
@@ -15,7 +15,7 @@ use Rattle.ndarray_layout.proofs.laws.Lists.{map_same}
 use Rattle.ndarray_layout.proofs.laws.Rows.{All-rows_places, length-row_places, places_fit, rows_lie_within, rows_places-view_rows}
 use Rattle.ndarray_layout.proofs.laws.View.{length-view_places, places_lie_within}
 use Rattle.nd_owned.specs.Owned.{item_at_place}
-use Rattle.nd_owned.specs.private.Written.{AreInside}
+use Rattle.nd_owned.specs.private.Written.{AreInBounds}
 use Rattle.nd_owned.proofs.Placed.{AreBoth}
 
 abbrev pub places_of : Row → List ℤ
@@ -41,17 +41,17 @@ length_of_one_row row view same =
     sym (length-row_places row.start row.stride row.len) ∙ ap length same ∙ length-view_places RowMajor view
 
 -- all of them lie where the view does
-pub places_inside : {count : ℕ} {view : View} → IsView view → LiesWithin count view → AreInside count (view_places RowMajor view)
-places_inside {count} {view} v within = record {
+pub places_in_bounds : {count : ℕ} {view : View} → IsView view → LiesWithin count view → AreInBounds count (view_places RowMajor view)
+places_in_bounds {count} {view} v within = record {
   within = places_lie_within count RowMajor view within;
   fit = places_fit RowMajor v;
 }
 
-pub rows_inside : {count : ℕ} {view : View} → IsView view → LiesWithin count view
-    → All (λ row. AreInside count (places_of row)) (view_rows RowMajor view)
-rows_inside {count} {view} v within =
+pub rows_in_bounds : {count : ℕ} {view : View} → IsView view → LiesWithin count view
+    → All (λ row. AreInBounds count (places_of row)) (view_rows RowMajor view)
+rows_in_bounds {count} {view} v within =
     let rows = view_rows RowMajor view in
-    let fit = All-rows_places (IsInside (2 ^ 63)) rows (subst (All (IsInside (2 ^ 63))) (sym (rows_places-view_rows RowMajor v))
+    let fit = All-rows_places (IsInBounds (2 ^ 63)) rows (subst (All (IsInBounds (2 ^ 63))) (sym (rows_places-view_rows RowMajor v))
     (places_fit RowMajor v)) in
     λ k d under. record { within = rows_lie_within count RowMajor v within k d under; fit = fit k d under }
 

@@ -2,11 +2,11 @@ pub mod Owned
 pub mod Writes
 pub mod private
 pub use Rattle.ndarray_layout.specs.AcceptanceByStrides
-pub use Rattle.ndarray_layout.specs.ArgumentFault
 pub use Rattle.ndarray_layout.specs.Lengths
 pub use Rattle.ndarray_layout.specs.ShapeBuilder
 pub use Rattle.ndarray_layout.specs.ShapeFault
 pub use Rattle.ndarray_layout.specs.Signed
+pub use Rattle.ndarray_layout.specs.SliceFault
 pub use Rattle.ndarray_layout.specs.SlicedView
 pub use Rattle.ndarray_layout.specs.Span
 pub use Rattle.ndarray_layout.specs.View

@@ -10,7 +10,7 @@ use Rattle.ndarray_layout.specs.declared.LayoutError.TheVariants.{Shape, Memory}
 use Rattle.ndarray_layout.specs.declared.Fit.TheVariants.{Strict}
 use Rattle.ndarray_layout.specs.declared.SliceInfoElem.{SliceInfoElem}
 use Rattle.ndarray_layout.specs.declared.SliceInfoElem.TheVariants as elem
-use Rattle.ndarray_layout.specs.ArgumentFault.{argument_fault, out_count}
+use Rattle.ndarray_layout.specs.SliceFault.{argument_fault, out_count}
 use Rattle.ndarray_layout.specs.DistinctPlaces.{HasDistinctPlaces}
 use Rattle.ndarray_layout.specs.Indices.{is_index}
 use Rattle.ndarray_layout.specs.Lengths.{NeedsNoMemory}
@@ -50,7 +50,7 @@ with_item array index item =
 abbrev pub with_items : {T : Type 0} → Owned T → List T → Owned T
 with_items array items = record { items = refill (length array.items) array.items items; view = array.view }
 
--- the fault of a shape by which a call is refused that hands something back
+-- the fault of a shape in the error of a call that hands something back
 abbrev pub shape_fault_of : {X Y : Type 0} → Result X (LayoutError × Y) → Option ErrorKind
 shape_fault_of (Ok x) = None
 shape_fault_of (Err (Shape kind, y)) = Some kind

@@ -13,8 +13,8 @@ use Rattle.ndarray_layout.specs.declared.Fit.TheVariants.{Strict}
 use Rattle.ndarray_layout.specs.declared.Order.TheVariants.{RowMajor}
 use Rattle.ndarray_layout.specs.declared.SliceInfoElem.{SliceInfoElem}
 use Rattle.ndarray_layout.specs.declared.SliceInfoElem.TheVariants as elem
-use Rattle.ndarray_layout.specs.ArgumentFault.{argument_fault}
-use Rattle.ndarray_layout.specs.Meet.{Meet}
+use Rattle.ndarray_layout.specs.SliceFault.{argument_fault}
+use Rattle.ndarray_layout.specs.Intersect.{Intersect}
 use Rattle.ndarray_layout.specs.Size.{size}
 use Rattle.ndarray_layout.specs.Sliced.{sliced_shape}
 use Rattle.ndarray_layout.specs.SlicedView.{slice_of}
@@ -45,13 +45,13 @@ counts_fault shape writes = option_or (slices_fault shape writes) (if list_all (
 
 -- the slices share no index
 abbrev pub AreApart : {T : Type 0} → List ℕ → Write T → Write T → Type 0
-AreApart shape one other = Meet Strict shape one.slice other.slice → ⊥
+AreApart shape one other = Intersect Strict shape one.slice other.slice → ⊥
 
 -- the slices at two positions of the list, i before j, share an index
 abbrev pub SomeIntersect : {T : Type 0} → List ℕ → List (Write T) → Type 0
 SomeIntersect shape writes =
     (i : ℕ) × (j : ℕ) × (i < j)
-    × IsSomeAnd (slice_get writes i) (λ one. IsSomeAnd (slice_get writes j) (λ other. Meet Strict shape one.slice other.slice))
+    × IsSomeAnd (slice_get writes i) (λ one. IsSomeAnd (slice_get writes j) (λ other. Intersect Strict shape one.slice other.slice))
 
 -- the error, or none, of slices that fit
 abbrev pub IsIntersectionFault : {T : Type 0} → List ℕ → List (Write T) → Option ErrorKind → Type 0
@@ -120,7 +120,7 @@ count_before_intersection = refl
 intersection_before_count : IsFaultOfWrites (2 ∷ 3 ∷ []) (first_row ∷ short_column ∷ []) (Some Unsupported) → ⊥
 intersection_before_count fault = let same : Some Unsupported ≡ Some IncompatibleShape = fault in cc
 
-at_the_corner : Meet Strict (2 ∷ 3 ∷ []) first_row.slice first_column.slice
+at_the_corner : Intersect Strict (2 ∷ 3 ∷ []) first_row.slice first_column.slice
 at_the_corner =
     (0 ∷ 0 ∷ [], refl, ((0, ltb-true 0 1 refl, refl), ((0, ltb-true 0 3 refl, refl), tt)), ((0, ltb-true 0 2 refl, refl), ((0, ltb-true 0 1 refl, refl), tt)))
 

@@ -24,14 +24,14 @@ pub struct Items<'a, T: Copy> {
 impl<'a, T: Copy> Model for Items<'a, T> {
     ghost use Rattle.std.specs.List.{All};
     ghost use Rattle.std.specs.Prelude.{List, Option, length, map};
-    ghost use Rattle.ndarray_layout.specs.Inside.{IsInside};
+    ghost use Rattle.ndarray_layout.specs.Bounds.{IsInBounds};
     ghost use Rattle.nd_owned.specs.Owned.{item_at_place};
 
     ghost Value = { List (Option T) };
 
     ghost view = { λ items. map (item_at_place items.stored.now) items.places };
 
-    ghost invariant = { λ items. All (IsInside (length items.stored.now)) items.places };
+    ghost invariant = { λ items. All (IsInBounds (length items.stored.now)) items.places };
 }
 
 impl<T: Copy> Iterator for Items<'_, T> {

@@ -7,7 +7,7 @@ ghost use Rattle.ndarray_layout.specs.declared.CanIndexCheckMode.TheVariants.{Ow
 ghost use Rattle.ndarray_layout.specs.declared.Fit.TheVariants.{Strict};
 ghost use Rattle.ndarray_layout.specs.declared.Order.TheVariants.{RowMajor};
 ghost use Rattle.ndarray_layout.specs.AcceptanceByStrides.{acceptance_by_strides};
-ghost use Rattle.ndarray_layout.specs.ArgumentFault.{argument_fault};
+ghost use Rattle.ndarray_layout.specs.SliceFault.{argument_fault};
 ghost use Rattle.ndarray_layout.specs.Indices.{is_index};
 ghost use Rattle.ndarray_layout.specs.Lengths.{NeedsNoMemory};
 ghost use Rattle.ndarray_layout.specs.ShapeBuilder.{custom_strides, strides_list};
@@ -86,7 +86,7 @@ impl<T: Copy, D: Lengths> OwnedArray<T, D> {
             (D.list shape.dim)
             (strides_list D.list (D.list shape.dim) shape.strides)) }
         ensures owned { IfOk result (λ a. IsOwned (length a.items) a.view) }
-        ensures handed_back { IfErr result (λ refusal. refusal.1 ≡ items) }
+        ensures handed_back { IfErr result (λ error. error.1 ≡ items) }
     {
         let len = items.len();
         match Strided::from_shape(alloc, shape, 1, len, CanIndexCheckMode::OwnedMutable) {

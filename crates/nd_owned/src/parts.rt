@@ -2,7 +2,7 @@
 ghost use Rattle.std.specs.List.{AllPairs};
 ghost use Rattle.std.specs.Prelude.{◌≡◌, ◌≢◌, ℕ, Some, IfOk, IsOk, length, map};
 ghost use Rattle.ndarray_layout.specs.declared.Fit.TheVariants.{Strict};
-ghost use Rattle.ndarray_layout.specs.ArgumentFault.{argument_fault};
+ghost use Rattle.ndarray_layout.specs.SliceFault.{argument_fault};
 ghost use Rattle.ndarray_layout.specs.ShapeFault.{shape_fault};
 ghost use Rattle.ndarray_layout.specs.Size.{size};
 ghost use Rattle.ndarray_layout.specs.SlicedView.{slice_of};
@@ -38,7 +38,7 @@ impl Part {
             argument_fault Strict view.now.shape (S.list slice.now) }
         ensures part { IfOk result (λ part.
             view_of_part part ≡ slice_of Strict (S.list slice.now) view.now) }
-        ensures inside { IfOk result (λ part. (len : ℕ) → LiesWithin len view.now →
+        ensures in_bounds { IfOk result (λ part. (len : ℕ) → LiesWithin len view.now →
             LiesWithin len (view_of_part part)) }
         ensures memory { IsOfNone view.now.shape (S.list slice.now) → IsOk result }
     {

@@ -2,9 +2,9 @@
 ghost use Rattle.std.specs.Prelude.{◌≡◌, ◌↔◌, ◌⊎◌, ◌<◌, ◌≤◌, ◌^◌, Some, None, IfSome, IsSomeAnd, IsTrue, map};
 ghost use Rattle.std.specs.List.{All};
 ghost use Rattle.ndarray_layout.specs.declared.Fit.TheVariants.{Strict};
-ghost use Rattle.ndarray_layout.specs.ArgumentFault.{argument_fault};
+ghost use Rattle.ndarray_layout.specs.SliceFault.{argument_fault};
 ghost use Rattle.ndarray_layout.specs.ElemRange.{elem_end, elem_start};
-ghost use Rattle.ndarray_layout.specs.Meet.{Meet, elem_picks};
+ghost use Rattle.ndarray_layout.specs.Intersect.{Intersect, elem_picks};
 ghost use Rattle.nd_owned.specs.Writes.{write_of};
 ghost use Rattle.nd_owned.specs.private.Ranges.{AreInOrder, HasRange, IsBetween, IsPast, end_on, start_on};
 
@@ -96,7 +96,7 @@ fn ranges_are_apart(
 fn have_ranges_apart(shape: &[usize], slice: &[SliceInfoElem], other: &[SliceInfoElem]) -> bool
     requires fits { argument_fault Strict shape.now slice.now ≡ None }
     requires other_fits { argument_fault Strict shape.now other.now ≡ None }
-    ensures { IsTrue result → ¬ Meet Strict shape.now slice.now other.now }
+    ensures { IsTrue result → ¬ Intersect Strict shape.now slice.now other.now }
 {
     for number in 0..shape.len() {
         if ranges_are_apart(shape, shape.len() - 1 - number, slice, other) {
@@ -115,7 +115,7 @@ pub(crate) fn share_an_index(
     requires lens_fit { All (λ len. len < 2 ^ 63) shape.now }
     requires fits { argument_fault Strict shape.now slice.now ≡ None }
     requires other_fits { argument_fault Strict shape.now other.now ≡ None }
-    ensures { IsTrue result ↔ Meet Strict shape.now slice.now other.now }
+    ensures { IsTrue result ↔ Intersect Strict shape.now slice.now other.now }
 {
     !have_ranges_apart(shape, slice, other) && elems_intersect(shape, slice, other, Fit::Strict)
 }

@@ -2,12 +2,12 @@
 ghost use Rattle.std.specs.List.{AllPairs};
 ghost use Rattle.std.specs.Prelude.{◌≡◌, ◌≢◌, ◌+◌, ◌<◌, ◌≤◌, ◌^◌, pos, ◌+ℤ◌, Some, IfOk, IfSome, IsOk, IsTrue, ◌++◌, length, map, vec_capacity, vec_len};
 ghost use Rattle.ndarray_layout.specs.declared.Order.TheVariants.{RowMajor};
-ghost use Rattle.ndarray_layout.specs.Inside.{IsInside};
+ghost use Rattle.ndarray_layout.specs.Bounds.{IsInBounds};
 ghost use Rattle.ndarray_layout.specs.Rows.{row_places};
 ghost use Rattle.ndarray_layout.specs.Size.{size};
 ghost use Rattle.ndarray_layout.specs.View.{IsView, LiesWithin, view_places};
 ghost use Rattle.nd_owned.specs.Owned.{item_at_place};
-ghost use Rattle.nd_owned.specs.private.Written.{AreInside, HasWritten};
+ghost use Rattle.nd_owned.specs.private.Written.{AreInBounds, HasWritten};
 
 use ndarray_layout::{Lengths, Order, Row, Strided, is_layout_c, product};
 use std::alloc::{AllocError, Global};
@@ -93,7 +93,7 @@ fn is_copied(row: Row) -> bool
 #[inline]
 fn place_after(row: Row, place: usize) -> usize
     requires first { place < 2 ^ 63 }
-    requires inside { IsInside (2 ^ 63) (pos place +ℤ row.stride) }
+    requires in_bounds { IsInBounds (2 ^ 63) (pos place +ℤ row.stride) }
     ensures { pos result ≡ pos place +ℤ row.stride }
 {
     (place as isize + row.stride) as usize
@@ -103,7 +103,7 @@ fn place_after(row: Row, place: usize) -> usize
 /// reference its length would be written at each place.
 #[inline(always)]
 fn read_row<T: Copy>(mut items: Vec<T>, stored: &[T], row: Row) -> Vec<T>
-    requires inside { AreInside (length stored.now) (row_places row.start row.stride row.len) }
+    requires in_bounds { AreInBounds (length stored.now) (row_places row.start row.stride row.len) }
     requires room { vec_len items + row.len ≤ vec_capacity items }
     ensures items { map Some result.items ≡ map Some items.items
         ++ map (item_at_place stored.now) (row_places row.start row.stride row.len) }
@@ -123,7 +123,7 @@ fn read_row<T: Copy>(mut items: Vec<T>, stored: &[T], row: Row) -> Vec<T>
     // The first item apart: so no step is taken from the last one, past which there may be no place.
     items.push_reserved(stored[start]);
     let mut place = start;
-    for _entry in 1..len {
+    for _coordinate in 1..len {
         place = place_after(row, place);
         items.push_reserved(stored[place]);
     }
@@ -133,7 +133,7 @@ fn read_row<T: Copy>(mut items: Vec<T>, stored: &[T], row: Row) -> Vec<T>
 /// Writes items at the first places of a row, which has as many or more.
 #[inline(always)]
 fn write_row<T: Copy>(stored: &mut [T], row: Row, items: &[T])
-    requires { AreInside (length stored.old)
+    requires { AreInBounds (length stored.old)
         (row_places row.start row.stride (length items.now)) }
     ensures { AllPairs (λ one other. one ≢ other)
         (row_places row.start row.stride (length items.now)) →

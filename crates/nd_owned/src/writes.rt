@@ -3,7 +3,7 @@ ghost use Rattle.std.specs.List.{All, AllPairs, flat_map, list_all};
 ghost use Rattle.std.specs.Prelude.{◌≡◌, ◌≢◌, ◌∷◌, [], ℕ, ◌<◌, ◌^◌, None, IfOk, IfSome, IsOk, IsSomeAnd, IsTrue, length, map};
 ghost use Rattle.std.specs.Result.{result_err};
 ghost use Rattle.ndarray_layout.specs.declared.Fit.TheVariants.{Strict};
-ghost use Rattle.ndarray_layout.specs.ArgumentFault.{argument_fault};
+ghost use Rattle.ndarray_layout.specs.SliceFault.{argument_fault};
 ghost use Rattle.ndarray_layout.specs.ShapeFault.{shape_fault};
 ghost use Rattle.ndarray_layout.specs.Size.{size};
 ghost use Rattle.ndarray_layout.specs.SlicedView.{slice_of};
@@ -121,7 +121,7 @@ pub(crate) fn part_of_write<T: Copy, D: Lengths>(
         view_of_part part ≡ slice_of Strict write.now.0.items view.now) }
     ensures count { IfOk result (λ part.
         size (view_of_part part).shape ≡ length write.now.1.items) }
-    ensures inside { IfOk result (λ part. (len : ℕ) → LiesWithin len view.now →
+    ensures in_bounds { IfOk result (λ part. (len : ℕ) → LiesWithin len view.now →
         LiesWithin len (view_of_part part)) }
 {
     let (slice, items) = write;
@@ -157,7 +157,7 @@ pub(crate) fn parts_of<'a, T: Copy, D: Lengths>(
         ≡ flat_map (λ write. write.items) (map write_of writes.now)) }
     ensures counts { IfOk result (λ v.
         All (λ one. size (view_of_part one.part).shape ≡ length one.items.now) v.items) }
-    ensures inside { IfOk result (λ v. (len : ℕ) → LiesWithin len view.now →
+    ensures in_bounds { IfOk result (λ v. (len : ℕ) → LiesWithin len view.now →
         All (λ one. LiesWithin len (view_of_part one.part)) v.items) }
 {
     let mut parts = Vec::new(alloc);
@@ -174,7 +174,7 @@ pub(crate) fn parts_of<'a, T: Copy, D: Lengths>(
 
 /// Writes the items of each part at its places, one part after another.
 pub(crate) fn write_all<T: Copy>(stored: &mut [T], parts: &[PartItems<'_, T>])
-    requires inside { All (λ one. LiesWithin (length stored.old) (view_of_part one.part)) parts.now }
+    requires in_bounds { All (λ one. LiesWithin (length stored.old) (view_of_part one.part)) parts.now }
     requires counts { All (λ one.
         size (view_of_part one.part).shape ≡ length one.items.now) parts.now }
     ensures { AllPairs (λ one other. one ≢ other)

@@ -1,4 +1,4 @@
--- The first axis of the least stride so far, where a walk goes from the last axis to the first.
+-- The first axis of the least stride so far, where a pass goes from the last axis to the first.
 use Rattle.std.proofs.Common.{◌≡◌, ◌<◌, ◌≤◌, ◌-◌, ℕ, ℤ, List, length, get_or}
 use Rattle.nd_dim.specs.AxisOrder.{magnitude_at}
 

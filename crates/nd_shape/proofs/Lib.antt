@@ -1,9 +1,9 @@
-pub mod AxesWalk
-pub mod CommonShape
+pub mod AxesIteration
+pub mod CommonShapeByAxis
 pub mod FirstLeast
-pub mod IndicesWalk
+pub mod IndicesIteration
 pub mod MergedStride
+pub mod NoAliasTest
 pub mod OrderRule
-pub mod OwnedRule
 pub mod SumLoop
 pub mod laws

@@ -1,4 +1,4 @@
--- Which stride has the entries of two axes, and which have one.
+-- Which stride has the coordinates of two axes, and which have one.
 use Rattle.std.proofs.Common.{◌≡◌, ◌≢◌, ℕ, zero, suc, ◌+◌, ◌*◌, ◌<◌, ◌≤◌, ◌/◌, ◌%◌, ℤ, pos, ◌+ℤ◌, ◌*ℤ◌, List, [], ◌∷◌, length, get_or}
 use Rattle.std.proofs.Common.{inl, inr, refl, sym, ap, ◌∙◌, arith, mul-le-mul_left, pos_of_ne-zero, zero-mul}
 use Rattle.std.proofs.Math.Nat.{div-add-mod, div-eq_of_lt, div-one, div_self, mod-eq_of_lt, mod-one, mod_self, mul_comm}
@@ -9,7 +9,7 @@ use Rattle.nd_base.proofs.laws.NonzeroSize.{length_le_nonzero_size, nonzero_size
 use Rattle.nd_base.proofs.laws.Times.{times_sum, times_times}
 use Rattle.nd_shape.specs.Merge.{IsMergedStride, MergeFits}
 
--- an axis of at most one entry adds nothing to the other
+-- an axis of length at most 1 adds nothing to the other
 pub short_taken : (take_len : ℕ) (take_stride : ℤ) (into_len : ℕ) (into_stride : ℤ) → take_len ≤ 1
     → IsMergedStride take_len take_stride into_len into_stride into_stride
 short_taken zero take_stride into_len into_stride h j l = absurd (omega (arith, zero-mul into_len))
@@ -32,14 +32,14 @@ whole_steps q n r s = times_sum (n * q) r s ∙ ap (λ m. (pos m *ℤ s) +ℤ (p
     ∙ ap (λ z. z +ℤ (pos r *ℤ s)) (sym (times_times q n s))
 
 module _ (take_len : ℕ) (take_stride : ℤ) (into_len : ℕ) (into_stride : ℤ) where
-  -- a stride as long as the other axis' entries goes on where that one ends
+  -- a stride as long as the other axis' coordinates goes on where that one ends
   pub steps_on : take_stride ≡ pos into_len *ℤ into_stride → IsMergedStride take_len take_stride into_len into_stride into_stride
   steps_on e j l =
       sym (ap (λ i. pos i *ℤ into_stride) (div-add-mod j into_len))
       ∙ whole_steps (j / into_len) into_len (j % into_len) into_stride
       ∙ sym (ap (λ s. (pos (j / into_len) *ℤ s) +ℤ (pos (j % into_len) *ℤ into_stride)) e)
 
-  -- and no other one does, where both axes have more than one entry
+  -- and no other one does, where both axes have more than one coordinate
   pub steps_on_from_fit : 1 < take_len → 1 < into_len → MergeFits take_len take_stride into_len into_stride
       → take_stride ≡ pos into_len *ℤ into_stride
   steps_on_from_fit h g fits =

@@ -12,7 +12,7 @@ use Rattle.nd_base.proofs.laws.Lists.{get_or-from_back, map-reverse}
 use Rattle.nd_base.proofs.laws.Size.{is_empty-reverse}
 use Rattle.nd_dim.specs.Strides.{default_strides, fortran_strides}
 use Rattle.nd_dim.proofs.laws.Strides.{default_by_fortran}
-use Rattle.nd_shape.specs.LayoutOrder.{HasStandardStrides, LiesInOrder, MeetsOrderRule}
+use Rattle.nd_shape.specs.LayoutOrder.{HasStandardStrides, LiesInOrder, SatisfiesOrderRule}
 use Rattle.nd_shape.specs.ShapeBuilder.{standard_strides}
 use Rattle.nd_shape.proofs.laws.LayoutOrder.{in_order_exactly}
 use Rattle.nd_shape.proofs.laws.StandardStrides.{standard_count, standard_signed}
@@ -33,7 +33,7 @@ module _ (order : Order) (lens : List ℕ) where
     rule_by_axes top same k h ne =
         get_or-map signed strides k 0 (pos 0) (omega arith) ∙ ap signed (same k h ne) ∙ signed_standard k top h
 
-    pub axis_by_rule : (k : ℕ) → Fits w64 (get_or strides k 0) → is_empty lens ≡ false → MeetsOrderRule order lens (all_signed strides)
+    pub axis_by_rule : (k : ℕ) → Fits w64 (get_or strides k 0) → is_empty lens ≡ false → SatisfiesOrderRule order lens (all_signed strides)
         → k < length lens → get_or lens k 0 ≢ 1 → get_or strides k 0 ≡ get_or (standard_strides order lens) k 0
     axis_by_rule k fit some (inl none) h ne = absurd (both_ways (is_empty lens) some none)
     axis_by_rule k fit some (inr rule) h ne =
@@ -42,7 +42,7 @@ module _ (order : Order) (lens : List ℕ) where
 
 -- where the rule is tested, so is whether the indices lie in order
 pub lies_by_rule : (order : Order) (lens strides : List ℕ) → length lens ≡ length strides → {b : Bool}
-    → (IsTrue b ↔ MeetsOrderRule order lens (all_signed strides)) → (IsTrue b ↔ LiesInOrder order lens (all_signed strides))
+    → (IsTrue b ↔ SatisfiesOrderRule order lens (all_signed strides)) → (IsTrue b ↔ LiesInOrder order lens (all_signed strides))
 lies_by_rule order lens strides count rule =
     let by = in_order_exactly order lens (all_signed strides) (length-map strides signed ∙ sym count) in
     (λ t. by.1 (rule.0 t), λ lies. rule.1 (by.0 lies))
@@ -68,7 +68,7 @@ turned_standard order other shape strides count same rule axis below ne =
 
 -- so the rule of the one order is that of the other
 pub rule_back : (lens strides : List ℕ) → length lens ≡ length strides
-    → MeetsOrderRule ColumnMajor (reverse lens) (all_signed (reverse strides)) ↔ MeetsOrderRule RowMajor lens (all_signed strides)
+    → SatisfiesOrderRule ColumnMajor (reverse lens) (all_signed (reverse strides)) ↔ SatisfiesOrderRule RowMajor lens (all_signed strides)
 rule_back lens strides count =
     let read = all_signed strides in
     let back : all_signed (reverse strides) ≡ reverse read = map-reverse signed strides in

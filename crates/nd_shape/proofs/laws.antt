@@ -7,7 +7,7 @@ pub mod DistinctOffsets
 pub mod IndicesLeft
 pub mod LayoutOrder
 pub mod Merge
-pub mod OwnedRule
-pub mod OwnedWalk
+pub mod NoAlias
+pub mod NoAliasPass
 pub mod StandardStrides
 pub mod Stretches

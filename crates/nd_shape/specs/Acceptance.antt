@@ -1,4 +1,4 @@
--- Which layouts are accepted over data, and with which fault any other is refused.
+-- Which layouts are accepted over data, and which fault any other has.
 use Rattle.std.specs.Prelude.{◌≡◌, ℕ, ◌*◌, ℤ, pos, Bool, true, false, not, ◌&&◌, ◌==◌, nat_le, nat_lt, Option, Some, None}
 use Rattle.std.specs.Prelude.{if◌then◌else◌, List, [], ◌∷◌, length, refl}
 use Rattle.std.specs.Option.{option_or}
@@ -6,9 +6,9 @@ use Rattle.nd_base.specs.declared.error.ErrorKind.{ErrorKind}
 use Rattle.nd_base.specs.declared.error.ErrorKind.TheVariants.{IncompatibleLayout, OutOfBounds, Unsupported, Overflow}
 use Rattle.nd_base.specs.Size.{nonzero_size, is_empty, limit}
 use Rattle.nd_base.specs.Span.{span}
-use Rattle.nd_shape.specs.declared.checks.CanIndexCheckMode.{CanIndexCheckMode}
-use Rattle.nd_shape.specs.declared.checks.CanIndexCheckMode.TheVariants.{OwnedMutable, ReadOnly}
-use Rattle.nd_shape.specs.OwnedRule.{meets_owned_rule}
+use Rattle.nd_shape.specs.declared.acceptance.CanIndexCheckMode.{CanIndexCheckMode}
+use Rattle.nd_shape.specs.declared.acceptance.CanIndexCheckMode.TheVariants.{OwnedMutable, ReadOnly}
+use Rattle.nd_shape.specs.NoAlias.{satisfies_no_alias_rule}
 
 -- elements are owned or written, and not only read
 abbrev pub is_owned : CanIndexCheckMode → Bool
@@ -32,7 +32,7 @@ leaves_data len shape strides =
 
 -- elements are owned or written, and two indices of the layout may share one
 abbrev pub may_share : CanIndexCheckMode → List ℕ → List ℤ → Bool
-may_share mode shape strides = not (is_empty shape) && is_owned mode && not (meets_owned_rule shape strides)
+may_share mode shape strides = not (is_empty shape) && is_owned mode && not (satisfies_no_alias_rule shape strides)
 
 -- whether a layout is accepted over len elements of a size, or else its fault: the first that holds
 abbrev pub acceptance : ℕ → ℕ → CanIndexCheckMode → List ℕ → List ℤ → Option ErrorKind

@@ -7,8 +7,8 @@ use Rattle.nd_base.specs.declared.error.ErrorKind.TheVariants.{OutOfBounds, Unsu
 use Rattle.nd_base.specs.Signed.{all_signed}
 use Rattle.nd_base.specs.Size.{size, nonzero_size, limit}
 use Rattle.nd_shape.specs.Acceptance.{acceptance}
-use Rattle.nd_shape.specs.declared.checks.CanIndexCheckMode.{CanIndexCheckMode}
-use Rattle.nd_shape.specs.declared.checks.CanIndexCheckMode.TheVariants.{OwnedMutable}
+use Rattle.nd_shape.specs.declared.acceptance.CanIndexCheckMode.{CanIndexCheckMode}
+use Rattle.nd_shape.specs.declared.acceptance.CanIndexCheckMode.TheVariants.{OwnedMutable}
 use Rattle.nd_shape.specs.declared.shape_builder.Strides.{Strides}
 use Rattle.nd_shape.specs.declared.shape_builder.Strides.TheVariants.{C, F, Custom}
 

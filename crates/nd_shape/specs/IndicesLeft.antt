@@ -1,4 +1,4 @@
--- What a walk over the indices of a shape has still to give.
+-- What an iterator over the indices of a shape has still to give.
 use Rattle.std.specs.Prelude.{◌≡◌, ℕ, ◌+◌, ◌-◌, ◌<◌, ◌≤◌, Bool, true, if◌then◌else◌, Option, Some, None, List, [], ◌∷◌}
 use Rattle.std.specs.Prelude.{nat_eq, drop, slice_index, refl}
 use Rattle.std.proofs.Common.{ap, eq-eqb}

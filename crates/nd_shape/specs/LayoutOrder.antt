@@ -25,8 +25,8 @@ HasStandardStrides order shape strides =
     → slice_index_or strides axis (pos 0) ≡ pos (slice_index (standard_strides order shape) axis)
 
 -- the rule by which indices lie in order: there is no index, or the strides are those of the order
-abbrev pub MeetsOrderRule : Order → List ℕ → List ℤ → Type 0
-MeetsOrderRule order shape strides = (is_empty shape ≡ true) ⊎ HasStandardStrides order shape strides
+abbrev pub SatisfiesOrderRule : Order → List ℕ → List ℤ → Type 0
+SatisfiesOrderRule order shape strides = (is_empty shape ≡ true) ⊎ HasStandardStrides order shape strides
 
 -- examples
 rows_in_order :

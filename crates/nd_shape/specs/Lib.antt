@@ -7,13 +7,13 @@ pub mod Layout
 pub mod LayoutOrder
 pub mod Merge
 pub mod MinStride
-pub mod OwnedRule
-pub mod OwnedWalk
+pub mod NoAlias
+pub mod NoAliasPass
 pub mod ShapeBuilder
+pub use Rattle.nd_base.specs.Bounds
 pub use Rattle.nd_base.specs.Dim
 pub use Rattle.nd_base.specs.DistinctOffsets
 pub use Rattle.nd_base.specs.Indices
-pub use Rattle.nd_base.specs.Inside
 pub use Rattle.nd_base.specs.Lengths
 pub use Rattle.nd_base.specs.Offset
 pub use Rattle.nd_base.specs.Reach

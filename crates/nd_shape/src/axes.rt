@@ -5,9 +5,7 @@ ghost use Rattle.std.specs.Iterator.Runs.{YieldsInOrder, YieldsInReverse};
 ghost use Rattle.nd_base.specs.Signed.{all_signed};
 ghost use Rattle.nd_shape.specs.Axes.{axes, axes_left};
 
-mod iter;
-
-pub use iter::{Axes, AxisDescription};
+pub use crate::axes_iter::{Axes, AxisDescription};
 use nd_base::Lengths;
 
 /// Iterator over the axes of a layout with their lengths and strides, from the first axis or from

@@ -1,4 +1,4 @@
-//! Walks over all indices of a shape.
+//! Iterators over all indices of a shape.
 ghost use Rattle.std.specs.Prelude.{◌≡◌, ◌<◌, ◌^◌, false, length, IsOk, IfOk};
 ghost use Rattle.nd_base.specs.declared.order.Order.TheVariants.{ColumnMajor};
 ghost use Rattle.nd_base.specs.Indices.{indices_in};
@@ -7,15 +7,15 @@ ghost use Rattle.nd_base.specs.Size.{size};
 
 mod cursor;
 mod indices;
+mod indices_iter;
 mod order;
-mod walk;
 
 pub use cursor::{IndexCursor, IndexCursorF};
 pub use indices::Indices;
+pub use indices_iter::{IndicesIter, IndicesIterF};
 use nd_base::Lengths;
 use nd_dim::IntoDimension;
 use std::alloc::{AllocError, Global};
-pub use walk::{IndicesIter, IndicesIterF};
 
 /// All indices of a shape, over which a `for` loop iterates in row-major order, where the last axis
 /// moves fastest.
@@ -54,7 +54,7 @@ pub fn indices_iter_f<D: Lengths, T: IntoDimension<Dim = D>>(
     shape: T,
 ) -> Result<IndicesIterF<D>, AllocError>
     requires { size (T.lens shape) < 2 ^ 64 }
-    ensures items { IfOk result (λ walk. walk ≡ indices_in ColumnMajor (T.lens shape)) }
+    ensures items { IfOk result (λ iter. iter ≡ indices_in ColumnMajor (T.lens shape)) }
     ensures memory { NeedsNoMemory D.NDIM (length (T.lens shape)) → IsOk result }
 {
     let dim: D = shape.into_dimension(alloc)?;

@@ -3,7 +3,7 @@ ghost use Rattle.std.specs.Prelude.{◌≡◌, ◌≤◌, ◌↔◌, IsTrue, fal
 ghost use Rattle.nd_base.specs.declared.order.Order.TheVariants.{RowMajor, ColumnMajor};
 ghost use Rattle.nd_base.specs.Signed.{all_signed};
 ghost use Rattle.nd_base.specs.Size.{is_empty, nonzero_size, limit};
-ghost use Rattle.nd_shape.specs.LayoutOrder.{LiesInOrder, MeetsOrderRule};
+ghost use Rattle.nd_shape.specs.LayoutOrder.{LiesInOrder, SatisfiesOrderRule};
 
 use nd_base::Lengths;
 use nd_dim::{Forward, Reverse, Sequence, item};
@@ -16,7 +16,7 @@ fn has_strides<S: Sequence>(lens: &S, strides: &S) -> bool
     requires some { is_empty (S.items lens.now) ≡ false }
     requires size_fits { nonzero_size (S.items lens.now) ≤ limit }
     ensures { IsTrue result ↔
-        MeetsOrderRule ColumnMajor (S.items lens.now) (all_signed (S.items strides.now)) }
+        SatisfiesOrderRule ColumnMajor (S.items lens.now) (all_signed (S.items strides.now)) }
 {
     let mut size = 1usize;
     for k in 0..lens.len() {
@@ -44,7 +44,7 @@ pub fn is_layout_c<D: Lengths>(dim: &D, strides: &D) -> bool
     ensures places { IsTrue result
         ↔ LiesInOrder RowMajor (D.list dim.now) (all_signed (D.list strides.now)) }
     ensures rule { IsTrue result
-        ↔ MeetsOrderRule RowMajor (D.list dim.now) (all_signed (D.list strides.now)) }
+        ↔ SatisfiesOrderRule RowMajor (D.list dim.now) (all_signed (D.list strides.now)) }
 {
     if dim.slice().contains(&0) {
         return true;
@@ -67,7 +67,7 @@ pub fn is_layout_f<D: Lengths>(dim: &D, strides: &D) -> bool
     ensures places { IsTrue result
         ↔ LiesInOrder ColumnMajor (D.list dim.now) (all_signed (D.list strides.now)) }
     ensures rule { IsTrue result
-        ↔ MeetsOrderRule ColumnMajor (D.list dim.now) (all_signed (D.list strides.now)) }
+        ↔ SatisfiesOrderRule ColumnMajor (D.list dim.now) (all_signed (D.list strides.now)) }
 {
     if dim.slice().contains(&0) {
         return true;

@@ -2,27 +2,28 @@
 //! that look at a shape and strides alone.
 #![tactic(auto)]
 
+mod acceptance;
 mod axes;
+mod axes_iter;
 mod broadcast;
-mod checks;
 mod indexes;
 mod layout;
 mod layout_order;
-mod limits;
 mod merge;
 mod min_stride;
 mod ndindex;
+mod no_alias;
 mod offsets;
-mod overlap;
 mod shape_builder;
+mod size_limits;
 
-pub use axes::{Axes, AxisDescription, axes_of};
-pub use broadcast::{co_broadcast, fill_common_shape, have_common_shape};
-pub use checks::{
+pub use acceptance::{
     CanIndexCheckMode, accept, can_index_slice, can_index_slice_not_custom,
     can_index_slice_with_strides, max_abs_offset_check_overflow, size_of_shape_checked,
     span_of_lengths, strides_non_negative,
 };
+pub use axes::{Axes, AxisDescription, axes_of};
+pub use broadcast::{co_broadcast, fill_common_shape, have_common_shape};
 pub use indexes::{
     IndexCursor, IndexCursorF, Indices, IndicesIter, IndicesIterF, all_indices, indices_iter_f,
 };
@@ -31,6 +32,6 @@ pub use layout_order::{is_layout_c, is_layout_f};
 pub use merge::{merge_axes, merge_fitting};
 pub use min_stride::move_min_stride_axis_to_last;
 pub use ndindex::NdIndex;
+pub use no_alias::{dim_stride_overlap, has_overlap};
 pub use offsets::{low_span, offset_from_low_addr_ptr_to_logical_ptr};
-pub use overlap::{dim_stride_overlap, has_overlap};
 pub use shape_builder::{Shape, ShapeBuilder, StrideShape, Strides};

@@ -2,7 +2,7 @@
 ghost use Rattle.std.specs.List.{swap};
 ghost use Rattle.std.specs.Prelude.{◌≡◌, ◌-◌, ◌<◌, ◌≤◌, length, ℕ};
 ghost use Rattle.nd_base.specs.Signed.{all_signed};
-ghost use Rattle.nd_shape.specs.MinStride.{IsFirstLeastAxis, are_turned as are_turned_by_rule, IsAxisToMove};
+ghost use Rattle.nd_shape.specs.MinStride.{IsFirstLeastAxis, are_swapped as are_swapped_by_rule, IsAxisToMove};
 
 use nd_base::Lengths;
 use nd_dim::magnitude_at;
@@ -28,10 +28,10 @@ fn first_least_axis(lens: &[usize], strides: &[usize]) -> usize
 
 /// Whether two axes are to be turned.
 #[inline(always)]
-fn are_turned(lens: &[usize], strides: &[usize]) -> bool
+fn are_swapped(lens: &[usize], strides: &[usize]) -> bool
     requires two { length lens.now ≡ 2 }
     requires same_count { length lens.now ≡ length strides.now }
-    ensures { result ≡ are_turned_by_rule lens.now (all_signed strides.now) }
+    ensures { result ≡ are_swapped_by_rule lens.now (all_signed strides.now) }
 {
     lens[1] <= 1 || lens[0] > 1 && magnitude_at(strides, 0) < magnitude_at(strides, 1)
 }
@@ -45,7 +45,7 @@ fn axis_to_move(lens: &[usize], strides: &[usize]) -> usize
     ensures exists { result < length lens.now }
 {
     if lens.len() == 2 {
-        if are_turned(lens, strides) { 0 } else { 1 }
+        if are_swapped(lens, strides) { 0 } else { 1 }
     } else {
         first_least_axis(lens, strides)
     }

@@ -40,7 +40,7 @@ pub trait NdIndex<E: Lengths>: Debug {
     /// (1,2) along the strides `[3,1]`: 5. ndarray's `index_unchecked`.
     fn index_unchecked(&self, strides: &E) -> isize
         requires same_count { length (index_list self.now) ≡ length (E.list strides.now) }
-        requires small { All (λ entry. entry ≤ limit) (index_list self.now) }
+        requires small { All (λ coordinate. coordinate ≤ limit) (index_list self.now) }
         requires fits { farthest_offset (all_signed (E.list strides.now)) (index_list self.now)
             ≤ limit }
         ensures { result ≡
@@ -72,7 +72,7 @@ impl NdIndex<Ix0> for () {
 }
 
 impl NdIndex<Ix1> for usize {
-    ghost index_list = { λ entry. entry ∷ [] };
+    ghost index_list = { λ coordinate. coordinate ∷ [] };
 
     fn index_checked(&self, dim: &Ix1, strides: &Ix1) -> Option<isize> {
         stride_offset_checked(dim.slice(), strides.slice(), &[*self])
@@ -171,7 +171,7 @@ impl<const N: usize> NdIndex<Dim<[usize; N]>> for [usize; N] {
 }
 
 impl NdIndex<IxDyn> for usize {
-    ghost index_list = { λ entry. entry ∷ [] };
+    ghost index_list = { λ coordinate. coordinate ∷ [] };
 
     fn index_checked(&self, dim: &IxDyn, strides: &IxDyn) -> Option<isize> {
         stride_offset_checked(dim.slice(), strides.slice(), &[*self])

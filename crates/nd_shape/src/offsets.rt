@@ -5,7 +5,7 @@ ghost use Rattle.nd_base.specs.Size.{limit};
 ghost use Rattle.nd_base.specs.Span.{reach_down as reach_down_of_axis, span, low_span as low_span_of_layout};
 ghost use Rattle.nd_base.specs.ValidLayout.{IsValidLayout};
 
-use crate::limits::reach;
+use crate::size_limits::reach;
 use nd_base::{Lengths, signed};
 
 /// The distance in elements from the lowest place of an axis to its first coordinate.

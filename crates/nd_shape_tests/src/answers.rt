@@ -1,4 +1,4 @@
-//! What calls answer, beside what a row says. Refused memory is no answer of a row.
+//! What calls answer, beside what a row says. A failed allocation is no answer of a row.
 use nd_dim::Lengths;
 use std::alloc::AllocError;
 use test_tables::Words;

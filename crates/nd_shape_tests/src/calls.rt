@@ -1,8 +1,8 @@
 //! The calls that rows name, and which of them are asked where.
 use crate::dims::OfDim;
+use crate::iterators::{Iteration, is_iterated};
 use crate::layouts::OfLayout;
 use crate::types::at_each_dimension;
-use crate::walks::{Walk, is_walked};
 use CanIndexCheckMode::{OwnedMutable, ReadOnly};
 use nd_dim::Order::{ColumnMajor, RowMajor};
 use nd_shape::CanIndexCheckMode;
@@ -16,8 +16,8 @@ enum Call {
     Dim(OfDim),
     /// One of a layout, by the bound `Lengths`.
     Layout(OfLayout),
-    /// A walk over the indices of a shape.
-    Walk(Walk),
+    /// An iterator over the indices of a shape.
+    Iteration(Iteration),
 }
 
 /// The calls of a dimension.
@@ -82,21 +82,27 @@ static OF_LAYOUTS: [(&str, Call); 14] = [
     ("is_layout", Call::Layout(OfLayout::Lies)),
 ];
 
-/// The walks.
-static WALKS: [(&str, Call); 6] = [
-    ("all_indices", Call::Walk(Walk::All(RowMajor))),
-    ("indices_iter_f", Call::Walk(Walk::All(ColumnMajor))),
-    ("IndexCursor", Call::Walk(Walk::Lent(RowMajor))),
-    ("IndexCursorF", Call::Walk(Walk::Lent(ColumnMajor))),
-    ("fold", Call::Walk(Walk::Folded(RowMajor))),
-    ("fold_f", Call::Walk(Walk::Folded(ColumnMajor))),
+/// The iterators.
+static ITERATIONS: [(&str, Call); 6] = [
+    ("all_indices", Call::Iteration(Iteration::All(RowMajor))),
+    (
+        "indices_iter_f",
+        Call::Iteration(Iteration::All(ColumnMajor)),
+    ),
+    ("IndexCursor", Call::Iteration(Iteration::Lent(RowMajor))),
+    (
+        "IndexCursorF",
+        Call::Iteration(Iteration::Lent(ColumnMajor)),
+    ),
+    ("fold", Call::Iteration(Iteration::Folded(RowMajor))),
+    ("fold_f", Call::Iteration(Iteration::Folded(ColumnMajor))),
 ];
 
 /// The call of a name.
 fn called(name: &str) -> Option<Call> {
     meaning(&OF_DIMS, name)
         .or(meaning(&OF_LAYOUTS, name))
-        .or(meaning(&WALKS, name))
+        .or(meaning(&ITERATIONS, name))
 }
 
 /// What a row asks of a call at a type.
@@ -130,7 +136,7 @@ impl Asked for Calls {
                 let count = lists.first.as_slice().len();
                 at_each_type(alloc, count, Question::of(call, row)?)
             }
-            Call::Walk(call) => is_walked(alloc, call, &lists, row.answer),
+            Call::Iteration(call) => is_iterated(alloc, call, &lists, row.answer),
         }
     }
 }

@@ -50,7 +50,7 @@ pub(crate) enum OfDim {
     TryRemoveAxis,
     /// The same, where there is an axis.
     RemoveAxis,
-    /// The kind of the refusal of two shapes.
+    /// The kind of the error of two shapes.
     Incompatible,
 }
 
@@ -179,7 +179,7 @@ fn is_next<D: Dimension>(order: Order, dim: &D, mut index: D, answer: &str) -> b
             if dim.next_for_f(&mut index) {
                 is_list(answer, index.slice())
             } else {
-                answer == "None" && !index.slice().iter().any(|entry| *entry != 0)
+                answer == "None" && !index.slice().iter().any(|coordinate| *coordinate != 0)
             }
         }
     }

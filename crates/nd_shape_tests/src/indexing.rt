@@ -83,8 +83,8 @@ fn lie_by_lists(dim: &IxDyn, strides: &IxDyn) -> bool {
         && lies(dim, strides, &1, None)
 }
 
-/// Entries and lent dimensions, on one axis of four entries with the stride 3.
-fn lie_by_entries(dim: &IxDyn, strides: &IxDyn) -> bool {
+/// Coordinates and lent dimensions, on one axis of four coordinates with the stride 3.
+fn lie_by_coordinates(dim: &IxDyn, strides: &IxDyn) -> bool {
     lie(dim, strides, (&3, &strides), 9, &4) && lies(dim, strides, &dim, None)
 }
 
@@ -100,5 +100,5 @@ fn r3_rows(rt: HostRuntime) {
         new_ixdyn(alloc, &[4]).unwrap(),
         new_ixdyn(alloc, &[3]).unwrap(),
     );
-    assert!(rt; lie_by_entries(&dim, &strides));
+    assert!(rt; lie_by_coordinates(&dim, &strides));
 }

@@ -33,7 +33,7 @@ pub(crate) enum OfLayout {
     AcceptedStandard,
     /// The fault of strides, where one is negative, or `none`.
     NonNegative,
-    /// Whether the layout breaks the rule for owned data.
+    /// Whether the layout breaks the no-alias rule.
     Overlap,
     /// How far the layout reaches below its first index.
     LowSpan,
@@ -77,8 +77,8 @@ pub(crate) fn is_valid<D: Lengths>(dim: &D, strides: &D) -> bool
 }
 
 /// Whether a fault is named, or `none`.
-fn is_fault(refused: Result<(), ShapeError>, answer: &str) -> bool {
-    name_of(fault_of(refused)) == answer
+fn is_fault(outcome: Result<(), ShapeError>, answer: &str) -> bool {
+    name_of(fault_of(outcome)) == answer
 }
 
 /// Whether a number is answered, or a fault is named.
@@ -101,8 +101,8 @@ fn is_told<D: Lengths>(asked: &Question<'_, OfLayout>, dim: &D) -> bool {
 
 /// Whether a shape by the strides of an order, over so many elements of one byte, has this fault.
 fn has_fault_in<D: Lengths>(len: usize, dim: &D, order: &Strides<D>, answer: &str) -> bool {
-    let refused = can_index_slice_with_strides(1, len, dim, order, OwnedMutable);
-    !order.is_custom() && is_fault(refused, answer)
+    let outcome = can_index_slice_with_strides(1, len, dim, order, OwnedMutable);
+    !order.is_custom() && is_fault(outcome, answer)
 }
 
 /// Whether a shape by its own strides has this fault, in either order.
@@ -150,13 +150,13 @@ fn accepts<D: Lengths>(
     answer: &str,
 ) -> bool {
     let (size, len) = (data.at(0), data.at(1));
-    let refused = can_index_slice(size, len, &dim, &strides, mode);
-    if !is_fault(refused, answer) {
+    let outcome = can_index_slice(size, len, &dim, &strides, mode);
+    if !is_fault(outcome, answer) {
         return false;
     }
     let given = Strides::Custom(strides);
-    let refused = can_index_slice_with_strides(size, len, &dim, &given, mode);
-    given.is_custom() && is_fault(refused, answer)
+    let outcome = can_index_slice_with_strides(size, len, &dim, &given, mode);
+    given.is_custom() && is_fault(outcome, answer)
 }
 
 /// Whether a valid layout is answered so.

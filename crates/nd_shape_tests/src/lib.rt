@@ -20,6 +20,8 @@ mod edits;
 #[cfg(test)]
 mod indexing;
 #[cfg(test)]
+mod iterators;
+#[cfg(test)]
 mod ixdynimpl;
 #[cfg(test)]
 mod layouts;
@@ -45,5 +47,3 @@ mod texts;
 mod types;
 #[cfg(test)]
 mod values;
-#[cfg(test)]
-mod walks;

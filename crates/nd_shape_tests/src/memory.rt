@@ -1,9 +1,9 @@
 //! Calls with ample memory: what has more than four lengths needs some, and much where it has 1,100, which take more
-//! than 8,192 bytes. What calls answer where memory is refused, `refusal_tests` shows.
+//! than 8,192 bytes. What calls answer where an allocation fails, `refusal_tests` shows.
+use crate::iterators::is_lent;
 use crate::ixdynimpl::{inserts, leaves};
 use crate::layouts::common_of;
 use crate::shapes::{Built, builds};
-use crate::walks::is_lent;
 use nd_dim::{
     Axis, IntoDimension, IxDyn, Lengths, Order, RemoveAxis, ShapeArg, new_dim, new_ixdyn,
 };
@@ -49,7 +49,7 @@ fn come_of(alloc: Global, lens: &[usize]) -> bool {
         && IxDyn::zeros(alloc, lens.len()).is_ok_and(|zeros| zeros.ndim() == lens.len())
 }
 
-/// Whether the cursors over so many axes of one entry are made, and have one index to lend.
+/// Whether the cursors over so many axes of length 1 are made, and have one index to lend.
 fn are_lent(alloc: Global, lens: &[usize]) -> bool {
     let (Ok(dim), Ok(other)) = (new_ixdyn(alloc, lens), new_ixdyn(alloc, lens)) else {
         return false;

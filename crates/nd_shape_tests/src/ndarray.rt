@@ -4,7 +4,7 @@
 //! strides back, of equal magnitude or 0. That crate's own dimension files were built by themselves, with overflow
 //! checks and debug assertions, and each row was asked of them at `IxDyn`, with strides read and written as signed
 //! numbers. Left out is what this layer answers otherwise on purpose: strides of `isize::MIN` where the crate takes
-//! their magnitude, axes of at most one entry with the least stride, and sizes that overflow before a length of 0.
+//! their magnitude, axes of length at most 1 with the least stride, and sizes that overflow before a length of 0.
 use crate::assertions::hold;
 use crate::calls::Calls;
 

@@ -1,7 +1,7 @@
 //! The operators of dimensions: by the bound alone, and each at the types themselves.
 ghost use Rattle.std.specs.Prelude.{◌≡◌, [], ◌∷◌};
 ghost use Rattle.nd_base.specs.Dim.{lengths};
-ghost use Rattle.nd_base.specs.Entrywise.{SumsFit, DifferencesFit, ProductsFit, ScaledFit};
+ghost use Rattle.nd_base.specs.Elementwise.{SumsFit, DifferencesFit, ProductsFit, ScaledFit};
 
 use nd_dim::{Arithmetic, Ix2, Ix3, IxDyn, Lengths, Scale, new_ix1, new_ix2, new_ix3, new_ixdyn};
 use std::alloc::Global;

@@ -1,7 +1,7 @@
 //! The worked rows.
 //!
 //! Strides are written with their sign. `can_index_slice` and `max_abs_offset_check_overflow` take a shape, strides,
-//! and then the size of an element, with the count of elements where the call takes one; where nothing is refused the
+//! and then the size of an element, with the count of elements where the call takes one; where nothing fails the
 //! answer is `none`.
 use crate::assertions::hold;
 use crate::calls::Calls;
@@ -140,7 +140,7 @@ fn r5_rows(rt: HostRuntime) {
     hold(&rt, rt.alloc(), R5, &Calls);
 }
 
-/// Walks over all indices: how many there are, and the indices.
+/// Iterators over all indices: how many there are, and the indices.
 const R7: &str = "\
 all_indices 2,2 => 4 0,0 0,1 1,0 1,1
 indices_iter_f 2,2 => 4 0,0 1,0 0,1 1,1

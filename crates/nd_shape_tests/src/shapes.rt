@@ -144,7 +144,7 @@ fn builders_of_any_number_of_axes(rt: HostRuntime) {
     assert!(rt; builds(alloc, built.lens, built.given, built));
     let columns = match built.lens.f(alloc) {
         Ok(shape) => StrideShape::from_builder(alloc, shape),
-        Err(refused) => Err(refused),
+        Err(failed) => Err(failed),
     };
     assert!(rt; is_stride_shape(alloc, columns, built, &[1, 2, 6, 6, 12], false));
 }

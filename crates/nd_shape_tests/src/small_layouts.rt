@@ -1,5 +1,5 @@
 //! All layouts of up to three axes with lengths from 1 to 3 and strides from -9 to 9: what is answered of them is what
-//! their places in rising order show, and what the rule for owned data says of each axis against all others.
+//! their places in rising order show, and what the no-alias rule says of each axis against all others.
 ghost use Rattle.std.specs.Prelude.{◌<◌};
 
 use CanIndexCheckMode::ReadOnly;
@@ -9,7 +9,7 @@ use std::alloc::Global;
 use std::ops::Range;
 use test_tables::made;
 
-/// A layout of three axes. For one of fewer axes the first axes have one entry.
+/// A layout of three axes. For one of fewer axes the first axes have one coordinate.
 #[derive(Clone, Copy)]
 struct Small {
     lens: [usize; 3],
@@ -32,10 +32,10 @@ fn small_layout(number: usize) -> Small {
     }
 }
 
-/// The place of an entry of an axis, or none where the axis has no such entry.
-fn place_of(entry: usize, len: usize, stride: isize) -> Option<isize> {
-    match entry {
-        _ if entry >= len => None,
+/// The place of a coordinate of an axis, or none where the axis has no such coordinate.
+fn place_of(coordinate: usize, len: usize, stride: isize) -> Option<isize> {
+    match coordinate {
+        _ if coordinate >= len => None,
         0 => Some(0),
         1 => Some(stride),
         _ => Some(stride.wrapping_add(stride)),
@@ -43,7 +43,7 @@ fn place_of(entry: usize, len: usize, stride: isize) -> Option<isize> {
 }
 
 impl Small {
-    /// The place of three entries, or none where they are no index.
+    /// The place of three coordinates, or none where they are no index.
     fn place(&self, first: usize, second: usize, third: usize) -> Option<isize> {
         let first = place_of(first, self.lens[0], self.strides[0])?;
         let second = place_of(second, self.lens[1], self.strides[1])?;
@@ -92,9 +92,9 @@ impl Small {
         reach
     }
 
-    /// Whether the stride of some axis of more than one entry is no longer than the others reach together whose
+    /// Whether the stride of some axis longer than 1 is no longer than the others reach together whose
     /// strides are no longer.
-    fn breaks_owned_rule(&self) -> bool {
+    fn breaks_no_alias_rule(&self) -> bool {
         for axis in 0..3 {
             if self.lens[axis] > 1
                 && self.strides[axis].unsigned_abs() <= self.reach_of_others(axis)
@@ -138,7 +138,7 @@ fn is_answered_at<D: Dimension>(
 /// where there are three, and at that of any number. Where no overlap is answered, all places are distinct.
 fn is_answered_rightly(alloc: Global, layout: Small, skipped: usize) -> bool {
     let (are_distinct, are_consecutive) = layout.shown();
-    let answers = (are_consecutive, layout.breaks_owned_rule());
+    let answers = (are_consecutive, layout.breaks_no_alias_rule());
     let kept = layout.kept_strides();
     let (Some(lens), Some(strides)) = (layout.lens.get(skipped..), kept.get(skipped..)) else {
         return false;
@@ -167,16 +167,16 @@ fn layouts_of_up_to_two_axes(rt: HostRuntime) {
 }
 
 #[test]
-fn layouts_of_three_axes_the_first_of_one_entry(rt: HostRuntime) {
+fn layouts_of_three_axes_the_first_of_one_coordinate(rt: HostRuntime) {
     assert!(rt; first_wrong(rt.alloc(), 0..61731, 0) == None);
 }
 
 #[test]
-fn layouts_of_three_axes_the_first_of_two_entries(rt: HostRuntime) {
+fn layouts_of_three_axes_the_first_of_two_coordinates(rt: HostRuntime) {
     assert!(rt; first_wrong(rt.alloc(), 61731..123462, 0) == None);
 }
 
 #[test]
-fn layouts_of_three_axes_the_first_of_three_entries(rt: HostRuntime) {
+fn layouts_of_three_axes_the_first_of_three_coordinates(rt: HostRuntime) {
     assert!(rt; first_wrong(rt.alloc(), 123462..185193, 0) == None);
 }

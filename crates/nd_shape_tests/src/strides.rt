@@ -1,4 +1,4 @@
-//! Strides as they are kept, and calls of slices: the offsets of entries, and axes.
+//! Strides as they are kept, and calls of slices: the offsets of coordinates, and axes.
 use nd_dim::{
     Axis, Dimension, Ix2, axis_of, has_axis, index_offset, is_index, is_multiple, new_ix2,
     set_axis_of, signed, stride_offset, stride_offset_checked, unsigned,
@@ -20,7 +20,7 @@ fn r2_rows(rt: HostRuntime) {
 
 // Beside the shape 2, 3 with the strides -3, 1.
 #[test]
-fn offsets_of_entries(rt: HostRuntime) {
+fn offsets_of_coordinates(rt: HostRuntime) {
     let strides = [unsigned(-3), 1];
     assert!(rt;
         stride_offset_checked(&[2, 3], &strides, &[1, 2]) == Some(-1)

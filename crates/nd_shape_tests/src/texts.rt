@@ -22,7 +22,7 @@ fn shows<T: Debug>(alloc: Global, value: &T, text: &str) -> bool {
         && is_printed(format!(in alloc; "{value:>80.3?}"), text)
 }
 
-/// Whether the refusal of a kind prints this in each form, and is its own copy.
+/// Whether the error of a kind prints this in each form, and is its own copy.
 fn prints(alloc: Global, kind: ErrorKind, text: &str) -> bool {
     let error = ShapeError::from_kind(kind);
     error.kind() == kind
@@ -34,8 +34,8 @@ fn prints(alloc: Global, kind: ErrorKind, text: &str) -> bool {
         && error.clone().unwrap() == error
 }
 
-/// The kinds of faults, and what their refusals print.
-static REFUSALS: [(ErrorKind, &str); 6] = [
+/// The kinds of faults, and what their errors print.
+static TEXTS_OF_ERRORS: [(ErrorKind, &str); 6] = [
     (
         IncompatibleShape,
         "ShapeError/IncompatibleShape: incompatible shapes",
@@ -58,7 +58,7 @@ static REFUSALS: [(ErrorKind, &str); 6] = [
 
 #[test]
 fn r1_rows(rt: HostRuntime) {
-    for (kind, text) in &REFUSALS {
+    for (kind, text) in &TEXTS_OF_ERRORS {
         assert!(rt; prints(rt.alloc(), *kind, *text), "{text}");
     }
 }

@@ -28,7 +28,7 @@ fn kinds_of_faults(rt: HostRuntime) {
         Unsupported,
         Overflow,
     ];
-    let refusals = [
+    let errors = [
         from_kind(IncompatibleShape),
         from_kind(IncompatibleLayout),
         from_kind(RangeLimited),
@@ -36,7 +36,7 @@ fn kinds_of_faults(rt: HostRuntime) {
         from_kind(Unsupported),
         from_kind(Overflow),
     ];
-    assert!(rt; are_distinct(&kinds) && are_distinct(&refusals));
+    assert!(rt; are_distinct(&kinds) && are_distinct(&errors));
 }
 
 #[test]
@@ -94,11 +94,11 @@ fn two_numbers(alloc: Global) -> Result<Vec<usize>, LayoutError>
 fn faults_of_layouts(rt: HostRuntime) {
     let shape: LayoutError = from_kind(Overflow).into();
     let memory: LayoutError = AllocError.into();
-    let refused: LayoutError = AllocFailed { value: 7usize }.into();
+    let failed: LayoutError = AllocFailed { value: 7usize }.into();
     assert!(rt;
         matches!(&shape, LayoutError::Shape(fault) if fault.kind() == Overflow)
             && matches!(&memory, LayoutError::Memory(_))
-            && matches!(&refused, LayoutError::Memory(_))
+            && matches!(&failed, LayoutError::Memory(_))
     );
     assert!(rt; two_numbers(rt.alloc()).is_ok_and(|numbers| numbers.len() == 2));
 }
@@ -185,7 +185,7 @@ fn shapes_with_orders(rt: HostRuntime) {
 }
 
 #[test]
-fn entries_as_tuples(rt: HostRuntime) {
+fn coordinates_as_tuples(rt: HostRuntime) {
     assert!(rt;
         [].convert() == ()
             && [4].convert() == (4,)

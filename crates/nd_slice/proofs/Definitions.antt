@@ -3,15 +3,15 @@ pub use Rattle.nd_base.proofs.laws.Definitions.{all_signed, is_index, limit, mag
 pub use Rattle.nd_slice.specs.declared.fit.Fit.{Fit}
 pub use Rattle.nd_slice.specs.declared.slice.Slice.{Slice}
 pub use Rattle.nd_slice.specs.declared.elem.SliceInfoElem.{SliceInfoElem}
-pub use Rattle.nd_slice.specs.ArgumentFault.{argument_fault, elem_fault, fault_of_each, first_fault, in_count, out_count}
+pub use Rattle.nd_slice.specs.SliceFault.{argument_fault, elem_fault, fault_of_each, first_fault, in_count, out_count}
 pub use Rattle.nd_slice.specs.AxisElems.{axis_elems}
 pub use Rattle.nd_slice.specs.Equation.{IsLeastMultiplier, IsLeastSolution, Solves, added_of, with_sign_of}
-pub use Rattle.nd_slice.specs.Meet.{Meet, axis_picks, elem_picks}
+pub use Rattle.nd_slice.specs.Intersect.{Intersect, axis_picks, elem_picks}
 pub use Rattle.nd_slice.specs.Picked.{first_offset, picked_stride}
-pub use Rattle.nd_slice.specs.Picks.{between, directed, end_meaning, every, is_bound, is_entry, meaning, nearest, picks, range}
+pub use Rattle.nd_slice.specs.Picks.{between, directed, end_meaning, every, is_bound, is_coordinate, meaning, nearest, picks, range}
 pub use Rattle.nd_slice.specs.Picks.{slice_with, start_meaning}
-pub use Rattle.nd_slice.specs.PicksMeet.{PicksMeet}
+pub use Rattle.nd_slice.specs.PicksIntersect.{PicksIntersect}
 pub use Rattle.nd_slice.specs.Selected.{selected}
-pub use Rattle.nd_slice.specs.Sequence.{InSequence, MeetsWithin, SequencesMeet}
-pub use Rattle.nd_slice.specs.SliceFault.{IndexFits, SliceFits, index_fault, is_within, slice_fault}
+pub use Rattle.nd_slice.specs.Sequence.{InSequence, IntersectWithin, SequencesIntersect}
+pub use Rattle.nd_slice.specs.AxisFault.{IndexFits, SliceFits, index_fault, is_within, slice_fault}
 pub use Rattle.nd_slice.specs.Sliced.{sliced_shape}

@@ -60,7 +60,7 @@ module _ (start end : ℕ) (order : start < end) where
   ends_on (pos k) on moves far = ends_up k start end moves order far
   ends_on (negsuc k) on moves far = absurd (omega (arith, ints, on))
 
-  -- for a step back the first pick is the last entry
+  -- for a step back the first pick is the last coordinate
   pub first_back : (step : ℤ) → step <ℤ pos 0 → 0 < magnitude step → end - 1 ≡ get_or (between step start end) 0 0
   first_back (pos k) h p = absurd (omega (arith, ints, h))
   first_back (negsuc k) h p = omega (arith, pick_down k start end 0 (some_between (negsuc k) start end p order))

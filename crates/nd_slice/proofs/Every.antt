@@ -1,4 +1,4 @@
--- Items whose positions are multiples of a step, as a walk that passes over the items between them.
+-- Items whose positions are multiples of a step, as a pass that leaves out the items between them.
 use Rattle.std.proofs.Common.{◌≡◌, ℕ, zero, suc, ◌+◌, ◌-◌, ◌*◌, ◌/◌, ◌%◌, ◌<◌, ◌≤◌, true, false, eqb, map, filter, List, [], ◌∷◌, length}
 use Rattle.std.proofs.Common.{refl, ap, subst, arith, eq-eqb, ne_eqb, div-add-mod', inl, inr, mul-le-mul_right}
 use Rattle.std.proofs.Math.Nat.{mod-zero, mul-mod_left}

@@ -1,4 +1,4 @@
--- What `picks` gives, entry by entry.
+-- What `picks` gives, coordinate by coordinate.
 use Rattle.std.proofs.Common.{◌≡◌, ℕ, zero, suc, ◌+◌, ◌-◌, ◌*◌, ◌<◌, ◌≤◌, List, [], ◌∷◌, length, get_or, arith, refl, ap, ◌∙◌, inl, inr}
 use Rattle.std.proofs.Common.{mul-le-mul_right}
 use Rattle.std.proofs.lemmas.Bool.{cases_lt}

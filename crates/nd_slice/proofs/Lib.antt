@@ -4,5 +4,5 @@ pub mod Every
 pub mod EveryItems
 pub mod Slicing
 pub mod Times
-pub mod intersection
+pub mod intersect_lemmas
 pub mod laws

@@ -7,7 +7,7 @@ use Rattle.std.proofs.Math.IntN.{*ℤ-zero}
 use Rattle.std.specs.List.{range_with_len}
 use Rattle.nd_slice.proofs.Definitions.{Fit, Slice, between, directed, end_meaning, every, first_offset, limit, magnitude, picked_stride}
 use Rattle.nd_slice.proofs.Definitions.{picks, reach, slice_fault, start_meaning}
-use Rattle.nd_slice.proofs.laws.SliceFault.{fits_of_no_fault, step_moves}
+use Rattle.nd_slice.proofs.laws.AxisFault.{fits_of_no_fault, step_moves}
 use Rattle.nd_slice.proofs.laws.Offsets.{offset_of_some, picked_few, picked_many}
 use Rattle.nd_slice.proofs.laws.Between.{between_steps, between_below, between_within, some_between}
 
@@ -58,6 +58,6 @@ module _ (step : ℤ) (start end : ℕ) where
             omega (arith, ints, here, still, first)
       ]
 
-  -- the first pick is an entry
+  -- the first pick is a coordinate
   pub first_below : (first : ℕ) → 0 < magnitude step → start < end → first ≡ get_or (between step start end) 0 0 → first < end
   first_below first p some e = omega (arith, between_below step start end 0 p (some_between step start end p some))

@@ -1,7 +1,7 @@
-pub mod ArgumentFault
 pub mod AxisElems
+pub mod AxisFault
 pub mod Between
-pub mod Meet
+pub mod Intersect
 pub mod Offsets
 pub mod PickSequences
 pub mod Picked

@@ -5,7 +5,7 @@ use Rattle.std.proofs.lemmas.Bool.{true≢false}
 use Rattle.nd_base.specs.Lengths.{IsCount}
 use Rattle.nd_slice.specs.declared.elem.SliceInfoElem.{SliceInfoElem}
 use Rattle.nd_slice.specs.declared.elem.SliceInfoElem.TheVariants as elem
-use Rattle.nd_slice.specs.ArgumentFault.{in_count, out_count}
+use Rattle.nd_slice.specs.SliceFault.{in_count, out_count}
 
 -- an argument is for as many axes as before says, and leaves as many as after says; either may allow any count
 pub record HasCounts (before after : Option ℕ) (elems : List SliceInfoElem) : Type 0 where

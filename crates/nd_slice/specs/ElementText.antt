@@ -16,9 +16,9 @@ elem_text elem.NewAxis = codes "NewAxis"
 whole_axis : elem_text (elem.Slice (pos 0) None (pos 1)) ≡ codes ".."
 whole_axis = refl
 
-last_entry : elem_text (elem.Index (negsuc 0)) ≡ codes "-1"
+last_coordinate : elem_text (elem.Index (negsuc 0)) ≡ codes "-1"
 unfolding digits
-last_entry = refl
+last_coordinate = refl
 
 new_axis : elem_text elem.NewAxis ≡ codes "NewAxis"
 new_axis = refl

@@ -9,7 +9,7 @@ is_slice (elem.Slice start end step) = true
 is_slice (elem.Index index) = false
 is_slice elem.NewAxis = false
 
--- an element is an index: one entry of its axis
+-- an element is an index: one coordinate of its axis
 abbrev pub is_index : SliceInfoElem → Bool
 is_index (elem.Slice start end step) = false
 is_index (elem.Index index) = true

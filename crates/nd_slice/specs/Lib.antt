@@ -1,14 +1,14 @@
-pub mod ArgumentFault
 pub mod AxisElems
+pub mod AxisFault
 pub mod Counts
 pub mod ElemRange
 pub mod ElementText
 pub mod Equation
+pub mod Intersect
 pub mod Kinds
-pub mod Meet
 pub mod Picked
 pub mod Picks
-pub mod PicksMeet
+pub mod PicksIntersect
 pub mod Ranges
 pub mod Selected
 pub mod Sequence

@@ -8,7 +8,7 @@ use Rattle.nd_slice.specs.declared.fit.Fit.{Fit}
 use Rattle.nd_slice.specs.declared.fit.Fit.TheVariants.{Strict, Clamp}
 use Rattle.nd_slice.specs.declared.slice.Slice.{Slice}
 
--- the number that a bound or an index means on an axis of length len: a negative one counts from the end, and -1 is the last entry
+-- the number that a bound or an index means on an axis of length len: a negative one counts from the end, and -1 is the last coordinate
 abbrev pub meaning : ℕ → ℤ → ℤ
 meaning len (pos bound) = pos bound
 meaning len (negsuc bound) = pos len +ℤ negsuc bound
@@ -18,10 +18,10 @@ abbrev pub is_bound : ℕ → ℤ → Bool
 is_bound len (pos bound) = nat_le bound len
 is_bound len (negsuc bound) = false
 
--- a number from 0 to len - 1, where an entry is
-abbrev pub is_entry : ℕ → ℤ → Bool
-is_entry len (pos index) = nat_lt index len
-is_entry len (negsuc index) = false
+-- a number from 0 to len - 1, where a coordinate is
+abbrev pub is_coordinate : ℕ → ℤ → Bool
+is_coordinate len (pos index) = nat_lt index len
+is_coordinate len (negsuc index) = false
 
 -- the slice of a range with a step
 abbrev pub slice_with : ℤ → Option ℤ → ℤ → Slice
@@ -62,13 +62,13 @@ directed (negsuc step) items = reverse items
 abbrev pub between : ℤ → ℕ → ℕ → List ℕ
 between step start end = every (magnitude step) (directed step (range start end))
 
--- the entries that a slice picks of an axis which it fits, in order
+-- the coordinates that a slice picks of an axis which it fits, in order
 abbrev pub picks : Fit → ℕ → Slice → List ℕ
 picks fit len slice = between slice.step (magnitude (start_meaning fit len slice)) (magnitude (end_meaning fit len slice))
 
 -- examples
-last_entry : meaning 4 (negsuc 0) ≡ pos 3
-last_entry = refl
+last_coordinate : meaning 4 (negsuc 0) ≡ pos 3
+last_coordinate = refl
 
 before_the_first : meaning 4 (negsuc 4) ≡ negsuc 0
 before_the_first = refl
@@ -76,8 +76,8 @@ before_the_first = refl
 length_is_a_bound : is_bound 4 (pos 4) ≡ true
 length_is_a_bound = refl
 
-length_is_no_entry : is_entry 4 (pos 4) ≡ false
-length_is_no_entry = refl
+length_is_no_coordinate : is_coordinate 4 (pos 4) ≡ false
+length_is_no_coordinate = refl
 
 no_bound_before_the_first : is_bound 4 (negsuc 0) ≡ false
 no_bound_before_the_first = refl

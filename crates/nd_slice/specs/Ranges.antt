@@ -1,7 +1,7 @@
--- The end of a range whose last entry is given.
+-- The end of a range whose last coordinate is given.
 use Rattle.std.specs.Prelude.{◌≡◌, zero, ℤ, pos, negsuc, ◌+ℤ◌, Option, Some, None, refl}
 
--- the number that a range stops before where its last entry is given: none after -1, the last entry of the axis
+-- the number that a range stops before where its last coordinate is given: none after -1, the last coordinate of the axis
 abbrev pub end_after : ℤ → Option ℤ
 end_after (negsuc zero) = None
 end_after last = Some (last +ℤ pos 1)

@@ -8,7 +8,7 @@ use Rattle.nd_slice.specs.declared.elem.SliceInfoElem.TheVariants as elem
 use Rattle.nd_slice.specs.Picks.{slice_with, meaning, picks}
 
 -- the index of a shape that an index of its slice stands for, read along the elements of an argument without fault: for a range
--- the entry is a position among its picks, for a new axis it says nothing, and an index has none, since it names the entry itself
+-- the coordinate is a position among its picks, for a new axis it says nothing, and an index has none, since it names the coordinate itself
 abbrev pub selected : Fit → List SliceInfoElem → List ℕ → List ℕ → List ℕ
 selected fit [] shape index = []
 selected fit (elem.NewAxis ∷ elems) shape [] = []

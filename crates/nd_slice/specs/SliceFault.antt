@@ -1,76 +1,76 @@
--- Which slices and indices fit an axis, and with which fault any other is refused.
-use Rattle.std.specs.Prelude.{◌≡◌, ℕ, ℤ, pos, negsuc, Bool, true, false, IsTrue, IsFalse, not, ◌&&◌, ◌==◌, Option, Some, None, if◌then◌else◌, refl}
-use Rattle.std.proofs.lemmas.Bool.{false≢true, true≢false}
+-- Which slice arguments fit a shape, and which fault any other has.
+use Rattle.std.specs.Prelude.{◌≡◌, ℕ, ◌+◌, pos, ◌==◌, Option, Some, None, if◌then◌else◌, List, [], ◌∷◌, length, refl}
+use Rattle.std.specs.Option.{option_or}
 use Rattle.nd_base.specs.declared.error.ErrorKind.{ErrorKind}
-use Rattle.nd_base.specs.declared.error.ErrorKind.TheVariants.{OutOfBounds, Unsupported}
-use Rattle.nd_base.specs.Signed.{magnitude}
+use Rattle.nd_base.specs.declared.error.ErrorKind.TheVariants.{IncompatibleShape, OutOfBounds, Unsupported}
 use Rattle.nd_slice.specs.declared.fit.Fit.{Fit}
 use Rattle.nd_slice.specs.declared.fit.Fit.TheVariants.{Strict, Clamp}
-use Rattle.nd_slice.specs.declared.slice.Slice.{Slice}
-use Rattle.nd_slice.specs.Picks.{slice_with, meaning, is_bound, is_entry, start_meaning, end_meaning}
+use Rattle.nd_slice.specs.AxisElems.{axis_elems}
+use Rattle.nd_slice.specs.Picks.{slice_with}
+use Rattle.nd_slice.specs.AxisFault.{slice_fault, index_fault}
+use Rattle.nd_slice.specs.declared.elem.SliceInfoElem.{SliceInfoElem}
+use Rattle.nd_slice.specs.declared.elem.SliceInfoElem.TheVariants as elem
 
--- both ends of the range of a slice are bounds of an axis of length len: numbers from 0 to len
-abbrev pub is_within : Fit → ℕ → Slice → Bool
-is_within fit len slice = is_bound len (start_meaning fit len slice) && is_bound len (end_meaning fit len slice)
+-- how many axes of a shape an argument is for: one for each element but a new axis
+abbrev pub in_count : List SliceInfoElem → ℕ
+in_count [] = 0
+in_count (elem.Slice start end step ∷ elems) = 1 + in_count elems
+in_count (elem.Index index ∷ elems) = 1 + in_count elems
+in_count (elem.NewAxis ∷ elems) = in_count elems
 
--- a slice fits an axis of length len: both ends of its range are bounds of the axis, and its step is not 0
-pub record SliceFits (fit : Fit) (len : ℕ) (slice : Slice) : Type 0 where
-  pub start_within : IsTrue (is_bound len (start_meaning fit len slice))
-  pub end_within : IsTrue (is_bound len (end_meaning fit len slice))
-  pub step_moves : IsFalse (magnitude slice.step == 0)
+-- how many axes an argument leaves: one for each element but an index
+abbrev pub out_count : List SliceInfoElem → ℕ
+out_count [] = 0
+out_count (elem.Slice start end step ∷ elems) = 1 + out_count elems
+out_count (elem.Index index ∷ elems) = out_count elems
+out_count (elem.NewAxis ∷ elems) = 1 + out_count elems
 
--- an index means an entry of an axis of length len: a number from 0 to len - 1
-abbrev pub IndexFits : ℕ → ℤ → Type 0
-IndexFits len index = IsTrue (is_entry len (meaning len index))
+-- the fault of an element on an axis of length len, if any: a new axis has none
+abbrev pub elem_fault : Fit → ℕ → SliceInfoElem → Option ErrorKind
+elem_fault fit len (elem.Slice start end step) = slice_fault fit len (slice_with start end step)
+elem_fault fit len (elem.Index index) = index_fault len index
+elem_fault fit len elem.NewAxis = None
 
--- the fault of a slice on an axis of length len, if any: an end that is no bound of the axis, then a step of 0
-abbrev pub slice_fault : Fit → ℕ → Slice → Option ErrorKind
-slice_fault fit len slice =
-    if not (is_within fit len slice) then Some OutOfBounds else if magnitude slice.step == 0 then Some Unsupported else None
+-- the first fault of some elements, each on an axis of its own
+abbrev pub fault_of_each : Fit → List (ℕ × SliceInfoElem) → Option ErrorKind
+fault_of_each fit [] = None
+fault_of_each fit (one ∷ others) = option_or (elem_fault fit one.0 one.1) (fault_of_each fit others)
 
--- the fault of an index on an axis of length len, if any
-abbrev pub index_fault : ℕ → ℤ → Option ErrorKind
-index_fault len index = if is_entry len (meaning len index) then None else Some OutOfBounds
+-- the fault of an argument for as many axes as a shape has: that of the first element at fault, each on its own axis
+abbrev pub first_fault : Fit → List ℕ → List SliceInfoElem → Option ErrorKind
+first_fault fit shape elems = fault_of_each fit (axis_elems shape elems)
+
+-- the fault of an argument on a shape: that it is for more axes or fewer, then that of the first element at fault
+abbrev pub argument_fault : Fit → List ℕ → List SliceInfoElem → Option ErrorKind
+argument_fault fit shape elems = if in_count elems == length shape then first_fault fit shape elems else Some IncompatibleShape
 
 -- examples
-whole_axis_within : is_within Strict 4 (slice_with (pos 0) None (pos 1)) ≡ true
-whole_axis_within = refl
+new_axis_without_fault : elem_fault Strict 0 elem.NewAxis ≡ None
+new_axis_without_fault = refl
 
-past_the_end_not_within : is_within Strict 4 (slice_with (pos 5) None (pos 1)) ≡ false
-past_the_end_not_within = refl
+index_past_the_end : elem_fault Strict 4 (elem.Index (pos 4)) ≡ Some OutOfBounds
+index_past_the_end = refl
 
-back_by_two_fits : SliceFits Strict 4 (slice_with (pos 1) None (negsuc 1))
-back_by_two_fits = record { start_within = refl; end_within = refl; step_moves = refl }
+row_and_new_axis_in : in_count (elem.Index (pos 0) ∷ elem.NewAxis ∷ elem.Slice (pos 0) None (pos 1) ∷ []) ≡ 2
+row_and_new_axis_in = refl
 
-past_the_end_fits_not : SliceFits Strict 4 (slice_with (pos 5) None (pos 1)) → ⊥
-past_the_end_fits_not fits = false≢true fits.start_within
+row_and_new_axis_out : out_count (elem.Index (pos 0) ∷ elem.NewAxis ∷ elem.Slice (pos 0) None (pos 1) ∷ []) ≡ 2
+row_and_new_axis_out = refl
 
-zero_step_fits_not : SliceFits Clamp 4 (slice_with (pos 5) None (pos 0)) → ⊥
-zero_step_fits_not fits = true≢false fits.step_moves
+row_alone_out : out_count (elem.Index (pos 0) ∷ []) ≡ 0
+row_alone_out = refl
 
-first_from_the_end_fits : IndexFits 4 (negsuc 3)
-first_from_the_end_fits = refl
+second_element_at_fault : first_fault Strict (4 ∷ 5 ∷ []) (elem.Index (pos 3) ∷ elem.Index (pos 5) ∷ []) ≡ Some OutOfBounds
+second_element_at_fault = refl
 
-length_fits_not : IndexFits 4 (pos 4) → ⊥
-length_fits_not fits = false≢true fits
+no_fault : argument_fault Strict (4 ∷ 5 ∷ []) (elem.Index (pos 3) ∷ elem.NewAxis ∷ elem.Slice (pos 1) None (pos 2) ∷ []) ≡ None
+no_fault = refl
 
-last_index : index_fault 4 (negsuc 0) ≡ None
-last_index = refl
+too_few : argument_fault Strict (4 ∷ 5 ∷ []) (elem.Index (pos 0) ∷ []) ≡ Some IncompatibleShape
+too_few = refl
 
-index_of_the_length : index_fault 4 (pos 4) ≡ Some OutOfBounds
-index_of_the_length = refl
+first_at_fault : argument_fault Strict (4 ∷ 5 ∷ []) (elem.Slice (pos 0) None (pos 0) ∷ elem.Index (pos 9) ∷ []) ≡ Some Unsupported
+first_at_fault = refl
 
-past_the_end : slice_fault Strict 4 (slice_with (pos 5) (Some (pos 2)) (pos 1)) ≡ Some OutOfBounds
-past_the_end = refl
-
-zero_step : slice_fault Strict 4 (slice_with (pos 0) (Some (pos 0)) (pos 0)) ≡ Some Unsupported
-zero_step = refl
-
-range_before_step : slice_fault Strict 4 (slice_with (pos 9) (Some (pos 0)) (pos 0)) ≡ Some OutOfBounds
-range_before_step = refl
-
-clamped : slice_fault Clamp 4 (slice_with (pos 5) (Some (pos 2)) (pos 1)) ≡ None
-clamped = refl
-
-clamped_zero_step : slice_fault Clamp 4 (slice_with (pos 9) None (pos 0)) ≡ Some Unsupported
-clamped_zero_step = refl
+index_not_clamped : argument_fault Clamp (4 ∷ []) (elem.Index (pos 4) ∷ []) ≡ Some OutOfBounds
+index_not_clamped = refl

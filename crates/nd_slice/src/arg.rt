@@ -1,7 +1,7 @@
 //! Slice arguments whose type says which shapes they are for.
 ghost use Rattle.std.specs.Prelude.{◌≡◌};
 ghost use Rattle.nd_base.specs.Lengths.{IsCount};
-ghost use Rattle.nd_slice.specs.ArgumentFault.{in_count, out_count};
+ghost use Rattle.nd_slice.specs.SliceFault.{in_count, out_count};
 
 use crate::elems::SliceElems;
 use crate::info::SliceInfo;

@@ -5,7 +5,7 @@ ghost use Rattle.nd_base.specs.Signed.{signed as signed_reading};
 ghost use Rattle.nd_base.specs.Size.{limit};
 ghost use Rattle.nd_base.specs.Span.{reach};
 ghost use Rattle.nd_slice.specs.Picks.{picks};
-ghost use Rattle.nd_slice.specs.SliceFault.{slice_fault};
+ghost use Rattle.nd_slice.specs.AxisFault.{slice_fault};
 ghost use Rattle.nd_slice.specs.Picked.{picked_stride, first_offset};
 
 use crate::fit::Fit;

@@ -3,7 +3,7 @@ ghost use Rattle.std.specs.Prelude.{◌≡◌, ◌≤◌, max, pos, ◌≤ℤ◌
 ghost use Rattle.std.specs.Result.{result_err};
 ghost use Rattle.nd_base.specs.Signed.{magnitude};
 ghost use Rattle.nd_slice.specs.Picks.{meaning, is_bound, bound_meaning, start_meaning, end_meaning};
-ghost use Rattle.nd_slice.specs.SliceFault.{slice_fault, index_fault, SliceFits};
+ghost use Rattle.nd_slice.specs.AxisFault.{slice_fault, index_fault, SliceFits};
 
 use crate::fit::Fit;
 use crate::slice::Slice;
@@ -33,9 +33,9 @@ pub fn abs_index(len: usize, index: isize) -> usize
 ///
 /// -1 on an axis of 4: 3. The project's own.
 #[inline(always)]
-pub fn entry_of(len: usize, index: isize) -> Result<usize, ShapeError>
+pub fn coordinate_of(len: usize, index: isize) -> Result<usize, ShapeError>
     ensures fault { result_err result ≡ index_fault len index }
-    ensures entry { IfOk result (λ entry. pos entry ≡ meaning len index) }
+    ensures coordinate { IfOk result (λ coordinate. pos coordinate ≡ meaning len index) }
 {
     let distance = index.unsigned_abs();
     if distance < len || (distance == len && index < 0) {

@@ -3,8 +3,8 @@ ghost use Rattle.std.specs.Prelude.{◌≡◌, ◌≤◌, pos};
 ghost use Rattle.nd_base.specs.Size.{limit};
 ghost use Rattle.nd_slice.specs.Kinds.{is_slice, is_index, is_new_axis};
 
-mod display;
-mod from;
+mod elem_from;
+mod elem_text;
 
 /// A new axis of length 1. ndarray's `NewAxis`.
 #[derive(Clone, Copy, Debug)]

@@ -3,11 +3,11 @@ ghost use Rattle.std.specs.Prelude.{◌≡◌, ◌↔◌, ⊤, IsTrue, OkIff, Is
 ghost use Rattle.nd_base.specs.declared.error.ErrorKind.{ErrorKind};
 ghost use Rattle.nd_base.specs.Lengths.{IsCount};
 ghost use Rattle.nd_slice.specs.Counts.{HasCounts};
-ghost use Rattle.nd_slice.specs.ArgumentFault.{in_count, out_count};
+ghost use Rattle.nd_slice.specs.SliceFault.{in_count, out_count};
 
-use crate::checks::{in_ndim_of, out_ndim_of};
 use crate::elem::SliceInfoElem;
 use crate::elems::SliceElems;
+use crate::slice_errors::{in_ndim_of, out_ndim_of};
 use nd_base::{ErrorKind, FixedCount, ShapeError, from_kind};
 use std::alloc::AllocError;
 use std::marker::{Model, PhantomData};

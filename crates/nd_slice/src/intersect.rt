@@ -3,9 +3,9 @@ ghost use Rattle.std.specs.Prelude.{◌≡◌, ◌<◌, ◌^◌, ◌↔◌, IsTr
 ghost use Rattle.std.specs.List.{All};
 ghost use Rattle.std.specs.Option.{option_or};
 ghost use Rattle.std.specs.Result.{result_err};
-ghost use Rattle.nd_slice.specs.PicksMeet.{PicksMeet};
-ghost use Rattle.nd_slice.specs.ArgumentFault.{argument_fault, elem_fault};
-ghost use Rattle.nd_slice.specs.Meet.{elem_picks, Meet};
+ghost use Rattle.nd_slice.specs.PicksIntersect.{PicksIntersect};
+ghost use Rattle.nd_slice.specs.SliceFault.{argument_fault, elem_fault};
+ghost use Rattle.nd_slice.specs.Intersect.{elem_picks, Intersect};
 
 mod equation;
 mod euclid;
@@ -13,11 +13,11 @@ mod multiplier;
 mod sequence;
 
 use crate::axis_elems::AxisElems;
-use crate::checks::check_slice;
 use crate::elem::SliceInfoElem;
 use crate::elems::SliceElems;
 use crate::fit::Fit;
 use crate::resolve::resolve_elem;
+use crate::slice_errors::check_slice;
 pub use equation::solve_linear_diophantine_eq;
 pub use euclid::extended_gcd;
 use nd_base::{Lengths, ShapeError};
@@ -29,7 +29,7 @@ fn elems_share(len: usize, first: SliceInfoElem, second: SliceInfoElem, fit: Fit
     requires len_fits { len < 2 ^ 63 }
     requires first_fits { elem_fault fit len first ≡ None }
     requires second_fits { elem_fault fit len second ≡ None }
-    ensures { IsTrue result ↔ PicksMeet (elem_picks fit len first) (elem_picks fit len second) }
+    ensures { IsTrue result ↔ PicksIntersect (elem_picks fit len first) (elem_picks fit len second) }
 {
     let picks = resolve_elem(len, first, fit).unwrap();
     picks.intersects(resolve_elem(len, second, fit).unwrap())
@@ -48,7 +48,7 @@ pub fn elems_intersect(
     requires lens_fit { All (λ len. len < 2 ^ 63) shape.now }
     requires first_fits { argument_fault fit shape.now first.now ≡ None }
     requires second_fits { argument_fault fit shape.now second.now ≡ None }
-    ensures { IsTrue result ↔ Meet fit shape.now first.now second.now }
+    ensures { IsTrue result ↔ Intersect fit shape.now first.now second.now }
 {
     let mut others = AxisElems::new(shape, second);
     for (len, elem) in AxisElems::new(shape, first) {
@@ -86,8 +86,8 @@ pub fn slices_intersect<D: Lengths, A: SliceElems, B: SliceElems>(
     ensures fault { result_err result ≡ option_or
         (argument_fault fit (D.list dim.now) (A.list first.now))
         (argument_fault fit (D.list dim.now) (B.list second.now)) }
-    ensures meet { IfOk result (λ meet. IsTrue meet
-        ↔ Meet fit (D.list dim.now) (A.list first.now) (B.list second.now)) }
+    ensures intersect { IfOk result (λ intersect. IsTrue intersect
+        ↔ Intersect fit (D.list dim.now) (A.list first.now) (B.list second.now)) }
 {
     check_slice(dim, first, fit)?;
     check_slice(dim, second, fit)?;

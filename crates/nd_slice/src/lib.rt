@@ -6,7 +6,6 @@ mod arg;
 mod axis;
 mod axis_elems;
 mod bounds;
-mod checks;
 mod collapse;
 mod elem;
 mod elems;
@@ -16,12 +15,12 @@ mod intersect;
 mod picks;
 mod resolve;
 mod slice;
+mod slice_errors;
 
 pub use arg::SliceArg;
 pub use axis::do_slice;
 pub use axis_elems::AxisElems;
-pub use bounds::{abs_index, entry_of, to_abs_slice};
-pub use checks::{check_elems, check_slice, in_ndim_of, out_ndim_of};
+pub use bounds::{abs_index, coordinate_of, to_abs_slice};
 pub use collapse::do_collapse_axis;
 pub use elem::{NewAxis, SliceInfoElem};
 pub use elems::SliceElems;
@@ -34,3 +33,4 @@ pub use intersect::{
 pub use picks::AxisPicks;
 pub use resolve::{resolve_elem, resolve_slice, slice_min_max};
 pub use slice::Slice;
+pub use slice_errors::{check_elems, check_slice, in_ndim_of, out_ndim_of};

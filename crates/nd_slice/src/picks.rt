@@ -6,7 +6,7 @@ ghost use Rattle.nd_base.specs.Size.{limit};
 ghost use Rattle.nd_base.specs.Span.{reach};
 ghost use Rattle.nd_slice.specs.Picked.{picked_stride, first_offset};
 ghost use Rattle.nd_slice.specs.Picks.{between};
-ghost use Rattle.nd_slice.specs.PicksMeet.{PicksMeet};
+ghost use Rattle.nd_slice.specs.PicksIntersect.{PicksIntersect};
 
 use crate::intersect::arith_seq_intersect;
 use nd_base::{signed, stride_offset, unsigned};
@@ -144,7 +144,7 @@ impl AxisPicks {
     pub fn intersects(self, other: AxisPicks) -> bool
         requires small { self.end < 2 ^ 63 }
         requires other_small { other.end < 2 ^ 63 }
-        ensures { IsTrue result ↔ PicksMeet
+        ensures { IsTrue result ↔ PicksIntersect
             (between self.step self.start self.end) (between other.step other.start other.end) }
     {
         // (so no coordinate is in both ranges; in an empty one there is none)

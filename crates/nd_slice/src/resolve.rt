@@ -3,13 +3,13 @@ ghost use Rattle.std.specs.Prelude.{◌≡◌, ◌≤◌, IfOk, MatchOption, [],
 ghost use Rattle.std.specs.List.{All, Contains};
 ghost use Rattle.std.specs.Result.{result_err};
 ghost use Rattle.nd_base.specs.Signed.{magnitude};
-ghost use Rattle.nd_slice.specs.ArgumentFault.{elem_fault};
+ghost use Rattle.nd_slice.specs.SliceFault.{elem_fault};
 ghost use Rattle.nd_slice.specs.ElemRange.{elem_end, elem_start, elem_step};
-ghost use Rattle.nd_slice.specs.Meet.{elem_picks};
+ghost use Rattle.nd_slice.specs.Intersect.{elem_picks};
 ghost use Rattle.nd_slice.specs.Picks.{between, end_meaning, picks, start_meaning};
-ghost use Rattle.nd_slice.specs.SliceFault.{slice_fault, SliceFits};
+ghost use Rattle.nd_slice.specs.AxisFault.{slice_fault, SliceFits};
 
-use crate::bounds::{entry_of, to_abs_slice};
+use crate::bounds::{coordinate_of, to_abs_slice};
 use crate::elem::SliceInfoElem;
 use crate::fit::Fit;
 use crate::picks::AxisPicks;
@@ -57,7 +57,7 @@ pub fn resolve_elem(len: usize, elem: SliceInfoElem, fit: Fit) -> Result<AxisPic
             resolve_slice(len, Slice { start, end, step }, fit)
         }
         SliceInfoElem::Index(index) => {
-            let start = entry_of(len, index)?;
+            let start = coordinate_of(len, index)?;
             Ok(AxisPicks {
                 start,
                 end: start + 1,

@@ -3,8 +3,8 @@ ghost use Rattle.std.specs.Prelude.{◌≡◌, ◌≢◌, pos, ◌*ℤ◌, FitsS
 ghost use Rattle.std.specs.Int.{w64};
 
 mod builders;
-mod display;
-mod from;
+mod slice_from;
+mod slice_text;
 
 /// A range of an axis with a step, all three counted in coordinates. A negative bound counts from
 /// the end of the axis, no end is the end of the axis, and a negative step picks from the last

@@ -33,8 +33,8 @@ fn are_short(shape: &[usize]) -> bool
     shape.iter().all(|len| *len <= isize::MAX as usize)
 }
 
-/// Whether two arguments meet on a shape, or the fault of one, as a word.
-pub fn meeting<D: Lengths, A: SliceElems, B: SliceElems>(
+/// Whether two arguments intersect on a shape, or the fault of one, as a word.
+pub fn intersecting<D: Lengths, A: SliceElems, B: SliceElems>(
     dim: &D,
     first: &A,
     second: &B,
@@ -44,7 +44,7 @@ pub fn meeting<D: Lengths, A: SliceElems, B: SliceElems>(
         return "too_long";
     }
     match slices_intersect(dim, first, second, fit) {
-        Ok(true) => "meet",
+        Ok(true) => "intersect",
         Ok(false) => "apart",
         Err(fault) => name_of(Some(fault.kind())),
     }
@@ -66,7 +66,7 @@ pub fn elems_hold(alloc: Global, row: &mut Reading<'_>) -> Option<bool> {
 pub enum OfArguments {
     /// `TYPE SHAPE ARGUMENT => fits`, or the fault.
     Check(Fit),
-    /// `TYPE SHAPE ARGUMENT ARGUMENT => meet`, or `apart`, or the fault.
+    /// `TYPE SHAPE ARGUMENT ARGUMENT => intersect`, or `apart`, or the fault.
     Intersect(Fit),
 }
 
@@ -87,7 +87,7 @@ impl AtType for OfRow<'_, '_> {
             ),
             OfArguments::Intersect(fit) => {
                 let second = row.given.elems(alloc)?;
-                Some(row.answer.is(meeting(&dim, &first, &second, fit)))
+                Some(row.answer.is(intersecting(&dim, &first, &second, fit)))
             }
         }
     }
@@ -107,6 +107,6 @@ fn elements_in_lists_and_arrays(rt: HostRuntime) {
         fault_of(check_elems(&[4, 0], &elems, Fit::Strict)) == Some(ErrorKind::OutOfBounds)
     );
     assert!(rt; fault_of(check_slice(&dim, &elems.as_slice(), Fit::Strict)) == None);
-    assert!(rt; meeting(&dim, &elems, &whole.as_slice(), Fit::Strict) == "meet");
-    assert!(rt; meeting(&dim, &whole.as_slice(), &[ALL], Fit::Strict) == "IncompatibleShape");
+    assert!(rt; intersecting(&dim, &elems, &whole.as_slice(), Fit::Strict) == "intersect");
+    assert!(rt; intersecting(&dim, &whole.as_slice(), &[ALL], Fit::Strict) == "IncompatibleShape");
 }

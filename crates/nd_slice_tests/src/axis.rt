@@ -1,4 +1,4 @@
-//! A slice of one axis, and the least and the greatest entry that it picks.
+//! A slice of one axis, and the least and the greatest coordinate that it picks.
 ghost use Rattle.std.specs.Prelude.{◌<◌, ◌≤◌, ◌^◌, IsTrue};
 ghost use Rattle.nd_base.specs.Size.{limit};
 ghost use Rattle.nd_base.specs.Span.{reach};
@@ -78,7 +78,7 @@ pub fn picks_hold(row: &mut Reading<'_>, fit: Fit) -> Option<bool> {
 }
 
 #[test]
-fn one_entry_of_an_axis(rt: HostRuntime) {
+fn one_coordinate_of_an_axis(rt: HostRuntime) {
     let (strides, mut lens) = (new_ix2(unsigned(-3), 1), new_ix2(2, 3));
     let offset = do_collapse_axis(&mut lens, &strides, 0, 1);
     assert!(rt; lens == new_ix2(1, 3) && offset == -3);

@@ -1,5 +1,5 @@
-//! The numbers under slices that meet: common divisors, equations in whole numbers, and lists of numbers that lie a
-//! step apart.
+//! The numbers under slices that intersect: common divisors, equations in whole numbers, and lists of numbers that lie
+//! a step apart.
 ghost use Rattle.std.specs.Prelude.{◌≡◌, ◌≤◌, ◌^◌};
 ghost use Rattle.nd_base.specs.Signed.{magnitude};
 
@@ -53,8 +53,8 @@ pub fn sequences_hold(row: &mut Reading<'_>) -> Option<bool> {
     if first.2 == 0 || second.2 == 0 {
         return None;
     }
-    let meet = arith_seq_intersect(first, second);
-    Some(row.answer.is(if meet { "true" } else { "false" }))
+    let intersect = arith_seq_intersect(first, second);
+    Some(row.answer.is(if intersect { "true" } else { "false" }))
 }
 
 // ---- whole ranges

@@ -4,7 +4,7 @@ use nd_slice::{SliceArg, SliceElems, SliceInfo, SliceInfoElem};
 use std::alloc::Global;
 use test_tables::or_fault;
 
-/// The counts that the elements have, or the fault that they are refused with.
+/// The counts that the elements have, or the fault that they have.
 type Counts = Result<(usize, usize), ErrorKind>;
 
 /// The counts of elements that are tried as an argument between these types, or their fault.
@@ -47,10 +47,10 @@ fn row_of_a_matrix() -> [SliceInfoElem; 2] {
 #[test]
 fn r4_rows(rt: HostRuntime) {
     let (alloc, elems) = (rt.alloc(), row_of_a_matrix());
-    let refused: Counts = Err(ErrorKind::IncompatibleShape);
+    let failed: Counts = Err(ErrorKind::IncompatibleShape);
     assert!(rt; agree::<Ix2, Ix1, 2>(alloc, elems, Ok((2, 1))));
-    assert!(rt; agree::<Ix2, Ix2, 2>(alloc, elems, refused));
-    assert!(rt; agree::<Ix3, Ix1, 2>(alloc, elems, refused));
+    assert!(rt; agree::<Ix2, Ix2, 2>(alloc, elems, failed));
+    assert!(rt; agree::<Ix3, Ix1, 2>(alloc, elems, failed));
     assert!(rt; agree::<IxDyn, IxDyn, 2>(alloc, elems, Ok((2, 1))));
 }
 

@@ -1,5 +1,5 @@
-//! Tests of `nd_slice`, by its public calls: rows of its calls, all slices of short axes compared entry by entry,
-//! numbers under them over whole ranges, slices and elements as values, and arguments by their types.
+//! Tests of `nd_slice`, by its public calls: rows of its calls, all slices of short axes compared coordinate by
+//! coordinate, numbers under them over whole ranges, slices and elements as values, and arguments by their types.
 #![tactic(auto)]
 
 #[cfg(test)]

@@ -32,13 +32,13 @@ slice_min_max 9 2..;-3 / 9 -7..;-3 => 2 8
 slice_min_max 9 3..;-3 / 9 -6..;-3 => 5 8
 slice_min_max 10 -9..-2;3 / 10 -9..-1;3 / 10 1..;3 / 10 -9..;3 / 10 -9..8;-3 / 10 1..-2;-3 / 10 -9..-2;-3 => 1 7";
 
-/// Arguments with new axes, steps and indices, without axes and without entries.
-const MEETING: &str = "\
-slices_intersect Ix2 4,5 NewAxis,..,NewAxis,.. ..,NewAxis,..,NewAxis / Ix2 4,5 ..;2,.. ..;3,NewAxis,.. => meet
-slices_intersect Ix2 4,5 ..,..;2 ..,1..;3,NewAxis / Ix2 4,5 NewAxis,0,.. 0,.. / Ix2 4,10 ..,..;9 ..,3..;6 => meet
+/// Arguments with new axes, steps and indices, without axes and without coordinates.
+const INTERSECTING: &str = "\
+slices_intersect Ix2 4,5 NewAxis,..,NewAxis,.. ..,NewAxis,..,NewAxis / Ix2 4,5 ..;2,.. ..;3,NewAxis,.. => intersect
+slices_intersect Ix2 4,5 ..,..;2 ..,1..;3,NewAxis / Ix2 4,5 NewAxis,0,.. 0,.. / Ix2 4,10 ..,..;9 ..,3..;6 => intersect
 slices_intersect Ix2 4,5 ..;2,.. NewAxis,1..;2,.. / Ix2 4,5 ..;2,.. 1..;3,.. / Ix2 4,5 ..,..;9 ..,3..;6 => apart
 slices_intersect Ix2 4,5 ..;2,NewAxis,.. 1..;3,.. / Ix2 4,5 ..,..;9 ..,3..;6,NewAxis / Ix1 0 .. .. => apart
-slices_intersect Ix1 5 ..;-9223372036854775808 4 / Ix0 - - - => meet
+slices_intersect Ix1 5 ..;-9223372036854775808 4 / Ix0 - - - => intersect
 slices_intersect Ix1 5 5 5 => OutOfBounds";
 
 /// What elements pick, and the elements that are for the axes of a shape.
@@ -58,12 +58,12 @@ axis_elems 4,3 -1 => 4 -1";
 
 #[test]
 fn r4_rows(rt: HostRuntime) {
-    for table in [FAULTS, LEAST_AND_GREATEST, MEETING, RESOLVED] {
+    for table in [FAULTS, LEAST_AND_GREATEST, INTERSECTING, RESOLVED] {
         hold(&rt, rt.alloc(), table, &Calls);
     }
 }
 
-/// Numbers under slices that meet.
+/// Numbers under slices that intersect.
 const NUMBERS: &str = "\
 extended_gcd 0 0 => 0 0 0
 extended_gcd 0 5 => 5 0 1
@@ -79,14 +79,14 @@ arith_seq_intersect 0 0 9 3 3 6 => false
 arith_seq_intersect -9223372036854775808 9223372036854775807 1 \
 9223372036854775807 9223372036854775807 -9223372036854775808 => true";
 
-/// Steps of every size, on axes of every length: a body that looks at each entry doesn't end.
+/// Steps of every size, on axes of every length: a body that looks at each coordinate doesn't end.
 const STEPS: &str = "\
-slices_intersect Ix1 9 ..;4 2..;6 / Ix1 9223372036854775807 ..;-9223372036854775808 ..;2 => meet
+slices_intersect Ix1 9 ..;4 2..;6 / Ix1 9223372036854775807 ..;-9223372036854775808 ..;2 => intersect
 slices_intersect Ix1 8 ..;4 2..;6 / Ix1 9223372036854775807 ..;-9223372036854775808 1..;2 => apart
 slices_intersect Ix1 9223372036854775807 ..;6 3..;4 => apart
-slices_intersect Ix1 9223372036854775807 ..;4611686018427387904 1..;4611686018427387903 => meet
+slices_intersect Ix1 9223372036854775807 ..;4611686018427387904 1..;4611686018427387903 => intersect
 slices_intersect Ix1 9223372036854775807 ..;4611686018427387904 2..;4611686018427387903 => apart
-slices_intersect IxDyn 9223372036854775807,9223372036854775807 9223372036854775806,..;6 -1,3..;3 => meet";
+slices_intersect IxDyn 9223372036854775807,9223372036854775807 9223372036854775806,..;6 -1,3..;3 => intersect";
 
 #[test]
 fn r10_rows(rt: HostRuntime) {
@@ -117,7 +117,7 @@ slice_min_max_clamped 10 -20..8;3 => 0 6
 check_slice_clamped Ix2 4,5 9..,-9..;2 => fits
 check_slice_clamped Ix2 4,5 9..,5 => OutOfBounds
 check_slice_clamped Ix2 4,5 9..;0,9 => Unsupported
-slices_intersect_clamped Ix1 5 -9..3 2..99 => meet
+slices_intersect_clamped Ix1 5 -9..3 2..99 => intersect
 slices_intersect_clamped Ix1 5 9.. .. => apart
 slices_intersect_clamped Ix1 5 9 .. => OutOfBounds";
 
@@ -142,7 +142,7 @@ fn lines_that_are_no_rows(rt: HostRuntime) {
         "check_slice Ix1 4 1..;x => fits",
         "do_slice 4 1 .. => 0 4",
         "do_slice 4 1 2 => 0 4 1",
-        "slices_intersect Ix1 9223372036854775808 .. .. => meet",
+        "slices_intersect Ix1 9223372036854775808 .. .. => intersect",
     ];
     for line in lines {
         assert!(rt; !row_holds(rt.alloc(), line, &Calls), "{line}");

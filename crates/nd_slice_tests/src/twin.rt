@@ -1,6 +1,6 @@
-//! All slices of an axis of up to six entries with bounds from -6 to 6 or left out and steps from -4 to 4: two of them
-//! meet where an entry, of all those of the axis, is picked by both.
-use crate::arguments::meeting;
+//! All slices of an axis of up to six coordinates with bounds from -6 to 6 or left out and steps from -4 to 4: two of
+//! them intersect where a coordinate, of all those of the axis, is picked by both.
+use crate::arguments::intersecting;
 use Fit::{Clamp, Strict};
 use nd_base::new_ix1;
 use nd_slice::{Fit, Slice, SliceInfoElem};
@@ -29,7 +29,7 @@ struct Bounds {
     step: isize,
 }
 
-/// What a bound means on an axis of so many entries.
+/// What a bound means on an axis of so many coordinates.
 fn counted(len: isize, bound: isize, fit: Fit) -> isize {
     let counted = bound.wrapping_add(if bound < 0 { len } else { 0 });
     match fit {
@@ -48,27 +48,27 @@ fn meant(len: isize, slice: Slice, fit: Fit) -> Bounds {
 }
 
 impl Bounds {
-    /// Whether the slice has no fault on an axis of so many entries.
+    /// Whether the slice has no fault on an axis of so many coordinates.
     fn fits(&self, len: isize) -> bool {
         self.start.min(self.end) >= 0 && self.start.max(self.end) <= len && self.step != 0
     }
 
-    /// Whether the slice picks an entry.
-    fn picks(&self, entry: isize) -> bool {
+    /// Whether the slice picks a coordinate.
+    fn picks(&self, coordinate: isize) -> bool {
         let ahead = if self.step > 0 {
-            entry.wrapping_sub(self.start)
+            coordinate.wrapping_sub(self.start)
         } else {
-            self.end.wrapping_sub(1).wrapping_sub(entry)
+            self.end.wrapping_sub(1).wrapping_sub(coordinate)
         };
-        self.start <= entry && entry < self.end && ahead.checked_rem(self.step) == Some(0)
+        self.start <= coordinate && coordinate < self.end && ahead.checked_rem(self.step) == Some(0)
     }
 }
 
-/// What is to be answered of two slices of an axis of so many entries.
+/// What is to be answered of two slices of an axis of so many coordinates.
 fn answer(len: isize, first: Bounds, second: Bounds) -> &'static str {
-    for entry in 0..len {
-        if first.picks(entry) && second.picks(entry) {
-            return "meet";
+    for coordinate in 0..len {
+        if first.picks(coordinate) && second.picks(coordinate) {
+            return "intersect";
         }
     }
     "apart"
@@ -83,7 +83,7 @@ fn is_answered(len: u8, first: Slice, fit: Fit) -> bool {
         let other = meant(lens, second, fit);
         if other.fits(lens) {
             let (first, second) = ([SliceInfoElem::from(first)], [SliceInfoElem::from(second)]);
-            if meeting(&dim, &first, &second, fit) != answer(lens, one, other) {
+            if intersecting(&dim, &first, &second, fit) != answer(lens, one, other) {
                 return false;
             }
         }
@@ -91,7 +91,8 @@ fn is_answered(len: u8, first: Slice, fit: Fit) -> bool {
     true
 }
 
-/// The first slice without a fault of which something else is answered with another one, on an axis of so many entries.
+/// The first slice without a fault of which something else is answered with another one, on an axis of so many
+/// coordinates.
 fn first_wrong(len: u8, fit: Fit) -> Option<usize> {
     for number in 0..COUNT {
         let slice = numbered(number);

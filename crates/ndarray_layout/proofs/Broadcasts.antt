@@ -11,7 +11,7 @@ use Rattle.nd_base.proofs.laws.Definitions.{is_index, offset_of, all_signed, sig
 use Rattle.nd_base.proofs.laws.Definitions.{sum_over_axes}
 use Rattle.nd_base.proofs.laws.IsIndex.{length_of_index}
 use Rattle.nd_shape.proofs.laws.Stretches.{StretchesTo}
-use Rattle.ndarray_layout.specs.BroadcastView.{broadcast_source, broadcast_strides, entries_within, new_axes, stretched_strides}
+use Rattle.ndarray_layout.specs.BroadcastView.{broadcast_source, broadcast_strides, coordinates_within, new_axes, stretched_strides}
 
 -- ---- axes that were there
 -- an axis stays or is stretched
@@ -55,9 +55,9 @@ sum_stretched stays (len ∷ lens) (other ∷ others) (stride ∷ strides) e g =
     omega (arith, one_stretched stays len other stride, sum_stretched stays lens others strides (omega arith) (omega arith))
 
 -- an index has its source, at the same offset
-record WithinKept (lens others : List ℕ) (strides : List ℤ) (entries : List ℕ) : Type 0 where
-  pub within : is_index others (entries_within others entries) ≡ true
-  pub offset : offset_of (stretched_strides lens others strides) entries ≡ offset_of strides (entries_within others entries)
+record WithinKept (lens others : List ℕ) (strides : List ℤ) (coordinates : List ℕ) : Type 0 where
+  pub within : is_index others (coordinates_within others coordinates) ≡ true
+  pub offset : offset_of (stretched_strides lens others strides) coordinates ≡ offset_of strides (coordinates_within others coordinates)
 
 record OneKept (len other : ℕ) (stride : ℤ) (i : ℕ) : Type 0 where
   pub below : cond (eqb other 1) 0 i < other
@@ -95,17 +95,17 @@ record AreStretched (lens others : List ℕ) (strides : List ℤ) : Type 0 where
   pub strides_counts : length others ≡ length strides
   pub stretched : Stretched lens others
 
-within_kept : {lens others : List ℕ} {strides : List ℤ} (entries : List ℕ) → AreStretched lens others strides
-    → is_index lens entries ≡ true → WithinKept lens others strides entries
+within_kept : {lens others : List ℕ} {strides : List ℤ} (coordinates : List ℕ) → AreStretched lens others strides
+    → is_index lens coordinates ≡ true → WithinKept lens others strides coordinates
 within_kept {lens = []} {others = []} {strides = []} [] s here = record { within = refl; offset = refl }
-within_kept {lens = []} {others = []} {strides = stride ∷ strides} entries s here = let e = s.strides_counts in absurd (omega arith)
-within_kept {lens = []} {others = []} {strides = []} (i ∷ entries) s here = absurd (cc)
-within_kept {lens = []} {others = other ∷ others} entries s here = let e = s.counts in absurd (omega arith)
-within_kept {lens = len ∷ lens} {others = []} entries s here = let e = s.counts in absurd (omega arith)
-within_kept {lens = len ∷ lens} {others = other ∷ others} {strides = []} entries s here = let e = s.strides_counts in absurd (omega arith)
+within_kept {lens = []} {others = []} {strides = stride ∷ strides} coordinates s here = let e = s.strides_counts in absurd (omega arith)
+within_kept {lens = []} {others = []} {strides = []} (i ∷ coordinates) s here = absurd (cc)
+within_kept {lens = []} {others = other ∷ others} coordinates s here = let e = s.counts in absurd (omega arith)
+within_kept {lens = len ∷ lens} {others = []} coordinates s here = let e = s.counts in absurd (omega arith)
+within_kept {lens = len ∷ lens} {others = other ∷ others} {strides = []} coordinates s here = let e = s.strides_counts in absurd (omega arith)
 within_kept {lens = len ∷ lens} {others = other ∷ others} {strides = stride ∷ strides} [] s here = absurd (cc)
-within_kept {lens = len ∷ lens} {others = other ∷ others} {strides = stride ∷ strides} (i ∷ entries) s here =
-    let parts = and_parts (nat_lt i len) (is_index lens entries) here in
+within_kept {lens = len ∷ lens} {others = other ∷ others} {strides = stride ∷ strides} (i ∷ coordinates) s here =
+    let parts = and_parts (nat_lt i len) (is_index lens coordinates) here in
     let counts = s.counts in
     let strides_counts = s.strides_counts in
     let first = one_kept stride i (ltb-true i len parts.0) (s.stretched 0 (omega arith)) in
@@ -114,9 +114,9 @@ within_kept {lens = len ∷ lens} {others = other ∷ others} {strides = stride 
       strides_counts = omega arith;
       stretched = λ k l. s.stretched (suc k) (omega arith);
     } in
-    let rest = within_kept entries after parts.1 in
+    let rest = within_kept coordinates after parts.1 in
     record {
-      within = and_from (nat_lt (cond (eqb other 1) 0 i) other) (is_index others (entries_within others entries))
+      within = and_from (nat_lt (cond (eqb other 1) 0 i) other) (is_index others (coordinates_within others coordinates))
           (lt-ltb (cond (eqb other 1) 0 i) other first.below) rest.within;
       offset = omega (arith, ints, first.offset, rest.offset);
     }
@@ -128,19 +128,19 @@ sum_after_new stays zero shape strides h = refl
 sum_after_new stays (suc n) [] strides h = absurd (omega arith)
 sum_after_new stays (suc n) (len ∷ shape) strides h = omega (arith, stays.at_zero len, sum_after_new stays n shape strides (omega arith))
 
-index_after_new : (n : ℕ) (shape entries : List ℕ) → is_index shape entries ≡ true → is_index (drop n shape) (drop n entries) ≡ true
-index_after_new zero shape entries here = here
+index_after_new : (n : ℕ) (shape coordinates : List ℕ) → is_index shape coordinates ≡ true → is_index (drop n shape) (drop n coordinates) ≡ true
+index_after_new zero shape coordinates here = here
 index_after_new (suc n) [] [] here = refl
-index_after_new (suc n) [] (i ∷ entries) here = absurd (cc)
+index_after_new (suc n) [] (i ∷ coordinates) here = absurd (cc)
 index_after_new (suc n) (len ∷ shape) [] here = absurd (cc)
-index_after_new (suc n) (len ∷ shape) (i ∷ entries) here = index_after_new n shape entries
-    (and_parts (nat_lt i len) (is_index shape entries) here).1
+index_after_new (suc n) (len ∷ shape) (i ∷ coordinates) here = index_after_new n shape coordinates
+    (and_parts (nat_lt i len) (is_index shape coordinates) here).1
 
-offset_after_new : (n : ℕ) (strides : List ℤ) (entries : List ℕ) → n ≤ length entries
-    → offset_of (replicate n (pos 0) ++ strides) entries ≡ offset_of strides (drop n entries)
-offset_after_new zero strides entries h = refl
+offset_after_new : (n : ℕ) (strides : List ℤ) (coordinates : List ℕ) → n ≤ length coordinates
+    → offset_of (replicate n (pos 0) ++ strides) coordinates ≡ offset_of strides (drop n coordinates)
+offset_after_new zero strides coordinates h = refl
 offset_after_new (suc n) strides [] h = absurd (omega arith)
-offset_after_new (suc n) strides (i ∷ entries) h = omega (arith, ints, offset_after_new n strides entries (omega arith))
+offset_after_new (suc n) strides (i ∷ coordinates) h = omega (arith, ints, offset_after_new n strides coordinates (omega arith))
 
 -- ---- all axes
 -- a layout, and a shape that its own stretches to
@@ -184,28 +184,28 @@ broadcast_kept {shape} {view_shape} {strides} s =
       high = sum_broadcast up s;
     }
 
-pub record BroadcastSourceKept (shape view_shape : List ℕ) (strides : List ℤ) (entries : List ℕ) : Type 0 where
-  pub within : is_index view_shape (broadcast_source view_shape entries) ≡ true
-  pub offset : offset_of (broadcast_strides shape view_shape strides) entries ≡ offset_of strides (broadcast_source view_shape entries)
+pub record BroadcastSourceKept (shape view_shape : List ℕ) (strides : List ℤ) (coordinates : List ℕ) : Type 0 where
+  pub within : is_index view_shape (broadcast_source view_shape coordinates) ≡ true
+  pub offset : offset_of (broadcast_strides shape view_shape strides) coordinates ≡ offset_of strides (broadcast_source view_shape coordinates)
 
-pub broadcast_source_kept : {shape view_shape : List ℕ} {strides : List ℤ} (entries : List ℕ) → Stretches shape view_shape strides
-    → is_index shape entries ≡ true → BroadcastSourceKept shape view_shape strides entries
-broadcast_source_kept {shape} {view_shape} {strides} entries s here =
+pub broadcast_source_kept : {shape view_shape : List ℕ} {strides : List ℤ} (coordinates : List ℕ) → Stretches shape view_shape strides
+    → is_index shape coordinates ≡ true → BroadcastSourceKept shape view_shape strides coordinates
+broadcast_source_kept {shape} {view_shape} {strides} coordinates s here =
     let n = new_axes shape view_shape in
     let lens = drop n shape in
-    let count = length_of_index shape entries here in
-    let same : new_axes entries view_shape ≡ n = ap (λ m. m - length view_shape) count in
+    let count = length_of_index shape coordinates here in
+    let same : new_axes coordinates view_shape ≡ n = ap (λ m. m - length view_shape) count in
     let stretched : AreStretched lens view_shape strides = record {
       counts = count_after shape view_shape s.fewer;
       strides_counts = s.counts;
       stretched = λ k l. rw (get_or-drop n shape k 0) (s.stretches k l);
     } in
-    let rest = within_kept (drop n entries) stretched (index_after_new n shape entries here) in
-    let source : broadcast_source view_shape entries ≡ entries_within view_shape (drop n entries) =
-    ap (λ m. entries_within view_shape (drop m entries)) same in
+    let rest = within_kept (drop n coordinates) stretched (index_after_new n shape coordinates here) in
+    let source : broadcast_source view_shape coordinates ≡ coordinates_within view_shape (drop n coordinates) =
+    ap (λ m. coordinates_within view_shape (drop m coordinates)) same in
     record {
       within = ap (is_index view_shape) source ∙ rest.within;
-      offset = offset_after_new n (stretched_strides lens view_shape strides) entries (omega arith) ∙ rest.offset
+      offset = offset_after_new n (stretched_strides lens view_shape strides) coordinates (omega arith) ∙ rest.offset
           ∙ sym (ap (offset_of strides) source);
     }
 
@@ -253,15 +253,15 @@ strides_by_axes {shape} {view_shape} {strides} {new} fewer counts written =
       | inr more ↦
           let i = k - n in
           let at : k ≡ n + i = omega arith in
-          let inside : i < length view_shape = omega (arith, written.count) in
+          let in_bounds : i < length view_shape = omega (arith, written.count) in
           let one = get_or (all_signed strides) i (pos 0) in
           let same = eqb (get_or shape (n + i) 0) (get_or view_shape i 0) in
           let here : get_or old i (pos 0) ≡ cond same one (pos 0) = stretched_at lens view_shape (all_signed strides) i count_lens
-          (counts ∙ sym count_strides) inside ∙ ap (λ len. cond (eqb len (get_or view_shape i 0)) one (pos 0))
+          (counts ∙ sym count_strides) in_bounds ∙ ap (λ len. cond (eqb len (get_or view_shape i 0)) one (pos 0))
           (get_or-drop n shape i 0) in
           get_or-map signed new k 0
           ∙ ap (λ j. signed (get_or new j 0)) at
-          ∙ ap signed (written.after i inside)
+          ∙ ap signed (written.after i in_bounds)
           ∙ signed_either same (get_or strides i 0)
           ∙ ap (λ s. cond same s (pos 0)) (sym (get_or-map signed strides i 0))
           ∙ sym here

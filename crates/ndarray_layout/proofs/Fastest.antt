@@ -13,8 +13,8 @@ use Rattle.nd_base.proofs.laws.Definitions.{as_read, index_of_flat, index_of_fla
 use Rattle.nd_base.proofs.laws.Definitions.{reach_down, reach_up, size, sum_over_axes}
 use Rattle.nd_base.proofs.laws.NonzeroSize.{length_le_nonzero_size, nonzero_size-push, nonzero_size_of_other, nonzero_size_of_zero}
 use Rattle.nd_base.proofs.laws.Offset.{offset_of-push}
-use Rattle.nd_base.proofs.laws.Reading.{as_read-as_read, length-as_read, nonzero_size-as_read, offset_of-as_read}
-use Rattle.nd_base.proofs.laws.Reading.{size-as_read, sum_over_axes-as_read}
+use Rattle.nd_base.proofs.laws.AsRead.{as_read-as_read, length-as_read, nonzero_size-as_read, offset_of-as_read}
+use Rattle.nd_base.proofs.laws.AsRead.{size-as_read, sum_over_axes-as_read}
 use Rattle.nd_base.proofs.laws.Size.{size-push}
 use Rattle.nd_base.proofs.laws.Span.{sum_over_axes-push}
 use Rattle.ndarray_layout.specs.Rows.{fastest_item, slower_items}
@@ -145,10 +145,10 @@ sum-others {order} {shape} {lens} {strides} {others} {len} {stride} f e g count 
 module _ (order : Order) {start : ℕ} {shape lens : List ℕ} {strides others : List ℤ} {len : ℕ} {stride : ℤ}
     (e : EndsIn order shape lens len) (g : EndsIn order strides others stride)
     (v : IsView (record { start = start; shape = shape; strides = strides })) where
-  -- the other axes are a view from each entry on
-  pub IsView-entry : (i : ℕ) {here : ℕ} → i < len → pos here ≡ pos start +ℤ (pos i *ℤ stride)
+  -- the other axes are a view from each coordinate on
+  pub IsView-coordinate : (i : ℕ) {here : ℕ} → i < len → pos here ≡ pos start +ℤ (pos i *ℤ stride)
       → IsView (record { start = here; shape = lens; strides = others })
-  IsView-entry i below at =
+  IsView-coordinate i below at =
       let axis = axis_within len i stride below in
       let down = sum-others reach_down e g v.valid.same_count in
       let up = sum-others reach_up e g v.valid.same_count in
@@ -157,16 +157,16 @@ module _ (order : Order) {start : ℕ} {shape lens : List ℕ} {strides others :
       (omega (arith, ints, down, axis.above)) (omega (arith, ints, up, axis.below))
 
   -- which is a place of the data
-  pub entry_within : (i : ℕ) → i < len → (i < 2 ^ 63) × (pos 0 ≤ℤ (pos start +ℤ (pos i *ℤ stride)))
+  pub coordinate_within : (i : ℕ) → i < len → (i < 2 ^ 63) × (pos 0 ≤ℤ (pos start +ℤ (pos i *ℤ stride)))
       × ((pos start +ℤ (pos i *ℤ stride)) ≤ℤ pos limit)
-  entry_within i below =
+  coordinate_within i below =
       let axis = axis_within len i stride below in
       let down = sum-others reach_down e g v.valid.same_count in
       let up = sum-others reach_up e g v.valid.same_count in
       let few : len ≤ limit = omega (arith, len_le_nonzero_size e, v.valid.size_fits) in
       (omega arith, omega (arith, ints, down, axis.above, v.low), omega (arith, ints, up, axis.below, v.high))
 
-  -- and from the first place on also where there is no entry
+  -- and from the first place on also where there is no coordinate
   pub IsView-others : IsView (record { start = start; shape = lens; strides = others })
   IsView-others =
       let down = sum-others reach_down e g v.valid.same_count in
@@ -189,7 +189,7 @@ module _ (order : Order) {start : ℕ} {shape lens : List ℕ} {strides others :
       ∙ ap (rows_from stride len) (places-as_read order start lens others less)
 
 -- ---- flat indices
--- the entry of the last axis is a remainder
+-- the coordinate of the last axis is a remainder
 index_of_flat-push : (lens : List ℕ) (len r : ℕ) → r < size (lens ++ len ∷ [])
     → index_of_flat (lens ++ len ∷ []) r ≡ index_of_flat lens (r / len) ++ (r % len) ∷ []
 index_of_flat-push [] len r h = ap (λ i. i ∷ []) (div-one r ∙ sym (mod-eq_of_lt (omega arith)))
@@ -265,9 +265,9 @@ product_some : (a b r : ℕ) → r < a * b → 0 < a
 product_some zero b r h = absurd (omega arith)
 product_some (suc a) b r h = omega arith
 
-pub some_entry : {order : Order} {shape lens : List ℕ} {len : ℕ} (r : ℕ) → EndsIn order shape lens len → r < size shape → 0 < len
-some_entry {lens = lens} {len = len} r e below = product_some len (size lens) r (omega (arith, size-others e))
+pub some_coordinate : {order : Order} {shape lens : List ℕ} {len : ℕ} (r : ℕ) → EndsIn order shape lens len → r < size shape → 0 < len
+some_coordinate {lens = lens} {len = len} r e below = product_some len (size lens) r (omega (arith, size-others e))
 
 pub others_below : {order : Order} {shape lens : List ℕ} {len : ℕ} (r : ℕ) → EndsIn order shape lens len → r < size shape
     → r / len < size lens
-others_below {lens = lens} {len = len} r e below = div_below r len (size lens) (some_entry r e below) (omega (arith, size-others e))
+others_below {lens = lens} {len = len} r e below = div_below r len (size lens) (some_coordinate r e below) (omega (arith, size-others e))

@@ -7,9 +7,9 @@ use Rattle.nd_base.specs.declared.error.ErrorKind.{ErrorKind}
 use Rattle.nd_base.specs.declared.error.ErrorKind.TheVariants.{OutOfBounds, Unsupported}
 use Rattle.nd_base.proofs.laws.Definitions.{is_empty, limit, low_span, high_span}
 use Rattle.nd_shape.specs.Acceptance.{may_share, size_fault}
-use Rattle.nd_shape.specs.OwnedRule.{meets_owned_rule}
-use Rattle.nd_shape.specs.declared.checks.CanIndexCheckMode.{CanIndexCheckMode}
-use Rattle.nd_shape.specs.declared.checks.CanIndexCheckMode.TheVariants.{OwnedMutable, ReadOnly}
+use Rattle.nd_shape.specs.NoAlias.{satisfies_no_alias_rule}
+use Rattle.nd_shape.specs.declared.acceptance.CanIndexCheckMode.{CanIndexCheckMode}
+use Rattle.nd_shape.specs.declared.acceptance.CanIndexCheckMode.TheVariants.{OwnedMutable, ReadOnly}
 use Rattle.ndarray_layout.specs.AcceptanceFrom.{acceptance_from, leaves_data_from}
 
 -- ---- three faults in turn
@@ -38,12 +38,12 @@ read_shares false breaks = refl
 
 module _ (shape : List ℕ) (strides : List ℤ) where
   pub shares_owned : (mode : CanIndexCheckMode) (overlaps : Bool) → mode ≡ OwnedMutable
-      → overlaps ≡ (not (is_empty shape) && not (meets_owned_rule shape strides)) → may_share mode shape strides ≡ overlaps
-  shares_owned mode overlaps owned e = rw (owned, e) (sym (owned_shares (is_empty shape) (meets_owned_rule shape strides)))
+      → overlaps ≡ (not (is_empty shape) && not (satisfies_no_alias_rule shape strides)) → may_share mode shape strides ≡ overlaps
+  shares_owned mode overlaps owned e = rw (owned, e) (sym (owned_shares (is_empty shape) (satisfies_no_alias_rule shape strides)))
 
   pub shares_read : (mode : CanIndexCheckMode) → (mode ≡ OwnedMutable → ⊥) → may_share mode shape strides ≡ false
   shares_read OwnedMutable other = absurd (other refl)
-  shares_read ReadOnly other = read_shares (is_empty shape) (meets_owned_rule shape strides)
+  shares_read ReadOnly other = read_shares (is_empty shape) (satisfies_no_alias_rule shape strides)
 
 module _ (start elem_size len : ℕ) (mode : CanIndexCheckMode) (shape : List ℕ) (strides : List ℤ) where
   -- ---- what lies below the data or above it

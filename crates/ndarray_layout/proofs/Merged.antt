@@ -9,15 +9,15 @@ use Rattle.std.proofs.lemmas.Int.{ints}
 use Rattle.std.proofs.lemmas.List.{get_or-set_same, get_or-set_other, length-set, set-get_or}
 use Rattle.nd_base.proofs.laws.Definitions.{is_index, offset_of, nonzero_size, high_span, low_span, reach_down, reach_up}
 use Rattle.nd_base.proofs.laws.Definitions.{sum_over_axes}
-use Rattle.nd_base.proofs.laws.IsIndex.{entry_of_index, length_of_index}
+use Rattle.nd_base.proofs.laws.IsIndex.{coordinate_of_index, length_of_index}
 use Rattle.nd_shape.specs.Merge.{IsMergedStride, merge_fits, merged_shape, merged_stride}
 use Rattle.nd_shape.proofs.laws.Merge.{how_it_fits}
 use Rattle.ndarray_layout.specs.MergedView.{merge_source}
 use Rattle.ndarray_layout.proofs.Replaced.{sum_replaced, factor, factor_of_zero, factor_of_other, factor_pos, size_replaced}
-use Rattle.ndarray_layout.proofs.Replaced.{offset_by_stride, offset_by_entry, index_restored, same_with_entry}
+use Rattle.ndarray_layout.proofs.Replaced.{offset_by_stride, offset_by_coordinate, index_restored, same_with_coordinate}
 
 -- ---- how far the axes reach
--- what an axis reaches one way: nowhere with one entry, further with more, and on where another one ends
+-- what an axis reaches one way: nowhere with one coordinate, further with more, and on where another one ends
 record Reaches (f : ℕ → ℤ → ℕ) : Type 0 where
   pub few : (len : ℕ) (stride : ℤ) → len ≤ 1 → f len stride ≡ 0
   pub more : (len other : ℕ) (stride : ℤ) → len ≤ other → f len stride ≤ f other stride
@@ -87,7 +87,7 @@ steps_up len other (negsuc s) h g = sym (ap (λ n. n + 0) (ap (reach_up other) (
 up : Reaches reach_up
 up = record { few = few_up; more = more_up; steps = steps_up }
 
--- one entry is left on the axis taken, or none
+-- one coordinate is left on the axis taken, or none
 abbrev left_on : ℕ → ℕ
 left_on len = cond (eqb len 0) 0 1
 
@@ -135,7 +135,7 @@ pub record TwoAxes (shape : List ℕ) (strides : List ℤ) (taken into : ℕ) : 
   pub into_there : into < length shape
   pub apart : taken ≢ into
 
--- how many entries both have together
+-- how many coordinates both have together
 abbrev whole : List ℕ → ℕ → ℕ → ℕ
 whole shape taken into = get_or shape into 0 * get_or shape taken 0
 
@@ -215,16 +215,16 @@ module _ {shape : List ℕ} {strides : List ℤ} {taken into : ℕ} {stride : �
         }
 
 -- ---- its indices
--- an index that is left: it has one entry for both axes, and none but the first on the one taken
-record EntryForBoth (shape entries : List ℕ) (taken into : ℕ) : Type 0 where
-  pub count : length entries ≡ length shape
-  pub none : get_or entries taken 0 ≡ 0
-  pub below : get_or entries into 0 < get_or shape taken 0 * get_or shape into 0
+-- an index that is left: it has one coordinate for both axes, and none but the first on the one taken
+record CoordinateForBoth (shape coordinates : List ℕ) (taken into : ℕ) : Type 0 where
+  pub count : length coordinates ≡ length shape
+  pub none : get_or coordinates taken 0 ≡ 0
+  pub below : get_or coordinates into 0 < get_or shape taken 0 * get_or shape into 0
   pub some : 0 < get_or shape into 0
 
-entry_for_both : {shape : List ℕ} {strides : List ℤ} {taken into : ℕ} (entries : List ℕ) → TwoAxes shape strides taken into
-    → is_index (merged_shape taken into shape) entries ≡ true → EntryForBoth shape entries taken into
-entry_for_both {shape} {taken = taken} {into} entries two here =
+coordinate_for_both : {shape : List ℕ} {strides : List ℤ} {taken into : ℕ} (coordinates : List ℕ) → TwoAxes shape strides taken into
+    → is_index (merged_shape taken into shape) coordinates ≡ true → CoordinateForBoth shape coordinates taken into
+coordinate_for_both {shape} {taken = taken} {into} coordinates two here =
     let there = two.taken_there in
     let to = two.into_there in
     let t = get_or shape taken 0 in
@@ -237,10 +237,10 @@ entry_for_both {shape} {taken = taken} {into} entries two here =
     let on_into : get_or shape2 into 0 ≡ m = get_or-set_other shape1 taken into (left_on m) 0 (λ e. two.apart (sym e))
     ∙ get_or-set_same shape into m 0 to in
     let on_taken : get_or shape2 taken 0 ≡ left_on m = get_or-set_same shape1 taken (left_on m) 0 (omega arith) in
-    let below : get_or entries into 0 < m = rw on_into at (entry_of_index shape2 entries into here (omega arith)) in
-    let one : get_or entries taken 0 < left_on m = rw on_taken at (entry_of_index shape2 entries taken here (omega arith)) in
+    let below : get_or coordinates into 0 < m = rw on_into at (coordinate_of_index shape2 coordinates into here (omega arith)) in
+    let one : get_or coordinates taken 0 < left_on m = rw on_taken at (coordinate_of_index shape2 coordinates taken here (omega arith)) in
     record {
-      count = length_of_index shape2 entries here ∙ count2;
+      count = length_of_index shape2 coordinates here ∙ count2;
       none = omega (arith, left_le m);
       below = omega arith;
       some = elim (cases_eq n 0) [
@@ -250,69 +250,69 @@ entry_for_both {shape} {taken = taken} {into} entries two here =
     }
 
 -- and its source
-pub record MergeSourceKept (shape : List ℕ) (strides : List ℤ) (taken into : ℕ) (stride : ℤ) (entries : List ℕ) : Type 0 where
-  pub within : is_index shape (merge_source taken into shape entries) ≡ true
-  pub offset : offset_of (set strides into stride) entries ≡ offset_of strides (merge_source taken into shape entries)
+pub record MergeSourceKept (shape : List ℕ) (strides : List ℤ) (taken into : ℕ) (stride : ℤ) (coordinates : List ℕ) : Type 0 where
+  pub within : is_index shape (merge_source taken into shape coordinates) ≡ true
+  pub offset : offset_of (set strides into stride) coordinates ≡ offset_of strides (merge_source taken into shape coordinates)
 
-pub merge_source_kept : {shape : List ℕ} {strides : List ℤ} {taken into : ℕ} {stride : ℤ} (entries : List ℕ)
+pub merge_source_kept : {shape : List ℕ} {strides : List ℤ} {taken into : ℕ} {stride : ℤ} (coordinates : List ℕ)
     → TwoAxes shape strides taken into
     → IsMergedStride (get_or shape taken 0) (get_or strides taken (pos 0)) (get_or shape into 0) (get_or strides into (pos 0)) stride
-    → is_index (merged_shape taken into shape) entries ≡ true → MergeSourceKept shape strides taken into stride entries
-merge_source_kept {shape} {strides} {taken} {into} {stride} entries two serves here =
+    → is_index (merged_shape taken into shape) coordinates ≡ true → MergeSourceKept shape strides taken into stride coordinates
+merge_source_kept {shape} {strides} {taken} {into} {stride} coordinates two serves here =
     let t = get_or shape taken 0 in
     let n = get_or shape into 0 in
     let ts = get_or strides taken (pos 0) in
     let is = get_or strides into (pos 0) in
     let m = whole shape taken into in
     let shape1 = set shape into m in
-    let both = entry_for_both entries two here in
-    let j = get_or entries into 0 in
+    let both = coordinate_for_both coordinates two here in
+    let j = get_or coordinates into 0 in
     let q = j / n in
     let r = j % n in
-    let middle = set entries taken q in
+    let middle = set coordinates taken q in
     let q_below : q < t = (div-lt_iff_lt-mul both.some).1 both.below in
     let r_below : r < n = mod-lt j both.some in
     let len1 : get_or shape1 taken 0 ≡ t = get_or-set_other shape into taken m 0 two.apart in
-    let inside1 : is_index shape1 middle ≡ true = index_restored shape1 entries taken (left_on m) q here (rw len1 q_below) in
-    let count : length strides ≡ length entries = omega (arith, both.count, two.counts) in
-    let by_stride = offset_by_stride strides entries into stride (omega (arith, two.into_there, two.counts)) count in
-    let by_taken : offset_of strides middle +ℤ (pos 0 *ℤ ts) ≡ offset_of strides entries +ℤ (pos q *ℤ ts) =
-    rw both.none at (offset_by_entry strides entries taken q (omega (arith, two.taken_there, two.counts)) count) in
-    let middle_entry : get_or middle into 0 ≡ j = get_or-set_other entries taken into q 0 (λ e. two.apart (sym e)) in
-    let count1 : length strides ≡ length middle = count ∙ sym (length-set entries taken q) in
+    let in_bounds_1 : is_index shape1 middle ≡ true = index_restored shape1 coordinates taken (left_on m) q here (rw len1 q_below) in
+    let count : length strides ≡ length coordinates = omega (arith, both.count, two.counts) in
+    let by_stride = offset_by_stride strides coordinates into stride (omega (arith, two.into_there, two.counts)) count in
+    let by_taken : offset_of strides middle +ℤ (pos 0 *ℤ ts) ≡ offset_of strides coordinates +ℤ (pos q *ℤ ts) =
+    rw both.none at (offset_by_coordinate strides coordinates taken q (omega (arith, two.taken_there, two.counts)) count) in
+    let middle_coordinate : get_or middle into 0 ≡ j = get_or-set_other coordinates taken into q 0 (λ e. two.apart (sym e)) in
+    let count1 : length strides ≡ length middle = count ∙ sym (length-set coordinates taken q) in
     let by_into : offset_of strides (set middle into r) +ℤ (pos j *ℤ is) ≡ offset_of strides middle +ℤ (pos r *ℤ is) =
-    rw middle_entry at (offset_by_entry strides middle into r (omega (arith, two.into_there, two.counts)) count1) in
+    rw middle_coordinate at (offset_by_coordinate strides middle into r (omega (arith, two.into_there, two.counts)) count1) in
     let one : pos j *ℤ stride ≡ (pos q *ℤ ts) +ℤ (pos r *ℤ is) = serves j both.below in
     record {
-      within = index_restored shape middle into m r inside1 r_below;
+      within = index_restored shape middle into m r in_bounds_1 r_below;
       offset = omega (arith, ints, by_stride, by_taken, by_into, one);
     }
 
 -- indices of one source are one
-pub merge_source_injective : {shape : List ℕ} {strides : List ℤ} {taken into : ℕ} (entries others : List ℕ)
-    → TwoAxes shape strides taken into → is_index (merged_shape taken into shape) entries ≡ true
+pub merge_source_injective : {shape : List ℕ} {strides : List ℤ} {taken into : ℕ} (coordinates others : List ℕ)
+    → TwoAxes shape strides taken into → is_index (merged_shape taken into shape) coordinates ≡ true
     → is_index (merged_shape taken into shape) others ≡ true
-    → merge_source taken into shape entries ≡ merge_source taken into shape others → entries ≡ others
-merge_source_injective {shape} {taken = taken} {into} entries others two here other_here same =
+    → merge_source taken into shape coordinates ≡ merge_source taken into shape others → coordinates ≡ others
+merge_source_injective {shape} {taken = taken} {into} coordinates others two here other_here same =
     let there = two.taken_there in
     let to = two.into_there in
     let n = get_or shape into 0 in
-    let first = entry_for_both entries two here in
-    let second = entry_for_both others two other_here in
-    let j = get_or entries into 0 in
+    let first = coordinate_for_both coordinates two here in
+    let second = coordinate_for_both others two other_here in
+    let j = get_or coordinates into 0 in
     let k = get_or others into 0 in
-    let middle = set entries taken (j / n) in
+    let middle = set coordinates taken (j / n) in
     let other_middle = set others taken (k / n) in
     let on_taken = λ (index : List ℕ) (q r : ℕ) (l : taken < length index). get_or-set_other (set index taken q) into taken r 0 two.apart
     ∙ get_or-set_same index taken q 0 l in
     let on_into = λ (index : List ℕ) (q r : ℕ) (l : into < length index). get_or-set_same (set index taken q) into r 0
     (subst (λ x. into < x) (sym (length-set index taken q)) l) in
-    let quotients : j / n ≡ k / n = sym (on_taken entries (j / n) (j % n) (omega (arith, first.count))) ∙ ap (λ l. get_or l taken 0) same
+    let quotients : j / n ≡ k / n = sym (on_taken coordinates (j / n) (j % n) (omega (arith, first.count))) ∙ ap (λ l. get_or l taken 0) same
     ∙ on_taken others (k / n) (k % n) (omega (arith, second.count)) in
-    let rests : j % n ≡ k % n = sym (on_into entries (j / n) (j % n) (omega (arith, first.count))) ∙ ap (λ l. get_or l into 0) same
+    let rests : j % n ≡ k % n = sym (on_into coordinates (j / n) (j % n) (omega (arith, first.count))) ∙ ap (λ l. get_or l into 0) same
     ∙ on_into others (k / n) (k % n) (omega (arith, second.count)) in
-    let entry : j ≡ k = sym (div-add-mod j n) ∙ ap (λ q. n * q + j % n) quotients ∙ ap (λ r. n * (k / n) + r) rests ∙ div-add-mod k n in
+    let coordinate : j ≡ k = sym (div-add-mod j n) ∙ ap (λ q. n * q + j % n) quotients ∙ ap (λ r. n * (k / n) + r) rests ∙ div-add-mod k n in
     let turned = λ (e : into ≡ taken). two.apart (sym e) in
-    let middles : middle ≡ other_middle = same_with_entry into (j % n) (k % n) same (get_or-set_other entries taken into (j / n) 0 turned
-    ∙ entry ∙ sym (get_or-set_other others taken into (k / n) 0 turned)) in
-    same_with_entry taken (j / n) (k / n) middles (first.none ∙ sym second.none)
+    let middles : middle ≡ other_middle = same_with_coordinate into (j % n) (k % n) same (get_or-set_other coordinates taken into (j / n) 0 turned
+    ∙ coordinate ∙ sym (get_or-set_other others taken into (k / n) 0 turned)) in
+    same_with_coordinate taken (j / n) (k / n) middles (first.none ∙ sym second.none)

@@ -1,4 +1,4 @@
--- One axis: where its entries lie between its reaches, and what a slice leaves of them.
+-- One axis: where its coordinates lie between its reaches, and what a slice leaves of them.
 use Rattle.std.proofs.Common.{ℕ, suc, ◌-◌, ◌*◌, ◌<◌, ◌≤◌, ℤ, pos, negsuc, ◌+ℤ◌, ◌*ℤ◌, ◌≤ℤ◌, arith}
 use Rattle.std.proofs.lemmas.Int.{ints}
 use Rattle.std.proofs.Math.Nat.{mul-le-mul_right}

@@ -67,11 +67,11 @@ kept_from {len} {stride} {count} {new_stride} few low high = record {
   high = high;
 }
 
--- an axis with no entry left
+-- an axis with no coordinate left
 none_kept : {len : ℕ} {stride : ℤ} → AxisKept len stride 0 (pos 0) (pos 0)
 none_kept = kept_from (omega arith) (omega (arith, ints)) (omega (arith, ints))
 
--- an axis with some entry left
+-- an axis with some coordinate left
 some_kept : {len : ℕ} {stride : ℤ} {n : ℕ} {new_stride offset : ℤ} → suc n ≤ len
     → Within (reach_down len stride) (reach_up len stride) offset
     → Within (reach_down len stride) (reach_up len stride) (offset +ℤ (pos n *ℤ new_stride)) → AxisKept len stride (suc n) new_stride offset

@@ -8,8 +8,8 @@ use Rattle.nd_base.proofs.laws.NonzeroSize.{nonzero_size_pos}
 use Rattle.nd_slice.specs.declared.fit.Fit.{Fit}
 use Rattle.nd_slice.specs.declared.elem.SliceInfoElem.{SliceInfoElem}
 use Rattle.nd_slice.specs.declared.elem.SliceInfoElem.TheVariants as elem
-use Rattle.nd_slice.specs.Meet.{elem_picks}
-use Rattle.nd_slice.specs.ArgumentFault.{elem_fault, fault_of_each, first_fault, in_count}
+use Rattle.nd_slice.specs.Intersect.{elem_picks}
+use Rattle.nd_slice.specs.SliceFault.{elem_fault, fault_of_each, first_fault, in_count}
 use Rattle.nd_slice.specs.AxisElems.{axis_elems}
 use Rattle.nd_slice.specs.Picks.{picks, slice_with}
 use Rattle.nd_slice.specs.Sliced.{sliced_shape}

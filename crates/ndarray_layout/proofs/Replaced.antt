@@ -67,17 +67,17 @@ offset_by_stride (s ∷ strides) (i ∷ index) zero stride h e = omega (arith, i
 offset_by_stride (s ∷ strides) (i ∷ index) (suc axis) stride h e =
     omega (arith, ints, offset_by_stride strides index axis stride (omega arith) (omega arith))
 
--- and with the entry on that axis
-pub offset_by_entry : (strides : List ℤ) (index : List ℕ) (axis i : ℕ) → axis < length strides → length strides ≡ length index
+-- and with the coordinate on that axis
+pub offset_by_coordinate : (strides : List ℤ) (index : List ℕ) (axis i : ℕ) → axis < length strides → length strides ≡ length index
     → offset_of strides (set index axis i) +ℤ (pos (get_or index axis 0) *ℤ get_or strides axis (pos 0)) ≡ offset_of strides index +ℤ
     (pos i *ℤ get_or strides axis (pos 0))
-offset_by_entry [] index axis i h e = absurd (omega arith)
-offset_by_entry (s ∷ strides) [] axis i h e = absurd (omega arith)
-offset_by_entry (s ∷ strides) (j ∷ index) zero i h e = omega (arith, ints)
-offset_by_entry (s ∷ strides) (j ∷ index) (suc axis) i h e =
-    omega (arith, ints, offset_by_entry strides index axis i (omega arith) (omega arith))
+offset_by_coordinate [] index axis i h e = absurd (omega arith)
+offset_by_coordinate (s ∷ strides) [] axis i h e = absurd (omega arith)
+offset_by_coordinate (s ∷ strides) (j ∷ index) zero i h e = omega (arith, ints)
+offset_by_coordinate (s ∷ strides) (j ∷ index) (suc axis) i h e =
+    omega (arith, ints, offset_by_coordinate strides index axis i (omega arith) (omega arith))
 
--- an index of a shape with another length there is one of the shape, with an entry of the axis there
+-- an index of a shape with another length there is one of the shape, with a coordinate of the axis there
 pub index_restored : (shape index : List ℕ) (axis len i : ℕ) → is_index (set shape axis len) index ≡ true → i < get_or shape axis 0
     → is_index shape (set index axis i) ≡ true
 index_restored [] index axis len i here below = absurd (omega arith)
@@ -90,10 +90,10 @@ index_restored (n ∷ shape) (j ∷ index) (suc axis) len i here below =
     let parts = and_parts (nat_lt j n) (is_index (set shape axis len) index) here in
     and_from (nat_lt j n) (is_index shape (set index axis i)) parts.0 (index_restored shape index axis len i parts.1 below)
 
--- lists that are one with an entry replaced, and have one entry there, are one
-pub same_with_entry : {index other : List ℕ} (axis i j : ℕ) → set index axis i ≡ set other axis j
+-- lists that are one with a coordinate replaced, and have one coordinate there, are one
+pub same_with_coordinate : {index other : List ℕ} (axis i j : ℕ) → set index axis i ≡ set other axis j
     → get_or index axis 0 ≡ get_or other axis 0 → index ≡ other
-same_with_entry {index} {other} axis i j same at =
+same_with_coordinate {index} {other} axis i j same at =
     sym (set-get_or index axis 0)
     ∙ sym (set-set index axis i (get_or index axis 0))
     ∙ ap (λ l. set l axis (get_or index axis 0)) same

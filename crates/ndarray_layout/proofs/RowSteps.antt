@@ -4,7 +4,7 @@ use Rattle.std.proofs.Common.{add-one, append_assoc, drop, length, map, refl, sy
 use Rattle.std.specs.List.{All, range_with_len}
 use Rattle.std.proofs.lemmas.Int.{ints}
 use Rattle.std.proofs.lemmas.List.Elements.{All-head, All-nil, All-tail}
-use Rattle.nd_base.proofs.laws.Definitions.{IsInside, limit}
+use Rattle.nd_base.proofs.laws.Definitions.{IsInBounds, limit}
 use Rattle.ndarray_layout.specs.declared.strided.rows.Row.{Row}
 use Rattle.ndarray_layout.specs.Rows.{row_places, rows_places}
 use Rattle.ndarray_layout.specs.PlacesLeft.{ArePlacesLeft, places_after}
@@ -36,21 +36,21 @@ pub appended : (old : List ℤ) {now new : List ℤ} (row : List ℤ) (place : �
     → more ≡ row ++ place ∷ [] → new ≡ old ++ more
 appended old row place e f g = e ∙ ap (λ xs. xs ++ place ∷ []) f ∙ append_assoc old row (place ∷ []) ∙ ap (λ xs. old ++ xs) (sym g)
 
-pub inside_bounds : (z : ℤ) → IsInside (2 ^ 63) z → (pos 0 ≤ℤ z) × (z ≤ℤ pos limit)
-inside_bounds (pos n) inside = (omega (arith, ints), omega (arith, ints))
-inside_bounds (negsuc n) inside = absurd inside
+pub bounds_of_place : (z : ℤ) → IsInBounds (2 ^ 63) z → (pos 0 ≤ℤ z) × (z ≤ℤ pos limit)
+bounds_of_place (pos n) in_bounds = (omega (arith, ints), omega (arith, ints))
+bounds_of_place (negsuc n) in_bounds = absurd in_bounds
 
 -- each place of a row is a number of an `isize`, and so is the first one
-pub place_bounds : (start : ℕ) (stride : ℤ) (len i : ℕ) → All (IsInside (2 ^ 63)) (row_places start stride len) → i < len
+pub place_bounds : (start : ℕ) (stride : ℤ) (len i : ℕ) → All (IsInBounds (2 ^ 63)) (row_places start stride len) → i < len
     → (pos 0 ≤ℤ (pos start +ℤ (pos i *ℤ stride))) × ((pos start +ℤ (pos i *ℤ stride)) ≤ℤ pos limit)
-place_bounds start stride len i inside below =
-    inside_bounds (pos start +ℤ (pos i *ℤ stride))
-    (subst (IsInside (2 ^ 63)) (get_or-row_places start stride len i (pos 0) below)
-    (inside i (pos 0) (omega (arith, length-row_places start stride len))))
+place_bounds start stride len i in_bounds below =
+    bounds_of_place (pos start +ℤ (pos i *ℤ stride))
+    (subst (IsInBounds (2 ^ 63)) (get_or-row_places start stride len i (pos 0) below)
+    (in_bounds i (pos 0) (omega (arith, length-row_places start stride len))))
 
-pub start_bound : (start : ℕ) (stride : ℤ) (len : ℕ) → All (IsInside (2 ^ 63)) (row_places start stride len) → 0 < len → start ≤ limit
-start_bound start stride len inside some =
-    omega (arith, ints, (place_bounds start stride len 0 inside some).1, no_step (pos start) stride)
+pub start_bound : (start : ℕ) (stride : ℤ) (len : ℕ) → All (IsInBounds (2 ^ 63)) (row_places start stride len) → 0 < len → start ≤ limit
+start_bound start stride len in_bounds some =
+    omega (arith, ints, (place_bounds start stride len 0 in_bounds some).1, no_step (pos start) stride)
 
 -- ---- rows
 length-rows : (row : Row) (rows : List Row) → length (rows_places (row ∷ rows)) ≡ row.len + length (rows_places rows)
@@ -66,10 +66,10 @@ module _ {all : List Row} {row : Row} {others : List Row} (f : IsFirstRow all ro
   pub length-first : length (rows_places all) ≡ row.len + length (rows_places others)
   length-first = ap (λ rows. length (rows_places rows)) f.is ∙ length-rows row others
 
-  pub inside-first : All (IsInside (2 ^ 63)) (rows_places all)
-      → All (IsInside (2 ^ 63)) (row_places row.start row.stride row.len) × All (IsInside (2 ^ 63)) (rows_places others)
-  inside-first inside =
-      All-first_row (IsInside (2 ^ 63)) row others (subst (λ rows. All (IsInside (2 ^ 63)) (rows_places rows)) f.is inside)
+  pub in_bounds-first : All (IsInBounds (2 ^ 63)) (rows_places all)
+      → All (IsInBounds (2 ^ 63)) (row_places row.start row.stride row.len) × All (IsInBounds (2 ^ 63)) (rows_places others)
+  in_bounds-first in_bounds =
+      All-first_row (IsInBounds (2 ^ 63)) row others (subst (λ rows. All (IsInBounds (2 ^ 63)) (rows_places rows)) f.is in_bounds)
 
   -- with the places of the first one appended, those of the others are left
   pub append-first : (now : List ℤ) {new whole : List ℤ} → new ≡ now ++ row_places row.start row.stride row.len
@@ -96,11 +96,11 @@ module _ {place left : ℕ} {stride : ℤ} {rows : List Row} (l : ArePlacesLeft 
   first_of_row some =
       after place stride left rows ∙ ap (λ row. row ++ rows_places rows) (row_of_some (pos place +ℤ stride) stride left some)
 
-  pub next_inside : 0 < left → IsInside (2 ^ 63) (pos place +ℤ stride)
-  next_inside some =
-      All-head (IsInside (2 ^ 63)) (pos place +ℤ stride)
+  pub next_in_bounds : 0 < left → IsInBounds (2 ^ 63) (pos place +ℤ stride)
+  next_in_bounds some =
+      All-head (IsInBounds (2 ^ 63)) (pos place +ℤ stride)
       (row_from ((pos place +ℤ stride) +ℤ stride) stride (left - 1) ++ rows_places rows)
-      (subst (All (IsInside (2 ^ 63))) (first_of_row some) l.inside)
+      (subst (All (IsInBounds (2 ^ 63))) (first_of_row some) l.in_bounds)
 
   pub steps_on : {next : ℕ} → 0 < left → pos next ≡ pos place +ℤ stride
       → places_after place stride left rows ≡ pos next ∷ places_after next stride (left - 1) rows
@@ -111,9 +111,9 @@ module _ {place left : ℕ} {stride : ℤ} {rows : List Row} (l : ArePlacesLeft 
 
   pub left_after_step : {next : ℕ} → 0 < left → pos next ≡ pos place +ℤ stride → ArePlacesLeft next stride (left - 1) rows
   left_after_step {next} some at = record {
-    here = omega (arith, ints, (inside_bounds (pos next) (subst (IsInside (2 ^ 63)) (sym at) (next_inside some))).1);
-    inside = All-tail (IsInside (2 ^ 63)) (pos next) (places_after next stride (left - 1) rows)
-        (subst (All (IsInside (2 ^ 63))) (steps_on some at) l.inside);
+    here = omega (arith, ints, (bounds_of_place (pos next) (subst (IsInBounds (2 ^ 63)) (sym at) (next_in_bounds some))).1);
+    in_bounds = All-tail (IsInBounds (2 ^ 63)) (pos next) (places_after next stride (left - 1) rows)
+        (subst (All (IsInBounds (2 ^ 63))) (steps_on some at) l.in_bounds);
     some = l.some;
     fits = omega (arith, l.fits, ap length (steps_on some at));
   }
@@ -134,11 +134,11 @@ module _ {place left : ℕ} {stride : ℤ} {rows : List Row} (l : ArePlacesLeft 
   pub left_in_row : {row : Row} {others : List Row} {step : ℤ} → left ≡ 0 → rows ≡ row ∷ others → row.stride ≡ step
       → ArePlacesLeft row.start step (row.len - 1) others
   left_in_row {row} {others} {step} none e steps =
-      let all = subst (All (IsInside (2 ^ 63))) (row_begins none e steps) l.inside in
+      let all = subst (All (IsInBounds (2 ^ 63))) (row_begins none e steps) l.in_bounds in
       let rest = places_after row.start step (row.len - 1) others in
       record {
-        here = omega (arith, ints, (inside_bounds (pos row.start) (All-head (IsInside (2 ^ 63)) (pos row.start) rest all)).1);
-        inside = All-tail (IsInside (2 ^ 63)) (pos row.start) rest all;
+        here = omega (arith, ints, (bounds_of_place (pos row.start) (All-head (IsInBounds (2 ^ 63)) (pos row.start) rest all)).1);
+        in_bounds = All-tail (IsInBounds (2 ^ 63)) (pos row.start) rest all;
         some = All-tail (λ row. 0 < row.len) row others (subst (All (λ row. 0 < row.len)) e l.some);
         fits = omega (arith, l.fits, ap length (row_begins none e steps));
       }
@@ -152,7 +152,7 @@ module _ {place left : ℕ} {stride : ℤ} {rows : List Row} (l : ArePlacesLeft 
       let nothing : places_after place stride left others ≡ [] = ap (λ n. places_after place stride n others) none ∙ ap rows_places end in
       record {
         here = l.here;
-        inside = subst (All (IsInside (2 ^ 63))) (sym nothing) (All-nil (IsInside (2 ^ 63)));
+        in_bounds = subst (All (IsInBounds (2 ^ 63))) (sym nothing) (All-nil (IsInBounds (2 ^ 63)));
         some = subst (All (λ row. 0 < row.len)) (sym end) (All-nil (λ row. 0 < row.len));
         fits = omega (arith, ap length nothing);
       }

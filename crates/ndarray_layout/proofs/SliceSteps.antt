@@ -19,14 +19,14 @@ use Rattle.nd_slice.specs.declared.slice.Slice.{Slice}
 use Rattle.nd_slice.specs.declared.elem.SliceInfoElem.{SliceInfoElem}
 use Rattle.nd_slice.specs.declared.elem.SliceInfoElem.TheVariants as elem
 use Rattle.nd_slice.specs.Picks.{meaning, picks}
-use Rattle.nd_slice.specs.SliceFault.{slice_fault, index_fault}
-use Rattle.nd_slice.specs.ArgumentFault.{in_count, out_count, first_fault}
+use Rattle.nd_slice.specs.AxisFault.{slice_fault, index_fault}
+use Rattle.nd_slice.specs.SliceFault.{in_count, out_count, first_fault}
 use Rattle.nd_slice.specs.Picked.{picked_stride, first_offset}
 use Rattle.nd_slice.specs.Sliced.{sliced_shape, sliced_strides, sliced_offset}
 use Rattle.ndarray_layout.proofs.OneAxis.{Within, axis_within}
 use Rattle.ndarray_layout.proofs.Picked.{slice_kept}
 use Rattle.ndarray_layout.proofs.PicksFit.{picks_fit}
-use Rattle.ndarray_layout.proofs.Slices.{index_entry}
+use Rattle.ndarray_layout.proofs.Slices.{index_coordinate}
 use Rattle.nd_base.proofs.laws.Span.{low_high_span, reach_parts}
 use Rattle.nd_base.proofs.laws.NonzeroSize.{length_le_nonzero_size}
 use Rattle.nd_base.proofs.laws.Span.{reach_le_span}
@@ -186,9 +186,9 @@ module _ {fit : Fit} {elems : List SliceInfoElem} {shape : List ℕ} {strides : 
       → SlicedSoFar fit elems shape strides (elem.Index index ∷ rest) (len ∷ lens) (stride ∷ steps) new ns nt offset
       → SlicedSoFar fit elems shape strides rest lens steps new ns nt (offset +ℤ moved)
   index_step index {len} {stride} m none s =
-      let entry = index_entry len index none in
-      let axis : Within (reach_down len stride) (reach_up len stride) (meaning len index *ℤ stride) = rw entry.0
-      (axis_within len (magnitude (meaning len index)) stride entry.1) in
+      let coordinate = index_coordinate len index none in
+      let axis : Within (reach_down len stride) (reach_up len stride) (meaning len index *ℤ stride) = rw coordinate.0
+      (axis_within len (magnitude (meaning len index)) stride coordinate.1) in
       record {
         same_count = omega (arith, s.same_count);
         counts = omega (arith, s.counts);
@@ -283,25 +283,25 @@ module _ {fit : Fit} {elems : List SliceInfoElem} {shape strides : List ℕ} {k 
   index_arm index valid at m none = stepped valid (index_step index m none at.so_far)
 
 -- what an index means, and where it lies
-pub record IsEntryAt (len : ℕ) (stride : ℤ) (index : ℤ) : Type 0 where
+pub record IsCoordinateAt (len : ℕ) (stride : ℤ) (index : ℤ) : Type 0 where
   pub low : pos 0 ≤ℤ meaning len index
   pub small : (n : ℕ) → pos n ≡ meaning len index → n ≤ limit
   pub offset_fits : (n : ℕ) → pos n ≡ meaning len index → FitsSigned w64 (pos n *ℤ stride)
 
 pub index_within : {fit : Fit} {elems : List SliceInfoElem} {shape strides : List ℕ} {index : ℤ} {k axis new : ℕ} {ns nt : List ℕ}
     {offset : ℤ} → AtAxis fit elems shape strides (elem.Index index) k axis new ns nt offset → index_fault (get_or shape axis 0) index
-    ≡ None → IsEntryAt (get_or shape axis 0) (signed (get_or strides axis 0)) index
+    ≡ None → IsCoordinateAt (get_or shape axis 0) (signed (get_or strides axis 0)) index
 index_within {shape} {strides} {index} {axis} at none =
     let len = get_or shape axis 0 in
     let stride = signed (get_or strides axis 0) in
-    let entry = index_entry len index none in
+    let coordinate = index_coordinate len index none in
     let fits = at.len_fits in
     let reaches = at.reach_fits in
     record {
-      low = rw entry.0 (omega (arith, ints));
-      small = λ n e. omega (arith, ints, entry.0, entry.1, e);
+      low = rw coordinate.0 (omega (arith, ints));
+      small = λ n e. omega (arith, ints, coordinate.0, coordinate.1, e);
       offset_fits = λ n e.
-          let below : n < len = omega (arith, ints, entry.0, entry.1, e) in
+          let below : n < len = omega (arith, ints, coordinate.0, coordinate.1, e) in
           let axis = axis_within len n stride below in
           omega (arith, ints, axis.above, axis.below, reach_parts len stride);
     }

@@ -10,9 +10,9 @@ use Rattle.nd_slice.specs.declared.fit.Fit.{Fit}
 use Rattle.nd_slice.specs.declared.slice.Slice.{Slice}
 use Rattle.nd_slice.specs.declared.elem.SliceInfoElem.{SliceInfoElem}
 use Rattle.nd_slice.specs.declared.elem.SliceInfoElem.TheVariants as elem
-use Rattle.nd_slice.specs.Picks.{picks, meaning, is_entry}
-use Rattle.nd_slice.specs.SliceFault.{slice_fault, index_fault}
-use Rattle.nd_slice.specs.ArgumentFault.{in_count, first_fault}
+use Rattle.nd_slice.specs.Picks.{picks, meaning, is_coordinate}
+use Rattle.nd_slice.specs.AxisFault.{slice_fault, index_fault}
+use Rattle.nd_slice.specs.SliceFault.{in_count, first_fault}
 use Rattle.nd_slice.specs.Sliced.{sliced_shape, sliced_strides, sliced_offset}
 use Rattle.nd_slice.specs.Selected.{selected}
 use Rattle.ndarray_layout.proofs.OneAxis.{Within, axis_within}
@@ -20,18 +20,18 @@ use Rattle.ndarray_layout.proofs.Picked.{slice_kept, pick_offset}
 use Rattle.ndarray_layout.proofs.PicksFit.{picks_fit}
 use Rattle.nd_base.proofs.laws.Options.{option_or_none}
 
--- an index that fits means an entry
-entry_of : (len : ℕ) (z : ℤ) → cond (is_entry len z) None (Some OutOfBounds) ≡ None → (z ≡ pos (magnitude z)) × (magnitude z < len)
-entry_of len (pos n) h = (refl, by (nat_lt n len) refl h)
+-- an index that fits means a coordinate
+coordinate_of : (len : ℕ) (z : ℤ) → cond (is_coordinate len z) None (Some OutOfBounds) ≡ None → (z ≡ pos (magnitude z)) × (magnitude z < len)
+coordinate_of len (pos n) h = (refl, by (nat_lt n len) refl h)
   where
     by : (t : Bool) → nat_lt n len ≡ t → cond t None (Some OutOfBounds) ≡ None → n < len
     by true e g = ltb-true n len e
     by false e g = absurd (cc)
-entry_of len (negsuc n) h = absurd (cc)
+coordinate_of len (negsuc n) h = absurd (cc)
 
-pub index_entry : (len : ℕ) (index : ℤ) → index_fault len index ≡ None
+pub index_coordinate : (len : ℕ) (index : ℤ) → index_fault len index ≡ None
     → (meaning len index ≡ pos (magnitude (meaning len index))) × (magnitude (meaning len index) < len)
-index_entry len index h = entry_of len (meaning len index) h
+index_coordinate len index h = coordinate_of len (meaning len index) h
 
 -- a factor that is no greater
 pub nonzero_more : (a b x y : ℕ) → a ≤ b → x ≤ y → cond (eqb a 0) x (a * x) ≤ cond (eqb b 0) y (b * y)
@@ -96,9 +96,9 @@ module _ (fit : Fit) where
   slices_kept (elem.Index index ∷ elems) (len ∷ shape) (stride ∷ strides) e f =
       let none = option_or_none (index_fault len index) f.1 in
       let rest = slices_kept elems shape strides (omega arith) (omega arith, none.1) in
-      let entry = index_entry len index none.0 in
-      let axis : Within (reach_down len stride) (reach_up len stride) (meaning len index *ℤ stride) = rw (entry.0)
-      (axis_within len (magnitude (meaning len index)) stride entry.1) in
+      let coordinate = index_coordinate len index none.0 in
+      let axis : Within (reach_down len stride) (reach_up len stride) (meaning len index *ℤ stride) = rw (coordinate.0)
+      (axis_within len (magnitude (meaning len index)) stride coordinate.1) in
       record {
         counts = rest.counts;
         size = omega (arith, nonzero_more 1 len (nonzero_size (sliced_shape fit elems shape)) (nonzero_size shape) (omega arith) rest.size);
@@ -123,24 +123,24 @@ module _ (fit : Fit) where
   places_kept (elem.Slice start end step ∷ elems) (len ∷ shape) (stride ∷ strides) (j ∷ index) e f h =
       let slice : Slice = record { start = start; end = end; step = step } in
       let none = option_or_none (slice_fault fit len slice) f.1 in
-      let inside = picks_fit fit {len = len} slice none.0 in
+      let in_bounds = picks_fit fit {len = len} slice none.0 in
       let parts = and_parts (nat_lt j (length (picks fit len slice))) (is_index (sliced_shape fit elems shape) index) h in
       let below = ltb-true j (length (picks fit len slice)) parts.0 in
       let rest = places_kept elems shape strides index (omega arith) (omega arith, none.1) parts.1 in
       let pick = get_or (picks fit len slice) j 0 in
       record {
-        within = and_from (nat_lt pick len) (is_index shape (selected fit elems shape index)) (lt-ltb pick len (inside.within j below))
+        within = and_from (nat_lt pick len) (is_index shape (selected fit elems shape index)) (lt-ltb pick len (in_bounds.within j below))
             rest.within;
-        offset = omega (arith, ints, rest.offset, pick_offset stride j inside below);
+        offset = omega (arith, ints, rest.offset, pick_offset stride j in_bounds below);
       }
   places_kept (elem.Index n ∷ elems) [] strides index e f h = absurd (omega arith)
   places_kept (elem.Index n ∷ elems) (len ∷ shape) [] index e f h = absurd (omega arith)
   places_kept (elem.Index n ∷ elems) (len ∷ shape) (stride ∷ strides) index e f h =
       let none = option_or_none (index_fault len n) f.1 in
       let rest = places_kept elems shape strides index (omega arith) (omega arith, none.1) h in
-      let entry = index_entry len n none.0 in
+      let coordinate = index_coordinate len n none.0 in
       let m = magnitude (meaning len n) in
       record {
-        within = and_from (nat_lt m len) (is_index shape (selected fit elems shape index)) (lt-ltb m len entry.1) rest.within;
-        offset = rw (← entry.0) (omega (arith, ints, rest.offset));
+        within = and_from (nat_lt m len) (is_index shape (selected fit elems shape index)) (lt-ltb m len coordinate.1) rest.within;
+        offset = rw (← coordinate.0) (omega (arith, ints, rest.offset));
       }

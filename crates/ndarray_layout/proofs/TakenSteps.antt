@@ -8,21 +8,21 @@ use Rattle.std.proofs.lemmas.Option.{get_or_from_slice_get, slice_get_within}
 use Rattle.nd_base.specs.declared.error.ErrorKind.{ErrorKind}
 use Rattle.nd_base.specs.declared.lengths.TheConstants.{INLINE_AXES}
 use Rattle.std.proofs.lemmas.Bool.{both_ways, lt-ltb, ltb-true, true_from_ne_false}
-use Rattle.nd_slice.specs.ArgumentFault.{out_count}
+use Rattle.nd_slice.specs.SliceFault.{out_count}
 use Rattle.ndarray_layout.specs.Descends.{IsViewOf}
 use Rattle.ndarray_layout.specs.DistinctPlaces.{HasDistinctPlaces}
 use Rattle.ndarray_layout.specs.Step.{StepValue, SliceBy, CollapseTo, MergeInto, ReshapeTo, BroadcastTo, may_want_memory, step_fault}
 use Rattle.ndarray_layout.specs.Step.{view_after}
-use Rattle.ndarray_layout.specs.StepFits.{MayRefuseMemory}
+use Rattle.ndarray_layout.specs.StepFits.{MayLackMemory}
 use Rattle.ndarray_layout.proofs.laws.Step.{IsViewOf-view_after}
 use Rattle.ndarray_layout.proofs.laws.StepFits.{fits_of_no_fault_of_step, no_fault_of_fitting_step}
 use Rattle.nd_base.specs.declared.error.LayoutError.{LayoutError}
 use Rattle.nd_base.specs.declared.error.LayoutError.TheVariants.{Shape, Memory}
 use Rattle.nd_base.specs.declared.order.Order.{Order}
 use Rattle.nd_base.proofs.laws.Definitions.{NeedsNoMemory, shape_fault}
-use Rattle.ndarray_layout.specs.ReshapedView.{IsReshapeRefusal}
-use Rattle.ndarray_layout.specs.Run.{AllFit, IsRefusedBy, Leave, NeedNoMemory, StopsAt, run_of}
-use Rattle.ndarray_layout.proofs.laws.Run.{first_then, in_turn, joined, run_of_append, run_of_fitting, run_of_refused, run_sound, stayed}
+use Rattle.ndarray_layout.specs.ReshapedView.{IsReshapeError}
+use Rattle.ndarray_layout.specs.Run.{AllFit, IsStepError, Leave, NeedNoMemory, StopsAt, run_of}
+use Rattle.ndarray_layout.proofs.laws.Run.{first_then, in_turn, joined, run_of_append, run_of_fault, run_of_fitting, run_sound, stayed}
 use Rattle.ndarray_layout.specs.View.{View, IsView}
 
 -- where a run has no fault, each step fits
@@ -61,7 +61,7 @@ taken_of_no_fault (step ∷ steps) view none = by (step_fault view step) (taken_
     by None rest none = omega (arith, rest none)
     by (Some kind) rest none = absurd (cc)
 
--- a kind of step to which memory is refused only where it fits
+-- a kind of step whose allocation fails only where it fits
 abbrev pub WantsMemoryLast : StepValue → Type 0
 WantsMemoryLast (SliceBy elems fit) = Unit {0}
 WantsMemoryLast (CollapseTo axis index) = Unit {0}
@@ -70,23 +70,23 @@ WantsMemoryLast (ReshapeTo shape order) = ⊥
 WantsMemoryLast (BroadcastTo shape) = Unit {0}
 
 -- what is known of a step that is not taken, where memory comes after the fault of a shape
-pub refused_of : (X : Type 0) {view : View} (step : StepValue) (fault : LayoutError) → IsView view → WantsMemoryLast step
+pub error_of : (X : Type 0) {view : View} (step : StepValue) (fault : LayoutError) → IsView view → WantsMemoryLast step
     → shape_fault {X = X} (Err fault) ≡ step_fault view step
     → (step_fault view step ≡ None → may_want_memory step ≡ false → IsOk {T = X} {E = LayoutError} (Err fault))
-    → IsRefusedBy view fault step
-refused_of X step (Shape kind) v last refused memory = (
-  sym refused,
+    → IsStepError view fault step
+error_of X step (Shape kind) v last failed memory = (
+  sym failed,
   λ fits.
       let none = no_fault_of_fitting_step step v fits in
-      let e : Some kind ≡ None = refused ∙ none in
+      let e : Some kind ≡ None = failed ∙ none in
       cc,
 )
-refused_of X {view} step (Memory e) v last refused memory = wanted view step v last (sym refused) (λ few.
-    let ok = memory (sym refused) few in
+error_of X {view} step (Memory e) v last failed memory = wanted view step v last (sym failed) (λ few.
+    let ok = memory (sym failed) few in
     cc)
   where
     wanted : (view : View) (step : StepValue) → IsView view → WantsMemoryLast step → step_fault view step ≡ None
-        → (may_want_memory step ≡ false → ⊥) → MayRefuseMemory view step
+        → (may_want_memory step ≡ false → ⊥) → MayLackMemory view step
     wanted view (SliceBy elems fit) v last none wants = (
       fits_of_no_fault_of_step (SliceBy elems fit) v none,
       ltb-true INLINE_AXES
@@ -106,28 +106,28 @@ past_inline : (n : ℕ) → ¬ NeedsNoMemory None n → INLINE_AXES < n
 past_inline n many = omega arith
 
 -- and of a reshape, where it may come before it
-pub reshape_refused_of : {view : View} (shape : List ℕ) (order : Order) (fault : LayoutError) → IsView view
-    → IsReshapeRefusal None order shape view fault → IsRefusedBy view fault (ReshapeTo shape order)
-reshape_refused_of shape order (Shape kind) v refused = (
-  refused,
+pub reshape_error_of : {view : View} (shape : List ℕ) (order : Order) (fault : LayoutError) → IsView view
+    → IsReshapeError None order shape view fault → IsStepError view fault (ReshapeTo shape order)
+reshape_error_of shape order (Shape kind) v failed = (
+  failed,
   λ fits.
       let none = no_fault_of_fitting_step (ReshapeTo shape order) v fits in
-      let e : Some kind ≡ None = sym refused ∙ none in
+      let e : Some kind ≡ None = sym failed ∙ none in
       cc,
 )
-reshape_refused_of shape order (Memory e) v refused = (refused.0, past_inline (length shape) refused.1)
+reshape_error_of shape order (Memory e) v failed = (failed.0, past_inline (length shape) failed.1)
 
 -- a count above `INLINE_AXES` is not at most that
 above_inline : (n : ℕ) → INLINE_AXES < n → nat_lt INLINE_AXES n ≡ false → ⊥
 above_inline n above few = both_ways (nat_lt INLINE_AXES n) few (lt-ltb INLINE_AXES n above)
 
--- memory is not refused to a step that wants none
-not_refused : (view : View) (step : StepValue) → MayRefuseMemory view step → may_want_memory step ≡ false → ⊥
-not_refused view (SliceBy elems fit) refused few = above_inline (out_count elems) refused.1 few
-not_refused view (CollapseTo axis index) refused few = refused
-not_refused view (MergeInto take into) refused few = refused
-not_refused view (ReshapeTo shape order) refused few = above_inline (length shape) refused.1 few
-not_refused view (BroadcastTo shape) refused few = above_inline (length shape) refused.1 few
+-- no allocation fails of a step that makes none
+not_at_fault : (view : View) (step : StepValue) → MayLackMemory view step → may_want_memory step ≡ false → ⊥
+not_at_fault view (SliceBy elems fit) failed few = above_inline (out_count elems) failed.1 few
+not_at_fault view (CollapseTo axis index) failed few = failed
+not_at_fault view (MergeInto take into) failed few = failed
+not_at_fault view (ReshapeTo shape order) failed few = above_inline (length shape) failed.1 few
+not_at_fault view (BroadcastTo shape) failed few = above_inline (length shape) failed.1 few
 
 -- ---- a run that has come to one of its steps
 module _ (steps : List StepValue) (at : ℕ) (step : StepValue) (start left : View) (there : slice_get steps at ≡ Some step)
@@ -158,26 +158,26 @@ module _ (steps : List StepValue) (at : ℕ) (step : StepValue) (start left : Vi
   run_of_ended kind fault =
       let rest = drop-cons steps at step within ∙ ap (λ s. s ∷ drop (suc at) steps) item in
       let cut = sym (take-append-drop at steps) ∙ ap (λ part. take at steps ++ part) rest in
-      let ended = run_of_refused step (drop (suc at) steps) left fault in
+      let ended = run_of_fault step (drop (suc at) steps) left fault in
       ap (λ part. run_of part start) cut
       ∙ run_of_append (take at steps) (step ∷ drop (suc at) steps) start
       ∙ rw (before.fits, before.left, ended) refl
 
-  pub stopped : (fault : LayoutError) → IsRefusedBy left fault step → StopsAt steps start at fault left
-  stopped fault refused = record {
+  pub stopped : (fault : LayoutError) → IsStepError left fault step → StopsAt steps start at fault left
+  stopped fault failed = record {
     before = before;
     within = within;
-    refused = rw there refused;
+    failed = rw there failed;
     ended = λ kind is.
-        let known : IsRefusedBy left (Shape kind) step = subst (λ f. IsRefusedBy left f step) is refused in
+        let known : IsStepError left (Shape kind) step = subst (λ f. IsStepError left f step) is failed in
         let count = taken_of_no_fault (take at steps) start before.fits ∙ length-take-le at steps (omega (arith, within)) in
         rw (run_of_ended kind known.0) (refl, omega (arith, count), refl);
   }
 
   -- and a run without fault whose steps want no memory is not stopped
-  pub not_stopped : (fault : LayoutError) → IsRefusedBy left fault step → (run_of steps start).fault ≡ None → NeedNoMemory steps → ⊥
-  not_stopped (Shape kind) refused none few =
-      let e : Some kind ≡ None = rw (run_of_ended kind refused.0) at none in
+  pub not_stopped : (fault : LayoutError) → IsStepError left fault step → (run_of steps start).fault ≡ None → NeedNoMemory steps → ⊥
+  not_stopped (Shape kind) failed none few =
+      let e : Some kind ≡ None = rw (run_of_ended kind failed.0) at none in
       cc
-  not_stopped (Memory e) refused none few =
-      not_refused left step refused (subst (λ one. may_want_memory one ≡ false) item (few at step within))
+  not_stopped (Memory e) failed none few =
+      not_at_fault left step failed (subst (λ one. may_want_memory one ≡ false) item (few at step within))

@@ -1,4 +1,4 @@
--- Which layouts are accepted over data from a start that is given, and with which fault any other is refused.
+-- Which layouts are accepted over data from a start that is given, and which fault any other has.
 use Rattle.std.specs.Prelude.{◌≡◌, ℕ, ◌+◌, ℤ, pos, negsuc, Bool, ◌||◌, nat_le, nat_lt, Option, Some, None}
 use Rattle.std.specs.Prelude.{if◌then◌else◌, List, [], ◌∷◌, refl}
 use Rattle.std.specs.Option.{option_or}
@@ -6,8 +6,8 @@ use Rattle.nd_base.specs.declared.error.ErrorKind.{ErrorKind}
 use Rattle.nd_base.specs.declared.error.ErrorKind.TheVariants.{IncompatibleLayout, OutOfBounds, Unsupported, Overflow}
 use Rattle.nd_base.specs.Size.{is_empty, limit}
 use Rattle.nd_base.specs.Span.{low_span, high_span}
-use Rattle.nd_shape.specs.declared.checks.CanIndexCheckMode.{CanIndexCheckMode}
-use Rattle.nd_shape.specs.declared.checks.CanIndexCheckMode.TheVariants.{OwnedMutable, ReadOnly}
+use Rattle.nd_shape.specs.declared.acceptance.CanIndexCheckMode.{CanIndexCheckMode}
+use Rattle.nd_shape.specs.declared.acceptance.CanIndexCheckMode.TheVariants.{OwnedMutable, ReadOnly}
 use Rattle.nd_shape.specs.Acceptance.{size_fault, may_share}
 
 -- with its first index at start, a layout reaches below data of len elements, past the greatest place or past the data; one without

@@ -1,4 +1,4 @@
--- What broadcasting to a shape makes of a view, and which shapes are refused.
+-- What broadcasting to a shape makes of a view, and which shapes fail.
 use Rattle.std.specs.Prelude.{◌≡◌, ℕ, ◌-◌, ◌≤◌, ◌==◌, ℤ, pos, negsuc, Bool, false, not, nat_lt, nat_eq, Option, Some, None, if◌then◌else◌}
 use Rattle.std.specs.Prelude.{List, [], ◌∷◌, ◌++◌, length, drop, replicate, is_some, refl}
 use Rattle.std.proofs.Common.{ap}
@@ -26,7 +26,7 @@ abbrev pub broadcast_fault : List ℕ → List ℕ → Option ErrorKind
 broadcast_fault shape view_shape =
     if not (takes_in shape view_shape) then Some IncompatibleShape else if nat_lt limit (nonzero_size shape) then Some Overflow else None
 
--- the strides of axes that the view has already: 0 where the length is another one now, so that all entries are the one of the view
+-- the strides of axes that the view has already: 0 where the length is another one now, so that all coordinates are the one of the view
 abbrev pub stretched_strides : List ℕ → List ℕ → List ℤ → List ℤ
 stretched_strides lens others [] = []
 stretched_strides [] others (stride ∷ strides) = []
@@ -50,15 +50,15 @@ broadcast_of shape view = record {
   strides = broadcast_strides shape view.shape view.strides;
 }
 
--- the entries on axes that the view has already: an axis of one entry has only the first
-abbrev pub entries_within : List ℕ → List ℕ → List ℕ
-entries_within [] entries = []
-entries_within (len ∷ lens) [] = []
-entries_within (len ∷ lens) (entry ∷ entries) = (if len == 1 then 0 else entry) ∷ entries_within lens entries
+-- the coordinates on axes that the view has already: an axis of length 1 has only the first
+abbrev pub coordinates_within : List ℕ → List ℕ → List ℕ
+coordinates_within [] coordinates = []
+coordinates_within (len ∷ lens) [] = []
+coordinates_within (len ∷ lens) (coordinate ∷ coordinates) = (if len == 1 then 0 else coordinate) ∷ coordinates_within lens coordinates
 
--- which index of a view of a shape an index of the broadcast view stands for: the entries of new axes, which come first, are dropped
+-- which index of a view of a shape an index of the broadcast view stands for: the coordinates of new axes, which come first, are dropped
 abbrev pub broadcast_source : List ℕ → List ℕ → List ℕ
-broadcast_source view_shape entries = entries_within view_shape (drop (new_axes entries view_shape) entries)
+broadcast_source view_shape coordinates = coordinates_within view_shape (drop (new_axes coordinates view_shape) coordinates)
 
 -- examples
 one_row_three_times : broadcast_of (2 ∷ 3 ∷ 4 ∷ []) (record { start = 5; shape = 1 ∷ 4 ∷ []; strides = pos 9 ∷ negsuc 0 ∷ [] })
@@ -68,8 +68,8 @@ one_row_three_times = refl
 axis_that_stays_keeps_its_stride : broadcast_strides (1 ∷ 3 ∷ []) (1 ∷ 1 ∷ []) (pos 9 ∷ pos 7 ∷ []) ≡ pos 9 ∷ pos 0 ∷ []
 axis_that_stays_keeps_its_stride = refl
 
-to_no_entry : broadcast_strides (0 ∷ 3 ∷ []) (1 ∷ 3 ∷ []) (pos 3 ∷ pos 1 ∷ []) ≡ pos 0 ∷ pos 1 ∷ []
-to_no_entry = refl
+to_no_coordinate : broadcast_strides (0 ∷ 3 ∷ []) (1 ∷ 3 ∷ []) (pos 3 ∷ pos 1 ∷ []) ≡ pos 0 ∷ pos 1 ∷ []
+to_no_coordinate = refl
 
 source_in_one_row : broadcast_source (1 ∷ 4 ∷ []) (1 ∷ 2 ∷ 3 ∷ []) ≡ 0 ∷ 3 ∷ []
 source_in_one_row = refl
@@ -95,8 +95,8 @@ too_many_of_a_shape_that_does_not_fit = refl
 too_many_beside_none : broadcast_fault (0 ∷ 9223372036854775808 ∷ []) (1 ∷ 1 ∷ []) ≡ Some Overflow
 too_many_beside_none = refl
 
-one_entry_to_none : broadcast_fault (0 ∷ 3 ∷ []) (1 ∷ 3 ∷ []) ≡ None
-one_entry_to_none = refl
+one_coordinate_to_none : broadcast_fault (0 ∷ 3 ∷ []) (1 ∷ 3 ∷ []) ≡ None
+one_coordinate_to_none = refl
 
 two_new_axes : broadcast_fault (2 ∷ 2 ∷ 3 ∷ []) (3 ∷ []) ≡ None
 two_new_axes = refl

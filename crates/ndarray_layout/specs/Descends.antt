@@ -11,13 +11,13 @@ use Rattle.ndarray_layout.specs.View.{View, IsView, LiesWithin, place_at}
 pub record IsViewOf (source : List ℕ → List ℕ) (old new : View) : Type 0 where
   pub is_view : IsView new
   pub places : KeepsPlaces source old new
-  pub inside : (len : ℕ) → LiesWithin len old → LiesWithin len new
+  pub in_bounds : (len : ℕ) → LiesWithin len old → LiesWithin len new
 
 -- and its places are distinct where the other's are
 pub record Descends (source : List ℕ → List ℕ) (old new : View) : Type 0 where
   pub is_view : IsView new
   pub places : KeepsPlaces source old new
-  pub inside : (len : ℕ) → LiesWithin len old → LiesWithin len new
+  pub in_bounds : (len : ℕ) → LiesWithin len old → LiesWithin len new
   pub distinct : HasDistinctPlaces old → HasDistinctPlaces new
 
 -- examples
@@ -31,7 +31,7 @@ last_of_the_second : IsViewOf (drop 1) row row_twice → place_at row_twice (1 �
 last_of_the_second twice = (twice.places (1 ∷ 2 ∷ []) refl).1
 
 from_itself : IsView row → Descends (λ index. index) row row
-from_itself v = record { is_view = v; places = λ index here. (here, refl); inside = λ len within. within; distinct = λ distinct. distinct }
+from_itself v = record { is_view = v; places = λ index here. (here, refl); in_bounds = λ len within. within; distinct = λ distinct. distinct }
 
 -- the two rows are one in the data
 both_rows_are_one : Descends (drop 1) row row_twice → HasDistinctPlaces row → ⊥

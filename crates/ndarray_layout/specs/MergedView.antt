@@ -1,4 +1,4 @@
--- What merging an axis into another makes of a view, and where that is refused.
+-- What merging an axis into another makes of a view, and where that fails.
 use Rattle.std.specs.Prelude.{◌≡◌, ℕ, ◌/◌, ◌%◌, ◌==◌, pos, negsuc, Bool, not, ◌&&◌, nat_lt, nat_le, Option, Some, None, if◌then◌else◌}
 use Rattle.std.specs.Prelude.{List, [], ◌∷◌, length, slice_index, slice_index_or, slice_set, refl}
 use Rattle.std.specs.Option.{option_or}
@@ -12,7 +12,7 @@ abbrev pub axes_fault : List ℕ → ℕ → ℕ → Option ErrorKind
 axes_fault shape take into =
     if not (nat_lt take (length shape) && nat_lt into (length shape)) then Some OutOfBounds else if take == into then Some Unsupported else None
 
--- some stride has every entry of both axes
+-- some stride has every coordinate of both axes
 abbrev pub HasMergedStride : ℕ → ℕ → View → Type 0
 HasMergedStride take into view =
     MergeFits
@@ -21,7 +21,7 @@ HasMergedStride take into view =
     (slice_index view.shape into)
     (slice_index_or view.strides into (pos 0))
 
--- whether some stride has every entry of both axes
+-- whether some stride has every coordinate of both axes
 abbrev pub has_merged_stride : ℕ → ℕ → View → Bool
 has_merged_stride take into view =
     merge_fits
@@ -30,16 +30,16 @@ has_merged_stride take into view =
     (slice_index view.shape into)
     (slice_index_or view.strides into (pos 0))
 
--- the fault where the axes have to be merged: that of the axes, and then that no stride has the entries of both
+-- the fault where the axes have to be merged: that of the axes, and then that no stride has the coordinates of both
 abbrev pub merge_fault : ℕ → ℕ → View → Option ErrorKind
 merge_fault take into view = option_or (axes_fault view.shape take into) (if has_merged_stride take into view then None else Some IncompatibleLayout)
 
--- the axis whose stride has the entries of both: the one merged into, or the one taken where only that has more than one entry
+-- the axis whose stride has the coordinates of both: the one merged into, or the one taken where only that has more than one coordinate
 abbrev pub lasting_axis : ℕ → ℕ → List ℕ → ℕ
 lasting_axis take into shape = if nat_lt 1 (slice_index shape take) && nat_le (slice_index shape into) 1 then take else into
 
--- a view with the axis `take` merged into the axis `into`: `into` has all entries and the stride that has them, `take` keeps one
--- entry, or none where there are none; the start stays
+-- a view with the axis `take` merged into the axis `into`: `into` has all coordinates and the stride that has them, `take` keeps one
+-- coordinate, or none where there are none; the start stays
 abbrev pub merge_of : ℕ → ℕ → View → View
 merge_of take into view = record {
   start = view.start;
@@ -47,14 +47,14 @@ merge_of take into view = record {
   strides = slice_set view.strides into (slice_index_or view.strides (lasting_axis take into view.shape) (pos 0));
 }
 
--- which index of the view an index that is left stands for: the entry on the axis merged into is divided by the length of that axis;
+-- which index of the view an index that is left stands for: the coordinate on the axis merged into is divided by the length of that axis;
 -- the axis taken gets the quotient, the axis merged into the rest, and the others stay
 abbrev pub merge_source : ℕ → ℕ → List ℕ → List ℕ → List ℕ
-merge_source take into shape entries =
+merge_source take into shape coordinates =
     slice_set
-    (slice_set entries take (slice_index entries into / slice_index shape into))
+    (slice_set coordinates take (slice_index coordinates into / slice_index shape into))
     into
-    (slice_index entries into % slice_index shape into)
+    (slice_index coordinates into % slice_index shape into)
 
 -- examples
 rows_into_columns : merge_of 0 1 (record { start = 4; shape = 3 ∷ 2 ∷ []; strides = pos 2 ∷ pos 1 ∷ [] })
@@ -69,8 +69,8 @@ one_row_into_no_column : merge_of 0 1 (record { start = 0; shape = 1 ∷ 0 ∷ [
     ≡ record { start = 0; shape = 0 ∷ 0 ∷ []; strides = pos 5 ∷ pos 3 ∷ [] }
 one_row_into_no_column = refl
 
-source_of_entry_five : merge_source 0 1 (3 ∷ 2 ∷ []) (0 ∷ 5 ∷ []) ≡ 2 ∷ 1 ∷ []
-source_of_entry_five = refl
+source_of_coordinate_five : merge_source 0 1 (3 ∷ 2 ∷ []) (0 ∷ 5 ∷ []) ≡ 2 ∷ 1 ∷ []
+source_of_coordinate_five = refl
 
 source_of_the_first_axis : merge_source 2 0 (2 ∷ 4 ∷ 3 ∷ []) (5 ∷ 3 ∷ 0 ∷ []) ≡ 1 ∷ 3 ∷ 2 ∷ []
 source_of_the_first_axis = refl

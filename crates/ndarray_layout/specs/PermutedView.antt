@@ -1,4 +1,4 @@
--- What taking the axes in another order makes of a view, and where that is refused.
+-- What taking the axes in another order makes of a view, and where that fails.
 use Rattle.std.specs.List.{swap}
 use Rattle.std.specs.Prelude.{◌≡◌, ℕ, pos, negsuc, ◌&&◌, nat_lt, Option, Some, None, if◌then◌else◌, List, [], ◌∷◌, length, reverse, refl}
 use Rattle.nd_base.specs.declared.error.ErrorKind.{ErrorKind}

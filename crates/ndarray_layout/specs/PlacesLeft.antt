@@ -2,7 +2,7 @@
 use Rattle.std.specs.Prelude.{◌≡◌, ℕ, ◌+◌, ◌<◌, ◌≤◌, ◌^◌, ℤ, pos, negsuc, List, [], ◌∷◌, ◌++◌, drop, length, refl}
 use Rattle.std.proofs.lemmas.Bool.{ltb-true}
 use Rattle.std.specs.List.{All}
-use Rattle.nd_base.specs.Inside.{IsInside}
+use Rattle.nd_base.specs.Bounds.{IsInBounds}
 use Rattle.nd_base.specs.Size.{limit}
 use Rattle.ndarray_layout.specs.declared.strided.rows.Row.{Row}
 use Rattle.ndarray_layout.specs.Rows.{row_places, rows_places}
@@ -14,7 +14,7 @@ places_after place stride left rows = drop 1 (row_places place stride (left + 1)
 -- these are left: each is a number of an `isize`, no row is empty, and so is how many they are
 pub record ArePlacesLeft (place : ℕ) (stride : ℤ) (left : ℕ) (rows : List Row) : Type 0 where
   pub here : place ≤ limit
-  pub inside : All (IsInside (2 ^ 63)) (places_after place stride left rows)
+  pub in_bounds : All (IsInBounds (2 ^ 63)) (places_after place stride left rows)
   pub some : All (λ row. 0 < row.len) rows
   pub fits : length (places_after place stride left rows) ≤ limit
 
@@ -26,4 +26,4 @@ at_the_end : places_after 3 (pos 1) 0 [] ≡ []
 at_the_end = refl
 
 row_below_0 : ArePlacesLeft 0 (negsuc 0) 1 [] → ⊥
-row_below_0 left = left.inside 0 (pos 0) (ltb-true 0 1 refl)
+row_below_0 left = left.in_bounds 0 (pos 0) (ltb-true 0 1 refl)

@@ -1,4 +1,4 @@
--- What reading a view's places along another shape makes of it, and where that is refused.
+-- What reading a view's places along another shape makes of a view, and where that fails.
 use Rattle.std.specs.Prelude.{◌≡◌, ℕ, ◌≤◌, ℤ, pos, negsuc, ◌&&◌, ◌||◌, nat_lt, Option, Some, None, if◌then◌else◌, List, [], ◌∷◌, length, replicate, refl}
 use Rattle.std.proofs.Math.Arith.{le→nltb}
 use Rattle.std.proofs.Math.Dec.{lit≤}
@@ -23,8 +23,8 @@ ReshapeFits order shape view = (nonzero_size shape ≤ limit) × ((strides : Lis
 
 -- the fault of reading a view as one of a shape: the product of its lengths that are not 0 first; then one of the two shapes
 -- alone has no index; then that of the strides. Where neither shape has an index, any strides do
-abbrev pub reshape_refusal : Order → List ℕ → View → Option ErrorKind
-reshape_refusal order shape view =
+abbrev pub view_reshape_fault : Order → List ℕ → View → Option ErrorKind
+view_reshape_fault order shape view =
     if nat_lt limit (nonzero_size shape) then Some Overflow
     else if is_empty view.shape && is_empty shape then None
     else if is_empty view.shape || is_empty shape then Some IncompatibleShape
@@ -34,11 +34,11 @@ reshape_refusal order shape view =
 abbrev pub MayAskForMemory : List ℕ → View → Type 0
 MayAskForMemory shape view = (nonzero_size shape ≤ limit) × (is_empty shape ≡ is_empty view.shape)
 
--- why a view isn't read as one of a shape, whose type fixes such a count of axes, if any: its fault, or that memory was refused,
+-- why a view isn't read as one of a shape, whose type fixes such a count of axes, if any: its fault, or that memory is lacking,
 -- where the count wants any
-abbrev pub IsReshapeRefusal : Option ℕ → Order → List ℕ → View → LayoutError → Type 0
-IsReshapeRefusal fixed order shape view (Shape kind) = reshape_refusal order shape view ≡ Some kind
-IsReshapeRefusal fixed order shape view (Memory e) = MayAskForMemory shape view × ¬ NeedsNoMemory fixed (length shape)
+abbrev pub IsReshapeError : Option ℕ → Order → List ℕ → View → LayoutError → Type 0
+IsReshapeError fixed order shape view (Shape kind) = view_reshape_fault order shape view ≡ Some kind
+IsReshapeError fixed order shape view (Memory e) = MayAskForMemory shape view × ¬ NeedsNoMemory fixed (length shape)
 
 -- the strides of a view that is read as one of a shape: 0 where there is no index
 abbrev pub reshaped_strides : Order → List ℕ → View → List ℤ
@@ -64,7 +64,7 @@ two_by_three = record { start = 0; shape = 2 ∷ 3 ∷ []; strides = pos 3 ∷ p
 three_rows : reshape_of RowMajor (3 ∷ 2 ∷ []) two_by_three ≡ record { start = 0; shape = 3 ∷ 2 ∷ []; strides = pos 2 ∷ pos 1 ∷ [] }
 three_rows = refl
 
-no_three_rows_by_columns : reshape_refusal ColumnMajor (3 ∷ 2 ∷ []) two_by_three ≡ Some IncompatibleLayout
+no_three_rows_by_columns : view_reshape_fault ColumnMajor (3 ∷ 2 ∷ []) two_by_three ≡ Some IncompatibleLayout
 no_three_rows_by_columns = refl
 
 back_in_pairs : reshape_of ColumnMajor (2 ∷ 2 ∷ []) (record { start = 3; shape = 4 ∷ []; strides = negsuc 0 ∷ [] })
@@ -74,16 +74,16 @@ back_in_pairs = refl
 third_of_three_rows : reshape_source RowMajor (2 ∷ 3 ∷ []) (3 ∷ 2 ∷ []) (2 ∷ 0 ∷ []) ≡ 1 ∷ 1 ∷ []
 third_of_three_rows = refl
 
-too_large : reshape_refusal RowMajor (9223372036854775807 ∷ 2 ∷ []) two_by_three ≡ Some Overflow
+too_large : view_reshape_fault RowMajor (9223372036854775807 ∷ 2 ∷ []) two_by_three ≡ Some Overflow
 too_large = refl
 
-too_large_without_an_index : reshape_refusal RowMajor (9223372036854775807 ∷ 0 ∷ 2 ∷ []) two_by_three ≡ Some Overflow
+too_large_without_an_index : view_reshape_fault RowMajor (9223372036854775807 ∷ 0 ∷ 2 ∷ []) two_by_three ≡ Some Overflow
 too_large_without_an_index = refl
 
-no_index_of_six : reshape_refusal RowMajor (0 ∷ 6 ∷ []) two_by_three ≡ Some IncompatibleShape
+no_index_of_six : view_reshape_fault RowMajor (0 ∷ 6 ∷ []) two_by_three ≡ Some IncompatibleShape
 no_index_of_six = refl
 
-four_of_six : reshape_refusal RowMajor (4 ∷ []) two_by_three ≡ Some IncompatibleShape
+four_of_six : view_reshape_fault RowMajor (4 ∷ []) two_by_three ≡ Some IncompatibleShape
 four_of_six = refl
 
 abbrev none_by_two : View
@@ -92,17 +92,17 @@ none_by_two = record { start = 0; shape = 0 ∷ 2 ∷ []; strides = pos 7 ∷ po
 another_without_an_index : reshape_of RowMajor (5 ∷ 0 ∷ []) none_by_two ≡ record { start = 0; shape = 5 ∷ 0 ∷ []; strides = pos 0 ∷ pos 0 ∷ [] }
 another_without_an_index = refl
 
-is_not_refused : reshape_refusal RowMajor (5 ∷ 0 ∷ []) none_by_two ≡ None
-is_not_refused = refl
+is_no_error : view_reshape_fault RowMajor (5 ∷ 0 ∷ []) none_by_two ≡ None
+is_no_error = refl
 
-one_of_none : reshape_refusal RowMajor (1 ∷ []) none_by_two ≡ Some IncompatibleShape
+one_of_none : view_reshape_fault RowMajor (1 ∷ []) none_by_two ≡ Some IncompatibleShape
 one_of_none = refl
 
 size_past_the_limit : ReshapeFits RowMajor (9223372036854775807 ∷ 2 ∷ []) two_by_three → ⊥
 size_past_the_limit fits = le→nltb limit 18446744073709551614 fits.0
 
-refused_by_columns : IsReshapeRefusal (Some 2) ColumnMajor (3 ∷ 2 ∷ []) two_by_three (Shape IncompatibleLayout)
-refused_by_columns = refl
+error_by_columns : IsReshapeError (Some 2) ColumnMajor (3 ∷ 2 ∷ []) two_by_three (Shape IncompatibleLayout)
+error_by_columns = refl
 
 no_memory_for_too_many : MayAskForMemory (9223372036854775807 ∷ 2 ∷ []) two_by_three → ⊥
 no_memory_for_too_many asks = le→nltb limit 18446744073709551614 asks.0

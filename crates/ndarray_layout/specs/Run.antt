@@ -12,7 +12,7 @@ use Rattle.nd_base.specs.ShapeFault.{shape_fault}
 use Rattle.ndarray_layout.specs.Descends.{IsViewOf}
 use Rattle.ndarray_layout.specs.DistinctPlaces.{HasDistinctPlaces}
 use Rattle.ndarray_layout.specs.Step.{StepValue, CollapseTo, MergeInto, BroadcastTo, step_fault, view_after, source_index, may_want_memory, is_broadcast}
-use Rattle.ndarray_layout.specs.StepFits.{StepFits, MayRefuseMemory}
+use Rattle.ndarray_layout.specs.StepFits.{StepFits, MayLackMemory}
 use Rattle.ndarray_layout.specs.View.{View}
 
 -- what became of a view: how many steps were taken, the view that they left, which index of the first view an index of
@@ -47,10 +47,10 @@ AllFit (step ∷ steps) view = StepFits view step × AllFit steps (view_after vi
 abbrev pub NeedNoMemory : List StepValue → Type 0
 NeedNoMemory steps = All (λ step. may_want_memory step ≡ false) steps
 
--- why a step is not taken: it doesn't fit, for this fault, or memory was refused to a step that may want it
-abbrev pub IsRefusedBy : View → LayoutError → StepValue → Type 0
-IsRefusedBy view (Shape kind) step = (step_fault view step ≡ Some kind) × ¬ StepFits view step
-IsRefusedBy view (Memory e) step = MayRefuseMemory view step
+-- why a step is not taken: it doesn't fit, for this fault, or memory is lacking to a step that may want it
+abbrev pub IsStepError : View → LayoutError → StepValue → Type 0
+IsStepError view (Shape kind) step = (step_fault view step ≡ Some kind) × ¬ StepFits view step
+IsStepError view (Memory e) step = MayLackMemory view step
 
 -- each of the steps fits the view that those before it leave, and the last one leaves this view: one of the same data, whose indices
 -- lie where their sources do; without a broadcast its places are distinct where those of the first view are
@@ -65,7 +65,7 @@ pub record Leave (steps : List StepValue) (start view : View) : Type 0 where
 pub record StopsAt (steps : List StepValue) (start : View) (at : ℕ) (fault : LayoutError) (view : View) : Type 0 where
   pub before : Leave (take at steps) start view
   pub within : at < length steps
-  pub refused : IsSomeAnd (slice_get steps at) (IsRefusedBy view fault)
+  pub failed : IsSomeAnd (slice_get steps at) (IsStepError view fault)
   pub ended : (kind : ErrorKind) → fault ≡ Shape kind →
       let run = run_of steps start in (run.fault ≡ Some kind) × (run.taken ≡ at) × (run.view ≡ view)
 
@@ -93,8 +93,8 @@ and_left_a_row :
     ≡ record { start = 3; shape = 1 ∷ 3 ∷ []; strides = pos 3 ∷ pos 1 ∷ [] }
 and_left_a_row = refl
 
-second_entry_of_one : AllFit (CollapseTo 0 1 ∷ CollapseTo 0 1 ∷ []) two_by_three → ⊥
-second_entry_of_one fits = lt→ltb 1 1 fits.1.0.1
+second_coordinate_of_one : AllFit (CollapseTo 0 1 ∷ CollapseTo 0 1 ∷ []) two_by_three → ⊥
+second_coordinate_of_one fits = lt→ltb 1 1 fits.1.0.1
 
 five_axes_may_need_memory : NeedNoMemory (CollapseTo 0 1 ∷ BroadcastTo (2 ∷ 1 ∷ 1 ∷ 2 ∷ 3 ∷ []) ∷ []) → ⊥
 five_axes_may_need_memory none = both_ways true (none 1 (CollapseTo 0 0) (lit< tt)) refl
@@ -102,17 +102,17 @@ five_axes_may_need_memory none = both_ways true (none 1 (CollapseTo 0 0) (lit< t
 abbrev second_row : View
 second_row = record { start = 3; shape = 1 ∷ 3 ∷ []; strides = pos 3 ∷ pos 1 ∷ [] }
 
-refused_a_second_entry : IsRefusedBy second_row (Shape OutOfBounds) (CollapseTo 0 1)
-refused_a_second_entry = (refl, λ fits. lt→ltb 1 1 fits.1)
+error_of_a_second_coordinate : IsStepError second_row (Shape OutOfBounds) (CollapseTo 0 1)
+error_of_a_second_coordinate = (refl, λ fits. lt→ltb 1 1 fits.1)
 
-no_refusal_of_an_entry : IsRefusedBy two_by_three (Shape OutOfBounds) (CollapseTo 0 1) → ⊥
-no_refusal_of_an_entry refused = refused.1 (lit< tt, lit< tt)
+no_error_of_a_coordinate : IsStepError two_by_three (Shape OutOfBounds) (CollapseTo 0 1) → ⊥
+no_error_of_a_coordinate failed = failed.1 (lit< tt, lit< tt)
 
 stops_at_the_second : Leave (CollapseTo 0 1 ∷ []) two_by_three second_row → StopsAt (CollapseTo 0 1 ∷ CollapseTo 0 1 ∷ []) two_by_three 1 (Shape OutOfBounds) second_row
 stops_at_the_second leave = record {
   before = leave;
   within = lit< tt;
-  refused = refused_a_second_entry;
+  failed = error_of_a_second_coordinate;
   ended = λ kind is. (ap (λ fault. shape_fault {X = View} (Err fault)) is, refl, refl);
 }
 
@@ -121,4 +121,4 @@ leaves_no_other_row : Leave (CollapseTo 0 0 ∷ []) two_by_three second_row → 
 leaves_no_other_row leave = both_ways (nat_eq 0 3) refl (eq-eqb 0 3 (ap (λ (view : View). view.start) leave.left))
 
 not_at_the_first : StopsAt (CollapseTo 0 1 ∷ CollapseTo 0 1 ∷ []) two_by_three 0 (Shape OutOfBounds) two_by_three → ⊥
-not_at_the_first stops = no_refusal_of_an_entry stops.refused
+not_at_the_first stops = no_error_of_a_coordinate stops.failed

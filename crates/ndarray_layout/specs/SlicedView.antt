@@ -1,4 +1,4 @@
--- What slicing makes of a view, and which slices are refused.
+-- What slicing makes of a view, and which slices fail.
 use Rattle.std.specs.Prelude.{◌≡◌, ℕ, ℤ, pos, negsuc, ◌+ℤ◌, ◌==◌, Option, Some, None, if◌then◌else◌, List, [], ◌∷◌, refl}
 use Rattle.nd_base.specs.declared.error.ErrorKind.{ErrorKind}
 use Rattle.nd_base.specs.declared.error.ErrorKind.TheVariants.{IncompatibleShape, OutOfBounds}
@@ -7,7 +7,7 @@ use Rattle.nd_slice.specs.declared.fit.Fit.{Fit}
 use Rattle.nd_slice.specs.declared.fit.Fit.TheVariants.{Strict, Clamp}
 use Rattle.nd_slice.specs.declared.elem.SliceInfoElem.{SliceInfoElem}
 use Rattle.nd_slice.specs.declared.elem.SliceInfoElem.TheVariants as elem
-use Rattle.nd_slice.specs.ArgumentFault.{out_count, argument_fault}
+use Rattle.nd_slice.specs.SliceFault.{out_count, argument_fault}
 use Rattle.nd_slice.specs.Sliced.{sliced_shape, sliced_strides, sliced_offset}
 use Rattle.ndarray_layout.specs.View.{View}
 
@@ -24,9 +24,9 @@ slice_of fit elems view = record {
 }
 
 -- the fault of slicing a shape into a type that may fix a count of axes: that the argument leaves more or fewer, then that of the argument
-abbrev pub slice_refusal : Fit → Option ℕ → List ℕ → List SliceInfoElem → Option ErrorKind
-slice_refusal fit None shape elems = argument_fault fit shape elems
-slice_refusal fit (Some count) shape elems = if out_count elems == count then argument_fault fit shape elems else Some IncompatibleShape
+abbrev pub view_slice_fault : Fit → Option ℕ → List ℕ → List SliceInfoElem → Option ErrorKind
+view_slice_fault fit None shape elems = argument_fault fit shape elems
+view_slice_fault fit (Some count) shape elems = if out_count elems == count then argument_fault fit shape elems else Some IncompatibleShape
 
 -- examples
 start_of_the_last_row : sliced_start Strict (elem.Index (negsuc 0) ∷ []) (record { start = 7; shape = 2 ∷ []; strides = pos 3 ∷ [] }) ≡ pos 10
@@ -49,17 +49,17 @@ last_row_with_new_axis :
     ≡ record { start = 3; shape = 1 ∷ 3 ∷ []; strides = pos 0 ∷ pos 1 ∷ [] }
 last_row_with_new_axis = refl
 
-one_for_two_axes : slice_refusal Strict (Some 1) (2 ∷ 3 ∷ []) (elem.Slice (pos 1) None (pos 1) ∷ []) ≡ Some IncompatibleShape
+one_for_two_axes : view_slice_fault Strict (Some 1) (2 ∷ 3 ∷ []) (elem.Slice (pos 1) None (pos 1) ∷ []) ≡ Some IncompatibleShape
 one_for_two_axes = refl
 
-two_axes_for_one : slice_refusal Strict (Some 1) (2 ∷ 3 ∷ []) (elem.Slice (pos 9) None (pos 1) ∷ elem.Slice (pos 0) None (pos 1) ∷ []) ≡ Some IncompatibleShape
+two_axes_for_one : view_slice_fault Strict (Some 1) (2 ∷ 3 ∷ []) (elem.Slice (pos 9) None (pos 1) ∷ elem.Slice (pos 0) None (pos 1) ∷ []) ≡ Some IncompatibleShape
 two_axes_for_one = refl
 
-past_the_end : slice_refusal Strict (Some 1) (2 ∷ 3 ∷ []) (elem.Index (pos 1) ∷ elem.Slice (pos 4) None (pos 1) ∷ []) ≡ Some OutOfBounds
+past_the_end : view_slice_fault Strict (Some 1) (2 ∷ 3 ∷ []) (elem.Index (pos 1) ∷ elem.Slice (pos 4) None (pos 1) ∷ []) ≡ Some OutOfBounds
 past_the_end = refl
 
-clamped_past_the_end : slice_refusal Clamp (Some 1) (2 ∷ 3 ∷ []) (elem.Index (pos 1) ∷ elem.Slice (pos 4) None (pos 1) ∷ []) ≡ None
+clamped_past_the_end : view_slice_fault Clamp (Some 1) (2 ∷ 3 ∷ []) (elem.Index (pos 1) ∷ elem.Slice (pos 4) None (pos 1) ∷ []) ≡ None
 clamped_past_the_end = refl
 
-index_past_the_end : slice_refusal Clamp None (2 ∷ 3 ∷ []) (elem.Index (pos 2) ∷ elem.Slice (pos 4) None (pos 1) ∷ []) ≡ Some OutOfBounds
+index_past_the_end : view_slice_fault Clamp None (2 ∷ 3 ∷ []) (elem.Index (pos 2) ∷ elem.Slice (pos 4) None (pos 1) ∷ []) ≡ Some OutOfBounds
 index_past_the_end = refl

@@ -11,14 +11,14 @@ use Rattle.nd_slice.specs.declared.fit.Fit.TheVariants.{Strict}
 use Rattle.nd_slice.specs.declared.elem.SliceInfoElem.{SliceInfoElem}
 use Rattle.nd_slice.specs.declared.elem.SliceInfoElem.TheVariants as elem
 use Rattle.nd_slice.specs.Selected.{selected}
-use Rattle.nd_slice.specs.ArgumentFault.{out_count}
+use Rattle.nd_slice.specs.SliceFault.{out_count}
 use Rattle.ndarray_layout.specs.declared.runs.Step.{Step}
 use Rattle.ndarray_layout.specs.declared.runs.Step.TheVariants as step
 use Rattle.ndarray_layout.specs.BroadcastView.{broadcast_fault, broadcast_of, broadcast_source}
-use Rattle.ndarray_layout.specs.ReshapedView.{reshape_of, reshape_refusal, reshape_source}
+use Rattle.ndarray_layout.specs.ReshapedView.{reshape_of, reshape_source, view_reshape_fault}
 use Rattle.ndarray_layout.specs.CollapsedView.{collapse_fault, collapse_of, collapse_source}
 use Rattle.ndarray_layout.specs.MergedView.{merge_fault, merge_of, merge_source}
-use Rattle.ndarray_layout.specs.SlicedView.{slice_of, slice_refusal}
+use Rattle.ndarray_layout.specs.SlicedView.{slice_of, view_slice_fault}
 use Rattle.ndarray_layout.specs.View.{View}
 
 -- a step, without where it lies in memory
@@ -38,10 +38,10 @@ step_value (step.Broadcast dim) = BroadcastTo (lengths dim)
 
 -- the fault of a step that doesn't fit a view
 abbrev pub step_fault : View → StepValue → Option ErrorKind
-step_fault view (SliceBy elems fit) = slice_refusal fit None view.shape elems
+step_fault view (SliceBy elems fit) = view_slice_fault fit None view.shape elems
 step_fault view (CollapseTo axis index) = collapse_fault view.shape axis index
 step_fault view (MergeInto take into) = merge_fault take into view
-step_fault view (ReshapeTo shape order) = reshape_refusal order shape view
+step_fault view (ReshapeTo shape order) = view_reshape_fault order shape view
 step_fault view (BroadcastTo shape) = broadcast_fault shape view.shape
 
 -- what a step that fits makes of a view
@@ -68,7 +68,7 @@ may_want_memory (MergeInto take into) = false
 may_want_memory (ReshapeTo shape order) = nat_lt INLINE_AXES (length shape)
 may_want_memory (BroadcastTo shape) = nat_lt INLINE_AXES (length shape)
 
--- entries may stand for one and the same entry after a broadcast, and after no other step
+-- coordinates may stand for one and the same coordinate after a broadcast, and after no other step
 abbrev pub is_broadcast : StepValue → Bool
 is_broadcast (SliceBy elems fit) = false
 is_broadcast (CollapseTo axis index) = false

@@ -10,7 +10,7 @@ use Rattle.nd_base.specs.Signed.{all_signed}
 use Rattle.nd_base.specs.Size.{limit}
 use Rattle.nd_base.specs.Span.{low_span, high_span}
 use Rattle.nd_base.specs.ValidLayout.{IsValidLayout}
-use Rattle.nd_base.specs.Inside.{LiesInside}
+use Rattle.nd_base.specs.Bounds.{LiesInBounds}
 use Rattle.nd_base.specs.Place.{place, places}
 
 -- a shape with strides, and the place of the first index, which is the start
@@ -43,7 +43,7 @@ view_places order view = places order view.start view.shape view.strides
 
 -- each index has its place in data of len elements
 abbrev pub LiesWithin : ℕ → View → Type 0
-LiesWithin len view = LiesInside len view.start view.shape view.strides
+LiesWithin len view = LiesInBounds len view.start view.shape view.strides
 
 -- examples
 crossed : view_places RowMajor (record { start = 0; shape = 3 ∷ 2 ∷ []; strides = pos 2 ∷ pos 3 ∷ [] }) ≡ pos 0 ∷ pos 3 ∷ pos 2 ∷ pos 5 ∷ pos 4 ∷ pos 7 ∷ []

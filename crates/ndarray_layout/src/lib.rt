@@ -16,8 +16,8 @@ pub use nd_base::{
 };
 pub use nd_dim::{
     Dimension, Forward, IntoDimension, RemoveAxis, Reverse, Sequence, SequenceMut, ShapeArg,
-    default_strides, fortran_strides, incompatible_shapes, item, magnitude_at, new_dim, product,
-    step_by_columns, step_by_rows,
+    advance_column_major, advance_row_major, default_strides, fortran_strides, incompatible_shapes,
+    item, magnitude_at, new_dim, product,
 };
 
 // Layouts: acceptance, shapes and their builders, iterators over indices, common shapes, merges.
@@ -34,8 +34,8 @@ pub use nd_shape::{
 // Slices, and arguments of slices.
 pub use nd_slice::{
     AxisElems, AxisPicks, Fit, NewAxis, Slice, SliceArg, SliceElems, SliceInfo, SliceInfoElem,
-    abs_index, arith_seq_intersect, check_elems, check_slice, do_collapse_axis, do_slice,
-    elems_intersect, entry_of, extended_gcd, in_ndim_of, out_ndim_of, resolve_elem, resolve_slice,
+    abs_index, arith_seq_intersect, check_elems, check_slice, coordinate_of, do_collapse_axis,
+    do_slice, elems_intersect, extended_gcd, in_ndim_of, out_ndim_of, resolve_elem, resolve_slice,
     slice_min_max, slices_intersect, solve_linear_diophantine_eq, to_abs_slice,
 };
 

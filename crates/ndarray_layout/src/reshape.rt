@@ -6,11 +6,11 @@ ghost use Rattle.nd_base.specs.Size.{is_empty, nonzero_size, limit};
 ghost use Rattle.nd_base.specs.ValidLayout.{IsValidLayout};
 ghost use Rattle.ndarray_layout.specs.reshape.ForcedStrides.{forced_strides};
 ghost use Rattle.ndarray_layout.specs.reshape.Keeps.{Keeps, AgreeOnLonger};
-ghost use Rattle.ndarray_layout.specs.reshape.ReshapeFault.{reshape_fault, IsRefusedFor, IsOfShape};
+ghost use Rattle.ndarray_layout.specs.reshape.ReshapeFault.{reshape_fault, IsErrorFor, IsOfShape};
 
-mod walk;
+mod pass;
 
-use crate::reshape::walk::fill_reshaped;
+use crate::reshape::pass::fill_reshaped;
 use nd_base::{LayoutError, Lengths, Order};
 use std::alloc::Global;
 
@@ -50,7 +50,7 @@ pub fn reshape_dim<D: Lengths, E: Lengths>(
     requires to_fits { nonzero_size (E.list to.now) ≤ limit }
     ensures fits { OnOk result (reshape_fault order
         (D.list from.now) (all_signed (D.list strides.now)) (E.list to.now) ≡ None) }
-    ensures fault { IfErr result (λ e. IsRefusedFor (reshape_fault order
+    ensures fault { IfErr result (λ e. IsErrorFor (reshape_fault order
         (D.list from.now) (all_signed (D.list strides.now)) (E.list to.now)) e) }
     ensures memory { NeedsNoMemory E.NDIM (length (E.list to.now)) → IfErr result IsOfShape }
     ensures strides { IfOk result (λ others. all_signed (E.list others) ≡ forced_strides order

@@ -2,7 +2,7 @@
 ghost use Rattle.std.specs.Prelude.{◌≡◌, None, map, IfOk, IfErr, IsOk, OnErr, OnOk, false};
 ghost use Rattle.std.specs.Result.{result_err};
 ghost use Rattle.ndarray_layout.specs.MergedView.{merge_fault, merge_of};
-ghost use Rattle.ndarray_layout.specs.Run.{run_of, Leave, StopsAt, IsRefusedBy, NeedNoMemory};
+ghost use Rattle.ndarray_layout.specs.Run.{run_of, Leave, StopsAt, IsStepError, NeedNoMemory};
 ghost use Rattle.ndarray_layout.specs.Step.{may_want_memory, step_fault, step_value, view_after};
 ghost use Rattle.ndarray_layout.specs.View.{IsView};
 
@@ -67,7 +67,7 @@ fn step_to(view: &mut Strided<IxDyn>, next: Strided<IxDyn>)
 fn take_step(alloc: Global, view: &mut Strided<IxDyn>, step: &Step) -> Result<(), LayoutError>
     requires { IsView view.old }
     ensures fits { OnOk result (step_fault view.old (step_value step.now) ≡ None) }
-    ensures fault { IfErr result (λ e. IsRefusedBy view.old e (step_value step.now)) }
+    ensures fault { IfErr result (λ e. IsStepError view.old e (step_value step.now)) }
     ensures unchanged { OnErr result (view.new ≡ view.old) }
     ensures taken { OnOk result (view.new ≡ view_after view.old (step_value step.now)) }
     ensures memory { step_fault view.old (step_value step.now) ≡ None →

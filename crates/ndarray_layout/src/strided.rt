@@ -1,6 +1,7 @@
 //! Views of data: a shape and strides that were accepted, with the place of the first index.
 mod broadcasting;
 mod collapsing;
+mod intersecting;
 mod iterating;
 mod makers;
 mod merging;

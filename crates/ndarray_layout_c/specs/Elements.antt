@@ -39,8 +39,8 @@ range_to_the_end = refl
 range_with_an_end : elem_named (record { kind = pos 0; has_end = pos 1; start = pos 1; end = pos 9; step = pos 1 }) ≡ Slice (pos 1) (Some (pos 9)) (pos 1)
 range_with_an_end = refl
 
-one_entry : elem_named (record { kind = pos 1; has_end = pos 0; start = negsuc 0; end = pos 0; step = pos 0 }) ≡ Index (negsuc 0)
-one_entry = refl
+one_coordinate : elem_named (record { kind = pos 1; has_end = pos 0; start = negsuc 0; end = pos 0; step = pos 0 }) ≡ Index (negsuc 0)
+one_coordinate = refl
 
 no_fourth_kind : is_elem (record { kind = pos 3; has_end = pos 0; start = pos 0; end = pos 0; step = pos 0 }) ≡ false
 no_fourth_kind = refl

@@ -15,5 +15,5 @@ last = refl
 past : index_fault (2 ∷ 3 ∷ []) (2 ∷ 0 ∷ []) ≡ Some OutOfBounds
 past = refl
 
-one_entry_short : index_fault (2 ∷ 3 ∷ []) (1 ∷ []) ≡ Some OutOfBounds
-one_entry_short = refl
+one_coordinate_short : index_fault (2 ∷ 3 ∷ []) (1 ∷ []) ≡ Some OutOfBounds
+one_coordinate_short = refl

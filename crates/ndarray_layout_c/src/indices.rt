@@ -18,8 +18,8 @@ use crate::arguments::{answer_of, is_choice, order_named};
 use crate::lists::view_from;
 use crate::statuses::{BAD_ARGUMENT, OK, OUT_OF_BOUNDS, OUT_OF_MEMORY, status_of};
 use ndarray_layout::{
-    ErrorKind, IxDyn, LayoutError, Lengths, Order, Strided, from_kind, is_index, new_ixdyn,
-    product, step_by_columns, step_by_rows,
+    ErrorKind, IxDyn, LayoutError, Lengths, Order, Strided, advance_column_major,
+    advance_row_major, from_kind, is_index, new_ixdyn, product,
 };
 use std::alloc::Global;
 
@@ -30,8 +30,8 @@ fn step(shape: &[usize], index: &mut [usize], order: Order) -> bool
     ensures next { index.new ≡ index_after order shape.now index.old }
 {
     match order {
-        Order::RowMajor => step_by_rows(shape, index),
-        Order::ColumnMajor => step_by_columns(shape, index),
+        Order::RowMajor => advance_row_major(shape, index),
+        Order::ColumnMajor => advance_column_major(shape, index),
     }
 }
 
@@ -64,7 +64,7 @@ pub extern "C" fn nd_next_index(
 /// The place of an index of a layout.
 ///
 /// Errors: those of `view_from`, then `OutOfBounds` where the list is no index of the shape; out of memory, never for at most
-/// four entries.
+/// four items.
 fn place_of(
     alloc: Global,
     start: usize,

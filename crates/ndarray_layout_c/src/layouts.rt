@@ -8,7 +8,7 @@ ghost use Rattle.ndarray_layout.specs.Contiguous.{is_contiguous as is_contiguous
 ghost use Rattle.ndarray_layout.specs.Dim.{lengths};
 ghost use Rattle.ndarray_layout.specs.Lengths.{NeedsNoMemory};
 ghost use Rattle.ndarray_layout.specs.LayoutOrder.{LiesInOrder};
-ghost use Rattle.ndarray_layout.specs.OwnedRule.{meets_owned_rule};
+ghost use Rattle.ndarray_layout.specs.NoAlias.{satisfies_no_alias_rule};
 ghost use Rattle.ndarray_layout.specs.ShapeFault.{shape_fault};
 ghost use Rattle.ndarray_layout.specs.Signed.{all_signed};
 ghost use Rattle.ndarray_layout.specs.Size.{is_empty};
@@ -110,7 +110,7 @@ pub extern "C" fn nd_check_layout(
 pub extern "C" fn nd_has_overlap(shape: &[usize], strides: &[usize], answer: &mut i32) -> i32
     ensures status { result ≡ status_of (size_fault 1 shape.now (all_signed strides.now)) }
     ensures answer { result ≡ ok → answer.new ≡ (if not (is_empty shape.now)
-        && not (meets_owned_rule shape.now (all_signed strides.now)) then pos 1 else pos 0) }
+        && not (satisfies_no_alias_rule shape.now (all_signed strides.now)) then pos 1 else pos 0) }
     ensures unchanged { result ≢ ok → answer.new ≡ answer.old }
 {
     if let Err(error) = span_of_lengths(1, shape, strides) {

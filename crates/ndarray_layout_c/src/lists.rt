@@ -20,7 +20,7 @@ use std::alloc::Global;
 
 /// A shape and its strides, of which every sum fits.
 ///
-/// Errors: those of `span_of_lengths` for elements of one byte; out of memory, never for at most four entries.
+/// Errors: those of `span_of_lengths` for elements of one byte; out of memory, never for at most four items.
 pub(crate) fn layout(
     alloc: Global,
     shape: &[usize],
@@ -41,7 +41,7 @@ pub(crate) fn layout(
 
 /// The view of a layout from the lowest start that it can have.
 ///
-/// Errors: those of `Strided::new`; out of memory, never for at most four entries.
+/// Errors: those of `Strided::new`; out of memory, never for at most four items.
 pub(crate) fn view(
     alloc: Global,
     shape: &[usize],
@@ -60,7 +60,7 @@ pub(crate) fn view(
 
 /// The view of a layout from a start.
 ///
-/// Errors: those of `Strided::from_parts`; out of memory, never for at most four entries.
+/// Errors: those of `Strided::from_parts`; out of memory, never for at most four items.
 pub(crate) fn view_from(
     alloc: Global,
     start: usize,
@@ -88,7 +88,7 @@ pub(crate) fn view_from(
 
 /// The view of a shape by its own strides.
 ///
-/// Errors: those of `Strided::from_shape`; out of memory, never for at most four entries.
+/// Errors: those of `Strided::from_shape`; out of memory, never for at most four items.
 pub(crate) fn own_view(alloc: Global, shape: &[usize]) -> Result<Strided<IxDyn>, LayoutError>
     ensures fits { OnOk result (own_layout_fault shape.now ≡ None) }
     ensures fault { (kind : ErrorKind) → shape_fault result ≡ Some kind →

@@ -10,7 +10,7 @@ ghost use Rattle.ndarray_layout.specs.Lengths.{NeedsNoMemory};
 ghost use Rattle.ndarray_layout.specs.Merge.{MergeFits, merged_shape, merged_strides};
 ghost use Rattle.ndarray_layout.specs.MergedView.{axes_fault};
 ghost use Rattle.ndarray_layout.specs.PermutedView.{permute_fault, permuted_of};
-ghost use Rattle.ndarray_layout.specs.ReshapedView.{reshape_refusal, reshaped_strides};
+ghost use Rattle.ndarray_layout.specs.ReshapedView.{view_reshape_fault, reshaped_strides};
 ghost use Rattle.ndarray_layout.specs.ShapeFault.{shape_fault};
 ghost use Rattle.ndarray_layout.specs.Signed.{all_signed, signed};
 ghost use Rattle.ndarray_layout_c.specs.Codes.{is_choice, order_named};
@@ -64,7 +64,8 @@ pub extern "C" fn nd_common_shape(first: &[usize], second: &[usize], common: &mu
     }
 }
 
-/// Merges the axis `take` into the axis `into`, in place, where one stride has the entries of both, and writes whether it did.
+/// Merges the axis `take` into the axis `into`, in place, where one stride has the coordinates of both, and writes
+/// whether it did.
 #[unsafe(no_mangle)]
 pub extern "C" fn nd_merge_axes(
     shape: &mut [usize],
@@ -104,7 +105,7 @@ pub extern "C" fn nd_merge_axes(
 
 /// A layout read as one of a shape.
 ///
-/// Errors: those of `view`, then those of `Strided::broadcast`; out of memory, never for at most four entries.
+/// Errors: those of `view`, then those of `Strided::broadcast`; out of memory, never for at most four items.
 fn broadcast(
     alloc: Global,
     shape: &[usize],
@@ -173,7 +174,7 @@ fn write_reshaped(
 ) -> i32
     requires count { length new_strides.old ≡ length new_shape.now }
     ensures status { result ≢ out_of_memory →
-        result ≡ status_of (reshape_refusal order new_shape.now view.now) }
+        result ≡ status_of (view_reshape_fault order new_shape.now view.now) }
     ensures memory { NeedsNoMemory None (length new_shape.now) → result ≢ out_of_memory }
     ensures strides { result ≡ ok → all_signed new_strides.new ≡
         reshaped_strides order new_shape.now view.now }
@@ -205,7 +206,7 @@ pub extern "C" fn nd_reshape(
     ensures status { result ≢ out_of_memory → result ≡ status_where
         (not (is_choice order && length new_strides.old == length new_shape.now))
         (option_or (layout_fault shape.now (all_signed strides.now))
-        (reshape_refusal (order_named order) new_shape.now (lowest_view shape.now strides.now))) }
+        (view_reshape_fault (order_named order) new_shape.now (lowest_view shape.now strides.now))) }
     ensures bad { (is_choice order && length new_strides.old == length new_shape.now) ≡ false →
         result ≡ bad_argument }
     ensures memory { NeedsNoMemory None (length shape.now) →
@@ -250,7 +251,7 @@ fn many_axes(alloc: Global, numbers: &[usize]) -> Result<Vec<Axis>, AllocError>
 
 /// A layout with its axes in another order.
 ///
-/// Errors: those of `view`, then those of `Strided::permuted_axes`; out of memory, never for at most four entries.
+/// Errors: those of `view`, then those of `Strided::permuted_axes`; out of memory, never for at most four items.
 #[tactic(auto, using(crate::proofs::Counts::length_permuted))]
 fn permuted(
     alloc: Global,

@@ -2,9 +2,9 @@
 ghost use Rattle.std.specs.Option.{option_or};
 ghost use Rattle.std.specs.Prelude.{◌≡◌, ◌≢◌, ◌≤◌, ◌↔◌, ◌==◌, ◌&&◌, ◌||◌, not, true, false, pos, None, Some, length, if◌then◌else◌, IfOk, IsOk, IsTrue, OnOk};
 ghost use Rattle.ndarray_layout.specs.declared.ErrorKind.{ErrorKind};
-ghost use Rattle.ndarray_layout.specs.ArgumentFault.{argument_fault, out_count};
+ghost use Rattle.ndarray_layout.specs.SliceFault.{argument_fault, out_count};
 ghost use Rattle.ndarray_layout.specs.Lengths.{NeedsNoMemory};
-ghost use Rattle.ndarray_layout.specs.Meet.{Meet};
+ghost use Rattle.ndarray_layout.specs.Intersect.{Intersect};
 ghost use Rattle.ndarray_layout.specs.ShapeFault.{shape_fault};
 ghost use Rattle.ndarray_layout.specs.Signed.{all_signed};
 ghost use Rattle.ndarray_layout.specs.Size.{size};
@@ -25,7 +25,8 @@ use std::alloc::Global;
 
 /// How many indices a slice leaves of a shape.
 ///
-/// Errors: those of `own_view`, then those of `Strided::picked`; out of memory, never for at most four entries and elements.
+/// Errors: those of `own_view`, then those of `Strided::picked`; out of memory, never for at most four items and
+/// elements.
 fn picked(alloc: Global, shape: &[usize], raws: &[RawElem], fit: Fit) -> Result<usize, LayoutError>
     ensures fits { OnOk result (option_or (own_layout_fault shape.now)
         (argument_fault fit shape.now (elems_named raws.now)) ≡ None) }
@@ -80,7 +81,8 @@ pub extern "C" fn nd_picked(
 
 /// A slice of a layout.
 ///
-/// Errors: those of `view_from`, then those of `Strided::slice`; out of memory, never for at most four entries and elements.
+/// Errors: those of `view_from`, then those of `Strided::slice`; out of memory, never for at most four items and
+/// elements.
 fn sliced(
     alloc: Global,
     view: &Strided<IxDyn>,
@@ -206,8 +208,8 @@ fn meets(
         option_or (argument_fault fit view.now.shape first.now)
         (argument_fault fit view.now.shape (elems_named second.now)) ≡ Some kind }
     ensures memory { length second.now ≤ 4 → shape_fault result ≡ None → IsOk result }
-    ensures meet { IfOk result (λ meet. IsTrue meet ↔
-        Meet fit view.now.shape first.now (elems_named second.now)) }
+    ensures intersect { IfOk result (λ intersect. IsTrue intersect ↔
+        Intersect fit view.now.shape first.now (elems_named second.now)) }
 {
     if second.len() <= FEW {
         let elems = few_elems(second);
@@ -218,8 +220,9 @@ fn meets(
 
 /// Whether two slices of a shape share an index.
 ///
-/// Errors: those of `own_view`, then those of `Strided::meets`; out of memory, never for at most four entries and elements.
-fn shape_meets(
+/// Errors: those of `own_view`, then those of `Strided::meets`; out of memory, never for at most four items and
+/// elements.
+fn shape_intersects(
     alloc: Global,
     shape: &[usize],
     first: &[RawElem],
@@ -235,8 +238,8 @@ fn shape_meets(
         (argument_fault fit shape.now (elems_named second.now))) ≡ Some kind }
     ensures memory { NeedsNoMemory None (length shape.now) → length first.now ≤ 4 →
         length second.now ≤ 4 → shape_fault result ≡ None → IsOk result }
-    ensures meet { IfOk result (λ meet. IsTrue meet ↔
-        Meet fit shape.now (elems_named first.now) (elems_named second.now)) }
+    ensures intersect { IfOk result (λ intersect. IsTrue intersect ↔
+        Intersect fit shape.now (elems_named first.now) (elems_named second.now)) }
 {
     let view = own_view(alloc, shape)?;
     if first.len() <= FEW {
@@ -267,16 +270,16 @@ pub extern "C" fn nd_slices_intersect(
     ensures memory { NeedsNoMemory None (length shape.now) → length first.now ≤ 4 →
         length second.now ≤ 4 → result ≢ out_of_memory }
     ensures answer { result ≡ ok → is_choice answer.new ≡ true }
-    ensures meet { result ≡ ok → ((answer.new ≡ pos 1) ↔ Meet (fit_named fit)
+    ensures intersect { result ≡ ok → ((answer.new ≡ pos 1) ↔ Intersect (fit_named fit)
         shape.now (elems_named first.now) (elems_named second.now)) }
     ensures unchanged { result ≢ ok → answer.new ≡ answer.old }
 {
     if !is_choice(fit) || !are_elems(first) || !are_elems(second) {
         return BAD_ARGUMENT;
     }
-    match shape_meets(alloc, shape, first, second, fit_named(fit)) {
-        Ok(meet) => {
-            *answer = answer_of(meet);
+    match shape_intersects(alloc, shape, first, second, fit_named(fit)) {
+        Ok(intersect) => {
+            *answer = answer_of(intersect);
             OK
         },
         Err(LayoutError::Shape(error)) => status_of(error.kind()),

@@ -19,7 +19,7 @@ pub(crate) const INCOMPATIBLE_SHAPE: i32 = 1;
 /// The status of `Unsupported`.
 pub(crate) const UNSUPPORTED: i32 = 5;
 
-/// Memory was refused.
+/// An allocation failed.
 pub(crate) const OUT_OF_MEMORY: i32 = 8;
 
 /// The status of a fault.

@@ -107,7 +107,7 @@ fn writes(alloc: Global, words: &mut Words<'_>) -> Option<Vec<Write>> {
     Some(writes)
 }
 
-/// Whether writes are done or refused so, and these items are left.
+/// Whether writes are done or fail so, and these items are left.
 fn is_written<D: Lengths>(
     alloc: Global,
     row: &mut Reading<'_>,

@@ -9,7 +9,7 @@ pub fn item(number: usize) -> Item {
     (number / 2, number % 2 == 1)
 }
 
-/// The items that numbers tell; `None` where memory is refused.
+/// The items that numbers tell; `None` where an allocation fails.
 pub fn listed(alloc: Global, numbers: &[usize]) -> Option<Vec<Item>> {
     let mut items = Vec::with_capacity(alloc, numbers.len()).ok()?;
     for number in numbers {

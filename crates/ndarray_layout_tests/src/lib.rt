@@ -1,5 +1,5 @@
 //! Tests of `ndarray_layout` and `nd_owned`, by their public calls: rows of views, of reshapes, of runs and of
-//! arrays, all reshapes of small layouts, and memory that is not refused where it is there.
+//! arrays, all reshapes of small layouts, and that no allocation fails where there is memory.
 #![tactic(auto)]
 
 #[cfg(test)]

@@ -1,4 +1,5 @@
-//! Memory is not refused where it is there: calls over many axes and many items. What they answer their contracts say.
+//! No allocation fails where there is memory: calls over many axes and many items. What they answer their contracts
+//! say.
 use crate::arrays::Write;
 use crate::items::{Item, counted};
 use crate::iterated::come;
@@ -34,18 +35,18 @@ fn array<D: Lengths>(alloc: Global, lens: &[usize]) -> Option<OwnedArray<Item, D
     OwnedArray::from_shape_vec(alloc, shape, counted(alloc, 10_000)?).ok()
 }
 
-/// A write to one entry of the first axis.
-fn row(alloc: Global, elems: &[SliceInfoElem], entry: isize) -> Option<Write> {
+/// A write to one coordinate of the first axis.
+fn row(alloc: Global, elems: &[SliceInfoElem], coordinate: isize) -> Option<Write> {
     let mut slice = elems.to_vec(alloc).ok()?;
-    *slice.first_mut()? = Index(entry);
+    *slice.first_mut()? = Index(coordinate);
     Some((slice, counted(alloc, 200)?))
 }
 
-/// Writes to each of 50 entries of the first axis.
+/// Writes to each of 50 coordinates of the first axis.
 fn rows(alloc: Global, elems: &[SliceInfoElem]) -> Option<Vec<Write>> {
     let mut writes = Vec::new(alloc);
-    for entry in 0..50 {
-        writes.push(row(alloc, elems, entry)?).ok()?;
+    for coordinate in 0..50 {
+        writes.push(row(alloc, elems, coordinate)?).ok()?;
     }
     Some(writes)
 }

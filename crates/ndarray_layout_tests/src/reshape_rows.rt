@@ -74,7 +74,7 @@ fn r6_rows(rt: HostRuntime) {
     }
 }
 
-/// Sizes of 2^62 and near the greatest `isize`, by rows: only a walk over the axes ends.
+/// Sizes of 2^62 and near the greatest `isize`, by rows: only a pass over the axes ends.
 const LARGE_BY_ROWS: &str = "\
 reshape_dim_C 2147483648,2147483648 4294967296,1 1073741824,2,2147483648 => 8589934592,4294967296,1
 reshape_dim_C 2147483648,2147483648 4294967296,1 4611686018427387904 => IncompatibleLayout

@@ -1,6 +1,6 @@
-//! Layouts of no more than three axes, each of at most 4 entries with a stride of at most 4 in magnitude, under every
-//! shape of as many such axes: the strides are the differences of places by flat index, and are compared with them at
-//! every flat index; where the sizes differ, joints are looked at one by one.
+//! Layouts of no more than three axes, each of at most 4 coordinates with a stride of at most 4 in magnitude, under
+//! every shape of as many such axes: the strides are the differences of places by flat index, and are compared with
+//! them at every flat index; where the sizes differ, joints are looked at one by one.
 //!
 //! Axes stand in the order in which they are read, so that of one shape in both orders two lists are made.
 use crate::reshapes::reshaped;
@@ -53,8 +53,8 @@ fn size(axes: &[Axis]) -> isize {
 fn place(axes: &[Axis], flat_index: isize) -> isize {
     let (mut rest, mut place) = (flat_index, 0isize);
     for axis in axes.iter().rev() {
-        let entry = rest.checked_rem(axis.len).unwrap_or(0);
-        place = place.wrapping_add(entry.wrapping_mul(axis.stride));
+        let coordinate = rest.checked_rem(axis.len).unwrap_or(0);
+        place = place.wrapping_add(coordinate.wrapping_mul(axis.stride));
         rest = rest.checked_div(axis.len).unwrap_or(0);
     }
     place

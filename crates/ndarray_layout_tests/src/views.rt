@@ -132,7 +132,7 @@ fn are_answered<D: Lengths>(alloc: Global, view: &Strided<D>) -> Option<bool> {
     )
 }
 
-/// Whether an entry of the first axis is kept, and the axis is merged into the last but one.
+/// Whether a coordinate of the first axis is kept, and the axis is merged into the last but one.
 fn is_joined<D: Lengths>(view: &mut Strided<D>) -> bool {
     view.collapse(Axis(0), 1).is_ok() && view.merge(Axis(0), Axis(1)).ok() == Some(true)
 }

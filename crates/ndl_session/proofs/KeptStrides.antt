@@ -9,7 +9,7 @@ use Rattle.ndl_session.specs.text.Lines.{parts}
 use Rattle.ndl_session.specs.text.Numbers.{IsIsize, signed_number_of}
 use Rattle.ndl_session.specs.script.Lists.{list_of, stride_of, strides_of}
 use Rattle.ndl_session.specs.script.Reading.{◌>>=◌, read_each}
-use Rattle.ndl_session.proofs.texts.NumberParts.{signed_number_fits}
+use Rattle.ndl_session.proofs.text_lemmas.NumberParts.{signed_number_fits}
 
 -- of one stride and those after it
 one_more : (o : Option ℤ) (rest : Option (List ℕ)) → ((z : ℤ) → o ≡ Some z → IsIsize z)

@@ -10,8 +10,8 @@ use Rattle.ndl_session.specs.script.Reading.{◌>>=◌}
 use Rattle.ndl_session.specs.text.Lines.{parts}
 use Rattle.ndl_session.specs.text.Numbers.{signed_number_of}
 use Rattle.ndl_session.specs.script.Elements.{start_of, end_of, slice_of_bounds, slice_of_parts}
-use Rattle.ndl_session.proofs.texts.Parts.{lone_part, some_part}
-use Rattle.ndl_session.proofs.texts.NumberParts.{no_dot, no_semicolon, number_part}
+use Rattle.ndl_session.proofs.text_lemmas.Parts.{lone_part, some_part}
+use Rattle.ndl_session.proofs.text_lemmas.NumberParts.{no_dot, no_semicolon, number_part}
 
 -- ---- the step
 module _ (range step : List ℕ) where

@@ -11,7 +11,7 @@ use Rattle.ndarray_layout.specs.Run.{Outcome, run_of}
 use Rattle.ndarray_layout.specs.Step.{StepValue}
 use Rattle.ndarray_layout.specs.View.{View, view_places}
 use Rattle.ndl_session.specs.declared.answer.Answer.{Answer}
-use Rattle.ndl_session.specs.script.DataLine.{LayoutValue}
+use Rattle.ndl_session.specs.script.DataLine.{DataLayoutValue}
 use Rattle.ndl_session.specs.script.Script.{ScriptValue, script_of}
 use Rattle.ndl_session.specs.text.Printing.{line, listed}
 
@@ -25,8 +25,8 @@ abbrev pub unreadable : ℕ → Reply
 unreadable number = record { text = codes "line " ++ decimal number ++ codes ": unreadable\n"; status = 2 }
 
 -- the reply where a step has a fault: step 0 is the layout, and the steps after it count from 1
-abbrev pub refused : ℕ → ErrorKind → Reply
-refused step kind = record { text = codes "step " ++ decimal step ++ codes ": " ++ shape_error_text kind ++ codes "\n"; status = 1 }
+abbrev pub step_failed : ℕ → ErrorKind → Reply
+step_failed step kind = record { text = codes "step " ++ decimal step ++ codes ": " ++ shape_error_text kind ++ codes "\n"; status = 1 }
 
 -- the reply where every step was done: the view that is left, and where its elements lie
 abbrev pub listing : View → Reply
@@ -37,25 +37,25 @@ listing view = record {
   status = 0;
 }
 
--- the reply of a refusal where a step has a fault, or else another reply
+-- the reply to the fault where a step has one, or else another reply
 abbrev pub unless : ℕ → Option ErrorKind → Reply → Reply
-unless step (Some kind) reply = refused step kind
+unless step (Some kind) reply = step_failed step kind
 unless step None reply = reply
 
 -- the view of a layout over its data, where the data's first element is the lowest place of an index
-abbrev pub view_of_layout : LayoutValue → View
+abbrev pub view_of_layout : DataLayoutValue → View
 view_of_layout layout = record { start = low_span layout.shape layout.strides; shape = layout.shape; strides = layout.strides }
 
 -- the reply to a run of steps with or without a fault, where the first step has number 1
 abbrev pub reply_to_run : Option ErrorKind → Outcome → Reply
 reply_to_run None run = listing run.view
-reply_to_run (Some kind) run = refused (run.taken + 1) kind
+reply_to_run (Some kind) run = step_failed (run.taken + 1) kind
 
 -- the reply to steps from a view
 abbrev pub reply_to_steps : List StepValue → View → Reply
 reply_to_steps steps view = reply_to_run (run_of steps view).fault (run_of steps view)
 
--- the reply to a script: its layout is refused, or its steps are taken from the view of it; each element takes one byte
+-- the reply to a script: its layout has a fault, or its steps are taken from the view of it; each element takes one byte
 abbrev pub reply_to_script : ScriptValue → Reply
 reply_to_script script =
     let layout = script.layout in

@@ -1,7 +1,7 @@
 //! The answer to a whole input: its text and its status.
 ghost use Rattle.std.specs.Prelude.{◌≡◌, ◌≤◌, map, IfOk};
 ghost use Rattle.ndarray_layout.specs.Step.{step_value};
-ghost use Rattle.ndl_session.specs.Answer.{answer_of, listing, refused as refusal, IsReply};
+ghost use Rattle.ndl_session.specs.Answer.{answer_of, listing, step_failed as reply_to_fault, IsReply};
 ghost use Rattle.ndl_session.specs.Answer.{reply_to_script, reply_to_steps, unreadable as unreadable_reply};
 ghost use Rattle.ndl_session.specs.script.Script.{script_value};
 
@@ -46,8 +46,8 @@ fn unreadable(alloc: Global, line: usize) -> Result<Answer, AllocError>
 }
 
 /// The answer where a step returned an error: 0 is the layout, and the steps after it count from 1.
-fn refused(alloc: Global, step: usize, fault: &ShapeError) -> Result<Answer, AllocError>
-    ensures { IfOk result (λ answer. IsReply answer (refusal step fault.now)) }
+fn step_failed(alloc: Global, step: usize, fault: &ShapeError) -> Result<Answer, AllocError>
+    ensures { IfOk result (λ answer. IsReply answer (reply_to_fault step fault.now)) }
 {
     Ok(Answer {
         text: format!(in alloc; "step {step}: {fault}\n")?,
@@ -62,7 +62,7 @@ fn answer_to_script(alloc: Global, script: Script) -> Result<Answer, AllocError>
     let Script { layout, steps } = script;
     match Strided::new(layout.shape, layout.strides, 1, layout.len, layout.mode) {
         Ok(view) => answer_to_steps(alloc, view, &steps),
-        Err(fault) => refused(alloc, 0, &fault),
+        Err(fault) => step_failed(alloc, 0, &fault),
     }
 }
 
@@ -78,7 +78,7 @@ fn answer_to_steps(
     match run(alloc, view, steps) {
         Ok(view) => list(alloc, &view),
         Err(stopped) => match &stopped.fault {
-            LayoutError::Shape(fault) => refused(alloc, stopped.at + 1, fault),
+            LayoutError::Shape(fault) => step_failed(alloc, stopped.at + 1, fault),
             LayoutError::Memory(_) => Err(AllocError),
         },
     }

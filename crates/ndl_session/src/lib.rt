@@ -8,5 +8,5 @@ mod text;
 
 pub use devices::session::session;
 pub use devices::watched::Watched;
-pub use script::data_line::Layout;
+pub use script::data_line::DataLayout;
 pub use script::{ReadError, Script, read_script};

@@ -10,7 +10,7 @@ mod elements;
 mod lists;
 mod step_line;
 
-use crate::script::data_line::{Layout, read_layout};
+use crate::script::data_line::{DataLayout, read_layout};
 use crate::script::step_line::read_step;
 use crate::text::lines::next_line;
 use ndarray_layout::Step;
@@ -20,7 +20,7 @@ use std::alloc::{AllocError, AllocFailed, Global};
 #[derive(Drop)]
 pub struct Script {
     /// The layout that the first line makes.
-    pub layout: Layout,
+    pub layout: DataLayout,
     /// The steps that the lines after it ask for.
     pub steps: Vec<Step>,
 }

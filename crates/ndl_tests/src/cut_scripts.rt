@@ -212,7 +212,7 @@ fn front_holds(alloc: Global, front: &str, rows: &str) -> Option<bool> {
     Some(answers(alloc, front.as_bytes(), text.as_str()))
 }
 
-/// Whether each front of a table's script has its answer; `None` where memory is refused.
+/// Whether each front of a table's script has its answer; `None` where an allocation fails.
 fn fronts_hold(alloc: Global, table: &str) -> Option<bool> {
     let (script, rows) = table.split_once("\n")?;
     let script = written_out(alloc, script)?;

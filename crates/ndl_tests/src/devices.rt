@@ -147,13 +147,13 @@ fn an_input_ends_once(rt: HostRuntime) {
 fn an_empty_piece_is_handed_on(rt: HostRuntime) {
     let fake = Fake::new(Vec::new(rt.alloc()), 1, Some((0, INTERRUPTED)));
     let mut writer = Watched::new(fake);
-    let is_refused = writer.write(b"").is_err();
-    assert!(rt; is_refused && writer.failed());
+    let is_error = writer.write(b"").is_err();
+    assert!(rt; is_error && writer.failed());
 }
 
 #[test]
 fn a_flush_is_handed_on_and_is_no_failure(rt: HostRuntime) {
     let mut writer = Watched::new(Fake::new(Vec::new(rt.alloc()), 1, None));
-    let is_refused = writer.flush().is_err();
-    assert!(rt; is_refused && !writer.failed() && writer.into_inner().calls == 1);
+    let is_error = writer.flush().is_err();
+    assert!(rt; is_error && !writer.failed() && writer.into_inner().calls == 1);
 }

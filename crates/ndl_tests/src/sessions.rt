@@ -11,7 +11,8 @@ pub(crate) fn answers(alloc: Global, script: &[u8], text: &str) -> bool {
     writer.into_inner().as_slice() == text.as_bytes() && status == status_of(text)
 }
 
-/// The status that goes with a text: that of a list, of a refused step, of a line that can't be read, or of refused memory.
+/// The status that goes with a text: that of a list, of a step that fails, of a line that can't be read, or of a failed
+/// allocation.
 pub(crate) fn status_of(text: &str) -> u8 {
     let first = text.split_once(" ").unwrap_or((text, "")).0;
     match first {
@@ -22,7 +23,7 @@ pub(crate) fn status_of(text: &str) -> u8 {
     }
 }
 
-/// Appends a piece as often as the number before it says; `None` where there is no number, or memory is refused.
+/// Appends a piece as often as the number before it says; `None` where there is no number, or an allocation fails.
 fn push_repeated(whole: &mut String, piece: &str) -> Option<()> {
     let (count, piece) = piece.split_once("*")?;
     let count: usize = count.parse().ok()?;

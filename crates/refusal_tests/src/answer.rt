@@ -76,12 +76,12 @@ pub fn left(word: &str, items: &[usize]) -> Option<Answer> {
     answer.and_list(items)
 }
 
-/// The fault of a layout, or the refusal of memory.
-pub fn refused(fault: &LayoutError) -> Option<Answer> {
+/// The fault of a layout, or the lack of memory.
+pub fn failed(fault: &LayoutError) -> Option<Answer> {
     Answer::of(layout_fault_name(fault))
 }
 
-/// The refusal of memory.
+/// The lack of memory.
 pub fn memory() -> Option<Answer> {
     Answer::of("memory")
 }
@@ -98,6 +98,6 @@ pub fn made_list<D: Lengths>(made: Result<D, AllocError>) -> Option<Answer> {
 pub fn made_view<D: Lengths>(made: Result<Strided<D>, LayoutError>) -> Option<Answer> {
     match made {
         Ok(view) => Answer::of("")?.and_view(&view),
-        Err(fault) => refused(&fault),
+        Err(fault) => failed(&fault),
     }
 }

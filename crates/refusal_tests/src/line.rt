@@ -16,7 +16,7 @@ pub struct Call<'a> {
     pub lists: Lists,
 }
 
-/// Makes as many small requests for memory as a word says; `None` where it is no number, or one is refused.
+/// Makes as many small requests for memory as a word says; `None` where it is no number, or one fails.
 pub fn ask(alloc: Global, count: &str) -> Option<()> {
     let count: usize = count.parse().ok()?;
     for _ in 0..count {

@@ -3,7 +3,7 @@ ghost use Rattle.std.specs.Prelude.{◌^◌, ◌<◌};
 ghost use Rattle.ndarray_layout.specs.Dim.{lengths};
 ghost use Rattle.ndarray_layout.specs.Size.{size};
 
-use crate::answer::{Answer, listed, made_list, memory, refused};
+use crate::answer::{Answer, failed, listed, made_list, memory};
 use crate::dimensions::{built, made_shape_and_order};
 use crate::line::Call;
 use ndarray_layout::{
@@ -18,9 +18,9 @@ pub fn answer(alloc: Global, call: &Call<'_>) -> Option<Answer> {
     let (group, name) = call.name.split_once("::").unwrap_or(("", call.name));
     match group {
         "ShapeBuilder" => built(alloc, name, lens, lens),
-        "IxDynImpl" => of_entries(alloc, name, lens, call.lists.second.at(0)),
+        "IxDynImpl" => of_coordinates(alloc, name, lens, call.lists.second.at(0)),
         "Vec" => of_vector(alloc, name, lens),
-        "walk" => walked(alloc, name, lens),
+        "walk" => iterated(alloc, name, lens),
         _ => of_slice(alloc, name, lens, call.lists.second.as_slice()),
     }
 }
@@ -33,7 +33,7 @@ fn of_slice(alloc: Global, name: &str, lens: &[usize], others: &[usize]) -> Opti
         "into_dimension" => made_list(lens.into_dimension(alloc)),
         "into_shape_and_order" => made_shape_and_order(lens.into_shape_and_order(alloc)),
         "zeros" => made_list(IxDyn::zeros(alloc, lens.len())),
-        "copy_from" => made_entries(IxDynImpl::copy_from(alloc, lens)),
+        "copy_from" => made_coordinates(IxDynImpl::copy_from(alloc, lens)),
         "co_broadcast" => common(alloc, lens, others),
         _ => None,
     }
@@ -50,25 +50,25 @@ fn common(alloc: Global, lens: &[usize], others: &[usize]) -> Option<Answer> {
 fn made_common(made: Result<IxDyn, LayoutError>) -> Option<Answer> {
     match made {
         Ok(common) => listed(common.slice()),
-        Err(fault) => refused(&fault),
+        Err(fault) => failed(&fault),
     }
 }
 
 /// The list that a call makes.
-fn made_entries(made: Result<IxDynImpl, AllocError>) -> Option<Answer> {
+fn made_coordinates(made: Result<IxDynImpl, AllocError>) -> Option<Answer> {
     match made {
-        Ok(entries) => listed(entries.as_slice()),
+        Ok(items) => listed(items.as_slice()),
         Err(_) => memory(),
     }
 }
 
 /// What a call of a list answers; nothing where there is no such place.
-fn of_entries(alloc: Global, name: &str, lens: &[usize], place: usize) -> Option<Answer> {
-    let entries = IxDynImpl::copy_from(alloc, lens).ok()?;
+fn of_coordinates(alloc: Global, name: &str, lens: &[usize], place: usize) -> Option<Answer> {
+    let items = IxDynImpl::copy_from(alloc, lens).ok()?;
     match name {
-        "insert" if place <= lens.len() => made_entries(entries.insert(alloc, place)),
-        "remove" if place < lens.len() => made_entries(entries.remove(alloc, place)),
-        "into_dimension" => made_list(entries.into_dimension(alloc)),
+        "insert" if place <= lens.len() => made_coordinates(items.insert(alloc, place)),
+        "remove" if place < lens.len() => made_coordinates(items.remove(alloc, place)),
+        "into_dimension" => made_list(items.into_dimension(alloc)),
         _ => None,
     }
 }
@@ -77,14 +77,14 @@ fn of_entries(alloc: Global, name: &str, lens: &[usize], place: usize) -> Option
 fn of_vector(alloc: Global, name: &str, lens: &[usize]) -> Option<Answer> {
     let items = lens.to_vec(alloc).ok()?;
     match name {
-        "from_vec" => made_entries(IxDynImpl::from_vec(alloc, items)),
+        "from_vec" => made_coordinates(IxDynImpl::from_vec(alloc, items)),
         "into_dimension" => made_list(items.into_dimension(alloc)),
         _ => None,
     }
 }
 
-/// What a call that begins a walk answers: how many indices that is over.
-fn walked(alloc: Global, name: &str, lens: &[usize]) -> Option<Answer> {
+/// What a call that begins an iteration answers: how many indices that is over.
+fn iterated(alloc: Global, name: &str, lens: &[usize]) -> Option<Answer> {
     let dim = new_ixdyn(alloc, lens).ok()?;
     let count = dim.size_checked()?;
     if begins(alloc, name, dim)? {
@@ -94,7 +94,7 @@ fn walked(alloc: Global, name: &str, lens: &[usize]) -> Option<Answer> {
     }
 }
 
-/// Whether a walk over the indices of a shape is begun.
+/// Whether an iterator over the indices of a shape is begun.
 fn begins(alloc: Global, name: &str, dim: IxDyn) -> Option<bool>
     requires { size (lengths dim) < 2 ^ 64 }
 {

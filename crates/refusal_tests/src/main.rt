@@ -1,5 +1,5 @@
-//! Calls that may need memory, as input says: which of a call's requests is refused, the run decides (`rt try --fail-alloc`), and
-//! how many small requests are made first (`checks/refused_calls`).
+//! Calls that may need memory, as input says: which of a call's requests fails, the run decides (`rt try
+//! --fail-alloc`), and how many small requests are made first (`checks/refused_calls`).
 #![tactic(auto)]
 
 mod answer;

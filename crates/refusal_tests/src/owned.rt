@@ -1,6 +1,6 @@
 //! Calls of an array of numbers, 0 and so on: the lists are its shape, its strides, how many items it has, and the items that are
-//! written to each of the first two entries of its first axis.
-use crate::answer::{Answer, left, listed, refused};
+//! written to each of the first two coordinates of its first axis.
+use crate::answer::{Answer, failed, left, listed};
 use crate::line::Call;
 use crate::views::REVERSED;
 use nd_owned::OwnedArray;
@@ -56,36 +56,36 @@ fn array(alloc: Global, call: &Call<'_>) -> Option<OwnedArray<usize, IxDyn>> {
     OwnedArray::from_shape_vec(alloc, laid(alloc, call)?, items).ok()
 }
 
-/// The items of all axes, each from the last entry back.
+/// The items of all axes, each from the last coordinate back.
 fn items(alloc: Global, call: &Call<'_>) -> Option<Answer> {
     let all = [REVERSED; 6];
     let slice = all.get(..call.lists.first.as_slice().len())?;
     let array = array(alloc, call)?;
     match array.items(alloc, &slice) {
         Ok(items) => listed(items.as_slice()),
-        Err(fault) => refused(&fault),
+        Err(fault) => failed(&fault),
     }
 }
 
 /// A slice, and the items for it.
 type Write = (Vec<SliceInfoElem>, Vec<usize>);
 
-/// The items for an entry of the first axis, the others from the last entry back.
-fn write(alloc: Global, call: &Call<'_>, entry: isize) -> Option<Write> {
+/// The items for a coordinate of the first axis, the others from the last coordinate back.
+fn write(alloc: Global, call: &Call<'_>, coordinate: isize) -> Option<Write> {
     let mut slice = [REVERSED; 6];
-    slice[0] = SliceInfoElem::Index(entry);
+    slice[0] = SliceInfoElem::Index(coordinate);
     let slice = slice.get(..call.lists.first.as_slice().len())?;
     let items = call.lists.fourth.as_slice().to_vec(alloc).ok()?;
     Some((slice.to_vec(alloc).ok()?, items))
 }
 
-/// The writes to the first two entries of the first axis.
+/// The writes to the first two coordinates of the first axis.
 fn writes(alloc: Global, call: &Call<'_>) -> Option<[Write; 2]> {
     let first = write(alloc, call, 0)?;
     Some([first, write(alloc, call, 1)?])
 }
 
-/// The items of the array after writes to the first two entries of the first axis.
+/// The items of the array after writes to the first two coordinates of the first axis.
 fn written(alloc: Global, call: &Call<'_>) -> Option<Answer> {
     let writes = writes(alloc, call)?;
     of_writes(array(alloc, call)?, alloc, &writes)

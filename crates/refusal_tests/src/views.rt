@@ -1,5 +1,5 @@
 //! Calls of a view: the lists are its shape and its strides, and another shape.
-use crate::answer::{Answer, listed, made_view, memory, refused};
+use crate::answer::{Answer, failed, listed, made_view, memory};
 use crate::line::Call;
 use CanIndexCheckMode::ReadOnly;
 use Fit::Strict;
@@ -12,7 +12,7 @@ use std::alloc::Global;
 use std::fmt::Write;
 use test_tables::made;
 
-/// The whole of an axis, from the last entry back.
+/// The whole of an axis, from the last coordinate back.
 pub const REVERSED: SliceInfoElem = SliceInfoElem::Slice {
     start: 0,
     end: None,
@@ -63,7 +63,7 @@ fn duplicated<D: Lengths>(alloc: Global, view: &Strided<D>) -> Result<Strided<D>
     Ok(view.duplicate(alloc)?)
 }
 
-/// The slice of a view by all of its axes, each from the last entry back; nothing where it has more than six.
+/// The slice of a view by all of its axes, each from the last coordinate back; nothing where it has more than six.
 fn reversed<D: Lengths>(
     alloc: Global,
     view: &Strided<D>,
@@ -117,6 +117,6 @@ fn reshaped<D: Lengths>(alloc: Global, from: &D, strides: &D, to: &D) -> Option<
     max_abs_offset_check_overflow(1, from, strides).ok()?;
     match reshape_dim(alloc, from, strides, to, RowMajor) {
         Ok(others) => listed(others.slice()),
-        Err(fault) => refused(&fault),
+        Err(fault) => failed(&fault),
     }
 }

@@ -20,7 +20,7 @@ pub fn name_of(fault: Option<ErrorKind>) -> &'static str {
     }
 }
 
-/// The name of the fault of a layout, or `memory` where memory was refused.
+/// The name of the fault of a layout, or `memory` where an allocation fails.
 pub fn layout_fault_name(fault: &LayoutError) -> &'static str {
     match fault {
         LayoutError::Shape(fault) => name_of(Some(fault.kind())),
@@ -28,7 +28,7 @@ pub fn layout_fault_name(fault: &LayoutError) -> &'static str {
     }
 }
 
-/// The fault by which a call was refused, if it was.
+/// The fault of a call that failed, if it did.
 pub fn fault_of(answer: Result<(), ShapeError>) -> Option<ErrorKind>
     ensures { result ≡ result_err answer }
 {
@@ -38,7 +38,7 @@ pub fn fault_of(answer: Result<(), ShapeError>) -> Option<ErrorKind>
     }
 }
 
-/// The answer of a call, or the fault by which it was refused.
+/// The answer of a call, or the fault that it failed with.
 pub fn or_fault<T: Drop>(answer: Result<T, ShapeError>) -> Result<T, ErrorKind>
     ensures { result ≡ answer }
 {

@@ -5,11 +5,11 @@ use crate::row::Words;
 use nd_base::{Lengths, unsigned};
 use std::alloc::Global;
 
-/// A list of a row, of at most 16 numbers. It takes no memory, so a row can be read where memory is
-/// refused.
+/// A list of a row, of at most 16 numbers. It takes no memory, so a row can be read where an allocation
+/// fails.
 #[derive(Clone, Copy)]
 pub struct List {
-    entries: [usize; 16],
+    items: [usize; 16],
     count: usize,
     ghost in_room: { count ≤ 16 },
 }
@@ -17,21 +17,21 @@ pub struct List {
 impl List {
     /// The empty list.
     const NONE: List = List {
-        entries: [0; 16],
+        items: [0; 16],
         count: 0,
     };
 
     /// Its numbers.
     pub fn as_slice(&self) -> &[usize] {
-        &self.entries[..self.count]
+        &self.items[..self.count]
     }
 
     /// The list of these numbers; `None` where there are more than 16.
     pub fn of(numbers: &[usize]) -> Option<List> {
-        let mut entries = [0; 16];
-        entries.get_mut(..numbers.len())?.copy_from_slice(numbers);
+        let mut items = [0; 16];
+        items.get_mut(..numbers.len())?.copy_from_slice(numbers);
         Some(List {
-            entries,
+            items,
             count: numbers.len(),
         })
     }
@@ -43,14 +43,14 @@ impl List {
             return Some(list);
         }
         for part in word.split(',') {
-            list.push(entry(part)?)?;
+            list.push(item(part)?)?;
         }
         Some(list)
     }
 
     /// Adds a number; `None` where there is no room for it.
     fn push(&mut self, number: usize) -> Option<()> {
-        *self.entries.get_mut(self.count)? = number;
+        *self.items.get_mut(self.count)? = number;
         self.count += 1;
         Some(())
     }
@@ -90,7 +90,7 @@ impl Lists {
 }
 
 /// A length, or a negative stride by its bits; `None` where the text is no such number.
-pub(crate) fn entry(part: &str) -> Option<usize> {
+pub(crate) fn item(part: &str) -> Option<usize> {
     if part.starts_with('-') {
         let stride: isize = part.parse().ok()?;
         return Some(unsigned(stride));
@@ -99,7 +99,7 @@ pub(crate) fn entry(part: &str) -> Option<usize> {
 }
 
 /// The value of a type that stands for a list; `None` where the type has another count of axes, or
-/// memory is refused.
+/// an allocation fails.
 pub fn made<D: Lengths>(alloc: Global, lens: &[usize]) -> Option<D>
     ensures { IfSome result (λ dim. D.list dim ≡ lens.now) }
 {

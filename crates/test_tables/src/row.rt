@@ -1,5 +1,5 @@
 //! Rows and their words.
-use crate::lists::{List, Lists, entry, made};
+use crate::lists::{List, Lists, item, made};
 use crate::tables::meaning;
 use nd_base::Lengths;
 use std::alloc::Global;
@@ -145,7 +145,7 @@ fn lists(word: &str, numbers: &[usize]) -> bool {
     }
     let mut left = numbers.iter();
     for part in word.split(',') {
-        if entry(part).is_none() || left.next().copied() != entry(part) {
+        if item(part).is_none() || left.next().copied() != item(part) {
             return false;
         }
     }

@@ -39,7 +39,7 @@ impl Words<'_> {
         spelled(self.word()?)
     }
 
-    /// Slice elements; `None` as well where memory is refused.
+    /// Slice elements; `None` as well where an allocation fails.
     pub fn elems(&mut self, alloc: Global) -> Option<Vec<SliceInfoElem>> {
         let word = self.word()?;
         let mut elems = Vec::new(alloc);

@@ -9,9 +9,9 @@ use crate::types::{axes_of, dimension, kept, lists_of, of_types, signed_list, st
 use ndarray_layout::CanIndexCheckMode::ReadOnly;
 use ndarray_layout::{
     CanIndexCheckMode, Dimension, ErrorKind, IndexCursor, IndexCursorF, LayoutError, Lengths, Order, Row, ShapeError,
-    StrideShape, Strided, Strides, accept, can_index_slice, default_strides, dim_stride_overlap, fortran_strides,
-    from_kind, is_index, is_layout_c, is_layout_f, low_span, new_ixdyn, offset_from_low_addr_ptr_to_logical_ptr,
-    size_of_shape_checked, span_of_lengths, step_by_columns, step_by_rows,
+    StrideShape, Strided, Strides, accept, advance_column_major, advance_row_major, can_index_slice, default_strides,
+    dim_stride_overlap, fortran_strides, from_kind, is_index, is_layout_c, is_layout_f, low_span, new_ixdyn,
+    offset_from_low_addr_ptr_to_logical_ptr, size_of_shape_checked, span_of_lengths,
 };
 use std::cell::Cell;
 
@@ -230,7 +230,7 @@ fn next_of<D: Dimension>(shape: &[usize], index: &[usize], order: Order) -> (boo
 
 fn next_in_list(shape: &[usize], index: &[usize], order: Order) -> (bool, Vec<usize>) {
     let mut next = index.to_vec();
-    let step = if order == Order::RowMajor { step_by_rows } else { step_by_columns };
+    let step = if order == Order::RowMajor { advance_row_major } else { advance_column_major };
     (step(shape, &mut next), next)
 }
 

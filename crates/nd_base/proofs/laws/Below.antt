@@ -24,7 +24,7 @@ All-below n k d h = omega (arith, length-below n, get_or-below n k d (omega (ari
 
 -- no two are equal
 pub AllPairs-below : (n : ℕ) → AllPairs (λ a b. a ≢ b) (below n)
-AllPairs-below n i j d before inside same =
+AllPairs-below n i j d before in_bounds same =
     let last : j < n = omega (arith, length-below n) in
     omega (arith, get_or-below n i d (omega arith), get_or-below n j d last)
 
@@ -38,8 +38,8 @@ module _ (p : ℕ → Bool) (n : ℕ) where
   pub all_below : ((k : ℕ) → k < n → p k ≡ true) → list_all p (below n) ≡ true
   all_below h =
       list_all-from_AllPass p (below n) (λ k d l.
-      let inside : k < n = omega (arith, length-below n) in
-      rw (get_or-below n k d inside) (h k inside))
+      let in_bounds : k < n = omega (arith, length-below n) in
+      rw (get_or-below n k d in_bounds) (h k in_bounds))
 
   pub passes_below : list_all p (below n) ≡ true → (k : ℕ) → k < n → p k ≡ true
   passes_below all k h =

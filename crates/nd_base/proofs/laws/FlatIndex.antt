@@ -11,8 +11,8 @@ use Rattle.nd_base.specs.declared.order.Order.{Order}
 use Rattle.nd_base.specs.declared.order.Order.TheVariants.{RowMajor, ColumnMajor}
 use Rattle.nd_base.proofs.laws.Definitions.{as_read, indices, indices_in, is_index, index_of_flat}
 use Rattle.nd_base.proofs.laws.Definitions.{index_of_flat_in, flat_index, flat_index_in, size}
-use Rattle.nd_base.proofs.Rows.{length_indices, get_or_rows}
-use Rattle.nd_base.proofs.laws.Reading.{as_read-as_read, as_read-replicate, is_index-as_read, length-as_read, size-as_read}
+use Rattle.nd_base.proofs.IndicesByFirstAxis.{length_indices, get_or_rows}
+use Rattle.nd_base.proofs.laws.AsRead.{as_read-as_read, as_read-replicate, is_index-as_read, length-as_read, size-as_read}
 use Rattle.nd_base.proofs.laws.Size.{size-reverse}
 
 -- a number below a product, by its quotient and its remainder

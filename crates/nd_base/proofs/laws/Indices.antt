@@ -59,8 +59,8 @@ AllPairs-indices_in order shape i j d h g e =
     ∙ flat_index_in-index_of_flat_in order shape j late in
     omega arith
 
--- ---- one entry more of the first axis
--- it adds the indices that begin with that entry
+-- ---- one coordinate more of the first axis
+-- it adds the indices that begin with that coordinate
 pub indices_more : (i : ℕ) (lens : List ℕ) → indices (suc i ∷ lens) ≡ indices (i ∷ lens) ++ map (λ index. i ∷ index) (indices lens)
 indices_more i lens =
     let row = λ (k : ℕ). map (λ index. k ∷ index) (indices lens) in

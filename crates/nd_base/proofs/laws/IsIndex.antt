@@ -7,7 +7,7 @@ use Rattle.std.proofs.lemmas.Bool.Decides.{same_from_decides}
 use Rattle.std.proofs.lemmas.List.{get_or-reverse, length-reverse, reverse-reverse}
 use Rattle.nd_base.proofs.laws.Definitions.{is_index, is_empty}
 
--- an index has one entry for each axis
+-- an index has one coordinate for each axis
 pub length_of_index : (shape index : List ℕ) → is_index shape index ≡ true → length index ≡ length shape
 length_of_index [] [] h = refl
 length_of_index [] (i ∷ index) h = absurd (cc)
@@ -15,15 +15,15 @@ length_of_index (len ∷ lens) [] h = absurd (cc)
 length_of_index (len ∷ lens) (i ∷ index) h =
     ap suc (length_of_index lens index (and_parts (nat_lt i len) (is_index lens index) h).1)
 
--- each entry of an index is below the length of its axis
-pub entry_of_index : (shape index : List ℕ) (axis : ℕ) → is_index shape index ≡ true → axis < length shape
+-- each coordinate of an index is below the length of its axis
+pub coordinate_of_index : (shape index : List ℕ) (axis : ℕ) → is_index shape index ≡ true → axis < length shape
     → get_or index axis 0 < get_or shape axis 0
-entry_of_index [] index axis h l = absurd (omega arith)
-entry_of_index (len ∷ lens) [] axis h l = absurd (cc)
-entry_of_index (len ∷ lens) (i ∷ index) zero h l =
+coordinate_of_index [] index axis h l = absurd (omega arith)
+coordinate_of_index (len ∷ lens) [] axis h l = absurd (cc)
+coordinate_of_index (len ∷ lens) (i ∷ index) zero h l =
     ltb-true i len (and_parts (nat_lt i len) (is_index lens index) h).0
-entry_of_index (len ∷ lens) (i ∷ index) (suc axis) h l =
-    entry_of_index lens index axis (and_parts (nat_lt i len) (is_index lens index) h).1 (omega arith)
+coordinate_of_index (len ∷ lens) (i ∷ index) (suc axis) h l =
+    coordinate_of_index lens index axis (and_parts (nat_lt i len) (is_index lens index) h).1 (omega arith)
 
 -- a shape with an index has no zero length
 pub nonempty_from_index : (shape index : List ℕ) → is_index shape index ≡ true → is_empty shape ≡ false
@@ -42,23 +42,23 @@ is_index-zeros (len ∷ lens) h =
     and_from (nat_lt 0 len) (is_index lens (replicate (length lens) 0)) (lt-ltb 0 len (pos_of_ne-zero (eqb-false len 0 parts.0)))
     (is_index-zeros lens parts.1)
 
--- a list with an entry for each axis, below its length, is an index
-pub is_index_from_entries : (shape index : List ℕ) → length index ≡ length shape
+-- a list with a coordinate for each axis, below its length, is an index
+pub is_index_from_coordinates : (shape index : List ℕ) → length index ≡ length shape
     → ((axis : ℕ) → axis < length shape → get_or index axis 0 < get_or shape axis 0) → is_index shape index ≡ true
-is_index_from_entries [] [] e h = refl
-is_index_from_entries [] (i ∷ index) e h = absurd (omega arith)
-is_index_from_entries (len ∷ shape) [] e h = absurd (omega arith)
-is_index_from_entries (len ∷ shape) (i ∷ index) e h =
+is_index_from_coordinates [] [] e h = refl
+is_index_from_coordinates [] (i ∷ index) e h = absurd (omega arith)
+is_index_from_coordinates (len ∷ shape) [] e h = absurd (omega arith)
+is_index_from_coordinates (len ∷ shape) (i ∷ index) e h =
     and_from (nat_lt i len) (is_index shape index) (lt-ltb i len (h 0 (omega arith)))
-    (is_index_from_entries shape index (omega arith) (λ axis l. h (suc axis) (omega arith)))
+    (is_index_from_coordinates shape index (omega arith) (λ axis l. h (suc axis) (omega arith)))
 
 from_back : (shape index : List ℕ) → is_index shape index ≡ true → is_index (reverse shape) (reverse index) ≡ true
 from_back shape index h =
     let count : length index ≡ length shape = length_of_index shape index h in
-    is_index_from_entries (reverse shape) (reverse index) (length-reverse index ∙ count ∙ sym (length-reverse shape)) (λ axis l.
+    is_index_from_coordinates (reverse shape) (reverse index) (length-reverse index ∙ count ∙ sym (length-reverse shape)) (λ axis l.
     let within : axis < length shape = omega (arith, length-reverse shape) in
     rw (get_or-reverse shape axis 0 within, get_or-reverse index axis 0 (omega arith), count)
-    (entry_of_index shape index (length shape - 1 - axis) h (omega arith)))
+    (coordinate_of_index shape index (length shape - 1 - axis) h (omega arith)))
 
 -- an index read from the back is one of the shape read from the back
 pub is_index-reverse : (shape index : List ℕ) → is_index (reverse shape) (reverse index) ≡ is_index shape index

@@ -5,7 +5,7 @@ use Rattle.std.proofs.Common.{mul-le-mul_left, mul_comm, pos_of_ne-zero, zero-mu
 use Rattle.std.proofs.lemmas.Bool.{cases_eq, cond-true, cond-false, eq-eqb, ne_eqb, or_parts, eqb-false}
 use Rattle.std.proofs.lemmas.List.{get_or_default}
 use Rattle.nd_base.proofs.laws.Definitions.{is_index, is_empty, nonzero_size, size}
-use Rattle.nd_base.proofs.laws.IsIndex.{length_of_index, entry_of_index}
+use Rattle.nd_base.proofs.laws.IsIndex.{length_of_index, coordinate_of_index}
 use Rattle.nd_base.proofs.laws.Lists.{fold-push, fold-reverse}
 
 -- a zero length is passed over
@@ -66,12 +66,12 @@ length_le_nonzero_size (len ∷ lens) zero = (factors len (nonzero_size lens) (n
 length_le_nonzero_size (len ∷ lens) (suc axis) =
     omega (arith, length_le_nonzero_size lens axis, (factors len (nonzero_size lens) (nonzero_size_pos lens)).1)
 
--- and so is each entry of an index
-pub entry_le_nonzero_size : (shape index : List ℕ) → is_index shape index ≡ true
+-- and so is each coordinate of an index
+pub coordinate_le_nonzero_size : (shape index : List ℕ) → is_index shape index ≡ true
     → (k d : ℕ) → k < length index → get_or index k d ≤ nonzero_size shape
-entry_le_nonzero_size shape index here k d below =
+coordinate_le_nonzero_size shape index here k d below =
     let within : k < length shape = omega (arith, length_of_index shape index here) in
-    omega (arith, get_or_default index k d 0 below, entry_of_index shape index k here within, length_le_nonzero_size shape k)
+    omega (arith, get_or_default index k d 0 below, coordinate_of_index shape index k here within, length_le_nonzero_size shape k)
 
 factors_swap : (t u : Bool) (a b n : ℕ)
     → cond t (cond u n (b * n)) (a * cond u n (b * n)) ≡ cond u (cond t n (a * n)) (b * cond t n (a * n))

@@ -10,17 +10,17 @@ use Rattle.std.proofs.lemmas.List.{length-map, length-reverse, reverse-append}
 use Rattle.nd_base.proofs.laws.Definitions.{is_index, checked_offset, offset_of, farthest_offset, all_signed, signed, limit, high_span}
 use Rattle.nd_base.proofs.laws.Definitions.{low_span, reach_down, reach_up, IsValidLayout}
 use Rattle.nd_base.proofs.laws.IsIndex.{length_of_index}
-use Rattle.nd_base.proofs.laws.NonzeroSize.{entry_le_nonzero_size}
+use Rattle.nd_base.proofs.laws.NonzeroSize.{coordinate_le_nonzero_size}
 use Rattle.nd_base.proofs.laws.Reach.{farthest_offset_le}
 
--- one entry lies within the reach of its axis
-pub entry_bounds : (len : ℕ) (stride : ℤ) (i : ℕ) → i < len
+-- one coordinate lies within the reach of its axis
+pub coordinate_bounds : (len : ℕ) (stride : ℤ) (i : ℕ) → i < len
     → (neg_ℤ (pos (reach_down len stride)) ≤ℤ (pos i *ℤ stride)) × ((pos i *ℤ stride) ≤ℤ pos (reach_up len stride))
-entry_bounds len (pos s) i h =
+coordinate_bounds len (pos s) i h =
     let steps : i ≤ len - 1 = omega arith in
     let most : i * s ≤ (len - 1) * s = mul-le-mul_right s steps in
     (omega (arith, ints), omega (arith, ints))
-entry_bounds len (negsuc s) i h =
+coordinate_bounds len (negsuc s) i h =
     let steps : i ≤ len - 1 = omega arith in
     let most = mul-le-mul_right (suc s) steps in
     (omega (arith, ints), omega (arith, ints))
@@ -35,7 +35,7 @@ offset_bounds (len ∷ shape) [] index h e = absurd (omega arith)
 offset_bounds (len ∷ shape) (stride ∷ strides) [] h e = absurd (cc)
 offset_bounds (len ∷ shape) (stride ∷ strides) (i ∷ index) h e =
     let parts = and_parts (nat_lt i len) (is_index shape index) h in
-    let here = entry_bounds len stride i (ltb-true i len parts.0) in
+    let here = coordinate_bounds len stride i (ltb-true i len parts.0) in
     let rest = offset_bounds shape strides index parts.1 (omega arith) in
     (omega (arith, ints, here.0, rest.0), omega (arith, ints, here.1, rest.1))
 
@@ -45,7 +45,7 @@ offset_of-zeros strides zero = refl
 offset_of-zeros [] (suc n) = refl
 offset_of-zeros (stride ∷ strides) (suc n) = omega (arith, ints, offset_of-zeros strides n)
 
--- one axis more moves by its entry
+-- one axis more moves by its coordinate
 pub offset_of-push : (strides : List ℤ) (index : List ℕ) (stride : ℤ) (i : ℕ) → length strides ≡ length index
     → offset_of (strides ++ stride ∷ []) (index ++ i ∷ []) ≡ (pos i *ℤ stride) +ℤ offset_of strides index
 offset_of-push [] [] stride i e = refl
@@ -77,18 +77,18 @@ given_offset shape strides index offset e = by (is_index shape index) refl e
     by true h g = (h, cc)
     by false h g = absurd (cc)
 
--- what a call asks that adds up an offset whatever the shape: a stride for each entry, and every part of the sum fits
+-- what a call asks that adds up an offset whatever the shape: a stride for each coordinate, and every part of the sum fits
 pub record CanAddUp (strides index : List ℕ) : Type 0 where
   pub same_count : length index ≡ length strides
-  pub small : All (λ entry. entry ≤ limit) index
+  pub small : All (λ coordinate. coordinate ≤ limit) index
   pub fits : farthest_offset (all_signed strides) index ≤ limit
 
--- an index of a valid layout meets it
+-- an index of a valid layout satisfies it
 pub index_can_add_up : (shape strides index : List ℕ) → IsValidLayout shape (all_signed strides)
     → is_index shape index ≡ true → CanAddUp strides index
 index_can_add_up shape strides index valid here = record {
   same_count = omega (arith, length_of_index shape index here, valid.same_count, length-map strides signed);
-  small = λ k d below. omega (arith, entry_le_nonzero_size shape index here k d below, valid.size_fits);
+  small = λ k d below. omega (arith, coordinate_le_nonzero_size shape index here k d below, valid.size_fits);
   fits = omega (arith, farthest_offset_le shape (all_signed strides) index here, valid.span_fits);
 }
 

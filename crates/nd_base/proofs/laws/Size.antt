@@ -39,16 +39,16 @@ drop_nonempty shape zero h = h
 drop_nonempty [] (suc k) h = h
 drop_nonempty (n ∷ lens) (suc k) h = drop_nonempty lens k (or_parts (eqb n 0) (is_empty lens) h).1
 
-or_turned : (a b c : Bool) → (a || (b || c)) ≡ (b || (a || c))
-or_turned a b c = sym (or_assoc a b c) ∙ ap (λ t. t || c) (or_comm a b) ∙ or_assoc b a c
+or_flipped : (a b c : Bool) → (a || (b || c)) ≡ (b || (a || c))
+or_flipped a b c = sym (or_assoc a b c) ∙ ap (λ t. t || c) (or_comm a b) ∙ or_assoc b a c
 
 -- one axis more at the back is one at the front
 pub is_empty-push : (shape : List ℕ) (len : ℕ) → is_empty (shape ++ len ∷ []) ≡ is_empty (len ∷ shape)
-is_empty-push shape len = fold-push (λ n b. eqb n 0 || b) is_empty (λ n lens. refl) (λ m n b. or_turned (eqb m 0) (eqb n 0) b) shape len
+is_empty-push shape len = fold-push (λ n b. eqb n 0 || b) is_empty (λ n lens. refl) (λ m n b. or_flipped (eqb m 0) (eqb n 0) b) shape len
 
 -- the axes read from the back have a zero length where the shape has one
 pub is_empty-reverse : (shape : List ℕ) → is_empty (reverse shape) ≡ is_empty shape
-is_empty-reverse = fold-reverse (λ n b. eqb n 0 || b) is_empty (λ n lens. refl) (λ m n b. or_turned (eqb m 0) (eqb n 0) b)
+is_empty-reverse = fold-reverse (λ n b. eqb n 0 || b) is_empty (λ n lens. refl) (λ m n b. or_flipped (eqb m 0) (eqb n 0) b)
 
 -- ---- shapes one after the other
 -- the axes of two shapes have both sizes as factors

@@ -1,4 +1,4 @@
--- Laws of contiguous layouts: the written rule says exactly that the indices fill one stretch of memory.
+-- Laws of contiguous layouts: the no-alias rule says exactly that the indices fill one interval of memory.
 use Rattle.std.proofs.Common.{◌≡◌, ◌⊎◌, ◌↔◌, ℕ, zero, suc, ◌+◌, ◌-◌, ◌<◌, ◌≤◌, ℤ, pos, negsuc, ◌+ℤ◌, ◌≤ℤ◌, Bool, true, false, eqb, List}
 use Rattle.std.proofs.Common.{[], ◌∷◌, length, map, cond, refl, sym, ap, ◌∙◌, arith, inl, inr, subst}
 use Rattle.std.specs.Bool.{IsTrue}
@@ -14,11 +14,11 @@ use Rattle.nd_base.specs.declared.order.Order.TheVariants.{RowMajor}
 use Rattle.nd_base.proofs.laws.Below.{all_below, passes_below}
 use Rattle.nd_base.proofs.laws.Definitions.{below, offset_of, places, index_of_flat, flat_index, magnitude, is_empty, size, low_span}
 use Rattle.nd_base.proofs.laws.FlatIndex.{is_index-index_of_flat, flat_index-index_of_flat, same_from_flat_index_in}
-use Rattle.nd_dim.specs.Contiguous.{is_contiguous, is_lone_step_back, is_packed, is_packed_at, lens_before}
-use Rattle.nd_dim.specs.OneStretch.{FillsStretch}
+use Rattle.nd_dim.specs.Contiguous.{is_contiguous, is_lone_reversed, is_packed, is_packed_at, lens_before}
+use Rattle.nd_dim.specs.OneInterval.{FillsInterval}
 use Rattle.nd_dim.specs.Strides.{default_strides}
 use Rattle.nd_dim.proofs.PackedLayouts.{IsPackedAt, fills_from_packed, packed_from_reaches}
-use Rattle.nd_dim.proofs.laws.OneStretch.{places_in_stretch, reaches_from_stretch, stretch_from_reaches}
+use Rattle.nd_dim.proofs.laws.OneInterval.{interval_from_reaches, places_in_interval, reaches_from_interval}
 use Rattle.nd_dim.proofs.laws.Strides.{offset_of-default_strides}
 
 -- ---- default strides
@@ -31,16 +31,16 @@ same_flat_index a b m n p q e = omega (arith, ints)
 from_zero : (k : ℕ) → pos k ≡ pos 0 +ℤ pos k
 from_zero k = omega (arith, ints)
 
--- by the default strides the indices fill a stretch, each at its flat index
-pub stretch_of_default : (lens : List ℕ) → FillsStretch lens (map pos (default_strides lens))
-stretch_of_default lens = record {
+-- by the default strides the indices fill an interval, each at its flat index
+pub interval_of_default : (lens : List ℕ) → FillsInterval lens (map pos (default_strides lens))
+interval_of_default lens = record {
   least = pos 0;
   none_below = λ index h. at_flat_index (offset_of (map pos (default_strides lens)) index) (flat_index lens index)
       (offset_of-default_strides lens index h);
   filled = λ k h.
       let index = index_of_flat lens k in
-      let inside = is_index-index_of_flat lens k h in
-      (index, inside, offset_of-default_strides lens index inside ∙ ap pos (flat_index-index_of_flat lens k h) ∙ from_zero k);
+      let in_bounds = is_index-index_of_flat lens k h in
+      (index, in_bounds, offset_of-default_strides lens index in_bounds ∙ ap pos (flat_index-index_of_flat lens k h) ∙ from_zero k);
   distinct = λ index other h g e.
       same_from_flat_index_in RowMajor lens index other h g
       (same_flat_index (offset_of (map pos (default_strides lens)) index) (offset_of (map pos (default_strides lens)) other)
@@ -59,18 +59,18 @@ module _ (lens : List ℕ) (strides : List ℤ) where
   packed_test axis (inl one) = or_left _ _ (eq-eqb _ _ one)
   packed_test axis (inr fits) = or_right _ _ (eq-eqb _ _ fits)
 
-  -- where every axis is packed, the indices fill a stretch
-  stretch_from_packed : length lens ≡ length strides → is_empty lens ≡ false
-      → ((axis : ℕ) → axis < length lens → IsPackedAt lens strides axis) → FillsStretch lens strides
-  stretch_from_packed count some packed =
+  -- where every axis is packed, the indices fill an interval
+  interval_from_packed : length lens ≡ length strides → is_empty lens ≡ false
+      → ((axis : ℕ) → axis < length lens → IsPackedAt lens strides axis) → FillsInterval lens strides
+  interval_from_packed count some packed =
       let fills = fills_from_packed lens strides count some packed in
-      stretch_from_reaches lens strides count fills.each
+      interval_from_reaches lens strides count fills.each
 
   -- and where they fill one, every axis is
-  packed_from_stretch : length lens ≡ length strides → is_empty lens ≡ false → FillsStretch lens strides → (axis : ℕ) → axis < length lens
+  packed_from_interval : length lens ≡ length strides → is_empty lens ≡ false → FillsInterval lens strides → (axis : ℕ) → axis < length lens
       → IsPackedAt lens strides axis
-  packed_from_stretch count some stretch =
-      packed_from_reaches lens strides count some (reaches_from_stretch lens strides count some stretch)
+  packed_from_interval count some interval =
+      packed_from_reaches lens strides count some (reaches_from_interval lens strides count some interval)
 
 -- ---- a lone axis
 not_before_itself : (m : ℕ) → (nat_lt m m || (m == m && nat_lt 0 0)) ≡ false
@@ -81,7 +81,7 @@ none_before : (len : ℕ) (stride : ℤ) → size (lens_before (len ∷ []) (str
 none_before len stride =
     ap (λ b. size (map (slice_index (len ∷ [])) (cond b (0 ∷ []) []))) (not_before_itself (magnitude stride))
 
-lone_packed : (len : ℕ) (stride : ℤ) → is_empty (len ∷ []) ≡ false → is_lone_step_back (len ∷ []) (stride ∷ []) ≡ true → (axis : ℕ)
+lone_packed : (len : ℕ) (stride : ℤ) → is_empty (len ∷ []) ≡ false → is_lone_reversed (len ∷ []) (stride ∷ []) ≡ true → (axis : ℕ)
     → axis < length (len ∷ []) → IsPackedAt (len ∷ []) (stride ∷ []) axis
 lone_packed len stride some h (suc axis) l = absurd (omega arith)
 lone_packed len stride some h zero l = elim (or_cases _ _ h) [
@@ -99,7 +99,7 @@ one_step (negsuc s) e = let none : s ≡ 0 = omega arith in inr (ap negsuc none)
 lone_default : (len : ℕ) → is_empty (len ∷ []) ≡ false → map pos (default_strides (len ∷ [])) ≡ pos 1 ∷ []
 lone_default len some = ap (map pos) (cond-false _ _ _ some)
 
-lone_rule : (len : ℕ) (stride : ℤ) → is_lone_step_back (len ∷ []) (stride ∷ []) ≡ true → is_contiguous (len ∷ []) (stride ∷ []) ≡ true
+lone_rule : (len : ℕ) (stride : ℤ) → is_lone_reversed (len ∷ []) (stride ∷ []) ≡ true → is_contiguous (len ∷ []) (stride ∷ []) ≡ true
 lone_rule len stride h = or_right _ _ h
 
 lone_contiguous : (len : ℕ) (stride : ℤ) → is_empty (len ∷ []) ≡ false → IsPackedAt (len ∷ []) (stride ∷ []) 0
@@ -115,7 +115,7 @@ lone_contiguous len stride some (inr fits) = elim (one_step stride (fits ∙ non
 -- ---- the rule
 -- what the rule asks where the strides are not the default ones
 abbrev asked : List ℕ → List ℤ → Bool
-asked lens strides = (if length lens == 1 then is_lone_step_back lens strides else is_packed lens strides)
+asked lens strides = (if length lens == 1 then is_lone_reversed lens strides else is_packed lens strides)
 
 asked_of_several : (len more : ℕ) (lens : List ℕ) (strides : List ℤ)
     → asked (len ∷ more ∷ lens) strides ≡ is_packed (len ∷ more ∷ lens) strides
@@ -145,33 +145,33 @@ rule_from_packed (len ∷ more ∷ lens) strides count some packed =
     ∙ all_below (is_packed_at all strides) (length all) (λ axis l. packed_test all strides axis (packed axis l)))
 
 module _ (lens : List ℕ) (strides : List ℤ) (count : length lens ≡ length strides) (some : is_empty lens ≡ false) where
-  -- a layout that the rule takes fills one stretch
-  pub stretch_from_rule : is_contiguous lens strides ≡ true → FillsStretch lens strides
-  stretch_from_rule h = elim (or_cases _ _ h) [
+  -- a layout that the rule takes fills one interval
+  pub interval_from_rule : is_contiguous lens strides ≡ true → FillsInterval lens strides
+  interval_from_rule h = elim (or_cases _ _ h) [
     | inl default ↦
-        let P : List ℤ → Type 0 = λ s. FillsStretch lens s in
-        subst P (sym ((signed_items strides (map pos (default_strides lens))).0 default)) (stretch_of_default lens)
-    | inr other ↦ stretch_from_packed lens strides count some (packed_from_asked lens strides count some other)
+        let P : List ℤ → Type 0 = λ s. FillsInterval lens s in
+        subst P (sym ((signed_items strides (map pos (default_strides lens))).0 default)) (interval_of_default lens)
+    | inr other ↦ interval_from_packed lens strides count some (packed_from_asked lens strides count some other)
   ]
 
   -- and the rule takes each that does
-  pub rule_from_stretch : FillsStretch lens strides → is_contiguous lens strides ≡ true
-  rule_from_stretch stretch = rule_from_packed lens strides count some (packed_from_stretch lens strides count some stretch)
+  pub rule_from_interval : FillsInterval lens strides → is_contiguous lens strides ≡ true
+  rule_from_interval interval = rule_from_packed lens strides count some (packed_from_interval lens strides count some interval)
 
-  -- of a shape without a zero axis, the rule takes exactly the layouts that fill one stretch
-  pub contiguous_exactly : IsTrue (is_contiguous lens strides) ↔ FillsStretch lens strides
-  contiguous_exactly = (stretch_from_rule, rule_from_stretch)
+  -- of a shape without a zero axis, the rule takes exactly the layouts that fill one interval
+  pub contiguous_exactly : IsTrue (is_contiguous lens strides) ↔ FillsInterval lens strides
+  contiguous_exactly = (interval_from_rule, rule_from_interval)
 
-  -- ---- a walk along a contiguous layout
-  -- the places of a layout that the rule takes are start less the low span, one more, and so on: each index is met once
+  -- ---- a pass along a contiguous layout
+  -- the places of a layout that the rule takes are start less the low span, one more, and so on: each index comes once
   pub places_of_contiguous : (order : Order) (start : ℕ) → low_span lens strides ≤ start → is_contiguous lens strides ≡ true
       → IsPermutation (map (λ k. pos (start - low_span lens strides + k)) (below (size lens))) (places order start lens strides)
-  places_of_contiguous order start fits h = places_in_stretch lens strides count some (stretch_from_rule h) order start fits
+  places_of_contiguous order start fits h = places_in_interval lens strides count some (interval_from_rule h) order start fits
 
 -- ---- examples
-both_reversed : FillsStretch (2 ∷ 3 ∷ []) (negsuc 2 ∷ negsuc 0 ∷ [])
-both_reversed = stretch_from_rule (2 ∷ 3 ∷ []) (negsuc 2 ∷ negsuc 0 ∷ []) refl refl refl
+both_reversed : FillsInterval (2 ∷ 3 ∷ []) (negsuc 2 ∷ negsuc 0 ∷ [])
+both_reversed = interval_from_rule (2 ∷ 3 ∷ []) (negsuc 2 ∷ negsuc 0 ∷ []) refl refl refl
 
-with_a_gap : FillsStretch (2 ∷ 3 ∷ []) (pos 1 ∷ pos 3 ∷ []) → ⊥
-with_a_gap stretch = both_ways (is_contiguous (2 ∷ 3 ∷ []) (pos 1 ∷ pos 3 ∷ [])) refl
-    (rule_from_stretch (2 ∷ 3 ∷ []) (pos 1 ∷ pos 3 ∷ []) refl refl stretch)
+with_a_gap : FillsInterval (2 ∷ 3 ∷ []) (pos 1 ∷ pos 3 ∷ []) → ⊥
+with_a_gap interval = both_ways (is_contiguous (2 ∷ 3 ∷ []) (pos 1 ∷ pos 3 ∷ [])) refl
+    (rule_from_interval (2 ∷ 3 ∷ []) (pos 1 ∷ pos 3 ∷ []) refl refl interval)

@@ -28,7 +28,7 @@ still_there x xs ys z apart found there = elim (contains_at x ys z there.0 there
 -- where an item is taken out of both lists, as many are left, and those left of the first are among those of the other
 pub record TakenOut {X : Type 0} (x : X) (xs ys : List X) : Type 0 where
   pub at : ℕ
-  pub inside : at < length ys
+  pub in_bounds : at < length ys
   pub is : get_or ys at x ≡ x
   pub count : length xs ≡ length (remove ys at)
   pub there : (z : X) → Contains xs z → Contains (remove ys at) z
@@ -42,7 +42,7 @@ taken_out x xs ys apart count h =
     let many : length (x ∷ others) ≡ length ys = length_permutation ys (x ∷ others) moved in
     record {
       at = found.0;
-      inside = found.1;
+      in_bounds = found.1;
       is = found.2;
       count = omega arith;
       there = λ z c. still_there x xs others z apart c
@@ -61,6 +61,6 @@ permutation_from_members {X = X} [] ys apart count h =
 permutation_from_members (x ∷ xs) ys apart count h =
     let out = taken_out x xs ys apart count h in
     let others = remove ys out.at in
-    let moved : IsPermutation ys (x ∷ others) = IsPermutation-remove ys out.at x out.inside (sym out.is) in
+    let moved : IsPermutation ys (x ∷ others) = IsPermutation-remove ys out.at x out.in_bounds (sym out.is) in
     let rest : IsPermutation xs others = permutation_from_members xs others (later_apart x xs apart) out.count out.there in
     IsPermutation-trans (x ∷ xs) (x ∷ others) ys (IsPermutation-cons x xs others rest) (IsPermutation-sym ys (x ∷ others) moved)

@@ -108,13 +108,13 @@ fortran_by_default shape =
     let within : k < length shape = omega (arith, fortran_count shape) in
     let other = length back - 1 - k in
     let there : other < length (reverse shape) = omega (arith, length-reverse shape, count) in
-    let turned = get_or-reverse back k 0 (omega (arith, count)) in
+    let flipped = get_or-reverse back k 0 (omega (arith, count)) in
     elim (cases_Bool (is_empty shape)) [
-      | inl none ↦ (zero_at shape k none within).1 ∙ sym (turned ∙ (zero_at (reverse shape) other (is_empty-reverse shape ∙ none) there).0)
+      | inl none ↦ (zero_at shape k none within).1 ∙ sym (flipped ∙ (zero_at (reverse shape) other (is_empty-reverse shape ∙ none) there).0)
       | inr some ↦
           let after : other + 1 ≡ length shape - k = omega (arith, count) in
           fortran_at shape k some within
-          ∙ sym (turned
+          ∙ sym (flipped
           ∙ default_at (reverse shape) other (is_empty-reverse shape ∙ some) there
           ∙ ap (λ a. size (drop a (reverse shape))) after
           ∙ ap size (drop-reverse k shape)

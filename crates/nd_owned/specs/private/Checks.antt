@@ -8,13 +8,13 @@ use Rattle.ndarray_layout.specs.declared.SliceInfoElem.{SliceInfoElem}
 use Rattle.ndarray_layout.specs.declared.SliceInfoElem.TheVariants as elem
 use Rattle.nd_owned.specs.Writes.{Write}
 use Rattle.ndarray_layout.specs.declared.Fit.TheVariants.{Strict}
-use Rattle.ndarray_layout.specs.Meet.{Meet}
+use Rattle.ndarray_layout.specs.Intersect.{Intersect}
 
 -- the error, or none, of a slice that is to share an index with none of those of a list
 abbrev pub IsIntersectionFaultOf : {T : Type 0} → List ℕ → List SliceInfoElem → List (Write T) → Option ErrorKind → Type 0
-IsIntersectionFaultOf shape slice others None = All (λ other. Meet Strict shape slice other.slice → ⊥) others
+IsIntersectionFaultOf shape slice others None = All (λ other. Intersect Strict shape slice other.slice → ⊥) others
 IsIntersectionFaultOf shape slice others (Some kind) =
-    (kind ≡ Unsupported) × (at : ℕ) × IsSomeAnd (slice_get others at) (λ other. Meet Strict shape slice other.slice)
+    (kind ≡ Unsupported) × (at : ℕ) × IsSomeAnd (slice_get others at) (λ other. Intersect Strict shape slice other.slice)
 
 -- examples
 abbrev first : Write ℕ
@@ -23,7 +23,7 @@ first = record { slice = elem.Index (pos 0) ∷ []; items = 7 ∷ [] }
 abbrev second : Write ℕ
 second = record { slice = elem.Index (pos 1) ∷ []; items = 8 ∷ [] }
 
-abbrev shared : Meet Strict (2 ∷ []) first.slice first.slice
+abbrev shared : Intersect Strict (2 ∷ []) first.slice first.slice
 shared = (0 ∷ [], refl, ((0, ltb-true 0 1 refl, refl), tt), ((0, ltb-true 0 1 refl, refl), tt))
 
 intersects_itself : IsIntersectionFaultOf (2 ∷ []) first.slice (second ∷ first ∷ []) (Some Unsupported)

@@ -7,7 +7,7 @@ use Rattle.ndarray_layout.specs.declared.Fit.TheVariants.{Strict}
 use Rattle.ndarray_layout.specs.declared.SliceInfoElem.{SliceInfoElem}
 use Rattle.ndarray_layout.specs.declared.SliceInfoElem.TheVariants as elem
 use Rattle.ndarray_layout.specs.ElemRange.{elem_end, elem_start}
-use Rattle.ndarray_layout.specs.Meet.{elem_picks}
+use Rattle.ndarray_layout.specs.Intersect.{elem_picks}
 use Rattle.nd_owned.specs.Writes.{Write}
 
 -- a number from start up to, not including, end

@@ -5,13 +5,13 @@ use Rattle.std.proofs.Math.Dec.{lt→ltb}
 use Rattle.std.proofs.Math.Nat.{not-suc-le-zero}
 use Rattle.std.proofs.lemmas.Bool.{both_ways, ltb-true}
 use Rattle.std.specs.List.{All, Contains}
-use Rattle.ndarray_layout.specs.Inside.{IsInside}
+use Rattle.ndarray_layout.specs.Bounds.{IsInBounds}
 use Rattle.nd_owned.specs.Owned.{item_at_place}
 
 -- places lie among so many elements, and are numbers of an `isize`
-pub record AreInside (count : ℕ) (places : List ℤ) : Type 0 where
-  pub within : All (IsInside count) places
-  pub fit : All (IsInside (2 ^ 63)) places
+pub record AreInBounds (count : ℕ) (places : List ℤ) : Type 0 where
+  pub within : All (IsInBounds count) places
+  pub fit : All (IsInBounds (2 ^ 63)) places
 
 -- items are at places, and all others stay
 pub record HasWritten {T : Type 0} (places : List ℤ) (items old new : List T) : Type 0 where
@@ -19,8 +19,8 @@ pub record HasWritten {T : Type 0} (places : List ℤ) (items old new : List T) 
   pub kept : (place : ℕ) → (Contains places (pos place) → ⊥) → slice_get new place ≡ slice_get old place
 
 -- examples
-place_past_the_end : AreInside 5 (pos 5 ∷ pos 3 ∷ []) → ⊥
-place_past_the_end inside = lt→ltb 5 5 (inside.within 0 (pos 0) (ltb-true 0 2 refl))
+place_past_the_end : AreInBounds 5 (pos 5 ∷ pos 3 ∷ []) → ⊥
+place_past_the_end in_bounds = lt→ltb 5 5 (in_bounds.within 0 (pos 0) (ltb-true 0 2 refl))
 
 item_not_there : HasWritten {T = ℕ} (pos 1 ∷ []) (20 ∷ []) (7 ∷ 7 ∷ []) (7 ∷ 7 ∷ []) → ⊥
 item_not_there left =

@@ -3,17 +3,17 @@ use Rattle.std.proofs.Common.{◌≡◌, ℕ, ◌≤◌, false, List, None, arit
 use Rattle.std.proofs.lemmas.Grind.{common_steps}
 use Rattle.nd_base.specs.declared.order.Order.{Order}
 use Rattle.nd_base.specs.declared.order.Order.TheVariants.{RowMajor, ColumnMajor}
-use Rattle.nd_base.proofs.laws.Definitions.{HasDistinctOffsets, LiesInside, all_signed, is_empty, limit}
+use Rattle.nd_base.proofs.laws.Definitions.{HasDistinctOffsets, LiesInBounds, all_signed, is_empty, limit}
 use Rattle.nd_base.proofs.laws.Definitions.{nonzero_size, size, low_span, IsValidLayout}
 use Rattle.nd_shape.specs.AcceptanceByStrides.{acceptance_of_standard, acceptance_by_strides}
-use Rattle.nd_shape.specs.declared.checks.CanIndexCheckMode.{CanIndexCheckMode}
-use Rattle.nd_shape.specs.declared.checks.CanIndexCheckMode.TheVariants.{OwnedMutable}
+use Rattle.nd_shape.specs.declared.acceptance.CanIndexCheckMode.{CanIndexCheckMode}
+use Rattle.nd_shape.specs.declared.acceptance.CanIndexCheckMode.TheVariants.{OwnedMutable}
 use Rattle.nd_shape.specs.declared.shape_builder.Strides.{Strides}
 use Rattle.nd_shape.specs.declared.shape_builder.Strides.TheVariants.{C, F, Custom}
 use Rattle.nd_shape.specs.ShapeBuilder.{standard_strides, strides_list}
-use Rattle.nd_shape.specs.OwnedRule.{MeetsOwnedRule}
-use Rattle.nd_shape.proofs.laws.StandardStrides.{standard_valid, standard_low_span, standard_inside, standard_distinct, standard_meets_rule}
-use Rattle.nd_shape.proofs.laws.Acceptance.{accepted_valid, accepted_lies_inside, accepted_distinct}
+use Rattle.nd_shape.specs.NoAlias.{SatisfiesNoAliasRule}
+use Rattle.nd_shape.proofs.laws.StandardStrides.{standard_valid, standard_low_span, standard_in_bounds, standard_distinct, standard_satisfies_rule}
+use Rattle.nd_shape.proofs.laws.Acceptance.{accepted_valid, accepted_lies_in_bounds, accepted_distinct}
 
 -- ---- shapes by their own strides
 -- what is accepted has sizes within the limit, and no more indices than there are elements
@@ -25,8 +25,8 @@ standard_room len shape h = grind (arith, common_steps)
 
 module _ (order : Order) (len : ℕ) (shape : List ℕ) (h : acceptance_of_standard len shape ≡ None) where
   -- so each index lies within the data
-  pub standard_accepted_inside : LiesInside len 0 shape (all_signed (standard_strides order shape))
-  standard_accepted_inside = standard_inside order len shape (standard_size len shape h) (standard_room len shape h)
+  pub standard_accepted_in_bounds : LiesInBounds len 0 shape (all_signed (standard_strides order shape))
+  standard_accepted_in_bounds = standard_in_bounds order len shape (standard_size len shape h) (standard_room len shape h)
 
   -- every sum on it fits
   pub standard_accepted_valid : IsValidLayout shape (all_signed (standard_strides order shape))
@@ -37,14 +37,14 @@ module _ (order : Order) (len : ℕ) (shape : List ℕ) (h : acceptance_of_stand
   standard_accepted_distinct = standard_distinct order shape (standard_size len shape h)
 
   -- by the no-alias rule, where there is an index
-  pub standard_accepted_rule : is_empty shape ≡ false → MeetsOwnedRule shape (all_signed (standard_strides order shape))
-  standard_accepted_rule some = standard_meets_rule order shape (standard_size len shape h) some
+  pub standard_accepted_rule : is_empty shape ≡ false → SatisfiesNoAliasRule shape (all_signed (standard_strides order shape))
+  standard_accepted_rule some = standard_satisfies_rule order shape (standard_size len shape h) some
 
 -- ---- by their own strides or by given ones
 from_low_span : (order : Order) (len : ℕ) (shape : List ℕ) → acceptance_of_standard len shape ≡ None
-    → LiesInside len (low_span shape (all_signed (standard_strides order shape))) shape (all_signed (standard_strides order shape))
+    → LiesInBounds len (low_span shape (all_signed (standard_strides order shape))) shape (all_signed (standard_strides order shape))
 from_low_span order len shape h =
-    rw (standard_low_span order shape (standard_size len shape h)) (standard_accepted_inside order len shape h)
+    rw (standard_low_span order shape (standard_size len shape h)) (standard_accepted_in_bounds order len shape h)
 
 -- every sum on an accepted layout fits
 pub by_strides_valid : {D : Type 0} (list : D → List ℕ) (elem_size len : ℕ) (mode : CanIndexCheckMode) (shape : List ℕ)
@@ -55,13 +55,13 @@ by_strides_valid list elem_size len mode shape F h = standard_valid ColumnMajor 
 by_strides_valid list elem_size len mode shape (Custom strides) h = accepted_valid elem_size len mode shape (all_signed (list strides)) h
 
 -- each of its indices lies within the data
-pub by_strides_inside : {D : Type 0} (list : D → List ℕ) (elem_size len : ℕ) (mode : CanIndexCheckMode) (shape : List ℕ)
+pub by_strides_in_bounds : {D : Type 0} (list : D → List ℕ) (elem_size len : ℕ) (mode : CanIndexCheckMode) (shape : List ℕ)
     (strides : Strides D) → acceptance_by_strides list elem_size len mode shape strides ≡ None
-    → LiesInside len (low_span shape (all_signed (strides_list list shape strides))) shape (all_signed (strides_list list shape strides))
-by_strides_inside list elem_size len mode shape C h = from_low_span RowMajor len shape h
-by_strides_inside list elem_size len mode shape F h = from_low_span ColumnMajor len shape h
-by_strides_inside list elem_size len mode shape (Custom strides) h =
-    accepted_lies_inside elem_size len mode shape (all_signed (list strides)) h
+    → LiesInBounds len (low_span shape (all_signed (strides_list list shape strides))) shape (all_signed (strides_list list shape strides))
+by_strides_in_bounds list elem_size len mode shape C h = from_low_span RowMajor len shape h
+by_strides_in_bounds list elem_size len mode shape F h = from_low_span ColumnMajor len shape h
+by_strides_in_bounds list elem_size len mode shape (Custom strides) h =
+    accepted_lies_in_bounds elem_size len mode shape (all_signed (list strides)) h
 
 -- and of one accepted to be written, every two have offsets of their own
 pub by_strides_distinct : {D : Type 0} (list : D → List ℕ) (elem_size len : ℕ) (shape : List ℕ) (strides : Strides D)

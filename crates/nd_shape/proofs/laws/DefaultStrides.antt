@@ -1,4 +1,4 @@
--- Laws of the strides that a shape has by itself by rows: how far they reach, and that they obey the rule for owned data.
+-- Laws of the strides that a shape has by itself by rows: how far they reach, and that they obey the no-alias rule.
 use Rattle.std.proofs.Common.{◌≡◌, ℕ, zero, suc, ◌+◌, ◌-◌, ◌*◌, ◌<◌, pos, false, eqb, List, [], ◌∷◌, length, get_or, map}
 use Rattle.std.proofs.Common.{refl, sym, arith}
 use Rattle.std.proofs.Common.{pos_of_ne-zero}
@@ -11,8 +11,8 @@ use Rattle.nd_base.proofs.laws.Span.{sum_le}
 use Rattle.nd_dim.specs.Strides.{default_strides}
 use Rattle.nd_dim.proofs.laws.Strides.{default_cons}
 use Rattle.nd_dim.specs.AxisOrder.{magnitude_at}
-use Rattle.nd_shape.specs.OwnedRule.{MeetsOwnedRule}
-use Rattle.nd_shape.proofs.laws.OwnedRule.{reach_up_to, reach_up_to_le}
+use Rattle.nd_shape.specs.NoAlias.{SatisfiesNoAliasRule}
+use Rattle.nd_shape.proofs.laws.NoAlias.{reach_up_to, reach_up_to_le}
 
 -- a shape without a zero length begins with a length that is not 0, and goes on without a zero length
 lengths : (len : ℕ) (lens : List ℕ) → is_empty (len ∷ lens) ≡ false → (0 < len) × (is_empty lens ≡ false)
@@ -36,7 +36,7 @@ default_strides_span (len ∷ lens) some =
     let parts = lengths len lens some in
     rw (default_cons len lens some) (omega (arith, whole_axis len (size lens) parts.0, default_strides_span lens parts.1))
 
--- an axis of more than one entry has a stride below the size
+-- an axis longer than 1 has a stride below the size
 stride_below : (lens : List ℕ) (axis : ℕ) → is_empty lens ≡ false → axis < length lens → 1 < get_or lens axis 0
     → magnitude_at (map pos (default_strides lens)) axis < size lens
 stride_below [] axis some h long = absurd (omega arith)
@@ -50,15 +50,15 @@ stride_below (len ∷ lens) (suc axis) some h long =
     rw (default_cons len lens some) (omega (arith, stride_below lens axis parts.1 (omega arith) long))
 
 -- the default strides of a shape without a zero length obey the rule
-pub default_strides_meet_rule : (lens : List ℕ) → is_empty lens ≡ false → MeetsOwnedRule lens (map pos (default_strides lens))
-default_strides_meet_rule [] some axis h long = absurd (omega arith)
-default_strides_meet_rule (len ∷ lens) some zero h long =
+pub default_strides_satisfy_rule : (lens : List ℕ) → is_empty lens ≡ false → SatisfiesNoAliasRule lens (map pos (default_strides lens))
+default_strides_satisfy_rule [] some axis h long = absurd (omega arith)
+default_strides_satisfy_rule (len ∷ lens) some zero h long =
     let m = size lens in
     let rest = map pos (default_strides lens) in
     rw (default_cons len lens some)
     (omega (arith, sum_le (reach_up_to m) reach (reach_up_to_le m) lens rest, default_strides_span lens (lengths len lens some).1))
-default_strides_meet_rule (len ∷ lens) some (suc axis) h long =
+default_strides_satisfy_rule (len ∷ lens) some (suc axis) h long =
     let rest = (lengths len lens some).1 in
     let within : axis < length lens = omega arith in
     let none = past (magnitude_at (map pos (default_strides lens)) axis) len (size lens) (stride_below lens axis rest within long) in
-    rw (default_cons len lens some) (omega (arith, none, default_strides_meet_rule lens rest axis within long))
+    rw (default_cons len lens some) (omega (arith, none, default_strides_satisfy_rule lens rest axis within long))

@@ -8,11 +8,11 @@ use Rattle.std.proofs.lemmas.Int.{ints}
 use Rattle.std.proofs.lemmas.List.Edits.{get_or-remove_above, get_or-remove_below, length-remove}
 use Rattle.nd_base.proofs.laws.Definitions.{HasDistinctOffsets, is_index, offset_of, magnitude, is_empty, reach}
 use Rattle.nd_dim.specs.AxisOrder.{magnitude_at}
-use Rattle.nd_shape.specs.OwnedRule.{span_up_to, span_of_others, meets_owned_rule, MeetsOwnedRule}
-use Rattle.nd_base.proofs.laws.IsIndex.{length_of_index, entry_of_index, nonempty_from_index}
-use Rattle.nd_shape.proofs.laws.OwnedRule.{reach_up_to, no_overlap}
+use Rattle.nd_shape.specs.NoAlias.{span_up_to, span_of_others, satisfies_no_alias_rule, SatisfiesNoAliasRule}
+use Rattle.nd_base.proofs.laws.IsIndex.{length_of_index, coordinate_of_index, nonempty_from_index}
+use Rattle.nd_shape.proofs.laws.NoAlias.{reach_up_to, no_overlap}
 
--- where two lists of entries differ, the strides are of magnitude at most m
+-- where two lists of coordinates differ, the strides are of magnitude at most m
 abbrev DiffersUpTo : ℕ → List ℤ → List ℕ → List ℕ → Type 0
 DiffersUpTo m strides index other = (k : ℕ) → k < length strides → get_or index k 0 ≢ get_or other k 0 → magnitude_at strides k ≤ m
 
@@ -27,7 +27,7 @@ module _ (m : ℕ) (strides : List ℤ) (index other : List ℕ) where
         ne (get_or-remove_above index axis 0 k after (omega arith) ∙ same ∙ sym (get_or-remove_above other axis 0 k after (omega arith)))))
   ]
 
--- an axis where the entries differ, and no other such axis has a stride of greater magnitude
+-- an axis where the coordinates differ, and no other such axis has a stride of greater magnitude
 record IsLongestDifference (strides : List ℤ) (index other : List ℕ) (axis : ℕ) : Type 0 where
   exists : axis < length strides
   differs : get_or index axis 0 ≢ get_or other axis 0
@@ -52,7 +52,7 @@ module _ (stride : ℤ) (strides : List ℤ) (i j : ℕ) (index other : List ℕ
     longest = one_more (magnitude_at strides axis) short h.longest;
   }
 
--- two lists of entries are equal, or there is such an axis
+-- two lists of coordinates are equal, or there is such an axis
 longest_difference : (strides : List ℤ) (index other : List ℕ) → length index ≡ length strides → length other ≡ length strides
     → (index ≡ other) ⊎ ((axis : ℕ) × IsLongestDifference strides index other axis)
 longest_difference [] [] [] e f = inl refl
@@ -79,27 +79,27 @@ longest_difference (stride ∷ strides) (i ∷ index) (j ∷ other) e f =
       ]
     ]
 
--- one entry moves the offset by at most what its axis reaches
-entry_apart : (len : ℕ) (stride : ℤ) (i j : ℕ) → i < len → j < len → (pos i *ℤ stride) ≤ℤ ((pos j *ℤ stride) +ℤ pos (reach len stride))
-entry_apart len (pos s) i j h g =
+-- one coordinate moves the offset by at most what its axis reaches
+coordinate_apart : (len : ℕ) (stride : ℤ) (i j : ℕ) → i < len → j < len → (pos i *ℤ stride) ≤ℤ ((pos j *ℤ stride) +ℤ pos (reach len stride))
+coordinate_apart len (pos s) i j h g =
     let steps : i ≤ len - 1 = omega arith in
     let most : i * s ≤ (len - 1) * s = mul-le-mul_right s steps in
     omega (arith, ints)
-entry_apart len (negsuc s) i j h g =
+coordinate_apart len (negsuc s) i j h g =
     let steps : j ≤ len - 1 = omega arith in
     let most : j * suc s ≤ (len - 1) * suc s = mul-le-mul_right (suc s) steps in
     omega (arith, ints)
 
 module _ (m : ℕ) where
-  -- equal entries by nothing, so where only strides of magnitude at most m differ, only their reach counts
-  entry_within : (len : ℕ) (stride : ℤ) (i j : ℕ) → i < len → j < len → (i ≢ j → magnitude stride ≤ m)
+  -- equal coordinates by nothing, so where only strides of magnitude at most m differ, only their reach counts
+  coordinate_within : (len : ℕ) (stride : ℤ) (i j : ℕ) → i < len → j < len → (i ≢ j → magnitude stride ≤ m)
       → (pos i *ℤ stride) ≤ℤ ((pos j *ℤ stride) +ℤ pos (reach_up_to m len stride))
-  entry_within len stride i j h g d = elim (cases_eq i j) [
+  coordinate_within len stride i j h g d = elim (cases_eq i j) [
     | inl same ↦ rw same (omega (arith, ints))
     | inr ne ↦
         let own : reach_up_to m len stride ≡ reach len stride =
         cond-true _ _ _ (le-leb (magnitude stride) m (d ne)) in
-        rw own (entry_apart len stride i j h g)
+        rw own (coordinate_apart len stride i j h g)
   ]
 
   -- the offsets of two indices are no farther apart than what those axes reach where they differ
@@ -115,7 +115,7 @@ module _ (m : ℕ) where
   offsets_apart (len ∷ shape) (stride ∷ strides) (i ∷ index) (j ∷ other) h g d =
       let first = and_parts _ _ h in
       let second = and_parts _ _ g in
-      let here = entry_within len stride i j (ltb-true i len first.0) (ltb-true j len second.0) (d 0 (omega arith)) in
+      let here = coordinate_within len stride i j (ltb-true i len first.0) (ltb-true j len second.0) (d 0 (omega arith)) in
       omega (arith, ints, here, offsets_apart shape strides index other first.1 second.1 (λ k l. d (suc k) (omega arith)))
 
 -- an offset is that of one axis and that of the others
@@ -149,19 +149,19 @@ steps_past (negsuc s) {i = i} {j = j} less far a b e =
     omega (arith, ints, suc-mul i (suc s))
 
 module _ (shape : List ℕ) (strides : List ℤ) where
-  -- under the rule for owned data two indices that differ have different offsets
-  told_apart : {index other : List ℕ} {axis : ℕ} → length shape ≡ length strides → MeetsOwnedRule shape strides
+  -- under the no-alias rule two indices that differ have different offsets
+  told_apart : {index other : List ℕ} {axis : ℕ} → length shape ≡ length strides → SatisfiesNoAliasRule shape strides
       → is_index shape index ≡ true → is_index shape other ≡ true → IsLongestDifference strides index other axis
       → offset_of strides index ≡ offset_of strides other → ⊥
   told_apart {index = index} {other = other} {axis = axis} count rule h g found same =
       let exists : axis < length strides = found.exists in
       let below : axis < length shape = omega arith in
-      let entries : length index ≡ length strides = omega (arith, length_of_index shape index h) in
+      let coordinates : length index ≡ length strides = omega (arith, length_of_index shape index h) in
       let others : length other ≡ length strides = omega (arith, length_of_index shape other g) in
       let i = get_or index axis 0 in
       let j = get_or other axis 0 in
-      let in_index : i < get_or shape axis 0 = entry_of_index shape index axis h below in
-      let in_other : j < get_or shape axis 0 = entry_of_index shape other axis g below in
+      let in_index : i < get_or shape axis 0 = coordinate_of_index shape index axis h below in
+      let in_other : j < get_or shape axis 0 = coordinate_of_index shape other axis g below in
       let stride = get_or strides axis (pos 0) in
       let m = magnitude_at strides axis in
       let n = span_of_others shape strides axis in
@@ -173,10 +173,10 @@ module _ (shape : List ℕ) (strides : List ℤ) where
       let there = offset_of moves two in
       let first = is_index-remove shape index axis below h in
       let second = is_index-remove shape other axis below g in
-      let short = rest_differs m strides index other axis exists entries others found.longest in
+      let short = rest_differs m strides index other axis exists coordinates others found.longest in
       let up : here ≤ℤ (there +ℤ pos n) = offsets_apart m rest moves one two first second short in
       let down : there ≤ℤ (here +ℤ pos n) = offsets_apart m rest moves two one second first (λ k l ne. short k l (λ e. ne (sym e))) in
-      let sums : (pos i *ℤ stride) +ℤ here ≡ (pos j *ℤ stride) +ℤ there = sym (offset_and_others strides index axis exists entries) ∙ same
+      let sums : (pos i *ℤ stride) +ℤ here ≡ (pos j *ℤ stride) +ℤ there = sym (offset_and_others strides index axis exists coordinates) ∙ same
       ∙ offset_and_others strides other axis exists others in
       elim (cases_order i j) [
         | inl equal ↦ found.differs equal
@@ -187,17 +187,17 @@ module _ (shape : List ℕ) (strides : List ℤ) where
       ]
 
   -- so two indices with one offset are one
-  pub distinct_from_rule : length shape ≡ length strides → MeetsOwnedRule shape strides → HasDistinctOffsets shape strides
+  pub distinct_from_rule : length shape ≡ length strides → SatisfiesNoAliasRule shape strides → HasDistinctOffsets shape strides
   distinct_from_rule count rule index other h g same =
-      let entries : length index ≡ length strides = omega (arith, length_of_index shape index h) in
+      let coordinates : length index ≡ length strides = omega (arith, length_of_index shape index h) in
       let others : length other ≡ length strides = omega (arith, length_of_index shape other g) in
-      elim (longest_difference strides index other entries others) [
+      elim (longest_difference strides index other coordinates others) [
         | inl equal ↦ equal
         | inr found ↦ absurd (told_apart count rule h g found.1 same)
       ]
 
   -- where the test for a shared element fails, no two indices share one: a shape without an index has no two
-  pub distinct_without_overlap : length shape ≡ length strides → (not (is_empty shape) && not (meets_owned_rule shape strides)) ≡ false
+  pub distinct_without_overlap : length shape ≡ length strides → (not (is_empty shape) && not (satisfies_no_alias_rule shape strides)) ≡ false
       → HasDistinctOffsets shape strides
   distinct_without_overlap count apart index other h g same =
       let some : is_empty shape ≡ false = nonempty_from_index shape index h in

@@ -1,4 +1,4 @@
--- Laws of what a walk over the indices of a shape has still to give.
+-- Laws of what an iterator over the indices of a shape has still to give.
 use Rattle.std.proofs.Common.{◌≡◌, ℕ, suc, ◌-◌, ◌<◌, ◌≤◌, List, [], ◌∷◌, length, drop, ap, ◌∙◌, arith, drop-cons, length-drop}
 use Rattle.std.proofs.Common.{drop_of_length-le}
 use Rattle.nd_base.specs.declared.order.Order.{Order}

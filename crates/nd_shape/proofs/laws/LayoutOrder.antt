@@ -7,12 +7,12 @@ use Rattle.std.proofs.lemmas.List.{get_or-map, length-map}
 use Rattle.std.proofs.lemmas.List.FromFn.{get_or-map-range_with_len}
 use Rattle.nd_base.specs.declared.order.Order.{Order}
 use Rattle.nd_base.proofs.laws.Definitions.{below, indices_in, is_index, offset_of, place, flat_index_in, is_empty, size}
-use Rattle.nd_base.proofs.laws.Entries.{is_index-step_along, step_along}
+use Rattle.nd_base.proofs.laws.Coordinates.{is_index-step_along, step_along}
 use Rattle.nd_base.proofs.laws.Indices.{get_or-indices_in, indices_in_of_empty, length-indices_in}
 use Rattle.nd_base.proofs.laws.Offset.{offset_of-zeros}
 use Rattle.nd_base.proofs.laws.FlatIndex.{flat_index_in-lt-size, index_of_flat_in-flat_index_in}
 use Rattle.nd_base.proofs.laws.Size.{length_pos, size_of_empty}
-use Rattle.nd_shape.specs.LayoutOrder.{LiesInOrder, MeetsOrderRule}
+use Rattle.nd_shape.specs.LayoutOrder.{LiesInOrder, SatisfiesOrderRule}
 use Rattle.nd_shape.specs.ShapeBuilder.{standard_strides}
 use Rattle.nd_base.proofs.laws.Place.{places_at_flat_indices}
 use Rattle.nd_shape.proofs.laws.StandardStrides.{offset_of-standard_strides, standard_count}
@@ -46,7 +46,7 @@ empty_in_order order shape strides none start =
     ap (map (place start strides)) (indices_in_of_empty order shape size) ∙ sym (ap (λ n. map (λ r. pos (start + r)) (below n)) size)
 
 pub in_order_from_rule : (order : Order) (shape : List ℕ) (strides : List ℤ) → length strides ≡ length shape
-    → MeetsOrderRule order shape strides → LiesInOrder order shape strides
+    → SatisfiesOrderRule order shape strides → LiesInOrder order shape strides
 in_order_from_rule order shape strides e (inl none) = empty_in_order order shape strides none
 in_order_from_rule order shape strides e (inr rule) =
     let standard = standard_strides order shape in
@@ -79,7 +79,7 @@ offset_of-step (s ∷ strides) (suc n) zero e h = omega (arith, ints, offset_of-
 offset_of-step (s ∷ strides) (suc n) (suc axis) e h = omega (arith, ints, offset_of-step strides n axis (omega arith) (omega arith))
 
 module _ (order : Order) (shape : List ℕ) (strides : List ℤ) (e : length strides ≡ length shape) where
-  pub rule_from_in_order : LiesInOrder order shape strides → MeetsOrderRule order shape strides
+  pub rule_from_in_order : LiesInOrder order shape strides → SatisfiesOrderRule order shape strides
   rule_from_in_order lies =
       let standard = standard_strides order shape in
       let count = standard_count order shape in
@@ -96,6 +96,6 @@ module _ (order : Order) (shape : List ℕ) (strides : List ℤ) (e : length str
             ∙ get_or-map pos standard axis 0 (pos 0) (omega arith))
       ]
 
-  -- the indices lie in order exactly where the rule is met
-  pub in_order_exactly : LiesInOrder order shape strides ↔ MeetsOrderRule order shape strides
+  -- the indices lie in order exactly where the rule holds
+  pub in_order_exactly : LiesInOrder order shape strides ↔ SatisfiesOrderRule order shape strides
   in_order_exactly = (rule_from_in_order, in_order_from_rule order shape strides e)

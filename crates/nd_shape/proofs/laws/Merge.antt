@@ -1,4 +1,4 @@
--- Laws of two axes as one: where one stride has the entries of both, and which stride does.
+-- Laws of two axes as one: where one stride has the coordinates of both, and which stride does.
 use Rattle.std.proofs.Common.{◌≡◌, ◌⊎◌, ℕ, ◌≤◌, ◌<◌, ℤ, pos, ◌*ℤ◌, true, inl, inr, refl, arith}
 use Rattle.std.specs.Bool.{Decides}
 use Rattle.std.specs.Ordering.{int_eq}
@@ -53,7 +53,7 @@ module _ (take_len : ℕ) (take_stride : ℤ) (into_len : ℕ) (into_stride : �
         ]
       ]
 
-  -- where it fits, the stride of the merged axis has every entry of both
+  -- where it fits, the stride of the merged axis has every coordinate of both
   pub merged_stride_serves : merge_fits take_len take_stride into_len into_stride ≡ true
       → IsMergedStride take_len take_stride into_len into_stride (merged_stride take_len take_stride into_len into_stride)
   merged_stride_serves h =

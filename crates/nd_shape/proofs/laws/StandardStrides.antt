@@ -5,20 +5,20 @@ use Rattle.std.proofs.lemmas.Bool.{cases_Bool, cond-true}
 use Rattle.std.proofs.lemmas.List.{length-map}
 use Rattle.nd_base.specs.declared.order.Order.{Order}
 use Rattle.nd_base.specs.declared.order.Order.TheVariants.{RowMajor, ColumnMajor}
-use Rattle.nd_base.proofs.laws.Definitions.{HasDistinctOffsets, LiesInside, IsValidLayout, as_read, is_index, offset_of}
+use Rattle.nd_base.proofs.laws.Definitions.{HasDistinctOffsets, LiesInBounds, IsValidLayout, as_read, is_index, offset_of}
 use Rattle.nd_base.proofs.laws.Definitions.{flat_index_in}
 use Rattle.nd_base.proofs.laws.Definitions.{all_signed, signed, is_empty, limit, nonzero_size, size, low_span, reach, span}
 use Rattle.nd_base.proofs.laws.NonzeroSize.{size_le_nonzero_size}
 use Rattle.nd_base.proofs.laws.FlatIndex.{flat_index_in-lt-size, same_from_flat_index_in}
-use Rattle.nd_base.proofs.laws.Reading.{as_read-as_read, is_empty-as_read, map-as_read, nonzero_size-as_read, sum_over_axes-as_read}
+use Rattle.nd_base.proofs.laws.AsRead.{as_read-as_read, is_empty-as_read, map-as_read, nonzero_size-as_read, sum_over_axes-as_read}
 use Rattle.nd_base.proofs.laws.Signed.{all_signed_small}
 use Rattle.nd_dim.specs.Strides.{default_strides}
 use Rattle.nd_dim.proofs.laws.Strides.{default_count, default_small, fortran_by_default, fortran_count}
 use Rattle.nd_dim.proofs.laws.Strides.{offset_of-default_strides, offset_of-fortran_strides}
 use Rattle.nd_shape.specs.ShapeBuilder.{standard_strides}
-use Rattle.nd_shape.specs.OwnedRule.{MeetsOwnedRule}
-use Rattle.nd_shape.proofs.laws.DefaultStrides.{default_strides_meet_rule, default_strides_span}
-use Rattle.nd_shape.proofs.laws.OwnedRule.{rule_from_back}
+use Rattle.nd_shape.specs.NoAlias.{SatisfiesNoAliasRule}
+use Rattle.nd_shape.proofs.laws.DefaultStrides.{default_strides_satisfy_rule, default_strides_span}
+use Rattle.nd_shape.proofs.laws.NoAlias.{rule_from_back}
 
 -- ---- one stride for each axis, none past the limit
 -- in an order they are the default ones of the axes as they are read
@@ -100,9 +100,9 @@ offset_of-standard_strides RowMajor shape index h = offset_of-default_strides sh
 offset_of-standard_strides ColumnMajor shape index h = offset_of-fortran_strides shape index h
 
 -- so among as many elements as there are indices
-pub standard_inside : (order : Order) (len : ℕ) (shape : List ℕ) → nonzero_size shape ≤ limit → size shape ≤ len
-    → LiesInside len 0 shape (all_signed (standard_strides order shape))
-standard_inside order len shape top room index h =
+pub standard_in_bounds : (order : Order) (len : ℕ) (shape : List ℕ) → nonzero_size shape ≤ limit → size shape ≤ len
+    → LiesInBounds len 0 shape (all_signed (standard_strides order shape))
+standard_in_bounds order len shape top room index h =
     let flat_index : flat_index_in order shape index < len = omega (arith, flat_index_in-lt-size order shape index h) in
     rw (standard_signed order shape top, offset_of-standard_strides order shape index h) (omega arith)
 
@@ -117,14 +117,14 @@ standard_distinct order shape top = rw (standard_signed order shape top) (λ ind
 
 -- ---- the no-alias rule of owned mode
 -- it doesn't ask in which order the axes stand
-meets_rule_as_read : (order : Order) (shape : List ℕ) (strides : List ℤ) → length shape ≡ length strides
-    → MeetsOwnedRule (as_read order shape) (as_read order strides) → MeetsOwnedRule shape strides
-meets_rule_as_read RowMajor shape strides count rule = rule
-meets_rule_as_read ColumnMajor shape strides count rule = rule_from_back shape strides count rule
+satisfies_rule_as_read : (order : Order) (shape : List ℕ) (strides : List ℤ) → length shape ≡ length strides
+    → SatisfiesNoAliasRule (as_read order shape) (as_read order strides) → SatisfiesNoAliasRule shape strides
+satisfies_rule_as_read RowMajor shape strides count rule = rule
+satisfies_rule_as_read ColumnMajor shape strides count rule = rule_from_back shape strides count rule
 
--- where there is an index, they meet it
-pub standard_meets_rule : (order : Order) (shape : List ℕ) → nonzero_size shape ≤ limit → is_empty shape ≡ false
-    → MeetsOwnedRule shape (all_signed (standard_strides order shape))
-standard_meets_rule order shape top some = rw (standard_signed order shape top)
-    (meets_rule_as_read order shape (map pos (standard_strides order shape)) (signed_count order shape)
-    (rw (standard_read order shape) (default_strides_meet_rule (as_read order shape) (is_empty-as_read order shape ∙ some))))
+-- where there is an index, they satisfy it
+pub standard_satisfies_rule : (order : Order) (shape : List ℕ) → nonzero_size shape ≤ limit → is_empty shape ≡ false
+    → SatisfiesNoAliasRule shape (all_signed (standard_strides order shape))
+standard_satisfies_rule order shape top some = rw (standard_signed order shape top)
+    (satisfies_rule_as_read order shape (map pos (standard_strides order shape)) (signed_count order shape)
+    (rw (standard_read order shape) (default_strides_satisfy_rule (as_read order shape) (is_empty-as_read order shape ∙ some))))

@@ -3,7 +3,7 @@ use Rattle.std.proofs.Common.{◌≡◌, ◌⊎◌, ℕ, ◌+◌, ◌-◌, ◌<�
 use Rattle.std.proofs.Common.{refl, sym, ap, ◌∙◌, arith}
 use Rattle.std.proofs.lemmas.Bool.Decides.{nat_tests}
 use Rattle.nd_shape.specs.CommonShape.{common_length, padded, common_shape}
-use Rattle.nd_shape.proofs.CommonShape.{after_front, axes_of_common, common_shape_by_axes, common_shape_of_longer}
+use Rattle.nd_shape.proofs.CommonShapeByAxis.{after_front, axes_of_common, common_shape_by_axes, common_shape_of_longer}
 use Rattle.nd_shape.proofs.laws.CommonShape.{common_shape-commutes, common_shape_count, length-padded}
 
 -- each axis has a length of 1, or that of the axis of the shape that lies as far from the last

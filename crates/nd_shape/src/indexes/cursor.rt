@@ -8,7 +8,7 @@ ghost use Rattle.nd_base.specs.Dim.{lengths};
 ghost use Rattle.nd_base.specs.Indices.{indices_in};
 ghost use Rattle.nd_base.specs.Size.{size, is_empty};
 
-use crate::indexes::order::{Columns, Rows, WalkOrder};
+use crate::indexes::order::{ColumnMajorOrder, IterOrder, RowMajorOrder};
 use nd_base::{INLINE_AXES, IxDyn, Lengths};
 use nd_dim::product;
 use std::alloc::{AllocError, Global};
@@ -16,16 +16,16 @@ use std::marker::{Model, PhantomData};
 
 /// Iterator that lends the indices of a shape in row-major order, where the last axis moves
 /// fastest. In place of ndarray's `IndicesIter` over `IxDyn`.
-pub type IndexCursor = Cursor<Rows>;
+pub type IndexCursor = Cursor<RowMajorOrder>;
 
 /// Iterator that lends the indices of a shape in column-major order, where the first axis moves
 /// fastest. In place of ndarray's `IndicesIterF` over `IxDyn`.
-pub type IndexCursorF = Cursor<Columns>;
+pub type IndexCursorF = Cursor<ColumnMajorOrder>;
 
 /// Iterator that lends the indices of a shape in an order. A contract sees the list of those that
 /// are left.
 #[derive(Drop)]
-pub struct Cursor<O: WalkOrder> {
+pub struct Cursor<O: IterOrder> {
     dim: IxDyn,
     // The index that was lent last, or else the first one, and how many are left.
     index: IxDyn,
@@ -34,7 +34,7 @@ pub struct Cursor<O: WalkOrder> {
     order: PhantomData<O>,
 }
 
-impl<O: WalkOrder> Model for Cursor<O> {
+impl<O: IterOrder> Model for Cursor<O> {
     ghost use Rattle.std.specs.Prelude.{ℕ, List};
     ghost use Rattle.nd_base.specs.Dim.{lengths};
     ghost use Rattle.nd_shape.specs.IndicesLeft.{indices_left, StandsAfter};
@@ -47,7 +47,7 @@ impl<O: WalkOrder> Model for Cursor<O> {
         cursor.is_lent cursor.left (lengths cursor.index) };
 }
 
-impl<O: WalkOrder> Cursor<O> {
+impl<O: IterOrder> Cursor<O> {
     ghost use Rattle.nd_shape.specs.contracts.indexes.cursor.Cursor.{the_row};
 
     /// The iterator over all indices of a shape.
@@ -83,14 +83,14 @@ impl<O: WalkOrder> Cursor<O> {
     #[inline]
     pub fn next(&mut self) -> Option<&[usize]>
         ensures* rest { sem 𝓛
-            (Rests (the_row O.row O.WalkOrder) self.entry (λ left. left ≡ drop 1 self.old)) }
+            (Rests (the_row O.row O.IterOrder) self.entry (λ left. left ≡ drop 1 self.old)) }
         ensures index { option_map (λ index. index.now) result ≡ slice_get self.old 0 }
     {
         if self.left == 0 {
             return None;
         }
         if self.is_lent {
-            O::step(self.dim.slice(), self.index.slice_mut());
+            O::advance(self.dim.slice(), self.index.slice_mut());
         }
         self.is_lent = true;
         self.left -= 1;

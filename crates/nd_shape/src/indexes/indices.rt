@@ -4,7 +4,7 @@ ghost use Rattle.nd_base.specs.declared.order.Order.TheVariants.{RowMajor};
 ghost use Rattle.nd_base.specs.Indices.{indices_in};
 ghost use Rattle.nd_base.specs.Size.{size};
 
-use crate::indexes::walk::IndicesIter;
+use crate::indexes::indices_iter::IndicesIter;
 use nd_base::Lengths;
 use nd_dim::Dimension;
 use std::alloc::AllocError;
@@ -57,7 +57,7 @@ impl<D: Dimension + Copy> IntoIterator for Indices<D> {
 
     type IntoIter = IndicesIter<D>;
 
-    ghost into_iter_gives = { λ indices walk. walk ≡ indices_in RowMajor (D.list indices) };
+    ghost into_iter_gives = { λ indices iter. iter ≡ indices_in RowMajor (D.list indices) };
 
     fn into_iter(self) -> IndicesIter<D> {
         let mut first = self.dim;

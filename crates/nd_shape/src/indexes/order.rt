@@ -6,10 +6,10 @@ ghost use Rattle.nd_base.specs.Indices.{is_index};
 ghost use Rattle.nd_base.specs.FlatIndex.{flat_index_in, index_of_flat_in};
 ghost use Rattle.nd_base.specs.Size.{size};
 
-use nd_dim::{step_by_columns, step_by_rows};
+use nd_dim::{advance_column_major, advance_row_major};
 
 /// The order of an iterator over indices.
-pub trait WalkOrder {
+pub trait IterOrder {
     // The order that the type stands for.
     ghost order: { Order };
 
@@ -17,7 +17,7 @@ pub trait WalkOrder {
     /// the last index becomes the first, with `false`.
     ///
     /// The caller ensures that `index` is an index of the shape.
-    fn step(shape: &[usize], index: &mut [usize]) -> bool
+    fn advance(shape: &[usize], index: &mut [usize]) -> bool
         requires { is_index shape.now index.old ≡ true }
         ensures more { IsTrue result
             ↔ (flat_index_in order shape.now index.old + 1 < size shape.now) }
@@ -27,25 +27,25 @@ pub trait WalkOrder {
 }
 
 /// Row-major order, where the last axis moves fastest.
-pub struct Rows;
+pub struct RowMajorOrder;
 
 /// Column-major order, where the first axis moves fastest.
-pub struct Columns;
+pub struct ColumnMajorOrder;
 
-impl WalkOrder for Rows {
+impl IterOrder for RowMajorOrder {
     ghost order = { RowMajor };
 
     #[inline(always)]
-    fn step(shape: &[usize], index: &mut [usize]) -> bool {
-        step_by_rows(shape, index)
+    fn advance(shape: &[usize], index: &mut [usize]) -> bool {
+        advance_row_major(shape, index)
     }
 }
 
-impl WalkOrder for Columns {
+impl IterOrder for ColumnMajorOrder {
     ghost order = { ColumnMajor };
 
     #[inline(always)]
-    fn step(shape: &[usize], index: &mut [usize]) -> bool {
-        step_by_columns(shape, index)
+    fn advance(shape: &[usize], index: &mut [usize]) -> bool {
+        advance_column_major(shape, index)
     }
 }

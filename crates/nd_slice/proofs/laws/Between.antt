@@ -22,7 +22,7 @@ module _ (step : ℤ) (start end : ℕ) where
       length-every (magnitude step) (directed step (range start end)) p
       ∙ ap (λ n. div_ceil n (magnitude step)) (length-directed step start end)
 
-  -- the entries are inside the bounds
+  -- the coordinates are within the bounds
   pub between_within : (j : ℕ) → 0 < magnitude step → j < length (between step start end) → j * magnitude step < end - start
   between_within j p below =
       omega (arith, every_within (magnitude step) (directed step (range start end)) j p below, length-directed step start end)
@@ -34,18 +34,18 @@ module _ (k start end : ℕ) where
       get-every k (range start end) j p
       ∙ get_or-range_with_len start (end - start) (j * k) 0 (between_within (pos k) start end j p below)
 
-  -- downward, from the entry before the end
+  -- downward, from the coordinate before the end
   pub pick_down : (j : ℕ) → j < length (between (negsuc k) start end) → get_or (between (negsuc k) start end) j 0 + j * suc k + 1 ≡ end
   pick_down j below =
-      let entries = range start end in
-      let place = length entries - 1 - j * suc k in
+      let coordinates = range start end in
+      let place = length coordinates - 1 - j * suc k in
       let p : 0 < suc k = omega arith in
-      let inside : j * suc k < end - start = between_within (negsuc k) start end j p below in
-      let count : length entries ≡ end - start = length-range_with_len start (end - start) in
-      let at : get_or (between (negsuc k) start end) j 0 ≡ get_or (reverse entries) (j * suc k) 0 =
-      get-every (suc k) (reverse entries) j p in
-      let turned : get_or (reverse entries) (j * suc k) 0 ≡ get_or entries place 0 = get_or-reverse entries (j * suc k) 0 (omega arith) in
-      let item : get_or entries place 0 ≡ start + place = get_or-range_with_len start (end - start) place 0 (omega arith) in
+      let in_bounds : j * suc k < end - start = between_within (negsuc k) start end j p below in
+      let count : length coordinates ≡ end - start = length-range_with_len start (end - start) in
+      let at : get_or (between (negsuc k) start end) j 0 ≡ get_or (reverse coordinates) (j * suc k) 0 =
+      get-every (suc k) (reverse coordinates) j p in
+      let turned : get_or (reverse coordinates) (j * suc k) 0 ≡ get_or coordinates place 0 = get_or-reverse coordinates (j * suc k) 0 (omega arith) in
+      let item : get_or coordinates place 0 ≡ start + place = get_or-range_with_len start (end - start) place 0 (omega arith) in
       omega arith
 
   -- so many steps on from the first pick, or back
@@ -62,7 +62,7 @@ up_from_first k start end j below =
 still_first : (start end j : ℕ) → j < length (between (pos zero) start end) → j ≡ 0
 still_first start end j below = omega (arith, one_of_zero (range start end))
 
--- the distance from the first entry to the pick at j is j times the step's distance
+-- the distance from the first coordinate to the pick at j is j times the step's distance
 pub between_steps : (step : ℤ) (start end j : ℕ) (s : ℤ) → j < length (between step start end)
     → pos (get_or (between step start end) j 0) *ℤ s ≡ (pos (get_or (between step start end) 0 0) *ℤ s) +ℤ (pos j *ℤ (s *ℤ step))
 between_steps (pos zero) start end j s below =
@@ -75,7 +75,7 @@ between_steps (negsuc k) start end j s below =
     sym (ap (λ n. (pos n *ℤ s) +ℤ (pos j *ℤ (s *ℤ negsuc k))) (sym (down_from_first k start end j below))
     ∙ times_down (get_or (between (negsuc k) start end) j 0) j k s)
 
--- each pick is an entry
+-- each pick is a coordinate
 pub between_below : (step : ℤ) (start end j : ℕ) → 0 < magnitude step → j < length (between step start end)
     → get_or (between step start end) j 0 < end
 between_below (pos k) start end j p below = omega (arith, pick_up k start end j p below, between_within (pos k) start end j p below)
@@ -95,7 +95,7 @@ between_apart (pos zero) start end j below =
 between_apart (pos (suc k)) start end j below = omega (arith, ints, up_from_first k start end j below)
 between_apart (negsuc k) start end j below = omega (arith, ints, down_from_first k start end j below)
 
--- no entry is picked twice
+-- no coordinate is picked twice
 module _ (start end i j : ℕ) where
   pub between_once : (step : ℤ) → i < length (between step start end) → j < length (between step start end)
       → get_or (between step start end) i 0 ≡ get_or (between step start end) j 0 → i ≡ j
@@ -114,7 +114,7 @@ count_of_none : (n k c : ℕ) → c * k < n + k → n ≡ 0 → c ≡ 0
 count_of_none n k zero h e = refl
 count_of_none n k (suc c) h e = absurd (omega arith)
 
--- entries between two bounds
+-- coordinates between two bounds
 pub some_between : (step : ℤ) (start end : ℕ) → 0 < magnitude step → start < end → 0 < length (between step start end)
 some_between step start end p h =
     let count = length-between step start end p in

@@ -6,7 +6,7 @@ use Rattle.std.proofs.lemmas.Grind.{get_or_default_zero}
 use Rattle.std.proofs.lemmas.Int.{ints}
 use Rattle.std.proofs.lemmas.List.Elements.{All-contains}
 use Rattle.std.specs.Int.{◌∣◌}
-use Rattle.nd_slice.proofs.Definitions.{Fit, InSequence, PicksMeet, SequencesMeet, Slice, SliceFits, between, magnitude, picks}
+use Rattle.nd_slice.proofs.Definitions.{Fit, InSequence, PicksIntersect, SequencesIntersect, Slice, SliceFits, between, magnitude, picks}
 use Rattle.nd_base.proofs.laws.Lists.{Contains-at}
 use Rattle.nd_slice.proofs.laws.Picks.{pick_below}
 use Rattle.nd_slice.proofs.laws.Between.{between_above, between_below, pick_up, pick_down}
@@ -93,7 +93,7 @@ module _ (start end : ℕ) {least greatest : ℕ} where
   on_step (pos k) times moves ends within = on_up k start end times moves (placed ends.0) (placed ends.1) within
   on_step (negsuc k) times moves ends within = on_down k start end times (placed ends.0) (placed ends.1) within
 
--- what one slice picks: by a step that moves, from its least entry to its greatest
+-- what one slice picks: by a step that moves, from its least coordinate to its greatest
 pub record ArePicks (step : ℤ) (start end least greatest : ℕ) : Type 0 where
   pub moves : 0 < magnitude step
   pub ends : AreEnds (between step start end) least greatest
@@ -127,29 +127,29 @@ natural : {first last : ℕ} {step : ℤ} (number : ℤ) → InSequence (pos fir
 natural (pos n) h = refl
 natural (negsuc n) h = absurd (omega (arith, ints, h.not_before))
 
--- two slices share an entry exactly where the lists do
-pub picks_meet : {one other : ℤ} {start end from to a b c d : ℕ} → ArePicks one start end a b → ArePicks other from to c d
-    → SequencesMeet (pos a, pos b, one) (pos c, pos d, other) ↔ PicksMeet (between one start end) (between other from to)
-picks_meet {one = one} {other = other} {a = a} {b = b} {c = c} {d = d} p q = (
-  λ meets.
-      let entry = magnitude meets.0 in
-      let same : meets.0 ≡ pos entry = natural meets.0 meets.1 in (
-        entry,
-        pick_of p entry (subst (InSequence (pos a) (pos b) one) same meets.1),
-        pick_of q entry (subst (InSequence (pos c) (pos d) other) same meets.2),
+-- two slices share a coordinate exactly where the lists do
+pub share_a_pick : {one other : ℤ} {start end from to a b c d : ℕ} → ArePicks one start end a b → ArePicks other from to c d
+    → SequencesIntersect (pos a, pos b, one) (pos c, pos d, other) ↔ PicksIntersect (between one start end) (between other from to)
+share_a_pick {one = one} {other = other} {a = a} {b = b} {c = c} {d = d} p q = (
+  λ intersects.
+      let coordinate = magnitude intersects.0 in
+      let same : intersects.0 ≡ pos coordinate = natural intersects.0 intersects.1 in (
+        coordinate,
+        pick_of p coordinate (subst (InSequence (pos a) (pos b) one) same intersects.1),
+        pick_of q coordinate (subst (InSequence (pos c) (pos d) other) same intersects.2),
       ),
-  λ meets. (pos meets.0, pick_in p meets.0 meets.1, pick_in q meets.0 meets.2),
+  λ intersects. (pos intersects.0, pick_in p intersects.0 intersects.1, pick_in q intersects.0 intersects.2),
 )
 
--- a pick is an entry of the axis
+-- a pick is a coordinate of the axis
 pub contained_below : (fit : Fit) (len : ℕ) (slice : Slice) (pick : ℕ) → SliceFits fit len slice → Contains (picks fit len slice) pick
     → pick < len
 contained_below fit len slice pick fits h = omega (arith, (placed h).at, pick_below fit len slice h.0 fits h.1)
 
 -- a pick is in the range
-pub inside_range : (step : ℤ) (start end pick : ℕ) → 0 < magnitude step → Contains (between step start end) pick
+pub in_range : (step : ℤ) (start end pick : ℕ) → 0 < magnitude step → Contains (between step start end) pick
     → (start ≤ pick) × (pick < end)
-inside_range step start end pick moves h =
+in_range step start end pick moves h =
     let at = placed h in (
       omega (arith, at.at, between_above step start end h.0 moves h.1),
       omega (arith, at.at, between_below step start end h.0 moves h.1),

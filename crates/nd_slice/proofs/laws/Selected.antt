@@ -1,5 +1,5 @@
--- An index of a slice stands for an index of the old shape, whose entries are picks of its axes, and different ones for different
--- ones; each index of such entries has one that stands for it.
+-- An index of a slice stands for an index of the old shape, whose coordinates are picks of its axes, and different ones for different
+-- ones; each index of such coordinates has one that stands for it.
 use Rattle.std.proofs.Common.{zero, suc, drop, refl, ap, sym, ◌∙◌, arith, Contains, ◌≡◌, ℕ, ◌<◌, IsTrue, nat_lt, None, List, [], ◌∷◌}
 use Rattle.std.proofs.Common.{length, slice_index}
 use Rattle.std.proofs.lemmas.Bool.{and_parts, and_from, ltb-true, lt-ltb}
@@ -10,8 +10,8 @@ use Rattle.nd_slice.proofs.Definitions.{Fit, SliceInfoElem, argument_fault, axis
 use Rattle.nd_slice.proofs.Definitions.{meaning, picks, selected, slice_with, sliced_shape}
 use Rattle.nd_slice.specs.declared.elem.SliceInfoElem.TheVariants as elem
 use Rattle.nd_slice.proofs.laws.Picks.{pick_below, picks_injective}
-use Rattle.nd_slice.proofs.laws.SliceFault.{entry_below}
-use Rattle.nd_slice.proofs.laws.ArgumentFault.{elements_of_no_fault, slice_of_no_fault, index_of_no_fault}
+use Rattle.nd_slice.proofs.laws.AxisFault.{coordinate_below}
+use Rattle.nd_slice.proofs.laws.SliceFault.{elements_of_no_fault, slice_of_no_fault, index_of_no_fault}
 
 -- an index of a slice of a shape
 abbrev pub IsOfSlice : Fit → List SliceInfoElem → List ℕ → List ℕ → Type 0
@@ -23,41 +23,41 @@ pub record StandsFor (fit : Fit) (elems : List SliceInfoElem) (shape index : Lis
   pub within : IsOfSlice fit elems shape of_slice
   pub stands : selected fit elems shape of_slice ≡ index
 
-lone : (entry i : ℕ) → Contains (entry ∷ []) i → entry ≡ i
-lone entry i (zero, below, at) = at
-lone entry i (suc k, below, at) = absurd (omega (arith, below))
+lone : (coordinate i : ℕ) → Contains (coordinate ∷ []) i → coordinate ≡ i
+lone coordinate i (zero, below, at) = at
+lone coordinate i (suc k, below, at) = absurd (omega (arith, below))
 
 module _ (fit : Fit) where
-  entries : (elems : List SliceInfoElem) (shape index : List ℕ) → in_count elems ≡ length shape
+  coordinates : (elems : List SliceInfoElem) (shape index : List ℕ) → in_count elems ≡ length shape
       → first_fault fit shape elems ≡ None → IsOfSlice fit elems shape index → IsTrue (is_index shape (selected fit elems shape index))
-  entries [] [] index count none here = refl
-  entries [] (len ∷ shape) index count none here = absurd (omega arith)
-  entries (elem.NewAxis ∷ elems) shape [] count none here = absurd (cc)
-  entries (elem.NewAxis ∷ elems) shape (j ∷ index) count none here =
-      entries elems shape index count none (and_parts (nat_lt j 1) (is_index (sliced_shape fit elems shape) index) here).1
-  entries (elem.Slice start end step ∷ elems) [] index count none here = absurd (omega arith)
-  entries (elem.Slice start end step ∷ elems) (len ∷ shape) [] count none here = absurd (cc)
-  entries (elem.Slice start end step ∷ elems) (len ∷ shape) (j ∷ index) count none here =
+  coordinates [] [] index count none here = refl
+  coordinates [] (len ∷ shape) index count none here = absurd (omega arith)
+  coordinates (elem.NewAxis ∷ elems) shape [] count none here = absurd (cc)
+  coordinates (elem.NewAxis ∷ elems) shape (j ∷ index) count none here =
+      coordinates elems shape index count none (and_parts (nat_lt j 1) (is_index (sliced_shape fit elems shape) index) here).1
+  coordinates (elem.Slice start end step ∷ elems) [] index count none here = absurd (omega arith)
+  coordinates (elem.Slice start end step ∷ elems) (len ∷ shape) [] count none here = absurd (cc)
+  coordinates (elem.Slice start end step ∷ elems) (len ∷ shape) (j ∷ index) count none here =
       let slice = slice_with start end step in
       let fits = slice_of_no_fault fit len shape slice elems none in
       let parts = and_parts (nat_lt j (length (picks fit len slice))) (is_index (sliced_shape fit elems shape) index) here in
       let pick = slice_index (picks fit len slice) j in
       let below : pick < len = pick_below fit len slice j fits.0 (ltb-true j (length (picks fit len slice)) parts.0) in
       and_from (nat_lt pick len) (is_index shape (selected fit elems shape index)) (lt-ltb pick len below)
-      (entries elems shape index (omega arith) fits.1 parts.1)
-  entries (elem.Index i ∷ elems) [] index count none here = absurd (omega arith)
-  entries (elem.Index i ∷ elems) (len ∷ shape) index count none here =
+      (coordinates elems shape index (omega arith) fits.1 parts.1)
+  coordinates (elem.Index i ∷ elems) [] index count none here = absurd (omega arith)
+  coordinates (elem.Index i ∷ elems) (len ∷ shape) index count none here =
       let fits = index_of_no_fault fit len shape i elems none in
-      let entry = magnitude (meaning len i) in
-      and_from (nat_lt entry len) (is_index shape (selected fit elems shape index)) (lt-ltb entry len (entry_below len i fits.0).1)
-      (entries elems shape index (omega arith) fits.1 here)
+      let coordinate = magnitude (meaning len i) in
+      and_from (nat_lt coordinate len) (is_index shape (selected fit elems shape index)) (lt-ltb coordinate len (coordinate_below len i fits.0).1)
+      (coordinates elems shape index (omega arith) fits.1 here)
 
   -- an index of the slice stands for an index of the old shape
   pub selected_is_index : (elems : List SliceInfoElem) (shape index : List ℕ) → argument_fault fit shape elems ≡ None
       → IsOfSlice fit elems shape index → IsTrue (is_index shape (selected fit elems shape index))
   selected_is_index elems shape index none here =
       let parts = elements_of_no_fault fit shape elems none in
-      entries elems shape index parts.0 parts.1 here
+      coordinates elems shape index parts.0 parts.1 here
 
   -- two indices of a slice that stand for the same index are the same
   pub selected_injective : (elems : List SliceInfoElem) (shape index other : List ℕ) → IsOfSlice fit elems shape index
@@ -92,7 +92,7 @@ module _ (fit : Fit) where
   selected_injective (elem.Index i ∷ elems) (len ∷ shape) index other here there same =
       selected_injective elems shape index other here there (ap (drop 1) same)
 
-  -- each entry of the index that an index of the slice stands for is among the picks of its axis
+  -- each coordinate of the index that an index of the slice stands for is among the picks of its axis
   pub selected_is_picked : (elems : List SliceInfoElem) (shape index : List ℕ) → IsOfSlice fit elems shape index
       → AllZip Contains (axis_picks fit shape elems) (selected fit elems shape index)
   selected_is_picked [] shape index here = tt
@@ -142,7 +142,7 @@ module _ (fit : Fit) where
       let rest_at = rest.stands in
       record { of_slice = rest.of_slice; within = rest.within; stands = cc }
 
-  -- an index whose entries are picks of an argument's axes has an index of the slice that stands for it
+  -- an index whose coordinates are picks of an argument's axes has an index of the slice that stands for it
   pub picked_is_selected : (elems : List SliceInfoElem) (shape index : List ℕ) → argument_fault fit shape elems ≡ None
       → AllZip Contains (axis_picks fit shape elems) index → StandsFor fit elems shape index
   picked_is_selected elems shape index none all = picked elems shape index (elements_of_no_fault fit shape elems none).0 all

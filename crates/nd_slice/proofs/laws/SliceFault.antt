@@ -1,53 +1,37 @@
--- What no fault means: a slice that fits, and an index that is an entry.
-use Rattle.std.proofs.Common.{◌<◌, ◌≤◌, pos, negsuc, true, false, refl, pos_of_ne-zero, ◌≡◌, ℕ, ℤ, IsTrue, Bool, ◌==◌, not, if◌then◌else◌}
-use Rattle.std.proofs.Common.{Some, None}
-use Rattle.std.proofs.lemmas.Bool.{and_parts, eqb-false, leb-true, ltb-true}
-use Rattle.nd_base.specs.declared.error.ErrorKind.TheVariants.{OutOfBounds, Unsupported}
-use Rattle.nd_slice.proofs.Definitions.{Fit, IndexFits, Slice, SliceFits, end_meaning, index_fault, is_bound, is_entry, is_within}
-use Rattle.nd_slice.proofs.Definitions.{magnitude, meaning, slice_fault, start_meaning}
+-- What no fault of a slice argument means: an element for each axis, of which each fits.
+use Rattle.std.proofs.Common.{true, false, refl, ◌≡◌, ℕ, ℤ, Bool, ◌==◌, if◌then◌else◌, Option, Some, None, List, ◌∷◌, length}
+use Rattle.std.proofs.lemmas.Bool.{eqb-true}
+use Rattle.nd_base.specs.declared.error.ErrorKind.{ErrorKind}
+use Rattle.nd_base.specs.declared.error.ErrorKind.TheVariants.{IncompatibleShape}
+use Rattle.nd_slice.proofs.Definitions.{Fit, IndexFits, Slice, SliceFits, SliceInfoElem, argument_fault, first_fault, in_count}
+use Rattle.nd_slice.proofs.Definitions.{index_fault, slice_fault}
+use Rattle.nd_slice.specs.declared.elem.SliceInfoElem.TheVariants as elem
+use Rattle.nd_base.proofs.laws.Options.{option_or_none}
+use Rattle.nd_slice.proofs.laws.AxisFault.{fits_of_no_fault, index_fits_of_no_fault}
 
-neither : (within zero_step : Bool) → (if not within then Some OutOfBounds else if zero_step then Some Unsupported else None) ≡ None
-    → (within ≡ true) × (zero_step ≡ false)
-neither true true none = absurd (cc)
-neither true false none = (refl, refl)
-neither false zero_step none = absurd (cc)
+-- an argument whose first element is a slice
+pub slice_of_no_fault : (fit : Fit) (len : ℕ) (shape : List ℕ) (slice : Slice) (elems : List SliceInfoElem)
+    → first_fault fit (len ∷ shape) (elem.Slice slice.start slice.end slice.step ∷ elems) ≡ None
+    → SliceFits fit len slice × (first_fault fit shape elems ≡ None)
+slice_of_no_fault fit len shape slice elems none =
+    let parts = option_or_none (slice_fault fit len slice) none in
+    (fits_of_no_fault fit len slice parts.0, parts.1)
 
--- a slice without fault fits
-pub fits_of_no_fault : (fit : Fit) (len : ℕ) (slice : Slice) → slice_fault fit len slice ≡ None → SliceFits fit len slice
-fits_of_no_fault fit len slice none =
-    let parts = neither (is_within fit len slice) (magnitude slice.step == 0) none in
-    let bounds = and_parts (is_bound len (start_meaning fit len slice)) (is_bound len (end_meaning fit len slice)) parts.0 in
-    record { start_within = bounds.0; end_within = bounds.1; step_moves = parts.1 }
+-- an argument whose first element is an index
+pub index_of_no_fault : (fit : Fit) (len : ℕ) (shape : List ℕ) (index : ℤ) (elems : List SliceInfoElem)
+    → first_fault fit (len ∷ shape) (elem.Index index ∷ elems) ≡ None → IndexFits len index × (first_fault fit shape elems ≡ None)
+index_of_no_fault fit len shape index elems none =
+    let parts = option_or_none (index_fault len index) none in
+    (index_fits_of_no_fault len index parts.0, parts.1)
 
--- a slice that fits has no fault
-pub no_fault_of_fits : (fit : Fit) (len : ℕ) (slice : Slice) → SliceFits fit len slice → slice_fault fit len slice ≡ None
-no_fault_of_fits fit len slice fits = rw (fits.start_within, fits.end_within, fits.step_moves) refl
+counted : (same : Bool) (first : Option ErrorKind) → (if same then first else Some IncompatibleShape) ≡ None
+    → (same ≡ true) × (first ≡ None)
+counted true first none = (refl, none)
+counted false first none = absurd (cc)
 
--- the step of a slice that fits moves
-pub step_moves : (fit : Fit) (len : ℕ) (slice : Slice) → SliceFits fit len slice → 0 < magnitude slice.step
-step_moves fit len slice fits = pos_of_ne-zero (eqb-false (magnitude slice.step) 0 fits.step_moves)
-
-bound_below : (len : ℕ) (bound : ℤ) → IsTrue (is_bound len bound) → magnitude bound ≤ len
-bound_below len (pos bound) within = leb-true bound len within
-bound_below len (negsuc bound) within = absurd (cc)
-
--- it stops at the end of the axis or before
-pub end_below : (fit : Fit) (len : ℕ) (slice : Slice) → SliceFits fit len slice → magnitude (end_meaning fit len slice) ≤ len
-end_below fit len slice fits = bound_below len (end_meaning fit len slice) fits.end_within
-
-entry_is : (entry : Bool) → (if entry then None else Some OutOfBounds) ≡ None → entry ≡ true
-entry_is true none = refl
-entry_is false none = absurd (cc)
-
--- an index without fault means an entry
-pub index_fits_of_no_fault : (len : ℕ) (index : ℤ) → index_fault len index ≡ None → IndexFits len index
-index_fits_of_no_fault len index none = entry_is (is_entry len (meaning len index)) none
-
-entry_at : (len : ℕ) (entry : ℤ) → IsTrue (is_entry len entry) → (entry ≡ pos (magnitude entry)) × (magnitude entry < len)
-entry_at len (pos entry) is = (refl, ltb-true entry len is)
-entry_at len (negsuc entry) is = absurd (cc)
-
--- the entry that an index means is on the axis
-pub entry_below : (len : ℕ) (index : ℤ) → IndexFits len index
-    → (meaning len index ≡ pos (magnitude (meaning len index))) × (magnitude (meaning len index) < len)
-entry_below len index fits = entry_at len (meaning len index) fits
+-- an argument without fault has an element for each axis, and none of them is at fault
+pub elements_of_no_fault : (fit : Fit) (shape : List ℕ) (elems : List SliceInfoElem) → argument_fault fit shape elems ≡ None
+    → (in_count elems ≡ length shape) × (first_fault fit shape elems ≡ None)
+elements_of_no_fault fit shape elems none =
+    let parts = counted (in_count elems == length shape) (first_fault fit shape elems) none in
+    (eqb-true (in_count elems) (length shape) parts.0, parts.1)

@@ -1,4 +1,5 @@
--- What a slice with a step of 1 picks: every entry of its range, so that pick j is the start plus j. A crop is such a slice of each axis.
+-- What a slice with a step of 1 picks: every coordinate of its range, so that pick j is the start plus j. A crop is such a slice of each
+-- axis.
 use Rattle.std.proofs.Common.{◌≡◌, ℕ, ◌+◌, ◌-◌, ◌<◌, ◌≤◌, min, ℤ, pos, negsuc, Option, Some, None, List, [], ◌∷◌, length, refl, ap, ◌∙◌}
 use Rattle.std.proofs.Common.{arith, IsTrue, nat_lt, slice_index}
 use Rattle.std.specs.Int.{div_ceil}
@@ -7,7 +8,7 @@ use Rattle.std.proofs.lemmas.Bool.{and_parts, ltb-true}
 use Rattle.std.proofs.lemmas.Grind.{div_ceil_times}
 use Rattle.std.proofs.lemmas.List.{ext_get_or}
 use Rattle.std.proofs.lemmas.List.FromFn.{length-range_with_len, get_or-range_with_len}
-use Rattle.nd_base.specs.Entrywise.{sums}
+use Rattle.nd_base.specs.Elementwise.{sums}
 use Rattle.nd_base.specs.Indices.{below}
 use Rattle.nd_slice.proofs.Definitions.{Fit, Slice, SliceInfoElem, between, end_meaning, is_index, magnitude, nearest, picks, range}
 use Rattle.nd_slice.proofs.Definitions.{selected, slice_with, sliced_shape, start_meaning}
@@ -30,8 +31,8 @@ pub between_one : (start end : ℕ) → between (pos 1) start end ≡ range star
 between_one start end =
     let count = length-between_one start end in
     ext_get_or 0 (between (pos 1) start end) (range start end) (omega (arith, count, length-range_with_len start (end - start)))
-    (λ j inside.
-    omega (arith, pick_up 1 start end j (omega arith) inside, get_or-range_with_len start (end - start) j 0 (omega (arith, count))))
+    (λ j in_bounds.
+    omega (arith, pick_up 1 start end j (omega arith) in_bounds, get_or-range_with_len start (end - start) j 0 (omega (arith, count))))
 
 -- one number alone
 pub between_lone : (number : ℕ) → between (pos 1) number (number + 1) ≡ number ∷ []
@@ -42,31 +43,31 @@ module _ (fit : Fit) (len : ℕ) (start : ℤ) (end : Option ℤ) where
   abbrev by_one : Slice
   by_one = slice_with start end (pos 1)
 
-  -- a slice with a step of 1 picks as many entries as its range has
+  -- a slice with a step of 1 picks as many coordinates as its range has
   pub length-picks_by_one : length (picks fit len (slice_with start end (pos 1)))
       ≡ magnitude (end_meaning fit len (slice_with start end (pos 1))) - magnitude (start_meaning fit len (slice_with start end (pos 1)))
   length-picks_by_one = length-between_one (magnitude (start_meaning fit len by_one)) (magnitude (end_meaning fit len by_one))
 
-  -- pick j is the entry where its range begins plus j
+  -- pick j is the coordinate where its range begins plus j
   pub pick_by_one : (j : ℕ) → j < length (picks fit len (slice_with start end (pos 1)))
       → slice_index (picks fit len (slice_with start end (pos 1))) j ≡ magnitude (start_meaning fit len (slice_with start end (pos 1))) + j
-  pick_by_one j inside = omega (
+  pick_by_one j in_bounds = omega (
     arith,
-    pick_up 1 (magnitude (start_meaning fit len by_one)) (magnitude (end_meaning fit len by_one)) j (omega arith) inside,
+    pick_up 1 (magnitude (start_meaning fit len by_one)) (magnitude (end_meaning fit len by_one)) j (omega arith) in_bounds,
   )
 
 range_from_zero : (len : ℕ) → range 0 len ≡ below len
 range_from_zero len = let count : len - 0 ≡ len = omega arith in ap (range_with_len 0) count
 
--- `..` picks every entry, in order
+-- `..` picks every coordinate, in order
 pub picks_of_all : (fit : Fit) (len : ℕ) → picks fit len (slice_with (pos 0) None (pos 1)) ≡ below len
 picks_of_all Strict len = between_one 0 len ∙ range_from_zero len
 picks_of_all Clamp len = let first : min 0 len ≡ 0 = omega arith in ap (λ start. between (pos 1) start len) first ∙ between_one 0 len
     ∙ range_from_zero len
 
--- pick j of `..` is entry j
+-- pick j of `..` is coordinate j
 pub pick_of_all : (fit : Fit) (len j : ℕ) → j < len → slice_index (picks fit len (slice_with (pos 0) None (pos 1))) j ≡ j
-pick_of_all fit len j inside = rw (picks_of_all fit len) (omega (arith, get_or-range_with_len 0 len j 0 inside))
+pick_of_all fit len j in_bounds = rw (picks_of_all fit len) (omega (arith, get_or-range_with_len 0 len j 0 in_bounds))
 
 nearest_below : (len : ℕ) (number : ℤ) → magnitude (nearest len number) ≤ len
 nearest_below len (pos number) = omega arith
@@ -76,16 +77,16 @@ end_below : (len : ℕ) (slice_start : ℤ) (end : Option ℤ) → magnitude (en
 end_below len start None = omega arith
 end_below len start (Some end) = nearest_below len _
 
--- where a range that begins at an entry counted from the front picks anything, pick j is that entry plus j
+-- where a range that begins at a coordinate counted from the front picks anything, pick j is that coordinate plus j
 pub pick_of_range : (fit : Fit) (len start : ℕ) (end : Option ℤ) (j : ℕ) → j < length (picks fit len (slice_with (pos start) end (pos 1)))
     → slice_index (picks fit len (slice_with (pos start) end (pos 1))) j ≡ start + j
-pick_of_range Strict len start end j inside = pick_by_one Strict len (pos start) end j inside
-pick_of_range Clamp len start end j inside =
+pick_of_range Strict len start end j in_bounds = pick_by_one Strict len (pos start) end j in_bounds
+pick_of_range Clamp len start end j in_bounds =
     let room = length-picks_by_one Clamp len (pos start) end in
-    omega (arith, pick_by_one Clamp len (pos start) end j inside, room, end_below len (pos start) end)
+    omega (arith, pick_by_one Clamp len (pos start) end j in_bounds, room, end_below len (pos start) end)
 
 -- ---- of all axes
--- the argument that takes of each axis the range from an entry counted from the front on, with a step of 1
+-- the argument that takes of each axis the range from a coordinate counted from the front on, with a step of 1
 abbrev pub ranges : List ℕ → List (Option ℤ) → List SliceInfoElem
 ranges [] ends = []
 ranges (start ∷ starts) [] = []

@@ -1,17 +1,17 @@
 //! Lists of numbers that lie a step apart.
 ghost use Rattle.std.specs.Prelude.{◌≡◌, ◌≢◌, ◌<◌, ◌≤◌, ◌^◌, pos, ◌↔◌, IsTrue};
-ghost use Rattle.nd_slice.specs.Sequence.{SequencesMeet, MeetsWithin};
+ghost use Rattle.nd_slice.specs.Sequence.{SequencesIntersect, IntersectWithin};
 
 use crate::intersect::multiplier::least_multiplier;
 
 /// Whether some number up to `room` is a multiple of `second_step`, and also a multiple of
 /// `first_step` once `ahead` is added.
-fn meets_within(ahead: usize, first_step: usize, second_step: usize, room: usize) -> bool
+fn intersects_within(ahead: usize, first_step: usize, second_step: usize, room: usize) -> bool
     requires first_some { 0 < first_step }
     requires first_small { first_step ≤ 2 ^ 63 }
     requires second_some { 0 < second_step }
     requires second_small { second_step ≤ 2 ^ 63 }
-    ensures { IsTrue result ↔ MeetsWithin ahead first_step second_step room }
+    ensures { IsTrue result ↔ IntersectWithin ahead first_step second_step room }
 {
     // (0 is such a number, or the only multiple within the room: then no equation is solved, and for a step of 1 no
     // remainder is taken)
@@ -38,7 +38,7 @@ fn meets_within(ahead: usize, first_step: usize, second_step: usize, room: usize
 pub fn arith_seq_intersect(first: (isize, isize, isize), second: (isize, isize, isize)) -> bool
     requires first_moves { first.2 ≢ pos 0 }
     requires second_moves { second.2 ≢ pos 0 }
-    ensures { IsTrue result ↔ SequencesMeet first second }
+    ensures { IsTrue result ↔ SequencesIntersect first second }
 {
     let least = first.0.max(second.0);
     let greatest = first.1.min(second.1);
@@ -49,8 +49,8 @@ pub fn arith_seq_intersect(first: (isize, isize, isize), second: (isize, isize, 
     let (first_step, second_step) = (first.2.unsigned_abs(), second.2.unsigned_abs());
     let ahead = first.0.abs_diff(second.0);
     if first.0 <= second.0 {
-        meets_within(ahead, first_step, second_step, room)
+        intersects_within(ahead, first_step, second_step, room)
     } else {
-        meets_within(ahead, second_step, first_step, room)
+        intersects_within(ahead, second_step, first_step, room)
     }
 }

@@ -8,16 +8,16 @@ use Rattle.std.proofs.lemmas.Grind.{common_steps}
 use Rattle.std.proofs.lemmas.Int.{ints}
 use Rattle.nd_base.specs.declared.error.ErrorKind.{ErrorKind}
 use Rattle.nd_base.specs.declared.error.ErrorKind.TheVariants.{OutOfBounds, Unsupported}
-use Rattle.nd_base.proofs.laws.Definitions.{IsInside, LiesInside, is_empty, limit, low_span, high_span, place, span, IsValidLayout}
-use Rattle.nd_base.proofs.laws.Inside.{inside_from}
+use Rattle.nd_base.proofs.laws.Definitions.{IsInBounds, LiesInBounds, is_empty, limit, low_span, high_span, place, span, IsValidLayout}
+use Rattle.nd_base.proofs.laws.Bounds.{in_bounds_from}
 use Rattle.nd_base.proofs.laws.IsIndex.{nonempty_from_index}
 use Rattle.nd_base.proofs.laws.Offset.{offset_bounds}
 use Rattle.nd_base.proofs.laws.Span.{low_high_span}
-use Rattle.nd_base.proofs.laws.Turned.{least_offset, greatest_offset}
+use Rattle.nd_base.proofs.laws.Flipped.{least_offset, greatest_offset}
 use Rattle.nd_shape.specs.Acceptance.{acceptance, leaves_data, may_share, size_fault}
-use Rattle.nd_shape.specs.OwnedRule.{meets_owned_rule}
-use Rattle.nd_shape.specs.declared.checks.CanIndexCheckMode.{CanIndexCheckMode}
-use Rattle.nd_shape.specs.declared.checks.CanIndexCheckMode.TheVariants.{OwnedMutable, ReadOnly}
+use Rattle.nd_shape.specs.NoAlias.{satisfies_no_alias_rule}
+use Rattle.nd_shape.specs.declared.acceptance.CanIndexCheckMode.{CanIndexCheckMode}
+use Rattle.nd_shape.specs.declared.acceptance.CanIndexCheckMode.TheVariants.{OwnedMutable, ReadOnly}
 use Rattle.nd_shape.proofs.laws.Acceptance.{sized_valid}
 use Rattle.nd_shape.proofs.laws.DistinctOffsets.{distinct_without_overlap}
 use Rattle.ndarray_layout.specs.AcceptanceFrom.{acceptance_from, leaves_data_from}
@@ -37,10 +37,10 @@ neither {x} {y} p q = rw p q
 
 -- between its lowest and its highest place a layout lies within the data
 stays_below : (start : ℕ) (shape : List ℕ) (strides : List ℤ) (len : ℕ) → length shape ≡ length strides
-    → low_span shape strides ≤ start → start + high_span shape strides < len → LiesInside len start shape strides
+    → low_span shape strides ≤ start → start + high_span shape strides < len → LiesInBounds len start shape strides
 stays_below start shape strides len counts low high index here =
     let bounds = offset_bounds shape strides index here counts in
-    inside_from len (place start strides index)
+    in_bounds_from len (place start strides index)
     (omega (arith, ints, bounds.0))
     (omega (arith, ints, bounds.1))
 
@@ -58,8 +58,8 @@ module _ (start len : ℕ) (shape : List ℕ) (strides : List ℤ) where
       }
 
   -- each of its indices has its place in the data
-  stays_inside : length shape ≡ length strides → Stays start len shape strides → LiesInside len start shape strides
-  stays_inside counts s index here =
+  stays_in_bounds : length shape ≡ length strides → Stays start len shape strides → LiesInBounds len start shape strides
+  stays_in_bounds counts s index here =
       stays_below start shape strides len counts s.low (s.end (nonempty_from_index shape index here)) index here
 
   -- it is a view
@@ -99,15 +99,15 @@ module _ (start elem_size len : ℕ) (mode : CanIndexCheckMode) (shape : List �
   placed_is_view = stays_is_view start len shape strides placed_valid (stays start len shape strides placed_stays)
 
   -- whose indices all lie within the data
-  pub placed_inside : LiesInside len start shape strides
-  placed_inside = stays_inside start len shape strides placed_valid.same_count (stays start len shape strides placed_stays)
+  pub placed_in_bounds : LiesInBounds len start shape strides
+  placed_in_bounds = stays_in_bounds start len shape strides placed_valid.same_count (stays start len shape strides placed_stays)
 
 -- of a layout accepted to be written, no two indices lie at one place
 pub placed_distinct : (start elem_size len : ℕ) (shape : List ℕ) (strides : List ℤ)
     → acceptance_from start elem_size len OwnedMutable shape strides ≡ None
     → HasDistinctPlaces (record { start = start; shape = shape; strides = strides })
 placed_distinct start elem_size len shape strides h =
-    let apart : (not (is_empty shape) && not (meets_owned_rule shape strides)) ≡ false = grind (arith, common_steps) in
+    let apart : (not (is_empty shape) && not (satisfies_no_alias_rule shape strides)) ≡ false = grind (arith, common_steps) in
     distinct_from_offsets start shape strides
     (distinct_without_overlap shape strides (placed_valid start elem_size len OwnedMutable shape strides h).same_count apart)
 
@@ -134,19 +134,19 @@ acceptance_from_lowest elem_size len mode shape strides = by (size_fault elem_si
     by None e = ap rest (leaves_from_lowest len shape strides (sized_valid elem_size shape strides e).span_fits)
 
 -- ---- acceptance by indices
-inside_bounds : (len : ℕ) (z : ℤ) → IsInside len z → (pos 0 ≤ℤ z) × (z <ℤ pos len)
-inside_bounds len (pos n) h = (omega (arith, ints), omega (arith, ints))
-inside_bounds len (negsuc n) h = absurd h
+bounds_of_place : (len : ℕ) (z : ℤ) → IsInBounds len z → (pos 0 ≤ℤ z) × (z <ℤ pos len)
+bounds_of_place len (pos n) h = (omega (arith, ints), omega (arith, ints))
+bounds_of_place len (negsuc n) h = absurd h
 
 module _ (start elem_size len : ℕ) (shape : List ℕ) (strides : List ℤ) (some : is_empty shape ≡ false) where
-  reads : size_fault elem_size shape strides ≡ None → LiesInside (min len (limit + 1)) start shape strides
+  reads : size_fault elem_size shape strides ≡ None → LiesInBounds (min len (limit + 1)) start shape strides
       → acceptance_from start elem_size len ReadOnly shape strides ≡ None
-  reads sized inside =
+  reads sized in_bounds =
       let counts = (sized_valid elem_size shape strides sized).same_count in
       let least = least_offset shape strides counts some in
       let greatest = greatest_offset shape strides counts some in
-      let low = inside_bounds (min len (limit + 1)) (place start strides least.0) (inside least.0 least.1) in
-      let high = inside_bounds (min len (limit + 1)) (place start strides greatest.0) (inside greatest.0 greatest.1) in
+      let low = bounds_of_place (min len (limit + 1)) (place start strides least.0) (in_bounds least.0 least.1) in
+      let high = bounds_of_place (min len (limit + 1)) (place start strides greatest.0) (in_bounds greatest.0 greatest.1) in
       let end : start + high_span shape strides < min len (limit + 1) = omega (arith, ints, high.1, greatest.2) in
       let s : Stays start len shape strides = record {
         low = omega (arith, ints, low.0, least.2);
@@ -154,11 +154,11 @@ module _ (start elem_size len : ℕ) (shape : List ℕ) (strides : List ℤ) (so
         end = λ none. omega (arith, end);
       } in
       sym (accepted start elem_size len ReadOnly shape strides (sym sized) (stays_passes start len shape strides s (omega (arith, end)))
-      (read_shares (is_empty shape) (meets_owned_rule shape strides)))
+      (read_shares (is_empty shape) (satisfies_no_alias_rule shape strides)))
 
-  read_inside : acceptance_from start elem_size len ReadOnly shape strides ≡ None
-      → LiesInside (min len (limit + 1)) start shape strides
-  read_inside h =
+  read_in_bounds : acceptance_from start elem_size len ReadOnly shape strides ≡ None
+      → LiesInBounds (min len (limit + 1)) start shape strides
+  read_in_bounds h =
       let s = stays start len shape strides (placed_stays start elem_size len ReadOnly shape strides h) in
       stays_below start shape strides (min len (limit + 1)) (placed_valid start elem_size len ReadOnly shape strides h).same_count
       s.low (omega (arith, s.high, s.end some))
@@ -166,6 +166,6 @@ module _ (start elem_size len : ℕ) (shape : List ℕ) (strides : List ℤ) (so
   -- a layout with an index is accepted to be read exactly where it has no fault apart from the data and each index lies at one of
   -- the elements; of more elements than there are places, only those count that have one
   pub read_by_indices : (acceptance_from start elem_size len ReadOnly shape strides ≡ None)
-      ↔ ((size_fault elem_size shape strides ≡ None) × LiesInside (min len (limit + 1)) start shape strides)
+      ↔ ((size_fault elem_size shape strides ≡ None) × LiesInBounds (min len (limit + 1)) start shape strides)
   read_by_indices =
-      (λ h. (placed_sized start elem_size len ReadOnly shape strides h, read_inside h), λ both. reads both.0 both.1)
+      (λ h. (placed_sized start elem_size len ReadOnly shape strides h, read_in_bounds h), λ both. reads both.0 both.1)

@@ -87,8 +87,8 @@ no_fewer_axes shape view_shape none = (stretches_to_common shape view_shape (can
 -- the view is one of the same data, whose indices lie where their sources do
 pub IsViewOf-broadcast_of : (shape : List ℕ) {view : View} → IsView view → broadcast_fault shape view.shape ≡ None
     → IsViewOf (broadcast_source view.shape) view (broadcast_of shape view)
-IsViewOf-broadcast_of shape {view} v none = IsViewOf-kept whole (λ entries here.
-    let stays = broadcast_source_kept entries stretches here in
+IsViewOf-broadcast_of shape {view} v none = IsViewOf-kept whole (λ coordinates here.
+    let stays = broadcast_source_kept coordinates stretches here in
     (stays.within, omega (arith, ints, stays.offset)))
   where
     stretches : Stretches shape view.shape view.strides

@@ -3,7 +3,7 @@ use Rattle.std.proofs.Common.{◌≡◌, ◌↔◌, ℕ, ℤ, pos, ◌+ℤ◌, N
 use Rattle.std.proofs.lemmas.Int.{ints}
 use Rattle.nd_base.proofs.laws.Definitions.{HasDistinctOffsets, offset_of}
 use Rattle.nd_shape.specs.Acceptance.{acceptance}
-use Rattle.nd_shape.specs.declared.checks.CanIndexCheckMode.TheVariants.{OwnedMutable}
+use Rattle.nd_shape.specs.declared.acceptance.CanIndexCheckMode.TheVariants.{OwnedMutable}
 use Rattle.nd_shape.proofs.laws.Acceptance.{accepted_distinct}
 use Rattle.ndarray_layout.specs.DistinctPlaces.{HasDistinctPlaces}
 use Rattle.ndarray_layout.specs.View.{View}

@@ -13,7 +13,7 @@ use Rattle.nd_base.proofs.laws.Definitions.{is_empty, size}
 use Rattle.nd_base.proofs.laws.Indices.{get_or-indices_in, length-indices_in}
 use Rattle.nd_base.proofs.laws.Lists.{get_or-from_back}
 use Rattle.nd_base.proofs.laws.Offset.{offset_of-reverse}
-use Rattle.nd_base.proofs.laws.Reading.{length-as_read, as_read-as_read, size-as_read, is_empty-as_read}
+use Rattle.nd_base.proofs.laws.AsRead.{length-as_read, as_read-as_read, size-as_read, is_empty-as_read}
 use Rattle.nd_dim.specs.Strides.{size_after}
 use Rattle.ndarray_layout.specs.reshape.ForcedStrides.{forced_strides, offset_at_flat_index, stride_at}
 use Rattle.ndarray_layout.specs.reshape.Joints.{has_bad_joint}
@@ -135,7 +135,7 @@ keeps-exactly order {from} {strides} to at more = (λ fits. make fits, λ k. fit
         )
 
 -- ---- and then the strides of the definition do
--- on each axis of more than one entry all strides that keep the places are those of the definition
+-- on each axis longer than 1 all strides that keep the places are those of the definition
 pub keeps-forced : {order : Order} {from : List ℕ} {strides : List ℤ} {to : List ℕ} {others : List ℤ} (axis : ℕ) → is_empty to ≡ false
     → length from ≡ length strides → Keeps order from strides to others → axis < length to → 1 < get_or (as_read order to) axis 0
     → get_or (as_read order others) axis (pos 0) ≡ offset_at_flat_index (as_read order from) (as_read order strides)
@@ -201,7 +201,7 @@ agree-as_read ColumnMajor to others strides e g agree axis long =
     ap (λ n. get_or (reverse strides) (n - 1 - axis) (pos 0)) g ∙ get_or-from_back strides axis (pos 0) (omega arith) in
     sym one ∙ agree back (omega arith) (subst (λ n. 1 < n) (sym (get_or-from_back to axis 0 l)) long) ∙ other
 
--- all strides that do agree with those of the definition on each axis of more than one entry
+-- all strides that do agree with those of the definition on each axis longer than 1
 pub keeps-agree : {order : Order} {from : List ℕ} {strides : List ℤ} {to : List ℕ} {others : List ℤ} → HasIndex from strides
     → is_empty to ≡ false → Keeps order from strides to others → AgreeOnLonger to others (forced_strides order from strides to)
 keeps-agree {order} {from} {strides} {to} {others} at more k =

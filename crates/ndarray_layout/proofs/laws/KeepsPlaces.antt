@@ -3,7 +3,7 @@ use Rattle.std.proofs.Common.{◌≡◌, ℕ, true, List, refl, sym, subst, ◌�
 use Rattle.std.proofs.lemmas.List.Elements.{All-map, All-weaker}
 use Rattle.std.specs.List.{All, Contains}
 use Rattle.nd_base.specs.declared.order.Order.{Order}
-use Rattle.nd_base.proofs.laws.Definitions.{indices_in, is_index, IsInside}
+use Rattle.nd_base.proofs.laws.Definitions.{indices_in, is_index, IsInBounds}
 use Rattle.nd_base.proofs.laws.Indices.{All-indices_in, Contains-indices_in}
 use Rattle.ndarray_layout.specs.Descends.{Descends, IsViewOf}
 use Rattle.ndarray_layout.specs.KeepsPlaces.{KeepsPlaces}
@@ -15,12 +15,12 @@ pub LiesWithin-kept : (len : ℕ) (source : List ℕ → List ℕ) (view result 
     → LiesWithin len result
 LiesWithin-kept len source view result keeps within = λ index here.
     let stays = keeps index here in
-    subst (IsInside len) (sym stays.1) (within (source index) stays.0)
+    subst (IsInBounds len) (sym stays.1) (within (source index) stays.0)
 
 -- so a view whose indices lie where their sources do is one of the same data
 pub IsViewOf-kept : {source : List ℕ → List ℕ} {old new : View} → IsView new → KeepsPlaces source old new → IsViewOf source old new
 IsViewOf-kept {source} {old} {new} v keeps =
-    record { is_view = v; places = keeps; inside = λ len. LiesWithin-kept len source old new keeps }
+    record { is_view = v; places = keeps; in_bounds = λ len. LiesWithin-kept len source old new keeps }
 
 -- different indices of the result stand for different ones
 abbrev pub AreApart : (List ℕ → List ℕ) → View → Type 0
@@ -33,7 +33,7 @@ pub Descends-kept : {source : List ℕ → List ℕ} {old new : View} → IsView
 Descends-kept {source} {old} {new} v keeps apart = record {
   is_view = v;
   places = keeps;
-  inside = λ len. LiesWithin-kept len source old new keeps;
+  in_bounds = λ len. LiesWithin-kept len source old new keeps;
   distinct = λ distinct index other here there same.
       let first = keeps index here in
       let second = keeps other there in
@@ -41,11 +41,11 @@ Descends-kept {source} {old} {new} v keeps apart = record {
 }
 
 pub IsViewOf-Descends : {source : List ℕ → List ℕ} {old new : View} → Descends source old new → IsViewOf source old new
-IsViewOf-Descends d = record { is_view = d.is_view; places = d.places; inside = d.inside }
+IsViewOf-Descends d = record { is_view = d.is_view; places = d.places; in_bounds = d.in_bounds }
 
 -- a view is one of its own data
 pub IsViewOf-stayed : {view : View} → IsView view → IsViewOf (λ index. index) view view
-IsViewOf-stayed v = record { is_view = v; places = λ index here. (here, refl); inside = λ len within. within }
+IsViewOf-stayed v = record { is_view = v; places = λ index here. (here, refl); in_bounds = λ len within. within }
 
 -- and a view's view is one of the first one's, by the sources of the sources
 pub IsViewOf-in_turn : {source more : List ℕ → List ℕ} {view between result : View} → IsViewOf source view between

@@ -19,7 +19,7 @@ use Rattle.ndarray_layout.proofs.laws.KeepsPlaces.{Descends-kept}
 use Rattle.ndarray_layout.proofs.laws.View.{IsView-within}
 use Rattle.ndarray_layout.proofs.Merged.{TwoAxes, merge_kept, merge_source_kept, merge_source_injective}
 
--- the test says where some stride has the entries of both axes
+-- the test says where some stride has the coordinates of both axes
 pub has_merged_stride-Decides : (take into : ℕ) (view : View) → Decides (has_merged_stride take into view) (HasMergedStride take into view)
 has_merged_stride-Decides take into view = merge_fits-Decides (get_or view.shape take 0) (get_or view.strides take (pos 0))
     (get_or view.shape into 0) (get_or view.strides into (pos 0))
@@ -45,7 +45,7 @@ axes_of_no_fault shape take into none =
     by true false none = (refl, refl)
     by false same none = absurd (cc)
 
--- and where they have to be merged, some stride has the entries of both
+-- and where they have to be merged, some stride has the coordinates of both
 pub record CanMerge (take into : ℕ) (view : View) : Type 0 where
   pub axes : axes_fault view.shape take into ≡ None
   pub stride : has_merged_stride take into view ≡ true
@@ -108,7 +108,7 @@ module _ (take into : ℕ) (view : View) (v : IsView view) (none : merge_fault t
 
   -- the view is one of the same data, whose indices lie where their sources do
   pub Descends-merge_of : Descends (merge_source take into view.shape) view (merge_of take into view)
-  Descends-merge_of = Descends-kept is_view (λ entries here.
-      let stays = merge_source_kept entries two serves here in
+  Descends-merge_of = Descends-kept is_view (λ coordinates here.
+      let stays = merge_source_kept coordinates two serves here in
       (stays.within, omega (arith, ints, stays.offset)))
-      (λ entries others. merge_source_injective entries others two)
+      (λ coordinates others. merge_source_injective coordinates others two)

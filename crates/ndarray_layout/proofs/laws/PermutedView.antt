@@ -35,7 +35,7 @@ use Rattle.ndarray_layout.specs.View.{View, IsView, place_at, view_places}
 use Rattle.ndarray_layout.proofs.laws.KeepsPlaces.{Descends-kept}
 
 -- ---- what any order of the axes keeps
--- a view has the axes of another, each index of it those entries of its source
+-- a view has the axes of another, each index of it those items of its source
 pub record HasAxesOf (source : List ℕ → List ℕ) (view result : View) : Type 0 where
   pub start : result.start ≡ view.start
   pub count : length result.shape ≡ length result.strides
@@ -162,8 +162,8 @@ tests_in_order shape index [] = refl
 tests_in_order shape index (axis ∷ axes) =
     ap (λ rest. nat_lt (get_or index axis 0) (get_or shape axis 0) && rest) (tests_in_order shape index axes)
 
-own : {X : Type 0} (otherwise : X) (n : ℕ) (entries : List X) → length entries ≡ n → reordered otherwise (below n) entries ≡ entries
-own otherwise n entries count = subst (λ m. reordered otherwise (below m) entries ≡ entries) count (in_own_order otherwise entries)
+own : {X : Type 0} (otherwise : X) (n : ℕ) (items : List X) → length items ≡ n → reordered otherwise (below n) items ≡ items
+own otherwise n items count = subst (λ m. reordered otherwise (below m) items ≡ items) count (in_own_order otherwise items)
 
 -- a source of indices that the order takes back to them
 abbrev pub TakenBack : ℕ → List ℕ → (List ℕ → List ℕ) → Type 0
@@ -298,7 +298,7 @@ swap_twice d xs a b p q =
     let zs = swap ys a b in
     let first = swapped_from_swap xs ys a b d p q refl in
     let second = swapped_from_swap ys zs a b d (omega (arith, length-swap xs a b)) (omega (arith, length-swap xs a b)) refl in
-    ext_get_or d zs xs (length-swap ys a b ∙ length-swap xs a b) (λ k inside. elim (same_or_not k a) [
+    ext_get_or d zs xs (length-swap ys a b ∙ length-swap xs a b) (λ k in_bounds. elim (same_or_not k a) [
       | inl at ↦ ap (λ i. get_or zs i d) at ∙ second.0 ∙ first.1 ∙ ap (λ i. get_or xs i d) (sym at)
       | inr not_at ↦ elim (same_or_not k b) [
         | inl at ↦ ap (λ i. get_or zs i d) at ∙ second.1 ∙ first.0 ∙ ap (λ i. get_or xs i d) (sym at)
@@ -328,11 +328,11 @@ module _ (n axis other : ℕ) (first : axis < n) (second : other < n) where
   exchanged_order = order_of_permutation n exchanged
       (IsPermutation-swap (below n) exchanged axis other (in_range axis first) (in_range other second) refl)
 
-  reordered-exchanged : {X : Type 0} (otherwise : X) (entries : List X) → length entries ≡ n
-      → reordered otherwise exchanged entries ≡ swap entries axis other
-  reordered-exchanged otherwise entries count =
-      map-swap (λ a. get_or entries a otherwise) 0 (below n) axis other (in_range axis first) (in_range other second)
-      ∙ ap (λ xs. swap xs axis other) (own otherwise n entries count)
+  reordered-exchanged : {X : Type 0} (otherwise : X) (items : List X) → length items ≡ n
+      → reordered otherwise exchanged items ≡ swap items axis other
+  reordered-exchanged otherwise items count =
+      map-swap (λ a. get_or items a otherwise) 0 (below n) axis other (in_range axis first) (in_range other second)
+      ∙ ap (λ xs. swap xs axis other) (own otherwise n items count)
 
 pub swapped_axes : (axis other : ℕ) (view : View) → length view.shape ≡ length view.strides → swap_fault view.shape axis other ≡ None
     → HasAxesOf (λ index. swap index axis other) view (swapped_of axis other view)

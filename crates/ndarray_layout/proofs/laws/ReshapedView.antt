@@ -16,18 +16,18 @@ use Rattle.nd_base.proofs.laws.FlatIndex.{index_of_flat_in-flat_index_in, is_ind
 use Rattle.nd_base.proofs.laws.FlatIndex.{flat_index_in-lt-size}
 use Rattle.nd_base.proofs.laws.FlatIndex.{same_from_flat_index_in}
 use Rattle.nd_base.proofs.laws.Size.{size_of_empty, size_of_nonempty}
-use Rattle.nd_base.proofs.laws.Turned.{least_offset, greatest_offset}
+use Rattle.nd_base.proofs.laws.Flipped.{least_offset, greatest_offset}
 use Rattle.ndarray_layout.specs.reshape.ForcedStrides.{forced_strides}
 use Rattle.ndarray_layout.specs.reshape.Keeps.{Keeps}
 use Rattle.ndarray_layout.specs.reshape.ReshapeFault.{reshape_fault}
-use Rattle.nd_base.proofs.laws.Reading.{size-as_read}
+use Rattle.nd_base.proofs.laws.AsRead.{size-as_read}
 use Rattle.ndarray_layout.proofs.laws.Keeps.{alike-of-keeps, fault-exactly, forced-keeps, keeps-exactly, offset-as_read, size-of-keeps}
 use Rattle.ndarray_layout.proofs.matching.HasIndex.{has_index-of-valid}
 use Rattle.ndarray_layout.specs.Descends.{Descends}
 use Rattle.ndarray_layout.specs.View.{View, IsView, view_places}
 use Rattle.ndarray_layout.proofs.laws.KeepsPlaces.{Descends-kept}
 use Rattle.ndarray_layout.proofs.laws.View.{IsView-within}
-use Rattle.ndarray_layout.specs.ReshapedView.{ReshapeFits, reshape_of, reshape_refusal, reshape_source, reshaped_strides}
+use Rattle.ndarray_layout.specs.ReshapedView.{ReshapeFits, reshape_of, reshape_source, reshaped_strides, view_reshape_fault}
 
 -- ---- the index of equal flat index
 -- along strides that keep the places an index lies as far as the one of equal flat index does
@@ -87,7 +87,7 @@ high_of_zeros [] = refl
 high_of_zeros (len ∷ shape) = omega (arith, high_of_zeros shape)
 
 -- ---- the fault
--- what a view without a refusal has
+-- what a view without a fault has
 none_parts : (large from_empty to_empty : Bool) (fault : Option ErrorKind)
     → cond large (Some Overflow) (cond (from_empty && to_empty) None (cond (from_empty || to_empty) (Some IncompatibleShape) fault)) ≡ None
     → (large ≡ false) × (from_empty ≡ to_empty) × (to_empty ≡ false → fault ≡ None)
@@ -122,8 +122,8 @@ empty_keeps {order} {from} {strides} {to} {others} none nothing e =
     let there = ap (map (place 0 strides)) (indices_in_of_empty order from (size_of_empty from none)) in
     record { same_count = e; same_places = here ∙ sym there }
 
--- those of the definition keep the places of a view that is not refused
-pub reshaped_keeps : (order : Order) (shape : List ℕ) {view : View} → IsView view → reshape_refusal order shape view ≡ None
+-- those of the definition keep the places of a view without a fault
+pub reshaped_keeps : (order : Order) (shape : List ℕ) {view : View} → IsView view → view_reshape_fault order shape view ≡ None
     → Keeps order view.shape view.strides shape (reshaped_strides order shape view)
 reshaped_keeps order shape {view} v none = by (is_empty shape) refl
   where
@@ -139,17 +139,17 @@ reshaped_keeps order shape {view} v none = by (is_empty shape) refl
     by false e = forced-keeps order shape (has_index-of-valid v.valid (parts.1 ∙ e)) e
         ((fault-exactly order view.shape view.strides shape).0 (parts.2 e))
 
--- a view can be read as one of a shape exactly where that is not refused
-fits_of_no_refusal : (order : Order) (shape : List ℕ) {view : View} → IsView view → reshape_refusal order shape view ≡ None
+-- a view can be read as one of a shape exactly where that has no fault
+reshape_fits_of_no_fault : (order : Order) (shape : List ℕ) {view : View} → IsView view → view_reshape_fault order shape view ≡ None
     → ReshapeFits order shape view
-fits_of_no_refusal order shape {view} v none =
+reshape_fits_of_no_fault order shape {view} v none =
     let parts = none_parts (ltb limit (nonzero_size shape)) (is_empty view.shape) (is_empty shape)
     (reshape_fault order view.shape view.strides shape) none in
     (ltb-false limit (nonzero_size shape) parts.0, (reshaped_strides order shape view, reshaped_keeps order shape v none))
 
-no_refusal_of_fits : (order : Order) (shape : List ℕ) {view : View} → IsView view → ReshapeFits order shape view
-    → reshape_refusal order shape view ≡ None
-no_refusal_of_fits order shape {view} v fits =
+no_fault_of_reshape_fits : (order : Order) (shape : List ℕ) {view : View} → IsView view → ReshapeFits order shape view
+    → view_reshape_fault order shape view ≡ None
+no_fault_of_reshape_fits order shape {view} v fits =
     let sizes = size-of-keeps fits.1.1 in
     let same = same_emptiness view.shape shape sizes in
     rw (le-ltb limit (nonzero_size shape) fits.0) (none_from (is_empty view.shape) (is_empty shape)
@@ -157,12 +157,12 @@ no_refusal_of_fits order shape {view} v fits =
     (fault-exactly order view.shape view.strides shape).1
     ((keeps-exactly order shape (has_index-of-valid v.valid (same ∙ some)) some).1 fits.1)))
 
-pub reshape_refusal-ReshapeFits : (order : Order) (shape : List ℕ) {view : View} → IsView view
-    → (reshape_refusal order shape view ≡ None) ↔ ReshapeFits order shape view
-reshape_refusal-ReshapeFits order shape v = (fits_of_no_refusal order shape v, no_refusal_of_fits order shape v)
+pub view_reshape_fault-ReshapeFits : (order : Order) (shape : List ℕ) {view : View} → IsView view
+    → (view_reshape_fault order shape view ≡ None) ↔ ReshapeFits order shape view
+view_reshape_fault-ReshapeFits order shape v = (reshape_fits_of_no_fault order shape v, no_fault_of_reshape_fits order shape v)
 
 -- ---- the view that is read as one of a shape
-spans_kept : (order : Order) (shape : List ℕ) {view : View} → IsView view → reshape_refusal order shape view ≡ None
+spans_kept : (order : Order) (shape : List ℕ) {view : View} → IsView view → view_reshape_fault order shape view ≡ None
     → (low_span shape (reshaped_strides order shape view) ≤ low_span view.shape view.strides)
     × (high_span shape (reshaped_strides order shape view) ≤ high_span view.shape view.strides)
 spans_kept order shape {view} v none = by (is_empty shape) refl (reshaped_keeps order shape v none)
@@ -176,7 +176,7 @@ spans_kept order shape {view} v none = by (is_empty shape) refl (reshaped_keeps 
     by false e k = (low_le v.valid.same_count k e, high_le v.valid.same_count k e)
 
 -- it is a view of the same data, where each index lies where the index of equal flat index did
-pub Descends-reshape_of : (order : Order) (shape : List ℕ) {view : View} → IsView view → reshape_refusal order shape view ≡ None
+pub Descends-reshape_of : (order : Order) (shape : List ℕ) {view : View} → IsView view → view_reshape_fault order shape view ≡ None
     → Descends (reshape_source order view.shape shape) view (reshape_of order shape view)
 Descends-reshape_of order shape {view} v none = Descends-kept whole (λ index here.
     let moved = offset_of_source index v.valid.same_count kept here in
@@ -189,7 +189,7 @@ Descends-reshape_of order shape {view} v none = Descends-kept whole (λ index he
     whole : IsView (reshape_of order shape view)
     whole =
         let spans = spans_kept order shape v none in
-        IsView-within v kept.same_count (fits_of_no_refusal order shape v none).0
+        IsView-within v kept.same_count (reshape_fits_of_no_fault order shape v none).0
         (omega (arith, spans.0)) (omega (arith, spans.1))
 
 -- places from a start are those from 0, moved by it
@@ -201,7 +201,7 @@ map_moved start strides (x ∷ xs) =
     ap (λ z. z ∷ map (place start strides) xs) first ∙ ap (λ zs. (pos start +ℤ place 0 strides x) ∷ zs) (map_moved start strides xs)
 
 -- the list of its places is that of the view
-pub view_places-reshape_of : (order : Order) (shape : List ℕ) {view : View} → IsView view → reshape_refusal order shape view ≡ None
+pub view_places-reshape_of : (order : Order) (shape : List ℕ) {view : View} → IsView view → view_reshape_fault order shape view ≡ None
     → view_places order (reshape_of order shape view) ≡ view_places order view
 view_places-reshape_of order shape {view} v none =
     let kept = reshaped_keeps order shape v none in

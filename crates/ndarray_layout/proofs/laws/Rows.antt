@@ -9,9 +9,9 @@ use Rattle.std.proofs.lemmas.List.Elements.{All-cons, All-drop, All-head, All-ma
 use Rattle.std.proofs.lemmas.List.FromFn.{get_or-map-range_with_len, length-map-range_with_len, map-range_with_len_more}
 use Rattle.nd_base.specs.declared.order.Order.{Order}
 use Rattle.nd_base.specs.declared.order.Order.TheVariants.{RowMajor, ColumnMajor}
-use Rattle.nd_base.proofs.laws.Definitions.{below, indices_in, is_index, IsInside, place, size}
+use Rattle.nd_base.proofs.laws.Definitions.{below, indices_in, is_index, IsInBounds, place, size}
 use Rattle.nd_base.proofs.laws.Indices.{All-indices_in}
-use Rattle.nd_base.proofs.laws.Inside.{inside_from}
+use Rattle.nd_base.proofs.laws.Bounds.{in_bounds_from}
 use Rattle.nd_base.proofs.laws.Signed.{magnitude_from}
 use Rattle.ndarray_layout.specs.declared.strided.rows.Row.{Row}
 use Rattle.ndarray_layout.specs.Rows.{fastest_item, row_at, row_places, rows_places, slower_items, slower_view, view_rows}
@@ -72,10 +72,10 @@ places_from_0 order {view} v =
     (All-weaker (λ index. is_index view.shape index ≡ true) (λ index. pos 0 ≤ℤ place_at view index) (λ index h. (view_place index v h).low)
     indices (All-indices_in order view.shape))
 
-pub places_fit : (order : Order) {view : View} → IsView view → All (IsInside (2 ^ 63)) (view_places order view)
+pub places_fit : (order : Order) {view : View} → IsView view → All (IsInBounds (2 ^ 63)) (view_places order view)
 places_fit order {view} v = places_lie_within (2 ^ 63) order view (λ index is.
     let here = view_place index v is in
-    inside_from (2 ^ 63) (place_at view index) here.low (omega (arith, ints, here.high)))
+    in_bounds_from (2 ^ 63) (place_at view index) here.low (omega (arith, ints, here.high)))
 
 -- ---- the rows of a view
 -- those from places on
@@ -142,7 +142,7 @@ some_in_each_row order view = by (nat_eq (size view.shape) 0) refl
 
 -- and where a view lies within data, each place of each row does
 pub rows_lie_within : (len : ℕ) (order : Order) {view : View} → IsView view → LiesWithin len view
-    → All (λ row. All (IsInside len) (row_places row.start row.stride row.len)) (view_rows order view)
+    → All (λ row. All (IsInBounds len) (row_places row.start row.stride row.len)) (view_rows order view)
 rows_lie_within len order {view} v within =
-    All-rows_places (IsInside len) (view_rows order view)
-    (subst (All (IsInside len)) (sym (rows_places-view_rows order v)) (places_lie_within len order view within))
+    All-rows_places (IsInBounds len) (view_rows order view)
+    (subst (All (IsInBounds len)) (sym (rows_places-view_rows order v)) (places_lie_within len order view within))

@@ -45,9 +45,9 @@ pub run_of_fitting : (step : StepValue) (steps : List StepValue) (view : View) �
     → run_of (step ∷ steps) view ≡ joined None (stepped view step) (run_of steps (view_after view step))
 run_of_fitting step steps view none = ap (λ fault. first_then fault view step (run_of steps (view_after view step))) none
 
-pub run_of_refused : (step : StepValue) (steps : List StepValue) (view : View) {kind : ErrorKind} → step_fault view step ≡ Some kind
+pub run_of_fault : (step : StepValue) (steps : List StepValue) (view : View) {kind : ErrorKind} → step_fault view step ≡ Some kind
     → run_of (step ∷ steps) view ≡ stayed (Some kind) view
-run_of_refused step steps view fault = ap (λ fault. first_then fault view step (run_of steps (view_after view step))) fault
+run_of_fault step steps view fault = ap (λ fault. first_then fault view step (run_of steps (view_after view step))) fault
 
 -- a run after no steps
 after_none : {second : Outcome} (view : View) → second ≡ joined None (stayed None view) second

@@ -1,4 +1,4 @@
--- Laws of views with a place in common: two slices of a view share a place where they meet, and on a view whose places are distinct
+-- Laws of views with a place in common: two slices of a view share a place where they intersect, and on a view whose places are distinct
 -- only there; the lists of the places of views that share none have no number in common.
 use Rattle.std.proofs.Common.{◌≡◌, ◌↔◌, ℕ, ◌<◌, pos, true, None, List, [], length, map, get_or, sym, ap, ◌∙◌, arith}
 use Rattle.std.proofs.lemmas.List.{get_or-map, length-map}
@@ -8,10 +8,10 @@ use Rattle.nd_base.specs.Indices.{is_index, indices_in}
 use Rattle.nd_base.proofs.laws.Indices.{All-indices_in}
 use Rattle.nd_slice.specs.declared.fit.Fit.{Fit}
 use Rattle.nd_slice.specs.declared.elem.SliceInfoElem.{SliceInfoElem}
-use Rattle.nd_slice.specs.ArgumentFault.{argument_fault}
-use Rattle.nd_slice.specs.Meet.{Meet}
+use Rattle.nd_slice.specs.SliceFault.{argument_fault}
+use Rattle.nd_slice.specs.Intersect.{Intersect}
 use Rattle.nd_slice.specs.Selected.{selected}
-use Rattle.nd_slice.proofs.laws.Meet.{meet_of_sources, sources_of_meet}
+use Rattle.nd_slice.proofs.laws.Intersect.{intersect_of_sources, sources_of_intersect}
 use Rattle.ndarray_layout.specs.DistinctPlaces.{HasDistinctPlaces}
 use Rattle.ndarray_layout.specs.SharePlace.{SharePlace}
 use Rattle.ndarray_layout.specs.SlicedView.{slice_of}
@@ -25,13 +25,13 @@ share_place_symmetric one other share = ((share.2).0, (share.2).1, (share.0, sha
 -- two arguments that fit a view
 module _ (fit : Fit) (one other : List SliceInfoElem) {view : View} (v : IsView view) (fits : argument_fault fit view.shape one ≡ None)
     (also : argument_fault fit view.shape other ≡ None) where
-  -- where no two indices of the view share a place, slices that share one meet
-  pub meet_of_shared_place : HasDistinctPlaces view → SharePlace (slice_of fit one view) (slice_of fit other view)
-      → Meet fit view.shape one other
-  meet_of_shared_place distinct share =
+  -- where no two indices of the view share a place, slices that share one intersect
+  pub intersect_of_shared_place : HasDistinctPlaces view → SharePlace (slice_of fit one view) (slice_of fit other view)
+      → Intersect fit view.shape one other
+  intersect_of_shared_place distinct share =
       let first = (Descends-slice_of fit one view v fits).places share.0 share.1 in
       let second = (Descends-slice_of fit other view v also).places (share.2).0 (share.2).1 in
-      meet_of_sources fit view.shape one other fits (record {
+      intersect_of_sources fit view.shape one other fits (record {
         index = share.0;
         within = share.1;
         at = (share.2).0;
@@ -40,18 +40,18 @@ module _ (fit : Fit) (one other : List SliceInfoElem) {view : View} (v : IsView 
             (sym first.1 ∙ (share.2).2 ∙ second.1);
       })
 
-  -- slices that meet share a place, whatever the view
-  pub shared_place_of_meet : Meet fit view.shape one other → SharePlace (slice_of fit one view) (slice_of fit other view)
-  shared_place_of_meet meet =
-      let share = sources_of_meet fit view.shape one other fits also meet in
+  -- slices that intersect share a place, whatever the view
+  pub shared_place_of_intersect : Intersect fit view.shape one other → SharePlace (slice_of fit one view) (slice_of fit other view)
+  shared_place_of_intersect intersect =
+      let share = sources_of_intersect fit view.shape one other fits also intersect in
       let first = (Descends-slice_of fit one view v fits).places share.index share.within in
       let second = (Descends-slice_of fit other view v also).places share.at share.at_within in
       (share.index, share.within, (share.at, share.at_within, first.1 ∙ ap (place_at view) share.same ∙ sym second.1))
 
-  -- so there slices meet exactly where they share a place
-  pub meet_is_shared_place : HasDistinctPlaces view
-      → Meet fit view.shape one other ↔ SharePlace (slice_of fit one view) (slice_of fit other view)
-  meet_is_shared_place distinct = (shared_place_of_meet, meet_of_shared_place distinct)
+  -- so there slices intersect exactly where they share a place
+  pub intersect_is_shared_place : HasDistinctPlaces view
+      → Intersect fit view.shape one other ↔ SharePlace (slice_of fit one view) (slice_of fit other view)
+  intersect_is_shared_place distinct = (shared_place_of_intersect, intersect_of_shared_place distinct)
 
 -- a list of numbers that are the places of a view
 pub record AreItsPlaces (view : View) (items : List ℕ) : Type 0 where

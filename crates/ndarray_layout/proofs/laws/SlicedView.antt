@@ -7,24 +7,24 @@ use Rattle.nd_base.specs.declared.error.ErrorKind.TheVariants.{IncompatibleShape
 use Rattle.nd_base.proofs.laws.Definitions.{IsCount, limit}
 use Rattle.nd_slice.specs.declared.fit.Fit.{Fit}
 use Rattle.nd_slice.specs.declared.elem.SliceInfoElem.{SliceInfoElem}
-use Rattle.nd_slice.specs.ArgumentFault.{in_count, out_count, first_fault, argument_fault}
+use Rattle.nd_slice.specs.SliceFault.{in_count, out_count, first_fault, argument_fault}
 use Rattle.nd_slice.specs.Counts.{HasCounts}
 use Rattle.nd_slice.specs.Selected.{selected}
 use Rattle.nd_slice.proofs.laws.Selected.{selected_injective}
-use Rattle.nd_slice.proofs.laws.ArgumentFault.{elements_of_no_fault}
+use Rattle.nd_slice.proofs.laws.SliceFault.{elements_of_no_fault}
 use Rattle.ndarray_layout.specs.Descends.{Descends}
-use Rattle.ndarray_layout.specs.SlicedView.{slice_of, sliced_start, slice_refusal}
+use Rattle.ndarray_layout.specs.SlicedView.{slice_of, sliced_start, view_slice_fault}
 use Rattle.ndarray_layout.specs.View.{View, IsView}
 use Rattle.ndarray_layout.proofs.laws.KeepsPlaces.{Descends-kept}
 use Rattle.ndarray_layout.proofs.laws.View.{IsView-within}
 use Rattle.ndarray_layout.proofs.Slices.{SliceKept, slices_kept, places_kept}
 use Rattle.nd_base.proofs.laws.Signed.{magnitude_from}
 
--- an argument that is not refused fits the shape
-pub fits_of_no_refusal : (fit : Fit) (fixed : Option ℕ) (shape : List ℕ) (elems : List SliceInfoElem)
-    → slice_refusal fit fixed shape elems ≡ None → argument_fault fit shape elems ≡ None
-fits_of_no_refusal fit None shape elems none = none
-fits_of_no_refusal fit (Some count) shape elems none = by (eqb (out_count elems) count) none
+-- an argument without a fault fits the shape
+pub no_argument_fault : (fit : Fit) (fixed : Option ℕ) (shape : List ℕ) (elems : List SliceInfoElem)
+    → view_slice_fault fit fixed shape elems ≡ None → argument_fault fit shape elems ≡ None
+no_argument_fault fit None shape elems none = none
+no_argument_fault fit (Some count) shape elems none = by (eqb (out_count elems) count) none
   where
     by : (t : Bool) → cond t (argument_fault fit shape elems) (Some IncompatibleShape) ≡ None → argument_fault fit shape elems ≡ None
     by true none = none
@@ -37,25 +37,25 @@ of_one_kind : (t : Bool) (first : Option ErrorKind) {second : Option ErrorKind} 
 of_one_kind true first same = same refl
 of_one_kind false first same = refl
 
--- an argument whose counts of axes fit is refused as its first element at fault is
-pub refusal_of_counts : (fit : Fit) {fixed : Option ℕ} (shape : List ℕ) {elems : List SliceInfoElem}
-    → HasCounts (Some (length shape)) fixed elems → slice_refusal fit fixed shape elems ≡ first_fault fit shape elems
-refusal_of_counts fit {fixed} shape {elems} counts = by fixed counts.out_fits
+-- an argument whose counts of axes fit has the fault of its first element at fault
+pub view_fault_of_counts : (fit : Fit) {fixed : Option ℕ} (shape : List ℕ) {elems : List SliceInfoElem}
+    → HasCounts (Some (length shape)) fixed elems → view_slice_fault fit fixed shape elems ≡ first_fault fit shape elems
+view_fault_of_counts fit {fixed} shape {elems} counts = by fixed counts.out_fits
   where
     whole : argument_fault fit shape elems ≡ first_fault fit shape elems
     whole = chosen (Some IncompatibleShape) (eq-eqb (in_count elems) (length shape) counts.in_fits)
 
-    by : (fixed : Option ℕ) → IsCount fixed (out_count elems) → slice_refusal fit fixed shape elems ≡ first_fault fit shape elems
+    by : (fixed : Option ℕ) → IsCount fixed (out_count elems) → view_slice_fault fit fixed shape elems ≡ first_fault fit shape elems
     by None out = whole
     by (Some count) out = chosen (Some IncompatibleShape) (eq-eqb (out_count elems) count out) ∙ whole
 
 -- and any other for its counts
-pub refusal_of_other_counts : (fit : Fit) (fixed : Option ℕ) (shape : List ℕ) (elems : List SliceInfoElem)
-    → (HasCounts (Some (length shape)) fixed elems → ⊥) → slice_refusal fit fixed shape elems ≡ Some IncompatibleShape
-refusal_of_other_counts fit None shape elems other =
+pub view_fault_of_other_counts : (fit : Fit) (fixed : Option ℕ) (shape : List ℕ) (elems : List SliceInfoElem)
+    → (HasCounts (Some (length shape)) fixed elems → ⊥) → view_slice_fault fit fixed shape elems ≡ Some IncompatibleShape
+view_fault_of_other_counts fit None shape elems other =
     of_one_kind (eqb (in_count elems) (length shape)) (first_fault fit shape elems)
     (λ e. absurd (other (record { in_fits = eqb-true (in_count elems) (length shape) e; out_fits = tt })))
-refusal_of_other_counts fit (Some count) shape elems other =
+view_fault_of_other_counts fit (Some count) shape elems other =
     of_one_kind (eqb (out_count elems) count) (argument_fault fit shape elems) (λ out.
     of_one_kind (eqb (in_count elems) (length shape)) (first_fault fit shape elems) (λ e.
     absurd (other (record { in_fits = eqb-true (in_count elems) (length shape) e; out_fits = eqb-true (out_count elems) count out }))))

@@ -10,7 +10,7 @@ use Rattle.std.proofs.lemmas.List.{get_or-map, length-map}
 use Rattle.std.proofs.lemmas.List.Elements.{All-map, All-weaker}
 use Rattle.std.proofs.lemmas.Option.{slice_get-map}
 use Rattle.nd_base.specs.declared.order.Order.{Order}
-use Rattle.nd_base.proofs.laws.Definitions.{indices_in, is_index, IsInside, checked_offset, offset_of, place, index_of_flat_in}
+use Rattle.nd_base.proofs.laws.Definitions.{indices_in, is_index, IsInBounds, checked_offset, offset_of, place, index_of_flat_in}
 use Rattle.nd_base.proofs.laws.Definitions.{limit, nonzero_size, size, high_span, low_span, IsValidLayout}
 use Rattle.nd_base.proofs.laws.Indices.{length-indices_in, All-indices_in, indices_in_of_empty}
 use Rattle.nd_base.proofs.laws.NonzeroSize.{length_le_nonzero_size, size_le_nonzero_size}
@@ -91,19 +91,19 @@ length-view_places order view = length-map (indices_in order view.shape) (place 
     view.shape
 
 -- where a view lies within data, each of its places does
-pub places_lie_within : (len : ℕ) (order : Order) (view : View) → LiesWithin len view → All (IsInside len) (view_places order view)
+pub places_lie_within : (len : ℕ) (order : Order) (view : View) → LiesWithin len view → All (IsInBounds len) (view_places order view)
 places_lie_within len order view within =
     let indices = indices_in order view.shape in
-    let inside = All-weaker (λ index. is_index view.shape index ≡ true) (λ index. IsInside len (place view.start view.strides index)) within
+    let in_bounds = All-weaker (λ index. is_index view.shape index ≡ true) (λ index. IsInBounds len (place view.start view.strides index)) within
     indices (All-indices_in order view.shape) in
-    All-map (IsInside len) (place view.start view.strides) indices inside
+    All-map (IsInBounds len) (place view.start view.strides) indices in_bounds
 
 -- the same of the places as unsigned numbers
 pub items_lie_within : (len : ℕ) (order : Order) (view : View) (items : List ℕ) → map pos items ≡ view_places order view
     → LiesWithin len view → All (λ item. item < len) items
 items_lie_within len order view items same within = λ k d below.
-    let places = subst (All (IsInside len)) (sym same) (places_lie_within len order view within) in
-    subst (IsInside len) (get_or-map pos items k d (pos d) below) (places k (pos d) (omega (arith, length-map items pos)))
+    let places = subst (All (IsInBounds len)) (sym same) (places_lie_within len order view within) in
+    subst (IsInBounds len) (get_or-map pos items k d (pos d) below) (places k (pos d) (omega (arith, length-map items pos)))
 
 -- what is listed at a flat index is the place of the index of that flat index
 pub item_at_flat_index : (order : Order) (view : View) (items : List ℕ) (r : ℕ) → map pos items ≡ view_places order view

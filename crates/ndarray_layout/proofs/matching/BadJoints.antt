@@ -151,7 +151,7 @@ bad-both front {len} from s strides to some same =
     ∙ ap₂ (λ a b. test && a || b) first (any-same (λ j. bad (len * j)) (is_bad_joint to) (loose_joints from strides) past)
     ∙ ap (λ a. a || has_bad_joint from strides to) (and-false test)
 
--- ---- an axis of one entry
+-- ---- an axis of length 1
 joints-one : (lens : List ℕ) (s : ℤ) (strides : List ℤ) → loose_joints (1 ∷ lens) (s ∷ strides) ≡ loose_joints lens strides
 joints-one lens s strides = times-one (loose_joints lens strides)
 

@@ -61,7 +61,7 @@ left-count both i k l can =
     omega (arith, length-drop i both.from, length-drop i both.strides)
 
 -- ---- a block
--- axes of more than one entry are left of each
+-- axes longer than 1 are left of each
 pub record AreLonger (both : Layouts) (i k : ℕ) : Type 0 where
   pub from_left : i < length both.from
   pub to_left : k < length both.to

@@ -117,7 +117,7 @@ strides-to-one {to = to} sizes = (
 )
 
 module _ (from : List ℕ) (strides : List ℤ) (len : ℕ) (to : List ℕ) where
-  -- an axis of one entry after the first
+  -- an axis of length 1 after the first
   strides-to-skip : 0 < size to → HasStrides from strides (len ∷ 1 ∷ to) ↔ HasStrides from strides (len ∷ to)
   strides-to-skip some = (
     λ has. let f = first-stride has in less f.first f.rest f.count f.alike,

@@ -1,4 +1,4 @@
--- Why a reshape is refused, by its joints and sizes.
+-- Why a reshape fails, by its joints and sizes.
 use Rattle.std.proofs.Common.{◌≡◌, ◌≢◌, ℕ, ◌==◌, Bool, true, false, ℤ, List, refl, ap, ap₂, Option, Some, None}
 use Rattle.std.specs.Prelude.{if◌then◌else◌}
 use Rattle.std.proofs.lemmas.Bool.{eq-eqb, eqb-true, ne_eqb}

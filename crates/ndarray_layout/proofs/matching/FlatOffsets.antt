@@ -51,7 +51,7 @@ module _ (len : ℕ) (lens : List ℕ) (s : ℤ) (ss : List ℤ) where
       ∙ ap₂ (λ q k. (pos q *ℤ s) +ℤ offset_at_flat_index lens ss k) (add-div_right r some) (add-mod_right r (size lens))
       ∙ omega (arith, ints, more)
 
--- an axis of one entry moves nowhere
+-- an axis of length 1 moves nowhere
 pub offset-one : (lens : List ℕ) (s : ℤ) (ss : List ℤ) {r : ℕ} → r < size (1 ∷ lens)
     → offset_at_flat_index (1 ∷ lens) (s ∷ ss) r ≡ offset_at_flat_index lens ss r
 offset-one lens s ss below = offset-within 1 lens s ss (omega (arith, one-mul (size lens)))
@@ -65,17 +65,17 @@ offset-merged len next lens s ss r (some, more) =
     let parts : r % (next * n) ≡ (r / n % next) * n + r % n = mod-mul r some more in
     let count : r / (next * n) ≡ r / n / next = ap (λ k. r / k) (mul_comm next n) ∙ sym (div-div-eq-div-mul r n next) in
     let high : r % (next * n) / n ≡ r / n % next = ap (λ k. k / n) parts ∙ div-mul-add (r / n % next) n (r % n) low in
-    let entry : r % (next * n) % n ≡ r % n = ap (λ k. k % n) parts ∙ mod-mul-add (r / n % next) n (r % n) low in
+    let coordinate : r % (next * n) % n ≡ r % n = ap (λ k. k % n) parts ∙ mod-mul-add (r / n % next) n (r % n) low in
     let whole : r / n / next * next + r / n % next ≡ r / n =
     ap (λ m. m + r / n % next) (mul_comm (r / n / next) next) ∙ div-add-mod (r / n) next in
     let turns = times_times (r / n / next) next s in
     let sum = times_sum (r / n / next * next) (r / n % next) s in
     let both : pos (r / n / next * next + r / n % next) *ℤ s ≡ pos (r / n) *ℤ s = ap (λ q. pos q *ℤ s) whole in
     ap (λ q. (pos q *ℤ (pos next *ℤ s)) +ℤ ((pos (r % (next * n) / n) *ℤ s) +ℤ offset_at_flat_index lens ss (r % (next * n) % n))) count
-    ∙ ap₂ (λ q k. (pos (r / n / next) *ℤ (pos next *ℤ s)) +ℤ ((pos q *ℤ s) +ℤ offset_at_flat_index lens ss k)) high entry
+    ∙ ap₂ (λ q k. (pos (r / n / next) *ℤ (pos next *ℤ s)) +ℤ ((pos q *ℤ s) +ℤ offset_at_flat_index lens ss k)) high coordinate
     ∙ omega (arith, ints, turns, sum, both)
 
--- an axis of one entry after the first
+-- an axis of length 1 after the first
 pub offset-skip : (len : ℕ) (lens : List ℕ) (s t : ℤ) (ss : List ℤ) (r : ℕ) → 0 < size lens
     → offset_at_flat_index (len ∷ 1 ∷ lens) (s ∷ t ∷ ss) r ≡ offset_at_flat_index (len ∷ lens) (s ∷ ss) r
 offset-skip len lens s t ss r some =

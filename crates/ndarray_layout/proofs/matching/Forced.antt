@@ -1,4 +1,4 @@
--- The strides of a reshape are those of each one that keeps the places, on all axes of more than one entry.
+-- The strides of a reshape are those of each one that keeps the places, on all axes longer than 1.
 use Rattle.std.proofs.Common.{◌≡◌, ℕ, zero, suc, ◌+◌, ◌*◌, ◌/◌, ◌%◌, ◌<◌, ◌≤◌, true, false, ℤ, pos, ◌+ℤ◌, ◌*ℤ◌, List, [], ◌∷◌, length}
 use Rattle.std.proofs.Common.{get_or, drop, map, refl, sym, ap, ap₂, ◌∙◌, inl, inr, arith, add-one}
 use Rattle.std.specs.Prelude.{nat_lt}
@@ -14,7 +14,7 @@ use Rattle.ndarray_layout.specs.reshape.ForcedStrides.{offset_at_flat_index, str
 use Rattle.ndarray_layout.proofs.matching.FlatOffsets.{offset-first}
 use Rattle.ndarray_layout.proofs.matching.HasIndex.{HasIndex, PlacesAlike, SamePlaces, is_empty-rest}
 
--- an axis of several entries has fewer indices after it than there are
+-- an axis longer than 1 has fewer indices after it than there are
 pub size_after-below : (lens : List ℕ) (axis : ℕ) → is_empty lens ≡ false → axis < length lens → 1 < get_or lens axis 0
     → size_after lens axis < size lens
 size_after-below lens axis h l long =

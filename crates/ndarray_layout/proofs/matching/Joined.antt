@@ -84,14 +84,14 @@ module _ {len next : ℕ} {t : ℤ} {rest : Layouts} where
             long = λ longer_axis. offset-merged len next rest.from t rest.strides (size_after rest.to axis)
                 (omega arith, size_of_nonempty rest.from after);
             product = product-merged len next rest.from q (λ e. apart axis (sym e));
-            read = λ entry. ap (λ xs. get_or xs (ones_before rest.to q axis) (pos 1))
+            read = λ coordinate. ap (λ xs. get_or xs (ones_before rest.to q axis) (pos 1))
                 (ones_where-longer (λ n. n == q) (next ∷ rest.from) (pos next *ℤ t) (t ∷ rest.strides) (λ e. omega arith)
                 ∙ ones_where-longer (λ n. len * n == q) rest.from t rest.strides (λ e. omega arith)
                 ∙ (λ i. ones_where (λ n. sym (mul_assoc len next n) i == q) rest.from rest.strides)
                 ∙ sym (ones_where-longer (λ n. n == q) rest.from t rest.strides (λ e. omega arith)));
           }
 
--- an axis of one entry after a longer one
+-- an axis of length 1 after a longer one
 step-skip : {len : ℕ} {s t : ℤ} {rest : Layouts} → CanMatch (with_from len s (with_from 1 t rest)) → 1 < len → IsNoProduct rest.to len
     → GoesOn (with_from len s (with_from 1 t rest)) 0 (with_from len s rest)
 step-skip {len} {s} {t} {rest} can long apart = record {
@@ -130,7 +130,7 @@ step-skip {len} {s} {t} {rest} can long apart = record {
           len = refl;
           long = λ longer. offset-skip len rest.from s t rest.strides (size_after rest.to axis) (size_of_nonempty rest.from rest_some);
           product = product-merged len 1 rest.from q (λ e. apart axis (sym e)) ∙ ap (λ n. is_product (n ∷ rest.from) q) (mul-one len);
-          read = λ entry. ap (λ xs. get_or xs (ones_before rest.to q axis) (pos 1))
+          read = λ coordinate. ap (λ xs. get_or xs (ones_before rest.to q axis) (pos 1))
               (ones_where-longer (λ n. n == q) (1 ∷ rest.from) s (t ∷ rest.strides) (λ e. omega arith)
               ∙ ones_where-next (λ n. len * n == q) 1 rest.from t rest.strides
               ∙ ap (λ b. (if b then t ∷ [] else []) ++ ones_where (λ n. len * (1 * n) == q) rest.from rest.strides)
@@ -201,7 +201,7 @@ module _ {front : List ℕ} {s : ℤ} {rest : Layouts} (at : IsFront front s res
             ap (offset_at_flat_index both.from both.strides) past
             ∙ offset-within (size front) rest.from s rest.strides (omega arith);
         product = ap (is_product both.from) until ∙ product-times (size front) rest.from q (omega arith);
-        read = λ entry.
+        read = λ coordinate.
             ap (λ n. get_or (strides_of_ones both.from both.strides n) (ones_before both.to n (length front + later)) (pos 1)) until
             ∙ ap₂ (λ xs n. get_or xs n (pos 1)) (ones-longer (size front) rest.from s rest.strides q long)
             (ones_count-past (λ n. n == size front * q) front rest.to later (λ k below.
@@ -235,7 +235,7 @@ module _ {front : List ℕ} {s : ℤ} {rest : Layouts} (at : IsFront front s res
       ∙ offset-whole (size front) rest.from s rest.strides (size (drop (axis + 1) front)) (size_of_nonempty rest.from after.some)
       (ap (λ n. size (drop (axis + 1) front) * n) (rest-sizes none) ∙ sym past)
 
-  -- one of one entry as far as the axis before it
+  -- one of one coordinate as far as the axis before it
   stride-one : (axis : ℕ) → suc axis < length front → get_or front (suc axis) 0 ≤ 1 → forced_at both (suc axis) ≡ forced_at both axis
   stride-one axis l short =
       let here : get_or (front ++ rest.to) (suc axis) 0 ≡ get_or front (suc axis) 0 = get_or_append_left front rest.to 0 (suc axis) l in

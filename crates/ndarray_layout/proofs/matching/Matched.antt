@@ -21,7 +21,7 @@ use Rattle.ndarray_layout.proofs.matching.HasIndex.{is_empty-rest, some-len}
 use Rattle.ndarray_layout.proofs.matching.Joined.{step-both}
 use Rattle.ndarray_layout.proofs.matching.Steps.{first-to, step-from-one, step-to-one, with_to}
 
--- a list with an entry for each axis of a shape, in which the first k are those of another one
+-- a list with a coordinate for each axis of a shape, in which the first k are those of another one
 pub record Keeping (to out news : List ℕ) (k : ℕ) : Type 0 where
   pub room : length out ≡ length to
   pub count : length news ≡ length to
@@ -72,7 +72,7 @@ module _ {both : Layouts} {out news : List ℕ} {i k : ℕ} (at : IsMatched both
       ∙ sym (block-strides block refl none axis l))
 
 -- ---- one axis
--- a list with an entry for each axis of a shape, and with one of them written anew
+-- a list with a coordinate for each axis of a shape, and with one of them written anew
 pub record IsWritten (to out news : List ℕ) (k stride : ℕ) : Type 0 where
   pub room : length out ≡ length to
   pub here : k < length to
@@ -169,7 +169,7 @@ size-ones : (lens : List ℕ) → ((k : ℕ) → k < length lens → get_or lens
 size-ones [] ones = refl
 size-ones (len ∷ lens) ones = ap₂ (λ m n. m * n) (ones 0 (omega arith)) (size-ones lens (λ k l. ones (suc k) (omega arith)))
 
--- where the old shape has no axes, axes of one entry take the stride 1
+-- where the old shape has no axes, axes of length 1 take the stride 1
 stride-alone : (strides : List ℤ) (to : List ℕ) (axis : ℕ) {before : ℤ} → get_or to axis 0 ≡ 1 → before ≡ pos 1
     → stride_of_axis [] strides to axis before ≡ pos 1
 stride-alone strides to axis {before} one is =
@@ -192,7 +192,7 @@ module _ {both : Layouts} {news : List ℤ} {i k : ℕ} (at : IsMatched both new
   can : CanMatch (left both i k)
   can = at.goes_on.can_match
 
-  -- an axis of more than one entry is left of the old shape, or of the new one
+  -- an axis longer than 1 is left of the old shape, or of the new one
   pub from-left-fault : (j : ℕ) → length both.to ≤ k → i ≤ j → j < length both.from → get_or both.from j 0 ≢ 1
       → fault_of both ≡ Some IncompatibleShape
   from-left-fault j over l g longer =
@@ -212,7 +212,7 @@ module _ {both : Layouts} {news : List ℤ} {i k : ℕ} (at : IsMatched both new
       (ap (λ xs. has_bad_joint xs (drop i both.strides) (drop k both.to)) none) (λ same. omega arith)
 
 -- ---- all axes
--- of both shapes only axes of one entry are left, of one of them none
+-- of both shapes only axes of length 1 are left, of one of them none
 pub record AreOnes (both : Layouts) (i k : ℕ) : Type 0 where
   pub over : i < length both.from → length both.to ≤ k
   pub from_ones : (j : ℕ) → i ≤ j → j < length both.from → get_or both.from j 0 ≡ 1

@@ -1,4 +1,4 @@
--- The axes of one entry at products that pass a test: their strides, and how many stand before an axis, as a shape loses its first axis.
+-- The axes of length 1 at products that pass a test: their strides, and how many stand before an axis, as a shape loses its first axis.
 use Rattle.std.proofs.Common.{◌≡◌, ◌≢◌, ℕ, zero, suc, ◌+◌, ◌*◌, ◌<◌, ◌≤◌, ◌==◌, ◌&&◌, Bool, true, false, cond, ℤ, pos, List, [], ◌∷◌, ◌++◌, length, get_or, map}
 use Rattle.std.proofs.Common.{take, refl, sym, ap, ap₂, ◌∙◌, arith, add-one}
 use Rattle.std.specs.List.{filter, range_with_len}
@@ -44,7 +44,7 @@ map-suc f [] = refl
 map-suc f (x ∷ xs) = ap (λ ys. f (suc x) ∷ ys) (map-suc f xs)
 
 -- ---- axes
--- an axis of one entry at a product that passes
+-- an axis of length 1 at a product that passes
 abbrev pub is_one_where : (ℕ → Bool) → List ℕ → ℕ → Bool
 is_one_where test lens axis = get_or lens axis 0 == 1 && test (size (take axis lens))
 

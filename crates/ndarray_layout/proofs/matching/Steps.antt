@@ -77,7 +77,7 @@ next-axes : (both rest : Layouts) → ((later : ℕ) → later < length rest.to 
 next-axes both rest alike some = strides-alike both 1 rest some (λ axis later e l.
     let same : axis ≡ suc later = omega arith in subst (λ a. AreDecidedAlike both a rest later) (sym same) (alike later l))
 
--- ---- an axis of one entry of each
+-- ---- an axis of length 1 of each
 pub step-both-one : {s : ℤ} {rest : Layouts} → CanMatch (with_from 1 s (with_to (1 ∷ []) rest))
     → GoesOn (with_from 1 s (with_to (1 ∷ []) rest)) 1 rest
 step-both-one {s} {rest} can = record {

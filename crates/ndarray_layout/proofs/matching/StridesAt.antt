@@ -10,7 +10,7 @@ use Rattle.ndarray_layout.specs.reshape.ForcedStrides.{offset_at_flat_index, one
 use Rattle.ndarray_layout.specs.private.ReshapeProgress.{Layouts, forced_at}
 use Rattle.ndarray_layout.proofs.matching.BadJoints.{is_product, product-none}
 
--- the stride that is read for an axis of one entry, where the old shape has the product before it
+-- the stride that is read for an axis of length 1, where the old shape has the product before it
 abbrev pub read_at : Layouts → ℕ → ℤ
 read_at both axis = get_or (strides_of_ones both.from both.strides (size_until both.to axis))
     (ones_before both.to (size_until both.to axis) axis) (pos 1)

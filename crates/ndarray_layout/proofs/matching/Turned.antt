@@ -4,7 +4,7 @@ use Rattle.nd_base.specs.declared.order.Order.{Order}
 use Rattle.nd_base.proofs.laws.Definitions.{below, as_read, all_signed, signed, is_empty, limit, nonzero_size, reach, span}
 use Rattle.nd_base.proofs.laws.Definitions.{IsValidLayout}
 use Rattle.nd_base.proofs.laws.NonzeroSize.{nonzero_size_of_nonempty}
-use Rattle.nd_base.proofs.laws.Reading.{length-as_read, as_read-as_read, size-as_read, is_empty-as_read, map-as_read, sum_over_axes-as_read}
+use Rattle.nd_base.proofs.laws.AsRead.{length-as_read, as_read-as_read, size-as_read, is_empty-as_read, map-as_read, sum_over_axes-as_read}
 use Rattle.ndarray_layout.specs.reshape.ForcedStrides.{forced_strides, stride_at}
 use Rattle.ndarray_layout.specs.reshape.Keeps.{Keeps}
 use Rattle.ndarray_layout.specs.reshape.ReshapeFault.{reshape_fault, fault_as_read}

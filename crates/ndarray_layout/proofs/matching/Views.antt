@@ -10,8 +10,8 @@ use Rattle.nd_base.specs.declared.error.LayoutError.TheVariants.{Shape, Memory}
 use Rattle.nd_base.specs.declared.order.Order.{Order}
 use Rattle.nd_base.proofs.laws.Definitions.{NeedsNoMemory, all_signed, is_empty, limit, nonzero_size}
 use Rattle.ndarray_layout.specs.reshape.ForcedStrides.{forced_strides}
-use Rattle.ndarray_layout.specs.reshape.ReshapeFault.{IsOfShape, IsRefusedFor, reshape_fault}
-use Rattle.ndarray_layout.specs.ReshapedView.{IsReshapeRefusal, reshape_refusal, reshaped_strides}
+use Rattle.ndarray_layout.specs.reshape.ReshapeFault.{IsErrorFor, IsOfShape, reshape_fault}
+use Rattle.ndarray_layout.specs.ReshapedView.{IsReshapeError, reshaped_strides, view_reshape_fault}
 use Rattle.ndarray_layout.specs.View.{View}
 
 -- tests that don't differ are the same
@@ -42,16 +42,16 @@ pub record HaveIndices (shape : List ℕ) (view : View) : Type 0 where
   pub some : is_empty view.shape ≡ false
   pub more : is_empty shape ≡ false
 
-pub refusal_between : (order : Order) {shape : List ℕ} {view : View} → HaveIndices shape view
-    → reshape_refusal order shape view ≡ reshape_fault order view.shape view.strides shape
-refusal_between order {shape} both = rw (le-ltb limit (nonzero_size shape) both.fits, both.some, both.more) refl
+pub view_fault_between : (order : Order) {shape : List ℕ} {view : View} → HaveIndices shape view
+    → view_reshape_fault order shape view ≡ reshape_fault order view.shape view.strides shape
+view_fault_between order {shape} both = rw (le-ltb limit (nonzero_size shape) both.fits, both.some, both.more) refl
 
-pub refused_between : {X : Type 0} (result : Result X LayoutError) (fixed : Option ℕ) (order : Order) {shape : List ℕ} {view : View}
-    → HaveIndices shape view → IfErr result (λ e. IsRefusedFor (reshape_fault order view.shape view.strides shape) e)
-    → (NeedsNoMemory fixed (length shape) → IfErr result IsOfShape) → IfErr result (λ e. IsReshapeRefusal fixed order shape view e)
-refused_between (Ok x) fixed order both refused memory = tt
-refused_between (Err (Shape kind)) fixed order both refused memory = refusal_between order both ∙ refused
-refused_between (Err (Memory e)) fixed order both refused memory = ((both.fits, both.more ∙ sym both.some), memory)
+pub error_between : {X : Type 0} (result : Result X LayoutError) (fixed : Option ℕ) (order : Order) {shape : List ℕ} {view : View}
+    → HaveIndices shape view → IfErr result (λ e. IsErrorFor (reshape_fault order view.shape view.strides shape) e)
+    → (NeedsNoMemory fixed (length shape) → IfErr result IsOfShape) → IfErr result (λ e. IsReshapeError fixed order shape view e)
+error_between (Ok x) fixed order both failed memory = tt
+error_between (Err (Shape kind)) fixed order both failed memory = view_fault_between order both ∙ failed
+error_between (Err (Memory e)) fixed order both failed memory = ((both.fits, both.more ∙ sym both.some), memory)
 
 pub strides_between : (order : Order) {shape : List ℕ} {view : View} → HaveIndices shape view
     → reshaped_strides order shape view ≡ forced_strides order view.shape view.strides shape

@@ -1,4 +1,4 @@
--- Where two layouts have the same places, the slowest axis of fewer entries steps by the whole of the axis after it.
+-- Where two layouts have the same places, the slowest axis of fewer coordinates steps by the whole of the axis after it.
 use Rattle.std.proofs.Common.{◌≡◌, ℕ, zero, suc, ◌+◌, ◌-◌, ◌*◌, ◌<◌, ◌≤◌, ℤ, pos, ◌+ℤ◌, ◌*ℤ◌, List, ◌∷◌, refl, sym, ap, ◌∙◌, inl, inr, arith}
 use Rattle.std.proofs.Math.Nat.{mul-le-mul_left, mul-le-mul_right}
 use Rattle.std.proofs.lemmas.Bool.{cases_lt}
@@ -25,7 +25,7 @@ record AreAbove (q : ℕ) (s t u y z : ℤ) : Type 0 where
 from-above : {q : ℕ} {s t u y z : ℤ} → AreAbove q s t u y z → s ≡ pos (suc q) *ℤ t
 from-above {q} {t = t} at = let times = next-times q t in omega (arith, ints, times)
 
--- the slowest axis of more entries turns over fewer indices
+-- the slowest axis of more coordinates turns over fewer indices
 fewer-each : (len other part rest : ℕ) → len < other → 0 < rest → len * part ≡ other * rest → rest < part
 fewer-each len other part rest l some e = elim (cases_lt rest part) [
   | inl less ↦ less

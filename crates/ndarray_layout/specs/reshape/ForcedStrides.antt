@@ -6,7 +6,7 @@ use Rattle.nd_base.specs.declared.order.Order.TheVariants.{RowMajor, ColumnMajor
 use Rattle.nd_base.specs.Indices.{below}
 use Rattle.nd_base.specs.Offset.{offset_of}
 use Rattle.nd_base.specs.FlatIndex.{index_of_flat}
-use Rattle.nd_base.specs.Reading.{as_read}
+use Rattle.nd_base.specs.AsRead.{as_read}
 use Rattle.nd_dim.specs.Strides.{size_after, size_until}
 use Rattle.ndarray_layout.specs.reshape.Joints.{cumulative_products}
 
@@ -34,7 +34,7 @@ stride_of_one from strides to axis previous =
     then slice_index_or (strides_of_ones from strides (size_until to axis)) (ones_before to (size_until to axis) axis) (pos 1)
     else previous)
 
--- an axis of more than one entry steps as far as the old layout does over as many indices as the axes read after it have
+-- an axis longer than 1 steps as far as the old layout does over as many indices as the axes read after it have
 abbrev pub stride_of_axis : List ℕ → List ℤ → List ℕ → ℕ → ℤ → ℤ
 stride_of_axis from strides to axis previous =
     (if nat_lt 1 (slice_index to axis) then offset_at_flat_index from strides (size_after to axis) else stride_of_one from strides to axis previous)

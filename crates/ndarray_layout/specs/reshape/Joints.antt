@@ -1,11 +1,11 @@
--- Where the axes of a layout, as they are read in an order, can't be walked as one axis. All lists are in the order of reading,
+-- Where the axes of a layout, as they are read in an order, can't be iterated over as one axis. All lists are in the order of reading,
 -- so that the axis read first is the slowest.
 use Rattle.std.specs.Prelude.{◌≡◌, ℕ, ◌*◌, ◌==◌, ◌&&◌, Bool, true, false, not, nat_lt, ℤ, pos, ◌*ℤ◌, if◌then◌else◌, Option, Some, None, List, [], ◌∷◌, ◌++◌, map, refl}
 use Rattle.std.specs.List.{list_any}
 use Rattle.std.specs.Ordering.{int_eq}
 use Rattle.nd_base.specs.Size.{size}
 
--- the length and the stride of the first axis that has more than one entry
+-- the length and the stride of the first axis that has more than one coordinate
 abbrev pub first_longer : List ℕ → List ℤ → Option (ℕ × ℤ)
 first_longer [] strides = None
 first_longer (len ∷ lens) [] = None

@@ -13,7 +13,7 @@ pub record Keeps (order : Order) (from : List ℕ) (strides : List ℤ) (to : Li
   pub same_count : length to ≡ length others
   pub same_places : places order 0 to others ≡ places order 0 from strides
 
--- two lists of strides have the same stride on each axis of more than one entry
+-- two lists of strides have the same stride on each axis longer than 1
 abbrev pub AgreeOnLonger : List ℕ → List ℤ → List ℤ → Type 0
 AgreeOnLonger shape strides others = (axis : ℕ) → 1 < slice_index shape axis → slice_index_or strides axis (pos 0) ≡ slice_index_or others axis (pos 0)
 

@@ -1,4 +1,4 @@
--- Why a reshape is refused.
+-- Why a reshape fails.
 use Rattle.std.specs.Prelude.{◌≡◌, ℕ, ◌==◌, ℤ, pos, negsuc, if◌then◌else◌, Option, Some, None, List, [], ◌∷◌, refl}
 use Rattle.nd_base.specs.declared.error.ErrorKind.{ErrorKind}
 use Rattle.nd_base.specs.declared.error.ErrorKind.TheVariants.{IncompatibleShape, IncompatibleLayout}
@@ -8,7 +8,7 @@ use Rattle.nd_base.specs.declared.order.Order.{Order}
 use Rattle.nd_base.specs.declared.order.Order.TheVariants.{RowMajor, ColumnMajor}
 use Rattle.nd_base.specs.Size.{size}
 use Rattle.ndarray_layout.specs.reshape.Joints.{has_bad_joint}
-use Rattle.nd_base.specs.Reading.{as_read}
+use Rattle.nd_base.specs.AsRead.{as_read}
 
 -- the axes as they are read: a bad joint first, and then sizes that differ
 abbrev pub fault_as_read : List ℕ → List ℤ → List ℕ → Option ErrorKind
@@ -20,12 +20,12 @@ fault_as_read from strides to =
 abbrev pub reshape_fault : Order → List ℕ → List ℤ → List ℕ → Option ErrorKind
 reshape_fault order from strides to = fault_as_read (as_read order from) (as_read order strides) (as_read order to)
 
--- a refusal of a shape is the fault that there is; a refusal of memory comes first, whatever the fault
-abbrev pub IsRefusedFor : Option ErrorKind → LayoutError → Type 0
-IsRefusedFor fault (Shape kind) = fault ≡ Some kind
-IsRefusedFor fault (Memory e) = Unit {0}
+-- an error of a shape is the fault that there is; one of memory comes first, whatever the fault
+abbrev pub IsErrorFor : Option ErrorKind → LayoutError → Type 0
+IsErrorFor fault (Shape kind) = fault ≡ Some kind
+IsErrorFor fault (Memory e) = Unit {0}
 
--- a refusal that is none of memory
+-- an error that is none of memory
 abbrev pub IsOfShape : LayoutError → Type 0
 IsOfShape (Shape kind) = Unit {0}
 IsOfShape (Memory e) = ⊥
@@ -43,7 +43,7 @@ bad_joint_and_other_size = refl
 each_second_back : reshape_fault RowMajor (4 ∷ []) (negsuc 1 ∷ []) (2 ∷ 2 ∷ []) ≡ None
 each_second_back = refl
 
-of_a_layout : IsRefusedFor (Some IncompatibleLayout) (Shape IncompatibleLayout)
+of_a_layout : IsErrorFor (Some IncompatibleLayout) (Shape IncompatibleLayout)
 of_a_layout = refl
 
 of_shapes : IsOfShape (Shape IncompatibleShape)

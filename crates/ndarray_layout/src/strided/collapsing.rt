@@ -11,7 +11,7 @@ use nd_base::{Axis, ErrorKind, Lengths, ShapeError, from_kind};
 use nd_slice::do_collapse_axis;
 
 /// Whether there is an axis, and a coordinate of it at an index.
-fn has_entry(shape: &[usize], axis: Axis, index: usize) -> bool
+fn has_coordinate(shape: &[usize], axis: Axis, index: usize) -> bool
     ensures { IsTrue result ↔ (collapse_fault shape.now axis.0 index ≡ None) }
 {
     axis.index() < shape.len() && index < shape[axis.index()]
@@ -36,7 +36,7 @@ impl<D: Lengths> Strided<D> {
         ensures kept { OnOk result
             (Descends (collapse_source axis.0 index) self.old self.new) }
     {
-        if !has_entry(self.dim.slice(), axis, index) {
+        if !has_coordinate(self.dim.slice(), axis, index) {
             return Err(from_kind(ErrorKind::OutOfBounds));
         }
         let offset = do_collapse_axis(&mut self.dim, &self.strides, axis.index(), index);

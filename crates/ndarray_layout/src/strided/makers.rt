@@ -9,9 +9,9 @@ ghost use Rattle.nd_base.specs.Size.{is_empty, limit};
 ghost use Rattle.nd_base.specs.Span.{low_span};
 ghost use Rattle.nd_shape.specs.Acceptance.{acceptance};
 ghost use Rattle.nd_shape.specs.AcceptanceByStrides.{acceptance_by_strides};
-ghost use Rattle.nd_shape.specs.OwnedRule.{MeetsOwnedRule};
+ghost use Rattle.nd_shape.specs.NoAlias.{SatisfiesNoAliasRule};
 ghost use Rattle.nd_shape.specs.ShapeBuilder.{custom_strides, strides_list};
-ghost use Rattle.nd_shape.specs.declared.checks.CanIndexCheckMode.TheVariants.{OwnedMutable};
+ghost use Rattle.nd_shape.specs.declared.acceptance.CanIndexCheckMode.TheVariants.{OwnedMutable};
 ghost use Rattle.ndarray_layout.specs.AcceptanceFrom.{acceptance_from};
 ghost use Rattle.ndarray_layout.specs.DistinctPlaces.{HasDistinctPlaces};
 ghost use Rattle.ndarray_layout.specs.View.{IsView, LiesWithin, view_of};
@@ -72,7 +72,7 @@ impl<D: Lengths> Strided<D> {
             (D.list dim)
             (D.list strides)) }
         ensures is_view { IfOk result (λ v. IsView v) }
-        ensures inside { IfOk result (λ v. LiesWithin len v) }
+        ensures in_bounds { IfOk result (λ v. LiesWithin len v) }
         ensures distinct { IfOk result (λ v. mode ≡ OwnedMutable → HasDistinctPlaces v) }
     {
         can_index_slice(elem_size, len, &dim, &strides, mode)?;
@@ -113,7 +113,7 @@ impl<D: Lengths> Strided<D> {
             acceptance_from start elem_size len mode (D.list dim) (all_signed (D.list strides)) }
         ensures view { IfOk result (λ v. v ≡ view_of start (D.list dim) (D.list strides)) }
         ensures is_view { IfOk result (λ v. IsView v) }
-        ensures inside { IfOk result (λ v. LiesWithin len v) }
+        ensures in_bounds { IfOk result (λ v. LiesWithin len v) }
         ensures distinct { IfOk result (λ v. mode ≡ OwnedMutable → HasDistinctPlaces v) }
     {
         let span = max_abs_offset_check_overflow(elem_size, &dim, &strides)?;
@@ -137,7 +137,7 @@ impl<D: Lengths> Strided<D> {
     ///
     /// The lowest place of the view is 0, the first element of the data. Each index is in bounds,
     /// and in owned mode no two indices alias. In owned mode, and along the shape's own strides in
-    /// any mode, a view with an index satisfies the no-alias rule of owned mode (`MeetsOwnedRule`).
+    /// any mode, a view with an index satisfies the no-alias rule of owned mode (`SatisfiesNoAliasRule`).
     ///
     /// # Errors
     ///
@@ -166,11 +166,11 @@ impl<D: Lengths> Strided<D> {
             (D.list shape.dim)
             (strides_list D.list (D.list shape.dim) shape.strides)) }
         ensures is_view { IfOk result (λ v. IsView v) }
-        ensures inside { IfOk result (λ v. LiesWithin len v) }
+        ensures in_bounds { IfOk result (λ v. LiesWithin len v) }
         ensures distinct { IfOk result (λ v. mode ≡ OwnedMutable → HasDistinctPlaces v) }
         ensures rule { IfOk result (λ v.
             (custom_strides shape.strides ≡ None) ⊎ (mode ≡ OwnedMutable) →
-            is_empty v.shape ≡ false → MeetsOwnedRule v.shape v.strides) }
+            is_empty v.shape ≡ false → SatisfiesNoAliasRule v.shape v.strides) }
     {
         let StrideShape { dim, strides } = shape;
         can_index_slice_with_strides(elem_size, len, &dim, &strides, mode)?;

@@ -36,13 +36,13 @@ fn has_each_axis(ndim: usize, axes: &[Axis]) -> bool
 }
 
 /// Writes the numbers of a list in the order of these axes.
-fn write_reordered(moved: &mut [usize], entries: &[usize], axes: &[Axis])
+fn write_reordered(moved: &mut [usize], items: &[usize], axes: &[Axis])
     requires count { length moved.old ≡ length axes.now }
-    requires order { is_axis_order (length entries.now) (axis_numbers axes.now) ≡ true }
-    ensures { moved.new ≡ in_order 0 (axis_numbers axes.now) entries.now }
+    requires order { is_axis_order (length items.now) (axis_numbers axes.now) ≡ true }
+    ensures { moved.new ≡ in_order 0 (axis_numbers axes.now) items.now }
 {
-    for place in 0..axes.len() {
-        moved[place] = entries[axes[place].index()];
+    for position in 0..axes.len() {
+        moved[position] = items[axes[position].index()];
     }
 }
 
@@ -51,14 +51,14 @@ fn write_reordered(moved: &mut [usize], entries: &[usize], axes: &[Axis])
 /// # Errors
 ///
 /// Out of memory; never where the type fixes the count of axes or there are at most 4.
-fn reordered<D: Lengths>(alloc: Global, entries: &D, axes: &[Axis]) -> Result<D, AllocError>
-    requires order { is_axis_order (length (D.list entries.now)) (axis_numbers axes.now) ≡ true }
+fn reordered<D: Lengths>(alloc: Global, items: &D, axes: &[Axis]) -> Result<D, AllocError>
+    requires order { is_axis_order (length (D.list items.now)) (axis_numbers axes.now) ≡ true }
     ensures list { IfOk result (λ d.
-        D.list d ≡ in_order 0 (axis_numbers axes.now) (D.list entries.now)) }
-    ensures memory { NeedsNoMemory D.NDIM (length (D.list entries.now)) → IsOk result }
+        D.list d ≡ in_order 0 (axis_numbers axes.now) (D.list items.now)) }
+    ensures memory { NeedsNoMemory D.NDIM (length (D.list items.now)) → IsOk result }
 {
-    let mut moved = entries.duplicate(alloc)?;
-    write_reordered(moved.slice_mut(), entries.slice(), axes);
+    let mut moved = items.duplicate(alloc)?;
+    write_reordered(moved.slice_mut(), items.slice(), axes);
     Ok(moved)
 }
 

@@ -3,7 +3,7 @@ ghost use Rattle.std.specs.List.{All};
 ghost use Rattle.std.specs.Option.{option_map};
 ghost use Rattle.std.specs.Prelude.{◌≡◌, ◌+◌, ◌<◌, ◌≤◌, ◌^◌, pos, ◌+ℤ◌, ◌*ℤ◌, ◌≤ℤ◌, ◌++◌, map, length, vec_len, vec_capacity, ℕ, IfOk, IsOk, Some, slice_get};
 ghost use Rattle.nd_base.specs.FlatIndex.{index_of_flat_in};
-ghost use Rattle.nd_base.specs.Inside.{IsInside};
+ghost use Rattle.nd_base.specs.Bounds.{IsInBounds};
 ghost use Rattle.nd_base.specs.Signed.{signed as signed_reading};
 ghost use Rattle.nd_base.specs.Size.{size, limit};
 ghost use Rattle.ndarray_layout.specs.Rows.{row_places, rows_places};
@@ -17,7 +17,7 @@ use std::alloc::{AllocError, Global};
 
 /// Appends the places of rows, one row after another, to a list with room for them.
 fn push_rows(mut places: Vec<usize>, rows: Rows<'_>) -> Vec<usize>
-    requires inside { All (IsInside (2 ^ 63)) (rows_places rows) }
+    requires in_bounds { All (IsInBounds (2 ^ 63)) (rows_places rows) }
     requires few { length (rows_places rows) ≤ limit }
     requires room { vec_len places + length (rows_places rows) ≤ vec_capacity places }
     ensures items { map pos result.items ≡ map pos places.items ++ rows_places rows.entry }
@@ -33,7 +33,7 @@ fn push_rows(mut places: Vec<usize>, rows: Rows<'_>) -> Vec<usize>
 /// Appends the places of a row. The list is passed by value: through a reference its length would be
 /// written at each place, and the loop would not become vector code.
 fn push_row(mut places: Vec<usize>, row: Row) -> Vec<usize>
-    requires inside { All (IsInside (2 ^ 63)) (row_places row.start row.stride row.len) }
+    requires in_bounds { All (IsInBounds (2 ^ 63)) (row_places row.start row.stride row.len) }
     requires few { row.len < 2 ^ 63 }
     requires room { vec_len places + row.len ≤ vec_capacity places }
     ensures items { map pos result.items ≡ map pos places.items
@@ -43,13 +43,13 @@ fn push_row(mut places: Vec<usize>, row: Row) -> Vec<usize>
 {
     let stride = unsigned(row.stride);
     for i in 0..row.len {
-        places.push_reserved(entry_place(row.start, i, stride));
+        places.push_reserved(place_along_axis(row.start, i, stride));
     }
     places
 }
 
-/// The place of entry `i` of an axis whose first entry lies at `start`.
-pub(super) fn entry_place(start: usize, i: usize, stride: usize) -> usize
+/// The place of coordinate `i` of an axis whose first coordinate lies at `start`.
+pub(super) fn place_along_axis(start: usize, i: usize, stride: usize) -> usize
     requires small { i < 2 ^ 63 }
     requires first { start ≤ limit }
     requires low { pos 0 ≤ℤ (pos start +ℤ (pos i *ℤ signed_reading stride)) }
@@ -90,7 +90,7 @@ impl<D: Lengths> Strided<D> {
         ensures at_flat_index { IfOk result (λ v. (r : ℕ) → r < size self.now.shape →
             option_map pos (slice_get v.items r)
             ≡ Some (place_at self.now (index_of_flat_in order self.now.shape r))) }
-        ensures inside { IfOk result (λ v. (len : ℕ) → LiesWithin len self.now →
+        ensures in_bounds { IfOk result (λ v. (len : ℕ) → LiesWithin len self.now →
             All (λ place. place < len) v.items) }
         ensures memory { size self.now.shape ≡ 0 → IsOk result }
     {

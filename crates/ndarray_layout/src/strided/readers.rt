@@ -1,23 +1,16 @@
 //! What a view has, and where its indices lie.
 ghost use Rattle.std.specs.Iterator.{YieldsFirst, YieldsLast};
 ghost use Rattle.std.specs.Iterator.Runs.{YieldsInOrder, YieldsInReverse};
-ghost use Rattle.std.specs.Option.{option_map, option_or};
-ghost use Rattle.std.specs.Prelude.{◌≡◌, ◌<◌, ◌↔◌, IsTrue, pos, IfOk, Some};
-ghost use Rattle.std.specs.Result.{result_err};
+ghost use Rattle.std.specs.Option.{option_map};
+ghost use Rattle.std.specs.Prelude.{◌≡◌, ◌<◌, pos, Some};
 ghost use Rattle.nd_base.specs.Signed.{all_signed};
 ghost use Rattle.nd_shape.specs.Axes.{axes, axes_left};
-ghost use Rattle.nd_slice.specs.ArgumentFault.{argument_fault};
-ghost use Rattle.nd_slice.specs.Meet.{Meet};
-ghost use Rattle.ndarray_layout.specs.DistinctPlaces.{HasDistinctPlaces};
-ghost use Rattle.ndarray_layout.specs.SharePlace.{SharePlace};
-ghost use Rattle.ndarray_layout.specs.SlicedView.{slice_of};
 ghost use Rattle.ndarray_layout.specs.View.{IsView, checked_place};
 
 use crate::strided::Strided;
 use crate::strided::places::offset_place;
-use nd_base::{Lengths, ShapeError};
+use nd_base::Lengths;
 use nd_shape::{Axes, NdIndex, axes_of};
-use nd_slice::{Fit, SliceElems, slices_intersect};
 
 impl<D: Lengths> Strided<D> {
     /// The place of the first index, in elements from the start of the data. The project's own.
@@ -69,41 +62,5 @@ impl<D: Lengths> Strided<D> {
     {
         let offset = index.index_checked(&self.dim, &self.strides)?;
         Some(offset_place(self.start, offset))
-    }
-
-    /// Whether two slices of the view intersect: some index has each of its coordinates among the
-    /// picks of both arguments.
-    ///
-    /// Before two parts of an array are written at once, this says whether they share an element:
-    /// where no two indices of the view alias, the result is true if and only if the two slices
-    /// have a place in common. On any other view, as one that is broadcast, slices that share no
-    /// index may still share a place. Without axes the result is true; where an argument picks
-    /// nothing of an axis it is false.
-    ///
-    /// # Errors
-    ///
-    /// Those of `check_slice` on the shape for the first argument, then for the second.
-    ///
-    /// Takes no memory, and time in proportion to the count of axes.
-    ///
-    /// The first row and the last column of `[2,3]`: true; the first row and the last row: false.
-    /// ndarray asks `slices_intersect` before `multi_slice_mut` lends several parts.
-    pub fn meets<A: SliceElems, B: SliceElems>(
-        &self,
-        first: &A,
-        second: &B,
-        fit: Fit,
-    ) -> Result<bool, ShapeError>
-        ensures fault { result_err result ≡ option_or
-            (argument_fault fit self.now.shape (A.list first.now))
-            (argument_fault fit self.now.shape (B.list second.now)) }
-        ensures meet { IfOk result (λ meet. IsTrue meet ↔
-            Meet fit self.now.shape (A.list first.now) (B.list second.now)) }
-        ensures places { IfOk result (λ meet. HasDistinctPlaces self.now → (IsTrue meet ↔
-            SharePlace
-            (slice_of fit (A.list first.now) self.now)
-            (slice_of fit (B.list second.now) self.now))) }
-    {
-        slices_intersect(&self.dim, first, second, fit)
     }
 }

@@ -3,7 +3,7 @@ ghost use Rattle.std.specs.Prelude.{◌≡◌, ◌↔◌, None, length, IfErr, I
 ghost use Rattle.nd_base.specs.Lengths.{NeedsNoMemory};
 ghost use Rattle.nd_base.specs.Signed.{all_signed};
 ghost use Rattle.ndarray_layout.specs.Descends.{Descends};
-ghost use Rattle.ndarray_layout.specs.ReshapedView.{IsReshapeRefusal, ReshapeFits, reshape_of, reshape_refusal, reshape_source, reshaped_strides as strides_of};
+ghost use Rattle.ndarray_layout.specs.ReshapedView.{IsReshapeError, ReshapeFits, reshape_of, view_reshape_fault, reshape_source, reshaped_strides as strides_of};
 ghost use Rattle.ndarray_layout.specs.View.{IsView, view_places};
 
 use crate::reshape::reshape_dim;
@@ -21,9 +21,9 @@ impl<D: Lengths> Strided<D> {
         shape: &E,
         order: Order,
     ) -> Result<E, LayoutError>
-        ensures fits { OnOk result (reshape_refusal order (E.list shape.now) self.now ≡ None) }
+        ensures fits { OnOk result (view_reshape_fault order (E.list shape.now) self.now ≡ None) }
         ensures fault { IfErr result (λ e.
-            IsReshapeRefusal E.NDIM order (E.list shape.now) self.now e) }
+            IsReshapeError E.NDIM order (E.list shape.now) self.now e) }
         ensures strides { IfOk result (λ d.
             all_signed (E.list d) ≡ strides_of order (E.list shape.now) self.now) }
         ensures is_view { IsView self.now }
@@ -63,12 +63,12 @@ impl<D: Lengths> Strided<D> {
         shape: &E,
         order: Order,
     ) -> Result<Strided<E>, LayoutError>
-        ensures fits { OnOk result (reshape_refusal order (E.list shape.now) self.now ≡ None) }
+        ensures fits { OnOk result (view_reshape_fault order (E.list shape.now) self.now ≡ None) }
         ensures fault { IfErr result (λ e.
-            IsReshapeRefusal E.NDIM order (E.list shape.now) self.now e) }
-        ensures memory { reshape_refusal order (E.list shape.now) self.now ≡ None →
+            IsReshapeError E.NDIM order (E.list shape.now) self.now e) }
+        ensures memory { view_reshape_fault order (E.list shape.now) self.now ≡ None →
             NeedsNoMemory E.NDIM (length (E.list shape.now)) → IsOk result }
-        ensures complete { (reshape_refusal order (E.list shape.now) self.now ≡ None)
+        ensures complete { (view_reshape_fault order (E.list shape.now) self.now ≡ None)
             ↔ ReshapeFits order (E.list shape.now) self.now }
         ensures reshaped { IfOk result (λ v. v ≡ reshape_of order (E.list shape.now) self.now) }
         ensures same_places { IfOk result (λ v. view_places order v ≡ view_places order self.now) }

@@ -12,7 +12,7 @@ ghost use Rattle.ndarray_layout.specs.RowsLeft.{axis_view};
 ghost use Rattle.ndarray_layout.specs.private.Fastest.{EndsIn, HasRows, HasPlaces};
 
 use crate::strided::Strided;
-use crate::strided::places::{entry_place, offset_place};
+use crate::strided::places::{offset_place, place_along_axis};
 use nd_base::{Lengths, Order, signed};
 use nd_dim::product;
 use std::iter::FusedIterator;
@@ -123,7 +123,7 @@ fn place_at_flat_index(
     let (mut lens, mut strides) = (lens, strides);
     let (mut place, mut left) = (start, flat_index);
     'axes: while let Some(axis) = split_fastest(order, lens, strides) {
-        place = entry_place(place, left % axis.len, axis.stride);
+        place = place_along_axis(place, left % axis.len, axis.stride);
         left /= axis.len;
         (lens, strides) = (axis.lens, axis.strides);
     }

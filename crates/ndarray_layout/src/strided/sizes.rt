@@ -2,7 +2,7 @@
 ghost use Rattle.std.specs.Prelude.{◌≡◌, ◌≤◌, IfOk};
 ghost use Rattle.std.specs.Result.{result_err};
 ghost use Rattle.nd_base.specs.Size.{nonzero_size, size, limit};
-ghost use Rattle.nd_slice.specs.ArgumentFault.{argument_fault};
+ghost use Rattle.nd_slice.specs.SliceFault.{argument_fault};
 ghost use Rattle.nd_slice.specs.Sliced.{sliced_shape};
 
 use crate::strided::Strided;

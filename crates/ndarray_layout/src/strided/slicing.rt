@@ -7,21 +7,21 @@ ghost use Rattle.nd_base.specs.Signed.{signed as signed_reading, all_signed};
 ghost use Rattle.nd_base.specs.Size.{limit};
 ghost use Rattle.nd_base.specs.Span.{reach};
 ghost use Rattle.nd_base.specs.ValidLayout.{IsValidLayout};
-ghost use Rattle.nd_slice.specs.ArgumentFault.{first_fault, in_count, out_count};
+ghost use Rattle.nd_slice.specs.SliceFault.{first_fault, in_count, out_count};
 ghost use Rattle.nd_slice.specs.Counts.{HasCounts};
 ghost use Rattle.nd_slice.specs.Picked.{picked_stride, first_offset};
 ghost use Rattle.nd_slice.specs.Picks.{picks};
 ghost use Rattle.nd_slice.specs.Selected.{selected};
-ghost use Rattle.nd_slice.specs.SliceFault.{slice_fault};
+ghost use Rattle.nd_slice.specs.AxisFault.{slice_fault};
 ghost use Rattle.nd_slice.specs.Sliced.{sliced_shape, sliced_strides, sliced_offset};
 ghost use Rattle.ndarray_layout.specs.Descends.{Descends};
-ghost use Rattle.ndarray_layout.specs.SlicedView.{slice_of, slice_refusal};
+ghost use Rattle.ndarray_layout.specs.SlicedView.{slice_of, view_slice_fault};
 
 use crate::strided::Strided;
 use crate::strided::places::offset_place;
 use nd_base::{ErrorKind, INLINE_AXES, LayoutError, Lengths, ShapeError, from_kind, stride_offset};
 use nd_slice::{
-    Fit, Slice, SliceElems, SliceInfoElem, check_elems, entry_of, in_ndim_of, out_ndim_of,
+    Fit, Slice, SliceElems, SliceInfoElem, check_elems, coordinate_of, in_ndim_of, out_ndim_of,
     resolve_slice,
 };
 use std::alloc::Global;
@@ -108,8 +108,8 @@ fn write_axes(
                 new_axis += 1;
             },
             SliceInfoElem::Index(index) => {
-                let entry = entry_of(shape[old_axis], index)?;
-                offset += stride_offset(entry, strides[old_axis]);
+                let coordinate = coordinate_of(shape[old_axis], index)?;
+                offset += stride_offset(coordinate, strides[old_axis]);
                 old_axis += 1;
             },
             SliceInfoElem::NewAxis => {
@@ -155,8 +155,8 @@ fn sliced_axes<E: Lengths>(
     fit: Fit,
 ) -> Result<(E, E, isize), LayoutError>
     requires { IsValidLayout shape.now (all_signed strides.now) }
-    ensures fault { shape_fault result ≡ slice_refusal fit E.NDIM shape.now elems.now }
-    ensures memory { slice_refusal fit E.NDIM shape.now elems.now ≡ None →
+    ensures fault { shape_fault result ≡ view_slice_fault fit E.NDIM shape.now elems.now }
+    ensures memory { view_slice_fault fit E.NDIM shape.now elems.now ≡ None →
         NeedsNoMemory E.NDIM (out_count elems.now) → IsOk result }
     ensures shape { IfOk result (λ (dim, kept, offset).
         E.list dim ≡ sliced_shape fit elems.now shape.now) }
@@ -211,8 +211,8 @@ impl<D: Lengths> Strided<D> {
         fit: Fit,
     ) -> Result<Strided<E>, LayoutError>
         ensures fault { shape_fault result ≡
-            slice_refusal fit E.NDIM self.now.shape (S.list slices.now) }
-        ensures memory { slice_refusal fit E.NDIM self.now.shape (S.list slices.now) ≡ None →
+            view_slice_fault fit E.NDIM self.now.shape (S.list slices.now) }
+        ensures memory { view_slice_fault fit E.NDIM self.now.shape (S.list slices.now) ≡ None →
             NeedsNoMemory E.NDIM (out_count (S.list slices.now)) → IsOk result }
         ensures sliced { IfOk result (λ v. v ≡ slice_of fit (S.list slices.now) self.now) }
         ensures kept { IfOk result (λ v.

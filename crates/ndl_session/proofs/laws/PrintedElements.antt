@@ -19,9 +19,9 @@ use Rattle.ndl_session.specs.text.Lines.{parts}
 use Rattle.ndl_session.specs.text.Numbers.{IsIsize, signed_number_of}
 use Rattle.ndl_session.specs.script.Elements.{IsElement, start_of, end_of, element_of, range_of, slice_of_bounds}
 use Rattle.ndl_session.proofs.laws.PrintedNumbers.{signed_number_of-signed_decimal, spells_other}
-use Rattle.ndl_session.proofs.texts.Cuts.{IsAfter, Lacks, lacks, one_part, part_at, spelled}
-use Rattle.ndl_session.proofs.texts.NumberParts.{IsSignOrDigit, after_comma, no_dot, no_semicolon, number_part, signed_number_bytes}
-use Rattle.ndl_session.proofs.texts.Parts.{some_part}
+use Rattle.ndl_session.proofs.text_lemmas.Cuts.{IsAfter, Lacks, lacks, one_part, part_at, spelled}
+use Rattle.ndl_session.proofs.text_lemmas.NumberParts.{IsSignOrDigit, after_comma, no_dot, no_semicolon, number_part, signed_number_bytes}
+use Rattle.ndl_session.proofs.text_lemmas.Parts.{some_part}
 
 -- ---- bounds
 number_bytes : (z : ℤ) → IsIsize z → All IsSignOrDigit (signed_decimal z)

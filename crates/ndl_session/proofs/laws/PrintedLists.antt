@@ -16,8 +16,8 @@ use Rattle.ndl_session.specs.script.Lists.{list_of}
 use Rattle.ndl_session.specs.script.Reading.{read_each}
 use Rattle.ndl_session.proofs.laws.PrintedElements.{elem_bytes, element_of-elem_text}
 use Rattle.ndl_session.proofs.laws.PrintedNumbers.{number_of-decimal, signed_number_of-signed_decimal, spells_other}
-use Rattle.ndl_session.proofs.texts.Cuts.{IsAfter, Lacks, lacks, listed_bytes, listed_nonempty, listed_parts}
-use Rattle.ndl_session.proofs.texts.NumberParts.{after_comma, number_bytes, signed_number_bytes}
+use Rattle.ndl_session.proofs.text_lemmas.Cuts.{IsAfter, Lacks, lacks, listed_bytes, listed_nonempty, listed_parts}
+use Rattle.ndl_session.proofs.text_lemmas.NumberParts.{after_comma, number_bytes, signed_number_bytes}
 
 -- a byte or more, none of them a space or before it
 pub record IsWord (text : List ℕ) : Type 0 where

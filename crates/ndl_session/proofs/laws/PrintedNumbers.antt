@@ -7,7 +7,7 @@ use Rattle.std.proofs.lemmas.Fmt.{decimal_nonempty, digits_decimal, digits_value
 use Rattle.std.proofs.lemmas.Option.{none-some}
 use Rattle.std.proofs.lemmas.Str.Parse.{not_in_digits}
 use Rattle.ndl_session.specs.text.Numbers.{IsIsize, IsUsize, is_decimal, number_of, signed_number_of}
-use Rattle.ndl_session.proofs.texts.Digits.{isize_of_fitting, own}
+use Rattle.ndl_session.proofs.text_lemmas.Digits.{isize_of_fitting, own}
 
 is_decimal-decimal : (n : ℕ) → n < 2 ^ 64 → is_decimal (decimal n) ≡ true
 is_decimal-decimal n h = and_from _ _ (lt-ltb _ _ (decimal_nonempty n h)) (digits_decimal own n h)

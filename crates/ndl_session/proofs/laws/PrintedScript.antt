@@ -15,14 +15,14 @@ use Rattle.ndarray_layout.specs.Step.{StepValue, SliceBy, CollapseTo, MergeInto,
 use Rattle.ndl_session.specs.text.Bytes.{line_feed, space}
 use Rattle.ndl_session.specs.text.Lines.{lines_from, lines_of, parts, words_of}
 use Rattle.ndl_session.specs.text.Printing.{listed}
-use Rattle.ndl_session.specs.script.DataLine.{IsLayout, LayoutValue, layout_of, layout_words, mode_of, mode_text}
+use Rattle.ndl_session.specs.script.DataLine.{DataLayoutValue, IsLayout, layout_of, layout_words, mode_of, mode_text}
 use Rattle.ndl_session.specs.script.Lists.{lengths_text, strides_text}
 use Rattle.ndl_session.specs.script.Script.{IsScript, ScriptValue, line_text, script_of, script_text, steps_of_lines}
 use Rattle.ndl_session.specs.script.StepLine.{IsStep, order_text, slice_keyword, step_of, step_words}
 use Rattle.ndl_session.proofs.laws.PrintedLists.{IsWord, elements_items, lengths_items, strides_items, item_word, list_of-listed, list_word}
 use Rattle.ndl_session.proofs.laws.PrintedNumbers.{number_of-decimal}
-use Rattle.ndl_session.proofs.texts.Cuts.{IsAfter, Lacks, lacks, listed_bytes, listed_parts, part_at, spelled}
-use Rattle.ndl_session.proofs.texts.FirstLine.{ended_line}
+use Rattle.ndl_session.proofs.text_lemmas.Cuts.{IsAfter, Lacks, lacks, listed_bytes, listed_parts, part_at, spelled}
+use Rattle.ndl_session.proofs.text_lemmas.FirstLine.{ended_line}
 
 -- ---- the words of a line
 pub step_of-step_words : (step : StepValue) → IsStep step → step_of (step_words step) ≡ Some step
@@ -38,7 +38,7 @@ mode_of-mode_text : (mode : CanIndexCheckMode) → mode_of (mode_text mode) ≡ 
 mode_of-mode_text OwnedMutable = refl
 mode_of-mode_text ReadOnly = refl
 
-layout_of-layout_words : (layout : LayoutValue) → IsLayout layout → layout_of (layout_words layout) ≡ Some layout
+layout_of-layout_words : (layout : DataLayoutValue) → IsLayout layout → layout_of (layout_words layout) ≡ Some layout
 layout_of-layout_words layout fits =
     rw (
       number_of-decimal layout.len fits.len,
@@ -85,7 +85,7 @@ step_line (ReshapeTo shape order) fits =
 step_line (BroadcastTo shape) fits =
     (omega arith, (name (codes "broadcast") (omega arith) refl, (list_word lengths_items shape fits, tt)))
 
-layout_line : (layout : LayoutValue) → IsLayout layout → IsLine (layout_words layout)
+layout_line : (layout : DataLayoutValue) → IsLayout layout → IsLine (layout_words layout)
 layout_line layout fits =
     let lists : AllByRecursion IsWord (lengths_text layout.shape ∷ strides_text layout.strides ∷ []) =
     (list_word lengths_items layout.shape fits.shape, (list_word strides_items layout.strides fits.strides, tt)) in (

@@ -39,11 +39,11 @@ AppendsAnswerBeginning old new known_input = AppendsBeginning old new out_of_mem
 failed_read_ends_its_line : input_failed_text ≡ codes "input failed" ++ line_feed ∷ []
 failed_read_ends_its_line = refl
 
-refused_memory_ends_its_line : out_of_memory_text ≡ codes "out of memory" ++ line_feed ∷ []
-refused_memory_ends_its_line = refl
+lack_of_memory_ends_its_line : out_of_memory_text ≡ codes "out of memory" ++ line_feed ∷ []
+lack_of_memory_ends_its_line = refl
 
-three_bytes_of_refused_memory : AppendsAnswerBeginning (Some []) (Some (codes "out")) (Some [])
-three_bytes_of_refused_memory = inl (3, lit< tt, refl)
+three_bytes_of_lack_of_memory : AppendsAnswerBeginning (Some []) (Some (codes "out")) (Some [])
+three_bytes_of_lack_of_memory = inl (3, lit< tt, refl)
 
 six_bytes_of_an_answer : AppendsAnswerBeginning (Some []) (Some (codes "line 1")) (Some [])
 unfolding digits
@@ -69,15 +69,15 @@ first_of_run : (fault : Option ErrorKind) (run : Outcome) → first (reply_to_ru
 first_of_run None run = refl
 first_of_run (Some kind) run = refl
 
-first_of_refusal : (step : ℕ) (fault : Option ErrorKind) (reply : Reply)
+first_of_fault : (step : ℕ) (fault : Option ErrorKind) (reply : Reply)
     → first reply.text ≡ 115 → first (unless step fault reply).text ≡ 115
-first_of_refusal step None reply is = is
-first_of_refusal step (Some kind) reply is = refl
+first_of_fault step None reply is = is
+first_of_fault step (Some kind) reply is = refl
 
 first_of_reading : (reading : Result ScriptValue ℕ) → first (reply_to_reading reading).text ≢ 105
 first_of_reading (Ok script) is =
     let layout = script.layout in
-    let other = first_of_refusal 0 (acceptance 1 layout.len layout.mode layout.shape layout.strides)
+    let other = first_of_fault 0 (acceptance 1 layout.len layout.mode layout.shape layout.strides)
     (reply_to_steps script.steps (view_of_layout layout)) (first_of_run _ _) in omega arith
 first_of_reading (Err number) is = omega arith
 

@@ -15,12 +15,12 @@ use Rattle.ndl_session.specs.declared.script.ReadError.TheVariants as script
 use Rattle.ndl_session.specs.script.Reading.{both}
 use Rattle.ndl_session.specs.text.Lines.{NumberedLine, lines_from}
 use Rattle.ndl_session.specs.text.Printing.{listed}
-use Rattle.ndl_session.specs.script.DataLine.{IsLayout, LayoutValue, layout_value, layout_of, layout_words}
+use Rattle.ndl_session.specs.script.DataLine.{IsLayout, DataLayoutValue, layout_value, layout_of, layout_words}
 use Rattle.ndl_session.specs.script.StepLine.{IsStep, step_of, step_words}
 
 -- what a script says: a layout, and the steps to take from it, in order
 pub record ScriptValue : Type 0 where
-  pub layout : LayoutValue
+  pub layout : DataLayoutValue
   pub steps : List StepValue
 
 -- a script of the program by what its lists hold
@@ -70,7 +70,7 @@ abbrev pub script_text : ScriptValue → List ℕ
 script_text script = flat_map line_text (layout_words script.layout ∷ map step_words script.steps)
 
 -- examples
-abbrev four : LayoutValue
+abbrev four : DataLayoutValue
 four = record { len = 4; mode = OwnedMutable; shape = 4 ∷ []; strides = pos 1 ∷ [] }
 
 abbrev two_of_four : StepValue

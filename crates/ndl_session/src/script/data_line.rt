@@ -13,7 +13,7 @@ use std::alloc::{AllocError, Global};
 
 /// A layout over some data, as a script gives it.
 #[derive(Drop)]
-pub struct Layout {
+pub struct DataLayout {
     /// How many elements the data has.
     pub len: usize,
     /// Whether two indices may share an element.
@@ -50,7 +50,7 @@ fn kept_strides(alloc: Global, word: &[u8]) -> Result<Option<IxDyn>, AllocError>
 /// The layout that the words of a line make; `None` where they aren't of the grammar.
 ///
 /// Errors: out of memory.
-pub(super) fn read_layout(alloc: Global, words: &[&[u8]]) -> Result<Option<Layout>, AllocError>
+pub(super) fn read_layout(alloc: Global, words: &[&[u8]]) -> Result<Option<DataLayout>, AllocError>
     ensures { IfOk result (λ found. option_map layout_value found
         ≡ layout_of (map (λ word. word.now) words.now)) }
 {
@@ -69,7 +69,7 @@ pub(super) fn read_layout(alloc: Global, words: &[&[u8]]) -> Result<Option<Layou
     let Some(strides) = kept_strides(alloc, strides)? else {
         return Ok(None);
     };
-    Ok(Some(Layout {
+    Ok(Some(DataLayout {
         len,
         mode,
         shape,

@@ -49,7 +49,7 @@ rest_are : {left rest : List (List ℕ)} {index : List ℕ} (view : View) → le
 rest_are {rest} {index} view first all =
     All-tail (λ i. is_index view.shape i ≡ true) index rest (subst (AreIndices view) first all)
 
--- it has as many entries as the shape
+-- it has as many coordinates as the shape
 same_count : {left rest : List (List ℕ)} {index : List ℕ} (view : View) → left ≡ index ∷ rest → AreIndices view left
     → length index ≡ length view.shape
 same_count {index} view first all = length_of_index view.shape index (subst (AreIndices view) first all 0 [] (omega arith))

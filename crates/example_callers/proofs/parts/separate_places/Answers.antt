@@ -1,4 +1,4 @@
--- A number in both lists would be a place that both parts have, and then they would meet.
+-- A number in both lists would be a place that both parts have, and then they would intersect.
 use Rattle.std.proofs.lemmas.Bool.{both_ways}
 use Rattle.ndarray_layout.specs.declared.Fit.TheVariants.{Strict}
 use Rattle.ndarray_layout.specs.declared.Order.TheVariants.{RowMajor}

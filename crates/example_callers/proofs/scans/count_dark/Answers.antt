@@ -6,7 +6,7 @@ use Rattle.std.proofs.lemmas.Bool.{le-ltb, lt-ltb}
 use Rattle.std.proofs.lemmas.List.Elements.{All-head, All-tail}
 use Rattle.std.proofs.lemmas.List.Sums.{count_by-le-length, sum_by-cons}
 use Rattle.ndarray_layout.specs.declared.Order.TheVariants.{RowMajor}
-use Rattle.ndarray_layout.specs.Inside.{IsInside}
+use Rattle.ndarray_layout.specs.Bounds.{IsInBounds}
 use Rattle.ndarray_layout.specs.Signed.{magnitude}
 use Rattle.ndarray_layout.specs.View.{View, IsView, LiesWithin, view_places}
 use Rattle.ndarray_layout.proofs.laws.View.{length-view_places, places_lie_within, size_fits}
@@ -26,11 +26,11 @@ first_counts {place} {rest = rest} pixels bound first is =
     ∙ ap (λ t. cond t 1 0 + count_by (is_dark pixels bound) rest) is
 
 -- it lies among the pixels, and so do the others
-first_inside : {len place : ℕ} {left rest : List ℤ} → left ≡ pos place ∷ rest → All (IsInside len) left
-    → (place < len) × All (IsInside len) rest
-first_inside {len} {place} {rest = rest} first all =
-    let inside = subst (All (IsInside len)) first all in
-    (All-head (IsInside len) (pos place) rest inside, All-tail (IsInside len) (pos place) rest inside)
+first_in_bounds : {len place : ℕ} {left rest : List ℤ} → left ≡ pos place ∷ rest → All (IsInBounds len) left
+    → (place < len) × All (IsInBounds len) rest
+first_in_bounds {len} {place} {rest = rest} first all =
+    let in_bounds = subst (All (IsInBounds len)) first all in
+    (All-head (IsInBounds len) (pos place) rest in_bounds, All-tail (IsInBounds len) (pos place) rest in_bounds)
 
 -- no more are counted than there are places
 count_fits : (pixels : List ℕ) (bound : ℕ) {view : View} {count : ℕ} → IsView view
@@ -43,20 +43,20 @@ count_fits pixels bound {view} v is =
 begins : (pixels : List ℕ) (bound : ℕ) (view : View) {left : List ℤ} → LiesWithin (length pixels) view
     → left ≡ view_places RowMajor view
     → (0 + count_by (is_dark pixels bound) left ≡ count_by (is_dark pixels bound) (view_places RowMajor view))
-    × All (IsInside (length pixels)) left
+    × All (IsInBounds (length pixels)) left
 begins pixels bound view within all = (
   omega (arith, ap (count_by (is_dark pixels bound)) all),
-  subst (All (IsInside (length pixels))) (sym all) (places_lie_within (length pixels) RowMajor view within),
+  subst (All (IsInBounds (length pixels))) (sym all) (places_lie_within (length pixels) RowMajor view within),
 )
 
 pub loop-place-init : goal.loop-place-init
 loop-place-init g c =
     let all = c.into_iter-place-iterator.ensures.into_iter_gives ∙ c.iter_places-place-items.ensures.items in
     let both = begins c.args.pixels.now c.args.bound c.args.view.now c.requires all in
-    record { counted = both.0; inside = both.1 }
+    record { counted = both.0; in_bounds = both.1 }
 
 pub bounds-pixels-place : goal.bounds-pixels-place
-bounds-pixels-place g c = (first_inside c.in-Some.ensures.steps c.loop-place.invariant.inside).0
+bounds-pixels-place g c = (first_in_bounds c.in-Some.ensures.steps c.loop-place.invariant.in_bounds).0
 
 pub overflow_add-count : goal.overflow_add-count
 overflow_add-count g c =
@@ -71,7 +71,7 @@ loop-place-preserved-then-pixels-place g c =
     let dark = lt-ltb _ _ c.if-pixels-place.true in
     record {
       counted = omega (arith, first_counts c.args.pixels.now c.args.bound steps dark, before.counted);
-      inside = (first_inside steps before.inside).1;
+      in_bounds = (first_in_bounds steps before.in_bounds).1;
     }
 
 pub loop-place-preserved : goal.loop-place-preserved
@@ -81,5 +81,5 @@ loop-place-preserved g c =
     let bright = le-ltb _ _ c.if-pixels-place.false in
     record {
       counted = omega (arith, first_counts c.args.pixels.now c.args.bound steps bright, before.counted);
-      inside = (first_inside steps before.inside).1;
+      in_bounds = (first_in_bounds steps before.in_bounds).1;
     }

@@ -33,8 +33,8 @@ source (rows ∷ columns ∷ more) i j here =
     let parts = and_parts (nat_lt i (length up)) (is_index (length all ∷ []) (j ∷ [])) here in
     let below = and_parts (nat_lt j (length all)) true parts.1 in
     let row : slice_index up i ≡ rows - 1 - 2 * i = omega (arith, pick_down 1 0 rows i (ltb-true i (length up) parts.0)) in
-    let inside : j < columns = omega (arith, ltb-true j (length all) below.0, length-picks_by_one Strict columns (pos 0) None) in
-    let column = pick_of_all Strict columns j inside in
+    let in_bounds : j < columns = omega (arith, ltb-true j (length all) below.0, length-picks_by_one Strict columns (pos 0) None) in
+    let column = pick_of_all Strict columns j in_bounds in
     cc
 
 moved : (view : View) (elems : List SliceInfoElem) (made : Result View LayoutError) → elems ≡ part

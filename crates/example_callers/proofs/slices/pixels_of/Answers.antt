@@ -36,10 +36,10 @@ loop-place-preserved g c =
     let places = c.deref-place-items.result.now in
     let i = c.loop-place.place-index in
     let there = c.loop-place-test.true in
-    let inside = rw (← c.deref-place-items.ensures.value) at (c.in_ok-places.ensures.inside (length c.args.pixels.now) c.requires) in
+    let in_bounds = rw (← c.deref-place-items.ensures.value) at (c.in_ok-places.ensures.in_bounds (length c.args.pixels.now) c.requires) in
     record {
       items = rw pushed.items
-          (one_more c.args.pixels.now places c.loop-place.copies.items i there (inside i 0 there) before.items);
+          (one_more c.args.pixels.now places c.loop-place.copies.items i there (in_bounds i 0 there) before.items);
       len = omega (arith, pushed.len, before.len);
       capacity = omega (arith, pushed.capacity, before.capacity);
     }

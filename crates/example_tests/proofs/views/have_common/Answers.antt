@@ -3,7 +3,7 @@ use Rattle.std.proofs.Common.{length}
 use Rattle.example_tests.proofs.views.have_common.Goals as goal
 
 pub are_both-requires-clause-one : goal.are_both-requires-clause-one
-are_both-requires-clause-one c = c.in-Ok.ensures.inside (length c.args.pixels.now) c.requires.one
+are_both-requires-clause-one c = c.in-Ok.ensures.in_bounds (length c.args.pixels.now) c.requires.one
 
 pub are_both-requires-clause-other : goal.are_both-requires-clause-other
-are_both-requires-clause-other c = c.in-Ok.ensures.inside_other (length c.args.pixels.now) c.requires.other
+are_both-requires-clause-other c = c.in-Ok.ensures.in_bounds_other (length c.args.pixels.now) c.requires.other

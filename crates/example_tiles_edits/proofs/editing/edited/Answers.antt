@@ -9,9 +9,9 @@ use Rattle.example_tiles_edits.proofs.editing.edited.Goals as goal
 
 pub pixels_at-requires : goal.pixels_at-requires
 pixels_at-requires c =
-    let within = subst (λ len. LiesWithin len c.whole_view-whole.result) (sym c.picture.invariant) c.whole_view-whole.ensures.inside in
+    let within = subst (λ len. LiesWithin len c.whole_view-whole.result) (sym c.picture.invariant) c.whole_view-whole.ensures.in_bounds in
     rw (c.as_slice.ensures.value, c.as_slice-2.ensures.value)
-    (c.in_ok-places.ensures.inside (length c.picture.inside.pixels.items) (c.in_ok-extent.ensures.inside _ within))
+    (c.in_ok-places.ensures.in_bounds (length c.picture.inside.pixels.items) (c.in_ok-extent.ensures.in_bounds _ within))
 
 pub invariant_of-result : goal.invariant_of-result
 invariant_of-result c =

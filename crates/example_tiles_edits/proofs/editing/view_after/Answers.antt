@@ -20,7 +20,7 @@ loop-at-preserved c =
     let at = c.loop-at.at in
     let found = c.in_ok-extent.ensures.ok_part in
     let one = rw found at c.slice.ensures.left in
-    let inside = rw found at c.slice.ensures.inside in
+    let in_bounds = rw found at c.slice.ensures.in_bounds in
     let fit = sym c.slice.ensures.fits ∙ ap is_some found in
     let there : at < length edits = c.loop-at-test.true in
     record {
@@ -28,7 +28,7 @@ loop-at-preserved c =
       shape = one.shape;
       goes_on = λ left after more. before.goes_on left after
           (subst (λ es. Leave es c.loop-at.extent c.loop-at.view left after) (sym (first_left edits at _ there)) (leave_more one more));
-      inside = λ len within. inside len (before.inside len within);
+      in_bounds = λ len within. in_bounds len (before.in_bounds len within);
     }
 
 pub returns-clause-left : goal.returns-clause-left

@@ -13,5 +13,5 @@ invariant-loop-at l = record {
   shape : l.view.shape ≡ shape_of l.extent;
   goes_on : (left : Extent) (after : View) → Leave (drop l.at l.edits) l.extent l.view left after
       → Leave l.edits l.initial.extent l.initial.view left after;
-  inside : (len : ℕ) → LiesWithin len l.initial.view → LiesWithin len l.view;
+  in_bounds : (len : ℕ) → LiesWithin len l.initial.view → LiesWithin len l.view;
 }

@@ -1,19 +1,19 @@
 use Rattle.std.proofs.Common.{◌+◌, get_or, to_z, w64, arith}
 use Rattle.std.proofs.lemmas.Int.{ints, to_z-of_z}
 use Rattle.nd_base.proofs.laws.Definitions.{signed}
-use Rattle.nd_base.proofs.IndexOffsets.{IsNextPart, added, entry_offset, offset_from_step, offset_from_end}
+use Rattle.nd_base.proofs.IndexOffsets.{IsNextPart, added, coordinate_offset, offset_from_step, offset_from_end}
 use Rattle.nd_base.proofs.laws.Span.{sum_from, sum_from_step}
 use Rattle.nd_base.proofs.offsets.index_offset.Goals as goal
 use Rattle.nd_base.proofs.offsets.index_offset.Goals.{In-loop-axis}
 
--- this entry's offset, which fits beside what came before and what comes after
+-- this coordinate's offset, which fits beside what came before and what comes after
 next : (c : In-loop-axis)
     → IsNextPart (to_z w64 c.loop-axis.offset-bits) (get_or c.args.index.now c.loop-axis.axis 0)
     (signed (get_or c.args.strides.now c.loop-axis.axis 0))
-    (sum_from entry_offset c.args.index.now c.args.strides.now (c.loop-axis.axis + 1))
-    (sum_from entry_offset c.args.index.now c.args.strides.now c.loop-axis.axis)
+    (sum_from coordinate_offset c.args.index.now c.args.strides.now (c.loop-axis.axis + 1))
+    (sum_from coordinate_offset c.args.index.now c.args.strides.now c.loop-axis.axis)
 next c =
-    let split = sum_from_step entry_offset c.args.index.now c.args.strides.now c.loop-axis.axis (omega arith) (omega arith) in
+    let split = sum_from_step coordinate_offset c.args.index.now c.args.strides.now c.loop-axis.axis (omega arith) (omega arith) in
     record { far = omega (arith, split); low = c.loop-axis.invariant.low; high = c.loop-axis.invariant.high }
 
 pub moved-offset-requires : goal.moved-offset-requires

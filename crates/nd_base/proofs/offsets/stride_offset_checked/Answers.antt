@@ -3,9 +3,9 @@ use Rattle.std.specs.Prelude.{Some}
 use Rattle.std.proofs.lemmas.Int.{ints, to_z-of_z}
 use Rattle.std.proofs.lemmas.List.{length-map}
 use Rattle.nd_base.proofs.laws.Definitions.{is_index, offset_of, all_signed, signed, reach}
-use Rattle.nd_base.proofs.IndexOffsets.{IsNextPart, added, is_index_of_count, is_index_of_entry, entry_offset_le}
+use Rattle.nd_base.proofs.IndexOffsets.{IsNextPart, added, is_index_of_count, is_index_of_coordinate, coordinate_offset_le}
 use Rattle.nd_base.proofs.IndexOffsets.{offset_from_step, offset_from_end}
-use Rattle.nd_base.proofs.laws.IsIndex.{is_index_from_entries}
+use Rattle.nd_base.proofs.laws.IsIndex.{is_index_from_coordinates}
 use Rattle.nd_base.proofs.laws.NonzeroSize.{length_le_nonzero_size}
 use Rattle.nd_base.proofs.laws.Span.{sum_from, sum_from_step}
 use Rattle.nd_base.proofs.offsets.stride_offset_checked.Goals as goal
@@ -18,14 +18,14 @@ returns-then-dim-index c =
 
 pub returns-then-index-axis : goal.returns-then-index-axis
 returns-then-index-axis c =
-    let none = is_index_of_entry c.args.dim.now c.args.index.now c.loop-axis.axis c.loop-axis-test.true c.if-index-axis.true in
+    let none = is_index_of_coordinate c.args.dim.now c.args.index.now c.loop-axis.axis c.loop-axis-test.true c.if-index-axis.true in
     rw none refl
 
 -- there is a stride for this axis
 at_axis : (c : Else-index-axis) → c.loop-axis.axis < length c.args.strides.now
 at_axis c = omega (arith, c.loop-axis-test.true, c.requires.same_count, length-map c.args.strides.now signed)
 
--- this entry's offset, which fits beside what came before and what can come after
+-- this coordinate's offset, which fits beside what came before and what can come after
 next : (c : Else-index-axis)
     → IsNextPart (to_z w64 c.loop-axis.offset-bits) (get_or c.args.index.now c.loop-axis.axis 0)
     (signed (get_or c.args.strides.now c.loop-axis.axis 0))
@@ -33,7 +33,7 @@ next : (c : Else-index-axis)
     (sum_from reach c.args.dim.now c.args.strides.now c.loop-axis.axis)
 next c =
     let split = sum_from_step reach c.args.dim.now c.args.strides.now c.loop-axis.axis c.loop-axis-test.true (at_axis c) in
-    let own = entry_offset_le (get_or c.args.dim.now c.loop-axis.axis 0) (get_or c.args.index.now c.loop-axis.axis 0)
+    let own = coordinate_offset_le (get_or c.args.dim.now c.loop-axis.axis 0) (get_or c.args.index.now c.loop-axis.axis 0)
     (signed (get_or c.args.strides.now c.loop-axis.axis 0)) c.if-index-axis.false in
     record { far = omega (arith, split, own); low = c.loop-axis.invariant.low; high = c.loop-axis.invariant.high }
 
@@ -53,7 +53,7 @@ loop-axis-preserved c =
     let step = offset_from_step c.args.strides.now c.args.index.now c.loop-axis.axis
     (omega (arith, c.loop-axis-test.true, c.if-dim-index.false)) (at_axis at) in
     rw (c.moved-offset.ensures, to_z-of_z w64 _ sum.whole) (record {
-      inside = below_more _ _ c.loop-axis.invariant.inside c.if-index-axis.false;
+      in_bounds = below_more _ _ c.loop-axis.invariant.in_bounds c.if-index-axis.false;
       sum = omega (arith, ints, step, c.loop-axis.invariant.sum);
       low = sum.low;
       high = sum.high;
@@ -64,8 +64,8 @@ returns c =
     let shape = c.args.dim.now in
     let index = c.args.index.now in
     let here : is_index shape index ≡ true =
-    is_index_from_entries shape index (sym c.if-dim-index.false)
-    (λ axis l. c.loop-axis.invariant.inside axis (omega (arith, c.loop-axis-test.false))) in
+    is_index_from_coordinates shape index (sym c.if-dim-index.false)
+    (λ axis l. c.loop-axis.invariant.in_bounds axis (omega (arith, c.loop-axis-test.false))) in
     let end = offset_from_end c.args.strides.now index c.loop-axis.axis (omega (arith, c.loop-axis-test.false, c.if-dim-index.false)) in
     let whole : to_z w64 c.loop-axis.offset-bits ≡ offset_of (all_signed c.args.strides.now) index =
     omega (arith, ints, end, c.loop-axis.invariant.sum) in

@@ -3,7 +3,7 @@ use Rattle.std.specs.Prelude.{slice_get, unwrap_or}
 use Rattle.nd_dim.specs.LastLen.{last_len as last_of_lengths}
 use Rattle.nd_dim.proofs.axis_edits.last_len.Goals as goal
 
--- the entry before the end
+-- the coordinate before the end
 last_is : (lens : List ℕ) → unwrap_or (slice_get lens (length lens - 1)) 0 ≡ last_of_lengths lens
 last_is [] = refl
 last_is (len ∷ []) = refl

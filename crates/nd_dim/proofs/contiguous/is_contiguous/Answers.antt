@@ -1,7 +1,7 @@
 use Rattle.std.proofs.Common.{◌≡◌, ◌||◌, length, ◌==◌, if◌then◌else◌, sym, ap, ◌∙◌}
 use Rattle.std.proofs.lemmas.Bool.{or_left, cond-false, ne_eqb}
 use Rattle.nd_base.specs.Signed.{all_signed}
-use Rattle.nd_dim.specs.Contiguous.{has_default_strides, is_packed, is_lone_step_back}
+use Rattle.nd_dim.specs.Contiguous.{has_default_strides, is_packed, is_lone_reversed}
 use Rattle.nd_dim.proofs.Packed.{default_test}
 use Rattle.nd_dim.proofs.contiguous.is_contiguous.Goals as goal
 
@@ -17,8 +17,8 @@ returns-else-lens-eq1 c =
     let strides = all_signed c.args.strides.now in
     let test = default_test lens c.args.strides.now c.has_default_strides.result c.type_inv.strides c.requires.size_fits
     c.has_default_strides.ensures in
-    let several : (if length lens == 1 then is_lone_step_back lens strides else is_packed lens strides) ≡ is_packed lens strides =
+    let several : (if length lens == 1 then is_lone_reversed lens strides else is_packed lens strides) ≡ is_packed lens strides =
     cond-false _ _ _ (ne_eqb (length lens) 1 c.if-lens-eq1.false) in
     c.is_packed.ensures ∙ sym several
-    ∙ sym (ap (λ b. b || (if length lens == 1 then is_lone_step_back lens strides else is_packed lens strides))
+    ∙ sym (ap (λ b. b || (if length lens == 1 then is_lone_reversed lens strides else is_packed lens strides))
     (test ∙ c.if-has_default_strides.false))

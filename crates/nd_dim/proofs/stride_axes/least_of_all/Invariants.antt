@@ -6,7 +6,7 @@ use Rattle.nd_dim.proofs.stride_axes.least_of_all.Given as goal
 
 abbrev pub invariant-loop-axis : goal.invariant-loop-axis
 invariant-loop-axis l = record {
-  inside : l.least < length l.strides;
+  in_bounds : l.least < length l.strides;
   shortest : l.shortest ≡ magnitude_at (all_signed l.strides) l.least;
   leading : (k : ℕ) → k < l.axis → l.shortest ≤ magnitude_at (all_signed l.strides) k;
   of_equals : (k : ℕ) → k < l.axis → l.shortest ≡ magnitude_at (all_signed l.strides) k → k ≤ l.least;

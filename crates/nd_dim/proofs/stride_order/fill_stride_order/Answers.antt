@@ -5,7 +5,7 @@ use Rattle.std.proofs.lemmas.List.{length-map}
 use Rattle.nd_base.proofs.laws.Below.{below_by_places}
 use Rattle.nd_base.proofs.laws.Definitions.{below, all_signed, signed}
 use Rattle.nd_dim.specs.AxisOrder.{magnitude_at}
-use Rattle.nd_dim.proofs.StrideOrder.{places_differ, before_from_not_after}
+use Rattle.nd_dim.proofs.StrideOrderLoop.{positions_differ, before_from_not_after}
 use Rattle.nd_dim.proofs.stride_order.fill_stride_order.Goals as goal
 
 pub returns : goal.returns
@@ -20,6 +20,6 @@ returns c =
     (always_returns_same _ _ _ (λ a r f h. search rules)) in
     record {
       each_once = moved;
-      in_order = λ place h. before_from_not_after strides (get_or order place 0) (get_or order (place + 1) 0)
-          (sorted place 0 (omega arith) h) (places_differ (length strides) moved place (place + 1) (omega arith) h);
+      in_order = λ position h. before_from_not_after strides (get_or order position 0) (get_or order (position + 1) 0)
+          (sorted position 0 (omega arith) h) (positions_differ (length strides) moved position (position + 1) (omega arith) h);
     }

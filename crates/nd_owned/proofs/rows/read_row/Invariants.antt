@@ -4,12 +4,12 @@ use Rattle.ndarray_layout.specs.Rows.{row_places}
 use Rattle.nd_owned.specs.Owned.{item_at_place}
 use Rattle.nd_owned.proofs.rows.read_row.Given as goal
 
-abbrev pub invariant-loop-entry : goal.invariant-loop-entry
-invariant-loop-entry g l = record {
+abbrev pub invariant-loop-coordinate : goal.invariant-loop-coordinate
+invariant-loop-coordinate g l = record {
   small : l.place < 2 ^ 63;
-  next : pos l.place +ℤ l.row.stride ≡ pos l.row.start +ℤ (pos l._entry *ℤ l.row.stride);
+  next : pos l.place +ℤ l.row.stride ≡ pos l.row.start +ℤ (pos l._coordinate *ℤ l.row.stride);
   items : map Some l.items.items ≡ map Some l.fn.items.items ++ map (item_at_place l.stored)
-      (row_places l.row.start l.row.stride l._entry);
-  len : vec_len l.items ≡ vec_len l.fn.items + l._entry;
+      (row_places l.row.start l.row.stride l._coordinate);
+  len : vec_len l.items ≡ vec_len l.fn.items + l._coordinate;
   capacity : vec_capacity l.items ≡ vec_capacity l.fn.items;
 }

@@ -10,16 +10,16 @@ use Rattle.ndarray_layout.specs.View.{view_places}
 use Rattle.ndarray_layout.proofs.laws.Rows.{length-row_places, rows_places-view_rows}
 use Rattle.ndarray_layout.proofs.laws.View.{length-view_places}
 use Rattle.nd_owned.specs.Owned.{item_at_place}
-use Rattle.nd_owned.specs.private.Written.{AreInside}
-use Rattle.nd_owned.proofs.ViewRows.{length_left, places_inside, places_of, read_first, rows_inside}
+use Rattle.nd_owned.specs.private.Written.{AreInBounds}
+use Rattle.nd_owned.proofs.ViewRows.{length_left, places_in_bounds, places_of, read_first, rows_in_bounds}
 use Rattle.nd_owned.proofs.rows.read_view.Goals as goal
 
 pub returns-in_err-items-clause-memory : goal.returns-in_err-items-clause-memory
 returns-in_err-items-clause-memory g c = λ none. absurd (false≢true (c.in_err-items.ensures.succeeds (c.view_size.ensures.size ∙ none)))
 
-pub read_row-requires-clause-inside : goal.read_row-requires-clause-inside
-read_row-requires-clause-inside g c =
-    subst (AreInside (length c.args.stored.now)) (sym c.in-Some.ensures.places) (places_inside c.one_row.ensures.is_view c.requires)
+pub read_row-requires-clause-in_bounds : goal.read_row-requires-clause-in_bounds
+read_row-requires-clause-in_bounds g c =
+    subst (AreInBounds (length c.args.stored.now)) (sym c.in-Some.ensures.places) (places_in_bounds c.one_row.ensures.is_view c.requires)
 
 pub read_row-requires-clause-room : goal.read_row-requires-clause-room
 read_row-requires-clause-room g c =
@@ -51,7 +51,7 @@ loop-row-init g c =
       items = ap (λ items. map Some items ++ map (item_at_place c.args.stored.now) (rows_places c.into_iter-row-iterator.result))
           c.in_ok-items.ensures.items
           ∙ ap (map (item_at_place c.args.stored.now)) places;
-      inside = subst (All (λ row. AreInside (length c.args.stored.now) (places_of row))) (sym all) (rows_inside v c.requires);
+      in_bounds = subst (All (λ row. AreInBounds (length c.args.stored.now) (places_of row))) (sym all) (rows_in_bounds v c.requires);
       room = omega (
         arith,
         ap length places,
@@ -62,10 +62,10 @@ loop-row-init g c =
       );
     }
 
-pub read_row-items-requires-clause-inside : goal.read_row-items-requires-clause-inside
-read_row-items-requires-clause-inside g c =
-    All-head (λ row. AreInside (length c.args.stored.now) (places_of row)) _ _
-    (subst (All (λ row. AreInside (length c.args.stored.now) (places_of row))) c.in-Some-row.ensures.steps c.loop-row.invariant.inside)
+pub read_row-items-requires-clause-in_bounds : goal.read_row-items-requires-clause-in_bounds
+read_row-items-requires-clause-in_bounds g c =
+    All-head (λ row. AreInBounds (length c.args.stored.now) (places_of row)) _ _
+    (subst (All (λ row. AreInBounds (length c.args.stored.now) (places_of row))) c.in-Some-row.ensures.steps c.loop-row.invariant.in_bounds)
 
 pub read_row-items-requires-clause-room : goal.read_row-items-requires-clause-room
 read_row-items-requires-clause-room g c = omega (arith, length_left c.in-Some-row.ensures.steps, c.loop-row.invariant.room)
@@ -76,8 +76,8 @@ loop-row-preserved g c =
     let row = c.in-Some-row.row in
     record {
       items = read_first first c.args.stored.now c.loop-row.items.items c.read_row-items.result.items c.read_row-items.ensures.items c.loop-row.invariant.items;
-      inside = All-tail (λ row. AreInside (length c.args.stored.now) (places_of row)) _ _
-          (subst (All (λ row. AreInside (length c.args.stored.now) (places_of row))) first c.loop-row.invariant.inside);
+      in_bounds = All-tail (λ row. AreInBounds (length c.args.stored.now) (places_of row)) _ _
+          (subst (All (λ row. AreInBounds (length c.args.stored.now) (places_of row))) first c.loop-row.invariant.in_bounds);
       room = omega (arith, length_left first, c.loop-row.invariant.room, c.read_row-items.ensures.len, c.read_row-items.ensures.capacity);
     }
 

@@ -5,7 +5,7 @@ use Rattle.ndarray_layout.specs.declared.Order.TheVariants.{RowMajor}
 use Rattle.ndarray_layout.specs.Rows.{rows_places}
 use Rattle.ndarray_layout.specs.View.{view_places}
 use Rattle.nd_owned.specs.Owned.{item_at_place}
-use Rattle.nd_owned.specs.private.Written.{AreInside}
+use Rattle.nd_owned.specs.private.Written.{AreInBounds}
 use Rattle.nd_owned.proofs.ViewRows.{places_of}
 use Rattle.nd_owned.proofs.rows.read_view.Given as goal
 
@@ -13,6 +13,6 @@ abbrev pub invariant-loop-row : goal.invariant-loop-row
 invariant-loop-row g l = record {
   items : map Some l.items.items ++ map (item_at_place l.stored) (rows_places l.row-iterator)
       ≡ map (item_at_place l.stored) (view_places RowMajor l.fn.view);
-  inside : All (λ row. AreInside (length l.stored) (places_of row)) l.row-iterator;
+  in_bounds : All (λ row. AreInBounds (length l.stored) (places_of row)) l.row-iterator;
   room : vec_len l.items + length (rows_places l.row-iterator) ≤ vec_capacity l.items;
 }

@@ -2,11 +2,11 @@
 use Rattle.std.proofs.Common.{rules, ◌≡◌, ◌+◌, ◌-◌, ◌≤◌, ◌<◌, ◌++◌, ◌^◌, pos, ◌+ℤ◌, ◌*ℤ◌, length, get_or, length-set, take, drop, sym, ap}
 use Rattle.std.proofs.Common.{subst, ◌∙◌, arith}
 use Rattle.std.proofs.lemmas.List.{take_all}
-use Rattle.ndarray_layout.specs.Inside.{IsInside}
+use Rattle.ndarray_layout.specs.Bounds.{IsInBounds}
 use Rattle.ndarray_layout.specs.Rows.{row_places}
 use Rattle.nd_owned.specs.private.Written.{HasWritten}
 use Rattle.nd_owned.proofs.Placed.{none_written}
-use Rattle.nd_owned.proofs.RowPlaces.{after_first, at_entry, begins, copied_within, entry_inside, next_there, start_there, write_more}
+use Rattle.nd_owned.proofs.RowPlaces.{after_first, at_coordinate, begins, coordinate_in_bounds, copied_within, next_there, start_there, write_more}
 use Rattle.nd_owned.proofs.RowPlaces.{write_neighbours}
 use Rattle.nd_owned.proofs.rows.write_row.Goals as goal
 
@@ -73,21 +73,21 @@ loop-item-init g c =
       next = next_there start 0 stride (start_there stride);
       written = λ distinct. write_more (length stored) c.requires.within distinct
           (record { below = some; is = sym (ap (λ xs. get_or xs 0 first) c.in-Some.ensures.cases.0) })
-          (begins (length stored) start stride (length items) c.requires.within some) (at_entry start stride 0 (start_there stride))
+          (begins (length stored) start stride (length items) c.requires.within some) (at_coordinate start stride 0 (start_there stride))
           none_written;
     }
 
-pub place_after-place-requires-clause-inside : goal.place_after-place-requires-clause-inside
-place_after-place-requires-clause-inside g c =
-    subst (IsInside (2 ^ 63)) (sym c.loop-item.invariant.next)
-    (entry_inside (2 ^ 63) c.args.row.start c.args.row.stride (length c.args.items.now) (c.loop-item.item-index + 1) c.requires.fit
+pub place_after-place-requires-clause-in_bounds : goal.place_after-place-requires-clause-in_bounds
+place_after-place-requires-clause-in_bounds g c =
+    subst (IsInBounds (2 ^ 63)) (sym c.loop-item.invariant.next)
+    (coordinate_in_bounds (2 ^ 63) c.args.row.start c.args.row.stride (length c.args.items.now) (c.loop-item.item-index + 1) c.requires.fit
     (omega (arith, c.in-Some.ensures.cases.1, c.loop-item-test.true)))
 
 pub bounds-stored-place : goal.bounds-stored-place
 bounds-stored-place g c =
     let count = length c.args.stored.now in
-    let under : c.place_after-place.result < count = subst (IsInside count) (sym (c.place_after-place.ensures ∙ c.loop-item.invariant.next))
-    (entry_inside count c.args.row.start c.args.row.stride (length c.args.items.now) (c.loop-item.item-index + 1) c.requires.within
+    let under : c.place_after-place.result < count = subst (IsInBounds count) (sym (c.place_after-place.ensures ∙ c.loop-item.invariant.next))
+    (coordinate_in_bounds count c.args.row.start c.args.row.stride (length c.args.items.now) (c.loop-item.item-index + 1) c.requires.within
     (omega (arith, c.in-Some.ensures.cases.1, c.loop-item-test.true))) in
     omega (arith, under, c.loop-item.auto.stored, length-set c.args.stored.now c.args.row.start c.in-Some.first.now)
 
@@ -109,11 +109,11 @@ loop-item-preserved g c =
     let here : pos place ≡ pos start +ℤ (pos (i + 1) *ℤ stride) = c.place_after-place.ensures ∙ c.loop-item.invariant.next in
     let within : place < length c.loop-item.stored = bounds-stored-place g c in
     record {
-      small = subst (IsInside (2 ^ 63)) (sym here) (entry_inside (2 ^ 63) start stride (length items) (i + 1) c.requires.fit below);
+      small = subst (IsInBounds (2 ^ 63)) (sym here) (coordinate_in_bounds (2 ^ 63) start stride (length items) (i + 1) c.requires.fit below);
       next = next_there start (i + 1) stride here;
       written = λ distinct. write_more (length stored) c.requires.within distinct
           (record { below = below; is = after_first i c.in-Some.ensures.cases.0 c.item-item.is }) within
-          (at_entry start stride (i + 1) here) (c.loop-item.invariant.written distinct);
+          (at_coordinate start stride (i + 1) here) (c.loop-item.invariant.written distinct);
     }
 
 pub returns : goal.returns

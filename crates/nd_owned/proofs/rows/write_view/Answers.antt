@@ -8,9 +8,9 @@ use Rattle.ndarray_layout.specs.Rows.{row_places, rows_places, view_rows}
 use Rattle.ndarray_layout.specs.View.{view_places}
 use Rattle.ndarray_layout.proofs.laws.Rows.{length-row_places, rows_places-view_rows}
 use Rattle.ndarray_layout.proofs.laws.View.{length-view_places}
-use Rattle.nd_owned.specs.private.Written.{AreInside, HasWritten}
+use Rattle.nd_owned.specs.private.Written.{AreInBounds, HasWritten}
 use Rattle.nd_owned.proofs.Placed.{first_distinct, none_written, parts_written, second_distinct}
-use Rattle.nd_owned.proofs.ViewRows.{first_and_others, length_left, length_of_one_row, places_inside, places_of, rows_inside}
+use Rattle.nd_owned.proofs.ViewRows.{first_and_others, length_left, length_of_one_row, places_in_bounds, places_of, rows_in_bounds}
 use Rattle.nd_owned.proofs.rows.write_view.Goals as goal
 
 pub write_row-requires : goal.write_row-requires
@@ -19,8 +19,8 @@ write_row-requires g c =
     let count = length c.args.stored.now in
     let long : row.len ≡ length c.args.items.now =
     length_of_one_row row c.args.view.now c.in-Some.ensures.places ∙ c.requires.count in
-    subst (λ n. AreInside count (row_places row.start row.stride n)) long
-    (subst (AreInside count) (sym c.in-Some.ensures.places) (places_inside c.one_row.ensures.is_view c.requires.within))
+    subst (λ n. AreInBounds count (row_places row.start row.stride n)) long
+    (subst (AreInBounds count) (sym c.in-Some.ensures.places) (places_in_bounds c.one_row.ensures.is_view c.requires.within))
 
 pub returns-in-Some : goal.returns-in-Some
 returns-in-Some g c =
@@ -38,7 +38,7 @@ loop-row-init g c =
     let all = c.into_iter-row-iterator.ensures.into_iter_gives ∙ c.rows-row-items.ensures.items in
     let places = ap rows_places all ∙ rows_places-view_rows RowMajor v in
     record {
-      inside = subst (All (λ row. AreInside (length c.args.stored.now) (places_of row))) (sym all) (rows_inside v c.requires.within);
+      in_bounds = subst (All (λ row. AreInBounds (length c.args.stored.now) (places_of row))) (sym all) (rows_in_bounds v c.requires.within);
       count = ap length places ∙ length-view_places RowMajor view ∙ c.requires.count;
       distinct = subst (AllPairs (λ one other. one ≢ other)) (sym places);
       written = λ distinct new. subst (λ zs. HasWritten zs c.args.items.now c.args.stored.now new) places;
@@ -51,10 +51,10 @@ pub write_row-requires-in-loop-row : goal.write_row-requires-in-loop-row
 write_row-requires-in-loop-row g c =
     let row = c.in-Some-row.row in
     let count = length c.args.stored.now in
-    let here = All-head (λ row. AreInside count (places_of row)) _ _
-    (subst (All (λ row. AreInside count (places_of row))) c.in-Some-row.ensures.steps c.loop-row.invariant.inside) in
-    subst (λ n. AreInside n (row_places row.start row.stride (length c.split_at.result.0.now))) (sym c.loop-row.auto.stored)
-    (subst (λ n. AreInside count (row_places row.start row.stride n)) (sym c.split_at.ensures.front_len) here)
+    let here = All-head (λ row. AreInBounds count (places_of row)) _ _
+    (subst (All (λ row. AreInBounds count (places_of row))) c.in-Some-row.ensures.steps c.loop-row.invariant.in_bounds) in
+    subst (λ n. AreInBounds n (row_places row.start row.stride (length c.split_at.result.0.now))) (sym c.loop-row.auto.stored)
+    (subst (λ n. AreInBounds count (row_places row.start row.stride n)) (sym c.split_at.ensures.front_len) here)
 
 pub loop-row-preserved : goal.loop-row-preserved
 loop-row-preserved g c =
@@ -66,18 +66,18 @@ loop-row-preserved g c =
     let those : List g.row.T.Denot = c.split_at.result.1.now in
     let back : those ≡ drop row.len left = c.split_at.ensures.back in
     let cut = first_and_others first in
-    let inside = subst (All (λ row. AreInside count (places_of row))) first c.loop-row.invariant.inside in
+    let in_bounds = subst (All (λ row. AreInBounds count (places_of row))) first c.loop-row.invariant.in_bounds in
     let here = subst (λ n. AllPairs (λ one other. one ≢ other) (row_places row.start row.stride n)
     → HasWritten (row_places row.start row.stride n) these c.loop-row.stored c.write_row-in-loop-row.new.stored) c.split_at.ensures.front_len
     c.write_row-in-loop-row.ensures in
     record {
-      inside = All-tail (λ row. AreInside count (places_of row)) _ _ inside;
+      in_bounds = All-tail (λ row. AreInBounds count (places_of row)) _ _ in_bounds;
       count = omega (arith, length_left first, c.loop-row.invariant.count, ap length back, length-drop row.len left);
       distinct = λ distinct. second_distinct cut (c.loop-row.invariant.distinct distinct);
       written = λ distinct new others.
           let apart = c.loop-row.invariant.distinct distinct in
           c.loop-row.invariant.written distinct new
-          (parts_written cut count (All-head (λ row. AreInside count (places_of row)) _ _ inside).within apart (record {
+          (parts_written cut count (All-head (λ row. AreInBounds count (places_of row)) _ _ in_bounds).within apart (record {
             are = sym (take-append-drop row.len left) ∙ ap (λ items. items ++ drop row.len left) (sym c.split_at.ensures.front)
                 ∙ ap (λ items. these ++ items) (sym back);
           }) (here (first_distinct cut apart)) others);

@@ -4,13 +4,13 @@ use Rattle.std.specs.List.{All, AllPairs}
 use Rattle.ndarray_layout.specs.declared.Order.TheVariants.{RowMajor}
 use Rattle.ndarray_layout.specs.Rows.{rows_places}
 use Rattle.ndarray_layout.specs.View.{view_places}
-use Rattle.nd_owned.specs.private.Written.{AreInside, HasWritten}
+use Rattle.nd_owned.specs.private.Written.{AreInBounds, HasWritten}
 use Rattle.nd_owned.proofs.ViewRows.{places_of}
 use Rattle.nd_owned.proofs.rows.write_view.Given as goal
 
 abbrev pub invariant-loop-row : goal.invariant-loop-row
 invariant-loop-row g l = record {
-  inside : All (λ row. AreInside (length l.fn.stored) (places_of row)) l.row-iterator;
+  in_bounds : All (λ row. AreInBounds (length l.fn.stored) (places_of row)) l.row-iterator;
   count : length (rows_places l.row-iterator) ≡ length l.left;
   distinct : AllPairs (λ one other. one ≢ other) (view_places RowMajor l.fn.view)
       → AllPairs (λ one other. one ≢ other) (rows_places l.row-iterator);

@@ -4,8 +4,8 @@ use Rattle.std.specs.List.{All}
 use Rattle.std.specs.Prelude.{IfSome}
 use Rattle.std.specs.Result.{result_err}
 use Rattle.ndarray_layout.specs.declared.Fit.TheVariants.{Strict}
-use Rattle.ndarray_layout.specs.ArgumentFault.{argument_fault}
-use Rattle.ndarray_layout.specs.Meet.{Meet}
+use Rattle.ndarray_layout.specs.SliceFault.{argument_fault}
+use Rattle.ndarray_layout.specs.Intersect.{Intersect}
 use Rattle.ndarray_layout.proofs.laws.View.{lens_fit}
 use Rattle.nd_owned.specs.private.Checks.{IsIntersectionFaultOf}
 use Rattle.nd_owned.specs.Writes.{AreApart, IsIntersectionFault, slices_fault, write_of}
@@ -67,8 +67,8 @@ loop-at-preserved g c =
     let writes = map write_of given in
     let after = map write_of (take (length given - (i + 1)) (drop (i + 1) given)) in
     let apart : All (AreApart shape (write_of item)) after =
-    subst (λ slice. All (λ other. Meet Strict shape slice other.slice → ⊥) after) c.as_slice.ensures.value
-    (subst (λ lens. All (λ other. Meet Strict lens c.as_slice.result.now other.slice → ⊥) after)
+    subst (λ slice. All (λ other. Intersect Strict shape slice other.slice → ⊥) after) c.as_slice.ensures.value
+    (subst (λ lens. All (λ other. Intersect Strict lens c.as_slice.result.now other.slice → ⊥) after)
     (c.slice-shape.ensures.list ∙ c.dim.ensures.list) c.in_ok-check_apart_from.ensures) in
     record {
       apart = pairs_more (AreApart shape) writes (next write_of given i c.loop-at-test.true c.index-writes-at.is)

@@ -2,8 +2,8 @@
 use Rattle.std.proofs.Common.{IsSomeAnd, map, sym, ap, subst, ◌∙◌}
 use Rattle.std.proofs.lemmas.Bool.{false≢true}
 use Rattle.ndarray_layout.specs.declared.Fit.TheVariants.{Strict}
-use Rattle.ndarray_layout.specs.ArgumentFault.{argument_fault}
-use Rattle.ndarray_layout.specs.Meet.{Meet}
+use Rattle.ndarray_layout.specs.SliceFault.{argument_fault}
+use Rattle.ndarray_layout.specs.Intersect.{Intersect}
 use Rattle.nd_owned.specs.Writes.{write_of}
 use Rattle.nd_owned.specs.private.Ranges.{IsPast}
 use Rattle.nd_owned.proofs.Faults.{all_ended, all_more, ended, next, next_fits, this_got}
@@ -35,9 +35,9 @@ returns-then-share_an_index g c =
     let slice = c.args.slice.now in (
       c.from_kind.ensures,
       i,
-      subst (λ other. IsSomeAnd other (λ w. Meet Strict c.args.shape.now slice w.slice))
+      subst (λ other. IsSomeAnd other (λ w. Intersect Strict c.args.shape.now slice w.slice))
           (sym (this_got write_of c.args.others.now i c.loop-other-test.true c.loop-other-item.is))
-          (subst (Meet Strict c.args.shape.now slice) c.as_slice-other.ensures.value
+          (subst (Intersect Strict c.args.shape.now slice) c.as_slice-other.ensures.value
           (c.share_an_index.ensures.0 c.if-share_an_index.true)),
     )
 
@@ -48,10 +48,10 @@ loop-other-preserved g c =
     let slice = c.args.slice.now in
     let others = map write_of c.args.others.now in
     record {
-      apart = all_more (λ other. Meet Strict shape slice other.slice → ⊥) others
+      apart = all_more (λ other. Intersect Strict shape slice other.slice → ⊥) others
           (next write_of c.args.others.now i c.loop-other-test.true c.loop-other-item.is)
-          (λ meet. false≢true (sym c.if-share_an_index.false ∙ c.share_an_index.ensures.1
-          (subst (Meet Strict shape slice) (sym c.as_slice-other.ensures.value) meet))) c.loop-other.invariant.apart;
+          (λ intersect. false≢true (sym c.if-share_an_index.false ∙ c.share_an_index.ensures.1
+          (subst (Intersect Strict shape slice) (sym c.as_slice-other.ensures.value) intersect))) c.loop-other.invariant.apart;
       fit = (next_fits write_of shape c.args.others.now i c.loop-other-test.true c.loop-other-item.is c.loop-other.invariant.fit).1;
     }
 
@@ -59,5 +59,5 @@ pub returns : goal.returns
 returns g c =
     let i = c.loop-other.other-index in
     let others = map write_of c.args.others.now in
-    all_ended (λ other. Meet Strict c.args.shape.now c.args.slice.now other.slice → ⊥) others
+    all_ended (λ other. Intersect Strict c.args.shape.now c.args.slice.now other.slice → ⊥) others
     (ended write_of c.args.others.now i c.loop-other-test.false) c.loop-other.invariant.apart

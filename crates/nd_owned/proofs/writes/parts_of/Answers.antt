@@ -1,10 +1,10 @@
--- One more slice has its part, or none where it picks nothing; only memory can be refused.
+-- One more slice has its part, or none where it picks nothing; only an allocation can fail.
 use Rattle.std.proofs.Common.{◌≡◌, ◌+◌, None, List, ◌∷◌, length, map, drop, sym, ap, ◌∙◌, arith}
 use Rattle.std.specs.List.{flat_map}
 use Rattle.std.proofs.lemmas.Bool.{eq-eqb, eqb-true, false≢true}
 use Rattle.ndarray_layout.specs.declared.Fit.TheVariants.{Strict}
 use Rattle.ndarray_layout.specs.declared.Order.TheVariants.{RowMajor}
-use Rattle.ndarray_layout.specs.ArgumentFault.{argument_fault}
+use Rattle.ndarray_layout.specs.SliceFault.{argument_fault}
 use Rattle.ndarray_layout.specs.Size.{size}
 use Rattle.ndarray_layout.specs.SlicedView.{slice_of}
 use Rattle.ndarray_layout.specs.View.{LiesWithin, view_places}
@@ -32,7 +32,7 @@ loop-slice-preserved-then-is_empty g c =
       places = parts_skipped (write_places view) (flat_map (λ one. part_places one.part) c.loop-slice.parts.items) first (as_many ∙ none) c.loop-slice.invariant.places;
       items = parts_skipped (λ write. write.items) (flat_map (λ one. one.items.now) c.loop-slice.parts.items) first none c.loop-slice.invariant.items;
       counts = c.loop-slice.invariant.counts;
-      inside = c.loop-slice.invariant.inside;
+      in_bounds = c.loop-slice.invariant.in_bounds;
     }
 
 pub returns-in_err-part-clause-fault : goal.returns-in_err-part-clause-fault
@@ -81,8 +81,8 @@ loop-slice-preserved g c =
       counts = all_pushed (λ one. size (view_of_part one.part).shape ≡ length one.items.now) old _ pushed c.loop-slice.invariant.counts
           (ap (λ view. size view.shape) part ∙ sym (length-view_places RowMajor (slice_of Strict item.0.items view)) ∙ as_many
           ∙ sym (ap length c.as_slice-items.ensures.value));
-      inside = λ len within. all_pushed (λ one. LiesWithin len (view_of_part one.part)) old _ pushed
-          (c.loop-slice.invariant.inside len within) (c.in_ok-part.ensures.inside len within);
+      in_bounds = λ len within. all_pushed (λ one. LiesWithin len (view_of_part one.part)) old _ pushed
+          (c.loop-slice.invariant.in_bounds len within) (c.in_ok-part.ensures.in_bounds len within);
     }
 
 pub returns-clause-places : goal.returns-clause-places

@@ -16,5 +16,5 @@ invariant-loop-slice g l = record {
       ++ flat_map (λ write. write.items) (drop l.slice-index (map write_of l.writes))
       ≡ flat_map (λ write. write.items) (map write_of l.writes);
   counts : All (λ one. size (view_of_part one.part).shape ≡ length one.items.now) l.parts.items;
-  inside : (len : ℕ) → LiesWithin len l.view → All (λ one. LiesWithin len (view_of_part one.part)) l.parts.items;
+  in_bounds : (len : ℕ) → LiesWithin len l.view → All (λ one. LiesWithin len (view_of_part one.part)) l.parts.items;
 }

@@ -15,7 +15,7 @@ pub write-requires-clause-within : goal.write-requires-clause-within
 write-requires-clause-within g c =
     subst (λ count. LiesWithin count (view_of_part c.one-item.result.part)) (sym c.loop-one.auto.stored)
     (subst (λ one. LiesWithin (length c.args.stored.now) (view_of_part one.part)) (sym c.one-item.is)
-    (c.requires.inside c.loop-one.one-index c.one-item.result c.loop-one-test.true))
+    (c.requires.in_bounds c.loop-one.one-index c.one-item.result c.loop-one-test.true))
 
 pub loop-one-preserved : goal.loop-one-preserved
 loop-one-preserved g c =
@@ -35,7 +35,7 @@ loop-one-preserved g c =
           c.loop-one.invariant.written distinct new
           (parts_written cut count
           (places_lie_within count RowMajor (view_of_part one.part)
-          (subst (λ one. LiesWithin count (view_of_part one.part)) (sym c.one-item.is) (c.requires.inside i one c.loop-one-test.true))) apart
+          (subst (λ one. LiesWithin count (view_of_part one.part)) (sym c.one-item.is) (c.requires.in_bounds i one c.loop-one-test.true))) apart
           (record { are = ap (flat_map (λ one. one.items.now)) first }) (c.write.ensures (first_distinct cut apart)) others);
     }
 

@@ -1,4 +1,4 @@
-use Rattle.nd_shape.proofs.AxesWalk.{axes_in_order, axes_in_reverse}
+use Rattle.nd_shape.proofs.AxesIteration.{axes_in_order, axes_in_reverse}
 use Rattle.nd_shape.proofs.axes.axes_of.Goals as goal
 
 pub returns-clause-in_order : goal.returns-clause-in_order

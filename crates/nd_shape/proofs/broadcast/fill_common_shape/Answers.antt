@@ -1,5 +1,5 @@
 use Rattle.std.proofs.Common.{arith}
-use Rattle.nd_shape.proofs.CommonShape.{common_shape_by_axes, all_where_common_shape}
+use Rattle.nd_shape.proofs.CommonShapeByAxis.{common_shape_by_axes, all_where_common_shape}
 use Rattle.nd_shape.proofs.broadcast.fill_common_shape.Goals as goal
 
 pub stretched-requires : goal.stretched-requires

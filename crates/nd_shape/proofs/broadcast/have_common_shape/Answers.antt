@@ -1,7 +1,7 @@
 -- The loop's answer and that of the definition are yes together.
 use Rattle.std.proofs.Common.{arith}
 use Rattle.std.proofs.lemmas.Bool.Decides.{same_from_decides}
-use Rattle.nd_shape.proofs.CommonShape.{common_shape_where_all, all_where_common_shape}
+use Rattle.nd_shape.proofs.CommonShapeByAxis.{common_shape_where_all, all_where_common_shape}
 use Rattle.nd_shape.proofs.broadcast.have_common_shape.Goals as goal
 
 pub returns : goal.returns

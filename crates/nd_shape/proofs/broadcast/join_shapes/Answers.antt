@@ -1,7 +1,7 @@
 use Rattle.std.proofs.Common.{is_some, ap, arith}
 use Rattle.std.proofs.lemmas.Bool.{OnTrue_from}
 use Rattle.std.proofs.lemmas.Bool.Decides.{same_from_decides}
-use Rattle.nd_shape.proofs.CommonShape.{common_shape_by_axes, common_shape_where_all, all_where_common_shape}
+use Rattle.nd_shape.proofs.CommonShapeByAxis.{common_shape_by_axes, common_shape_where_all, all_where_common_shape}
 use Rattle.nd_shape.proofs.broadcast.join_shapes.Goals as goal
 
 pub returns-clause-fits : goal.returns-clause-fits

@@ -5,7 +5,7 @@ use Rattle.nd_dim.specs.Strides.{size_until}
 use Rattle.nd_dim.proofs.laws.Strides.{fortran_at}
 use Rattle.nd_base.proofs.laws.NonzeroSize.{size_le_nonzero_size}
 use Rattle.nd_base.proofs.laws.Size.{size_take_le, size_take_more}
-use Rattle.nd_shape.specs.LayoutOrder.{MeetsOrderRule}
+use Rattle.nd_shape.specs.LayoutOrder.{SatisfiesOrderRule}
 use Rattle.nd_shape.proofs.OrderRule.{axis_by_rule, rule_by_axes}
 use Rattle.nd_shape.proofs.layout_order.has_strides.Given.{Over}
 use Rattle.nd_shape.proofs.layout_order.has_strides.Goals as goal
@@ -50,7 +50,7 @@ returns-then-item-size g c =
     let strides = g.S.Sequence.items c.args.strides.now in
     let k = c.loop-k.k in
     let fits : Fits w64 (get_or strides k 0) = omega (arith, c.item.ensures, c.item.type_inv) in
-    let standard : MeetsOrderRule ColumnMajor lens (all_signed strides) → get_or strides k 0 ≡ c.loop-k.size =
+    let standard : SatisfiesOrderRule ColumnMajor lens (all_signed strides) → get_or strides k 0 ≡ c.loop-k.size =
     λ rule. axis_by_rule ColumnMajor lens strides c.requires.same_count k fits c.requires.some rule (omega arith)
     (λ e. c.if-len-ne1.true (c.item-len.ensures ∙ e))
     ∙ fortran_at lens k c.requires.some (omega arith)

@@ -4,7 +4,7 @@ use Rattle.nd_base.specs.declared.order.Order.TheVariants.{RowMajor}
 use Rattle.nd_base.proofs.laws.Definitions.{all_signed, is_empty, nonzero_size}
 use Rattle.nd_base.proofs.laws.NonzeroSize.{nonzero_size-reverse}
 use Rattle.nd_base.proofs.laws.Size.{is_empty-reverse}
-use Rattle.nd_shape.specs.LayoutOrder.{MeetsOrderRule}
+use Rattle.nd_shape.specs.LayoutOrder.{SatisfiesOrderRule}
 use Rattle.nd_shape.proofs.OrderRule.{lies_by_rule, rule_back}
 use Rattle.nd_shape.proofs.layout_order.is_layout_c.Goals as goal
 
@@ -14,7 +14,7 @@ returns-then-contains g c =
     let strides = g.D.Lengths.list c.args.strides.now in
     let count = c.requires.same_count in
     let none = ap is_empty (sym c.slice.ensures.list) ∙ sym c.contains.ensures.value ∙ c.if-contains.true in
-    let rule : IsTrue true ↔ MeetsOrderRule RowMajor lens (all_signed strides) = (λ t. inl none, λ r. refl) in
+    let rule : IsTrue true ↔ SatisfiesOrderRule RowMajor lens (all_signed strides) = (λ t. inl none, λ r. refl) in
     record { places = lies_by_rule RowMajor lens strides count rule; rule = rule }
 
 pub has_strides-requires-clause-some : goal.has_strides-requires-clause-some
@@ -35,6 +35,6 @@ returns g c =
     let count = c.requires.same_count in
     let back = rw (c.slice-2.ensures.list, c.slice-3.ensures.list) at c.has_strides.ensures in
     let turned = rule_back lens strides c.requires.same_count in
-    let rule : IsTrue c.has_strides.result ↔ MeetsOrderRule RowMajor lens (all_signed strides) =
+    let rule : IsTrue c.has_strides.result ↔ SatisfiesOrderRule RowMajor lens (all_signed strides) =
     (λ t. turned.0 (back.0 t), λ r. back.1 (turned.1 r)) in
     record { places = lies_by_rule RowMajor lens strides count rule; rule = rule }

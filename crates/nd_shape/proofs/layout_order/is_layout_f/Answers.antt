@@ -2,7 +2,7 @@ use Rattle.std.specs.Prelude.{IsTrue}
 use Rattle.std.proofs.Common.{◌↔◌, true, inl, refl, sym, ap, ◌∙◌}
 use Rattle.nd_base.specs.declared.order.Order.TheVariants.{ColumnMajor}
 use Rattle.nd_base.proofs.laws.Definitions.{all_signed, is_empty}
-use Rattle.nd_shape.specs.LayoutOrder.{MeetsOrderRule}
+use Rattle.nd_shape.specs.LayoutOrder.{SatisfiesOrderRule}
 use Rattle.nd_shape.proofs.OrderRule.{lies_by_rule}
 use Rattle.nd_shape.proofs.layout_order.is_layout_f.Goals as goal
 
@@ -12,7 +12,7 @@ returns-then-contains g c =
     let strides = g.D.Lengths.list c.args.strides.now in
     let count = c.requires.same_count in
     let none = ap is_empty (sym c.slice.ensures.list) ∙ sym c.contains.ensures.value ∙ c.if-contains.true in
-    let rule : IsTrue true ↔ MeetsOrderRule ColumnMajor lens (all_signed strides) = (λ t. inl none, λ r. refl) in
+    let rule : IsTrue true ↔ SatisfiesOrderRule ColumnMajor lens (all_signed strides) = (λ t. inl none, λ r. refl) in
     record { places = lies_by_rule ColumnMajor lens strides count rule; rule = rule }
 
 pub returns : goal.returns

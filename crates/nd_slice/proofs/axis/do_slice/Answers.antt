@@ -3,7 +3,7 @@ use Rattle.std.proofs.lemmas.Int.{to_z-of_z}
 use Rattle.nd_slice.proofs.Definitions.{first_offset, picked_stride, picks, signed}
 use Rattle.nd_slice.proofs.laws.Picked.{pick_offset}
 use Rattle.nd_slice.proofs.laws.Picks.{pick_below}
-use Rattle.nd_slice.proofs.laws.SliceFault.{fits_of_no_fault}
+use Rattle.nd_slice.proofs.laws.AxisFault.{fits_of_no_fault}
 use Rattle.nd_slice.proofs.axis.do_slice.Goals as goal
 
 pub returns-clause-steps : goal.returns-clause-steps

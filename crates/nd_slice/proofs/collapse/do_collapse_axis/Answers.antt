@@ -1,4 +1,4 @@
--- An entry of an axis of a valid layout lies no farther than the span.
+-- A coordinate of an axis of a valid layout lies no farther than the span.
 use Rattle.std.proofs.Common.{◌≡◌, pos, get_or, ap, arith, w64, ◌-◌, ◌≤◌}
 use Rattle.std.proofs.lemmas.Int.{fits_signed_mul}
 use Rattle.std.proofs.lemmas.List.{get_or-map, length-map}

@@ -1,10 +1,10 @@
 use Rattle.std.proofs.Common.{rules, ◌≡◌, ◌<◌, ◌^◌, refl, sym, ◌∙◌}
 use Rattle.std.proofs.lemmas.Bool.{both_ways}
 use Rattle.std.proofs.lemmas.List.Elements.{All-same}
-use Rattle.nd_slice.proofs.laws.ArgumentFault.{elements_of_no_fault}
+use Rattle.nd_slice.proofs.laws.SliceFault.{elements_of_no_fault}
 use Rattle.nd_slice.proofs.laws.AxisElems.{lens_of_axis_elems}
-use Rattle.nd_slice.proofs.laws.Meet.{meet_by_axis}
-use Rattle.nd_slice.proofs.intersection.Meeting.{lens_of, go_on, stop, at_end}
+use Rattle.nd_slice.proofs.laws.Intersect.{intersect_by_axis}
+use Rattle.nd_slice.proofs.intersect_lemmas.Intersecting.{lens_of, go_on, stop, at_end}
 use Rattle.nd_slice.proofs.Definitions.{axis_elems}
 use Rattle.nd_slice.proofs.intersect.elems_intersect.Goals as goal
 
@@ -27,10 +27,10 @@ loop-len-init c =
 
 pub returns-then-not-elems_share : goal.returns-then-not-elems_share
 returns-then-not-elems_share c =
-    let by_axis = meet_by_axis c.args.fit c.args.shape.now c.args.first.now c.args.second.now c.requires.first_fits in (
+    let by_axis = intersect_by_axis c.args.fit c.args.shape.now c.args.first.now c.args.second.now c.requires.first_fits in (
       λ is. absurd (cc),
-      λ meet. absurd (stop c.loop-len.invariant c.in-Some.ensures.steps c.in-Some-next.ensures.steps
-          (λ both. both_ways c.elems_share.result c.if-not-elems_share.true (c.elems_share.ensures.1 both)) (by_axis.0 meet)),
+      λ intersect. absurd (stop c.loop-len.invariant c.in-Some.ensures.steps c.in-Some-next.ensures.steps
+          (λ both. both_ways c.elems_share.result c.if-not-elems_share.true (c.elems_share.ensures.1 both)) (by_axis.0 intersect)),
     )
 
 pub loop-len-preserved : goal.loop-len-preserved
@@ -39,5 +39,5 @@ loop-len-preserved c =
 
 pub returns : goal.returns
 returns c =
-    let by_axis = meet_by_axis c.args.fit c.args.shape.now c.args.first.now c.args.second.now c.requires.first_fits in
-    (λ is. by_axis.1 (at_end c.loop-len.invariant c.in-None.ensures.steps.0), λ meet. refl)
+    let by_axis = intersect_by_axis c.args.fit c.args.shape.now c.args.first.now c.args.second.now c.requires.first_fits in
+    (λ is. by_axis.1 (at_end c.loop-len.invariant c.in-None.ensures.steps.0), λ intersect. refl)

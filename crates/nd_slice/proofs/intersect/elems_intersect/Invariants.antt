@@ -1,6 +1,6 @@
--- The axes that are left decide whether the arguments meet.
+-- The axes that are left decide whether the arguments intersect.
 use Rattle.nd_slice.proofs.Definitions.{axis_picks}
-use Rattle.nd_slice.proofs.intersection.Meeting.{IsDecided}
+use Rattle.nd_slice.proofs.intersect_lemmas.Intersecting.{IsDecided}
 use Rattle.nd_slice.proofs.intersect.elems_intersect.Given as goal
 
 abbrev pub invariant-loop-len : goal.invariant-loop-len

@@ -1,4 +1,4 @@
--- Axes that are there can be merged exactly where a stride has the entries of both.
+-- Axes that are there can be merged exactly where a stride has the coordinates of both.
 use Rattle.std.proofs.Common.{Some, ap, sym, ◌∙◌}
 use Rattle.ndarray_layout.proofs.laws.MergedView.{merge_fault_of_answer}
 use Rattle.ndarray_layout.proofs.runs.merge_axes_of.Goals as goal

@@ -29,7 +29,7 @@ loop-at-preserved c =
     let there = next c.args.steps.now c.loop-at.at c.loop-at-test.true c.index-steps-at.is in
     rw taken (one_more _ c.loop-at.at _ c.args.view c.loop-at.view there c.loop-at.invariant c.start-start.ensures.is_view fits)
 
--- the step that is refused is the one that there is at this number
+-- the step that fails is the one that there is at this number
 there : (c : goal.In-Err) → slice_get (map step_value c.args.steps.now) c.loop-at.at ≡ Some (step_value c.index-steps-at.result)
 there c = next c.args.steps.now c.loop-at.at c.loop-at-test.true c.index-steps-at.is
 

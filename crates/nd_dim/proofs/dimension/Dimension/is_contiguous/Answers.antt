@@ -17,4 +17,4 @@ returns-clause-exact g c some =
     let strides = all_signed (g.Self.Lengths.list c.args.strides.now) in
     let count = c.requires.same_count ∙ sym (length-map (g.Self.Lengths.list c.args.strides.now) signed) in
     let exactly = contiguous_exactly lens strides count some in
-    (λ t. exactly.0 (sym (returns-clause-rule g c) ∙ t), λ stretch. returns-clause-rule g c ∙ exactly.1 stretch)
+    (λ t. exactly.0 (sym (returns-clause-rule g c) ∙ t), λ interval. returns-clause-rule g c ∙ exactly.1 interval)

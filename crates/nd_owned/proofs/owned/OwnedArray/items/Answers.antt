@@ -1,4 +1,4 @@
--- The items are those at the places of the slice; where it has none, no memory is refused.
+-- The items are those at the places of the slice; where it has none, no allocation fails.
 use Rattle.std.proofs.Common.{◌≡◌, length, map, sym, ap, subst, ◌∙◌}
 use Rattle.std.proofs.lemmas.Bool.{false≢true}
 use Rattle.ndarray_layout.specs.declared.Fit.TheVariants.{Strict}
@@ -11,7 +11,7 @@ use Rattle.nd_owned.specs.private.Parts.{view_of_part}
 use Rattle.nd_owned.proofs.owned.OwnedArray.items.Goals as goal
 
 pub read-requires : goal.read-requires
-read-requires g c = rw (c.as_slice.ensures.value) (c.in_ok-part.ensures.inside (length c.self.inside.items.items) c.self.invariant.within)
+read-requires g c = rw (c.as_slice.ensures.value) (c.in_ok-part.ensures.in_bounds (length c.self.inside.items.items) c.self.invariant.within)
 
 pub returns-clause-items : goal.returns-clause-items
 returns-clause-items g c =

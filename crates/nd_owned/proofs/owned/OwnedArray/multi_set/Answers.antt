@@ -28,9 +28,9 @@ returns-in_err-parts-clause-fault g c =
     (subst (λ array. IsFaultOfWrites array.view.shape writes None) c.self.view_is
     (no_fault c.self.inside.view.shape writes (sym c.in_ok-check_counts.ensures) c.in_ok-check_apart.ensures))
 
-pub write_all-requires-clause-inside : goal.write_all-requires-clause-inside
-write_all-requires-clause-inside g c =
-    rw (c.as_slice.ensures.value, c.as_mut_slice.ensures.value) (c.in_ok-parts.ensures.inside (length c.self.inside.items.items)
+pub write_all-requires-clause-in_bounds : goal.write_all-requires-clause-in_bounds
+write_all-requires-clause-in_bounds g c =
+    rw (c.as_slice.ensures.value, c.as_mut_slice.ensures.value) (c.in_ok-parts.ensures.in_bounds (length c.self.inside.items.items)
     c.self.invariant.within)
 
 pub returns-2-clause-fault : goal.returns-2-clause-fault

@@ -3,7 +3,7 @@ use Rattle.std.proofs.Common.{◌≡◌, ◌≢◌, ◌++◌, None, [], ◌∷�
 use Rattle.std.proofs.lemmas.List.{take_at}
 use Rattle.std.specs.List.{AllPairs}
 use Rattle.ndarray_layout.specs.declared.Fit.TheVariants.{Strict}
-use Rattle.ndarray_layout.specs.ArgumentFault.{argument_fault}
+use Rattle.ndarray_layout.specs.SliceFault.{argument_fault}
 use Rattle.nd_owned.specs.private.Written.{HasWritten}
 use Rattle.nd_owned.specs.Writes.{write_of, write_places}
 use Rattle.nd_owned.proofs.Faults.{both_none, have_counts}
@@ -12,7 +12,7 @@ use Rattle.nd_owned.proofs.owned.OwnedArray.set_one.Goals as goal
 
 pub write-requires-clause-within : goal.write-requires-clause-within
 write-requires-clause-within g c =
-    rw (c.as_mut_slice.ensures.value) (c.in_ok-part.ensures.inside (length c.self.inside.items.items) c.self.invariant.within)
+    rw (c.as_mut_slice.ensures.value) (c.in_ok-part.ensures.in_bounds (length c.self.inside.items.items) c.self.invariant.within)
 
 pub returns-clause-written : goal.returns-clause-written
 returns-clause-written g c =

@@ -2,8 +2,8 @@ use Rattle.std.proofs.Common.{rules, ◌≡◌, arith, ap, sym, ◌∙◌, refl,
 use Rattle.std.specs.Int.{w128, int_rem_euclid}
 use Rattle.std.proofs.lemmas.Int.{ints, to_z_pos, to_z-of_z}
 use Rattle.nd_slice.proofs.Definitions.{IsLeastSolution, added_of, magnitude}
-use Rattle.nd_slice.proofs.intersection.Signs.{of_non_negative}
-use Rattle.nd_slice.proofs.intersection.Equations.{IsRest, least_solution, rest_divisors}
+use Rattle.nd_slice.proofs.intersect_lemmas.Signs.{of_non_negative}
+use Rattle.nd_slice.proofs.intersect_lemmas.Equations.{IsRest, least_solution, rest_divisors}
 use Rattle.nd_slice.proofs.intersect.equation.solve_linear_diophantine_eq.Goals as goal
 use Rattle.nd_slice.proofs.intersect.equation.solve_linear_diophantine_eq.Goals.{After-least_multiplier-found}
 

@@ -1,5 +1,5 @@
 use Rattle.std.proofs.Common.{◌+◌, ◌*◌, ◌/◌, ◌%◌, arith}
-use Rattle.nd_slice.proofs.intersection.Steps.{step, part_within, ended}
+use Rattle.nd_slice.proofs.intersect_lemmas.Steps.{step, part_within, ended}
 use Rattle.nd_slice.proofs.intersect.euclid.common_divisor.Goals as goal
 
 pub overflow_add-after_second : goal.overflow_add-after_second

@@ -1,4 +1,4 @@
-use Rattle.nd_slice.proofs.intersection.Steps.{IsStep}
+use Rattle.nd_slice.proofs.intersect_lemmas.Steps.{IsStep}
 use Rattle.nd_slice.proofs.intersect.euclid.common_divisor.Given as goal
 
 abbrev pub invariant-loop-rest : goal.invariant-loop-rest

@@ -3,7 +3,7 @@ use Rattle.std.specs.Int.{w128}
 use Rattle.std.proofs.lemmas.Int.{ints, to_z_pos, to_z-of_z}
 use Rattle.std.proofs.lemmas.Nat.Gcd.{IsGcd-swap, le_of_dvd}
 use Rattle.nd_slice.proofs.Definitions.{magnitude}
-use Rattle.nd_slice.proofs.intersection.Signs.{factors, gcd_of_zero, first_factor, second_factor}
+use Rattle.nd_slice.proofs.intersect_lemmas.Signs.{factors, gcd_of_zero, first_factor, second_factor}
 use Rattle.nd_slice.proofs.intersect.euclid.extended_gcd.Goals as goal
 
 pub returns-then-a-eq0-clause-gcd : goal.returns-then-a-eq0-clause-gcd

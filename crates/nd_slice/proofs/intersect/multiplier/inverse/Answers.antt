@@ -1,7 +1,7 @@
 use Rattle.std.proofs.Common.{◌<◌, false}
 use Rattle.std.proofs.lemmas.Nat.{le-div}
-use Rattle.nd_slice.proofs.intersection.Multiples.{divisor_some, inverse_back}
-use Rattle.nd_slice.proofs.intersection.Steps.{AreApart}
+use Rattle.nd_slice.proofs.intersect_lemmas.Multiples.{divisor_some, inverse_back}
+use Rattle.nd_slice.proofs.intersect_lemmas.Steps.{AreApart}
 use Rattle.nd_slice.proofs.intersect.multiplier.inverse.Goals as goal
 use Rattle.nd_slice.proofs.intersect.multiplier.inverse.Goals.{After-common_divisor-found}
 

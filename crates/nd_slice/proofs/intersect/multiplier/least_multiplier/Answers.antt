@@ -2,8 +2,8 @@ use Rattle.std.proofs.Common.{◌+◌, ◌-◌, ◌*◌, ◌/◌, ◌<◌, ◌�
 use Rattle.std.proofs.lemmas.Nat.{mod_below}
 use Rattle.std.proofs.lemmas.Nat.Gcd.{dvd_refl, dvd-zero, dvd_of_mod-eq-zero}
 use Rattle.std.specs.Int.{◌∣◌, IsGcd}
-use Rattle.nd_slice.proofs.intersection.Multiples.{IsFound, divisor_some, quotient_some, found_least, same_quotient, no_divisor}
-use Rattle.nd_slice.proofs.intersection.Multiples.{that_divisor, rest_divided}
+use Rattle.nd_slice.proofs.intersect_lemmas.Multiples.{IsFound, divisor_some, quotient_some, found_least, same_quotient, no_divisor}
+use Rattle.nd_slice.proofs.intersect_lemmas.Multiples.{that_divisor, rest_divided}
 use Rattle.nd_slice.proofs.intersect.multiplier.least_multiplier.Goals as goal
 use Rattle.nd_slice.proofs.intersect.multiplier.least_multiplier.Goals.{After-inverse-gcd, After-multiply_mod-back}
 

@@ -1,7 +1,7 @@
 use Rattle.std.proofs.Common.{rules, ◌≡◌, arith, ap, ◌∙◌, to_z, of_z, ◌≤ℤ◌, ◌<ℤ◌, w64}
 use Rattle.std.proofs.lemmas.Int.{ints, to_z-of_z}
 use Rattle.nd_slice.proofs.Definitions.{magnitude}
-use Rattle.nd_slice.proofs.intersection.Sequences.{IsShared, IsMeasured, meets_on, meets_back, meets_none}
+use Rattle.nd_slice.proofs.intersect_lemmas.Sequences.{IsShared, IsMeasured, intersects_on, intersects_back, intersects_none}
 use Rattle.nd_slice.proofs.intersect.sequence.arith_seq_intersect.Goals as goal
 use Rattle.nd_slice.proofs.intersect.sequence.arith_seq_intersect.Goals.{After-min-greatest, After-abs_diff-ahead}
 
@@ -29,7 +29,7 @@ returns-then-least-greatest c =
     let at = (goal.at.returns-then-least-greatest c).After-min-greatest in
     let ends = ends_kept at in
     let order : c.min-greatest.result <ℤ c.max-least.result = grind (arith, ints, c.if-least-greatest.true) in
-    (λ is. absurd (cc), λ meets. absurd (meets_none (shared at) order meets))
+    (λ is. absurd (cc), λ intersects. absurd (intersects_none (shared at) order intersects))
 
 measured : (c : After-abs_diff-ahead)
     → IsMeasured c.args.first c.args.second c.max-least.result c.min-greatest.result c.abs_diff-ahead.result c.abs_diff-room.result
@@ -55,15 +55,15 @@ returns-then-first-second c =
     let at = (goal.at.returns-then-first-second c).After-abs_diff-ahead in
     let firsts = first_kept ((goal.at.returns-then-first-second c).After-min-greatest) in
     let way : c.args.first.0 ≤ℤ c.args.second.0 = grind (arith, ints, c.if-first-second.true) in
-    let meets = meets_on (measured at) way in
-    let known = rw (first_size at, second_size at) at c.meets_within.ensures in
-    (λ is. meets.0 (known.0 is), λ both. known.1 (meets.1 both))
+    let intersects = intersects_on (measured at) way in
+    let known = rw (first_size at, second_size at) at c.intersects_within.ensures in
+    (λ is. intersects.0 (known.0 is), λ both. known.1 (intersects.1 both))
 
 pub returns-else-first-second : goal.returns-else-first-second
 returns-else-first-second c =
     let at = (goal.at.returns-else-first-second c).After-abs_diff-ahead in
     let firsts = first_kept ((goal.at.returns-else-first-second c).After-min-greatest) in
     let way : c.args.second.0 ≤ℤ c.args.first.0 = grind (arith, ints, c.if-first-second.false) in
-    let meets = meets_back (measured at) way in
-    let known = rw (first_size at, second_size at) at c.meets_within-else-first-second.ensures in
-    (λ is. meets.0 (known.0 is), λ both. known.1 (meets.1 both))
+    let intersects = intersects_back (measured at) way in
+    let known = rw (first_size at, second_size at) at c.intersects_within-else-first-second.ensures in
+    (λ is. intersects.0 (known.0 is), λ both. known.1 (intersects.1 both))

@@ -1,18 +1,18 @@
 -- A shared pick is in both ranges; where these overlap, the lists of picks are compared.
 use Rattle.std.proofs.Common.{◌≡◌, true, pos, arith, ◌↔◌}
-use Rattle.nd_slice.proofs.Definitions.{SequencesMeet, magnitude}
-use Rattle.nd_slice.proofs.intersection.Signs.{of_non_negative}
-use Rattle.nd_slice.proofs.laws.PickSequences.{ArePicks, inside_range, picks_meet}
+use Rattle.nd_slice.proofs.Definitions.{SequencesIntersect, magnitude}
+use Rattle.nd_slice.proofs.intersect_lemmas.Signs.{of_non_negative}
+use Rattle.nd_slice.proofs.laws.PickSequences.{ArePicks, in_range, share_a_pick}
 use Rattle.nd_slice.proofs.picks.AxisPicks.intersects.Goals as goal
 
 pub returns-then-max-min : goal.returns-then-max-min
 returns-then-max-min c = (
   λ is. absurd (cc),
-  λ meet.
+  λ intersect.
       let one = c.args.self in
       let other = c.args.other in
-      let first = inside_range one.step one.start one.end meet.0 one.moves meet.1 in
-      let second = inside_range other.step other.start other.end meet.0 other.moves meet.2 in
+      let first = in_range one.step one.start one.end intersect.0 one.moves intersect.1 in
+      let second = in_range other.step other.start other.end intersect.0 other.moves intersect.2 in
       absurd (omega (arith, first.0, first.1, second.0, second.1)),
 )
 
@@ -28,9 +28,9 @@ returns c =
     record { moves = one.moves; ends = (p.least, p.greatest, p.between) } in
     let second : ArePicks other.step other.start other.end (magnitude y.0) (magnitude y.1) =
     record { moves = other.moves; ends = (q.least, q.greatest, q.between) } in
-    let meet = picks_meet first second in
+    let intersect = share_a_pick first second in
     let known : (c.arith_seq_intersect.result ≡ true)
-    ↔ SequencesMeet (pos (magnitude x.0), pos (magnitude x.1), one.step) (pos (magnitude y.0), pos (magnitude y.1), other.step) =
+    ↔ SequencesIntersect (pos (magnitude x.0), pos (magnitude x.1), one.step) (pos (magnitude y.0), pos (magnitude y.1), other.step) =
     rw (
       ← of_non_negative x.0 p.signs.0,
       ← of_non_negative x.1 p.signs.1,
@@ -39,4 +39,4 @@ returns c =
       ← p.step,
       ← q.step,
     ) c.arith_seq_intersect.ensures in
-    (λ is. meet.0 (known.0 is), λ both. known.1 (meet.1 both))
+    (λ is. intersect.0 (known.0 is), λ both. known.1 (intersect.1 both))

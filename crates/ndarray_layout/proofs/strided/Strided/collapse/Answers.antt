@@ -16,9 +16,9 @@ use Rattle.ndarray_layout.proofs.strided.Strided.collapse.Goals as goal
 abbrev here : (g : Over) → After-do_collapse_axis-offset g → View
 here g c = view_of c.self.inside.start (g.D.Lengths.list c.self.inside.dim) (g.D.Lengths.list c.self.inside.strides)
 
--- the entry can be taken
+-- the coordinate can be taken
 fits : (g : Over) (c : After-do_collapse_axis-offset g) → collapse_fault (here g c).shape c.args.axis.0 c.args.index ≡ None
-fits g c = rw c.slice.ensures.list at (c.if-not-has_entry.ensures.0 refl)
+fits g c = rw c.slice.ensures.list at (c.if-not-has_coordinate.ensures.0 refl)
 
 -- and lies so far from the first
 moved : (g : Over) (c : After-do_collapse_axis-offset g)

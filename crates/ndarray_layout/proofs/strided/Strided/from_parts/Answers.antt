@@ -3,10 +3,10 @@ use Rattle.std.proofs.Common.{◌≡◌, ℕ, ◌-◌, ℤ, true, false, None, S
 use Rattle.nd_base.proofs.laws.Definitions.{all_signed, high_span, is_empty, low_span, span}
 use Rattle.nd_base.proofs.laws.Span.{low_high_span}
 use Rattle.nd_shape.specs.Acceptance.{may_share}
-use Rattle.nd_shape.specs.declared.checks.CanIndexCheckMode.TheVariants.{OwnedMutable}
+use Rattle.nd_shape.specs.declared.acceptance.CanIndexCheckMode.TheVariants.{OwnedMutable}
 use Rattle.ndarray_layout.specs.AcceptanceFrom.{acceptance_from, leaves_data_from}
 use Rattle.ndarray_layout.proofs.FromStart.{accepted, leaves_above, leaves_below, outside, shared, shares_owned, shares_read}
-use Rattle.ndarray_layout.proofs.laws.AcceptanceFrom.{placed_inside, placed_is_view}
+use Rattle.ndarray_layout.proofs.laws.AcceptanceFrom.{placed_in_bounds, placed_is_view}
 use Rattle.ndarray_layout.proofs.strided.Strided.from_parts.Given.{Over}
 use Rattle.ndarray_layout.proofs.strided.Strided.from_parts.Goals as goal
 use Rattle.ndarray_layout.proofs.strided.Strided.from_parts.Goals.{Joined-else-eq, then-start-low-via-then-start-low}
@@ -88,7 +88,7 @@ returns-clause-fault g c = passes g c
 pub returns-clause-is_view : goal.returns-clause-is_view
 returns-clause-is_view g c = invariant_of-result g c
 
-pub returns-clause-inside : goal.returns-clause-inside
-returns-clause-inside g c =
-    placed_inside c.args.start c.args.elem_size c.args.len c.args.mode (g.D.Lengths.list c.args.dim)
+pub returns-clause-in_bounds : goal.returns-clause-in_bounds
+returns-clause-in_bounds g c =
+    placed_in_bounds c.args.start c.args.elem_size c.args.len c.args.mode (g.D.Lengths.list c.args.dim)
     (all_signed (g.D.Lengths.list c.args.strides)) (sym (passes g c))

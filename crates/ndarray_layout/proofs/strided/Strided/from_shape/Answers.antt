@@ -3,8 +3,8 @@ use Rattle.std.proofs.Common.{◌≡◌, ℕ, ◌≤◌, List, arith, subst, sym
 use Rattle.nd_base.proofs.laws.Definitions.{all_signed, limit, nonzero_size, low_span, IsValidLayout}
 use Rattle.nd_base.proofs.laws.NonzeroSize.{size_le_nonzero_size}
 use Rattle.ndarray_layout.specs.View.{IsView, view_of}
-use Rattle.nd_shape.specs.OwnedRule.{MeetsOwnedRule}
-use Rattle.ndarray_layout.proofs.AcceptedRule.{by_strides_meet}
+use Rattle.nd_shape.specs.NoAlias.{SatisfiesNoAliasRule}
+use Rattle.ndarray_layout.proofs.AcceptedRule.{by_strides_satisfy}
 use Rattle.ndarray_layout.proofs.laws.View.{lowest_view}
 use Rattle.ndarray_layout.proofs.strided.Strided.from_shape.Goals as goal
 
@@ -31,6 +31,6 @@ returns-clause-is_view g c =
 
 pub returns-clause-rule : goal.returns-clause-rule
 returns-clause-rule g c = λ why some.
-    subst (λ strides. MeetsOwnedRule (g.D.Lengths.list c.args.shape.dim) (all_signed strides)) (sym c.in_ok-strides.ensures.list)
-    (by_strides_meet c.args.elem_size c.args.len g.D.Lengths.list (g.D.Lengths.list c.args.shape.dim) c.args.shape.strides
+    subst (λ strides. SatisfiesNoAliasRule (g.D.Lengths.list c.args.shape.dim) (all_signed strides)) (sym c.in_ok-strides.ensures.list)
+    (by_strides_satisfy c.args.elem_size c.args.len g.D.Lengths.list (g.D.Lengths.list c.args.shape.dim) c.args.shape.strides
     (sym c.in_ok-can_index_slice_with_strides.ensures.fault) why some)

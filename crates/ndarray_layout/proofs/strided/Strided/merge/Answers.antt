@@ -42,7 +42,7 @@ outcome g c =
     c.merge_axes.result c.self.inside.start c.merge_axes.ensures.shape c.merge_axes.ensures.strides
     ∙ ap (λ (view : View). cond c.merge_axes.result (merge_of c.args.take.0 c.args.into.0 view) view) c.self.view_is
 
--- it was merged exactly where some stride has the entries of both
+-- it was merged exactly where some stride has the coordinates of both
 fits : (g : Over) (c : goal.After-merge_axes g) → (c.merge_axes.result ≡ true) ↔ HasMergedStride c.args.take.0 c.args.into.0 c.args.self.now
 fits g c =
     let shape = g.D.Lengths.list c.self.inside.dim in

@@ -1,6 +1,6 @@
 use Rattle.std.proofs.Common.{◌≡◌, ◌^◌, pos, map, length, refl, sym, ap, subst, ◌∙◌, arith}
 use Rattle.std.specs.List.{All}
-use Rattle.nd_base.proofs.laws.Definitions.{IsInside, size}
+use Rattle.nd_base.proofs.laws.Definitions.{IsInBounds, size}
 use Rattle.nd_base.proofs.laws.NonzeroSize.{size_le_nonzero_size}
 use Rattle.ndarray_layout.specs.View.{View, IsView, view_of, view_places}
 use Rattle.ndarray_layout.proofs.laws.Rows.{places_fit}
@@ -22,7 +22,7 @@ push_rows-requires g c =
     let count = ap length all ∙ length-view_places c.args.order view in
     let known = c.product-size.ensures ∙ ap size (c.slice.ensures.list ∙ sym c.slice-shape.ensures.list) in
     record {
-      inside = subst (All (IsInside (2 ^ 63))) (sym all) (places_fit c.args.order is);
+      in_bounds = subst (All (IsInBounds (2 ^ 63))) (sym all) (places_fit c.args.order is);
       few = omega (arith, count, size_le_nonzero_size view.shape, is.valid.size_fits);
       room = omega (arith, count, known, c.in_ok-places.ensures.len, c.in_ok-places.ensures.exact);
     }
@@ -52,6 +52,6 @@ returns g c =
       );
       capacity = c.push_rows.ensures.capacity ∙ c.in_ok-places.ensures.exact ∙ known;
       at_flat_index = λ r below. item_at_flat_index order view items r same below;
-      inside = λ len within. items_lie_within len order view items same within;
+      in_bounds = λ len within. items_lie_within len order view items same within;
       memory = λ none. refl;
     })

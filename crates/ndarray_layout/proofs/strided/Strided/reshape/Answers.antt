@@ -2,7 +2,7 @@
 use Rattle.std.proofs.Common.{◌≡◌, ap, refl, subst, sym}
 use Rattle.ndarray_layout.specs.ReshapedView.{reshape_of}
 use Rattle.ndarray_layout.specs.View.{View, view_of, view_places}
-use Rattle.ndarray_layout.proofs.laws.ReshapedView.{reshape_refusal-ReshapeFits, Descends-reshape_of, view_places-reshape_of}
+use Rattle.ndarray_layout.proofs.laws.ReshapedView.{view_reshape_fault-ReshapeFits, Descends-reshape_of, view_places-reshape_of}
 use Rattle.ndarray_layout.proofs.strided.Strided.reshape.Given.{Over}
 use Rattle.ndarray_layout.proofs.strided.Strided.reshape.Goals as goal
 use Rattle.ndarray_layout.proofs.strided.Strided.reshape.Goals.{In_ok-duplicate}
@@ -15,11 +15,11 @@ reshaped g c =
     rw (start, c.in_ok-duplicate.ensures.list, c.in_ok-strides.ensures.strides) refl
 
 pub returns-in_err-strides-clause-complete : goal.returns-in_err-strides-clause-complete
-returns-in_err-strides-clause-complete g c = reshape_refusal-ReshapeFits c.args.order (g.E.Lengths.list c.args.shape.now)
+returns-in_err-strides-clause-complete g c = view_reshape_fault-ReshapeFits c.args.order (g.E.Lengths.list c.args.shape.now)
     c.in_err-strides.ensures.is_view
 
 pub returns-in_err-duplicate-clause-complete : goal.returns-in_err-duplicate-clause-complete
-returns-in_err-duplicate-clause-complete g c = reshape_refusal-ReshapeFits c.args.order (g.E.Lengths.list c.args.shape.now)
+returns-in_err-duplicate-clause-complete g c = view_reshape_fault-ReshapeFits c.args.order (g.E.Lengths.list c.args.shape.now)
     c.in_ok-strides.ensures.is_view
 
 pub invariant_of-result : goal.invariant_of-result
@@ -27,7 +27,7 @@ invariant_of-result g c = rw (reshaped g c) (Descends-reshape_of c.args.order (g
     c.in_ok-strides.ensures.is_view c.in_ok-strides.ensures.fits).is_view
 
 pub returns-clause-complete : goal.returns-clause-complete
-returns-clause-complete g c = reshape_refusal-ReshapeFits c.args.order (g.E.Lengths.list c.args.shape.now) c.in_ok-strides.ensures.is_view
+returns-clause-complete g c = view_reshape_fault-ReshapeFits c.args.order (g.E.Lengths.list c.args.shape.now) c.in_ok-strides.ensures.is_view
 
 pub returns-clause-same_places : goal.returns-clause-same_places
 returns-clause-same_places g c = subst (λ view. view_places c.args.order view ≡ view_places c.args.order c.args.self.now)

@@ -1,11 +1,11 @@
--- Which shapes have an index says what is left to refuse.
+-- Which shapes have an index says which faults are left.
 use Rattle.std.proofs.Common.{◌≡◌, ◌≤◌, sym, ap, subst, ◌∙◌}
 use Rattle.std.specs.Prelude.{None, IfErr, IfOk, OnOk}
 use Rattle.std.proofs.lemmas.Bool.{false≢true}
 use Rattle.nd_base.proofs.laws.Definitions.{NeedsNoMemory, all_signed, is_empty, limit, nonzero_size}
-use Rattle.ndarray_layout.specs.ReshapedView.{IsReshapeRefusal, reshape_refusal, reshaped_strides as strides_of}
+use Rattle.ndarray_layout.specs.ReshapedView.{IsReshapeError, reshaped_strides as strides_of, view_reshape_fault}
 use Rattle.ndarray_layout.specs.View.{View, view_of}
-use Rattle.ndarray_layout.proofs.matching.Views.{HaveIndices, refusal_between, refused_between, both_are, strides_between, strides_of_none}
+use Rattle.ndarray_layout.proofs.matching.Views.{HaveIndices, view_fault_between, error_between, both_are, strides_between, strides_of_none}
 use Rattle.ndarray_layout.proofs.matching.Views.{within_limit}
 use Rattle.std.specs.Prelude.{length}
 use Rattle.ndarray_layout.proofs.strided.Strided.reshaped_strides.Given.{Over}
@@ -22,7 +22,7 @@ returns-in_err-zeros-clause-fault g c =
     (fits, empty.1 ∙ sym empty.0) in
     let few = λ (none : NeedsNoMemory g.E.FixedCount.NDIM (length to)).
     false≢true (c.in_err-zeros.ensures.memory (rw c.ndim.ensures.count none)) in
-    IfErr-handed_on (λ e. IsReshapeRefusal g.E.FixedCount.NDIM c.args.order to c.args.self.now e) c.from_residual-in_err-zeros.result
+    IfErr-handed_on (λ e. IsReshapeError g.E.FixedCount.NDIM c.args.order to c.args.self.now e) c.from_residual-in_err-zeros.result
     c.from_residual-in_err-zeros.ensures.1 (asks, few)
 
 pub returns-then-is_empty-clause-strides : goal.returns-then-is_empty-clause-strides
@@ -50,14 +50,14 @@ have_indices g c =
 pub returns-clause-fits : goal.returns-clause-fits
 returns-clause-fits g c =
     let to = g.E.Lengths.list c.args.shape.now in
-    subst (λ (v : View). OnOk c.reshape_dim.result (reshape_refusal c.args.order to v ≡ None)) c.self.view_is
-    (rw (refusal_between c.args.order (have_indices g c)) c.reshape_dim.ensures.fits)
+    subst (λ (v : View). OnOk c.reshape_dim.result (view_reshape_fault c.args.order to v ≡ None)) c.self.view_is
+    (rw (view_fault_between c.args.order (have_indices g c)) c.reshape_dim.ensures.fits)
 
 pub returns-clause-fault : goal.returns-clause-fault
 returns-clause-fault g c =
     let to = g.E.Lengths.list c.args.shape.now in
-    subst (λ (v : View). IfErr c.reshape_dim.result (λ e. IsReshapeRefusal g.E.FixedCount.NDIM c.args.order to v e)) c.self.view_is
-    (refused_between c.reshape_dim.result g.E.FixedCount.NDIM c.args.order (have_indices g c) c.reshape_dim.ensures.fault
+    subst (λ (v : View). IfErr c.reshape_dim.result (λ e. IsReshapeError g.E.FixedCount.NDIM c.args.order to v e)) c.self.view_is
+    (error_between c.reshape_dim.result g.E.FixedCount.NDIM c.args.order (have_indices g c) c.reshape_dim.ensures.fault
     c.reshape_dim.ensures.memory)
 
 pub returns-clause-strides : goal.returns-clause-strides

@@ -3,12 +3,12 @@ use Rattle.std.proofs.Common.{rules, ◌≡◌, None, FitsSigned, pos, ◌+ℤ�
 use Rattle.std.specs.Int.{w64}
 use Rattle.std.proofs.lemmas.Int.{to_z-of_z}
 use Rattle.nd_base.proofs.laws.Definitions.{magnitude, limit}
-use Rattle.nd_slice.specs.ArgumentFault.{argument_fault}
+use Rattle.nd_slice.specs.SliceFault.{argument_fault}
 use Rattle.nd_slice.specs.Selected.{selected}
 use Rattle.ndarray_layout.specs.Descends.{Descends}
 use Rattle.ndarray_layout.specs.SlicedView.{slice_of}
 use Rattle.ndarray_layout.specs.View.{View, view_of}
-use Rattle.ndarray_layout.proofs.laws.SlicedView.{fits_of_no_refusal, sliced_start_within, Descends-slice_of}
+use Rattle.ndarray_layout.proofs.laws.SlicedView.{no_argument_fault, sliced_start_within, Descends-slice_of}
 use Rattle.ndarray_layout.proofs.strided.Strided.slice.Given.{Over}
 use Rattle.ndarray_layout.proofs.strided.Strided.slice.Goals as goal
 use Rattle.ndarray_layout.proofs.strided.Strided.slice.Goals.{After-struct_told-1, After-offset_place-start}
@@ -21,7 +21,7 @@ here g c = view_of c.self.inside.start (g.D.Lengths.list c.self.inside.dim) (g.D
 fits : (g : Over) (c : After-struct_told-1 g) → argument_fault c.args.fit (here g c).shape (g.S.SliceElems.list c.args.slices.now) ≡ None
 fits g c =
     let none = rw (c.slice-shape.ensures.list, c.elems.ensures) at (sym c.in_ok-dim.ensures.fault) in
-    fits_of_no_refusal c.args.fit g.E.FixedCount.NDIM _ _ none
+    no_argument_fault c.args.fit g.E.FixedCount.NDIM _ _ none
 
 -- the first index that is left lies so far from the first of the view
 moved : (g : Over) (c : After-struct_told-1 g)

@@ -1,4 +1,4 @@
--- A shape that is not refused has no fewer axes than the view.
+-- A shape without a fault has no fewer axes than the view.
 use Rattle.std.proofs.Common.{sym}
 use Rattle.ndarray_layout.proofs.laws.BroadcastView.{no_fewer_axes}
 use Rattle.ndarray_layout.proofs.strided.broadcasting.broadcast_axes.Goals as goal

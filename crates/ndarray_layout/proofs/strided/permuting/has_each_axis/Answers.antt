@@ -26,4 +26,4 @@ pub returns : goal.returns
 returns c =
     order_by_axes c.args.ndim (axis_numbers c.args.axes.now) true
     (length-map c.args.axes.now (λ axis. axis.0) ∙ search rules)
-    (λ t axis inside. named c.args.axes.now axis ∙ c.loop-number.invariant axis (search rules), λ each. refl)
+    (λ t axis in_bounds. named c.args.axes.now axis ∙ c.loop-number.invariant axis (search rules), λ each. refl)

@@ -8,29 +8,29 @@ use Rattle.ndarray_layout.proofs.RowSteps.{appended, place_bounds, start_bound}
 use Rattle.ndarray_layout.proofs.laws.Rows.{row_more}
 use Rattle.ndarray_layout.proofs.strided.places.push_row.Goals as goal
 
-pub entry_place-requires-clause-first : goal.entry_place-requires-clause-first
-entry_place-requires-clause-first c =
-    start_bound c.args.row.start c.args.row.stride c.args.row.len c.requires.inside (omega arith)
+pub place_along_axis-requires-clause-first : goal.place_along_axis-requires-clause-first
+place_along_axis-requires-clause-first c =
+    start_bound c.args.row.start c.args.row.stride c.args.row.len c.requires.in_bounds (omega arith)
 
-pub entry_place-requires-clause-low : goal.entry_place-requires-clause-low
-entry_place-requires-clause-low c =
+pub place_along_axis-requires-clause-low : goal.place_along_axis-requires-clause-low
+place_along_axis-requires-clause-low c =
     let row = c.args.row in
     let stride : signed c.unsigned-stride.result ≡ row.stride = omega (arith, ints, c.unsigned-stride.ensures.back) in
-    rw stride (place_bounds row.start row.stride row.len c.loop-i.i c.requires.inside (omega arith)).0
+    rw stride (place_bounds row.start row.stride row.len c.loop-i.i c.requires.in_bounds (omega arith)).0
 
-pub entry_place-requires-clause-high : goal.entry_place-requires-clause-high
-entry_place-requires-clause-high c =
+pub place_along_axis-requires-clause-high : goal.place_along_axis-requires-clause-high
+place_along_axis-requires-clause-high c =
     let row = c.args.row in
     let stride : signed c.unsigned-stride.result ≡ row.stride = omega (arith, ints, c.unsigned-stride.ensures.back) in
-    rw stride (place_bounds row.start row.stride row.len c.loop-i.i c.requires.inside (omega arith)).1
+    rw stride (place_bounds row.start row.stride row.len c.loop-i.i c.requires.in_bounds (omega arith)).1
 
 pub loop-i-preserved : goal.loop-i-preserved
 loop-i-preserved c =
     let row = c.args.row in
     let i = c.loop-i.i in
-    let place = c.entry_place.result in
+    let place = c.place_along_axis.result in
     let stride : signed c.unsigned-stride.result ≡ row.stride = omega (arith, ints, c.unsigned-stride.ensures.back) in
-    let here = c.entry_place.ensures ∙ ap (λ s. pos row.start +ℤ (pos i *ℤ s)) stride in
+    let here = c.place_along_axis.ensures ∙ ap (λ s. pos row.start +ℤ (pos i *ℤ s)) stride in
     let pushed = ap (map pos) c.push_reserved.ensures.items ∙ map-append pos c.loop-i.places.items (place ∷ []) in
     let more = row_more row.start row.stride i ∙ ap (λ z. row_places row.start row.stride i ++ z ∷ []) (sym here) in
     record {

@@ -2,9 +2,9 @@
 use Rattle.std.proofs.Common.{◌^◌, pos, map, length, ◌++◌, refl, sym, ap, subst, ◌∙◌, arith}
 use Rattle.std.specs.List.{All}
 use Rattle.std.proofs.lemmas.List.{append-nil}
-use Rattle.nd_base.proofs.laws.Definitions.{IsInside}
+use Rattle.nd_base.proofs.laws.Definitions.{IsInBounds}
 use Rattle.ndarray_layout.specs.Rows.{rows_places}
-use Rattle.ndarray_layout.proofs.RowSteps.{IsFirstRow, append-first, inside-first, length-first}
+use Rattle.ndarray_layout.proofs.RowSteps.{IsFirstRow, append-first, in_bounds-first, length-first}
 use Rattle.ndarray_layout.proofs.strided.places.push_rows.Goals as goal
 
 pub loop-row-init : goal.loop-row-init
@@ -15,7 +15,7 @@ loop-row-init c =
       items = ap (λ rows. map pos c.args.places.items ++ rows_places rows) same;
       len = omega (arith, count);
       capacity = refl;
-      inside = subst (λ rows. All (IsInside (2 ^ 63)) (rows_places rows)) (sym same) c.requires.inside;
+      in_bounds = subst (λ rows. All (IsInBounds (2 ^ 63)) (rows_places rows)) (sym same) c.requires.in_bounds;
       few = omega (arith, count, c.requires.few);
     }
 
@@ -24,7 +24,7 @@ push_row-places-requires c =
     let first : IsFirstRow c.loop-row.row-iterator c.in-Some.row _ = record { is = c.in-Some.ensures.steps } in
     let count = length-first first in
     record {
-      inside = (inside-first first c.loop-row.invariant.inside).0;
+      in_bounds = (in_bounds-first first c.loop-row.invariant.in_bounds).0;
       few = omega (arith, count, c.loop-row.invariant.few);
       room = omega (arith, count, c.loop-row.invariant.len, c.loop-row.invariant.capacity, c.requires.room);
     }
@@ -37,7 +37,7 @@ loop-row-preserved c =
       items = append-first first (map pos c.loop-row.places.items) c.push_row-places.ensures.items c.loop-row.invariant.items;
       len = omega (arith, count, c.push_row-places.ensures.len, c.loop-row.invariant.len);
       capacity = c.push_row-places.ensures.capacity ∙ c.loop-row.invariant.capacity;
-      inside = (inside-first first c.loop-row.invariant.inside).1;
+      in_bounds = (in_bounds-first first c.loop-row.invariant.in_bounds).1;
       few = omega (arith, count, c.loop-row.invariant.few);
     }
 

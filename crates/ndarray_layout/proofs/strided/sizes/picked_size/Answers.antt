@@ -1,7 +1,7 @@
 use Rattle.std.proofs.Common.{rules, ◌≡◌, ◌≤◌, ◌*◌, arith, length, ap, sym, ◌∙◌, None}
-use Rattle.nd_slice.specs.ArgumentFault.{elem_fault}
+use Rattle.nd_slice.specs.SliceFault.{elem_fault}
 use Rattle.nd_slice.specs.AxisElems.{axis_elems}
-use Rattle.nd_slice.specs.Meet.{elem_picks}
+use Rattle.nd_slice.specs.Intersect.{elem_picks}
 use Rattle.nd_slice.proofs.laws.Picks.{length-between_le}
 use Rattle.ndarray_layout.proofs.PickedSize.{PickedSoFar, next_picked, none_picked, size_small}
 use Rattle.ndarray_layout.proofs.strided.sizes.picked_size.Goals as goal

@@ -1,4 +1,4 @@
--- Faults come before refused memory: where memory is refused, the elements were found without fault.
+-- Faults come before lack of memory: where an allocation fails, the elements were found without fault.
 use Rattle.std.proofs.Common.{rules, ◌≡◌, ℕ, ◌⊎◌, inl, inr, Option, Some, None, Bool, true, false, List, length, replicate, sym, ap, subst}
 use Rattle.std.proofs.Common.{◌∙◌}
 use Rattle.std.specs.Prelude.{◌↔◌, IsTrue}
@@ -7,49 +7,49 @@ use Rattle.nd_base.specs.declared.error.ErrorKind.{ErrorKind}
 use Rattle.nd_base.proofs.laws.Definitions.{NeedsNoMemory, shape_fault, all_signed}
 use Rattle.nd_slice.specs.declared.fit.Fit.{Fit}
 use Rattle.nd_slice.specs.declared.elem.SliceInfoElem.{SliceInfoElem}
-use Rattle.nd_slice.specs.ArgumentFault.{first_fault}
+use Rattle.nd_slice.specs.SliceFault.{first_fault}
 use Rattle.nd_slice.specs.Counts.{HasCounts}
-use Rattle.ndarray_layout.specs.SlicedView.{slice_refusal}
-use Rattle.ndarray_layout.proofs.laws.SlicedView.{refusal_of_counts}
+use Rattle.ndarray_layout.specs.SlicedView.{view_slice_fault}
+use Rattle.ndarray_layout.proofs.laws.SlicedView.{view_fault_of_counts}
 use Rattle.ndarray_layout.proofs.strided.slicing.sliced_axes.Goals as goal
 
 no_fault : {first : Option ErrorKind} {fixed named : Option ℕ} (n : ℕ) → fixed ≡ named → (first ≡ None) ⊎ NeedsNoMemory fixed n
     → (NeedsNoMemory named n → false ≡ true) → first ≡ None
-no_fault n same (inl none) refused = none
-no_fault n same (inr few) refused = absurd (cc (refused (subst (λ f. NeedsNoMemory f n) same few)))
+no_fault n same (inl none) failed = none
+no_fault n same (inr few) failed = absurd (cc (failed (subst (λ f. NeedsNoMemory f n) same few)))
 
 counted : {result : Bool} {fixed named : Option ℕ} (shape : List ℕ) {elems : List SliceInfoElem} → fixed ≡ named
     → IsTrue result ↔ HasCounts (Some (length shape)) fixed elems → result ≡ true → HasCounts (Some (length shape)) named elems
 counted shape {elems} same means is = subst (λ f. HasCounts (Some (length shape)) f elems) same (means.0 is)
 
 -- where the counts fit, the fault is that of the first element
-refused : {result : Bool} (fit : Fit) {fixed named : Option ℕ} (shape : List ℕ) {elems : List SliceInfoElem} → fixed ≡ named
+failed : {result : Bool} (fit : Fit) {fixed named : Option ℕ} (shape : List ℕ) {elems : List SliceInfoElem} → fixed ≡ named
     → IsTrue result ↔ HasCounts (Some (length shape)) fixed elems → result ≡ true
-    → slice_refusal fit named shape elems ≡ first_fault fit shape elems
-refused fit shape same means is = refusal_of_counts fit shape (counted shape same means is)
+    → view_slice_fault fit named shape elems ≡ first_fault fit shape elems
+failed fit shape same means is = view_fault_of_counts fit shape (counted shape same means is)
 
 pub returns-in_err-check_before_memory-clause-fault : goal.returns-in_err-check_before_memory-clause-fault
 returns-in_err-check_before_memory-clause-fault g c =
     let same : shape_fault c.from_residual.result ≡ Some c.in_err-check_before_memory.field-0.0 = search rules in
-    same ∙ c.in_err-check_before_memory.ensures.fault ∙ sym (refused c.args.fit c.args.shape.now c.NDIM.ensures c.has_counts.ensures
+    same ∙ c.in_err-check_before_memory.ensures.fault ∙ sym (failed c.args.fit c.args.shape.now c.NDIM.ensures c.has_counts.ensures
     c.if-not-has_counts.false)
 
 pub returns-in_err-dim-clause-fault : goal.returns-in_err-dim-clause-fault
 returns-in_err-dim-clause-fault g c =
     let same : shape_fault c.from_residual-in_err-dim.result ≡ None = search rules in
-    same ∙ sym ((refused c.args.fit c.args.shape.now c.NDIM.ensures c.has_counts.ensures c.if-not-has_counts.false)
+    same ∙ sym ((failed c.args.fit c.args.shape.now c.NDIM.ensures c.has_counts.ensures c.if-not-has_counts.false)
     ∙ no_fault c.out_ndim_of-ndim.result c.NDIM-2.ensures c.in_ok-check_before_memory.ensures.passed c.in_err-dim.ensures.memory)
 
 pub returns-in_err-kept-clause-fault : goal.returns-in_err-kept-clause-fault
 returns-in_err-kept-clause-fault g c =
     let same : shape_fault c.from_residual-in_err-kept.result ≡ None = search rules in
-    same ∙ sym ((refused c.args.fit c.args.shape.now c.NDIM.ensures c.has_counts.ensures c.if-not-has_counts.false)
+    same ∙ sym ((failed c.args.fit c.args.shape.now c.NDIM.ensures c.has_counts.ensures c.if-not-has_counts.false)
     ∙ no_fault c.out_ndim_of-ndim.result c.NDIM-2.ensures c.in_ok-check_before_memory.ensures.passed c.in_err-kept.ensures.memory)
 
 pub returns-in_err-offset-clause-fault : goal.returns-in_err-offset-clause-fault
 returns-in_err-offset-clause-fault g c =
     let same : shape_fault c.from_residual-in_err-offset.result ≡ Some c.in_err-offset.field-0.0 = search rules in
-    same ∙ c.in_err-offset.ensures.fault ∙ sym (refused c.args.fit c.args.shape.now c.NDIM.ensures c.has_counts.ensures
+    same ∙ c.in_err-offset.ensures.fault ∙ sym (failed c.args.fit c.args.shape.now c.NDIM.ensures c.has_counts.ensures
     c.if-not-has_counts.false)
 
 pub write_axes-requires-clause-counts : goal.write_axes-requires-clause-counts

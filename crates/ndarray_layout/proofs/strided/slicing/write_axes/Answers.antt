@@ -5,7 +5,7 @@ use Rattle.std.proofs.lemmas.Int.{to_z-of_z}
 use Rattle.ndarray_layout.proofs.SliceSteps.{axis_there, room_there, at_elem, at_both, slice_arm, slice_at_fault}
 use Rattle.ndarray_layout.proofs.SliceSteps.{index_arm, index_within, new_axis_step}
 use Rattle.ndarray_layout.proofs.strided.slicing.write_axes.Goals as goal
-use Rattle.ndarray_layout.proofs.strided.slicing.write_axes.Goals.{in-Slice+in_ok-len-in-Slice, in-Index+in_ok-entry-in-Index, in-NewAxis}
+use Rattle.ndarray_layout.proofs.strided.slicing.write_axes.Goals.{in-Slice+in_ok-len-in-Slice, in-Index+in_ok-coordinate-in-Index, in-NewAxis}
 
 pub slice_axis-requires : goal.slice_axis-requires
 slice_axis-requires c =
@@ -34,19 +34,19 @@ returns-in_err-len-in-Slice-clause-fault c =
 pub stride_offset-offset-requires : goal.stride_offset-offset-requires
 stride_offset-offset-requires c =
     let f : FitsSigned w64 c.in-Index.index = search rules in
-    let known = rw (to_z-of_z w64 c.in-Index.index f) at c.in_ok-entry-in-Index.ensures in
+    let known = rw (to_z-of_z w64 c.in-Index.index f) at c.in_ok-coordinate-in-Index.ensures in
     let at = at_both _ c.requires.valid c.loop-elem-test.true c.in-Index.is (omega arith) c.loop-elem.invariant in
-    let entry = index_within at (sym known.fault) in
-    let index = c.in_ok-entry-in-Index.entry in
-    record { small = omega (arith, entry.small index known.entry); fits = entry.offset_fits index known.entry }
+    let coordinate = index_within at (sym known.fault) in
+    let index = c.in_ok-coordinate-in-Index.coordinate in
+    record { small = omega (arith, coordinate.small index known.coordinate); fits = coordinate.offset_fits index known.coordinate }
 
 pub overflow_add-offset-in-Index : goal.overflow_add-offset-in-Index
 overflow_add-offset-in-Index c =
     let h : FitsSigned w64 c.stride_offset-offset.result = search rules in
     let f : FitsSigned w64 c.in-Index.index = search rules in
-    let known = rw (to_z-of_z w64 c.in-Index.index f) at c.in_ok-entry-in-Index.ensures in
+    let known = rw (to_z-of_z w64 c.in-Index.index f) at c.in_ok-coordinate-in-Index.ensures in
     let at = at_both _ c.requires.valid c.loop-elem-test.true c.in-Index.is (omega arith) c.loop-elem.invariant in
-    let moved = rw known.entry at c.stride_offset-offset.ensures in
+    let moved = rw known.coordinate at c.stride_offset-offset.ensures in
     (index_arm _ c.requires.valid at (to_z-of_z w64 c.stride_offset-offset.result h ∙ moved) (sym known.fault)).fits
 
 pub loop-elem-preserved : goal.loop-elem-preserved
@@ -62,12 +62,12 @@ loop-elem-preserved c =
           (slice_arm w.in_ok-len-in-Slice.stride c.requires.valid at known.count known.stride
           (to_z-of_z w64 w.in_ok-len-in-Slice.moved h ∙ known.offset)
           (sym known.fault)).next
-      | in-Index+in_ok-entry-in-Index w ↦
+      | in-Index+in_ok-coordinate-in-Index w ↦
           let h : FitsSigned w64 w.stride_offset-offset.result = search rules in
           let f : FitsSigned w64 w.in-Index.index = search rules in
-          let known = rw (to_z-of_z w64 w.in-Index.index f) at w.in_ok-entry-in-Index.ensures in
+          let known = rw (to_z-of_z w64 w.in-Index.index f) at w.in_ok-coordinate-in-Index.ensures in
           let at = at_both _ c.requires.valid c.loop-elem-test.true w.in-Index.is (omega arith) c.loop-elem.invariant in
-          let moved = rw known.entry at w.stride_offset-offset.ensures in
+          let moved = rw known.coordinate at w.stride_offset-offset.ensures in
           rw (w.old_axis-is, w.new_axis-is, w.new_shape-is, w.new_strides-is, w.offset-is)
           (index_arm _ c.requires.valid at (to_z-of_z w64 w.stride_offset-offset.result h ∙ moved) (sym known.fault)).next
       | in-NewAxis w ↦

@@ -1,6 +1,6 @@
 use Rattle.std.proofs.Common.{◌∷◌, List, ℕ, Bor, sym, ◌∙◌, ap}
 use Rattle.ndl_session.specs.text.Lines.{lines_of}
-use Rattle.ndl_session.proofs.texts.FirstLine.{ended_line, stripped}
+use Rattle.ndl_session.proofs.text_lemmas.FirstLine.{ended_line, stripped}
 use Rattle.ndl_session.proofs.text.lines.first_line.Goals as goal
 
 pub returns-in-Some-clause-lines : goal.returns-in-Some-clause-lines

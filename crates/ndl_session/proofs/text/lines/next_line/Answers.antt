@@ -2,7 +2,7 @@ use Rattle.std.proofs.Common.{◌≡◌, ap, arith, length, sym, ◌∙◌}
 use Rattle.std.proofs.lemmas.Grind.{common_steps}
 use Rattle.std.proofs.lemmas.List.{length-map}
 use Rattle.ndl_session.specs.text.Lines.{after_line, words_of}
-use Rattle.ndl_session.proofs.texts.FirstLine.{after_lines_next, blank_line}
+use Rattle.ndl_session.proofs.text_lemmas.FirstLine.{after_lines_next, blank_line}
 use Rattle.ndl_session.proofs.text.lines.next_line.Goals as goal
 
 pub returns-then-not-is_empty-clause-rest : goal.returns-then-not-is_empty-clause-rest

@@ -1,5 +1,5 @@
 use Rattle.std.proofs.Common.{sym, ◌∙◌}
-use Rattle.ndl_session.proofs.texts.Digits.{number_parsed, number_not_utf8, no_plus, not_a_text, a_text}
+use Rattle.ndl_session.proofs.text_lemmas.Digits.{number_parsed, number_not_utf8, no_plus, not_a_text, a_text}
 use Rattle.ndl_session.proofs.text.numbers.number.Goals as goal
 
 pub returns-in_err-ok : goal.returns-in_err-ok

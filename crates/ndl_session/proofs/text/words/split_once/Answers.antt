@@ -1,7 +1,7 @@
 -- The text falls into its parts at the first separator.
 use Rattle.std.proofs.Common.{sym, ◌∙◌}
 use Rattle.std.proofs.lemmas.List.{take_rest}
-use Rattle.ndl_session.proofs.texts.Parts.{parts_without, parts_at}
+use Rattle.ndl_session.proofs.text_lemmas.Parts.{parts_without, parts_at}
 use Rattle.ndl_session.proofs.text.words.split_once.Goals as goal
 
 pub returns-in_err-at-clause-parts : goal.returns-in_err-at-clause-parts

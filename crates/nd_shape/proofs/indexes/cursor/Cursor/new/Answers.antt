@@ -5,7 +5,7 @@ use Rattle.nd_base.proofs.laws.Definitions.{lengths, size}
 use Rattle.nd_base.specs.declared.lengths.TheConstants.{INLINE_AXES}
 use Rattle.nd_base.proofs.laws.Size.{size_of_empty}
 use Rattle.nd_shape.specs.IndicesLeft.{indices_left}
-use Rattle.nd_shape.proofs.IndicesWalk.{starts}
+use Rattle.nd_shape.proofs.IndicesIteration.{starts}
 use Rattle.nd_shape.proofs.laws.IndicesLeft.{indices_left-whole}
 use Rattle.nd_shape.proofs.indexes.cursor.Cursor.new.Given.{Over}
 use Rattle.nd_shape.proofs.indexes.cursor.Cursor.new.Goals as goal
@@ -21,7 +21,7 @@ zeros g c some = elim c.if-left-eq0.branch [
 pub invariant_of-result : goal.invariant_of-result
 invariant_of-result g c =
     let whole = c.product-left.ensures ∙ ap size c.slice.ensures.list in
-    starts g.O.WalkOrder.order (lengths c.args.dim) (lengths c.in_ok-index.index) c.product-left.result (zeros g c) whole
+    starts g.O.IterOrder.order (lengths c.args.dim) (lengths c.in_ok-index.index) c.product-left.result (zeros g c) whole
 
 pub returns-in_err-index-clause-no_index : goal.returns-in_err-index-clause-no_index
 returns-in_err-index-clause-no_index g c none =
@@ -34,5 +34,5 @@ returns-in_err-index-clause-no_index g c none =
 
 pub returns-clause-items : goal.returns-clause-items
 returns-clause-items g c =
-    ap (indices_left g.O.WalkOrder.order (lengths c.args.dim)) (c.product-left.ensures ∙ ap size c.slice.ensures.list)
-    ∙ indices_left-whole g.O.WalkOrder.order (lengths c.args.dim)
+    ap (indices_left g.O.IterOrder.order (lengths c.args.dim)) (c.product-left.ensures ∙ ap size c.slice.ensures.list)
+    ∙ indices_left-whole g.O.IterOrder.order (lengths c.args.dim)

@@ -1,7 +1,7 @@
 -- At first all places are left.
 use Rattle.std.proofs.Common.{◌^◌, length, sym, ap, subst, arith}
 use Rattle.std.specs.List.{All}
-use Rattle.nd_base.proofs.laws.Definitions.{IsInside}
+use Rattle.nd_base.proofs.laws.Definitions.{IsInBounds}
 use Rattle.nd_base.proofs.laws.NonzeroSize.{size_le_nonzero_size}
 use Rattle.ndarray_layout.specs.View.{view_of}
 use Rattle.ndarray_layout.proofs.laws.Rows.{places_fit}
@@ -13,7 +13,7 @@ invariant_of-result c =
     let all = c.of_places.ensures.places in
     record {
       here = omega arith;
-      inside = subst (All (IsInside (2 ^ 63))) (sym all) (places_fit c.args.order c.requires);
+      in_bounds = subst (All (IsInBounds (2 ^ 63))) (sym all) (places_fit c.args.order c.requires);
       some = c.of_places.ensures.some;
       fits = omega (
         arith,

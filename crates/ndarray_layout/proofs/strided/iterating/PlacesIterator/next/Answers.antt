@@ -1,18 +1,18 @@
 -- The next place lies a stride on in the row, or else where the next row begins.
 use Rattle.std.proofs.Common.{◌≡◌, pos, ◌+ℤ◌, length, sym, ap, ◌∙◌, arith}
 use Rattle.std.proofs.lemmas.Int.{ints}
-use Rattle.ndarray_layout.proofs.RowSteps.{inside_bounds, left_after_step, left_in_row, next_inside, row_begins}
+use Rattle.ndarray_layout.proofs.RowSteps.{bounds_of_place, left_after_step, left_in_row, next_in_bounds, row_begins}
 use Rattle.ndarray_layout.proofs.RowSteps.{steps_on}
 use Rattle.ndarray_layout.proofs.strided.iterating.PlacesIterator.next.Goals as goal
 
 pub offset_place-self-inside-requires-clause-low : goal.offset_place-self-inside-requires-clause-low
 offset_place-self-inside-requires-clause-low c =
-    let bounds = inside_bounds _ (next_inside c.self.invariant c.if-self-gt0.true) in
+    let bounds = bounds_of_place _ (next_in_bounds c.self.invariant c.if-self-gt0.true) in
     omega (arith, ints, bounds.0)
 
 pub offset_place-self-inside-requires-clause-high : goal.offset_place-self-inside-requires-clause-high
 offset_place-self-inside-requires-clause-high c =
-    let bounds = inside_bounds _ (next_inside c.self.invariant c.if-self-gt0.true) in
+    let bounds = bounds_of_place _ (next_in_bounds c.self.invariant c.if-self-gt0.true) in
     omega (arith, ints, bounds.1)
 
 pub invariant_of-self : goal.invariant_of-self

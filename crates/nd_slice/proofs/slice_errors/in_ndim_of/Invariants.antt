@@ -1,0 +1,10 @@
+-- What was counted and what is left come to the whole count, and no element was counted twice.
+use Rattle.std.proofs.Common.{◌≡◌, ◌+◌, ◌≤◌, drop}
+use Rattle.nd_slice.proofs.Definitions.{in_count}
+use Rattle.nd_slice.proofs.slice_errors.in_ndim_of.Given as goal
+
+abbrev pub invariant-loop-elem : goal.invariant-loop-elem
+invariant-loop-elem l = record {
+  counted : l.count + in_count (drop l.elem-index l.list) ≡ in_count l.list;
+  few : l.count ≤ l.elem-index;
+}

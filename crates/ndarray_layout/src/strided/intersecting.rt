@@ -1,0 +1,51 @@
+//! Whether two slices of a view intersect: where it is asked before they are written at once.
+ghost use Rattle.std.specs.Option.{option_or};
+ghost use Rattle.std.specs.Prelude.{◌≡◌, ◌<◌, ◌↔◌, IsTrue, IfOk};
+ghost use Rattle.std.specs.Result.{result_err};
+ghost use Rattle.nd_slice.specs.SliceFault.{argument_fault};
+ghost use Rattle.nd_slice.specs.Intersect.{Intersect};
+ghost use Rattle.ndarray_layout.specs.DistinctPlaces.{HasDistinctPlaces};
+ghost use Rattle.ndarray_layout.specs.SharePlace.{SharePlace};
+ghost use Rattle.ndarray_layout.specs.SlicedView.{slice_of};
+
+use crate::strided::Strided;
+use nd_base::{Lengths, ShapeError};
+use nd_slice::{Fit, SliceElems, slices_intersect};
+
+impl<D: Lengths> Strided<D> {
+    /// Whether two slices of the view intersect: some index has each of its coordinates among the
+    /// picks of both arguments.
+    ///
+    /// Before two parts of an array are written at once, this says whether they share an element:
+    /// where no two indices of the view alias, the result is true if and only if the two slices
+    /// have a place in common. On any other view, as one that is broadcast, slices that share no
+    /// index may still share a place. Without axes the result is true; where an argument picks
+    /// nothing of an axis it is false.
+    ///
+    /// # Errors
+    ///
+    /// Those of `check_slice` on the shape for the first argument, then for the second.
+    ///
+    /// Takes no memory, and time in proportion to the count of axes.
+    ///
+    /// The first row and the last column of `[2,3]`: true; the first row and the last row: false.
+    /// ndarray asks `slices_intersect` before `multi_slice_mut` lends several parts.
+    pub fn meets<A: SliceElems, B: SliceElems>(
+        &self,
+        first: &A,
+        second: &B,
+        fit: Fit,
+    ) -> Result<bool, ShapeError>
+        ensures fault { result_err result ≡ option_or
+            (argument_fault fit self.now.shape (A.list first.now))
+            (argument_fault fit self.now.shape (B.list second.now)) }
+        ensures intersect { IfOk result (λ intersect. IsTrue intersect ↔
+            Intersect fit self.now.shape (A.list first.now) (B.list second.now)) }
+        ensures places { IfOk result (λ intersect. HasDistinctPlaces self.now → (IsTrue intersect ↔
+            SharePlace
+            (slice_of fit (A.list first.now) self.now)
+            (slice_of fit (B.list second.now) self.now))) }
+    {
+        slices_intersect(&self.dim, first, second, fit)
+    }
+}
