@@ -1,19 +1,44 @@
-"""What the checks of texts share: the files of the repository, and what was found."""
-import os, sys
+"""What the checks and bench/ share: the files of the repository, the crates that crates.txt lists, and their sources.
 
-TOP = os.path.dirname(os.path.dirname(os.path.abspath(__file__)))
-sys.path.insert(0, f"{TOP}/tools")
+crates.txt has a line `NAME: LIBRARY ..` for each crate. A library with no line of its own is one of the kit. What follows a `#` is a comment.
+"""
+import hashlib, pathlib
+
+TOP = str(pathlib.Path(__file__).resolve().parents[1])
+PARTS = ("src", "specs", "proofs")
 
 
 def read(path):
     """The text of a file of the repository, empty where there is none."""
-    if not os.path.exists(f"{TOP}/{path}"):
-        return ""
-    with open(f"{TOP}/{path}", encoding="utf-8") as file:
-        return file.read()
+    file = pathlib.Path(TOP, path)
+    return file.read_text(encoding="utf-8") if file.exists() else ""
 
 
-def status_of(found):
-    """Prints what a check has found, and returns its exit status: 1 where that is anything."""
-    print(*found, sep="\n", end="\n" if found else "")
-    return 1 if found else 0
+def sources(*crates, parts=("src",)):
+    """The paths of the sources of some crates, sorted: their code, or what stands in other parts of their folders."""
+    folders = (pathlib.Path(TOP, "crates", crate, part) for crate in crates for part in parts)
+    files = (file for folder in folders for file in folder.rglob("*") if file.suffix in (".rt", ".antt"))
+    return sorted(str(file.relative_to(TOP)) for file in files)
+
+
+def read_list():
+    """The libraries that each crate uses, in the order of crates.txt."""
+    lines = (line.partition("#")[0].partition(":") for line in read("crates.txt").splitlines())
+    return {head.split()[0]: libraries.replace(",", " ").split() for head, _, libraries in lines if head.strip()}
+
+
+def crates_below(name):
+    """A crate and all that it depends on, each after the libraries that it uses."""
+    crates = read_list()
+    below = (crate for library in crates[name] if library in crates for crate in crates_below(library))
+    return [*dict.fromkeys(below), name]
+
+
+def sum_of(path):
+    """The checksum of a file of the repository, as `sha256sum` prints it at the top."""
+    return f"{hashlib.sha256(pathlib.Path(TOP, path).read_bytes()).hexdigest()}  {path}\n"
+
+
+def sums_of(name):
+    """The checksums of crates.txt, and of the sources of a crate and of those below it."""
+    return "".join(map(sum_of, ["crates.txt", *sources(*crates_below(name), parts=PARTS)]))
