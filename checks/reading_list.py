@@ -5,48 +5,33 @@ file and the lines of its definition, without comments and examples.
 
 usage: checks/reading_list.py
 """
-import functools, glob, re, sys
+import functools, re, sys
 
-from rattle_source import TOP, read
+from rattle_source import read, sources
 
 PAGE = "docs/PROVED.md"
-CRATES = ["nd_base", "nd_dim", "nd_shape", "nd_slice", "ndarray_layout", "nd_owned", "ndl_session"]
+SOURCES = sources("nd_base", "nd_dim", "nd_shape", "nd_slice", "ndarray_layout", "nd_owned", "ndl_session")
 COMMENT = re.compile(r"^ *(?://|--).*", re.M)
 IMPORT = re.compile(r"\buse Rattle\.(\w+)\.specs\.([\w.]+)\.\{(.*?)\}", re.S)
-NO_CODE = re.compile(r"^ *--.*\n|^(?:pub )?use .*\n|^ *\n", re.M)
+NO_CODE = re.compile(r"^-- examples?\b.*|^ *--.*?\n|^(?:pub )?use .*?\n|^ *\n", re.M | re.S)
 DEFINED = re.compile(r"(?:infixl \d+ |abbrev )?(?:pub (?:record |data )?)?(\S+)")
 WORD = re.compile(r"(?<![\w'.-])[^\W\d][\w'→-]*|[^\w\s(){},.;]+")
-MEMBER = re.compile(r"(?:\b[A-Z]\w*|⟧)\.([a-z]\w*)")  # `D.list`
-TYPE = re.compile(r"\b[A-Z]\w+")
+MEMBER = re.compile(r"(?:\b[A-Z]\w*|⟧)\.([a-z]\w*)|\b([A-Z]\w+)")  # `D.list`; a type
 BLOCK = re.compile(r"^(?:pub trait (\w+)|impl(?:<.*?>)? (?:([A-Z]\w*)(?:<[^{]*>)? for )?&?(?:'\w+ )?(\w+|\[)).*?^\}", re.M | re.S)
 GHOST = re.compile(r"^    ghost (?!use)(\w+)\b.*?(?=^$|^    \S|^\})", re.M | re.S)
-
-
-def calls_of_the_promise():
-    """The calls that the list of promises names, in its order."""
-    section = read(PAGE).partition("\n## The promise\n")[2].partition("\n\nContracts hold")[0]
-    return list(dict.fromkeys(re.findall(r"`([\w:]+)`", section)))
-
-
-def sources():
-    """The files of the layer's sources."""
-    return [path for crate in CRATES for path in sorted(glob.glob(f"crates/{crate}/src/**/*.rt", recursive=True, root_dir=TOP))]
-
-
-@functools.cache
-def blocks():
-    """Each `impl` and each public trait of the layer's sources, as (path, trait, type, text); a trait's type is None."""
-    return [(path, found[1] or found[2], found[3], found[0]) for path in sources() for found in BLOCK.finditer(read(path))]
+# each `impl` and each public trait of the sources, as (path, trait, type, text); a trait's type is None
+BLOCKS = [(path, found[1] or found[2], found[3], found[0]) for path in SOURCES for found in BLOCK.finditer(read(path))]
+TRAITS = {"Model", *(trait for _, trait, target, _ in BLOCKS if not target)}
 
 
 def source_of(call):
-    """Where a public call stands, as (path, the text up to its body)."""
+    """Where a public call stands, as (path, its name and the text up to its body)."""
     owner, _, name = call.rpartition("::")
-    inherent = [(path, text) for path, trait, target, text in blocks() if owner and not trait and target == owner]
-    for path, text in inherent or [(path, read(path)) for path in sources()]:
+    inherent = [(path, text) for path, trait, target, text in BLOCKS if owner and not trait and target == owner]
+    for path, text in inherent or [(path, read(path)) for path in SOURCES]:
         found = re.search(rf"^( *)pub fn {name}\b.*?(?=^\1{{$| {{$)", text, re.M | re.S)
         if found and (owner or not found[1]):
-            return path, re.sub(r"\b(?:requires|ensures)\*? \w+ \{", "{", found[0])
+            return path, f"{call} " + re.sub(r"\b(?:requires|ensures)\*? \w+ \{", "{", found[0])
     sys.exit(f"{PAGE}: there is no call {call}")
 
 
@@ -59,9 +44,8 @@ def file_of(crate, module):
 @functools.cache
 def definitions_in(path):
     """The words that a file of definitions has: each → its lines of code."""
-    text = re.split(r"^-- examples?\b", read(path), flags=re.M)[0]
     found, lines = {}, []
-    for line in NO_CODE.sub("", text).splitlines():
+    for line in NO_CODE.sub("", read(path)).splitlines():
         if not line.startswith((" ", "}")):
             lines = found.setdefault(DEFINED.match(line)[1], [])
         lines.append(line)
@@ -73,8 +57,7 @@ def known_in(path):
     """The words of definitions that a file may name: what each is called there → (file, word)."""
     found = {word: (path, word) for word in definitions_in(path)} if path.endswith(".antt") else {}
     for crate, module, group in IMPORT.findall(COMMENT.sub("", read(path))):
-        for entry in filter(str.strip, group.split(",")):
-            word, _, renamed = entry.strip().partition(" as ")
+        for word, _, renamed in (entry.strip().partition(" as ") for entry in group.split(",")):
             found[renamed or word] = (file_of(crate, module), word)
     return {name: (file, word) for name, (file, word) in found.items() if word in definitions_in(file)}
 
@@ -82,52 +65,42 @@ def known_in(path):
 def words_in(path, text):
     """The words of definitions that a text of a file names, as (file, word), in order."""
     known = known_in(path)
-    named = (known.get(name) or known.get(f"◌{name}◌") for name in WORD.findall(text))
-    return list(dict.fromkeys(filter(None, named)))
+    return list(filter(None, (known.get(name) or known.get(f"◌{name}◌") for name in WORD.findall(text))))
 
 
 @functools.cache
 def ghost_members():
     """What clauses see a value as: by the name of a trait's member, and by that of a type for its model, each → [(path, name, text)]."""
-    found, traits = {}, {trait for _, trait, target, _ in blocks() if not target}
-    for path, trait, target, text in blocks():
-        for member in GHOST.finditer(text) if target and trait in {"Model", *traits} else []:
+    found = {}
+    for path, trait, target, text in BLOCKS:
+        for member in GHOST.finditer(text) if target and trait in TRAITS else []:
             found.setdefault(target if trait == "Model" else member[1], []).append((path, member[1], member[0]))
     return found
 
 
-def ghosts_of(text):
-    """The ghost members that the types and clauses of a call stand on."""
-    return [one for name in dict.fromkeys(MEMBER.findall(text) + TYPE.findall(text)) for one in ghost_members().get(name, [])]
-
-
-def named_by(call):
-    """The words that a call's types and clauses name, and the ghost members there."""
-    path, text = source_of(call)
-    found = words_in(path, f"{call} {text}")
-    for place, _, member in ghosts_of(f"{call} {text}"):
-        found += words_in(place, member)
-    return found
-
-
+@functools.cache
 def named_by_the_promise():
-    """The words that the calls of the promise name, those of the first call first."""
-    calls = calls_of_the_promise()
-    return list(dict.fromkeys(word for call in calls for word in named_by(call)))
+    """The words that the calls of the promise name, those of the first call first; and the ghost members that these calls stand on."""
+    section = read(PAGE).partition("\n## The promise\n")[2].partition("\n\nContracts hold")[0]
+    words, ghosts = [], []
+    for path, text in map(source_of, re.findall(r"`([\w:]+)`", section)):
+        names = sorted(MEMBER.findall(text), key=lambda found: found[0] == "")
+        found = [ghost for name in dict.fromkeys(map("".join, names)) for ghost in ghost_members().get(name, [])]
+        words += words_in(path, text)
+        for place, _, member in found:
+            words += words_in(place, member)
+        ghosts += [(place, name) for place, name, _ in found]
+    return list(dict.fromkeys(words)), list(dict.fromkeys(ghosts))
 
 
+@functools.cache
 def all_words():
     """Those words, and then the words that they are made of."""
-    found = named_by_the_promise()
+    found = [*named_by_the_promise()[0]]
     for path, word in found:
-        found += [one for one in words_in(path, "\n".join(definitions_in(path)[word])) if one not in found]
+        made_of = dict.fromkeys(words_in(path, "\n".join(definitions_in(path)[word])))
+        found += [one for one in made_of if one not in found]
     return found
-
-
-def all_ghosts():
-    """The ghost members of the promise's calls, as (path, name), each once."""
-    ghosts = [one for call in calls_of_the_promise() for one in ghosts_of(f"{call} {source_of(call)[1]}")]
-    return list(dict.fromkeys((path, name) for path, name, _ in ghosts))
 
 
 def lines_of(words):
@@ -137,15 +110,15 @@ def lines_of(words):
 
 def figures():
     """How many words and lines there are, and how many of them the clauses name."""
-    words, first = all_words(), named_by_the_promise()
+    words, first = all_words(), named_by_the_promise()[0]
     return f"{len(words)} words, {lines_of(words)} lines; the clauses name {len(first)} of them, {lines_of(first)} lines"
 
 
 def main():
-    first, words = named_by_the_promise(), all_words()
-    for title, part in (("the clauses name:", first), ("these are made of:", words[len(first) :])):
+    first, ghosts = named_by_the_promise()
+    for title, part in (("the clauses name:", first), ("these are made of:", all_words()[len(first) :])):
         print(title, *(f"  {word}  {path}, {lines_of([(path, word)])}" for path, word in part), "", sep="\n")
-    print("values are seen as:", *(f"  {name}  {path}" for path, name in all_ghosts()), "", sep="\n")
+    print("values are seen as:", *(f"  {name}  {path}" for path, name in ghosts), "", sep="\n")
     print(figures())
 
 
