@@ -8,8 +8,8 @@ import argparse, contextlib, os, shutil, subprocess, sys, tempfile, time
 
 HERE = os.path.dirname(os.path.abspath(__file__))
 TOP = os.path.dirname(HERE)
-sys.path.insert(0, f"{TOP}/tools")
-from crate_list import crates_below, read_list
+sys.path.insert(0, f"{TOP}/checks")
+from rattle_source import crates_below, read_list
 
 from ndarray_layer import cut_layer
 
@@ -106,15 +106,14 @@ def copy_programs(room):
 
 def copy_repository(room, *crates):
     """Copies the crates that some of them use, and these themselves, to the room, and returns the copy's folder."""
-    lines, copy = read_list(TOP), f"{room.folder}/repository"
-    below = [line for crate in crates for line in crates_below(lines, crate)]
-    names = {line.name: f"{line.name}: {' '.join(line.libraries)}" for line in below}
-    for name in names:
+    listed, copy = read_list(), f"{room.folder}/repository"
+    lines = {name: f"{name}: {' '.join(listed[name])}" for crate in crates for name in crates_below(crate)}
+    for name in lines:
         copy_crate(f"{TOP}/crates/{name}", f"{copy}/crates/{name}")
     copy_own_crate(f"{copy}/crates/{CRATE}")
     shutil.copy(f"{TOP}/HANDLES", copy)
     with open(f"{copy}/crates.txt", "w", encoding="utf-8") as file:
-        file.write("\n".join([*names.values(), LINE, ""]))
+        file.write("\n".join([*lines.values(), LINE, ""]))
     return copy
 
 
