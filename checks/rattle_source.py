@@ -11,7 +11,7 @@ PARTS = ("src", "specs", "proofs")
 def read(path):
     """The text of a file of the repository, empty where there is none."""
     file = pathlib.Path(TOP, path)
-    return file.read_text(encoding="utf-8") if file.exists() else ""
+    return file.read_text(encoding="utf-8") if file.is_file() else ""
 
 
 def sources(*crates, parts=("src",)):
