@@ -44,11 +44,9 @@ def file_of(crate, module):
 @functools.cache
 def definitions_in(path):
     """The words that a file of definitions has: each → its lines of code."""
-    found, lines = {}, []
-    for line in NO_CODE.sub("", read(path)).splitlines():
-        if not line.startswith((" ", "}")):
-            lines = found.setdefault(DEFINED.match(line)[1], [])
-        lines.append(line)
+    found = {}
+    for text in re.findall(r"^[^ }\n].*(?:\n[ }].*)*", NO_CODE.sub("", read(path)), re.M):
+        found.setdefault(DEFINED.match(text)[1], []).extend(text.splitlines())
     return found
 
 
@@ -103,24 +101,15 @@ def all_words():
     return found
 
 
-def lines_of(words):
-    """How many lines of definitions some words have."""
-    return sum(len(definitions_in(path)[word]) for path, word in words)
-
-
 def figures():
-    """How many words and lines there are, and how many of them the clauses name."""
+    """How many words and lines of definitions there are, and how many of them the clauses name."""
     words, first = all_words(), named_by_the_promise()[0]
-    return f"{len(words)} words, {lines_of(words)} lines; the clauses name {len(first)} of them, {lines_of(first)} lines"
-
-
-def main():
-    first, ghosts = named_by_the_promise()
-    for title, part in (("the clauses name:", first), ("these are made of:", all_words()[len(first) :])):
-        print(title, *(f"  {word}  {path}, {lines_of([(path, word)])}" for path, word in part), "", sep="\n")
-    print("values are seen as:", *(f"  {name}  {path}" for path, name in ghosts), "", sep="\n")
-    print(figures())
+    lines, first_lines = (sum(len(definitions_in(path)[word]) for path, word in part) for part in (words, first))
+    return f"{len(words)} words, {lines} lines; the clauses name {len(first)} of them, {first_lines} lines"
 
 
 if __name__ == "__main__":
-    main()
+    first, ghosts = named_by_the_promise()
+    for title, part in (("the clauses name:", first), ("these are made of:", all_words()[len(first) :])):
+        print(title, *(f"  {word}  {path}, {len(definitions_in(path)[word])}" for path, word in part), "", sep="\n")
+    print("values are seen as:", *(f"  {name}  {path}" for path, name in ghosts), "", figures(), sep="\n")
