@@ -1,8 +1,8 @@
 """What the checks and bench/ share: the files of the repository, the crates that crates.txt lists, and their sources.
 
-crates.txt has a line `NAME: LIBRARY ..` for each crate. A library with no line of its own is one of the kit. What follows a `#` is a comment.
+crates.txt has a line `NAME: LIBRARY ..` for each crate. A library with no line of its own is one of the kit. A `#` begins a comment.
 """
-import hashlib, pathlib
+import pathlib, subprocess
 
 TOP = str(pathlib.Path(__file__).resolve().parents[1])
 PARTS = ("src", "specs", "proofs")
@@ -34,11 +34,7 @@ def crates_below(name):
     return [*dict.fromkeys(below), name]
 
 
-def sum_of(path):
-    """The checksum of a file of the repository, as `sha256sum` prints it at the top."""
-    return f"{hashlib.sha256(pathlib.Path(TOP, path).read_bytes()).hexdigest()}  {path}\n"
-
-
-def sums_of(name):
-    """The checksums of crates.txt, and of the sources of a crate and of those below it."""
-    return "".join(map(sum_of, ["crates.txt", *sources(*crates_below(name), parts=PARTS)]))
+def sums_of(name, *made):
+    """The checksums of crates.txt, of the sources of a crate and of those below it, and of what was made of them."""
+    paths = ["crates.txt", *sources(*crates_below(name), parts=PARTS), *made]
+    return subprocess.check_output(["sha256sum", *paths], cwd=TOP, text=True)

@@ -5,7 +5,7 @@ file and the lines of its definition, without comments and examples.
 
 usage: checks/reading_list.py
 """
-import functools, re, sys
+import collections, functools, re, sys
 
 from rattle_source import read, sources
 
@@ -22,6 +22,11 @@ GHOST = re.compile(r"^    ghost (?!use)(\w+)\b.*?(?=^$|^    \S|^\})", re.M | re.
 # each `impl` and each public trait of the sources, as (path, trait, type, text); a trait's type is None
 BLOCKS = [(path, found[1] or found[2], found[3], found[0]) for path in SOURCES for found in BLOCK.finditer(read(path))]
 TRAITS = {"Model", *(trait for _, trait, target, _ in BLOCKS if not target)}
+# what clauses see a value as: by the name of a trait's member, and by that of a type for its model, each → [(path, name, text)]
+GHOSTS = collections.defaultdict(list)
+for path, trait, target, text in BLOCKS:
+    for member in GHOST.finditer(text) if target and trait in TRAITS else []:
+        GHOSTS[target if trait == "Model" else member[1]].append((path, member[1], member[0]))
 
 
 def source_of(call):
@@ -67,23 +72,13 @@ def words_in(path, text):
 
 
 @functools.cache
-def ghost_members():
-    """What clauses see a value as: by the name of a trait's member, and by that of a type for its model, each → [(path, name, text)]."""
-    found = {}
-    for path, trait, target, text in BLOCKS:
-        for member in GHOST.finditer(text) if target and trait in TRAITS else []:
-            found.setdefault(target if trait == "Model" else member[1], []).append((path, member[1], member[0]))
-    return found
-
-
-@functools.cache
 def named_by_the_promise():
     """The words that the calls of the promise name, those of the first call first; and the ghost members that these calls stand on."""
     section = read(PAGE).partition("\n## The promise\n")[2].partition("\n\nContracts hold")[0]
     words, ghosts = [], []
     for path, text in map(source_of, re.findall(r"`([\w:]+)`", section)):
         names = sorted(MEMBER.findall(text), key=lambda found: found[0] == "")
-        found = [ghost for name in dict.fromkeys(map("".join, names)) for ghost in ghost_members().get(name, [])]
+        found = [ghost for name in dict.fromkeys(map("".join, names)) for ghost in GHOSTS.get(name, [])]
         words += words_in(path, text)
         for place, _, member in found:
             words += words_in(place, member)
