@@ -15,22 +15,22 @@
  * nd_slice write are tested last. ND_OUT_OF_MEMORY may come where a list that is read has more than four numbers, in place of
  * every status but a ND_BAD_ARGUMENT that comes first.
  *
- * New layouts. Each index of a layout that nd_slice, nd_permute_axes, nd_reshape or nd_broadcast_strides writes has the place of
- * an index of the layout that it was given. So the new one lies in every buffer in which the given one lies. Where no two indices
- * of the given one have one place, no two of a slice, a permutation or a reshape have: what was accepted as owned stays owned.
- * A broadcast is to be read only: the coordinates of an axis that it stretches share their places. nd_merge_axes keeps both: the
- * indices of what it writes have the places of the indices of what it was given.
+ * New layouts. Each index of what nd_slice, nd_permute_axes, nd_reshape or nd_broadcast_strides writes has the place of an
+ * index of the layout that it was given. So the new layout lies in every buffer in which the given one lies. Where no two
+ * indices of the given one have one place, no two of a slice, a permutation or a reshape have: what was accepted as owned
+ * may be written through them. A broadcast is only to be read: along an axis that it stretches all coordinates have one
+ * place. nd_merge_axes keeps both: the indices of what it writes have the places of the indices of what it was given.
  *
  * What the caller ensures. Nothing else can make a call misbehave:
- *   - no pointer is null, and each is aligned as its type asks. The pointer of a list with the count 0 isn't looked at by the library
- *     that `bindings/c/build` makes, and may be null. That of `build --proved` doesn't promise so much: pass it the address
- *     of anything of the type;
+ *   - no pointer is null, and each is aligned as its type asks. The library that `bindings/c/build` makes doesn't look at
+ *     the pointer of a list whose count is 0, which may be null. The one of `build --proved` doesn't promise this: pass it
+ *     the address of anything of the type;
  *   - each count is true: so many numbers can be read, and written where the list is written;
- *   - a list or a number that a call writes shares no byte with another one that it writes, nor with a list that it reads, and no other
- *     thread uses it meanwhile. Lists that a call only reads may share bytes. A number that is passed by its value may be the one
- *     that is written: nd_slice(start, .., &start, ..);
- *   - `malloc`, `realloc` and `free` are those of one allocator, which aligns a block to each power of two up to 16 that divides
- *     its size;
+ *   - what a call writes, a list or a number, shares no byte with a list that it reads, nor with anything else that it
+ *     writes, and no other thread uses it meanwhile. Lists that a call only reads may share bytes. A number that is passed
+ *     by its value may be the one that is written: nd_slice(start, .., &start, ..);
+ *   - `malloc`, `realloc` and `free` are those of one allocator, which aligns a block to each power of two up to 16 that
+ *     divides its size;
  *   - no call is made from a signal handler, or from the forked child of a process with threads.
  * Calls keep nothing: any threads may call at once.
  *
@@ -44,7 +44,7 @@
 #include <stdint.h>
 #endif
 
-/* The version of this header, and of the library that was made with it. */
+/* The version of this header. Programs load the shared library by its name with the first number, libndarray_layout.so.0. */
 #define ND_VERSION_MAJOR 0
 #define ND_VERSION_MINOR 1
 #define ND_VERSION_PATCH 0
@@ -90,8 +90,8 @@ enum { ND_SLICE = 0, ND_INDEX = 1, ND_NEW_AXIS = 2 };
 /*
  * An element of a slice. ND_SLICE keeps an axis: from `start` to before `end`, or to the end of the axis where `has_end` is
  * 0, each `step`-th coordinate, from the last one back where `step` is negative. ND_INDEX takes the coordinate `start` and
- * drops the axis. ND_NEW_AXIS adds an axis of length 1. Numbers below 0 count from the end of the axis. Fields that a kind doesn't
- * name are not looked at.
+ * drops the axis. ND_NEW_AXIS adds an axis of length 1. Numbers below 0 count from the end of the axis. Fields that a
+ * kind doesn't name are not looked at.
  */
 typedef struct nd_slice_elem {
     int32_t kind;
@@ -273,8 +273,9 @@ int32_t nd_merge_axes(size_t *shape, size_t shape_len, ptrdiff_t *strides, size_
                       int32_t *merged);
 
 /*
- * Writes the strides along which the shape `new_shape` has the places of a layout in an order. The start is unchanged. Where there
- * is no index they are 0. `new_strides`: one for each axis of `new_shape`. `order`: ND_ROW_MAJOR or ND_COLUMN_MAJOR.
+ * Writes the strides along which the shape `new_shape` has the places of a layout in an order. The start is unchanged.
+ * Where there is no index they are 0. `new_strides`: one for each axis of `new_shape`. `order`: ND_ROW_MAJOR or
+ * ND_COLUMN_MAJOR.
  *
  * ND_INCOMPATIBLE_LAYOUT and ND_OVERFLOW as of nd_has_overlap; then ND_OVERFLOW where `new_shape` is too large; then
  * ND_INCOMPATIBLE_SHAPE where one of the two shapes alone has no index; then ND_INCOMPATIBLE_LAYOUT where two axes would
@@ -286,8 +287,8 @@ int32_t nd_reshape(const size_t *shape, size_t shape_len, const ptrdiff_t *strid
                    const size_t *new_shape, size_t new_shape_len, ptrdiff_t *new_strides, size_t new_strides_len);
 
 /*
- * Writes the shape and the strides with the axes in another order: axis k is axis `axes[k]`. The start is unchanged. `new_shape`,
- * `new_strides`: one for each axis of `shape`.
+ * Writes the shape and the strides with the axes in another order: axis k is axis `axes[k]`. The start is unchanged.
+ * `new_shape`, `new_strides`: one for each axis of `shape`.
  *
  * ND_INCOMPATIBLE_LAYOUT and ND_OVERFLOW as of nd_has_overlap; then ND_INCOMPATIBLE_SHAPE where `axes` doesn't have each
  * axis once.
@@ -311,6 +312,11 @@ int32_t nd_permute_axes(const size_t *shape, size_t shape_len, const ptrdiff_t *
  */
 int32_t nd_status_text(int32_t status, char *text, size_t text_len, size_t *used);
 
+/* The version of the header that a program was compiled with. */
+ND_INLINE const char *nd_header_version(void) {
+    return ND_VERSION;
+}
+
 /* What a status means, in the words of nd_status_text; of another number, that it is no status. */
 ND_INLINE const char *nd_status_message(int32_t status) {
     switch (status) {
@@ -330,13 +336,14 @@ ND_INLINE const char *nd_status_message(int32_t status) {
 /* ---- Layouts as one value -------------------------------------------------------------------------------------------- */
 
 /*
- * The functions below are of this header, and not of the library: each makes one call from above with the fields of a layout. It
- * returns the call's status, and after any but ND_OK nothing has been written. The layout that is written comes last, and may be the
- * one that is read. ND_BAD_ARGUMENT comes first also where a layout has, or would have, more than ND_MAX_AXES axes.
+ * The functions below are of this header, and not of the library: each makes one call from above with the fields of a
+ * layout. It returns the call's status, and after any but ND_OK nothing has been written. The layout that is written comes
+ * last, and may be the one that is read. ND_BAD_ARGUMENT, before every other status, also says that a layout has more than
+ * ND_MAX_AXES axes, or would have.
  */
 #define ND_MAX_AXES 32
 
-/* A start, and a length and a stride for each of `axes` axes. What lies after them is not looked at. */
+/* A start, a count of axes, and a length and a stride for each. What the lists hold after these is not looked at. */
 typedef struct nd_layout {
     size_t start;
     size_t axes;

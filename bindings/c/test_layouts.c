@@ -1,4 +1,4 @@
-/* The functions that ndarray_layout.h itself has, and what it promises of new layouts and of empty lists. C89, C99 and C++. */
+/* The functions that ndarray_layout.h itself has, and what it promises of new layouts and of empty lists: C89, C99, C++. */
 #include "ndarray_layout.h"
 
 #include <stdio.h>
@@ -32,7 +32,7 @@ static int is(const nd_layout *layout, size_t start, size_t axes, size_t len, si
 static void test_versions(void) {
     char text[32];
     sprintf(text, "%d.%d.%d", ND_VERSION_MAJOR, ND_VERSION_MINOR, ND_VERSION_PATCH);
-    CHECK(strcmp(text, ND_VERSION) == 0);
+    CHECK(strcmp(nd_header_version(), text) == 0);
 }
 
 static void test_status_message(void) {
@@ -225,7 +225,7 @@ static void test_what_is_kept(int32_t mode) {
             int is_broadcast = maker == 3;
             if (makers[maker](&layout, &other) != ND_OK) continue;
             made[maker]++;
-            if (!fits(&other, len, is_broadcast ? ND_READ_ONLY : mode)) CHECK(!"a new layout leaves the buffer, or aliases");
+            if (!fits(&other, len, is_broadcast ? ND_READ_ONLY : mode)) CHECK(!"a new layout leaves its buffer, or aliases");
             if (is_broadcast && nd_layout_check(&other, 1, len, ND_OWNED) == ND_UNSUPPORTED) aliased++;
         }
     }

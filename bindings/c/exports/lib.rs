@@ -1,4 +1,4 @@
-//! What `bindings/c/build` makes the libraries for C of: the exports, over C's allocator. A panic aborts: none unwinds into C.
+//! What `bindings/c/build` makes the libraries for C of: the exports, over C's allocator. A panic aborts the program.
 #![no_std]
 // (the exports are what C calls, and one is proved with a closure where a path would do)
 #![allow(clippy::too_many_arguments, clippy::redundant_closure)]

@@ -1,5 +1,5 @@
-# find_package(ndarray_layout): the targets ndarray_layout::ndarray_layout, which is shared, and ndarray_layout::static. They are found
-# from this file on, so that the folder may be moved as a whole.
+# find_package(ndarray_layout): the targets ndarray_layout::ndarray_layout, which is shared, and ndarray_layout::static.
+# They are found from this file on, so that the folder may be moved as a whole.
 if(NOT TARGET ndarray_layout::ndarray_layout)
   get_filename_component(_nd_lib "${CMAKE_CURRENT_LIST_DIR}/../.." ABSOLUTE)
   get_filename_component(_nd_include "${CMAKE_CURRENT_LIST_DIR}/@INCLUDE_FROM_HERE@" ABSOLUTE)

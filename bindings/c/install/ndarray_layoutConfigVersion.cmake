@@ -1,4 +1,4 @@
-# A version serves for an older one that begins with the same two numbers: before 1.0 the second one says what has changed.
+# A version serves for an older one that begins with the same two numbers.
 set(PACKAGE_VERSION "@VERSION@")
 string(REGEX MATCH "^[0-9]+\\.[0-9]+" _nd_own "${PACKAGE_VERSION}")
 string(REGEX MATCH "^[0-9]+\\.[0-9]+" _nd_asked "${PACKAGE_FIND_VERSION}.0")
