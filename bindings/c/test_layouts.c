@@ -18,6 +18,11 @@ static void check(int holds, int line, const char *what) {
 }
 
 #define CHECK(fact) check((fact), __LINE__, #fact)
+/* A fact of many rounds, which counts where it fails. */
+#define CHECK_QUIETLY(fact) \
+    do { \
+        if (!(fact)) check(0, __LINE__, #fact); \
+    } while (0)
 
 static const size_t two_three[2] = {2, 3}, many[ND_MAX_AXES + 1] = {1};
 static const ptrdiff_t up[2] = {-3, 1}, by_rows[2] = {3, 1}, zeros[ND_MAX_AXES + 1] = {0};
@@ -199,37 +204,64 @@ static int32_t random_broadcast(const nd_layout *layout, nd_layout *broadcast) {
     return nd_layout_broadcast(layout, shape, added + layout->axes, broadcast);
 }
 
-/* Whether each index has a place in the buffer, and in owned mode one of its own. */
-static int fits(const nd_layout *layout, size_t len, int32_t mode) {
-    size_t places[2000], count = 1, at, other;
-    for (at = 0; at < layout->axes; at++) count *= layout->shape[at];
-    if (count > COUNT(places) || nd_layout_places(layout, ND_ROW_MAJOR, places, count) != ND_OK) return 0;
-    for (at = 0; at < count; at++) {
-        if (places[at] >= len) return 0;
-        for (other = 0; mode == ND_OWNED && other < at; other++)
-            if (places[at] == places[other]) return 0;
-    }
-    return nd_layout_check(layout, 1, len, mode) == ND_OK;
+/* Axes are merged in place. Where they don't fit it is ND_UNSUPPORTED, as it is for one axis twice. */
+static int32_t random_merge(const nd_layout *layout, nd_layout *merged) {
+    int32_t is_merged = 0, status;
+    *merged = *layout;
+    if (layout->axes == 0) return ND_OUT_OF_BOUNDS;
+    status = nd_merge_axes(merged->shape, merged->axes, merged->strides, merged->axes, below(layout->axes),
+                           below(layout->axes), &is_merged);
+    return status == ND_OK && !is_merged ? ND_UNSUPPORTED : status;
 }
 
-/* What the header promises of new layouts, of 20,000 random ones in each mode. */
+#define MOST_PLACES 2000
+
+/* How many places the indices of a layout have, with repetitions, of which it writes each. */
+static size_t places_of(const nd_layout *layout, size_t places[MOST_PLACES]) {
+    size_t count = 1, axis;
+    for (axis = 0; axis < layout->axes; axis++) count *= layout->shape[axis];
+    CHECK_QUIETLY(count <= MOST_PLACES && nd_layout_places(layout, ND_ROW_MAJOR, places, count) == ND_OK);
+    return count;
+}
+
+/* Whether a number is among these. */
+static int is_among(size_t number, const size_t *numbers, size_t count) {
+    while (count-- > 0)
+        if (numbers[count] == number) return 1;
+    return 0;
+}
+
+/* Whether each index of a layout has the place of one of another layout, and where `is_distinct` no two have one. */
+static int keeps_places(const nd_layout *made, const nd_layout *layout, int is_distinct) {
+    static size_t places[MOST_PLACES], given[MOST_PLACES];
+    size_t count = places_of(made, places), given_count = places_of(layout, given), at;
+    for (at = 0; at < count; at++) {
+        if (!is_among(places[at], given, given_count)) return 0;
+        if (is_distinct && is_among(places[at], places, at)) return 0;
+    }
+    return 1;
+}
+
+/* What the header promises of new layouts, in 20,000 rounds. */
 static void test_what_is_kept(int32_t mode) {
-    int32_t (*const makers[4])(const nd_layout *, nd_layout *) = {random_slice, random_permutation, random_reshape,
-                                                                  random_broadcast};
-    int made[4] = {0, 0, 0, 0}, aliased = 0, round, maker;
+    int32_t (*const makers[5])(const nd_layout *, nd_layout *) = {random_slice, random_permutation, random_reshape,
+                                                                  random_merge, random_broadcast};
+    int made[5] = {0, 0, 0, 0, 0}, aliased = 0, round, maker;
     for (round = 0; round < 20000; round++) {
         nd_layout layout, other;
         size_t len;
         if (random_layout(&layout, &len, mode) != ND_OK) continue;
-        for (maker = 0; maker < 4; maker++) {
-            int is_broadcast = maker == 3;
+        for (maker = 0; maker < 5; maker++) {
+            int is_broadcast = maker == 4;
+            int32_t kept = is_broadcast ? ND_READ_ONLY : mode;
             if (makers[maker](&layout, &other) != ND_OK) continue;
             made[maker]++;
-            if (!fits(&other, len, is_broadcast ? ND_READ_ONLY : mode)) CHECK(!"a new layout leaves its buffer, or aliases");
+            CHECK_QUIETLY(keeps_places(&other, &layout, kept == ND_OWNED));
+            CHECK_QUIETLY(nd_layout_check(&other, 1, len, kept) == ND_OK);
             if (is_broadcast && nd_layout_check(&other, 1, len, ND_OWNED) == ND_UNSUPPORTED) aliased++;
         }
     }
-    for (maker = 0; maker < 4; maker++) CHECK(made[maker] > 4000);
+    for (maker = 0; maker < 5; maker++) CHECK(made[maker] > 4000);
     CHECK(aliased > 1000);
 }
 
