@@ -133,7 +133,7 @@ static void test_too_many_axes(void) {
 
 /* A number from 0 to before `bound`, by a fixed sequence. */
 static size_t below(size_t bound) {
-    static uint32_t state = 1;
+    static unsigned state = 1;
     state = state * 1664525u + 1013904223u;
     return (state >> 8) % bound;
 }

@@ -53,7 +53,9 @@ fn passed_by_c(parameter: &[Tree]) -> Result<(String, String), Fault> {
                 Some(Tree::Group(item)) if item.open.text == "[" => Ok((
                     format!("{name}: *{kind} {}, {name}_count: usize", text_of(&item.trees)),
                     // (the pointer of an empty list may be null)
-                    format!("if {name}_count == 0 {{ {empty} }} else {{ ::core::slice::{call}({name}, {name}_count) }}"),
+                    format!(
+                        "if {name}_count == 0 {{ {empty} }} else {{ ::core::slice::{call}({name}, {name}_count) }}"
+                    ),
                 )),
                 Some(item) if is_written(ty) => {
                     Ok((format!("{name}: *mut {}", item.first().text), format!("&mut *{name}")))
