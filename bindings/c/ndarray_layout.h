@@ -1,6 +1,6 @@
 /*
- * ndarray_layout: shapes, signed strides and slices turned into places in a buffer, as ndarray 0.17.2 has them. Every call
- * is proved: it returns, for every input that keeps to the rules below, and its status is the one that is stated.
+ * ndarray_layout: shapes, signed strides and slices turned into places in a buffer, as ndarray 0.17.2 has them. The sources of
+ * the calls are proved: each returns, for every input that keeps to the rules below, and its status is the one that is stated.
  *
  * Words. A shape is a list of lengths, one for each axis. A stride is how many elements lie between two neighbours of an
  * axis, with its sign. A place is a position in the buffer, counted in elements from its first one. The start of a layout is
@@ -15,20 +15,48 @@
  * nd_slice write are tested last. ND_OUT_OF_MEMORY may come where a list that is read has more than four numbers, in place of
  * every status but a ND_BAD_ARGUMENT that comes first.
  *
+ * New layouts. Each index of what nd_slice, nd_permute_axes, nd_reshape or nd_broadcast_strides writes has the place of an
+ * index of the layout that it was given. So the new layout lies in every buffer in which the given one lies. Where no two
+ * indices of the given one have one place, no two of a slice, a permutation or a reshape have: what was accepted as owned
+ * may be written through them. A broadcast is only to be read: along an axis that it stretches all coordinates have one
+ * place. nd_merge_axes keeps both: the indices of what it writes have the places of the indices of what it was given.
+ *
  * What the caller ensures. Nothing else can make a call misbehave:
- *   - no pointer is null, and each is aligned as its type asks; for an empty list pass the address of anything of the type;
+ *   - no pointer is null, and each is aligned as its type asks. The library that `bindings/c/build` makes doesn't look at
+ *     the pointer of a list whose count is 0, which may be null. The one of `build --proved` doesn't promise this: pass it
+ *     the address of anything of the type;
  *   - each count is true: so many numbers can be read, and written where the list is written;
- *   - what a call writes overlaps nothing else that it is given, and no other thread uses it meanwhile;
- *   - `malloc`, `realloc` and `free` are those of one allocator, which aligns a block to each power of two up to 16 that divides
- *     its size;
+ *   - what a call writes, a list or a number, shares no byte with a list that it reads, nor with anything else that it
+ *     writes, and no other thread uses it meanwhile. Lists that a call only reads may share bytes. A number that is passed
+ *     by its value may be the one that is written: nd_slice(start, .., &start, ..);
+ *   - `malloc`, `realloc` and `free` are those of one allocator, which aligns a block to each power of two up to 16 that
+ *     divides its size;
  *   - no call is made from a signal handler, or from the forked child of a process with threads.
  * Calls keep nothing: any threads may call at once.
+ *
+ * This header is C89, C99 and C++. Where there is no <stdint.h>, define ND_NO_STDINT and the type int32_t before it.
  */
 #ifndef NDARRAY_LAYOUT_H
 #define NDARRAY_LAYOUT_H
 
 #include <stddef.h>
+#ifndef ND_NO_STDINT
 #include <stdint.h>
+#endif
+
+/* The version of this header. Programs load the shared library by its name with the first number, libndarray_layout.so.0. */
+#define ND_VERSION_MAJOR 0
+#define ND_VERSION_MINOR 1
+#define ND_VERSION_PATCH 0
+#define ND_VERSION "0.1.0"
+
+#if defined(__cplusplus) || (defined(__STDC_VERSION__) && __STDC_VERSION__ >= 199901L)
+#define ND_INLINE static inline
+#elif defined(__GNUC__)
+#define ND_INLINE static __inline__
+#else
+#define ND_INLINE static
+#endif
 
 #ifdef __cplusplus
 extern "C" {
@@ -62,8 +90,8 @@ enum { ND_SLICE = 0, ND_INDEX = 1, ND_NEW_AXIS = 2 };
 /*
  * An element of a slice. ND_SLICE keeps an axis: from `start` to before `end`, or to the end of the axis where `has_end` is
  * 0, each `step`-th coordinate, from the last one back where `step` is negative. ND_INDEX takes the coordinate `start` and
- * drops the axis. ND_NEW_AXIS adds an axis of length 1. Numbers below 0 count from the end of the axis. Fields that a kind doesn't
- * name are not looked at.
+ * drops the axis. ND_NEW_AXIS adds an axis of length 1. Numbers below 0 count from the end of the axis. Fields that a
+ * kind doesn't name are not looked at.
  */
 typedef struct nd_slice_elem {
     int32_t kind;
@@ -245,8 +273,9 @@ int32_t nd_merge_axes(size_t *shape, size_t shape_len, ptrdiff_t *strides, size_
                       int32_t *merged);
 
 /*
- * Writes the strides along which the shape `new_shape` has the places of a layout in an order. The start is unchanged. Where there
- * is no index they are 0. `new_strides`: one for each axis of `new_shape`. `order`: ND_ROW_MAJOR or ND_COLUMN_MAJOR.
+ * Writes the strides along which the shape `new_shape` has the places of a layout in an order. The start is unchanged.
+ * Where there is no index they are 0. `new_strides`: one for each axis of `new_shape`. `order`: ND_ROW_MAJOR or
+ * ND_COLUMN_MAJOR.
  *
  * ND_INCOMPATIBLE_LAYOUT and ND_OVERFLOW as of nd_has_overlap; then ND_OVERFLOW where `new_shape` is too large; then
  * ND_INCOMPATIBLE_SHAPE where one of the two shapes alone has no index; then ND_INCOMPATIBLE_LAYOUT where two axes would
@@ -258,8 +287,8 @@ int32_t nd_reshape(const size_t *shape, size_t shape_len, const ptrdiff_t *strid
                    const size_t *new_shape, size_t new_shape_len, ptrdiff_t *new_strides, size_t new_strides_len);
 
 /*
- * Writes the shape and the strides with the axes in another order: axis k is axis `axes[k]`. The start is unchanged. `new_shape`,
- * `new_strides`: one for each axis of `shape`.
+ * Writes the shape and the strides with the axes in another order: axis k is axis `axes[k]`. The start is unchanged.
+ * `new_shape`, `new_strides`: one for each axis of `shape`.
  *
  * ND_INCOMPATIBLE_LAYOUT and ND_OVERFLOW as of nd_has_overlap; then ND_INCOMPATIBLE_SHAPE where `axes` doesn't have each
  * axis once.
@@ -282,6 +311,153 @@ int32_t nd_permute_axes(const size_t *shape, size_t shape_len, const ptrdiff_t *
  * ND_BAD_ARGUMENT: a number that is no status, or less room.
  */
 int32_t nd_status_text(int32_t status, char *text, size_t text_len, size_t *used);
+
+/* The version of the header that a program was compiled with. */
+ND_INLINE const char *nd_header_version(void) {
+    return ND_VERSION;
+}
+
+/* What a status means, in the words of nd_status_text; of another number, that it is no status. */
+ND_INLINE const char *nd_status_message(int32_t status) {
+    switch (status) {
+    case ND_OK: return "Ok: the call succeeded";
+    case ND_INCOMPATIBLE_SHAPE: return "ShapeError/IncompatibleShape: incompatible shapes";
+    case ND_INCOMPATIBLE_LAYOUT: return "ShapeError/IncompatibleLayout: incompatible memory layout";
+    case ND_RANGE_LIMITED: return "ShapeError/RangeLimited: the shape does not fit in type limits";
+    case ND_OUT_OF_BOUNDS: return "ShapeError/OutOfBounds: out of bounds indexing";
+    case ND_UNSUPPORTED: return "ShapeError/Unsupported: unsupported operation";
+    case ND_OVERFLOW: return "ShapeError/Overflow: arithmetic overflow";
+    case ND_BAD_ARGUMENT: return "BadArgument: a number without a meaning, or a list of another count than is due";
+    case ND_OUT_OF_MEMORY: return "OutOfMemory: memory was refused";
+    default: return "a number that is no status";
+    }
+}
+
+/* ---- Layouts as one value -------------------------------------------------------------------------------------------- */
+
+/*
+ * The functions below are of this header, and not of the library: each makes one call from above with the fields of a
+ * layout. It returns the call's status, and after any but ND_OK nothing has been written. The layout that is written comes
+ * last, and may be the one that is read. ND_BAD_ARGUMENT, before every other status, also says that a layout has more than
+ * ND_MAX_AXES axes, or would have.
+ */
+#define ND_MAX_AXES 32
+
+/* A start, a count of axes, and a length and a stride for each. What the lists hold after these is not looked at. */
+typedef struct nd_layout {
+    size_t start;
+    size_t axes;
+    size_t shape[ND_MAX_AXES];
+    ptrdiff_t strides[ND_MAX_AXES];
+} nd_layout;
+
+/* (of this header alone) Whether there is room for so many axes; where there is, it writes their lengths. */
+ND_INLINE int nd_put_shape(nd_layout *layout, const size_t *shape, size_t shape_len) {
+    size_t axis;
+    if (shape_len > ND_MAX_AXES) return 0;
+    layout->axes = shape_len;
+    for (axis = 0; axis < shape_len; axis++) layout->shape[axis] = shape[axis];
+    return 1;
+}
+
+/* (of this header alone) Writes a layout where the call that made it returned ND_OK. */
+ND_INLINE int32_t nd_keep(int32_t status, const nd_layout *made, nd_layout *layout) {
+    if (status == ND_OK) *layout = *made;
+    return status;
+}
+
+/*
+ * The layout of a shape without gaps, from the place 0: nd_default_strides for ND_ROW_MAJOR, nd_fortran_strides for
+ * ND_COLUMN_MAJOR.
+ */
+ND_INLINE int32_t nd_layout_from_shape(const size_t *shape, size_t shape_len, int32_t order, nd_layout *layout) {
+    nd_layout made;
+    if (!nd_put_shape(&made, shape, shape_len)) return ND_BAD_ARGUMENT;
+    made.start = 0;
+    if (order == ND_ROW_MAJOR)
+        return nd_keep(nd_default_strides(made.shape, made.axes, made.strides, made.axes), &made, layout);
+    if (order == ND_COLUMN_MAJOR)
+        return nd_keep(nd_fortran_strides(made.shape, made.axes, made.strides, made.axes), &made, layout);
+    return ND_BAD_ARGUMENT;
+}
+
+/* nd_layout_start: accepts a shape and strides over a buffer whose first element is the lowest one. */
+ND_INLINE int32_t nd_layout_from_strides(size_t elem_size, size_t len, const size_t *shape, size_t shape_len,
+                                         const ptrdiff_t *strides, size_t strides_len, int32_t mode, nd_layout *layout) {
+    nd_layout made;
+    size_t axis;
+    int32_t status;
+    if (!nd_put_shape(&made, shape, shape_len)) return ND_BAD_ARGUMENT;
+    status = nd_layout_start(elem_size, len, shape, shape_len, strides, strides_len, mode, &made.start);
+    if (status != ND_OK) return status;
+    for (axis = 0; axis < made.axes; axis++) made.strides[axis] = strides[axis];
+    return nd_keep(status, &made, layout);
+}
+
+/* nd_check_layout: whether a layout fits a buffer. */
+ND_INLINE int32_t nd_layout_check(const nd_layout *layout, size_t elem_size, size_t len, int32_t mode) {
+    if (layout->axes > ND_MAX_AXES) return ND_BAD_ARGUMENT;
+    return nd_check_layout(layout->start, elem_size, len, layout->shape, layout->axes, layout->strides, layout->axes, mode);
+}
+
+/* nd_place: the place of an index. */
+ND_INLINE int32_t nd_layout_place(const nd_layout *layout, const size_t *index, size_t index_len, size_t *place) {
+    if (layout->axes > ND_MAX_AXES) return ND_BAD_ARGUMENT;
+    return nd_place(layout->start, layout->shape, layout->axes, layout->strides, layout->axes, index, index_len, place);
+}
+
+/* nd_places: the places of all indices, in an order. */
+ND_INLINE int32_t nd_layout_places(const nd_layout *layout, int32_t order, size_t *places, size_t places_len) {
+    if (layout->axes > ND_MAX_AXES) return ND_BAD_ARGUMENT;
+    return nd_places(layout->start, layout->shape, layout->axes, layout->strides, layout->axes, order, places, places_len);
+}
+
+/* nd_slice. */
+ND_INLINE int32_t nd_layout_slice(const nd_layout *layout, const nd_slice_elem *elems, size_t elems_len, int32_t fit,
+                                  nd_layout *slice) {
+    nd_layout made;
+    size_t elem;
+    made.axes = 0;
+    for (elem = 0; elem < elems_len; elem++)
+        if (elems[elem].kind != ND_INDEX) made.axes++;
+    if (layout->axes > ND_MAX_AXES || made.axes > ND_MAX_AXES) return ND_BAD_ARGUMENT;
+    return nd_keep(nd_slice(layout->start, layout->shape, layout->axes, layout->strides, layout->axes, elems, elems_len,
+                            fit, &made.start, made.shape, made.axes, made.strides, made.axes),
+                   &made, slice);
+}
+
+/* nd_permute_axes: axis k of what is written is axis `axes[k]` of the layout. */
+ND_INLINE int32_t nd_layout_permute(const nd_layout *layout, const size_t *axes, size_t axes_len, nd_layout *permuted) {
+    nd_layout made;
+    if (layout->axes > ND_MAX_AXES) return ND_BAD_ARGUMENT;
+    made.start = layout->start;
+    made.axes = layout->axes;
+    return nd_keep(nd_permute_axes(layout->shape, layout->axes, layout->strides, layout->axes, axes, axes_len,
+                                   made.shape, made.axes, made.strides, made.axes),
+                   &made, permuted);
+}
+
+/* nd_reshape: the same places along another shape, in an order. */
+ND_INLINE int32_t nd_layout_reshape(const nd_layout *layout, int32_t order, const size_t *new_shape, size_t new_shape_len,
+                                    nd_layout *reshaped) {
+    nd_layout made;
+    if (layout->axes > ND_MAX_AXES || !nd_put_shape(&made, new_shape, new_shape_len)) return ND_BAD_ARGUMENT;
+    made.start = layout->start;
+    return nd_keep(nd_reshape(layout->shape, layout->axes, layout->strides, layout->axes, order, made.shape, made.axes,
+                              made.strides, made.axes),
+                   &made, reshaped);
+}
+
+/* nd_broadcast_strides: the layout read as one of the shape `target`. */
+ND_INLINE int32_t nd_layout_broadcast(const nd_layout *layout, const size_t *target, size_t target_len,
+                                      nd_layout *broadcast) {
+    nd_layout made;
+    if (layout->axes > ND_MAX_AXES || !nd_put_shape(&made, target, target_len)) return ND_BAD_ARGUMENT;
+    made.start = layout->start;
+    return nd_keep(nd_broadcast_strides(layout->shape, layout->axes, layout->strides, layout->axes, made.shape, made.axes,
+                                        made.strides, made.axes),
+                   &made, broadcast);
+}
 
 #ifdef __cplusplus
 }

@@ -34,7 +34,7 @@ fn function(name: &str, parameters: &Group, result: &[Tree]) -> Result<String, F
     }
     let (taken, passed) = (taken.join(", "), passed.join(", "));
     Ok(format!(
-        "/// # Safety\n///\n/// Each pointer is aligned and leads to as many items as its count says.\n#[unsafe(no_mangle)]\npub unsafe extern \"C\" fn {name}({taken}) -> {result} {{\n    unsafe {{ super::{name}({passed}) }}\n}}\n\n"
+        "/// # Safety\n///\n/// Each pointer is aligned and leads to as many items as its count says. That of an empty list isn't looked at.\n#[unsafe(no_mangle)]\npub unsafe extern \"C\" fn {name}({taken}) -> {result} {{\n    unsafe {{ super::{name}({passed}) }}\n}}\n\n"
     ))
 }
 
@@ -45,11 +45,17 @@ fn passed_by_c(parameter: &[Tree]) -> Result<(String, String), Fault> {
     let is_written = |ty: &[Tree]| ty.first().is_some_and(|word| word.is("mut"));
     match &parameter[1..] {
         [colon, amp, ty @ ..] if colon.is(":") && amp.is("&") => {
-            let (kind, call) = if is_written(ty) { ("mut", "from_raw_parts_mut") } else { ("const", "from_raw_parts") };
+            let (kind, empty, call) = match is_written(ty) {
+                true => ("mut", "&mut []", "from_raw_parts_mut"),
+                false => ("const", "&[]", "from_raw_parts"),
+            };
             match ty.last() {
                 Some(Tree::Group(item)) if item.open.text == "[" => Ok((
                     format!("{name}: *{kind} {}, {name}_count: usize", text_of(&item.trees)),
-                    format!("::core::slice::{call}({name}, {name}_count)"),
+                    // (the pointer of an empty list may be null)
+                    format!(
+                        "if {name}_count == 0 {{ {empty} }} else {{ ::core::slice::{call}({name}, {name}_count) }}"
+                    ),
                 )),
                 Some(item) if is_written(ty) => {
                     Ok((format!("{name}: *mut {}", item.first().text), format!("&mut *{name}")))

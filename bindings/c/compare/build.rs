@@ -1,5 +1,5 @@
-//! Writes the exports of the package, as its own build does, and links the proved library: that of the folder
-//! NDARRAY_LAYOUT_LIB_DIR, or the one that `bindings/c/build` makes.
+//! Writes the exports of the package, as its own build does, and links the library of the folder NDARRAY_LAYOUT_LIB_DIR, or else
+//! the proved one, which `bindings/c/build --proved` makes.
 
 use std::error::Error;
 use std::path::PathBuf;
@@ -11,7 +11,7 @@ type Fallible<T> = Result<T, Box<dyn Error>>;
 fn main() -> Fallible<()> {
     let here = PathBuf::from(env::var("CARGO_MANIFEST_DIR")?);
     let (top, out) = (here.join("../../.."), PathBuf::from(env::var("OUT_DIR")?));
-    let library = env::var_os("NDARRAY_LAYOUT_LIB_DIR").map_or(here.join(".."), PathBuf::from);
+    let library = env::var_os("NDARRAY_LAYOUT_LIB_DIR").map_or(here.join("../proved"), PathBuf::from);
 
     let eraser = out.join("eraser");
     let source = top.join("rust/build/main.rs");

@@ -28,10 +28,11 @@ elements_of FlipRows = by_step (negsuc 0) ∷ by_step (pos 1) ∷ []
 elements_of FlipColumns = by_step (pos 1) ∷ by_step (negsuc 0) ∷ []
 elements_of (Every count) = by_step (pos count) ∷ by_step (pos count) ∷ []
 
--- the shape of the pixels, and a position as an index of it
+-- an extent as the shape of the pixels
 abbrev pub shape_of : Extent → List ℕ
 shape_of extent = extent.rows ∷ extent.columns ∷ []
 
+-- a position as an index of that shape
 abbrev pub index_of : Position → List ℕ
 index_of at = at.row ∷ at.column ∷ []
 

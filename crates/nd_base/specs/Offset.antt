@@ -2,7 +2,7 @@
 use Rattle.std.specs.Prelude.{◌≡◌, ℕ, ℤ, pos, negsuc, ◌+ℤ◌, ◌*ℤ◌, Option, Some, None, if◌then◌else◌, List, [], ◌∷◌, refl}
 use Rattle.nd_base.specs.Indices.{is_index}
 
--- the sum of each coordinate times its stride
+-- an index's distance from the first index, with its sign: the sum of each coordinate times its stride
 abbrev pub offset_of : List ℤ → List ℕ → ℤ
 offset_of strides [] = pos 0
 offset_of [] (i ∷ index) = pos 0

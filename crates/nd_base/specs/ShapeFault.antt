@@ -5,7 +5,7 @@ use Rattle.nd_base.specs.declared.error.ErrorKind.TheVariants.{OutOfBounds}
 use Rattle.nd_base.specs.declared.error.LayoutError.{LayoutError}
 use Rattle.nd_base.specs.declared.error.LayoutError.TheVariants.{Shape, Memory}
 
--- none where the call succeeded or an allocation failed
+-- the kind of the error that a call returns; none where it succeeded or an allocation failed
 abbrev pub shape_fault : {X : Type 0} → Result X LayoutError → Option ErrorKind
 shape_fault (Ok x) = None
 shape_fault (Err (Shape kind)) = Some kind

@@ -2,21 +2,21 @@
 use Rattle.std.specs.Prelude.{◌≡◌, ℕ, ◌+◌, ◌-◌, ◌*◌, ℤ, pos, negsuc, List, [], ◌∷◌, refl}
 use Rattle.nd_base.specs.Signed.{magnitude}
 
--- how far one axis reaches; `-` stops at 0
+-- how far one axis reaches: one less than its length, times its stride's magnitude; `-` stops at 0
 abbrev pub reach : ℕ → ℤ → ℕ
 reach len stride = (len - 1) * magnitude stride
 
--- how far it reaches below its first coordinate
+-- how far an axis reaches below its first coordinate
 abbrev pub reach_down : ℕ → ℤ → ℕ
 reach_down len (pos stride) = 0
 reach_down len (negsuc stride) = reach len (negsuc stride)
 
--- how far it reaches above its first coordinate
+-- how far an axis reaches above its first coordinate
 abbrev pub reach_up : ℕ → ℤ → ℕ
 reach_up len (pos stride) = reach len (pos stride)
 reach_up len (negsuc stride) = 0
 
--- the sum over the axes
+-- the sum over the axes of a function of each one's length and stride
 abbrev pub sum_over_axes : (ℕ → ℤ → ℕ) → List ℕ → List ℤ → ℕ
 sum_over_axes f [] strides = 0
 sum_over_axes f (len ∷ shape) [] = 0
@@ -26,11 +26,11 @@ sum_over_axes f (len ∷ shape) (stride ∷ strides) = f len stride + sum_over_a
 abbrev pub span : List ℕ → List ℤ → ℕ
 span shape strides = sum_over_axes reach shape strides
 
--- how far they reach below it
+-- how far the axes reach together below the first index
 abbrev pub low_span : List ℕ → List ℤ → ℕ
 low_span shape strides = sum_over_axes reach_down shape strides
 
--- how far they reach above it
+-- how far the axes reach together above the first index
 abbrev pub high_span : List ℕ → List ℤ → ℕ
 high_span shape strides = sum_over_axes reach_up shape strides
 

@@ -7,7 +7,7 @@ use Rattle.std.proofs.lemmas.Bool.{both_ways}
 use Rattle.nd_base.specs.Size.{nonzero_size, limit}
 use Rattle.nd_base.specs.Span.{span}
 
--- one stride for each length, with the product of the lengths that are not 0 and the reach within the limit
+-- one stride for each length, with the product of the lengths that are not 0 and the span within the limit
 pub record IsValidLayout (shape : List ℕ) (strides : List ℤ) : Type 0 where
   pub same_count : length shape ≡ length strides
   pub size_fits : nonzero_size shape ≤ limit

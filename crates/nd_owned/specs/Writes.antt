@@ -53,7 +53,7 @@ SomeIntersect shape writes =
     (i : ℕ) × (j : ℕ) × (i < j)
     × IsSomeAnd (slice_get writes i) (λ one. IsSomeAnd (slice_get writes j) (λ other. Intersect Strict shape one.slice other.slice))
 
--- the error, or none, of slices that fit
+-- the error, or none, of slices that fit: Unsupported where two share an index, and none where no two do
 abbrev pub IsIntersectionFault : {T : Type 0} → List ℕ → List (Write T) → Option ErrorKind → Type 0
 IsIntersectionFault shape writes None = AllPairs (AreApart shape) writes
 IsIntersectionFault shape writes (Some kind) = (kind ≡ Unsupported) × SomeIntersect shape writes

@@ -7,20 +7,20 @@ use Rattle.nd_slice.specs.declared.elem.SliceInfoElem.{SliceInfoElem}
 use Rattle.nd_slice.specs.declared.elem.SliceInfoElem.TheVariants as elem
 use Rattle.nd_slice.specs.Picks.{end_meaning, meaning, slice_with, start_meaning}
 
--- where it begins on an axis of length len, counted from 0
+-- where the range of an element begins on an axis of length len, counted from 0
 abbrev pub elem_start : Fit → ℕ → SliceInfoElem → ℕ
 elem_start fit len (elem.Slice start end step) = magnitude (start_meaning fit len (slice_with start end step))
 elem_start fit len (elem.Index index) = magnitude (meaning len index)
 elem_start fit len elem.NewAxis = 0
 
--- and the number that it stops before: where it begins, if it has no number
+-- the number that the range of an element stops before: where it begins, if it has no number
 abbrev pub elem_end : Fit → ℕ → SliceInfoElem → ℕ
 elem_end fit len (elem.Slice start end step) =
     max (magnitude (start_meaning fit len (slice_with start end step))) (magnitude (end_meaning fit len (slice_with start end step)))
 elem_end fit len (elem.Index index) = magnitude (meaning len index) + 1
 elem_end fit len elem.NewAxis = 0
 
--- its step: 1 for an index and for a new axis
+-- the step of an element: 1 for an index and for a new axis
 abbrev pub elem_step : SliceInfoElem → ℤ
 elem_step (elem.Slice start end step) = step
 elem_step (elem.Index index) = pos 1

@@ -13,7 +13,7 @@ pub record IsViewOf (source : List ℕ → List ℕ) (old new : View) : Type 0 w
   pub places : KeepsPlaces source old new
   pub in_bounds : (len : ℕ) → LiesWithin len old → LiesWithin len new
 
--- and its places are distinct where the other's are
+-- such a view, in which no two indices alias where no two of the other do
 pub record Descends (source : List ℕ → List ℕ) (old new : View) : Type 0 where
   pub is_view : IsView new
   pub places : KeepsPlaces source old new

@@ -11,7 +11,7 @@ use Rattle.ndarray_layout.specs.Rows.{row_places, rows_places}
 abbrev pub places_after : ℕ → ℤ → ℕ → List Row → List ℤ
 places_after place stride left rows = drop 1 (row_places place stride (left + 1)) ++ rows_places rows
 
--- these are left: each is a number of an `isize`, no row is empty, and so is how many they are
+-- an iterator has these places left: each is an `isize` from 0 on, as is how many they are, and no row is empty
 pub record ArePlacesLeft (place : ℕ) (stride : ℤ) (left : ℕ) (rows : List Row) : Type 0 where
   pub here : place ≤ limit
   pub in_bounds : All (IsInBounds (2 ^ 63)) (places_after place stride left rows)

@@ -29,7 +29,7 @@ rows_left order start column row left =
     let view = axis_view order start column in
     map (moved_to row) (drop (size view.shape - left) (view_places order view))
 
--- these are left, of which so many in the last of the columns that have begun: there the next one lies a stride on
+-- an iterator has these rows left, of which so many in the last of the columns that have begun: there the next one lies a stride on
 pub record AreRowsLeft (order : Order) (start : ℕ) (column : Fastest) (row : Row) (left in_column columns : ℕ) : Type 0 where
   pub is_view : IsView (axis_view order start column)
   pub here : row.start ≤ limit

@@ -29,6 +29,7 @@ pub data StepValue : Type 0 where
   ReshapeTo : (shape : List ℕ) → (order : Order) → StepValue
   BroadcastTo : (shape : List ℕ) → StepValue
 
+-- a step of the program without where it lies in memory
 abbrev pub step_value : Step → StepValue
 step_value (step.Slice elems fit) = SliceBy elems.items fit
 step_value (step.Collapse axis index) = CollapseTo axis.0 index

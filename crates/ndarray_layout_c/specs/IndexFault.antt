@@ -4,7 +4,7 @@ use Rattle.ndarray_layout.specs.declared.ErrorKind.{ErrorKind}
 use Rattle.ndarray_layout.specs.declared.ErrorKind.TheVariants.{OutOfBounds}
 use Rattle.ndarray_layout.specs.Indices.{is_index}
 
--- it is no index of the shape
+-- the fault of a list that has to be an index of the shape
 abbrev pub index_fault : List ℕ → List ℕ → Option ErrorKind
 index_fault shape index = if is_index shape index then None else Some OutOfBounds
 

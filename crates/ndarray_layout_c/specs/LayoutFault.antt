@@ -14,7 +14,7 @@ use Rattle.ndarray_layout.specs.View.{View, view_of}
 abbrev pub most_elements : ℕ
 most_elements = 18446744073709551615
 
--- the fault of a layout from wherever it fits
+-- the fault of a layout, from wherever it fits, over as many elements as there can be
 abbrev pub layout_fault : List ℕ → List ℤ → Option ErrorKind
 layout_fault shape strides = acceptance 1 most_elements ReadOnly shape strides
 

@@ -1,5 +1,5 @@
-//! 100,000 random calls of each export, of the proved library and of the package: the status is the same, and so is all
-//! that is written, or unchanged after an error.
+//! 100,000 random calls of each export, of the library for C (the proved one, or another: `build.rs`) and of the package: the
+//! status is the same, and so is all that is written, or unchanged after an error.
 #![cfg(test)]
 // (the exports are what C calls, and one is proved with a closure where a path would do)
 #![allow(clippy::too_many_arguments, clippy::redundant_closure)]

@@ -10,7 +10,7 @@ use Rattle.nd_owned.specs.Writes.{Write}
 use Rattle.ndarray_layout.specs.declared.Fit.TheVariants.{Strict}
 use Rattle.ndarray_layout.specs.Intersect.{Intersect}
 
--- the error, or none, of a slice that is to share an index with none of those of a list
+-- the error, or none, of a slice beside a list: Unsupported where it shares an index with one of them, else none
 abbrev pub IsIntersectionFaultOf : {T : Type 0} → List ℕ → List SliceInfoElem → List (Write T) → Option ErrorKind → Type 0
 IsIntersectionFaultOf shape slice others None = All (λ other. Intersect Strict shape slice other.slice → ⊥) others
 IsIntersectionFaultOf shape slice others (Some kind) =

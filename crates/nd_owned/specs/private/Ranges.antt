@@ -18,10 +18,11 @@ IsBetween start end number = (start ≤ number) × (number < end)
 abbrev pub elem_on : ℕ → List SliceInfoElem → SliceInfoElem
 elem_on axis slice = slice_index_or slice axis elem.NewAxis
 
--- where the range of such a slice begins on an axis of a shape, and what it stops before
+-- where the range of a slice without new axes begins on an axis of a shape
 abbrev pub start_on : List ℕ → ℕ → List SliceInfoElem → ℕ
 start_on shape axis slice = elem_start Strict (slice_index shape axis) (elem_on axis slice)
 
+-- the number that the range of a slice without new axes stops before on an axis of a shape
 abbrev pub end_on : List ℕ → ℕ → List SliceInfoElem → ℕ
 end_on shape axis slice = elem_end Strict (slice_index shape axis) (elem_on axis slice)
 

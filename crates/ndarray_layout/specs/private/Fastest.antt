@@ -19,7 +19,7 @@ pub record HasRows (order : Order) (lens strides : List ℕ) (axis : Fastest) : 
   pub rows : (start : ℕ) → IsView (view_of start lens strides)
       → view_rows order (axis_view order start axis) ≡ view_rows order (view_of start lens strides)
 
--- or its places
+-- wherever it starts, this view is one where that of a layout is, and has its places
 pub record HasPlaces (order : Order) (lens strides : List ℕ) (axis : Fastest) : Type 0 where
   pub is_view : (start : ℕ) → IsView (view_of start lens strides) → IsView (axis_view order start axis)
   pub places : (start : ℕ) → IsView (view_of start lens strides)

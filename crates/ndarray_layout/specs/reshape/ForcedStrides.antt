@@ -39,6 +39,7 @@ abbrev pub stride_of_axis : List ℕ → List ℤ → List ℕ → ℕ → ℤ �
 stride_of_axis from strides to axis previous =
     (if nat_lt 1 (slice_index to axis) then offset_at_flat_index from strides (size_after to axis) else stride_of_one from strides to axis previous)
 
+-- the stride of the axis of a number of the new shape
 abbrev pub stride_at : List ℕ → List ℤ → List ℕ → ℕ → ℤ
 stride_at from strides to zero = stride_of_axis from strides to 0 (pos 1)
 stride_at from strides to (suc axis) = stride_of_axis from strides to (suc axis) (stride_at from strides to axis)

@@ -31,6 +31,7 @@ cumulative_products (len ∷ lens) = 1 ∷ map (λ product. len * product) (cumu
 abbrev pub is_bad_joint : List ℕ → ℕ → Bool
 is_bad_joint to joint = nat_lt joint (size to) && not (list_any (λ product. product == joint) (cumulative_products to))
 
+-- some loose joint lies within the new shape, and between none of its axes
 abbrev pub has_bad_joint : List ℕ → List ℤ → List ℕ → Bool
 has_bad_joint from strides to = list_any (is_bad_joint to) (loose_joints from strides)
 

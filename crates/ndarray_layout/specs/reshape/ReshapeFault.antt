@@ -17,6 +17,7 @@ fault_as_read from strides to =
     then Some IncompatibleLayout
     else (if size from == size to then None else Some IncompatibleShape))
 
+-- why a reshape fails in an order: a bad joint first, and then sizes that differ
 abbrev pub reshape_fault : Order → List ℕ → List ℤ → List ℕ → Option ErrorKind
 reshape_fault order from strides to = fault_as_read (as_read order from) (as_read order strides) (as_read order to)
 

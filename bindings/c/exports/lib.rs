@@ -1,0 +1,16 @@
+//! What `bindings/c/build` makes the libraries for C of: the exports, over C's allocator. A panic aborts the program.
+#![no_std]
+// (the exports are what C calls, and one is proved with a closure where a path would do)
+#![allow(clippy::too_many_arguments, clippy::redundant_closure)]
+
+mod heap;
+
+include!(concat!(env!("OUT_DIR"), "/exports.rs"));
+
+#[panic_handler]
+fn abort(_: &core::panic::PanicInfo<'_>) -> ! {
+    unsafe extern "C" {
+        safe fn abort() -> !;
+    }
+    abort()
+}
