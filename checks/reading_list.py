@@ -77,8 +77,7 @@ def named_by_the_promise():
     section = read(PAGE).partition("\n## The promise\n")[2].partition("\n\nContracts hold")[0]
     words, ghosts = [], []
     for path, text in map(source_of, re.findall(r"`([\w:]+)`", section)):
-        names = sorted(MEMBER.findall(text), key=lambda found: found[0] == "")
-        found = [ghost for name in dict.fromkeys(map("".join, names)) for ghost in GHOSTS.get(name, [])]
+        found = [ghost for name in dict.fromkeys(map("".join, MEMBER.findall(text))) for ghost in GHOSTS.get(name, [])]
         words += words_in(path, text)
         for place, _, member in found:
             words += words_in(place, member)
