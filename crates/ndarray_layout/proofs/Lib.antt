@@ -1,8 +1,11 @@
 pub mod AcceptedRule
+pub mod BlockSteps
+pub mod BlocksWritten
 pub mod Broadcasts
 pub mod ByRows
 pub mod Collapses
 pub mod Fastest
+pub mod FromPlaces
 pub mod FromStart
 pub mod Merged
 pub mod Offsets

@@ -1,6 +1,9 @@
 pub mod AcceptanceFrom
+pub mod BlocksView
 pub mod BroadcastView
+pub mod ChunksView
 pub mod CollapsedView
+pub mod DiagonalView
 pub mod DistinctPlaces
 pub mod Keeps
 pub mod KeepsPlaces
@@ -15,6 +18,7 @@ pub mod SlicedView
 pub mod Step
 pub mod StepFits
 pub mod View
+pub mod WindowsView
 pub use Rattle.nd_base.proofs.laws.Below
 pub use Rattle.nd_base.proofs.laws.Definitions
 pub use Rattle.nd_base.proofs.laws.Dim

@@ -1,7 +1,10 @@
 pub mod AcceptanceFrom
+pub mod BlocksView
 pub mod BroadcastView
+pub mod ChunksView
 pub mod CollapsedView
 pub mod Descends
+pub mod DiagonalView
 pub mod DistinctPlaces
 pub mod KeepsPlaces
 pub mod MergedView
@@ -16,6 +19,7 @@ pub mod SlicedView
 pub mod Step
 pub mod StepFits
 pub mod View
+pub mod WindowsView
 pub mod private
 pub mod reshape
 pub use Rattle.nd_base.specs.Dim

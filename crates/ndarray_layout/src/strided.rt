@@ -1,6 +1,9 @@
 //! Views of data: a shape and strides that were accepted, with the place of the first index.
+mod blocks;
 mod broadcasting;
+mod chunks;
 mod collapsing;
+mod diagonal;
 mod intersecting;
 mod iterating;
 mod makers;
@@ -12,6 +15,7 @@ mod reshaping;
 mod rows;
 mod sizes;
 mod slicing;
+mod windows;
 
 pub use iterating::Places;
 use nd_base::Lengths;

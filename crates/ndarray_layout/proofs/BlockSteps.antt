@@ -1,0 +1,185 @@
+-- Blocks of a layout that lie at steps: each index in a block lies where its source does, and with steps of a block's length no two do.
+use Rattle.std.proofs.Common.{◌≡◌, ℕ, suc, ◌+◌, ◌-◌, ◌*◌, ◌<◌, ◌≤◌, ℤ, pos, ◌+ℤ◌, ◌*ℤ◌, Bool, true, false, cond, List, [], ◌∷◌, ◌++◌, length, map, subst}
+use Rattle.std.proofs.Common.{get_or, take, drop, replicate, nat_lt, refl, sym, ap, ◌∙◌, arith, inl, inr}
+use Rattle.std.proofs.Math.Nat.{mul-le-mul_right}
+use Rattle.std.proofs.lemmas.Bool.{and_from, and_parts, cases_lt, lt-ltb, ltb-true}
+use Rattle.std.proofs.lemmas.Int.{ints}
+use Rattle.std.proofs.lemmas.List.{length-append, length-map, length-replicate}
+use Rattle.std.proofs.lemmas.Nat.{same_from_place}
+use Rattle.nd_base.specs.Elementwise.{elementwise, products, sums}
+use Rattle.nd_base.proofs.laws.Definitions.{is_empty, is_index, limit, nonzero_size, offset_of}
+use Rattle.nd_base.proofs.laws.IsIndex.{length_of_index, nonempty_from_index}
+use Rattle.nd_base.proofs.laws.Times.{times_sum, times_times}
+use Rattle.ndarray_layout.specs.BlocksView.{blocks_of, strides_along, strides_of_blocks}
+use Rattle.ndarray_layout.specs.KeepsPlaces.{KeepsPlaces}
+use Rattle.ndarray_layout.specs.View.{View, IsView}
+use Rattle.ndarray_layout.proofs.FromPlaces.{IsView-along_zeros, IsView-from_places}
+
+-- ---- two lists of axes, one after the other
+pub is_index-append : (front back index : List ℕ) → is_index (front ++ back) index ≡ true
+    → (is_index front (take (length front) index) ≡ true) × (is_index back (drop (length front) index) ≡ true)
+is_index-append [] back index here = (refl, here)
+is_index-append (len ∷ front) back [] here = absurd (cc)
+is_index-append (len ∷ front) back (i ∷ index) here =
+    let parts = and_parts (nat_lt i len) (is_index (front ++ back) index) here in
+    let rest = is_index-append front back index parts.1 in
+    (and_from (nat_lt i len) (is_index front (take (length front) index)) parts.0 rest.0, rest.1)
+
+pub is_index-joined : (front back index inner : List ℕ) → is_index front index ≡ true → is_index back inner ≡ true
+    → is_index (front ++ back) (index ++ inner) ≡ true
+is_index-joined [] back [] inner here there = there
+is_index-joined [] back (i ∷ index) inner here there = absurd (cc)
+is_index-joined (len ∷ front) back [] inner here there = absurd (cc)
+is_index-joined (len ∷ front) back (i ∷ index) inner here there =
+    let parts = and_parts (nat_lt i len) (is_index front index) here in
+    and_from (nat_lt i len) (is_index (front ++ back) (index ++ inner)) parts.0 (is_index-joined front back index inner parts.1 there)
+
+offset_of-append : (front back : List ℤ) (index : List ℕ) → length front ≤ length index
+    → offset_of (front ++ back) index ≡ offset_of front (take (length front) index) +ℤ offset_of back (drop (length front) index)
+offset_of-append [] back index long = omega (arith, ints)
+offset_of-append (stride ∷ front) back [] long = absurd (omega arith)
+offset_of-append (stride ∷ front) back (i ∷ index) long = omega (arith, ints, offset_of-append front back index (omega arith))
+
+pub length-elementwise : (f : ℕ → ℕ → ℕ) (xs ys : List ℕ) → length xs ≡ length ys → length (elementwise f xs ys) ≡ length xs
+length-elementwise f [] ys e = refl
+length-elementwise f (x ∷ xs) [] e = absurd (omega arith)
+length-elementwise f (x ∷ xs) (y ∷ ys) e = ap suc (length-elementwise f xs ys (omega arith))
+
+-- ---- blocks at steps
+-- how many blocks of a length an axis has, the step from one to the next, and the stride: the last block ends within the axis
+pub record AreBlocks (count : ℕ → ℕ → ℕ) (step : ℕ → ℕ) (along : ℕ → ℕ → ℤ → ℤ) : Type 0 where
+  pub fit : (len size : ℕ) → 0 < size → 0 < count len size → (count len size - 1) * step size + size ≤ len
+  pub stride : (len size : ℕ) (stride : ℤ) → 2 ≤ count len size → along len size stride ≡ pos (step size) *ℤ stride
+
+module _ (count : ℕ → ℕ → ℕ) (step : ℕ → ℕ) (along : ℕ → ℕ → ℤ → ℤ) (blocks : AreBlocks count step along) where
+  pub length-strides_along : (shape block : List ℕ) (strides : List ℤ) → length shape ≡ length block → length shape ≡ length strides
+      → length (strides_along along shape block strides) ≡ length shape
+  length-strides_along [] block strides e g = refl
+  length-strides_along (len ∷ shape) [] strides e g = absurd (omega arith)
+  length-strides_along (len ∷ shape) (size ∷ block) [] e g = absurd (omega arith)
+  length-strides_along (len ∷ shape) (size ∷ block) (stride ∷ strides) e g =
+      ap suc (length-strides_along shape block strides (omega arith) (omega arith))
+
+  -- a coordinate in a block is one of the axis
+  below : (len size i j : ℕ) → i < count len size → j < size → i * step size + j < len
+  below len size i j here there =
+      let fit = blocks.fit len size (omega arith) (omega arith) in
+      let before : i ≤ count len size - 1 = omega arith in
+      let steps : i * step size ≤ (count len size - 1) * step size = mul-le-mul_right (step size) before in
+      omega arith
+
+  -- and lies where its source does
+  offset : (len size i j : ℕ) (stride : ℤ) → i < count len size
+      → (pos i *ℤ along len size stride) +ℤ (pos j *ℤ stride) ≡ pos (i * step size + j) *ℤ stride
+  offset len size i j stride here = sym (times_sum (i * step size) j stride ∙ ap (λ z. z +ℤ (pos j *ℤ stride)) (sym first))
+    where
+      first : pos i *ℤ along len size stride ≡ pos (i * step size) *ℤ stride
+      first = elim (cases_lt (count len size) 2) [
+        | inl one ↦
+            let none : i ≡ 0 = omega arith in
+            rw none (omega (arith, ints))
+        | inr more ↦ ap (λ z. pos i *ℤ z) (blocks.stride len size stride more) ∙ times_times i (step size) stride
+      ]
+
+  -- the source of an index in a block
+  record SourceKept (shape block : List ℕ) (strides : List ℤ) (index inner : List ℕ) : Type 0 where
+    pub within : is_index shape (sums (products index (map step block)) inner) ≡ true
+    pub offset : offset_of (strides_along along shape block strides) index +ℤ offset_of strides inner
+        ≡ offset_of strides (sums (products index (map step block)) inner)
+
+  source_kept : (shape block : List ℕ) (strides : List ℤ) (index inner : List ℕ) → length shape ≡ length block
+      → length shape ≡ length strides
+      → is_index (elementwise count shape block) index ≡ true → is_index block inner ≡ true
+      → SourceKept shape block strides index inner
+  source_kept [] [] strides [] [] e g here there = record { within = refl; offset = omega (arith, ints) }
+  source_kept [] [] strides [] (j ∷ inner) e g here there = absurd (cc)
+  source_kept [] [] strides (i ∷ index) inner e g here there = absurd (cc)
+  source_kept [] (size ∷ block) strides index inner e g here there = absurd (omega arith)
+  source_kept (len ∷ shape) [] strides index inner e g here there = absurd (omega arith)
+  source_kept (len ∷ shape) (size ∷ block) [] index inner e g here there = absurd (omega arith)
+  source_kept (len ∷ shape) (size ∷ block) (stride ∷ strides) [] inner e g here there = absurd (cc)
+  source_kept (len ∷ shape) (size ∷ block) (stride ∷ strides) (i ∷ index) [] e g here there = absurd (cc)
+  source_kept (len ∷ shape) (size ∷ block) (stride ∷ strides) (i ∷ index) (j ∷ inner) e g here there =
+      let outer = and_parts (nat_lt i (count len size)) (is_index (elementwise count shape block) index) here in
+      let inside = and_parts (nat_lt j size) (is_index block inner) there in
+      let block_there = ltb-true i (count len size) outer.0 in
+      let first = below len size i j block_there (ltb-true j size inside.0) in
+      let rest = source_kept shape block strides index inner (omega arith) (omega arith) outer.1 inside.1 in
+      let at = i * step size + j in
+      record {
+        within = and_from (nat_lt at len) (is_index shape (sums (products index (map step block)) inner)) (lt-ltb at len first) rest.within;
+        offset = omega (arith, ints, offset len size i j stride block_there, rest.offset);
+      }
+
+  -- ---- the view of all indices of all blocks
+  module _ (view : View) (v : IsView view) (block : List ℕ) (same : length block ≡ length view.shape) where
+    abbrev counts : List ℕ
+    counts = elementwise count view.shape block
+
+    abbrev strides : List ℤ
+    strides = strides_along along view.shape block view.strides
+
+    abbrev n : ℕ
+    n = length view.shape
+
+    counts_count : length counts ≡ n
+    counts_count = length-elementwise count view.shape block (sym same)
+
+    strides_count : length strides ≡ n
+    strides_count = length-strides_along view.shape block view.strides (sym same) v.valid.same_count
+
+    pub blocks_keep : KeepsPlaces (λ index. sums (products (take n index) (map step block)) (drop n index)) view
+        (blocks_of counts strides block view)
+    blocks_keep index here =
+        let parts = is_index-append counts block index here in
+        let long = length_of_index (counts ++ block) index here in
+        let whole : length (counts ++ block) ≡ length counts + length block = length-append counts block in
+        let outer : is_index counts (take n index) ≡ true = ap (λ m. is_index counts (take m index)) (sym counts_count) ∙ parts.0 in
+        let inside : is_index block (drop n index) ≡ true = ap (λ m. is_index block (drop m index)) (sym counts_count) ∙ parts.1 in
+        let kept = source_kept view.shape block view.strides (take n index) (drop n index) (sym same) v.valid.same_count outer inside in
+        let some : strides_of_blocks (counts ++ block) (strides ++ view.strides) ≡ strides ++ view.strides =
+        ap (λ empty. cond empty (replicate (length (counts ++ block)) (pos 0)) (strides ++ view.strides))
+        (nonempty_from_index (counts ++ block) index here) in
+        let split : offset_of (strides ++ view.strides) index ≡ offset_of strides (take n index) +ℤ offset_of view.strides (drop n index) =
+        offset_of-append strides view.strides index (omega (arith, strides_count, counts_count))
+        ∙ ap (λ m. offset_of strides (take m index) +ℤ offset_of view.strides (drop m index)) strides_count in
+        (kept.within, ap (λ z. pos view.start +ℤ z) (ap (λ s. offset_of s index) some ∙ split ∙ kept.offset))
+
+    pub blocks_are_view : nonzero_size (counts ++ block) ≤ limit → IsView (blocks_of counts strides block view)
+    blocks_are_view fits = by (is_empty (counts ++ block)) refl
+      where
+        by : (empty : Bool) → is_empty (counts ++ block) ≡ empty → IsView (blocks_of counts strides block view)
+        by true none = subst (λ s. IsView (record { start = view.start; shape = counts ++ block; strides = s }))
+            (sym (ap (λ empty. cond empty (replicate (length (counts ++ block)) (pos 0)) (strides ++ view.strides)) none))
+            (IsView-along_zeros (counts ++ block) v fits)
+        by false some =
+            let along_all : strides_of_blocks (counts ++ block) (strides ++ view.strides) ≡ strides ++ view.strides =
+            ap (λ empty. cond empty (replicate (length (counts ++ block)) (pos 0)) (strides ++ view.strides)) some in
+            let count_all : length (counts ++ block) ≡ length (strides_of_blocks (counts ++ block) (strides ++ view.strides)) =
+            length-append counts block
+            ∙ omega (arith, counts_count, strides_count, v.valid.same_count, length-append strides view.strides)
+            ∙ ap length (sym along_all) in
+            IsView-from_places (λ index. sums (products (take n index) (map step block)) (drop n index)) v count_all fits some blocks_keep
+
+-- ---- blocks side by side
+-- two indices in blocks with one source are one
+pub apart_side_by_side : (block index inner other within : List ℕ) → length index ≡ length block → length other ≡ length block
+    → is_index block inner ≡ true → is_index block within ≡ true
+    → sums (products index block) inner ≡ sums (products other block) within → (index ≡ other) × (inner ≡ within)
+apart_side_by_side [] [] [] [] [] e g here there same = (refl, refl)
+apart_side_by_side [] (i ∷ index) inner other within e g here there same = absurd (omega arith)
+apart_side_by_side [] [] (j ∷ inner) other within e g here there same = absurd (cc)
+apart_side_by_side [] [] [] (k ∷ other) within e g here there same = absurd (omega arith)
+apart_side_by_side [] [] [] [] (l ∷ within) e g here there same = absurd (cc)
+apart_side_by_side (size ∷ block) [] inner other within e g here there same = absurd (omega arith)
+apart_side_by_side (size ∷ block) (i ∷ index) [] other within e g here there same = absurd (cc)
+apart_side_by_side (size ∷ block) (i ∷ index) (j ∷ inner) [] within e g here there same = absurd (omega arith)
+apart_side_by_side (size ∷ block) (i ∷ index) (j ∷ inner) (k ∷ other) [] e g here there same = absurd (cc)
+apart_side_by_side (size ∷ block) (i ∷ index) (j ∷ inner) (k ∷ other) (l ∷ within) e g here there same =
+    let first = and_parts (nat_lt j size) (is_index block inner) here in
+    let second = and_parts (nat_lt l size) (is_index block within) there in
+    let head : i * size + j ≡ k * size + l = cc in
+    let tail : sums (products index block) inner ≡ sums (products other block) within = cc in
+    let one = same_from_place i j k l size (ltb-true j size first.0) (ltb-true l size second.0) head in
+    let rest = apart_side_by_side block index inner other within (omega arith) (omega arith) first.1 second.1 tail in
+    (ap (λ x. x ∷ index) one.0 ∙ ap (λ xs. k ∷ xs) rest.0, ap (λ x. x ∷ inner) one.1 ∙ ap (λ xs. l ∷ xs) rest.1)

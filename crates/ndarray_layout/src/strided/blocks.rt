@@ -1,0 +1,202 @@
+//! Blocks of a shape at steps: what windows and chunks have in common.
+ghost use Rattle.std.specs.Prelude.{◌≡◌, ◌+◌, ◌*◌, ◌<◌, ◌≤◌, ◌==◌, ◌&&◌, ◌++◌, true, false, None, ℕ, length, nat_le, slice_index, IfOk, IsOk, SomeIff};
+ghost use Rattle.std.specs.Option.{option_map_or};
+ghost use Rattle.std.specs.Result.{result_err};
+ghost use Rattle.nd_base.specs.Lengths.{NeedsNoMemory};
+ghost use Rattle.nd_base.specs.ShapeFault.{shape_fault};
+ghost use Rattle.nd_base.specs.Signed.{signed as signed_reading, all_signed};
+ghost use Rattle.nd_base.specs.Size.{is_empty, limit, nonzero_size};
+ghost use Rattle.nd_base.specs.Span.{reach};
+ghost use Rattle.nd_base.specs.ValidLayout.{IsValidLayout};
+ghost use Rattle.ndarray_layout.specs.BlocksView.{blocks_fault, strides_of_blocks};
+ghost use Rattle.ndarray_layout.specs.private.Blocks.{block_count, block_counts, block_stride, block_strides};
+
+use nd_base::{ErrorKind, LayoutError, Lengths, ShapeError, from_kind, stride_offset, unsigned};
+use nd_shape::size_of_shape_checked;
+use std::alloc::Global;
+
+/// Which blocks of a shape a view has.
+#[derive(Clone, Copy)]
+pub(crate) enum Blocks {
+    /// All of them.
+    Windows,
+    /// Those side by side from the first index on.
+    Chunks,
+}
+
+impl Blocks {
+    /// How many blocks of a length an axis has.
+    #[inline(always)]
+    fn count(self, len: usize, size: usize) -> usize
+        requires len_fits { len ≤ limit }
+        requires some { 0 < size }
+        ensures { result ≡ block_count self len size }
+    {
+        match self {
+            Blocks::Windows => (len + 1).saturating_sub(size),
+            Blocks::Chunks => len / size,
+        }
+    }
+
+    /// The stride from one block of an axis to the next.
+    #[inline(always)]
+    fn stride(self, len: usize, size: usize, stride: usize) -> usize
+        requires len_fits { len ≤ limit }
+        requires span_fits { reach len (signed_reading stride) ≤ limit }
+        requires some { 0 < size }
+        ensures { signed_reading result ≡ block_stride self len size (signed_reading stride) }
+    {
+        match self {
+            Blocks::Windows => stride,
+            // (a chunk without a next one may be longer than its axis)
+            Blocks::Chunks if len / size < 2 => 0,
+            Blocks::Chunks => unsigned(stride_offset(size, stride)),
+        }
+    }
+}
+
+/// Whether a block has as many axes as a shape, and twice as many are those that a type fixes, if it
+/// fixes a count.
+#[inline(always)]
+fn has_counts(fixed: Option<usize>, shape: &[usize], block: &[usize]) -> bool
+    ensures { result ≡ (length block.now == length shape.now
+        && option_map_or (λ count. count == length shape.now + length shape.now) fixed true) }
+{
+    block.len() == shape.len() && !matches!(fixed, Some(ndim) if ndim != 2 * shape.len())
+}
+
+/// The product, where it is at most the greatest `isize`.
+#[inline(always)]
+fn multiply(size: usize, len: usize) -> Option<usize>
+    ensures { SomeIff result (size * len ≤ limit) (size * len) }
+{
+    let product = size as u128 * len as u128;
+    if product <= isize::MAX as u128 {
+        Some(product as usize)
+    } else {
+        None
+    }
+}
+
+/// Whether so many indices in each block of a shape make at most the greatest `isize` of indices in all
+/// blocks, where axes without a block count as ones with one.
+#[inline(always)]
+fn fits_limit(blocks: Blocks, shape: &[usize], block: &[usize], size: usize) -> bool
+    requires lens_fit { (k : ℕ) → slice_index shape.now k ≤ limit }
+    requires some { is_empty block.now ≡ false }
+    requires counts { length block.now ≡ length shape.now }
+    requires size_fits { size ≤ limit }
+    ensures { result ≡ nat_le (nonzero_size (block_counts blocks shape.now block.now) * size) limit }
+{
+    let mut total = size;
+    for axis in 0..shape.len() {
+        let count = blocks.count(shape[axis], block[axis]);
+        if count != 0 {
+            match multiply(total, count) {
+                Some(product) => total = product,
+                None => return false,
+            }
+        }
+    }
+    true
+}
+
+/// Checks that the blocks of a shape make a shape of a type that may fix a count of axes. The caller
+/// ensures that each length is at most the greatest `isize`. Errors: those of `Strided::windows`,
+/// but out of memory.
+#[inline(always)]
+fn check_blocks<D: Lengths>(
+    blocks: Blocks,
+    fixed: Option<usize>,
+    shape: &[usize],
+    block: &D,
+) -> Result<(), ShapeError>
+    requires lens_fit { (k : ℕ) → slice_index shape.now k ≤ limit }
+    ensures { result_err result ≡ blocks_fault fixed shape.now
+        (block_counts blocks shape.now (D.list block.now)) (D.list block.now) }
+{
+    let lens = block.slice();
+    if !has_counts(fixed, shape, lens) {
+        return Err(from_kind(ErrorKind::IncompatibleShape));
+    }
+    if lens.contains(&0) {
+        return Err(from_kind(ErrorKind::Unsupported));
+    }
+    let size = size_of_shape_checked(block)?;
+    if !fits_limit(blocks, shape, lens, size) {
+        return Err(from_kind(ErrorKind::Overflow));
+    }
+    Ok(())
+}
+
+/// Writes how many blocks there are along each axis, and then the lengths of a block.
+#[inline(always)]
+fn write_lengths(blocks: Blocks, shape: &[usize], block: &[usize], new_shape: &mut [usize])
+    requires lens_fit { (k : ℕ) → slice_index shape.now k ≤ limit }
+    requires some { is_empty block.now ≡ false }
+    requires counts { length block.now ≡ length shape.now }
+    requires room { length new_shape.old ≡ length shape.now + length shape.now }
+    ensures { new_shape.new ≡ block_counts blocks shape.now block.now ++ block.now }
+{
+    for axis in 0..shape.len() {
+        new_shape[axis] = blocks.count(shape[axis], block[axis]);
+    }
+    new_shape[shape.len()..].copy_from_slice(block);
+}
+
+/// Writes the strides from one block of each axis to the next, and then those in a block.
+#[inline(always)]
+fn write_strides(
+    blocks: Blocks,
+    shape: &[usize],
+    strides: &[usize],
+    block: &[usize],
+    new_strides: &mut [usize],
+)
+    requires valid { IsValidLayout shape.now (all_signed strides.now) }
+    requires some { is_empty block.now ≡ false }
+    requires counts { length block.now ≡ length shape.now }
+    requires room { length new_strides.old ≡ length shape.now + length shape.now }
+    ensures { all_signed new_strides.new ≡
+        block_strides blocks shape.now block.now (all_signed strides.now)
+        ++ all_signed strides.now }
+{
+    for axis in 0..shape.len() {
+        new_strides[axis] = blocks.stride(shape[axis], block[axis], strides[axis]);
+    }
+    new_strides[shape.len()..].copy_from_slice(strides);
+}
+
+/// The lengths and the strides of the view of all indices of all blocks of a shape. The caller ensures
+/// that the layout is valid. Errors: those of `Strided::windows`.
+#[inline(always)]
+pub(crate) fn block_axes<D: Lengths, E: Lengths>(
+    alloc: Global,
+    blocks: Blocks,
+    shape: &[usize],
+    strides: &[usize],
+    block: &D,
+) -> Result<(E, E), LayoutError>
+    requires { IsValidLayout shape.now (all_signed strides.now) }
+    ensures fault { shape_fault result ≡ blocks_fault E.NDIM shape.now
+        (block_counts blocks shape.now (D.list block.now)) (D.list block.now) }
+    ensures memory { shape_fault result ≡ None →
+        NeedsNoMemory E.NDIM (length shape.now + length shape.now) → IsOk result }
+    ensures shape { IfOk result (λ (dim, kept). E.list dim ≡
+        block_counts blocks shape.now (D.list block.now) ++ D.list block.now) }
+    ensures strides { IfOk result (λ (dim, kept). all_signed (E.list kept) ≡
+        strides_of_blocks
+        (block_counts blocks shape.now (D.list block.now) ++ D.list block.now)
+        (block_strides blocks shape.now (D.list block.now) (all_signed strides.now)
+        ++ all_signed strides.now)) }
+{
+    check_blocks(blocks, E::NDIM, shape, block)?;
+    let ndim = 2 * shape.len();
+    let mut dim = E::zeros(alloc, ndim)?;
+    let mut kept = E::zeros(alloc, ndim)?;
+    write_lengths(blocks, shape, block.slice(), dim.slice_mut());
+    if !dim.slice().contains(&0) {
+        write_strides(blocks, shape, strides, block.slice(), kept.slice_mut());
+    }
+    Ok((dim, kept))
+}
