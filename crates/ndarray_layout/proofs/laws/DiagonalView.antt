@@ -59,8 +59,13 @@ diagonal_len_one (len ∷ lens) h = elim (fold_one len lens) [
 no_more_from_back : (shape : List ℕ) → 0 < length shape → diagonal_len (reverse shape) ≤ diagonal_len shape
 no_more_from_back shape some =
     let one = diagonal_len_one shape some in
-    omega (arith, one.1, one.2, get_or-from_back shape one.0 0 one.1,
-    diagonal_len_below (reverse shape) (length shape - 1 - one.0) (omega (arith, one.1, length-reverse shape)))
+    omega (
+      arith,
+      one.1,
+      one.2,
+      get_or-from_back shape one.0 0 one.1,
+      diagonal_len_below (reverse shape) (length shape - 1 - one.0) (omega (arith, one.1, length-reverse shape)),
+    )
 
 pub diagonal_len-reverse : (shape : List ℕ) → diagonal_len (reverse shape) ≡ diagonal_len shape
 diagonal_len-reverse [] = refl
@@ -163,8 +168,11 @@ module _ {view : View} (v : IsView view) where
   KeepsPlaces-diagonal_of (i ∷ j ∷ index) here = let more = (and_parts (nat_lt i len) false here).1 in absurd (cc)
 
   size_fits : nonzero_size (len ∷ []) ≤ limit
-  size_fits = omega (arith, size_of_one len (nonzero_size view.shape) (diagonal_len_fits view.shape) (nonzero_size_pos view.shape),
-      v.valid.size_fits)
+  size_fits = omega (
+    arith,
+    size_of_one len (nonzero_size view.shape) (diagonal_len_fits view.shape) (nonzero_size_pos view.shape),
+    v.valid.size_fits,
+  )
 
   pub IsView-diagonal_of : IsView (diagonal_of view)
   IsView-diagonal_of = elim (cases_lt 0 len) [

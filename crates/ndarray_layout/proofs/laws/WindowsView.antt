@@ -66,8 +66,12 @@ module _ (fixed : Option ℕ) (window : List ℕ) {view : View} (v : IsView view
       (blocks_keep window_count one own are_blocks view v window can.same_count) index here in
       let long = length_of_index (window_counts view.shape window ++ window) index here in
       let count = length-elementwise window_count view.shape window (sym can.same_count) in
-      let outer : length (take n index) ≡ length window = length-take-le n index (omega (arith, long, count,
-      length-append (window_counts view.shape window) window)) ∙ sym can.same_count in
+      let outer : length (take n index) ≡ length window = length-take-le n index (omega (
+        arith,
+        long,
+        count,
+        length-append (window_counts view.shape window) window,
+      )) ∙ sym can.same_count in
       let same : window_source n index ≡ sums (products (take n index) (map one window)) (drop n index) =
       ap (λ at. sums at (drop n index)) (sym (steps_of_one (take n index) window outer)) in
       (ap (is_index view.shape) same ∙ kept.0, kept.1 ∙ ap (place_at view) (sym same))

@@ -1,5 +1,5 @@
 //! Blocks of a shape at steps: what windows and chunks have in common.
-ghost use Rattle.std.specs.Prelude.{◌≡◌, ◌+◌, ◌*◌, ◌<◌, ◌≤◌, ◌==◌, ◌&&◌, ◌++◌, true, false, None, ℕ, length, nat_le, slice_index, IfOk, IsOk, SomeIff};
+ghost use Rattle.std.specs.Prelude.{◌≡◌, ◌+◌, ◌*◌, ◌<◌, ◌≤◌, ◌==◌, ◌&&◌, ◌++◌, true, false, None, ℕ, length, nat_lt, slice_index, IfOk, IsOk, SomeIff};
 ghost use Rattle.std.specs.Option.{option_map_or};
 ghost use Rattle.std.specs.Result.{result_err};
 ghost use Rattle.nd_base.specs.Lengths.{NeedsNoMemory};
@@ -78,15 +78,16 @@ fn multiply(size: usize, len: usize) -> Option<usize>
     }
 }
 
-/// Whether so many indices in each block of a shape make at most the greatest `isize` of indices in all
-/// blocks, where axes without a block count as ones with one.
+/// Whether blocks of so many indices each have more than the greatest `isize` of indices together, where
+/// an axis without a block counts as one with one.
 #[inline(always)]
-fn fits_limit(blocks: Blocks, shape: &[usize], block: &[usize], size: usize) -> bool
+fn passes_limit(blocks: Blocks, shape: &[usize], block: &[usize], size: usize) -> bool
     requires lens_fit { (k : ℕ) → slice_index shape.now k ≤ limit }
     requires some { is_empty block.now ≡ false }
     requires counts { length block.now ≡ length shape.now }
     requires size_fits { size ≤ limit }
-    ensures { result ≡ nat_le (nonzero_size (block_counts blocks shape.now block.now) * size) limit }
+    ensures { result ≡
+        nat_lt limit (nonzero_size (block_counts blocks shape.now block.now) * size) }
 {
     let mut total = size;
     for axis in 0..shape.len() {
@@ -94,11 +95,11 @@ fn fits_limit(blocks: Blocks, shape: &[usize], block: &[usize], size: usize) -> 
         if count != 0 {
             match multiply(total, count) {
                 Some(product) => total = product,
-                None => return false,
+                None => return true,
             }
         }
     }
-    true
+    false
 }
 
 /// Checks that the blocks of a shape make a shape of a type that may fix a count of axes. The caller
@@ -123,7 +124,7 @@ fn check_blocks<D: Lengths>(
         return Err(from_kind(ErrorKind::Unsupported));
     }
     let size = size_of_shape_checked(block)?;
-    if !fits_limit(blocks, shape, lens, size) {
+    if passes_limit(blocks, shape, lens, size) {
         return Err(from_kind(ErrorKind::Overflow));
     }
     Ok(())

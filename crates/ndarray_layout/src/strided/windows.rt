@@ -30,11 +30,7 @@ impl<D: Lengths> Strided<D> {
     ///
     /// `[4]`, `[1]` in windows of `[2]`: `[3,2]`, `[1,1]`. ndarray's `windows`, as one view; NumPy's
     /// `sliding_window_view`.
-    pub fn windows<E: Lengths>(
-        &self,
-        alloc: Global,
-        window: &D,
-    ) -> Result<Strided<E>, LayoutError>
+    pub fn windows<E: Lengths>(&self, alloc: Global, window: &D) -> Result<Strided<E>, LayoutError>
         ensures fault { shape_fault result ≡
             windows_fault E.NDIM self.now.shape (D.list window.now) }
         ensures memory { windows_fault E.NDIM self.now.shape (D.list window.now) ≡ None →

@@ -2,7 +2,7 @@
 use Rattle.std.proofs.Common.{◌≡◌, ◌≤◌, ◌*◌, drop}
 use Rattle.nd_base.specs.Size.{limit, nonzero_size}
 use Rattle.ndarray_layout.specs.private.Blocks.{block_counts}
-use Rattle.ndarray_layout.proofs.strided.blocks.fits_limit.Given as goal
+use Rattle.ndarray_layout.proofs.strided.blocks.passes_limit.Given as goal
 
 abbrev pub invariant-loop-axis : goal.invariant-loop-axis
 invariant-loop-axis l = record {
