@@ -1,10 +1,10 @@
 -- Blocks of a layout that lie at steps: each index in a block lies where its source does, and with steps of a block's length no two do.
 use Rattle.std.proofs.Common.{◌≡◌, ℕ, suc, ◌+◌, ◌-◌, ◌*◌, ◌<◌, ◌≤◌, ℤ, pos, ◌+ℤ◌, ◌*ℤ◌, Bool, true, false, cond, List, [], ◌∷◌, ◌++◌, length, map, subst}
-use Rattle.std.proofs.Common.{get_or, take, drop, replicate, nat_lt, refl, sym, ap, ◌∙◌, arith, inl, inr}
+use Rattle.std.proofs.Common.{take, drop, replicate, nat_lt, refl, sym, ap, ◌∙◌, arith, inl, inr}
 use Rattle.std.proofs.Math.Nat.{mul-le-mul_right}
 use Rattle.std.proofs.lemmas.Bool.{and_from, and_parts, cases_lt, lt-ltb, ltb-true}
 use Rattle.std.proofs.lemmas.Int.{ints}
-use Rattle.std.proofs.lemmas.List.{length-append, length-map, length-replicate}
+use Rattle.std.proofs.lemmas.List.{length-append}
 use Rattle.std.proofs.lemmas.Nat.{same_from_place}
 use Rattle.nd_base.specs.Elementwise.{elementwise, products, sums}
 use Rattle.nd_base.proofs.laws.Definitions.{is_empty, is_index, limit, nonzero_size, offset_of}

@@ -1,5 +1,5 @@
 -- What the windows of a view are: all blocks of one shape, each a step of 1 after the one before.
-use Rattle.std.specs.Prelude.{◌≡◌, ℕ, ◌+◌, ◌-◌, ℤ, pos, negsuc, Option, Some, None, List, [], ◌∷◌, take, drop, refl}
+use Rattle.std.specs.Prelude.{◌≡◌, ℕ, ◌+◌, ◌-◌, pos, negsuc, Option, Some, None, List, [], ◌∷◌, take, drop, refl}
 use Rattle.nd_base.specs.declared.error.ErrorKind.{ErrorKind}
 use Rattle.nd_base.specs.declared.error.ErrorKind.TheVariants.{IncompatibleShape, Overflow, Unsupported}
 use Rattle.nd_base.specs.Elementwise.{elementwise, sums}

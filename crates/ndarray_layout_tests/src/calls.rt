@@ -1,11 +1,12 @@
 //! The calls of rows, by their names.
 use crate::arrays::{OfArray, array_holds};
 use crate::axes::{OfAxes, axes_hold};
+use crate::blocks::{Taken, blocks_hold, blocks_hold_into, diagonal_holds};
 use crate::iterated::{places_hold, rows_hold};
 use crate::reshapes::reshape_holds;
 use crate::runs::run_holds;
 use crate::views::{OfView, view_holds};
-use Call::{Array, Axes, IterPlaces, Reshape, Rows, Run, View};
+use Call::{Array, Axes, Blocks, BlocksInto, Diagonal, IterPlaces, Reshape, Rows, Run, View};
 use Order::{ColumnMajor, RowMajor};
 use ndarray_layout::Order;
 use std::alloc::Global;
@@ -18,6 +19,12 @@ enum Call {
     View(OfView),
     /// `TYPE ..`: of the axes of a view.
     Axes(OfAxes),
+    /// `TYPE LEN owned|read SHAPE STRIDES => VIEW`.
+    Diagonal,
+    /// `TYPE LEN owned|read SHAPE STRIDES BLOCK => VIEW`, or the fault: blocks of a view of the type, as a view of any number of axes.
+    Blocks(Taken),
+    /// The same of a view of any number of axes, as a view of the type.
+    BlocksInto(Taken),
     /// `TYPE ..`: of the places of a view one after another.
     IterPlaces,
     /// `TYPE ..`: of the rows of a view.
@@ -30,7 +37,7 @@ enum Call {
     Array(OfArray),
 }
 
-static CALLS: [(&str, Call); 20] = [
+static CALLS: [(&str, Call); 25] = [
     ("new", View(OfView::New)),
     ("from_parts", View(OfView::FromParts)),
     ("from_shape", View(OfView::FromShape)),
@@ -38,6 +45,11 @@ static CALLS: [(&str, Call); 20] = [
     ("swap_axes", Axes(OfAxes::Swapped)),
     ("reversed_axes", Axes(OfAxes::Reversed)),
     ("permuted_axes", Axes(OfAxes::Permuted)),
+    ("diag", Diagonal),
+    ("windows", Blocks(Taken::Windows)),
+    ("windows_into", BlocksInto(Taken::Windows)),
+    ("exact_chunks", Blocks(Taken::Chunks)),
+    ("exact_chunks_into", BlocksInto(Taken::Chunks)),
     ("iter_places", IterPlaces),
     ("rows", Rows),
     ("run", Run),
@@ -62,6 +74,9 @@ impl Asked for Calls {
         match meaning(&CALLS, row.call)? {
             View(asked) => view_holds(alloc, reading, asked),
             Axes(asked) => axes_hold(alloc, reading, asked),
+            Diagonal => diagonal_holds(alloc, reading),
+            Blocks(taken) => blocks_hold(alloc, reading, taken),
+            BlocksInto(taken) => blocks_hold_into(alloc, reading, taken),
             IterPlaces => places_hold(alloc, reading),
             Rows => rows_hold(alloc, reading),
             Run => run_holds(alloc, reading),

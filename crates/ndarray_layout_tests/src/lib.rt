@@ -15,6 +15,10 @@ mod axes;
 #[cfg(test)]
 mod axes_rows;
 #[cfg(test)]
+mod blocks;
+#[cfg(test)]
+mod blocks_rows;
+#[cfg(test)]
 mod calls;
 #[cfg(test)]
 mod from_parts_rows;

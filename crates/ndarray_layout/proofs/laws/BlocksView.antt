@@ -1,7 +1,6 @@
 -- Laws of blocks of a shape: what it takes to have them.
-use Rattle.std.proofs.Common.{◌≡◌, ◌≢◌, ℕ, ◌+◌, ◌≤◌, Bool, true, false, not, cond, ltb, eqb, Option, Some, None, List, ◌++◌, length, refl, sym}
-use Rattle.std.proofs.Common.{eq-eqb, ap}
-use Rattle.std.proofs.lemmas.Bool.{and_from, and_parts, eqb-true, le-ltb, ltb-false}
+use Rattle.std.proofs.Common.{◌≡◌, ℕ, ◌+◌, ◌≤◌, Bool, true, false, not, cond, ltb, Option, Some, None, List, ◌++◌, length, refl, sym}
+use Rattle.std.proofs.lemmas.Bool.{and_parts, eqb-true, ltb-false}
 use Rattle.std.specs.Option.{option_map_or}
 use Rattle.std.specs.Prelude.{◌&&◌, ◌==◌}
 use Rattle.nd_base.specs.declared.error.ErrorKind.TheVariants.{IncompatibleShape, Overflow, Unsupported}

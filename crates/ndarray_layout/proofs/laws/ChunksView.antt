@@ -1,16 +1,15 @@
 -- Laws of the chunks of a view: where each of their indices lies, and that each index in a chunk is in no other.
-use Rattle.std.proofs.Common.{◌≡◌, ℕ, ◌+◌, ◌-◌, ◌*◌, ◌<◌, ◌≤◌, ℤ, pos, ◌*ℤ◌, true, false, cond, Option, None, List, [], ◌∷◌, ◌++◌}
+use Rattle.std.proofs.Common.{◌≡◌, ℕ, ◌+◌, ◌-◌, ◌*◌, ◌<◌, ◌≤◌, pos, ◌*ℤ◌, true, false, cond, Option, None, List, [], ◌∷◌, ◌++◌}
 use Rattle.std.proofs.Common.{length, map, take, drop, nat_lt, refl, sym, ap, ◌∙◌, arith, pos_of_ne-zero}
 use Rattle.std.specs.Prelude.{◌/◌, ◌%◌, ◌==◌}
 use Rattle.std.proofs.Math.Nat.{div-mul-le_self}
 use Rattle.std.proofs.lemmas.Bool.{and_from, and_parts, eqb-false, le-ltb, lt-ltb, ltb-true, or_parts}
-use Rattle.std.proofs.lemmas.List.{drop_at, length-append, length-drop, length-take-le, map-id, take-append-drop, take_at}
+use Rattle.std.proofs.lemmas.List.{drop_at, length-append, length-take-le, map-id, take-append-drop, take_at}
 use Rattle.std.proofs.lemmas.Nat.{div-add-mod', div_below, mod_below}
 use Rattle.nd_base.specs.Elementwise.{elementwise, products, sums}
 use Rattle.nd_base.proofs.laws.Definitions.{is_empty, is_index}
 use Rattle.nd_base.proofs.laws.IsIndex.{length_of_index}
-use Rattle.ndarray_layout.specs.BlocksView.{block_source, blocks_of}
-use Rattle.ndarray_layout.specs.ChunksView.{chunk_count, chunk_counts, chunk_source, chunk_stride, chunk_strides, chunks_fault, chunks_of}
+use Rattle.ndarray_layout.specs.ChunksView.{chunk_count, chunk_counts, chunk_source, chunk_stride, chunks_fault, chunks_of}
 use Rattle.ndarray_layout.specs.Descends.{Descends}
 use Rattle.ndarray_layout.specs.KeepsPlaces.{KeepsPlaces}
 use Rattle.ndarray_layout.specs.View.{View, IsView, place_at}

@@ -1,4 +1,4 @@
-use Rattle.std.proofs.Common.{◌≡◌, ◌≢◌, ◌<◌, ◌≤◌, ◌++◌, length, take, sym, ap, ◌∙◌, arith, below_more, get_or-set_other, get_or-set_same}
+use Rattle.std.proofs.Common.{◌≡◌, ◌≢◌, ◌<◌, ◌++◌, length, take, sym, ap, ◌∙◌, arith, below_more, get_or-set_other, get_or-set_same}
 use Rattle.std.proofs.Math.ListN.{length-set}
 use Rattle.ndarray_layout.specs.private.Blocks.{block_counts}
 use Rattle.ndarray_layout.proofs.BlocksWritten.{first_items, get_or-block_counts, length-block_counts, two_parts}

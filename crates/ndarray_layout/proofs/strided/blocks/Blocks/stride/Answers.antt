@@ -1,5 +1,5 @@
 -- Two chunks fit the axis, so the step from one to the next reaches no further than the axis does.
-use Rattle.std.proofs.Common.{◌≡◌, ◌*◌, ◌-◌, ◌≤◌, pos, w64, arith}
+use Rattle.std.proofs.Common.{◌*◌, ◌-◌, ◌≤◌, pos, w64, arith}
 use Rattle.std.specs.Prelude.{◌/◌}
 use Rattle.std.proofs.Math.Nat.{div-mul-le_self, mul-le-mul_right}
 use Rattle.std.proofs.lemmas.Int.{fits_signed_mul}
