@@ -96,6 +96,8 @@ fn another<D: Lengths>(
         "Strided::permuted_axes" => transposed(alloc, view),
         "Strided::reshape" => Some(view.reshape(alloc, to, RowMajor)),
         "Strided::broadcast" => Some(view.broadcast(alloc, to)),
+        "Strided::windows" => Some(view.windows(alloc, to)),
+        "Strided::exact_chunks" => Some(view.exact_chunks(alloc, to)),
         _ => None,
     }
 }
