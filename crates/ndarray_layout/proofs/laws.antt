@@ -3,8 +3,12 @@ pub mod BlocksView
 pub mod BroadcastView
 pub mod ChunksView
 pub mod CollapsedView
+pub mod CroppedView
 pub mod DiagonalView
 pub mod DistinctPlaces
+pub mod IndexedView
+pub mod InsertedView
+pub mod InvertedView
 pub mod Keeps
 pub mod KeepsPlaces
 pub mod MergedView
@@ -15,8 +19,10 @@ pub mod Rows
 pub mod Run
 pub mod SharePlace
 pub mod SlicedView
+pub mod SplitView
 pub mod Step
 pub mod StepFits
+pub mod Stretch
 pub mod View
 pub mod WindowsView
 pub use Rattle.nd_base.proofs.laws.Below

@@ -3,9 +3,13 @@ pub mod BlocksView
 pub mod BroadcastView
 pub mod ChunksView
 pub mod CollapsedView
+pub mod CroppedView
 pub mod Descends
 pub mod DiagonalView
 pub mod DistinctPlaces
+pub mod IndexedView
+pub mod InsertedView
+pub mod InvertedView
 pub mod KeepsPlaces
 pub mod MergedView
 pub mod PermutedView
@@ -16,8 +20,10 @@ pub mod RowsLeft
 pub mod Run
 pub mod SharePlace
 pub mod SlicedView
+pub mod SplitView
 pub mod Step
 pub mod StepFits
+pub mod Stretch
 pub mod View
 pub mod WindowsView
 pub mod private

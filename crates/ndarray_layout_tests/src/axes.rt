@@ -1,14 +1,16 @@
-//! The axes of a view in another order, at the dimension type that a row names.
+//! The axes of a view in another order or backwards, at the dimension type that a row names.
 use crate::layout::{Layout, is_told};
 use ndarray_layout::{Axis, LayoutError, Lengths, Strided};
 use std::alloc::{AllocError, Global};
 use test_tables::{AtType, List, Reading, at_type};
 
-/// What a row puts into another order: `TYPE LEN owned|read SHAPE STRIDES AXES => VIEW`, or the fault.
+/// What a row makes of the axes: `TYPE LEN owned|read SHAPE STRIDES AXES => VIEW`, or the fault.
 #[derive(Clone, Copy)]
 pub enum OfAxes {
     /// Two axes.
     Swapped,
+    /// One axis, backwards.
+    Inverted,
     /// All axes, each in the place of its opposite.
     Reversed,
     /// All axes, in the order that the row lists.
@@ -28,6 +30,13 @@ fn axes_of(alloc: Global, numbers: &List) -> Result<Vec<Axis>, AllocError> {
 fn swapped<D: Lengths>(view: Strided<D>, numbers: &List) -> Result<Strided<D>, LayoutError> {
     let mut view = view;
     view.swap_axes(Axis(numbers.at(0)), Axis(numbers.at(1)))?;
+    Ok(view)
+}
+
+/// A view with the axis of this number backwards, if it has it.
+fn inverted<D: Lengths>(view: Strided<D>, axis: usize) -> Result<Strided<D>, LayoutError> {
+    let mut view = view;
+    view.invert_axis(Axis(axis))?;
     Ok(view)
 }
 
@@ -54,6 +63,7 @@ impl AtType for OfRow<'_, '_> {
         let view: Strided<D> = layout.view(alloc)?.ok()?;
         let moved = match asked {
             OfAxes::Swapped => swapped(view, &numbers),
+            OfAxes::Inverted => inverted(view, numbers.at(0)),
             OfAxes::Reversed => Ok(view.reversed_axes()),
             OfAxes::Permuted => permuted(alloc, &view, &numbers),
         };

@@ -1,4 +1,4 @@
-//! Rows of axes in another order.
+//! Rows of axes in another order, and backwards.
 use crate::assertions::hold;
 use crate::calls::Calls;
 
@@ -47,5 +47,25 @@ permuted_axes Ix2 6 owned 2,3 3,1 1,1 => IncompatibleShape
 permuted_axes Ix2 6 owned 2,3 3,1 0,2 => IncompatibleShape
 permuted_axes IxDyn 4 owned 1,2,1,2,1 9,2,9,1,9 3,1,0,2,3 => IncompatibleShape
 permuted_axes IxDyn 1 owned - - 18446744073709551615 => IncompatibleShape";
+    hold(&rt, rt.alloc(), table, &Calls);
+}
+
+#[test]
+fn axes_backwards(rt: HostRuntime) {
+    let table = "\
+invert_axis Ix1 5 owned 3 2 0 => 3 -2 4 4,2,0
+invert_axis Ix1 5 owned 3 -2 0 => 3 2 0 0,2,4
+invert_axis Ix2 6 owned 2,3 3,1 0 => 2,3 -3,1 3 3,4,5,0,1,2
+invert_axis Ix2 6 owned 2,3 3,1 1 => 2,3 3,-1 2 2,1,0,5,4,3
+invert_axis Ix2 4 read 3,2 0,1 0 => 3,2 0,1 0 0,1,0,1,0,1
+invert_axis Ix1 1 owned 1 7 0 => 1 -7 0 0
+invert_axis Ix2 9 owned 0,3 3,1 0 => 0,3 -3,1 0 -
+invert_axis Ix2 9 owned 0,3 3,1 1 => 0,3 3,-1 2 -
+invert_axis Ix2 2 owned 1,2 -9223372036854775808,1 0 => 1,2 -9223372036854775808,1 0 0,1
+invert_axis Ix1 1 owned 1 9223372036854775807 0 => 1 -9223372036854775807 0 0
+invert_axis IxDyn 12 owned 2,1,3,1,2 -6,9,1,9,3 2 => 2,1,3,1,2 -6,9,-1,9,3 8 8,11,7,10,6,9,2,5,1,4,0,3
+invert_axis Ix2 6 owned 2,3 3,1 2 => OutOfBounds
+invert_axis Ix0 1 owned - - 0 => OutOfBounds
+invert_axis IxDyn 6 owned 2,3 3,1 18446744073709551615 => OutOfBounds";
     hold(&rt, rt.alloc(), table, &Calls);
 }

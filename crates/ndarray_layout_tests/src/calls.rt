@@ -1,12 +1,17 @@
 //! The calls of rows, by their names.
 use crate::arrays::{OfArray, array_holds};
 use crate::axes::{OfAxes, axes_hold};
+use crate::axis_counts::{OfAxis, axis_holds};
 use crate::blocks::{Taken, blocks_hold, blocks_hold_into, diagonal_holds};
 use crate::iterated::{places_hold, rows_hold};
+use crate::ranges::{crop_holds, split_holds, stretch_holds};
 use crate::reshapes::reshape_holds;
 use crate::runs::run_holds;
 use crate::views::{OfView, view_holds};
-use Call::{Array, Axes, Blocks, BlocksInto, Diagonal, IterPlaces, Reshape, Rows, Run, View};
+use Call::{
+    Array, Axes, Axis, Blocks, BlocksInto, Crop, Diagonal, IterPlaces, Reshape, Rows, Run, Split,
+    Stretch, View,
+};
 use Order::{ColumnMajor, RowMajor};
 use ndarray_layout::Order;
 use std::alloc::Global;
@@ -25,6 +30,14 @@ enum Call {
     Blocks(Taken),
     /// The same of a view of any number of axes, as a view of the type.
     BlocksInto(Taken),
+    /// `TYPE ..`: of a view with an axis less or more.
+    Axis(OfAxis),
+    /// `TYPE ..`: of the two parts of a view.
+    Split,
+    /// `TYPE ..`: of a range of coordinates on each axis.
+    Crop,
+    /// `TYPE ..`: of places that follow one another.
+    Stretch,
     /// `TYPE ..`: of the places of a view one after another.
     IterPlaces,
     /// `TYPE ..`: of the rows of a view.
@@ -37,12 +50,13 @@ enum Call {
     Array(OfArray),
 }
 
-static CALLS: [(&str, Call); 25] = [
+static CALLS: [(&str, Call); 31] = [
     ("new", View(OfView::New)),
     ("from_parts", View(OfView::FromParts)),
     ("from_shape", View(OfView::FromShape)),
     ("slice_in_order", View(OfView::SliceInOrder)),
     ("swap_axes", Axes(OfAxes::Swapped)),
+    ("invert_axis", Axes(OfAxes::Inverted)),
     ("reversed_axes", Axes(OfAxes::Reversed)),
     ("permuted_axes", Axes(OfAxes::Permuted)),
     ("diag", Diagonal),
@@ -50,6 +64,11 @@ static CALLS: [(&str, Call); 25] = [
     ("windows_into", BlocksInto(Taken::Windows)),
     ("exact_chunks", Blocks(Taken::Chunks)),
     ("exact_chunks_into", BlocksInto(Taken::Chunks)),
+    ("index_axis", Axis(OfAxis::Indexed)),
+    ("insert_axis", Axis(OfAxis::Inserted)),
+    ("split_at", Split),
+    ("crop", Crop),
+    ("stretch", Stretch),
     ("iter_places", IterPlaces),
     ("rows", Rows),
     ("run", Run),
@@ -77,6 +96,10 @@ impl Asked for Calls {
             Diagonal => diagonal_holds(alloc, reading),
             Blocks(taken) => blocks_hold(alloc, reading, taken),
             BlocksInto(taken) => blocks_hold_into(alloc, reading, taken),
+            Axis(asked) => axis_holds(alloc, reading, asked),
+            Split => split_holds(alloc, reading),
+            Crop => crop_holds(alloc, reading),
+            Stretch => stretch_holds(alloc, reading),
             IterPlaces => places_hold(alloc, reading),
             Rows => rows_hold(alloc, reading),
             Run => run_holds(alloc, reading),

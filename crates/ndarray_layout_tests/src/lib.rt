@@ -15,6 +15,10 @@ mod axes;
 #[cfg(test)]
 mod axes_rows;
 #[cfg(test)]
+mod axis_count_rows;
+#[cfg(test)]
+mod axis_counts;
+#[cfg(test)]
 mod blocks;
 #[cfg(test)]
 mod blocks_rows;
@@ -32,6 +36,10 @@ mod iterated_rows;
 mod layout;
 #[cfg(test)]
 mod memory;
+#[cfg(test)]
+mod range_rows;
+#[cfg(test)]
+mod ranges;
 #[cfg(test)]
 mod reshape_rows;
 #[cfg(test)]

@@ -221,7 +221,7 @@ module _ (axes : List ℕ) (view : View) (count : length view.shape ≡ length v
         sym (back index (long_index index here)).1 ∙ ap (reordered 0 axes) same ∙ (back other (long_index other there)).1;
   }
 
-order_of_no_fault : (shape axes : List ℕ) → permute_fault shape axes ≡ None → is_axis_order (length shape) axes ≡ true
+pub order_of_no_fault : (shape axes : List ℕ) → permute_fault shape axes ≡ None → is_axis_order (length shape) axes ≡ true
 order_of_no_fault shape axes none = accepted (is_axis_order (length shape) axes) none
   where
     accepted : (fits : Bool) → cond fits None (Some IncompatibleShape) ≡ None → fits ≡ true

@@ -11,7 +11,7 @@ use nd_base::{Axis, ErrorKind, Lengths, ShapeError, from_kind};
 use nd_slice::do_collapse_axis;
 
 /// Whether there is an axis, and a coordinate of it at an index.
-fn has_coordinate(shape: &[usize], axis: Axis, index: usize) -> bool
+pub(super) fn has_coordinate(shape: &[usize], axis: Axis, index: usize) -> bool
     ensures { IsTrue result ↔ (collapse_fault shape.now axis.0 index ≡ None) }
 {
     axis.index() < shape.len() && index < shape[axis.index()]

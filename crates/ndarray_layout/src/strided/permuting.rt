@@ -1,6 +1,6 @@
 //! The axes in another order.
 ghost use Rattle.std.specs.List.{list_any, swap};
-ghost use Rattle.std.specs.Prelude.{◌≡◌, ◌==◌, true, None, length, reverse, IfOk, IsOk, OnErr, OnOk};
+ghost use Rattle.std.specs.Prelude.{◌≡◌, ◌==◌, ◌↔◌, ◌<◌, true, None, length, replicate, reverse, slice_index, IfOk, IsOk, IsTrue, OnErr, OnOk};
 ghost use Rattle.std.specs.Result.{result_err};
 ghost use Rattle.nd_base.specs.Lengths.{NeedsNoMemory};
 ghost use Rattle.nd_base.specs.ShapeFault.{shape_fault};
@@ -33,6 +33,63 @@ fn has_each_axis(ndim: usize, axes: &[Axis]) -> bool
         }
     }
     true
+}
+
+/// Whether there is an axis of this number, without a mark.
+#[inline(always)]
+fn is_unmarked(marks: &[usize], number: usize) -> bool
+    ensures { IsTrue result
+        ↔ ((number < length marks.now) × (slice_index marks.now number ≡ 0)) }
+{
+    number < marks.len() && marks[number] == 0
+}
+
+/// Whether a list has each axis once, one for each mark. The caller ensures that the marks are 0; it is left with any.
+fn marks_each_axis(marks: &mut [usize], axes: &[Axis]) -> bool
+    requires { marks.old ≡ replicate (length marks.old) 0 }
+    ensures { result ≡ is_axis_order (length marks.old) (axis_numbers axes.now) }
+{
+    if axes.len() != marks.len() {
+        return false;
+    }
+    for position in 0..axes.len() {
+        let number = axes[position].index();
+        if !is_unmarked(marks, number) {
+            return false;
+        }
+        marks[number] = 1;
+    }
+    true
+}
+
+/// A list with room for the axes of a shape in the order of these ones, which has each of them once.
+///
+/// # Errors
+///
+/// `IncompatibleShape` where it hasn't; then out of memory, never where the type fixes the count of axes or there are at
+/// most 4.
+fn room_for_order<D: Lengths>(alloc: Global, shape: &D, axes: &[Axis]) -> Result<D, LayoutError>
+    ensures fault { shape_fault result ≡ permute_fault (D.list shape.now) (axis_numbers axes.now) }
+    ensures count { IfOk result (λ d. length (D.list d) ≡ length (D.list shape.now)) }
+    ensures memory { shape_fault result ≡ None →
+        NeedsNoMemory D.NDIM (length (D.list shape.now)) → IsOk result }
+{
+    let ndim = shape.ndim();
+    match D::zeros(alloc, ndim) {
+        Ok(room) => {
+            let mut room = room;
+            if marks_each_axis(room.slice_mut(), axes) {
+                return Ok(room);
+            }
+        },
+        // (without room for marks the axes are looked for one by one, since this error comes first)
+        Err(out_of_memory) => {
+            if has_each_axis(ndim, axes) {
+                return Err(LayoutError::Memory(out_of_memory));
+            }
+        },
+    }
+    Err(LayoutError::Shape(from_kind(ErrorKind::IncompatibleShape)))
 }
 
 /// Writes the numbers of a list in the order of these axes.
@@ -106,7 +163,7 @@ impl<D: Lengths> Strided<D> {
     /// `IncompatibleShape` where the list isn't each axis once; then out of memory, never where the type
     /// fixes the count of axes or there are at most 4.
     ///
-    /// Takes time in proportion to the square of the count of axes.
+    /// Takes time in proportion to the count of axes; to its square where the first allocation fails.
     ///
     /// `[2,3,4]`, `[12,4,1]` by `[2,0,1]`: `[4,2,3]`, `[1,12,4]`. ndarray's `permuted_axes`.
     pub fn permuted_axes(&self, alloc: Global, axes: &[Axis]) -> Result<Self, LayoutError>
@@ -116,12 +173,11 @@ impl<D: Lengths> Strided<D> {
         ensures permuted { IfOk result (λ v. v ≡ permuted_of (axis_numbers axes.now) self.now) }
         ensures kept { IfOk result (Descends (permute_source (axis_numbers axes.now)) self.now) }
     {
-        if !has_each_axis(self.dim.ndim(), axes) {
-            return Err(LayoutError::Shape(from_kind(ErrorKind::IncompatibleShape)));
-        }
+        let mut dim = room_for_order(alloc, &self.dim, axes)?;
+        write_reordered(dim.slice_mut(), self.dim.slice(), axes);
         Ok(Strided {
             start: self.start,
-            dim: reordered(alloc, &self.dim, axes)?,
+            dim,
             strides: reordered(alloc, &self.strides, axes)?,
         })
     }

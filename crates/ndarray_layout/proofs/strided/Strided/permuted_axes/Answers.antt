@@ -1,35 +1,46 @@
 -- What was written is the view with its axes in the order.
-use Rattle.std.proofs.Common.{rules, ◌≡◌, true, length, ap}
+use Rattle.std.proofs.Common.{rules, ◌≡◌, true, length, sym, ap, ◌∙◌}
 use Rattle.nd_dim.specs.AxesInOrder.{axis_numbers, is_axis_order}
 use Rattle.nd_dim.specs.AxesInOrder.{reordered as in_order}
 use Rattle.ndarray_layout.specs.Descends.{Descends}
 use Rattle.ndarray_layout.specs.PermutedView.{permuted_of, permute_source}
 use Rattle.ndarray_layout.specs.View.{View, view_of}
-use Rattle.ndarray_layout.proofs.laws.PermutedView.{no_fault_of_order, permuted_axes, signed_in_order, Descends-same_axes}
+use Rattle.ndarray_layout.proofs.laws.PermutedView.{no_fault_of_order, order_of_no_fault, permuted_axes, signed_in_order}
+use Rattle.ndarray_layout.proofs.laws.PermutedView.{Descends-same_axes}
 use Rattle.ndarray_layout.proofs.strided.Strided.permuted_axes.Given.{Over}
 use Rattle.ndarray_layout.proofs.strided.Strided.permuted_axes.Goals as goal
-use Rattle.ndarray_layout.proofs.strided.Strided.permuted_axes.Goals.{In_ok-reordered-2}
+use Rattle.ndarray_layout.proofs.strided.Strided.permuted_axes.Goals.{In_ok-reordered}
 
 -- the view as it was
-abbrev here : (g : Over) → In_ok-reordered-2 g → View
+abbrev here : (g : Over) → In_ok-reordered g → View
 here g c = view_of c.self.inside.start (g.D.Lengths.list c.self.inside.dim) (g.D.Lengths.list c.self.inside.strides)
 
-abbrev written : (g : Over) → In_ok-reordered-2 g → View
-written g c = view_of c.self.inside.start (g.D.Lengths.list c.in_ok-reordered.field-0) (g.D.Lengths.list c.in_ok-reordered-2.field-0)
+abbrev written : (g : Over) → In_ok-reordered g → View
+written g c = view_of c.self.inside.start (g.D.Lengths.list (g.D.Lengths.with_list c.in_ok-dim.dim c.write_reordered.new.moved))
+    (g.D.Lengths.list c.in_ok-reordered.field-0)
 
-order : (g : Over) (c : In_ok-reordered-2 g)
+order : (g : Over) (c : In_ok-reordered g)
     → is_axis_order (length (g.D.Lengths.list c.self.inside.dim)) (axis_numbers c.args.axes.now) ≡ true
-order g c = search rules
+order g c = order_of_no_fault (g.D.Lengths.list c.self.inside.dim) (axis_numbers c.args.axes.now) (sym c.in_ok-dim.ensures.fault)
+
+-- the lengths that were written
+lengths : (g : Over) (c : In_ok-reordered g)
+    → g.D.Lengths.list (g.D.Lengths.with_list c.in_ok-dim.dim c.write_reordered.new.moved)
+    ≡ in_order 0 (axis_numbers c.args.axes.now) (g.D.Lengths.list c.self.inside.dim)
+lengths g c =
+    let long : length c.write_reordered.new.moved ≡ length (g.D.Lengths.list c.in_ok-dim.dim) = search rules in
+    g.met.D.Lengths.list_of_with_list c.in_ok-dim.dim c.write_reordered.new.moved long
+    ∙ rw c.slice.ensures.list at c.write_reordered.ensures
 
 -- what was written has the axes in the order
-made : (g : Over) (c : In_ok-reordered-2 g) → written g c ≡ permuted_of (axis_numbers c.args.axes.now) (here g c)
+made : (g : Over) (c : In_ok-reordered g) → written g c ≡ permuted_of (axis_numbers c.args.axes.now) (here g c)
 made g c =
     let axes = axis_numbers c.args.axes.now in
-    rw (c.in_ok-reordered.ensures.list, c.in_ok-reordered-2.ensures.list)
+    rw (lengths g c, c.in_ok-reordered.ensures.list)
     (ap (λ strides. record { start = c.self.inside.start; shape = in_order 0 axes (g.D.Lengths.list c.self.inside.dim); strides = strides })
     (signed_in_order axes (g.D.Lengths.list c.self.inside.strides)))
 
-kept : (g : Over) (c : In_ok-reordered-2 g) → Descends (permute_source (axis_numbers c.args.axes.now)) (here g c) (written g c)
+kept : (g : Over) (c : In_ok-reordered g) → Descends (permute_source (axis_numbers c.args.axes.now)) (here g c) (written g c)
 kept g c =
     let axes = axis_numbers c.args.axes.now in
     let view = here g c in

@@ -1,0 +1,90 @@
+-- Laws of views of a range of coordinates on each axis.
+use Rattle.std.proofs.Common.{◌≡◌, ℕ, suc, ◌<◌, ◌≤◌, pos, ◌≤ℤ◌, true, List, [], ◌∷◌, length, get_or, refl, sym, ◌∙◌, arith}
+use Rattle.std.specs.List.{All}
+use Rattle.std.proofs.lemmas.Int.{ints}
+use Rattle.std.proofs.lemmas.List.Elements.{length_all_zip}
+use Rattle.nd_base.proofs.laws.Definitions.{farthest_offset, is_index, limit}
+use Rattle.nd_base.proofs.laws.IsIndex.{length_of_index}
+use Rattle.nd_base.proofs.laws.NonzeroSize.{length_le_nonzero_size}
+use Rattle.nd_base.proofs.laws.Signed.{magnitude_from}
+use Rattle.nd_base.specs.Elementwise.{differences, DifferencesFit}
+use Rattle.ndarray_layout.specs.CroppedView.{RangesFit, moved_starts, cropped_start, cropped_of, crop_source}
+use Rattle.ndarray_layout.specs.Descends.{Descends}
+use Rattle.ndarray_layout.specs.View.{View, IsView}
+use Rattle.ndarray_layout.proofs.CroppedAxes.{CropKept, Ranges, crop_kept, moved_le, source_kept, sums_injective}
+use Rattle.ndarray_layout.proofs.laws.KeepsPlaces.{Descends-kept}
+use Rattle.ndarray_layout.proofs.laws.View.{IsView-within}
+
+-- ---- ranges that a shape has
+-- lists of as many numbers, none of one less than the number of the other
+pub fit_by_axes : (highs lows : List ℕ) → length lows ≡ length highs
+    → ((axis : ℕ) → axis < length highs → get_or lows axis 0 ≤ get_or highs axis 0) → DifferencesFit highs lows
+fit_by_axes [] [] e each = tt
+fit_by_axes [] (low ∷ lows) e each = absurd (omega arith)
+fit_by_axes (high ∷ highs) [] e each = absurd (omega arith)
+fit_by_axes (high ∷ highs) (low ∷ lows) e each =
+    (each 0 (omega arith), fit_by_axes highs lows (omega arith) (λ axis h. each (suc axis) (omega arith)))
+
+-- a crop within the shape, axis by axis, is one that succeeds
+pub ranges_by_axes : (shape starts ends : List ℕ) → length starts ≡ length shape → length ends ≡ length shape
+    → ((axis : ℕ) → axis < length shape → (get_or starts axis 0 ≤ get_or ends axis 0) × (get_or ends axis 0 ≤ get_or shape axis 0))
+    → RangesFit shape starts ends
+ranges_by_axes shape starts ends e f each = record {
+  in_order = fit_by_axes ends starts (e ∙ sym f) (λ axis h. (each axis (omega arith)).0);
+  within = fit_by_axes shape ends f (λ axis h. (each axis h).1);
+}
+
+-- its shape: the length of each range
+pub shape-cropped_of : (starts ends : List ℕ) (view : View) → (cropped_of starts ends view).shape ≡ differences ends starts
+shape-cropped_of starts ends view = refl
+
+-- ---- the view
+module _ (starts ends : List ℕ) (view : View) (v : IsView view) (fit : RangesFit view.shape starts ends) where
+  ranges : Ranges view.shape starts ends view.strides
+  ranges = record { counts = v.valid.same_count; in_order = fit.in_order; within = fit.within }
+
+  kept : CropKept view.shape starts ends view.strides
+  kept = crop_kept view.shape starts ends view.strides ranges
+
+  -- the starts that move add up
+  pub moved_small : All (λ coordinate. coordinate ≤ limit) (moved_starts starts ends)
+  moved_small = λ k d h.
+      omega (arith, moved_le view.shape starts ends view.strides ranges k d h, length_le_nonzero_size view.shape k, v.valid.size_fits)
+
+  pub moved_far : farthest_offset view.strides (moved_starts starts ends) ≤ limit
+  moved_far = omega (arith, kept.far, v.valid.span_fits)
+
+  -- what is kept begins at a place
+  pub cropped_start_within : (pos 0 ≤ℤ cropped_start starts ends view) × (cropped_start starts ends view ≤ℤ pos limit)
+  cropped_start_within =
+      let part = kept in
+      (omega (arith, ints, part.low, v.low), omega (arith, ints, part.high, v.high))
+
+  pub start-cropped_of : pos (cropped_of starts ends view).start ≡ cropped_start starts ends view
+  start-cropped_of = magnitude_from (cropped_start starts ends view) cropped_start_within.0
+
+  is_view : IsView (cropped_of starts ends view)
+  is_view =
+      let part = kept in
+      let start = start-cropped_of in
+      IsView-within v part.counts (omega (arith, part.size, v.valid.size_fits))
+      (omega (arith, ints, part.low, start)) (omega (arith, ints, part.high, start))
+
+  long : (coordinates : List ℕ) → is_index (differences ends starts) coordinates ≡ true → length coordinates ≡ length starts
+  long coordinates here =
+      let count = length_of_index (differences ends starts) coordinates here in
+      omega (
+        arith,
+        count,
+        kept.counts,
+        v.valid.same_count,
+        length_all_zip (λ x y. y ≤ x) ends starts fit.in_order,
+        length_all_zip (λ x y. y ≤ x) view.shape ends fit.within,
+      )
+
+  -- it is a view of the same data, whose indices lie where their sources do
+  pub Descends-cropped_of : Descends (crop_source starts) view (cropped_of starts ends view)
+  Descends-cropped_of = Descends-kept is_view (λ coordinates here.
+      let stays = source_kept view.shape starts ends view.strides coordinates ranges here in
+      (stays.within, omega (arith, ints, start-cropped_of, stays.offset)))
+      (λ coordinates others here also same. sym (sums_injective others coordinates starts (long others also) (long coordinates here) (sym same)))
