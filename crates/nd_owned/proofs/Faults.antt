@@ -1,25 +1,20 @@
 -- Faults of lists of writes, and what holds of each of them, one write after another.
-use Rattle.std.proofs.Common.{◌≡◌, ℕ, zero, suc, ◌+◌, ◌-◌, ◌<◌, ◌≤◌, Bool, true, false, ◌&&◌, cond, Option, Some, None, Result, Ok, Err}
-use Rattle.std.proofs.Common.{List, [], ◌∷◌, ◌++◌, length, get_or, map, take, drop, refl, sym, ap, subst, ◌∙◌, zero-add, arith}
-use Rattle.std.specs.List.{All, AllPairs, drop-map, list_all}
-use Rattle.std.specs.Prelude.{IsSomeAnd, MatchOption, slice_get}
+use Rattle.std.proofs.Common.{◌≡◌, ℕ, ◌+◌, ◌-◌, ◌<◌, ◌≤◌, Bool, true, false, ◌&&◌, cond, Option, Some, None, Result, Ok, Err}
+use Rattle.std.proofs.Common.{List, [], ◌∷◌, ◌++◌, length, get_or, map, take, drop, refl, sym, ap, subst, ◌∙◌, arith}
+use Rattle.std.specs.List.{All, drop-map, list_all}
+use Rattle.std.specs.Prelude.{MatchOption, slice_get}
 use Rattle.std.specs.Option.{option_or, option_map}
 use Rattle.std.specs.Result.{IsErrAnd}
-use Rattle.std.proofs.lemmas.Bool.{eq-eqb}
 use Rattle.std.proofs.lemmas.List.{drop_more, drop_all, get_or-map, length-map, length-drop, take_all}
 use Rattle.std.proofs.lemmas.List.Elements.{All-append, All-cons}
-use Rattle.std.proofs.lemmas.List.Kept.{AllPairs-cons}
 use Rattle.std.proofs.lemmas.Option.{slice_get-get_or, slice_get-map}
 use Rattle.ndarray_layout.specs.declared.ErrorKind.{ErrorKind}
 use Rattle.ndarray_layout.specs.declared.ErrorKind.TheVariants.{IncompatibleShape}
 use Rattle.ndarray_layout.specs.declared.Fit.TheVariants.{Strict}
 use Rattle.ndarray_layout.specs.declared.LayoutError.{LayoutError}
 use Rattle.ndarray_layout.specs.declared.LayoutError.TheVariants.{Shape, Memory}
-use Rattle.ndarray_layout.specs.declared.SliceInfoElem.{SliceInfoElem}
 use Rattle.ndarray_layout.specs.SliceFault.{argument_fault}
-use Rattle.ndarray_layout.specs.Intersect.{Intersect}
 use Rattle.ndarray_layout.specs.ShapeFault.{shape_fault}
-use Rattle.nd_owned.specs.private.Checks.{IsIntersectionFaultOf}
 use Rattle.nd_owned.proofs.Placed.{IsItem}
 use Rattle.nd_owned.specs.Writes.{Write, IsFaultOfWrites, IsIntersectionFault, counts_fault, has_count, slices_fault}
 
@@ -100,45 +95,6 @@ next_count f shape {xs} {i} have item counts before =
 pub none_more : (have after : Bool) → (have && (false && after)) ≡ false
 none_more true after = refl
 none_more false after = refl
-
--- ---- facts of each item, or of each two, by what is left
-pub all_more : {X : Type 0} (P : X → Type 0) (xs : List X) {left after : List X} {x : X} → left ≡ x ∷ after → P x → (All P left → All P xs)
-    → All P after → All P xs
-all_more P xs {after} {x} e this before all = before (subst (All P) (sym e) (All-cons P x after this all))
-
-pub all_ended : {X : Type 0} (P : X → Type 0) (xs : List X) {left : List X} → left ≡ [] → (All P left → All P xs) → All P xs
-all_ended P xs e before = before (subst (All P) (sym e) (λ k d below. absurd (omega arith)))
-
-pub pairs_more : {X : Type 0} (R : X → X → Type 0) (xs : List X) {left after : List X} {x : X} → left ≡ x ∷ after → All (R x) after
-    → (AllPairs R left → AllPairs R xs) → AllPairs R after → AllPairs R xs
-pairs_more R xs {after} {x} e this before all = before (subst (AllPairs R) (sym e) (AllPairs-cons R x after this all))
-
-pub pairs_ended : {X : Type 0} (R : X → X → Type 0) (xs : List X) {left : List X} → left ≡ [] → (AllPairs R left → AllPairs R xs)
-    → AllPairs R xs
-pairs_ended R xs e before = before (subst (AllPairs R) (sym e) (λ i j d earlier below. absurd (omega arith)))
-
--- ---- slices that share an index
-got_later : {X : Type 0} (n : ℕ) (xs : List X) (k : ℕ) → slice_get (drop n xs) k ≡ slice_get xs (n + k)
-got_later zero xs k = ap (slice_get xs) (sym (zero-add k))
-got_later (suc n) [] k = refl
-got_later (suc n) (x ∷ xs) k = let e : suc n + k ≡ suc (n + k) = omega arith in rw e (got_later n xs k)
-
--- one that shares an index with a slice after it is one of two that do
-pub of_two : {T : Type 0} (shape : List ℕ) (writes : List (Write T)) {after : List (Write T)} (i : ℕ) {write : Write T} (kind : ErrorKind)
-    → slice_get writes i ≡ Some write → after ≡ drop (i + 1) writes
-    → IsIntersectionFaultOf shape write.slice after (Some kind) → IsIntersectionFault shape writes (Some kind)
-of_two {T = T} shape writes {after} i {write} kind here e (is, at, shared) =
-    let intersects = λ (one : Write T). λ (other : Write T). Intersect Strict shape one.slice other.slice in
-    let there : slice_get after at ≡ slice_get writes (i + 1 + at) = ap (λ xs. slice_get xs at) e ∙ got_later (i + 1) writes at in (
-      is,
-      (
-        i,
-        i + 1 + at,
-        omega arith,
-        subst (λ one. IsSomeAnd one (λ w. IsSomeAnd (slice_get writes (i + 1 + at)) (intersects w))) (sym here)
-            (subst (λ other. IsSomeAnd other (intersects write)) there shared),
-      ),
-    )
 
 -- ---- writes whose slices fit and have their counts
 pub record HaveCounts {T : Type 0} (shape : List ℕ) (writes : List (Write T)) : Type 0 where

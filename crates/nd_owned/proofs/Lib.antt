@@ -1,6 +1,5 @@
 pub mod Faults
 pub mod Placed
 pub mod RowPlaces
-pub mod SliceOrder
 pub mod Slices
 pub mod ViewRows

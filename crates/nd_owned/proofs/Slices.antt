@@ -13,6 +13,7 @@ use Rattle.ndarray_layout.specs.declared.Fit.TheVariants.{Strict}
 use Rattle.ndarray_layout.specs.declared.Order.{Order}
 use Rattle.ndarray_layout.specs.declared.Order.TheVariants.{RowMajor}
 use Rattle.ndarray_layout.specs.SliceFault.{argument_fault}
+use Rattle.ndarray_layout.specs.SlicesIntersect.{AreApart}
 use Rattle.ndarray_layout.specs.DistinctPlaces.{HasDistinctPlaces}
 use Rattle.ndarray_layout.specs.Indices.{indices_in, is_index}
 use Rattle.ndarray_layout.specs.Size.{size}
@@ -25,8 +26,8 @@ use Rattle.ndarray_layout.proofs.laws.SlicedView.{Descends-slice_of}
 use Rattle.ndarray_layout.proofs.laws.View.{length-view_places}
 use Rattle.nd_owned.specs.Owned.{item_at_place}
 use Rattle.nd_owned.specs.private.Written.{HasWritten}
-use Rattle.nd_owned.specs.Writes.{Write, AreApart, IsFaultOfWrites, IsIntersectionFault, IsWritten, KeepsOthers, Spares, counts_fault}
-use Rattle.nd_owned.specs.Writes.{has_count, slices_fault, write_places}
+use Rattle.nd_owned.specs.Writes.{Write, IsFaultOfWrites, IsIntersectionFault, IsWritten, KeepsOthers, Spares, counts_fault}
+use Rattle.nd_owned.specs.Writes.{has_count, slices_fault, slices_of, write_places}
 use Rattle.nd_owned.proofs.Faults.{both_none}
 use Rattle.nd_owned.proofs.Placed.{other_default}
 
@@ -42,6 +43,10 @@ none_of_all f (a ∷ xs) x none here =
 
 pairs_head : {X : Type 0} (R : X → X → Type 0) (x : X) (xs : List X) → AllPairs R (x ∷ xs) → All (R x) xs
 pairs_head R x xs pairs = λ k d below. pairs 0 (suc k) d (omega arith) (omega arith)
+
+-- what holds of what a function makes of each item
+All-of_map : {A B : Type 0} (f : A → B) (xs : List A) (P : B → Type 0) → All P (map f xs) → All (λ x. P (f x)) xs
+All-of_map f xs P all = λ k d below. subst P (get_or-map f xs k d (f d) below) (all k (f d) (omega (arith, length-map xs f, below)))
 
 pairs_tail : {X : Type 0} (R : X → X → Type 0) (x : X) (xs : List X) → AllPairs R (x ∷ xs) → AllPairs R xs
 pairs_tail R x xs pairs = λ i j d earlier below. pairs (suc i) (suc j) d (omega arith) (omega arith)
@@ -114,7 +119,7 @@ each_count view (write ∷ writes) all =
 -- those of slices that share no index have none in common
 no_shared_place : {T : Type 0} {view : View} (one other : Write T) {place : ℤ} → IsView view → HasDistinctPlaces view
     → (argument_fault Strict view.shape one.slice ≡ None) × (argument_fault Strict view.shape other.slice ≡ None)
-    → AreApart view.shape one other → Contains (write_places view one) place × Contains (write_places view other) place → ⊥
+    → AreApart Strict view.shape one.slice other.slice → Contains (write_places view one) place × Contains (write_places view other) place → ⊥
 no_shared_place {view} one other {place} v distinct (fits, also) apart (here, there) =
     let first = listed RowMajor (slice_of Strict one.slice view) place here in
     let second = listed RowMajor (slice_of Strict other.slice view) place there in
@@ -128,21 +133,21 @@ one_distinct view write v distinct fits =
     distinct_places RowMajor (slice_of Strict write.slice view) ((Descends-slice_of Strict write.slice view v fits).distinct distinct)
 
 pub all_distinct : {T : Type 0} (view : View) (writes : List (Write T)) → IsView view → HasDistinctPlaces view
-    → slices_fault view.shape writes ≡ None → AllPairs (AreApart view.shape) writes
+    → slices_fault view.shape writes ≡ None → AllPairs (AreApart Strict view.shape) (slices_of writes)
     → AllPairs (λ one other. one ≢ other) (flat_map (write_places view) writes)
 all_distinct {T = T} view writes v distinct none apart = by writes (each_fits view.shape writes none) apart
   where
     by : (writes : List (Write T)) → All (λ write. argument_fault Strict view.shape write.slice ≡ None) writes
-        → AllPairs (AreApart view.shape) writes
+        → AllPairs (AreApart Strict view.shape) (slices_of writes)
         → AllPairs (λ one other. one ≢ other) (flat_map (write_places view) writes)
     by [] fit apart = λ i j d earlier below. absurd (omega arith)
     by (write ∷ writes) fit apart =
         let fits = All-head (λ one. argument_fault Strict view.shape one.slice ≡ None) write writes fit in
         let others = All-tail (λ one. argument_fault Strict view.shape one.slice ≡ None) write writes fit in
-        let alone = pairs_head (AreApart view.shape) write writes apart in
+        let alone = All-of_map (λ one. one.slice) writes (AreApart Strict view.shape write.slice) (pairs_head (AreApart Strict view.shape) write.slice (slices_of writes) apart) in
         pairs_append (write_places view write) (flat_map (write_places view) writes)
         (one_distinct view write v distinct fits)
-        (by writes others (pairs_tail (AreApart view.shape) write writes apart))
+        (by writes others (pairs_tail (AreApart Strict view.shape) write.slice (slices_of writes) apart))
         (λ k d below. none_of_all (write_places view) writes (get_or (write_places view write) k d) (λ j other there here.
         no_shared_place write (get_or writes j other) v distinct (fits, others j other there) (alone j other there)
         (Contains-get_or (write_places view write) k d below, here)))

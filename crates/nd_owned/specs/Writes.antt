@@ -1,5 +1,5 @@
 -- Lists of items that are to be written at slices of an array: the error of such a list, and what the writes leave.
-use Rattle.std.specs.Prelude.{◌≡◌, ℕ, ◌<◌, ℤ, pos, Bool, true, false, ◌==◌, if◌then◌else◌, Option, Some, None, IsSomeAnd, MatchOption}
+use Rattle.std.specs.Prelude.{◌≡◌, ℕ, ℤ, pos, Bool, true, false, ◌==◌, if◌then◌else◌, Option, Some, None, MatchOption}
 use Rattle.std.specs.Prelude.{List, [], ◌∷◌, length, map, slice_get, slice_index_or, unwrap_or, nat_eq, refl}
 use Rattle.std.proofs.Common.{ap, eq-eqb}
 use Rattle.std.proofs.Math.Nat.{not-suc-le-zero}
@@ -13,8 +13,8 @@ use Rattle.ndarray_layout.specs.declared.Fit.TheVariants.{Strict}
 use Rattle.ndarray_layout.specs.declared.Order.TheVariants.{RowMajor}
 use Rattle.ndarray_layout.specs.declared.SliceInfoElem.{SliceInfoElem}
 use Rattle.ndarray_layout.specs.declared.SliceInfoElem.TheVariants as elem
-use Rattle.ndarray_layout.specs.SliceFault.{argument_fault}
 use Rattle.ndarray_layout.specs.Intersect.{Intersect}
+use Rattle.ndarray_layout.specs.SlicesIntersect.{AreApart, SomeIntersect, slices_fault as fault_of_slices}
 use Rattle.ndarray_layout.specs.Size.{size}
 use Rattle.ndarray_layout.specs.Sliced.{sliced_shape}
 use Rattle.ndarray_layout.specs.SlicedView.{slice_of}
@@ -30,10 +30,13 @@ pub record Write (T : Type 0) : Type 0 where
 abbrev pub write_of : {T A B : Type 0} → Vec SliceInfoElem A × Vec T B → Write T
 write_of pair = record { slice = pair.0.items; items = pair.1.items }
 
+-- the slices of writes
+abbrev pub slices_of : {T : Type 0} → List (Write T) → List (List SliceInfoElem)
+slices_of writes = map (λ write. write.slice) writes
+
 -- the error of the first slice that doesn't fit a shape
 abbrev pub slices_fault : {T : Type 0} → List ℕ → List (Write T) → Option ErrorKind
-slices_fault shape [] = None
-slices_fault shape (write ∷ writes) = option_or (argument_fault Strict shape write.slice) (slices_fault shape writes)
+slices_fault shape writes = fault_of_slices Strict shape (slices_of writes)
 
 -- there is an item for each index that the slice picks, and no more
 abbrev pub has_count : {T : Type 0} → List ℕ → Write T → Bool
@@ -43,20 +46,10 @@ has_count shape write = length write.items == size (sliced_shape Strict write.sl
 abbrev pub counts_fault : {T : Type 0} → List ℕ → List (Write T) → Option ErrorKind
 counts_fault shape writes = option_or (slices_fault shape writes) (if list_all (has_count shape) writes then None else Some IncompatibleShape)
 
--- the slices share no index
-abbrev pub AreApart : {T : Type 0} → List ℕ → Write T → Write T → Type 0
-AreApart shape one other = Intersect Strict shape one.slice other.slice → ⊥
-
--- the slices at two positions of the list, i before j, share an index
-abbrev pub SomeIntersect : {T : Type 0} → List ℕ → List (Write T) → Type 0
-SomeIntersect shape writes =
-    (i : ℕ) × (j : ℕ) × (i < j)
-    × IsSomeAnd (slice_get writes i) (λ one. IsSomeAnd (slice_get writes j) (λ other. Intersect Strict shape one.slice other.slice))
-
 -- the error, or none, of slices that fit: Unsupported where two share an index, and none where no two do
 abbrev pub IsIntersectionFault : {T : Type 0} → List ℕ → List (Write T) → Option ErrorKind → Type 0
-IsIntersectionFault shape writes None = AllPairs (AreApart shape) writes
-IsIntersectionFault shape writes (Some kind) = (kind ≡ Unsupported) × SomeIntersect shape writes
+IsIntersectionFault shape writes None = AllPairs (AreApart Strict shape) (slices_of writes)
+IsIntersectionFault shape writes (Some kind) = (kind ≡ Unsupported) × SomeIntersect Strict shape (slices_of writes)
 
 -- the error, or none, of a list of writes, in this order: that of the first slice that doesn't fit; IncompatibleShape for a count of items that isn't
 -- its slice's; Unsupported for two slices that share an index
@@ -125,10 +118,10 @@ at_the_corner =
     (0 ∷ 0 ∷ [], refl, ((0, ltb-true 0 1 refl, refl), ((0, ltb-true 0 3 refl, refl), tt)), ((0, ltb-true 0 2 refl, refl), ((0, ltb-true 0 1 refl, refl), tt)))
 
 row_and_column : IsFaultOfWrites (2 ∷ 3 ∷ []) (first_row ∷ first_column ∷ []) (Some Unsupported)
-row_and_column = (refl, (0, 1, ltb-true 0 1 refl, at_the_corner))
+row_and_column = (refl, (0, 1, (ltb-true 0 1 refl, at_the_corner)))
 
-row_and_column_apart : AreApart (2 ∷ 3 ∷ []) first_row first_column → ⊥
-row_and_column_apart apart = apart at_the_corner
+row_and_column_apart : IsFaultOfWrites (2 ∷ 3 ∷ []) (first_row ∷ first_column ∷ []) None → ⊥
+row_and_column_apart apart = apart 0 1 [] (ltb-true 0 1 refl) (ltb-true 1 2 refl) at_the_corner
 
 nothing_to_write : IsFaultOfWrites {T = ℕ} (2 ∷ 3 ∷ []) [] None
 nothing_to_write = λ i j d earlier below. absurd (not-suc-le-zero below)

@@ -1,4 +1,2 @@
-pub mod Checks
 pub mod Parts
-pub mod Ranges
 pub mod Written

@@ -5,7 +5,6 @@
 mod iterating;
 mod owned;
 mod parts;
-mod ranges;
 mod rows;
 mod writes;
 

@@ -222,10 +222,10 @@ impl<T: Copy, D: Lengths> OwnedArray<T, D> {
     /// Each slice comes with the items for its indices, in row-major order. All other items are unchanged, spare ones too.
     /// A slice that picks nothing intersects no other, and an empty list of writes is no error.
     ///
-    /// Each slice is compared with those after it: of `k` slices `k * (k - 1) / 2` pairs, each up to the first axis on which
-    /// their ranges are apart. Where the slices begin in their order along an axis, as the rows of an array or its tiles row
-    /// by row, a slice is compared only with those that begin before it ends; of rows that is none. Before the first write
-    /// the parts that the slices pick are listed if there are several.
+    /// The slices are compared as `first_intersection` does: of `k` slices `k * (k - 1) / 2` pairs, each up to an axis on
+    /// which their ranges are apart. Where the slices begin in their order along an axis, or in the reverse order, as the
+    /// rows of an array or its tiles row by row, a slice is compared only with those that begin before it ends; of rows that
+    /// is none. Before the first write the parts that the slices pick are listed if there are several.
     ///
     /// # Errors
     ///

@@ -9,15 +9,13 @@ ghost use Rattle.ndarray_layout.specs.Size.{size};
 ghost use Rattle.ndarray_layout.specs.SlicedView.{slice_of};
 ghost use Rattle.ndarray_layout.specs.View.{LiesWithin};
 ghost use Rattle.nd_owned.specs.Writes.{HaveNoItems, IsIntersectionFault, counts_fault, has_count, slices_fault, write_of, write_places};
-ghost use Rattle.nd_owned.specs.private.Checks.{IsIntersectionFaultOf};
-ghost use Rattle.nd_owned.specs.private.Ranges.{AreInOrder, IsPast};
 ghost use Rattle.nd_owned.specs.private.Parts.{part_places, view_of_part};
 ghost use Rattle.nd_owned.specs.private.Written.{HasWritten};
 
 use crate::parts::Part;
-use crate::ranges::{axis_in_order, begins_past, end_in_order, share_an_index};
 use ndarray_layout::{
-    ErrorKind, Fit, LayoutError, Lengths, ShapeError, SliceInfoElem, Strided, from_kind,
+    ErrorKind, Fit, LayoutError, Lengths, ShapeError, SliceInfoElem, Strided,
+    first_elems_intersection, from_kind,
 };
 use std::alloc::Global;
 
@@ -64,35 +62,6 @@ pub(crate) fn check_counts<T: Copy, D: Lengths>(
     }
 }
 
-/// Checks that a slice shares an index with none of those of a list, which all fit the shape. Where these begin in their
-/// order on an axis, the first that begins there past the slice ends the comparison: none after it begins earlier.
-fn check_apart_from<T: Copy>(
-    shape: &[usize],
-    in_order: Option<usize>,
-    slice: &[SliceInfoElem],
-    others: &[SliceItems<T>],
-) -> Result<(), ShapeError>
-    requires lens_fit { All (λ len. len < 2 ^ 63) shape.now }
-    requires fits { argument_fault Strict shape.now slice.now ≡ None }
-    requires others_fit { slices_fault shape.now (map write_of others.now) ≡ None }
-    requires in_order { IfSome in_order (λ axis.
-        AreInOrder shape.now axis (map write_of others.now)) }
-    ensures { IsIntersectionFaultOf shape.now slice.now (map write_of others.now)
-        (result_err result) }
-{
-    let end = end_in_order(shape, in_order, slice);
-    for (other, _) in others {
-        let other = other.as_slice();
-        if begins_past(shape, end, other) {
-            return Ok(());
-        }
-        if share_an_index(shape, slice, other) {
-            return Err(from_kind(ErrorKind::Unsupported));
-        }
-    }
-    Ok(())
-}
-
 /// Checks that no two slices share an index. Each fits the shape of the view, so none is checked again.
 pub(crate) fn check_apart<T: Copy, D: Lengths>(
     view: &Strided<D>,
@@ -101,12 +70,11 @@ pub(crate) fn check_apart<T: Copy, D: Lengths>(
     requires { slices_fault view.now.shape (map write_of writes.now) ≡ None }
     ensures { IsIntersectionFault view.now.shape (map write_of writes.now) (result_err result) }
 {
-    let shape = view.dim().slice();
-    let in_order = axis_in_order(shape, writes);
-    for (at, write) in writes.iter().enumerate() {
-        check_apart_from(shape, in_order, write.0.as_slice(), &writes[at + 1..])?;
+    let found = first_elems_intersection(view.dim().slice(), writes, Fit::Strict);
+    match found {
+        Some(_) => Err(from_kind(ErrorKind::Unsupported)),
+        None => Ok(()),
     }
-    Ok(())
 }
 
 /// The part of the view that the slice of one write picks, where there are as many items for it. Errors: that of the slice,

@@ -2,6 +2,7 @@ pub mod Definitions
 pub mod Ends
 pub mod Every
 pub mod EveryItems
+pub mod Slices
 pub mod Slicing
 pub mod Times
 pub mod intersect_lemmas

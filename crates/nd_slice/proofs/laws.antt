@@ -8,4 +8,5 @@ pub mod Picked
 pub mod Picks
 pub mod Selected
 pub mod SliceFault
+pub mod SliceRange
 pub mod UnitStep

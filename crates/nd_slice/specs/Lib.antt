@@ -13,7 +13,10 @@ pub mod Ranges
 pub mod Selected
 pub mod Sequence
 pub mod SliceFault
+pub mod SliceRange
 pub mod SliceText
+pub mod SlicesInOrder
+pub mod SlicesIntersect
 pub mod Sliced
 pub use Rattle.nd_base.specs.Lengths
 pub use Rattle.nd_base.specs.Signed

@@ -38,3 +38,13 @@ impl SliceElems for Vec<SliceInfoElem> {
         self.as_slice()
     }
 }
+
+/// A slice argument with what goes with it, as the items that are to be written there.
+impl<S: SliceElems, T> SliceElems for (S, T) {
+    ghost list = { λ pair. S.list pair.0 };
+
+    #[inline]
+    fn elems(&self) -> &[SliceInfoElem] {
+        self.0.elems()
+    }
+}

@@ -16,6 +16,7 @@ use crate::axis_elems::AxisElems;
 use crate::elem::SliceInfoElem;
 use crate::elems::SliceElems;
 use crate::fit::Fit;
+use crate::ranges::have_ranges_apart;
 use crate::resolve::resolve_elem;
 use crate::slice_errors::check_slice;
 pub use equation::solve_linear_diophantine_eq;
@@ -35,11 +36,8 @@ fn elems_share(len: usize, first: SliceInfoElem, second: SliceInfoElem, fit: Fit
     picks.intersects(resolve_elem(len, second, fit).unwrap())
 }
 
-/// Whether two slice arguments that fit a shape share an index of it: what `slices_intersect` returns, of lists that were
-/// checked before. The caller ensures that both fit, and that each length is below 2^63. Where the ranges of an axis are
-/// apart, the axes after it are not looked at. The project's own.
-#[inline]
-pub fn elems_intersect(
+/// Whether two slice arguments that fit a shape share a coordinate of each axis, one axis after another.
+fn elems_share_all(
     shape: &[usize],
     first: &[SliceInfoElem],
     second: &[SliceInfoElem],
@@ -60,6 +58,24 @@ pub fn elems_intersect(
         }
     }
     true
+}
+
+/// Whether two slice arguments that fit a shape share an index of it: what `slices_intersect` returns, of lists that were
+/// checked before. The caller ensures that both fit, and that each length is below 2^63. Where neither has new axes the
+/// ranges of all axes are compared before any equation of steps is solved, that of the last axis first. The project's own.
+#[inline(always)]
+pub fn elems_intersect(
+    shape: &[usize],
+    first: &[SliceInfoElem],
+    second: &[SliceInfoElem],
+    fit: Fit,
+) -> bool
+    requires lens_fit { All (λ len. len < 2 ^ 63) shape.now }
+    requires first_fits { argument_fault fit shape.now first.now ≡ None }
+    requires second_fits { argument_fault fit shape.now second.now ≡ None }
+    ensures { IsTrue result ↔ Intersect fit shape.now first.now second.now }
+{
+    !have_ranges_apart(shape, first, second, fit) && elems_share_all(shape, first, second, fit)
 }
 
 /// Whether two slice arguments on a shape share an index: one whose coordinate on every axis is
@@ -91,5 +107,5 @@ pub fn slices_intersect<D: Lengths, A: SliceElems, B: SliceElems>(
 {
     check_slice(dim, first, fit)?;
     check_slice(dim, second, fit)?;
-    Ok(elems_intersect(dim.slice(), first.elems(), second.elems(), fit))
+    Ok(elems_share_all(dim.slice(), first.elems(), second.elems(), fit))
 }

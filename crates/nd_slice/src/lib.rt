@@ -12,10 +12,13 @@ mod elems;
 mod fit;
 mod info;
 mod intersect;
+mod intersections;
 mod picks;
+mod ranges;
 mod resolve;
 mod slice;
 mod slice_errors;
+mod sweep;
 
 pub use arg::SliceArg;
 pub use axis::do_slice;
@@ -30,6 +33,7 @@ pub use intersect::{
     arith_seq_intersect, elems_intersect, extended_gcd, slices_intersect,
     solve_linear_diophantine_eq,
 };
+pub use intersections::{first_elems_intersection, first_intersection};
 pub use picks::AxisPicks;
 pub use resolve::{resolve_elem, resolve_slice, slice_min_max};
 pub use slice::Slice;

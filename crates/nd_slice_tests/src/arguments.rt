@@ -3,13 +3,13 @@ ghost use Rattle.std.specs.Prelude.{◌<◌, ◌^◌, IsTrue};
 ghost use Rattle.std.specs.List.{All};
 
 use SliceInfoElem::{Index, NewAxis};
-use nd_base::{ErrorKind, Lengths, ShapeError, new_ix2};
+use nd_base::{ErrorKind, Lengths, ShapeError, new_ix1, new_ix2};
 use nd_slice::{
-    AxisElems, Fit, SliceElems, SliceInfoElem, check_elems, check_slice, in_ndim_of, out_ndim_of,
-    slices_intersect,
+    AxisElems, Fit, SliceElems, SliceInfoElem, check_elems, check_slice, first_intersection,
+    in_ndim_of, out_ndim_of, slices_intersect,
 };
 use std::alloc::Global;
-use test_tables::{AtType, Reading, at_type, fault_of, name_of};
+use test_tables::{AtType, Reading, Words, at_type, fault_of, name_of};
 
 /// The whole of an axis.
 const ALL: SliceInfoElem = SliceInfoElem::Slice {
@@ -61,6 +61,35 @@ pub fn elems_hold(alloc: Global, row: &mut Reading<'_>) -> Option<bool> {
     Some(true)
 }
 
+/// The arguments of all words that are left.
+fn arguments(alloc: Global, words: &mut Words<'_>) -> Option<Vec<Vec<SliceInfoElem>>> {
+    let mut slices = Vec::new(alloc);
+    for _ in 0..u64::MAX {
+        let Some(word) = words.word() else {
+            break;
+        };
+        slices.push(Words::of(word).elems(alloc)?).ok()?;
+    }
+    Some(slices)
+}
+
+/// Whether these are the positions of two arguments that intersect on a shape, or `none`, or the fault.
+fn is_first<D: Lengths, S: SliceElems>(
+    answer: &mut Words<'_>,
+    dim: &D,
+    slices: &[S],
+    fit: Fit,
+) -> bool {
+    if !are_short(dim.slice()) {
+        return false;
+    }
+    match first_intersection(dim, slices, fit) {
+        Ok(Some((one, other))) => answer.is_list(&[one, other]),
+        Ok(None) => answer.is("none"),
+        Err(fault) => answer.is(name_of(Some(fault.kind()))),
+    }
+}
+
 /// What a row says of arguments.
 #[derive(Clone, Copy)]
 pub enum OfArguments {
@@ -68,6 +97,8 @@ pub enum OfArguments {
     Check(Fit),
     /// `TYPE SHAPE ARGUMENT ARGUMENT => intersect`, or `apart`, or the fault.
     Intersect(Fit),
+    /// `TYPE SHAPE ARGUMENT .. => AT,AT`, or `none`, or the fault.
+    First(Fit),
 }
 
 /// A row at a dimension type.
@@ -80,6 +111,10 @@ impl AtType for OfRow<'_, '_> {
     fn at<D: Lengths>(self, alloc: Global) -> Option<bool> {
         let OfRow { row, asked } = self;
         let dim: D = row.given.dim(alloc)?;
+        if let OfArguments::First(fit) = asked {
+            let slices = arguments(alloc, &mut row.given)?;
+            return Some(is_first(&mut row.answer, &dim, slices.as_slice(), fit));
+        }
         let first = row.given.elems(alloc)?;
         match asked {
             OfArguments::Check(fit) => Some(
@@ -89,6 +124,7 @@ impl AtType for OfRow<'_, '_> {
                 let second = row.given.elems(alloc)?;
                 Some(row.answer.is(intersecting(&dim, &first, &second, fit)))
             }
+            OfArguments::First(_) => None,
         }
     }
 }
@@ -109,4 +145,30 @@ fn elements_in_lists_and_arrays(rt: HostRuntime) {
     assert!(rt; fault_of(check_slice(&dim, &elems.as_slice(), Fit::Strict)) == None);
     assert!(rt; intersecting(&dim, &elems, &whole.as_slice(), Fit::Strict) == "intersect");
     assert!(rt; intersecting(&dim, &whole.as_slice(), &[ALL], Fit::Strict) == "IncompatibleShape");
+}
+
+/// The indices of an axis of 10,000 coordinates as arguments, from the first one on and once more the first.
+fn all_indices(alloc: Global) -> Option<Vec<[SliceInfoElem; 1]>> {
+    let mut slices = Vec::new(alloc);
+    for index in 0..10_000isize {
+        slices.push([Index(index)]).ok()?;
+    }
+    slices.push([Index(0)]).ok()?;
+    Some(slices)
+}
+
+#[test]
+fn ten_thousand_arguments(rt: HostRuntime) {
+    let (dim, mut slices) = (
+        new_ix1(10_000),
+        all_indices(rt.alloc()).unwrap_or(Vec::new(rt.alloc())),
+    );
+    let count = slices.len();
+    assert!(rt; count == 10_001);
+    assert!(rt; first_intersection(&dim, &slices[1..], Fit::Strict).ok() == Some(None));
+    assert!(rt;
+        first_intersection(&dim, slices.as_slice(), Fit::Strict).ok() == Some(Some((0, 10_000)))
+    );
+    slices.reverse();
+    assert!(rt; first_intersection(&dim, &slices[1..], Fit::Strict).ok() == Some(None));
 }

@@ -28,7 +28,7 @@ enum Call {
     ArithSeqIntersect,
 }
 
-static CALLS: [(&str, Call); 14] = [
+static CALLS: [(&str, Call); 16] = [
     ("do_slice", Call::DoSlice(Strict)),
     ("do_slice_clamped", Call::DoSlice(Clamp)),
     ("slice_min_max", Call::SliceMinMax(Strict)),
@@ -48,6 +48,14 @@ static CALLS: [(&str, Call); 14] = [
     (
         "slices_intersect_clamped",
         Call::Arguments(OfArguments::Intersect(Clamp)),
+    ),
+    (
+        "first_intersection",
+        Call::Arguments(OfArguments::First(Strict)),
+    ),
+    (
+        "first_intersection_clamped",
+        Call::Arguments(OfArguments::First(Clamp)),
     ),
     ("extended_gcd", Call::ExtendedGcd),
     ("solve_linear_diophantine_eq", Call::Solve),

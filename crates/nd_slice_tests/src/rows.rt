@@ -126,6 +126,32 @@ fn r14_rows(rt: HostRuntime) {
     hold(&rt, rt.alloc(), CLAMPED, &Calls);
 }
 
+/// Two of many arguments: rows, columns and tiles from the first and from the last, in no order, with new axes, indices and
+/// steps, and faults.
+const FIRST: &str = "\
+first_intersection Ix1 4 / Ix1 4 .. / Ix1 4 ..2 2.. / Ix0 - NewAxis / IxDyn 0 .. .. .. => none
+first_intersection Ix2 4,3 0,.. 1,.. 2,.. 3,.. / Ix2 4,3 3,.. 2,.. 1,.. 0,.. / Ix2 4,3 0,.. 3,.. 1,.. 2,.. => none
+first_intersection Ix2 4,3 ..,0 ..,1 ..,2 / Ix2 4,3 ..,2 ..,1 ..,0 / Ix2 4,3 ..,1 ..,2 ..,0 => none
+first_intersection Ix2 4,4 ..2,..2 ..2,2.. 2..,..2 2..,2.. / Ix2 4,4 2..,2.. 2..,..2 ..2,2.. ..2,..2 => none
+first_intersection Ix2 4,4 ..2,..2 2..,..2 ..2,2.. 2..,2.. / Ix2 4,4 2..,2.. ..2,2.. 2..,..2 ..2,..2 => none
+first_intersection Ix1 9 ..;3 1..;3 2..;3 / Ix1 9 2..;3 ..;3 1..;3 / Ix1 9 ..8;-3 ..7;-3 ..;-3 => none
+first_intersection Ix2 4,9 ..2,.. 3..,.. 1,5 / Ix1 9 ..3 5.. 2 / Ix1 9 0..8;-2 2..3 4..9;3 8.. => 0,2
+first_intersection Ix1 9 3.. 1..2 2..4 / Ix1 9 0 1 -9 / Ix1 9 -1 7 8 / Ix1 9 ..7 7.. 5..6 / Ix1 9 ..;4 1..2 2..;6 => 0,2
+first_intersection Ix2 4,3 3,.. 2,.. 1,.. 0,.. ..1,1 / IxDyn 4,3 2,.. 1,.. NewAxis,3,0 0,.. 0,NewAxis,2 => 3,4
+first_intersection IxDyn 2,2,2,2,2 0,..,..,..,.. 1,..,..,0,.. 1,..,..,1,0 1,0,..;-1,1,1 1,..,NewAxis,0,-1,1 => 3,4
+first_intersection Ix1 9 1..9;5 1.. 0..1 / Ix1 9 ..;2 ..;2 1..;2 / Ix0 - NewAxis - / Ix1 4 1 1 => 0,1
+first_intersection Ix2 2,3 0,.. 0,.. .. / Ix2 2,3 0,..,0 9,.. => IncompatibleShape
+first_intersection Ix2 2,3 0,.. 0,.. 9,.. / Ix2 2,3 0,9 0,.. 0,.. / Ix2 2,3 0,.. 0,.. 2,..;0 => OutOfBounds
+first_intersection Ix1 9 .. .. ..;0 9 / Ix1 9 ..;0 / Ix2 2,3 ..;0,9 9,.. => Unsupported
+first_intersection_clamped Ix1 9 -20..3 3..20 20.. => none
+first_intersection_clamped Ix1 9 ..3 8..30 4..5 -1 => 1,3
+first_intersection_clamped Ix1 9 ..3 9 => OutOfBounds";
+
+#[test]
+fn first_of_many(rt: HostRuntime) {
+    hold(&rt, rt.alloc(), FIRST, &Calls);
+}
+
 // A line that is no row of a known call, or that can't be read to its end, holds nowhere.
 #[test]
 fn lines_that_are_no_rows(rt: HostRuntime) {

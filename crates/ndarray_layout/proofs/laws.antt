@@ -65,6 +65,7 @@ pub use Rattle.nd_shape.proofs.laws.NoAlias
 pub use Rattle.nd_shape.proofs.laws.NoAliasPass
 pub use Rattle.nd_shape.proofs.laws.Stretches
 pub use Rattle.nd_slice.proofs.laws.SliceFault
+pub use Rattle.nd_slice.proofs.laws.SliceRange
 pub use Rattle.nd_slice.proofs.laws.AxisElems
 pub use Rattle.nd_slice.proofs.laws.Between
 pub use Rattle.nd_slice.proofs.laws.Intersect

@@ -20,6 +20,7 @@ pub mod RowsLeft
 pub mod Run
 pub mod SharePlace
 pub mod SlicedView
+pub mod SlicesSharePlace
 pub mod SplitView
 pub mod Step
 pub mod StepFits
@@ -65,6 +66,9 @@ pub use Rattle.nd_shape.specs.Merge
 pub use Rattle.nd_shape.specs.NoAlias
 pub use Rattle.nd_shape.specs.NoAliasPass
 pub use Rattle.nd_slice.specs.SliceFault
+pub use Rattle.nd_slice.specs.SliceRange
+pub use Rattle.nd_slice.specs.SlicesInOrder
+pub use Rattle.nd_slice.specs.SlicesIntersect
 pub use Rattle.nd_slice.specs.AxisElems
 pub use Rattle.nd_slice.specs.Counts
 pub use Rattle.nd_slice.specs.ElemRange

@@ -128,7 +128,8 @@ fn are_answered<D: Lengths>(alloc: Global, view: &Strided<D>) -> Option<bool> {
         view.place(&index) == Some(23)
             && view.axes().len() == 3
             && view.picked(&row, Strict).ok() == Some(8)
-            && view.meets(&row, &other, Strict).ok() == Some(true),
+            && view.meets(&row, &other, Strict).ok() == Some(true)
+            && view.first_intersection(&[row, other], Strict).ok() == Some(Some((0, 1))),
     )
 }
 

@@ -7,7 +7,8 @@ use crate::numbers::Numbers;
 use crate::types::{axes_of, dimension, lists_of, of_types, strided};
 use ndarray_layout::CanIndexCheckMode::ReadOnly;
 use ndarray_layout::{
-    Fit, IxDyn, LayoutError, Lengths, SliceInfoElem, StrideShape, Strided, Strides, check_slice, slices_intersect,
+    Fit, IxDyn, LayoutError, Lengths, SliceInfoElem, StrideShape, Strided, Strides, check_slice, first_intersection,
+    slices_intersect,
 };
 use std::cell::Cell;
 
@@ -123,5 +124,80 @@ fn intersections_are_the_models() {
         },
     );
     println!("slices_intersect: {} yes", yes.get());
+    assert!((10_000..CALLS - 10_000).contains(&yes.get()), "{} yes", yes.get());
+}
+
+/// Whether two of many slices of a shape share an index, by the view and by the function. The two that they return do.
+fn any_intersect<D: Lengths>(shape: &[usize], slices: &[Vec<SliceInfoElem>], fit: Fit) -> Result<bool, LayoutError> {
+    let view = of_shape::<D>(shape)?;
+    let found = view.first_intersection(slices, fit);
+    assert_eq!(first_intersection(view.dim(), slices, fit), found);
+    if let Ok(Some((one, other))) = found {
+        assert!(one < other);
+        assert_eq!(view.meets(&slices[one], &slices[other], fit), Ok(true));
+    }
+    Ok(found?.is_some())
+}
+
+/// Where the range of an element for an axis begins, as far as its order goes.
+fn start_of(slice: &[SliceInfoElem], axis: usize) -> isize {
+    match slice.get(axis) {
+        Some(SliceInfoElem::Slice { start, .. }) => *start,
+        Some(SliceInfoElem::Index(index)) => *index,
+        _ => 0,
+    }
+}
+
+/// Small slices of a shape that fit, without new axes, mostly in order along an axis, from the first or from the last.
+fn small_slices(numbers: &mut Numbers, shape: &[usize]) -> Vec<Vec<SliceInfoElem>> {
+    let step = [1, 1, 1, 2, -1, -3];
+    let elem = |numbers: &mut Numbers, len: usize| {
+        let start = numbers.below(len + 1);
+        let end = (start + numbers.below(3)).min(len);
+        if start < len && numbers.once_in(4) {
+            return SliceInfoElem::Index(start as isize);
+        }
+        SliceInfoElem::Slice { start: start as isize, end: Some(end as isize), step: numbers.pick(&step) }
+    };
+    let count = numbers.below(9);
+    let mut slices: Vec<Vec<_>> =
+        (0..count).map(|_| shape.iter().map(|len| elem(numbers, *len)).collect()).collect();
+    if !shape.is_empty() && !numbers.once_in(4) {
+        let axis = numbers.below(shape.len());
+        slices.sort_by_key(|slice| start_of(slice, axis));
+        if numbers.once_in(2) {
+            slices.reverse();
+        }
+    }
+    slices
+}
+
+#[test]
+fn first_intersections_are_the_models() {
+    let arguments = |numbers: &mut Numbers| {
+        let shape = numbers.small_shape();
+        let mut slices = small_slices(numbers, &shape);
+        if numbers.once_in(5) {
+            slices.push(numbers.elems(&shape));
+        }
+        (shape, slices, numbers.pick(&FITS))
+    };
+    let yes = Cell::new(0);
+    compare(
+        "first_intersection",
+        &["Ok", "IncompatibleShape", "OutOfBounds", "Unsupported"],
+        arguments,
+        |(shape, slices, fit)| of_types!(Some(shape.len()), D => any_intersect::<D>(shape, slices, *fit)),
+        |(shape, slices, fit)| {
+            slices.iter().try_for_each(|slice| model::picked(shape, slice, *fit).map(|_| ()))?;
+            let meets = |one: &[SliceInfoElem], other: &[SliceInfoElem]| {
+                model::slices_intersect(shape, one, other, *fit) == Some(Ok(true))
+            };
+            let some = slices.iter().enumerate().any(|(at, one)| slices[at + 1..].iter().any(|other| meets(one, other)));
+            yes.set(yes.get() + usize::from(some));
+            Ok(some)
+        },
+    );
+    println!("first_intersection: {} yes", yes.get());
     assert!((10_000..CALLS - 10_000).contains(&yes.get()), "{} yes", yes.get());
 }

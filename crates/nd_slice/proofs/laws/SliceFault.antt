@@ -1,10 +1,13 @@
 -- What no fault of a slice argument means: an element for each axis, of which each fits.
-use Rattle.std.proofs.Common.{true, false, refl, ◌≡◌, ℕ, ℤ, Bool, ◌==◌, if◌then◌else◌, Option, Some, None, List, ◌∷◌, length}
+use Rattle.std.proofs.Common.{true, false, refl, ◌≡◌, ℕ, zero, suc, ℤ, Bool, ◌==◌, if◌then◌else◌, Option, Some, None, List, [], ◌∷◌, length, arith}
+use Rattle.std.specs.List.{All}
+use Rattle.std.specs.Prelude.{IsSomeAnd, slice_get}
+use Rattle.std.proofs.lemmas.List.Elements.{All-cons}
 use Rattle.std.proofs.lemmas.Bool.{eqb-true}
 use Rattle.nd_base.specs.declared.error.ErrorKind.{ErrorKind}
 use Rattle.nd_base.specs.declared.error.ErrorKind.TheVariants.{IncompatibleShape}
 use Rattle.nd_slice.proofs.Definitions.{Fit, IndexFits, Slice, SliceFits, SliceInfoElem, argument_fault, first_fault, in_count}
-use Rattle.nd_slice.proofs.Definitions.{index_fault, slice_fault}
+use Rattle.nd_slice.proofs.Definitions.{index_fault, slice_fault, slices_fault}
 use Rattle.nd_slice.specs.declared.elem.SliceInfoElem.TheVariants as elem
 use Rattle.nd_base.proofs.laws.Options.{option_or_none}
 use Rattle.nd_slice.proofs.laws.AxisFault.{fits_of_no_fault, index_fits_of_no_fault}
@@ -35,3 +38,21 @@ pub elements_of_no_fault : (fit : Fit) (shape : List ℕ) (elems : List SliceInf
 elements_of_no_fault fit shape elems none =
     let parts = counted (in_count elems == length shape) (first_fault fit shape elems) none in
     (eqb-true (in_count elems) (length shape) parts.0, parts.1)
+
+-- each of a list of arguments without fault is one
+pub each_fits : (fit : Fit) (shape : List ℕ) (slices : List (List SliceInfoElem)) → slices_fault fit shape slices ≡ None
+    → All (λ slice. argument_fault fit shape slice ≡ None) slices
+each_fits fit shape [] none = λ k d below. absurd (omega arith)
+each_fits fit shape (slice ∷ slices) none =
+    let parts = option_or_none (argument_fault fit shape slice) none in
+    All-cons (λ one. argument_fault fit shape one ≡ None) slice slices parts.0 (each_fits fit shape slices parts.1)
+
+-- what follows for arguments without fault follows for the one at a position
+pub on_fitting : (fit : Fit) (shape : List ℕ) (slices : List (List SliceInfoElem)) (i : ℕ) {P Q : List SliceInfoElem → Type 0}
+    → slices_fault fit shape slices ≡ None → ((slice : List SliceInfoElem) → argument_fault fit shape slice ≡ None → P slice → Q slice)
+    → IsSomeAnd (slice_get slices i) P → IsSomeAnd (slice_get slices i) Q
+on_fitting fit shape [] i none follows known = absurd known
+on_fitting fit shape (slice ∷ slices) zero none follows known =
+    follows slice (option_or_none (argument_fault fit shape slice) none).0 known
+on_fitting fit shape (slice ∷ slices) (suc i) none follows known =
+    on_fitting fit shape slices i (option_or_none (argument_fault fit shape slice) none).1 follows known

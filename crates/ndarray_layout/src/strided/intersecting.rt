@@ -1,16 +1,18 @@
-//! Whether two slices of a view intersect: where it is asked before they are written at once.
+//! Whether slices of a view intersect: where it is asked before they are written at once.
 ghost use Rattle.std.specs.Option.{option_or};
-ghost use Rattle.std.specs.Prelude.{◌≡◌, ◌<◌, ◌↔◌, IsTrue, IfOk};
+ghost use Rattle.std.specs.Prelude.{◌≡◌, ◌<◌, ◌↔◌, IsTrue, IfOk, map};
 ghost use Rattle.std.specs.Result.{result_err};
 ghost use Rattle.nd_slice.specs.SliceFault.{argument_fault};
 ghost use Rattle.nd_slice.specs.Intersect.{Intersect};
+ghost use Rattle.nd_slice.specs.SlicesIntersect.{IsIntersection, slices_fault};
 ghost use Rattle.ndarray_layout.specs.DistinctPlaces.{HasDistinctPlaces};
 ghost use Rattle.ndarray_layout.specs.SharePlace.{SharePlace};
 ghost use Rattle.ndarray_layout.specs.SlicedView.{slice_of};
+ghost use Rattle.ndarray_layout.specs.SlicesSharePlace.{IsSharedPlace};
 
 use crate::strided::Strided;
 use nd_base::{Lengths, ShapeError};
-use nd_slice::{Fit, SliceElems, slices_intersect};
+use nd_slice::{Fit, SliceElems, first_intersection, slices_intersect};
 
 impl<D: Lengths> Strided<D> {
     /// Whether two slices of the view intersect: some index has each of its coordinates among the
@@ -47,5 +49,37 @@ impl<D: Lengths> Strided<D> {
             (slice_of fit (B.list second.now) self.now))) }
     {
         slices_intersect(&self.dim, first, second, fit)
+    }
+    /// Two of many slices of the view that intersect: their positions in the list, the less first.
+    /// `None` if and only if no two of them do.
+    ///
+    /// Where no two indices of the view alias, `None` is returned if and only if no two of the
+    /// slices have a place in common. On any other view, as one that is broadcast, slices that share
+    /// no index may still share a place.
+    ///
+    /// # Errors
+    ///
+    /// Those of `check_slice` on the shape for the first argument with one. All are checked before
+    /// any two are compared.
+    ///
+    /// Takes no memory, and the time of `first_intersection`: in proportion to the count of slices
+    /// where these are the rows of an array or its tiles, from the first to the last or from the
+    /// last to the first; where they are in no order along an axis, each is compared with each.
+    ///
+    /// `0,..`, `1,..2` and `..,-1` of `[2,3]`: `Some((0, 2))`, by (0,2). In place of the panic of
+    /// ndarray's `multi_slice_mut`.
+    pub fn first_intersection<S: SliceElems>(
+        &self,
+        slices: &[S],
+        fit: Fit,
+    ) -> Result<Option<(usize, usize)>, ShapeError>
+        ensures fault { result_err result ≡
+            slices_fault fit self.now.shape (map S.list slices.now) }
+        ensures intersection { IfOk result (λ found.
+            IsIntersection fit self.now.shape (map S.list slices.now) found) }
+        ensures places { IfOk result (λ found. HasDistinctPlaces self.now →
+            IsSharedPlace fit self.now (map S.list slices.now) found) }
+    {
+        first_intersection(&self.dim, slices, fit)
     }
 }

@@ -6,7 +6,7 @@ use Rattle.nd_slice.proofs.laws.AxisElems.{lens_of_axis_elems}
 use Rattle.nd_slice.proofs.laws.Intersect.{intersect_by_axis}
 use Rattle.nd_slice.proofs.intersect_lemmas.Intersecting.{lens_of, go_on, stop, at_end}
 use Rattle.nd_slice.proofs.Definitions.{axis_elems}
-use Rattle.nd_slice.proofs.intersect.elems_intersect.Goals as goal
+use Rattle.nd_slice.proofs.intersect.elems_share_all.Goals as goal
 
 pub loop-len-init : goal.loop-len-init
 loop-len-init c =
