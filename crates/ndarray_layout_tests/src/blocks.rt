@@ -45,9 +45,10 @@ struct OfDiagonal<'a, 'b> {
 
 impl AtType for OfDiagonal<'_, '_> {
     fn at<D: Lengths>(self, alloc: Global) -> Option<bool> {
-        let layout = Layout::read(&mut self.row.given)?;
+        let OfDiagonal { row } = self;
+        let layout = Layout::read(&mut row.given)?;
         let view: Strided<D> = layout.view(alloc)?.ok()?;
-        Some(is_told(alloc, self.row, Ok(view.diag())))
+        Some(is_told(alloc, row, Ok(view.diag())))
     }
 }
 
@@ -59,7 +60,8 @@ struct OfView<'a, 'b> {
 
 impl AtType for OfView<'_, '_> {
     fn at<D: Lengths>(self, alloc: Global) -> Option<bool> {
-        are_told::<D, IxDyn>(alloc, self.row, self.taken)
+        let OfView { row, taken } = self;
+        are_told::<D, IxDyn>(alloc, row, taken)
     }
 }
 
@@ -71,7 +73,8 @@ struct IntoView<'a, 'b> {
 
 impl AtType for IntoView<'_, '_> {
     fn at<E: Lengths>(self, alloc: Global) -> Option<bool> {
-        are_told::<IxDyn, E>(alloc, self.row, self.taken)
+        let IntoView { row, taken } = self;
+        are_told::<IxDyn, E>(alloc, row, taken)
     }
 }
 
