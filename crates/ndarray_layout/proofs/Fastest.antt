@@ -1,15 +1,14 @@
 -- A view by the axis that moves fastest in an order: its other axes are a view whose places begin the rows along that axis.
-use Rattle.std.proofs.Common.{◌≡◌, ℕ, zero, suc, ◌+◌, ◌*◌, ◌-◌, ◌/◌, ◌%◌, ◌<◌, ◌≤◌, ◌^◌, ℤ, pos, ◌+ℤ◌, ◌*ℤ◌, ◌≤ℤ◌, inl, inr, List, [], ◌∷◌, ◌++◌}
+use Rattle.std.proofs.Common.{◌≡◌, ℕ, zero, suc, ◌+◌, ◌*◌, ◌-◌, ◌/◌, ◌%◌, ◌<◌, ◌≤◌, ℤ, pos, ◌+ℤ◌, ◌*ℤ◌, inl, inr, List, [], ◌∷◌, ◌++◌}
 use Rattle.std.proofs.Common.{refl, sym, ap, ◌∙◌, arith, length-append, length, get_or, map, take}
 use Rattle.std.proofs.Math.Nat.{div-one, mod-eq_of_lt}
 use Rattle.std.proofs.Math.Seq.{get_or-append_seam, take-append_seam, take-length}
 use Rattle.std.proofs.lemmas.Bool.{cases_eq}
-use Rattle.std.proofs.lemmas.Int.{ints}
 use Rattle.std.proofs.lemmas.List.{map-append, reverse-append, take_more}
-use Rattle.std.proofs.lemmas.Nat.{div-add-mod', div_below, mod_below, mod-mul-add, div-mul-add, mul-add-lt}
+use Rattle.std.proofs.lemmas.Nat.{div-add-mod', mod_below, mod-mul-add, div-mul-add, mul-add-lt}
 use Rattle.nd_base.specs.declared.order.Order.{Order}
 use Rattle.nd_base.specs.declared.order.Order.TheVariants.{RowMajor, ColumnMajor}
-use Rattle.nd_base.proofs.laws.Definitions.{as_read, index_of_flat, index_of_flat_in, limit, nonzero_size, offset_of, place}
+use Rattle.nd_base.proofs.laws.Definitions.{as_read, index_of_flat, index_of_flat_in, nonzero_size, offset_of}
 use Rattle.nd_base.proofs.laws.Definitions.{reach_down, reach_up, size, sum_over_axes}
 use Rattle.nd_base.proofs.laws.NonzeroSize.{length_le_nonzero_size, nonzero_size-push, nonzero_size_of_other, nonzero_size_of_zero}
 use Rattle.nd_base.proofs.laws.Offset.{offset_of-push}
@@ -23,7 +22,6 @@ use Rattle.ndarray_layout.specs.RowsLeft.{with_item}
 use Rattle.ndarray_layout.specs.private.Fastest.{EndsIn}
 use Rattle.ndarray_layout.proofs.matching.FlatOffsets.{length-index_of_flat}
 use Rattle.ndarray_layout.proofs.ByRows.{by_last_axis, rows_from}
-use Rattle.ndarray_layout.proofs.OneAxis.{axis_within}
 use Rattle.ndarray_layout.proofs.ReadView.{places-as_read}
 use Rattle.ndarray_layout.proofs.laws.View.{IsView-within}
 
@@ -145,28 +143,7 @@ sum-others {order} {shape} {lens} {strides} {others} {len} {stride} f e g count 
 module _ (order : Order) {start : ℕ} {shape lens : List ℕ} {strides others : List ℤ} {len : ℕ} {stride : ℤ}
     (e : EndsIn order shape lens len) (g : EndsIn order strides others stride)
     (v : IsView (record { start = start; shape = shape; strides = strides })) where
-  -- the other axes are a view from each coordinate on
-  pub IsView-coordinate : (i : ℕ) {here : ℕ} → i < len → pos here ≡ pos start +ℤ (pos i *ℤ stride)
-      → IsView (record { start = here; shape = lens; strides = others })
-  IsView-coordinate i below at =
-      let axis = axis_within len i stride below in
-      let down = sum-others reach_down e g v.valid.same_count in
-      let up = sum-others reach_up e g v.valid.same_count in
-      IsView-within v (omega (arith, length-others e, length-others g, v.valid.same_count))
-      (omega (arith, nonzero_size-others e, v.valid.size_fits))
-      (omega (arith, ints, down, axis.above)) (omega (arith, ints, up, axis.below))
-
-  -- which is a place of the data
-  pub coordinate_within : (i : ℕ) → i < len → (i < 2 ^ 63) × (pos 0 ≤ℤ (pos start +ℤ (pos i *ℤ stride)))
-      × ((pos start +ℤ (pos i *ℤ stride)) ≤ℤ pos limit)
-  coordinate_within i below =
-      let axis = axis_within len i stride below in
-      let down = sum-others reach_down e g v.valid.same_count in
-      let up = sum-others reach_up e g v.valid.same_count in
-      let few : len ≤ limit = omega (arith, len_le_nonzero_size e, v.valid.size_fits) in
-      (omega arith, omega (arith, ints, down, axis.above, v.low), omega (arith, ints, up, axis.below, v.high))
-
-  -- and from the first place on also where there is no coordinate
+  -- the other axes are a view
   pub IsView-others : IsView (record { start = start; shape = lens; strides = others })
   IsView-others =
       let down = sum-others reach_down e g v.valid.same_count in
@@ -253,13 +230,6 @@ offset_of-flat_index {order} {shape} {lens} {strides} {others} {len} {stride} r 
     ∙ ap (λ z. (pos (r % len) *ℤ stride) +ℤ z) (sym (offset_of-as_read order (as_read order others) slow slow_counts)
     ∙ ap (λ xs. offset_of xs (as_read order slow)) (as_read-as_read order others))
 
--- which is the same place
-pub place-flat_index : {order : Order} {shape lens : List ℕ} {strides others : List ℤ} {len : ℕ} {stride : ℤ} {here : ℕ} (start r : ℕ)
-    → EndsIn order shape lens len → EndsIn order strides others stride → length shape ≡ length strides → r < size shape
-    → pos here ≡ pos start +ℤ (pos (r % len) *ℤ stride)
-    → place here others (index_of_flat_in order lens (r / len)) ≡ place start strides (index_of_flat_in order shape r)
-place-flat_index start r e g count below at = omega (arith, ints, at, offset_of-flat_index r e g count below)
-
 -- ---- an index of a shape by its flat index
 product_some : (a b r : ℕ) → r < a * b → 0 < a
 product_some zero b r h = absurd (omega arith)
@@ -267,7 +237,3 @@ product_some (suc a) b r h = omega arith
 
 pub some_coordinate : {order : Order} {shape lens : List ℕ} {len : ℕ} (r : ℕ) → EndsIn order shape lens len → r < size shape → 0 < len
 some_coordinate {lens = lens} {len = len} r e below = product_some len (size lens) r (omega (arith, size-others e))
-
-pub others_below : {order : Order} {shape lens : List ℕ} {len : ℕ} (r : ℕ) → EndsIn order shape lens len → r < size shape
-    → r / len < size lens
-others_below {lens = lens} {len = len} r e below = div_below r len (size lens) (some_coordinate r e below) (omega (arith, size-others e))

@@ -1,10 +1,10 @@
 -- The rows that an iterator has still to give.
-use Rattle.std.specs.Prelude.{◌≡◌, ℕ, ◌+◌, ◌-◌, ◌*◌, ◌<◌, ◌≤◌, ℤ, pos, negsuc, ◌+ℤ◌, List, [], ◌∷◌, ◌++◌, drop, map, refl}
+use Rattle.std.specs.Prelude.{◌≡◌, ℕ, ◌+◌, ◌-◌, ◌*◌, ◌<◌, ◌≤◌, ℤ, pos, negsuc, List, [], ◌∷◌, ◌++◌, drop, map, refl}
 use Rattle.std.proofs.Math.Arith.{le→nltb}
 use Rattle.nd_base.specs.declared.order.Order.{Order}
 use Rattle.nd_base.specs.declared.order.Order.TheVariants.{RowMajor, ColumnMajor}
 use Rattle.nd_base.specs.FlatIndex.{index_of_flat_in}
-use Rattle.nd_base.specs.Signed.{magnitude, signed}
+use Rattle.nd_base.specs.Signed.{magnitude}
 use Rattle.nd_base.specs.Size.{size, limit}
 use Rattle.ndarray_layout.specs.declared.strided.rows.Fastest.{Fastest}
 use Rattle.ndarray_layout.specs.declared.strided.rows.Row.{Row}
@@ -29,16 +29,27 @@ rows_left order start column row left =
     let view = axis_view order start column in
     map (moved_to row) (drop (size view.shape - left) (view_places order view))
 
--- an iterator has these rows left, of which so many in the last of the columns that have begun: there the next one lies a stride on
-pub record AreRowsLeft (order : Order) (start : ℕ) (column : Fastest) (row : Row) (left in_column columns : ℕ) : Type 0 where
+-- the place where the row of a number begins
+abbrev pub row_place : Order → ℕ → Fastest → ℕ → ℤ
+row_place order start column number =
+    let view = axis_view order start column in
+    place_at view (index_of_flat_in order view.shape number)
+
+-- how many rows are left: so many in the last of the columns that have begun, and so many columns
+abbrev pub count_of_rows : Fastest → ℕ → ℕ → ℕ
+count_of_rows column in_column columns_left = columns_left * column.len + in_column
+
+-- an iterator has these rows left, after so many columns have begun; the row came last
+pub record AreRowsLeft (order : Order) (start : ℕ) (column : Fastest) (row : Row) (in_column columns columns_left : ℕ) : Type 0 where
   pub is_view : IsView (axis_view order start column)
   pub here : row.start ≤ limit
-  pub fits : left * row.len ≤ limit
-  pub within : left ≤ size (axis_view order start column).shape
-  pub number : 0 < left → columns * column.len + left ≡ size (axis_view order start column).shape + in_column
-  pub on_axis : 0 < left → in_column < column.len
-  pub next : 0 < left → 0 < in_column → pos row.start +ℤ signed column.stride ≡ place_at (axis_view order start column)
-      (index_of_flat_in order (axis_view order start column).shape (size (axis_view order start column).shape - left))
+  pub fits : count_of_rows column in_column columns_left * row.len ≤ limit
+  pub within : count_of_rows column in_column columns_left ≤ size (axis_view order start column).shape
+  pub number : 0 < columns_left + in_column → columns + columns_left ≡ size column.lens.now
+  pub on_axis : 0 < columns_left + in_column → in_column < column.len
+  pub begun : in_column ≤ columns * column.len
+  pub last : 0 < columns_left + in_column → 0 < columns
+      → pos row.start ≡ row_place order start column (columns * column.len - in_column - 1)
 
 -- examples
 by_rows : with_item {A = ℕ} RowMajor (2 ∷ 3 ∷ []) 4 ≡ 2 ∷ 3 ∷ 4 ∷ []

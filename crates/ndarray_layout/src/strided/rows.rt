@@ -3,17 +3,20 @@ ghost use Rattle.std.specs.Iterator.{UpTo, YieldsFirst, item_count};
 ghost use Rattle.std.specs.Iterator.Runs.{YieldsInOrder};
 ghost use Rattle.std.specs.Iterator.SizeHint.{IsWithinCount};
 ghost use Rattle.std.specs.List.{All};
-ghost use Rattle.std.specs.Prelude.{◌≡◌, ℕ, ◌==◌, ◌<◌, ◌^◌, pos, [], if◌then◌else◌, IfSome, MatchOption, Some, length};
+ghost use Rattle.std.specs.Prelude.{◌≡◌, ◌==◌, ◌-◌, ◌*◌, ◌<◌, ◌^◌, pos, ◌+ℤ◌, [], if◌then◌else◌, ◌||◌, IfSome, MatchOption, Some, length};
 ghost use Rattle.nd_base.specs.FlatIndex.{index_of_flat_in};
+ghost use Rattle.nd_base.specs.Offset.{offset_of};
+ghost use Rattle.nd_base.specs.Signed.{all_signed};
 ghost use Rattle.nd_base.specs.Size.{size};
+ghost use Rattle.nd_base.specs.ValidLayout.{IsValidLayout};
 ghost use Rattle.ndarray_layout.specs.Rows.{rows_places, view_rows};
-ghost use Rattle.ndarray_layout.specs.View.{IsView, place_at, view_of, view_places};
-ghost use Rattle.ndarray_layout.specs.RowsLeft.{axis_view};
+ghost use Rattle.ndarray_layout.specs.View.{IsView, view_of, view_places};
+ghost use Rattle.ndarray_layout.specs.RowsLeft.{axis_view, row_place};
 ghost use Rattle.ndarray_layout.specs.private.Fastest.{EndsIn, HasRows, HasPlaces};
 
 use crate::strided::Strided;
-use crate::strided::places::{offset_place, place_along_axis};
-use nd_base::{Lengths, Order, signed};
+use crate::strided::places::offset_place;
+use nd_base::{Lengths, Order, signed, stride_offset};
 use nd_dim::product;
 use std::iter::FusedIterator;
 use std::marker::Model;
@@ -94,54 +97,80 @@ fn longer_axis<'a>(order: Order, lens: &'a [usize], strides: &'a [usize]) -> Fas
     }
 }
 
-/// How many rows lie along an axis: as many as its other axes have indices, or none where it has length 0.
-fn count_of_rows(axis: &Fastest<'_>) -> usize
-    requires { size axis.now.lens.now < 2 ^ 64 }
-    ensures { result ≡ (if axis.now.len == 0 then 0 else size axis.now.lens.now) }
+/// How many columns the rows along an axis have: one for each index of the axes that move slower than a column; none where
+/// there is no row.
+fn count_of_columns(len: usize, column: &Fastest<'_>) -> usize
+    requires { size column.now.lens.now < 2 ^ 64 }
+    ensures { result ≡ (if len == 0 || column.now.len == 0 then 0 else size column.now.lens.now) }
 {
-    if axis.len == 0 {
+    if len == 0 || column.len == 0 {
         return 0;
     }
-    product(axis.lens)
+    product(column.lens)
 }
 
-/// The place of the index of a view that stands at a number in an order: its flat index there. It stays a call, which takes
-/// numbers and slices alone, so that a loop over rows keeps the iterator in registers.
+/// How far an index lies from the one before it, by its flat index in an order: a stride along the fastest axis that is not at
+/// its end, less what the axes that move faster have gone. It stays a call, which takes numbers and slices alone, so that a
+/// loop over rows keeps the iterator in registers.
 #[inline(never)]
-fn place_at_flat_index(
-    order: Order,
-    start: usize,
-    lens: &[usize],
-    strides: &[usize],
-    flat_index: usize,
-) -> usize
-    requires view { IsView (view_of start lens.now strides.now) }
+fn offset_from_previous(order: Order, lens: &[usize], strides: &[usize], flat_index: usize) -> isize
+    requires valid { IsValidLayout lens.now (all_signed strides.now) }
+    requires some { 0 < flat_index }
     requires index { flat_index < size lens.now }
-    ensures { pos result ≡ place_at (view_of start lens.now strides.now)
-        (index_of_flat_in order lens.now flat_index) }
+    ensures { offset_of (all_signed strides.now) (index_of_flat_in order lens.now (flat_index - 1)) +ℤ result
+        ≡ offset_of (all_signed strides.now) (index_of_flat_in order lens.now flat_index) }
 {
     let (mut lens, mut strides) = (lens, strides);
-    let (mut place, mut left) = (start, flat_index);
+    let (mut offset, mut left) = (0isize, flat_index);
     'axes: while let Some(axis) = split_fastest(order, lens, strides) {
-        place = place_along_axis(place, left % axis.len, axis.stride);
-        left /= axis.len;
+        if axis.len > 1 {
+            if left % axis.len > 0 {
+                return offset + signed(axis.stride);
+            }
+            offset -= stride_offset(axis.len - 1, axis.stride);
+            left /= axis.len;
+        }
         (lens, strides) = (axis.lens, axis.strides);
     }
-    place
+    offset
+}
+
+/// The place where the first row of a column begins, from where the last row before it does. The view has an index for
+/// each row.
+#[inline(always)]
+fn first_of_column(
+    order: Order,
+    start: usize,
+    column: &Fastest<'_>,
+    number: usize,
+    last: usize,
+) -> usize
+    requires view { IsView (axis_view order start column.now) }
+    requires some { 0 < column.now.len }
+    requires number { number < size column.now.lens.now }
+    requires last { 0 < number →
+        pos last ≡ row_place order start column.now (number * column.now.len - 1) }
+    ensures { pos result ≡ row_place order start column.now (number * column.now.len) }
+{
+    if number == 0 {
+        return start;
+    }
+    let offset = offset_from_previous(order, column.lens, column.strides, number);
+    offset_place(last, offset - stride_offset(column.len - 1, column.stride))
 }
 
 /// The rows of a view that are still to come, in an order. A contract sees the list of them.
 #[derive(Drop)]
 pub struct Rows<'a> {
     order: Order,
-    // The row that came last, and how many are left.
+    // The row that came last.
     row: Row,
-    left: usize,
     // Of the axes that move slower than the rows, the fastest: rows that follow one another along it are a column. How many
-    // are left of the column of the last row, and how many columns have begun.
+    // are left of the column of the last row, how many columns have begun, and how many are left.
     column: Fastest<'a>,
     left_in_column: usize,
     columns: usize,
+    columns_left: usize,
     // The place of the first row.
     start: usize,
 }
@@ -149,14 +178,15 @@ pub struct Rows<'a> {
 impl<'a> Model for Rows<'a> {
     ghost use Rattle.std.specs.Prelude.{List};
     ghost use Rattle.ndarray_layout.specs.declared.strided.rows.Row.{Row};
-    ghost use Rattle.ndarray_layout.specs.RowsLeft.{AreRowsLeft, rows_left};
+    ghost use Rattle.ndarray_layout.specs.RowsLeft.{AreRowsLeft, count_of_rows, rows_left};
 
     ghost Value = { List Row };
 
-    ghost view = { λ rows. rows_left rows.order rows.start rows.column rows.row rows.left };
+    ghost view = { λ rows. rows_left rows.order rows.start rows.column rows.row
+        (count_of_rows rows.column rows.left_in_column rows.columns_left) };
 
-    ghost invariant = { λ rows. AreRowsLeft rows.order rows.start rows.column rows.row rows.left
-        rows.left_in_column rows.columns };
+    ghost invariant = { λ rows. AreRowsLeft rows.order rows.start rows.column rows.row
+        rows.left_in_column rows.columns rows.columns_left };
 }
 
 impl<'a> Rows<'a> {
@@ -165,8 +195,8 @@ impl<'a> Rows<'a> {
         requires { IsView (axis_view order start axis) }
         ensures { result ≡ view_rows order (axis_view order start axis.entry) }
     {
-        let left = count_of_rows(&axis);
         let column = longer_axis(order, axis.lens, axis.strides);
+        let columns_left = count_of_columns(axis.len, &column);
         Rows {
             order,
             row: Row {
@@ -174,10 +204,10 @@ impl<'a> Rows<'a> {
                 stride: signed(axis.stride),
                 len: axis.len,
             },
-            left,
             column,
             left_in_column: 0,
             columns: 0,
+            columns_left,
             start,
         }
     }
@@ -208,7 +238,7 @@ impl<'a> Rows<'a> {
     pub(super) fn count_of_places(&self) -> usize
         ensures { result ≡ length (rows_places self.now) }
     {
-        self.left * self.row.len
+        self.len() * self.row.len
     }
 }
 
@@ -221,24 +251,24 @@ impl Iterator for Rows<'_> {
 
     #[inline(always)]
     fn next(&mut self) -> Option<Row> {
-        if self.left == 0 {
-            return None;
-        }
-        self.left -= 1;
         if self.left_in_column > 0 {
             self.left_in_column -= 1;
             self.row.start = offset_place(self.row.start, signed(self.column.stride));
             return Some(self.row);
         }
-        self.row.start = place_at_flat_index(
+        if self.columns_left == 0 {
+            return None;
+        }
+        self.row.start = first_of_column(
             self.order,
             self.start,
-            self.column.lens,
-            self.column.strides,
+            &self.column,
             self.columns,
+            self.row.start,
         );
-        self.columns += 1;
         self.left_in_column = self.column.len - 1;
+        self.columns += 1;
+        self.columns_left -= 1;
         Some(self.row)
     }
 
@@ -254,7 +284,7 @@ impl Iterator for Rows<'_> {
 
 impl ExactSizeIterator for Rows<'_> {
     fn len(&self) -> usize {
-        self.left
+        self.columns_left * self.column.len + self.left_in_column
     }
 }
 
@@ -270,8 +300,8 @@ impl<D: Lengths> Strided<D> {
     /// The rows come in that order, so their places one after another are those of `iter_places`. A view without axes
     /// has one row, of one place; a view without indices has none.
     ///
-    /// Takes no memory. Each row costs an addition, but the first one for each index of all axes slower than two, which
-    /// costs a division for each of these.
+    /// Takes no memory. A row costs an addition. Past the end of the second axis it costs a division for the third one as
+    /// well, and for the axis after each one that is at its end too. An axis of length 1 costs none.
     ///
     /// `[2,3]` with strides `[-3,1]` from 3: in row-major order 3 places from 3 and 3 places from 0, by the stride 1; in
     /// column-major order 2 places from 3, from 4 and from 5, by -3. ndarray's `rows`, of places.
