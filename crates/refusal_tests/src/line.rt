@@ -1,10 +1,10 @@
 //! A line of input, and the call that it says.
 //!
 //! A line is how many small requests are made before all others, the call by its name, what it is made at, and up to four lists.
-//! It is made at a `view` or a value of `any` number of axes, at a value of `six`, at a `list`, at an `array`, or at the `steps`
+//! It is made at a `view`, at one of its axes (`axis`) or at a value of `any` number of axes, at a value of `six`, at a `list`, at an `array`, or at the `steps`
 //! of a run.
 use crate::answer::Answer;
-use crate::{dimensions, lists, owned, runs, views};
+use crate::{axes, dimensions, lists, owned, runs, views};
 use ndarray_layout::IxDyn;
 use std::alloc::Global;
 use test_tables::{Lists, grants};
@@ -51,6 +51,7 @@ pub fn answer(alloc: Global, line: &str) -> Option<Answer> {
 fn answer_at(alloc: Global, at: &str, call: &Call<'_>) -> Option<Answer> {
     match at {
         "view" => views::answer::<IxDyn>(alloc, call),
+        "axis" => axes::answer(alloc, call),
         "any" => dimensions::answer(alloc, call),
         "six" => dimensions::of_six(alloc, call),
         "list" => lists::answer(alloc, call),

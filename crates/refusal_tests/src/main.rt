@@ -3,6 +3,7 @@
 #![tactic(auto)]
 
 mod answer;
+mod axes;
 mod dimensions;
 mod line;
 mod lists;
