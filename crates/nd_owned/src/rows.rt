@@ -1,5 +1,5 @@
 //! The items at the places of a view, read and written row by row.
-ghost use Rattle.std.specs.List.{AllPairs};
+ghost use Rattle.std.specs.List.{All, AllPairs};
 ghost use Rattle.std.specs.Prelude.{◌≡◌, ◌≢◌, ◌+◌, ◌<◌, ◌≤◌, ◌^◌, pos, ◌+ℤ◌, Some, IfOk, IfSome, IsOk, IsTrue, ◌++◌, length, map, vec_capacity, vec_len};
 ghost use Rattle.ndarray_layout.specs.declared.Order.TheVariants.{RowMajor};
 ghost use Rattle.ndarray_layout.specs.Bounds.{IsInBounds};
@@ -9,7 +9,7 @@ ghost use Rattle.ndarray_layout.specs.View.{IsView, LiesWithin, view_places};
 ghost use Rattle.nd_owned.specs.Owned.{item_at_place};
 ghost use Rattle.nd_owned.specs.private.Written.{AreInBounds, HasWritten};
 
-use ndarray_layout::{Lengths, Order, Row, Strided, is_layout_c, product};
+use ndarray_layout::{Lengths, Order, Places, Row, Strided, is_layout_c, product};
 use std::alloc::{AllocError, Global};
 
 /// How many indices a view has.
@@ -42,7 +42,8 @@ fn one_row<D: Lengths>(view: &Strided<D>) -> Option<Row>
     })
 }
 
-/// Copies of the items at the places of a view, in row-major order. Rows that are neighbours are copied as one.
+/// Copies of the items at the places of a view, in row-major order. Rows that are neighbours are copied as one, and
+/// short rows are read place by place.
 pub(crate) fn read_view<T: Copy, D: Lengths>(
     alloc: Global,
     view: &Strided<D>,
@@ -56,6 +57,9 @@ pub(crate) fn read_view<T: Copy, D: Lengths>(
     let mut items = Vec::with_capacity(alloc, view_size(view))?;
     if let Some(row) = one_row(view) {
         return Ok(read_row(items, stored, row));
+    }
+    if has_short_rows(view) {
+        return Ok(read_places(items, stored, view.iter_places(Order::RowMajor)));
     }
     for row in view.rows(Order::RowMajor) {
         items = read_row(items, stored, row);
@@ -82,6 +86,29 @@ pub(crate) fn write_view<T: Copy, D: Lengths>(stored: &mut [T], view: &Strided<D
     }
 }
 
+/// Whether the rows of a view have few places: then its places are read one by one.
+#[inline]
+fn has_short_rows<D: Lengths>(view: &Strided<D>) -> bool {
+    match view.dim().slice().last() {
+        Some(len) => *len < WORTH_A_COPY,
+        None => true,
+    }
+}
+
+/// Appends the items at places to a list with room for them.
+#[inline(always)]
+fn read_places<T: Copy>(mut items: Vec<T>, stored: &[T], places: Places<'_>) -> Vec<T>
+    requires in_bounds { All (IsInBounds (length stored.now)) places }
+    requires room { vec_len items + length places ≤ vec_capacity items }
+    ensures items { map Some result.items ≡ map Some items.items
+        ++ map (item_at_place stored.now) places.entry }
+{
+    for place in places {
+        items.push_reserved(stored[place]);
+    }
+    items
+}
+
 /// Whether a row is copied as a whole: its places are neighbours, and enough of them.
 fn is_copied(row: Row) -> bool
     ensures { IsTrue result → row.stride ≡ pos 1 }
@@ -100,8 +127,8 @@ fn place_after(row: Row, place: usize) -> usize
 }
 
 /// Appends the items at the places of a row to a list with room for them. The list is passed by value: through a
-/// reference its length would be written at each place.
-#[inline(always)]
+/// reference its length would be written at each place. It stays a call, so that its loop keeps more in registers.
+#[inline(never)]
 fn read_row<T: Copy>(mut items: Vec<T>, stored: &[T], row: Row) -> Vec<T>
     requires in_bounds { AreInBounds (length stored.now) (row_places row.start row.stride row.len) }
     requires room { vec_len items + row.len ≤ vec_capacity items }

@@ -1,5 +1,5 @@
 -- The rows of a view by an axis and the axes that move slower, and what is left of them from one row to the next.
-use Rattle.std.proofs.Common.{◌≡◌, ℕ, zero, suc, ◌+◌, ◌*◌, ◌-◌, ◌/◌, ◌%◌, ◌<◌, ◌≤◌, ℤ, pos, ◌+ℤ◌, ◌-ℤ◌, ◌*ℤ◌, ◌≤ℤ◌, Bool, true, false, cond, ◌||◌}
+use Rattle.std.proofs.Common.{◌≡◌, ℕ, zero, suc, ◌+◌, ◌*◌, ◌-◌, ◌/◌, ◌%◌, ◌<◌, ◌≤◌, ℤ, pos, ◌+ℤ◌, ◌*ℤ◌, ◌≤ℤ◌, Bool, true, false, cond, ◌||◌}
 use Rattle.std.proofs.Common.{inl, inr, List, [], ◌∷◌, replicate, length, length-append, length-drop, map, drop, nat_eq, refl, sym, ap, subst, ◌∙◌, arith, add-one, drop-cons}
 use Rattle.std.proofs.Common.{drop_of_length-le, eqb-true, pos_of_ne-zero}
 use Rattle.std.proofs.Math.Dec.{lit≤}
@@ -22,7 +22,7 @@ use Rattle.ndarray_layout.specs.declared.strided.rows.Row.{Row}
 use Rattle.ndarray_layout.specs.Rows.{row_at, row_places, rows_places, slower_view, view_rows}
 use Rattle.ndarray_layout.specs.View.{View, IsView, place_at, view_of, view_places}
 use Rattle.ndarray_layout.specs.RowsLeft.{AreRowsLeft, axis_view, count_of_rows, moved_to, row_place, rows_left, with_item}
-use Rattle.ndarray_layout.specs.private.Fastest.{EndsIn, HasPlaces, HasRows}
+use Rattle.ndarray_layout.specs.private.Fastest.{EndsIn, HasPlaces, HasRows, IsColumn}
 use Rattle.ndarray_layout.proofs.ByRows.{rows_from}
 use Rattle.ndarray_layout.proofs.Fastest.{EndsIn-map, IsView-others, fastest_item-ends, len_le_nonzero_size, length-others, offset_of-flat_index}
 use Rattle.ndarray_layout.proofs.Fastest.{places-others, size-others, slower_items-ends, some_coordinate}
@@ -266,8 +266,8 @@ module _ {order : Order} {start : ℕ} {axis column : Fastest} {row : Row} {colu
       ∙ none_or_map (row_at order view) empty starts
       ∙ ap (λ v. cond empty [] (map (row_at order view) (view_places order v))) (sym (slower-axis_view order start axis))
 
--- ---- from one row to the next
--- the place of each flat index
+-- ---- flat indices
+-- the place of each
 next_place : (order : Order) (view : View) (k : ℕ) → k < size view.shape
     → drop k (view_places order view) ≡ place_at view (index_of_flat_in order view.shape k) ∷ drop (k + 1) (view_places order view)
 next_place order view k below =
@@ -412,56 +412,49 @@ module _ (order : Order) (start : ℕ) (column : Fastest) (v : IsView (axis_view
   row_on o some below =
       omega (arith, ints, next_on_axis (ends order start column) (steps order start column) v.valid.same_count o some below)
 
-  -- past its end it begins a column
-  module _ {number : ℕ} (some : 0 < column.len) (below : number < size column.lens.now) where
-    first : IsOnAxis column.len number 0 (number * column.len)
-    first = record { on = some; is = omega arith }
+-- past its end it begins a column
+module _ {order : Order} {start : ℕ} {column : Fastest} {number : ℕ} (b : IsColumn order start column number) where
+  first : IsOnAxis column.len number 0 (number * column.len)
+  first = record { on = b.some; is = omega arith }
 
-    first_below : number * column.len < size (axis_view order start column).shape
-    first_below = omega (arith, size-axis_view order start column, mul-add-lt number column.len 0 (size column.lens.now) below some)
+  first_below : number * column.len < size (axis_view order start column).shape
+  first_below = omega (arith, size-axis_view order start column, mul-add-lt number column.len 0 (size column.lens.now) b.below b.some)
 
-    pub first_within : HasPlace (axis_view order start column)
-        (index_of_flat_in order (axis_view order start column).shape (number * column.len))
-    first_within = flat_within order v (number * column.len) first_below
+  pub first_within : HasPlace (axis_view order start column) (index_of_flat_in order (axis_view order start column).shape (number * column.len))
+  first_within = flat_within order b.is_view (number * column.len) first_below
 
-    pub first_row : number ≡ 0 → pos start ≡ row_place order start column (number * column.len)
-    first_row none =
-        let at : number * column.len ≡ 0 = omega (arith, ap (λ n. n * column.len) none) in
-        sym (first_place order (axis_view order start column) (omega (arith, first_below))) ∙ ap (row_place order start column) (sym at)
+  pub first_row : number ≡ 0 → pos start ≡ row_place order start column (number * column.len)
+  first_row none =
+      let at : number * column.len ≡ 0 = omega (arith, ap (λ n. n * column.len) none) in
+      sym (first_place order (axis_view order start column) (omega (arith, first_below))) ∙ ap (row_place order start column) (sym at)
 
-    -- for which an offset is known
-    module _ (more : 0 < number) {last : ℕ} (at : pos last ≡ row_place order start column (number * column.len - 1)) where
-      pub last_within : HasPlace (axis_view order start column)
-          (index_of_flat_in order (axis_view order start column).shape (number * column.len - 1))
-      last_within = flat_within order v (number * column.len - 1) (omega (arith, first_below))
+  -- by the offset from the column before it
+  module _ (more : 0 < number) where
+    pub len_small : column.len ≤ limit
+    len_small =
+        let one : 1 ≤ number = omega arith in
+        omega (
+          arith,
+          first_below,
+          mul-le-mul_right column.len one,
+          size_le_nonzero_size (axis_view order start column).shape,
+          b.is_view.valid.size_fits,
+        )
 
-      pub len_small : column.len ≤ limit
-      len_small =
-          let one : 1 ≤ number = omega arith in
-          omega (
-            arith,
-            first_below,
-            mul-le-mul_right column.len one,
-            size_le_nonzero_size (axis_view order start column).shape,
-            v.valid.size_fits,
-          )
+    pub last_within : HasPlace (axis_view order start column) (index_of_flat_in order (axis_view order start column).shape (number * column.len - 1))
+    last_within = flat_within order b.is_view (number * column.len - 1) (omega (arith, first_below))
 
-      pub slower_within : HasPlace (view_of start column.lens.now column.strides.now) (index_of_flat_in order column.lens.now (number - 1))
-      slower_within = flat_within order (IsView-slower order start column v) (number - 1) (omega (arith, below))
+    pub slower_within : HasPlace (view_of start column.lens.now column.strides.now) (index_of_flat_in order column.lens.now (number - 1))
+    slower_within = flat_within order (IsView-slower order start column b.is_view) (number - 1) (omega (arith, b.below))
 
-      pub after : (row_place order start column (number * column.len - 1)
-          ≡ (pos start +ℤ (pos (column.len - 1) *ℤ signed column.stride))
-          +ℤ offset_of (all_signed column.strides.now) (index_of_flat_in order column.lens.now (number - 1)))
-          × (row_place order start column (number * column.len)
-          ≡ pos start +ℤ offset_of (all_signed column.strides.now) (index_of_flat_in order column.lens.now number))
-      after =
-          let moved = after_axis (ends order start column) (steps order start column) v.valid.same_count first more first_below in
-          (omega (arith, ints, moved.0), omega (arith, ints, moved.1))
-
-      pub column_offset : (offset : ℤ) → offset_of (all_signed column.strides.now) (index_of_flat_in order column.lens.now (number - 1)) +ℤ offset
-          ≡ offset_of (all_signed column.strides.now) (index_of_flat_in order column.lens.now number)
-          → pos last +ℤ (offset -ℤ (pos (column.len - 1) *ℤ signed column.stride)) ≡ row_place order start column (number * column.len)
-      column_offset offset on = omega (arith, ints, at, after.0, after.1, on)
+    pub offsets : (row_place order start column (number * column.len - 1)
+        ≡ (pos start +ℤ (pos (column.len - 1) *ℤ signed column.stride))
+        +ℤ offset_of (all_signed column.strides.now) (index_of_flat_in order column.lens.now (number - 1)))
+        × (row_place order start column (number * column.len)
+        ≡ pos start +ℤ offset_of (all_signed column.strides.now) (index_of_flat_in order column.lens.now number))
+    offsets =
+        let moved = after_axis (ends order start column) (steps order start column) b.is_view.valid.same_count first more first_below in
+        (omega (arith, ints, moved.0), omega (arith, ints, moved.1))
 
 -- ---- from one row to the next
 module _ {order : Order} {start : ℕ} {column : Fastest} {row : Row} {in_column columns columns_left : ℕ}

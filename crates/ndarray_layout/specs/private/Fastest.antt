@@ -1,9 +1,11 @@
 -- Words of private contracts alone, of the calls below `Strided::rows`: the axis of a layout that moves fastest.
-use Rattle.std.specs.Prelude.{◌≡◌, ℕ, List, [], ◌∷◌, nat_eq, slice_index, refl}
+use Rattle.std.specs.Prelude.{◌≡◌, ℕ, ◌<◌, List, [], ◌∷◌, nat_eq, slice_index, refl}
 use Rattle.std.proofs.Common.{ap, eq-eqb}
+use Rattle.std.proofs.Math.Nat.{lt_irrefl}
 use Rattle.std.proofs.lemmas.Bool.{both_ways}
 use Rattle.nd_base.specs.declared.order.Order.{Order}
 use Rattle.nd_base.specs.declared.order.Order.TheVariants.{RowMajor, ColumnMajor}
+use Rattle.nd_base.specs.Size.{size}
 use Rattle.ndarray_layout.specs.declared.strided.rows.Fastest.{Fastest}
 use Rattle.ndarray_layout.specs.Rows.{view_rows}
 use Rattle.ndarray_layout.specs.RowsLeft.{axis_view, with_item}
@@ -25,6 +27,12 @@ pub record HasPlaces (order : Order) (lens strides : List ℕ) (axis : Fastest) 
   pub places : (start : ℕ) → IsView (view_of start lens strides)
       → view_places order (axis_view order start axis) ≡ view_places order (view_of start lens strides)
 
+-- of the rows that begin at the places of a view, the column of this number
+pub record IsColumn (order : Order) (start : ℕ) (column : Fastest) (number : ℕ) : Type 0 where
+  pub is_view : IsView (axis_view order start column)
+  pub some : 0 < column.len
+  pub below : number < size column.lens.now
+
 -- examples
 last_by_rows : EndsIn {A = ℕ} RowMajor (2 ∷ 3 ∷ 4 ∷ []) (2 ∷ 3 ∷ []) 4
 last_by_rows = record { is = refl }
@@ -34,3 +42,6 @@ first_by_columns = record { is = refl }
 
 not_the_first_by_rows : EndsIn {A = ℕ} RowMajor (2 ∷ 3 ∷ []) (3 ∷ []) 2 → ⊥
 not_the_first_by_rows ends = both_ways (nat_eq 2 3) refl (eq-eqb 2 3 (ap (λ items. slice_index items 0) ends.is))
+
+past_the_last_column : (column : Fastest) → IsColumn RowMajor 0 column (size column.lens.now) → ⊥
+past_the_last_column column is = lt_irrefl (size column.lens.now) is.below

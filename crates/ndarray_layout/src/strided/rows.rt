@@ -12,7 +12,7 @@ ghost use Rattle.nd_base.specs.ValidLayout.{IsValidLayout};
 ghost use Rattle.ndarray_layout.specs.Rows.{rows_places, view_rows};
 ghost use Rattle.ndarray_layout.specs.View.{IsView, view_of, view_places};
 ghost use Rattle.ndarray_layout.specs.RowsLeft.{axis_view, row_place};
-ghost use Rattle.ndarray_layout.specs.private.Fastest.{EndsIn, HasRows, HasPlaces};
+ghost use Rattle.ndarray_layout.specs.private.Fastest.{EndsIn, HasRows, HasPlaces, IsColumn};
 
 use crate::strided::Strided;
 use crate::strided::places::offset_place;
@@ -97,8 +97,8 @@ fn longer_axis<'a>(order: Order, lens: &'a [usize], strides: &'a [usize]) -> Fas
     }
 }
 
-/// How many columns the rows along an axis have: one for each index of the axes that move slower than a column; none where
-/// there is no row.
+/// How many columns there are: one for each index of the axes that move slower than a column. None where rows, which
+/// have this length, have no place, or where a column has no row.
 fn count_of_columns(len: usize, column: &Fastest<'_>) -> usize
     requires { size column.now.lens.now < 2 ^ 64 }
     ensures { result ≡ (if len == 0 || column.now.len == 0 then 0 else size column.now.lens.now) }
@@ -109,8 +109,8 @@ fn count_of_columns(len: usize, column: &Fastest<'_>) -> usize
     product(column.lens)
 }
 
-/// How far an index lies from the one before it, by its flat index in an order: a stride along the fastest axis that is not at
-/// its end, less what the axes that move faster have gone. It stays a call, which takes numbers and slices alone, so that a
+/// How far the index at a flat index lies from the one before it: a stride along the fastest axis that was not at its
+/// end, less what the axes that move faster had gone. It stays a call, which takes numbers and slices alone, so that a
 /// loop over rows keeps the iterator in registers.
 #[inline(never)]
 fn offset_from_previous(order: Order, lens: &[usize], strides: &[usize], flat_index: usize) -> isize
@@ -135,8 +135,7 @@ fn offset_from_previous(order: Order, lens: &[usize], strides: &[usize], flat_in
     offset
 }
 
-/// The place where the first row of a column begins, from where the last row before it does. The view has an index for
-/// each row.
+/// Where the first row of a column begins: the one of this number. The last row before it begins at the place `last`.
 #[inline(always)]
 fn first_of_column(
     order: Order,
@@ -145,9 +144,7 @@ fn first_of_column(
     number: usize,
     last: usize,
 ) -> usize
-    requires view { IsView (axis_view order start column.now) }
-    requires some { 0 < column.now.len }
-    requires number { number < size column.now.lens.now }
+    requires column { IsColumn order start column.now number }
     requires last { 0 < number →
         pos last ≡ row_place order start column.now (number * column.now.len - 1) }
     ensures { pos result ≡ row_place order start column.now (number * column.now.len) }
@@ -165,8 +162,8 @@ pub struct Rows<'a> {
     order: Order,
     // The row that came last.
     row: Row,
-    // Of the axes that move slower than the rows, the fastest: rows that follow one another along it are a column. How many
-    // are left of the column of the last row, how many columns have begun, and how many are left.
+    // Of the axes that move slower than the rows, the fastest: rows that follow one another along it are a column. How
+    // many are left of the column of the last row, how many columns have begun, and how many are left.
     column: Fastest<'a>,
     left_in_column: usize,
     columns: usize,
@@ -300,11 +297,11 @@ impl<D: Lengths> Strided<D> {
     /// The rows come in that order, so their places one after another are those of `iter_places`. A view without axes
     /// has one row, of one place; a view without indices has none.
     ///
-    /// Takes no memory. A row costs an addition. Past the end of the second axis it costs a division for the third one as
-    /// well, and for the axis after each one that is at its end too. An axis of length 1 costs none.
+    /// Takes no memory. A row costs an addition. Past the end of the second axis it costs a division for the third one
+    /// as well, and for the axis after each one that is at its end too. An axis of length 1 costs none.
     ///
-    /// `[2,3]` with strides `[-3,1]` from 3: in row-major order 3 places from 3 and 3 places from 0, by the stride 1; in
-    /// column-major order 2 places from 3, from 4 and from 5, by -3. ndarray's `rows`, of places.
+    /// `[2,3]` with strides `[-3,1]` from 3: in row-major order 3 places from 3 and 3 places from 0, by the stride 1;
+    /// in column-major order 2 places from 3, from 4 and from 5, by -3. ndarray's `rows`, of places.
     pub fn rows(&self, order: Order) -> Rows<'_>
         ensures items { result ≡ view_rows order self.now }
         ensures in_order { YieldsInOrder (YieldsFirst (λ (left : List Row). left)) (λ left. left) }

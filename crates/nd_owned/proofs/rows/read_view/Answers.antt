@@ -5,6 +5,7 @@ use Rattle.std.proofs.lemmas.Bool.{false≢true}
 use Rattle.std.proofs.lemmas.List.{append-nil}
 use Rattle.std.proofs.lemmas.List.Elements.{All-head, All-tail}
 use Rattle.ndarray_layout.specs.declared.Order.TheVariants.{RowMajor}
+use Rattle.ndarray_layout.specs.Bounds.{IsInBounds}
 use Rattle.ndarray_layout.specs.Rows.{row_places, rows_places, view_rows}
 use Rattle.ndarray_layout.specs.View.{view_places}
 use Rattle.ndarray_layout.proofs.laws.Rows.{length-row_places, rows_places-view_rows}
@@ -40,6 +41,21 @@ returns-in-Some-clause-items g c =
     c.read_row.ensures.items
     ∙ ap (λ items. map Some items ++ map got (places_of c.in-Some.row)) c.in_ok-items.ensures.items
     ∙ ap (map got) c.in-Some.ensures.places
+
+pub read_places-requires-clause-in_bounds : goal.read_places-requires-clause-in_bounds
+read_places-requires-clause-in_bounds g c =
+    subst (All (IsInBounds (length c.args.stored.now))) (sym c.iter_places.ensures.items)
+    (places_in_bounds c.iter_places.ensures.is_view c.requires).within
+
+pub read_places-requires-clause-room : goal.read_places-requires-clause-room
+read_places-requires-clause-room g c = omega (
+  arith,
+  ap length c.iter_places.ensures.items,
+  length-view_places RowMajor c.args.view.now,
+  c.view_size.ensures.size,
+  c.in_ok-items.ensures.len,
+  c.in_ok-items.ensures.exact,
+)
 
 pub loop-row-init : goal.loop-row-init
 loop-row-init g c =

@@ -45,13 +45,15 @@ returns-then-self-eq0-clause-steps c =
     (length-rows_left rows.order rows.start rows.column rows.row left c.self.invariant.within ∙ no_rows) in
     (none, none)
 
-pub first_of_column-self-inside-requires-clause-some : goal.first_of_column-self-inside-requires-clause-some
-first_of_column-self-inside-requires-clause-some c =
-    omega (arith, c.self.invariant.on_axis (omega (arith, c.if-self-eq0.false)))
-
-pub first_of_column-self-inside-requires-clause-number : goal.first_of_column-self-inside-requires-clause-number
-first_of_column-self-inside-requires-clause-number c =
-    omega (arith, c.if-self-eq0.false, c.self.invariant.number (omega (arith, c.if-self-eq0.false)))
+pub first_of_column-self-inside-requires-clause-column : goal.first_of_column-self-inside-requires-clause-column
+first_of_column-self-inside-requires-clause-column c =
+    let l = c.self.invariant in
+    let some : 0 < c.self.inside.columns_left + c.self.inside.left_in_column = omega (arith, c.if-self-eq0.false) in
+    record {
+      is_view = l.is_view;
+      some = omega (arith, l.on_axis some);
+      below = omega (arith, c.if-self-eq0.false, l.number some);
+    }
 
 pub first_of_column-self-inside-requires-clause-last : goal.first_of_column-self-inside-requires-clause-last
 first_of_column-self-inside-requires-clause-last c =
