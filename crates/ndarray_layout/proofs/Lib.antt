@@ -13,6 +13,7 @@ pub mod FromStart
 pub mod KeptCoordinates
 pub mod MarkedAxes
 pub mod Merged
+pub mod NextRow
 pub mod Offsets
 pub mod OneAxis
 pub mod Picked

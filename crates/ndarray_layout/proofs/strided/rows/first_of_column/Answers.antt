@@ -3,7 +3,8 @@ use Rattle.std.proofs.Common.{rules, ◌≡◌, ◌*◌, ◌<◌, pos, ◌+ℤ�
 use Rattle.std.specs.Int.{w64}
 use Rattle.std.proofs.lemmas.Int.{ints, to_z-of_z}
 use Rattle.ndarray_layout.specs.RowsLeft.{row_place}
-use Rattle.ndarray_layout.proofs.RowsLeft.{IsView-slower, first_row, first_within, last_within, len_small, offsets, slower_within}
+use Rattle.ndarray_layout.proofs.NextRow.{first_row, first_within, last_within, len_small, offsets, slower_within}
+use Rattle.ndarray_layout.proofs.RowsLeft.{IsView-slower}
 use Rattle.ndarray_layout.proofs.strided.rows.first_of_column.Goals as goal
 
 pub returns-then-number-eq0 : goal.returns-then-number-eq0

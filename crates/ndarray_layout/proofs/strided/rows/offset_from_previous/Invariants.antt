@@ -5,7 +5,7 @@ use Rattle.nd_base.specs.FlatIndex.{index_of_flat_in}
 use Rattle.nd_base.specs.Offset.{offset_of}
 use Rattle.nd_base.specs.Signed.{all_signed}
 use Rattle.nd_base.specs.Span.{low_span}
-use Rattle.ndarray_layout.proofs.RowsLeft.{IsLater}
+use Rattle.ndarray_layout.proofs.NextRow.{IsLater}
 use Rattle.ndarray_layout.proofs.strided.rows.offset_from_previous.Given as goal
 
 abbrev pub decreases-axes : goal.decreases-axes

@@ -1,7 +1,7 @@
 use Rattle.std.proofs.Common.{◌≡◌, ◌*◌, length, sym, ap, arith, ◌∙◌}
 use Rattle.ndarray_layout.specs.Rows.{rows_places}
 use Rattle.ndarray_layout.specs.RowsLeft.{count_of_rows}
-use Rattle.ndarray_layout.proofs.RowsLeft.{length-places_left, length-rows_left}
+use Rattle.ndarray_layout.proofs.NextRow.{length-places_left, length-rows_left}
 use Rattle.ndarray_layout.proofs.strided.rows.Rows.count_of_places.Goals as goal
 
 pub overflow_mul-result : goal.overflow_mul-result

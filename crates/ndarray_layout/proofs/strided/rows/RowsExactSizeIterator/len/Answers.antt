@@ -1,6 +1,6 @@
 use Rattle.std.proofs.Common.{length, sym, ap, arith, ◌∙◌}
 use Rattle.ndarray_layout.specs.RowsLeft.{count_of_rows}
-use Rattle.ndarray_layout.proofs.RowsLeft.{count_fits, length-rows_left}
+use Rattle.ndarray_layout.proofs.NextRow.{count_fits, length-rows_left}
 use Rattle.ndarray_layout.proofs.strided.rows.RowsExactSizeIterator.len.Goals as goal
 
 pub overflow_mul-result : goal.overflow_mul-result

@@ -4,7 +4,8 @@ use Rattle.std.proofs.lemmas.Int.{ints}
 use Rattle.std.proofs.lemmas.List.{nil_from_length}
 use Rattle.nd_base.proofs.laws.NonzeroSize.{size_le_nonzero_size}
 use Rattle.ndarray_layout.specs.RowsLeft.{count_of_rows, row_place, rows_left}
-use Rattle.ndarray_layout.proofs.RowsLeft.{IsView-slower, given, left_after, length-rows_left, next_in_column, next_within, row_comes}
+use Rattle.ndarray_layout.proofs.NextRow.{given, left_after, length-rows_left, next_in_column, next_within, row_comes}
+use Rattle.ndarray_layout.proofs.RowsLeft.{IsView-slower}
 use Rattle.ndarray_layout.proofs.strided.rows.RowsIterator.next.Goals as goal
 
 pub offset_place-self-inside-requires-clause-low : goal.offset_place-self-inside-requires-clause-low
