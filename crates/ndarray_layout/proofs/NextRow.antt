@@ -24,7 +24,7 @@ use Rattle.ndarray_layout.proofs.Fastest.{EndsIn-map, IsView-others, len_le_nonz
 use Rattle.ndarray_layout.proofs.Fastest.{size-others, some_coordinate}
 use Rattle.ndarray_layout.proofs.laws.Rows.{length-row_places, no_step, one_more_step}
 use Rattle.ndarray_layout.proofs.laws.View.{HasPlace, length-view_places, view_place}
-use Rattle.ndarray_layout.proofs.RowsLeft.{IsView-slower, factor_of_some, size-axis_view}
+use Rattle.ndarray_layout.proofs.RowsLeft.{IsView-slower, ends, factor_of_some, size-axis_view, steps}
 
 -- ---- flat indices
 -- the place of each

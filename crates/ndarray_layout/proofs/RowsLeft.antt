@@ -129,10 +129,10 @@ module _ {order : Order} {lens strides fewer others : List ℕ} (without : IsWit
 
 -- ---- the rows along an axis, from the places of the others
 module _ (order : Order) (start : ℕ) (axis : Fastest) where
-  ends : EndsIn order (with_item order axis.lens.now axis.len) axis.lens.now axis.len
+  pub ends : EndsIn order (with_item order axis.lens.now axis.len) axis.lens.now axis.len
   ends = record { is = refl }
 
-  steps : EndsIn order (all_signed (with_item order axis.strides.now axis.stride)) (all_signed axis.strides.now) (signed axis.stride)
+  pub steps : EndsIn order (all_signed (with_item order axis.strides.now axis.stride)) (all_signed axis.strides.now) (signed axis.stride)
   steps = EndsIn-map signed (record { is = refl })
 
   pub size-axis_view : size (axis_view order start axis).shape ≡ axis.len * size axis.lens.now
