@@ -1,5 +1,5 @@
 -- When two of many slices of a view have a place in common.
-use Rattle.std.specs.Prelude.{◌≡◌, ℕ, ◌<◌, pos, negsuc, Option, Some, None, IsSomeAnd, List, [], ◌∷◌, slice_get, refl}
+use Rattle.std.specs.Prelude.{ℕ, ◌<◌, pos, negsuc, Option, Some, None, IsSomeAnd, List, [], ◌∷◌, slice_get, refl}
 use Rattle.std.proofs.lemmas.Bool.{ltb-true}
 use Rattle.std.specs.List.{AllPairs}
 use Rattle.nd_slice.specs.declared.fit.Fit.{Fit}
