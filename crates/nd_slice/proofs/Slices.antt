@@ -1,5 +1,5 @@
 -- Lists of slice arguments: their faults, each of them by its place, and their order along an axis.
-use Rattle.std.proofs.Common.{◌≡◌, ℕ, zero, suc, ◌+◌, ◌-◌, ◌<◌, ◌≤◌, Bool, true, false, None, Some, List, [], ◌∷◌, length, get_or, map, drop}
+use Rattle.std.proofs.Common.{◌≡◌, ℕ, ◌+◌, ◌-◌, ◌<◌, ◌≤◌, Bool, true, false, None, Some, List, [], ◌∷◌, length, get_or, map, drop}
 use Rattle.std.proofs.Common.{sym, ap, subst, ◌∙◌, below_more, arith, max, min}
 use Rattle.std.specs.List.{AllPairs}
 use Rattle.std.specs.Prelude.{IfSome, IsSomeAnd, Option, slice_get}

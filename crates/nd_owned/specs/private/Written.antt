@@ -1,5 +1,5 @@
 -- Items that are written at places among so many: what the contracts of private functions speak of.
-use Rattle.std.specs.Prelude.{◌≡◌, ℕ, ◌<◌, ◌^◌, ℤ, pos, negsuc, Some, None, List, [], ◌∷◌, map, slice_get, slice_index_or, unwrap_or, nat_eq, refl}
+use Rattle.std.specs.Prelude.{◌≡◌, ℕ, ◌^◌, ℤ, pos, Some, None, List, [], ◌∷◌, map, slice_get, slice_index_or, unwrap_or, nat_eq, refl}
 use Rattle.std.proofs.Common.{ap, eq-eqb}
 use Rattle.std.proofs.Math.Dec.{lt→ltb}
 use Rattle.std.proofs.Math.Nat.{not-suc-le-zero}

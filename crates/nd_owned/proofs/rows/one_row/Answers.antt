@@ -1,12 +1,11 @@
 -- A view whose places are neighbours has those of one row.
-use Rattle.std.proofs.Common.{◌≡◌, ◌≤◌, pos, length, sym, ap, subst, ◌∙◌}
+use Rattle.std.proofs.Common.{◌≤◌, pos, length, sym, ap, subst, ◌∙◌}
 use Rattle.std.proofs.lemmas.List.{length-map}
 use Rattle.ndarray_layout.specs.declared.Order.TheVariants.{RowMajor}
 use Rattle.ndarray_layout.specs.LayoutOrder.{LiesInOrder}
 use Rattle.ndarray_layout.specs.Rows.{row_places}
 use Rattle.ndarray_layout.specs.Signed.{all_signed, signed}
-use Rattle.ndarray_layout.specs.Size.{limit, nonzero_size, size}
-use Rattle.ndarray_layout.specs.View.{view_places}
+use Rattle.ndarray_layout.specs.Size.{limit, nonzero_size}
 use Rattle.nd_owned.proofs.ViewRows.{places_of_one_row}
 use Rattle.nd_owned.proofs.rows.one_row.Goals as goal
 

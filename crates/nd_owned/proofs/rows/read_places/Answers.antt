@@ -1,5 +1,5 @@
 -- The item at the next place is read, and those at the others are left.
-use Rattle.std.proofs.Common.{rules, ◌<◌, pos, Some, [], ◌∷◌, ◌++◌, length, map, append_assoc, sym, ap, subst, ◌∙◌, arith}
+use Rattle.std.proofs.Common.{◌<◌, pos, Some, [], ◌∷◌, ◌++◌, length, map, append_assoc, sym, ap, subst, ◌∙◌, arith}
 use Rattle.std.specs.List.{All}
 use Rattle.std.proofs.lemmas.List.{map-append}
 use Rattle.std.proofs.lemmas.List.Elements.{All-head, All-tail}

@@ -1,13 +1,12 @@
 -- The items of one more row are read, for which there is room.
-use Rattle.std.proofs.Common.{◌≡◌, ◌+◌, ◌≤◌, ◌++◌, [], Some, length, map, sym, ap, subst, ◌∙◌, arith}
+use Rattle.std.proofs.Common.{◌++◌, Some, length, map, sym, ap, subst, ◌∙◌, arith}
 use Rattle.std.specs.List.{All}
 use Rattle.std.proofs.lemmas.Bool.{false≢true}
 use Rattle.std.proofs.lemmas.List.{append-nil}
 use Rattle.std.proofs.lemmas.List.Elements.{All-head, All-tail}
 use Rattle.ndarray_layout.specs.declared.Order.TheVariants.{RowMajor}
 use Rattle.ndarray_layout.specs.Bounds.{IsInBounds}
-use Rattle.ndarray_layout.specs.Rows.{row_places, rows_places, view_rows}
-use Rattle.ndarray_layout.specs.View.{view_places}
+use Rattle.ndarray_layout.specs.Rows.{rows_places}
 use Rattle.ndarray_layout.proofs.laws.Rows.{length-row_places, rows_places-view_rows}
 use Rattle.ndarray_layout.proofs.laws.View.{length-view_places}
 use Rattle.nd_owned.specs.Owned.{item_at_place}

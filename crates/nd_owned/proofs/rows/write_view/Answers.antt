@@ -1,12 +1,11 @@
 -- The items of one more row are at their places, and those of the others are left.
-use Rattle.std.proofs.Common.{◌≡◌, ◌≢◌, ◌+◌, ◌≤◌, ◌++◌, List, [], length, take, drop, sym, ap, subst, ◌∙◌, arith}
+use Rattle.std.proofs.Common.{◌≡◌, ◌≢◌, ◌++◌, List, [], length, drop, sym, ap, subst, ◌∙◌, arith}
 use Rattle.std.specs.List.{All, AllPairs}
 use Rattle.std.proofs.lemmas.List.{length-drop, nil_from_length, take-append-drop}
 use Rattle.std.proofs.lemmas.List.Elements.{All-head, All-tail}
 use Rattle.ndarray_layout.specs.declared.Order.TheVariants.{RowMajor}
-use Rattle.ndarray_layout.specs.Rows.{row_places, rows_places, view_rows}
-use Rattle.ndarray_layout.specs.View.{view_places}
-use Rattle.ndarray_layout.proofs.laws.Rows.{length-row_places, rows_places-view_rows}
+use Rattle.ndarray_layout.specs.Rows.{row_places, rows_places}
+use Rattle.ndarray_layout.proofs.laws.Rows.{rows_places-view_rows}
 use Rattle.ndarray_layout.proofs.laws.View.{length-view_places}
 use Rattle.nd_owned.specs.private.Written.{AreInBounds, HasWritten}
 use Rattle.nd_owned.proofs.Placed.{first_distinct, none_written, parts_written, second_distinct}

@@ -1,14 +1,7 @@
 -- The part has as many places as the slice picks, so their count decides.
-use Rattle.std.proofs.Common.{◌≡◌, ℤ, Some, List, length, sym, ap, ◌∙◌}
+use Rattle.std.proofs.Common.{Some, length, sym, ap, ◌∙◌}
 use Rattle.std.proofs.lemmas.Bool.{eq-eqb, ne_eqb}
-use Rattle.ndarray_layout.specs.declared.Fit.TheVariants.{Strict}
-use Rattle.ndarray_layout.specs.declared.Order.TheVariants.{RowMajor}
-use Rattle.ndarray_layout.specs.declared.SliceInfoElem.{SliceInfoElem}
 use Rattle.ndarray_layout.specs.Size.{size}
-use Rattle.ndarray_layout.specs.Sliced.{sliced_shape}
-use Rattle.ndarray_layout.specs.SlicedView.{slice_of}
-use Rattle.ndarray_layout.specs.View.{View, view_places}
-use Rattle.ndarray_layout.proofs.laws.View.{length-view_places}
 use Rattle.nd_owned.specs.Writes.{write_of}
 use Rattle.nd_owned.proofs.Faults.{fault_of_one}
 use Rattle.nd_owned.proofs.writes.part_of_write.Goals as goal

@@ -1,5 +1,5 @@
 -- One more slice has its part, or none where it picks nothing; only an allocation can fail.
-use Rattle.std.proofs.Common.{◌≡◌, ◌+◌, None, List, ◌∷◌, length, map, drop, sym, ap, ◌∙◌, arith}
+use Rattle.std.proofs.Common.{◌≡◌, None, length, map, sym, ap, ◌∙◌}
 use Rattle.std.specs.List.{flat_map}
 use Rattle.std.proofs.lemmas.Bool.{eq-eqb, eqb-true, false≢true}
 use Rattle.ndarray_layout.specs.declared.Fit.TheVariants.{Strict}

@@ -1,5 +1,5 @@
 -- The items of one more part are at their places, and those of the others are left.
-use Rattle.std.proofs.Common.{◌≡◌, ◌≢◌, ◌+◌, ◌∷◌, [], length, drop, sym, ap, subst, ◌∙◌}
+use Rattle.std.proofs.Common.{◌≡◌, ◌+◌, ◌∷◌, length, drop, sym, ap, subst, ◌∙◌}
 use Rattle.std.specs.List.{flat_map}
 use Rattle.std.proofs.lemmas.List.{drop_all, drop_more}
 use Rattle.ndarray_layout.specs.declared.Order.TheVariants.{RowMajor}
@@ -8,7 +8,6 @@ use Rattle.ndarray_layout.proofs.laws.View.{places_lie_within}
 use Rattle.nd_owned.specs.private.Parts.{part_places, view_of_part}
 use Rattle.nd_owned.specs.private.Written.{HasWritten}
 use Rattle.nd_owned.proofs.Placed.{AreBoth, first_distinct, none_written, parts_written, second_distinct}
-use Rattle.nd_owned.proofs.writes.write_all.Given.{Over}
 use Rattle.nd_owned.proofs.writes.write_all.Goals as goal
 
 pub write-requires-clause-within : goal.write-requires-clause-within

@@ -1,7 +1,6 @@
 -- The items are at the places of the slice, of which none is listed twice.
-use Rattle.std.proofs.Common.{◌≡◌, ◌≢◌, ◌++◌, None, [], ◌∷◌, length, take, drop, sym, subst, ◌∙◌}
+use Rattle.std.proofs.Common.{◌≡◌, ◌++◌, None, [], ◌∷◌, length, take, drop, sym, subst, ◌∙◌}
 use Rattle.std.proofs.lemmas.List.{take_at}
-use Rattle.std.specs.List.{AllPairs}
 use Rattle.ndarray_layout.specs.declared.Fit.TheVariants.{Strict}
 use Rattle.ndarray_layout.specs.SliceFault.{argument_fault}
 use Rattle.nd_owned.specs.private.Written.{HasWritten}
