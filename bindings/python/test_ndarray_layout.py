@@ -4,14 +4,19 @@
 """
 
 import copy
+import ctypes
 import doctest
+import importlib
 import multiprocessing
 import pickle
+import pkgutil
 import unittest
 from types import SimpleNamespace
 
 import ndarray_layout as nd
 from ndarray_layout import Reshaped, ShapeError, Slice, View
+from ndarray_layout import _library as library
+from ndarray_layout._numbers import count_of, one_answer
 
 MAX, MIN = 2**63 - 1, -(2**63)
 ALL = Slice()
@@ -19,8 +24,10 @@ SECONDS = 60
 
 
 def load_tests(loader, tests, pattern):
-    """Adds the examples of the module's docstrings."""
-    tests.addTests(doctest.DocTestSuite(nd))
+    """Adds the examples of the docstrings."""
+    parts = [importlib.import_module(f"{nd.__name__}.{part.name}") for part in pkgutil.iter_modules(nd.__path__)]
+    for module in (nd, *parts):
+        tests.addTests(doctest.DocTestSuite(module))
     return tests
 
 
@@ -141,7 +148,8 @@ class BadArguments(Case):
         for wrong in ((1.5,), ("2",), (None,)):
             self.assertRaises(TypeError, nd.default_strides, wrong)
         self.assertRaises(TypeError, nd.picked, (4,), [slice(0, 2)])
-        self.assertRaises(ValueError, nd.places, 0, (2,), (1,), order="A")
+        self.assertRaises(ValueError, nd.places, 0, (2,), (1,), order="K")
+        self.assertRaises(ValueError, nd.next_index, (2,), (1,), order="A")
         self.assertRaises(ValueError, nd.element_strides, (8, 4), 8)
         self.assertRaises(ValueError, nd.element_strides, (8,), 0)
         self.assertRaises(ValueError, nd.lay_over, 24, (2,), (6,), itemsize=4)
@@ -197,7 +205,7 @@ class Arrays(Case):
         halves, halves_backwards, apart_against_the_rule = ((3,), (4,)), ((3,), (-4,)), ((3, 2), (16, 24))
         for shape, strides in (windows, broadcast, backwards, halves, halves_backwards, apart_against_the_rule):
             for second in (0, 1, slice(0, 0)):
-                self.assert_kind("Unsupported", nd.share_element, array_of(shape, strides), 0, second)
+                self.assert_kind("Unsupported", nd.share_element, array_of(shape, strides), 0, second, max_work=0)
 
     def test_elements_that_lie_apart(self):
         every_third_window, reversed_rows, records = ((2, 3), (24, 8)), ((2, 3), (-24, 8)), ((3,), (12,))
@@ -219,6 +227,58 @@ class Arrays(Case):
         self.assertEqual(nd.reshape_without_copy(columns, (2, 2, 3), "F"), Reshaped("F", (8, 16, 32)))
 
 
+class Strict:
+    """The type of a parameter, for ctypes: it takes what is of some types, and leaves it as it is."""
+
+    def __init__(self, *types):
+        self.types = types
+
+    def from_param(self, value):
+        if not isinstance(value, self.types):
+            raise TypeError(f"{value!r} is none of {self.types}")
+        return value
+
+
+A_LIST = [Strict(bytes, ctypes.Array, ctypes.c_void_p), Strict(ctypes.c_size_t)]
+WRITTEN = [Strict(ctypes.Array, ctypes.c_void_p), Strict(ctypes.c_size_t)]
+TYPES = {
+    **dict.fromkeys("USE", A_LIST),
+    "W": WRITTEN,
+    "z": [Strict(ctypes.c_size_t)],
+    "i": [Strict(int)],
+    "p": [Strict(ctypes.Array)],
+}
+
+
+class Checked:
+    """Runs tests while ctypes looks at the count and the types of all arguments, which it leaves out else."""
+
+    def setUp(self):
+        for call, parameters in library.exports:
+            call.argtypes = [kind for letter in parameters for kind in TYPES[letter]]
+            self.addCleanup(setattr, call, "argtypes", None)
+
+    def test_arguments_are_looked_at(self):
+        self.assertEqual(len(library.exports), 19)
+        nothing, answer = (b"", count_of(0)), one_answer()
+        library.has_overlap(*nothing, *nothing, answer)
+        self.assertRaises(TypeError, library.has_overlap, *nothing, *nothing)
+        self.assertRaises(ctypes.ArgumentError, library.has_overlap, *nothing, b"", 0, answer)
+        self.assertRaises(ctypes.ArgumentError, library.has_overlap, *nothing, *nothing, b"    ")
+
+
+class CheckedRows(Checked, WorkedRows):
+    pass
+
+
+class CheckedArguments(Checked, BadArguments):
+    pass
+
+
+class CheckedArrays(Checked, Arrays):
+    pass
+
+
 class Errors(Case):
     def test_copies(self):
         with self.assertRaises(ShapeError) as caught:
@@ -228,7 +288,9 @@ class Errors(Case):
         for again in (copy.copy(error), copy.deepcopy(error), *map(pickle.loads, pickled)):
             self.assertIs(type(again), ShapeError)
             self.assertEqual(again.kind, "IncompatibleShape")
-            self.assertEqual(str(again), "IncompatibleShape: incompatible shapes")
+            self.assertEqual(again.axis, 0)
+            self.assertEqual(again.numbers, {"first": 2, "second": 3})
+            self.assertEqual(str(again), "IncompatibleShape: axis 0: lengths 2 and 3 have none in common")
 
     def test_pool(self):
         """An error in a worker arrives. One that can't be made again there would never."""

@@ -1,0 +1,128 @@
+"""Makes the wheel of `ndarray_layout`: the build backend that pip and `python -m build --wheel` call.
+
+The wheel holds the package and the shared library that `bindings/c/build` makes by cargo. With NDARRAY_LAYOUT_PROVED=1
+in the environment, or the setting `proved`, it holds the proved library of `bindings/c/proved`, which `build --proved`
+makes where there is none.
+"""
+
+from __future__ import annotations
+
+import base64
+import hashlib
+import os
+import re
+import subprocess
+import sysconfig
+import zipfile
+from pathlib import Path
+from typing import Any, Iterator, Mapping, Optional
+
+HERE = Path(__file__).resolve().parent.parent
+TOP = HERE.parent.parent
+LIBRARY = "libndarray_layout.so"
+MADE = (1980, 1, 1, 0, 0, 0)  # (the first moment that a zip file can state: the same files make the same wheel)
+
+Settings = Optional[Mapping[str, Any]]
+
+
+def build_wheel(
+    wheel_directory: str, config_settings: Settings = None, metadata_directory: Optional[str] = None
+) -> str:
+    """Makes the wheel in a folder, and returns its name."""
+    library = _library(_is_proved(config_settings))
+    files = [(f"ndarray_layout/{path.name}", path.read_bytes()) for path in _modules()]
+    name = f"{LIBRARY}.{version().split('.')[0]}"  # (a file `.so` Python would take for a module)
+    return _write_wheel(wheel_directory, [*files, (f"ndarray_layout/{name}", library.read_bytes())])
+
+
+def build_editable(
+    wheel_directory: str, config_settings: Settings = None, metadata_directory: Optional[str] = None
+) -> str:
+    """Makes a wheel that leads to this folder, and builds the library that the package takes from there."""
+    _library(proved=False)
+    return _write_wheel(wheel_directory, [("ndarray_layout.pth", f"{HERE}\n".encode())])
+
+
+def build_sdist(sdist_directory: str, config_settings: Settings = None) -> str:
+    """There is none: the library is made of sources outside of this folder."""
+    raise NotImplementedError("a wheel is made from a clone: python -m build --wheel")
+
+
+def _is_proved(settings: Settings) -> bool:
+    return "proved" in (settings or {}) or os.environ.get("NDARRAY_LAYOUT_PROVED", "0") not in ("", "0")
+
+
+def _library(proved: bool) -> Path:
+    """The shared library, made where it isn't there. Cargo's is made anew where its sources have changed."""
+    build = TOP / "bindings" / "c" / "build"
+    if not build.exists():
+        raise FileNotFoundError(f"no {build}: the wheel is made from a clone, by pip 21.3 or later")
+    library = build.parent / "proved" / LIBRARY if proved else build.parent / LIBRARY
+    if not (proved and library.exists()):
+        subprocess.run([build, *(["--proved"] if proved else [])], check=True)
+    return library
+
+
+def _modules() -> list[Path]:
+    package = HERE / "ndarray_layout"
+    return sorted([*package.glob("*.py"), package / "py.typed"])
+
+
+def version() -> str:
+    """The version of `Cargo.toml`, which is the package's too."""
+    found = re.search(r'^version = "(.*)"$', (TOP / "Cargo.toml").read_text(), re.MULTILINE)
+    stated = re.search(r'^__version__ = "(.*)"$', (HERE / "ndarray_layout" / "__init__.py").read_text(), re.MULTILINE)
+    if not found or not stated or found[1] != stated[1]:
+        raise ValueError("the versions of Cargo.toml and ndarray_layout/__init__.py are not the same")
+    return found[1]
+
+
+def _write_wheel(folder: str, files: list[tuple[str, bytes]]) -> str:
+    tag = f"py3-none-{sysconfig.get_platform().replace('-', '_').replace('.', '_')}"
+    name = f"ndarray_layout-{version()}-{tag}.whl"
+    info = f"ndarray_layout-{version()}.dist-info"
+    files = [*files, *((f"{info}/{file}", content) for file, content in _info(tag))]
+    record = "".join(f"{path},sha256={_checksum(content)},{len(content)}\n" for path, content in files)
+    with zipfile.ZipFile(Path(folder) / name, "w", zipfile.ZIP_DEFLATED) as wheel:
+        for path, content in [*files, (f"{info}/RECORD", f"{record}{info}/RECORD,,\n".encode())]:
+            entry = zipfile.ZipInfo(path, MADE)
+            entry.external_attr = (0o755 if LIBRARY in path else 0o644) << 16
+            wheel.writestr(entry, content, zipfile.ZIP_DEFLATED)
+    return name
+
+
+def _checksum(content: bytes) -> str:
+    return base64.urlsafe_b64encode(hashlib.sha256(content).digest()).decode().rstrip("=")
+
+
+def _info(tag: str) -> Iterator[tuple[str, bytes]]:
+    """The files that say what is in the wheel."""
+    licenses = sorted([*TOP.glob("LICENSE*"), TOP / "NOTICE"])
+    yield "METADATA", _metadata([path.name for path in licenses]).encode()
+    stated = "Wheel-Version: 1.0", "Generator: ndarray_layout_backend", "Root-Is-Purelib: false", f"Tag: {tag}"
+    yield "WHEEL", "".join(f"{line}\n" for line in stated).encode()
+    for path in licenses:
+        yield f"licenses/{path.name}", path.read_bytes()
+
+
+def _metadata(licenses: list[str]) -> str:
+    """What `pyproject.toml` states, and the package's docstring as its description."""
+    stated = (HERE / "pyproject.toml").read_text()
+    listed = re.findall(r'^    "(.* :: .*)",$', stated, re.MULTILINE)
+
+    def field(name: str) -> str:
+        return str(re.findall(rf'^{name} = .*?"(.*)"', stated, re.MULTILINE)[0])
+
+    lines = [
+        "Metadata-Version: 2.1",
+        f"Name: {field('name')}",
+        f"Version: {version()}",
+        f"Summary: {field('description')}",
+        f"License: {field('license')}",
+        f"Requires-Python: {field('requires-python')}",
+        *(f"Classifier: {line}" for line in listed),
+        *(f"License-File: {name}" for name in licenses),
+        "Description-Content-Type: text/plain",
+    ]
+    docstring = (HERE / "ndarray_layout" / "__init__.py").read_text().split('"""')[1]
+    return "\n".join(lines) + f"\n\n{docstring}"

@@ -1,0 +1,171 @@
+"""Calls for arrays: NumPy's, or whatever has the attributes that are read. Their strides count in bytes."""
+
+from __future__ import annotations
+
+from math import gcd, prod
+from typing import Any, NamedTuple, Optional, Protocol, Sequence
+
+from . import _library as library
+from ._errors import OutOfBoundsError, ShapeError
+from ._layouts import check_layout, layout_start, order_of
+from ._numbers import LIMIT, Lens, Numbers, Packed, listing, one_answer, said, signed, unsigned
+from ._shapes import reshaped
+from ._sharing import MAX_WORK, share_byte
+from ._slices import intersect, packed_key, slice_by_key
+
+
+class Reshaped(NamedTuple):
+    """The order in which a reshape reads the elements, 'C' or 'F', and the new strides in bytes."""
+
+    order: str
+    strides: Lens
+
+
+def element_strides(byte_strides: Numbers, itemsize: int) -> Lens:
+    """Strides in bytes as strides in elements. Raises `ValueError` where one is no multiple of the item size.
+
+    >>> element_strides((24, -8), 8)
+    (3, -1)
+    """
+    strides = byte_strides if type(byte_strides) is tuple else listing(byte_strides)
+    if itemsize < 1 or gcd(itemsize, *strides) != itemsize:
+        raise ValueError(f"strides {strides} are no multiples of the item size {itemsize}")
+    return tuple([stride // itemsize for stride in strides])
+
+
+class Array(Protocol):
+    """What is read of an array: its strides count in bytes."""
+
+    @property
+    def shape(self) -> tuple[int, ...]:
+        ...
+
+    @property
+    def strides(self) -> tuple[int, ...]:
+        ...
+
+    @property
+    def itemsize(self) -> int:
+        ...
+
+
+def lay_over(
+    nbytes: int, shape: Numbers, strides: Numbers, itemsize: int, offset: Optional[int] = None, owned: bool = False
+) -> int:
+    """The offset of element (0, .., 0) of an array with these strides, in bytes, over a buffer of `nbytes` bytes.
+
+    Strides and `offset` count in bytes. Without an offset the lowest element begins at byte 0. Raises `ValueError`
+    where a stride is no multiple of the item size, and what `layout_start` does where the array doesn't lie within the
+    buffer. What it returns is what `numpy.ndarray(shape, dtype, buffer, offset, strides)` takes.
+
+    >>> lay_over(24, (2, 3), (-12, 4), itemsize=4)
+    12
+    >>> lay_over(23, (2, 3), (-12, 4), itemsize=4)
+    Traceback (most recent call last):
+    ndarray_layout.OutOfBoundsError: the layout needs 6 elements of 5
+    """
+    steps = element_strides(strides, itemsize)
+    if offset is None:
+        return itemsize * layout_start(shape, steps, nbytes // itemsize, itemsize, owned)
+    if not 0 <= offset <= nbytes:
+        numbers = {"offset": offset, "nbytes": nbytes}
+        raise OutOfBoundsError("OutOfBounds", f"offset {offset} lies outside of {nbytes} bytes", None, numbers)
+    start, below = divmod(offset, itemsize)
+    check_layout(start, shape, steps, (nbytes - below) // itemsize, itemsize, owned)
+    return offset
+
+
+def share_element(a: Array, first: Any, second: Any, max_work: Optional[int] = MAX_WORK) -> bool:
+    """Whether `a[first]` and `a[second]` share an element, for basic slices: integers, slices, `...` and `None`.
+
+    Exact. `a` has a `shape`, `strides` in bytes and an `itemsize`. A `Slice` is one key too. Where `a` keeps the
+    no-alias rule the time is that of its axes alone, however large it is.
+
+    Where the bytes of `a` break the rule (`has_overlap`), as windows and broadcasts do, the places of both parts are
+    compared, in Python, and in at most `max_work` steps of some 2 microseconds: `None` is without end, 0 compares
+    nothing. Raises `ShapeError` of the kind 'Unsupported' where these don't decide, and never guesses. Raises
+    `IndexError` and `ValueError` where `a[first]` or `a[second]` does, and `TypeError` for other keys, such as
+    booleans and arrays with 0 axes.
+
+    >>> class Table: shape, strides, itemsize = (10**12, 4), (32, 8), 8
+    >>> share_element(Table, (slice(0, None, 2), 1), (slice(1, None, 2), 1))
+    False
+    >>> share_element(Table, (slice(None, None, -3), slice(1, 3)), (..., 2))
+    True
+    >>> class Windows: shape, strides, itemsize = (4, 3), (8, 8), 8
+    >>> share_element(Windows, 0, 1), share_element(Windows, 0, 3)
+    (True, False)
+    >>> share_element(Windows, 0, 1, max_work=0)
+    Traceback (most recent call last):
+    ndarray_layout.ShapeError: Unsupported: elements of shape (4, 3) and strides (8, 8) may overlap
+    """
+    shape, overlap = a.shape, one_answer()
+    library.has_overlap(*unsigned((*shape, a.itemsize)), *signed((*a.strides, 1)), overlap)
+    if overlap[0]:
+        return _share_byte(a, first, second, max_work)
+    return intersect(unsigned(shape), packed_key(shape, first), packed_key(shape, second), False)
+
+
+def _share_byte(a: Array, first: Any, second: Any, max_work: Optional[int]) -> bool:
+    """`share_element` of an array whose elements may overlap."""
+    shape, strides = tuple(a.shape), tuple(a.strides)
+    start = layout_start(shape, strides, LIMIT + 1)
+    refusal = f"elements of shape {shape} and strides {strides} may overlap"
+    if max_work == 0:
+        raise ShapeError("Unsupported", refusal)
+    one, other = (slice_by_key(start, shape, strides, key) for key in (first, second))
+    shared = share_byte(one, other, int(a.itemsize), max_work)
+    if shared is None:
+        raise ShapeError("Unsupported", f"{refusal}, and {max_work} steps don't decide whether these do")
+    return shared
+
+
+def reshape_without_copy(a: Array, new_shape: Numbers, order: Optional[str] = "C") -> Reshaped:
+    """The order and the strides, in bytes, with which an array has another shape, if no element has to be moved.
+
+    `a` has a `shape`, `strides` and an `itemsize`. One new length may be -1, as in NumPy. With the new strides `a`
+    equals `a.reshape(new_shape, order=..)` in the order that is returned. That is 'C' where no order is given, as in
+    NumPy. The order `None` asks for 'C' if no element has to be moved then, else for 'F'. Raises what `reshape_dim`
+    does, of the first order that is tried, and `ValueError` where a stride is no multiple of the item size.
+
+    >>> class Columns: shape, strides, itemsize = (4, 3), (8, 32), 8
+    >>> reshape_without_copy(Columns, (2, 2, 3))
+    Reshaped(order='C', strides=(16, 8, 32))
+    >>> reshape_without_copy(Columns, 12)
+    Traceback (most recent call last):
+    ndarray_layout.ShapeError: IncompatibleLayout: axis 0: stride 1 isn't 3 times 4, the stride of axis 1
+    >>> reshape_without_copy(Columns, 12, order=None)
+    Reshaped(order='F', strides=(8,))
+    """
+    shape, itemsize = a.shape, a.itemsize
+    lens, steps = unsigned(shape), signed(element_strides(a.strides, itemsize))
+    new_lens = unsigned(without_minus_one(shape, listing(new_shape)))
+    number, strides = _reshaped_by_any(lens, steps, new_lens, order)
+    return Reshaped("CF"[number], tuple([stride * itemsize for stride in strides]))
+
+
+def _reshaped_by_any(lens: Packed, steps: Packed, new_lens: Packed, order: Optional[str]) -> tuple[int, Lens]:
+    """The number of the order, and the strides in elements."""
+    if order is not None:
+        number = order_of(order, lens, steps)
+        return number, reshaped(lens, steps, new_lens, number)
+    try:
+        return 0, reshaped(lens, steps, new_lens, 0)
+    except ShapeError as error:
+        refusal = error
+    try:
+        return 1, reshaped(lens, steps, new_lens, 1)
+    except ShapeError:
+        raise refusal from None
+
+
+def without_minus_one(shape: Sequence[int], new_shape: Lens) -> Lens:
+    """The new shape with the length that NumPy would put in the place of one -1."""
+    if -1 not in new_shape or new_shape.count(-1) > 1:
+        return new_shape
+    others, size = prod([length for length in new_shape if length != -1]), prod(shape)
+    if others == 0 or size % others:
+        axis, numbers = new_shape.index(-1), {"size": size, "others": others}
+        text = f"axis {axis}: no length times {said(others)} is the size {said(size)}"
+        raise ShapeError("IncompatibleShape", text, axis, numbers)
+    return tuple([size // others if length == -1 else length for length in new_shape])

@@ -1,0 +1,345 @@
+"""`Layout`: a layout that was accepted."""
+
+from __future__ import annotations
+
+from dataclasses import dataclass
+from functools import cached_property
+from math import prod
+from numbers import Integral
+from operator import index as as_int
+from typing import TYPE_CHECKING, Any, Iterable, Iterator, NamedTuple, Optional, SupportsIndex, Union
+
+from ._arrays import element_strides, without_minus_one
+from ._errors import OutOfBoundsError, ShapeError
+from ._layouts import (
+    check_layout,
+    default_strides,
+    fortran_strides,
+    has_overlap,
+    is_contiguous,
+    is_layout_c,
+    is_layout_f,
+    layout_start,
+    place,
+    places,
+)
+from ._numbers import LIMIT, Lens, Numbers, listing, order_number
+from ._shapes import broadcast_strides, permuted_axes, reshape_dim
+from ._sharing import MAX_WORK, share_byte
+from ._slices import Elems, Slice, View, basic_key, slice_by_key, slice_view, slices_intersect
+
+if TYPE_CHECKING:
+    import numpy
+
+
+class Row(NamedTuple):
+    """A run of places: the first one, the stride to the next, and how many there are."""
+
+    start: int
+    stride: int
+    length: int
+
+
+@dataclass(frozen=True)
+class Layout:
+    """A layout that was accepted over `length` elements, so every index lies within them.
+
+    Where it was accepted as `owned` no two indices have one place. Strides, places and the length count elements. What
+    is made of an accepted layout is accepted: a slice, a reshape or a permutation keeps `owned`, and what is broadcast
+    is only to be read.
+
+    >>> layout = Layout.over(6, (2, 3), (-3, 1), owned=True)
+    >>> layout
+    Layout(start=3, shape=(2, 3), strides=(-3, 1), length=6, owned=True)
+    >>> layout[1, ::-1]
+    Layout(start=2, shape=(3,), strides=(-1,), length=6, owned=True)
+    >>> layout.T.places()
+    (3, 0, 4, 1, 5, 2)
+    >>> Layout(2, (2, 3), (-3, 1), length=6)
+    Traceback (most recent call last):
+    ndarray_layout.OutOfBoundsError: the lowest place -1 is below 0
+    """
+
+    start: int
+    shape: Lens
+    strides: Lens
+    length: int
+    owned: bool = False
+
+    def __post_init__(self) -> None:
+        shape, strides = tuple(map(as_int, listing(self.shape))), tuple(map(as_int, listing(self.strides)))
+        check_layout(self.start, shape, strides, self.length, owned=self.owned)
+        self.__dict__.update(start=as_int(self.start), shape=shape, strides=strides, length=as_int(self.length))
+        self.__dict__.update(owned=bool(self.owned))
+
+    def _kept(self, start: int, shape: Lens, strides: Lens, owned: bool) -> Layout:
+        """What a call made of this layout, which is accepted by that call's promise."""
+        made = object.__new__(Layout)
+        made.__dict__.update(start=start, shape=shape, strides=strides, length=self.length, owned=owned)
+        return made
+
+    # ---- Makers
+
+    @staticmethod
+    def over(
+        buffer: Any,
+        shape: Numbers,
+        strides: Optional[Numbers] = None,
+        *,
+        start: Optional[SupportsIndex] = None,
+        order: str = "C",
+        owned: bool = False,
+    ) -> Layout:
+        """Accepts a layout over a buffer, or over so many elements.
+
+        The elements of a buffer are its items: those of `bytes` are bytes, those of an array its numbers. Without
+        strides the layout has no gaps, in the order 'C' or 'F'. Without a start its lowest place is 0. Raises what
+        `layout_start` and `check_layout` do.
+
+        >>> Layout.over(b"abcdef", (2, 3))
+        Layout(start=0, shape=(2, 3), strides=(3, 1), length=6, owned=False)
+        >>> Layout.over(6, 6, -1).start
+        5
+        """
+        length, itemsize = _items(buffer)
+        lens = listing(shape)
+        if strides is None:
+            steps = (default_strides, fortran_strides)[order_number(order)](lens)
+        else:
+            steps = listing(strides)
+        if start is None:
+            start = layout_start(lens, steps, length, itemsize, owned)
+        else:
+            check_layout(start, lens, steps, length, itemsize, owned)
+        return Layout(as_int(start), lens, steps, length, owned)
+
+    @staticmethod
+    def of(array: Any, owned: bool = False) -> Layout:
+        """The layout of an array, or of what a `memoryview` shows, over its elements from the lowest to the highest.
+
+        Raises `ValueError` where a stride is no multiple of the item size, and `ShapeError` where it is to be owned
+        and breaks the no-alias rule.
+
+        >>> Layout.of(memoryview(b"abcdef")[::-2])
+        Layout(start=4, shape=(3,), strides=(-2,), length=5, owned=False)
+        """
+        view = array if hasattr(array, "strides") else memoryview(array)
+        if getattr(view, "suboffsets", ()):
+            raise ShapeError("Unsupported", "a layout has no suboffsets")
+        shape, strides = tuple(view.shape), element_strides(view.strides, view.itemsize)
+        start = layout_start(shape, strides, LIMIT + 1, view.itemsize, owned)
+        span = sum(max(length - 1, 0) * abs(stride) for length, stride in zip(shape, strides))
+        return Layout(start, shape, strides, span + (0 not in shape), owned)
+
+    # ---- What it is
+
+    @property
+    def ndim(self) -> int:
+        """The count of axes."""
+        return len(self.shape)
+
+    @property
+    def size(self) -> int:
+        """How many indices there are."""
+        return prod(self.shape)
+
+    @cached_property
+    def is_contiguous(self) -> bool:
+        """Whether the indices fill a stretch of the buffer without a gap, in any order of the axes."""
+        return is_contiguous(self.shape, self.strides)
+
+    @cached_property
+    def is_layout_c(self) -> bool:
+        """Whether the places follow one another in row-major order."""
+        return is_layout_c(self.shape, self.strides)
+
+    @cached_property
+    def is_layout_f(self) -> bool:
+        """Whether the places follow one another in column-major order."""
+        return is_layout_f(self.shape, self.strides)
+
+    @cached_property
+    def has_overlap(self) -> bool:
+        """Whether it breaks the no-alias rule. An owned layout never does."""
+        return not self.owned and has_overlap(self.shape, self.strides)
+
+    # ---- Other layouts over the same elements
+
+    def __getitem__(self, key: Any) -> Layout:
+        """A slice by NumPy's keys: integers, slices, `...` and `None`. Bounds outside are moved to the nearest end."""
+        return self._kept(*slice_by_key(self.start, self.shape, self.strides, key), self.owned)
+
+    __iter__ = None  # (a row is `layout[k]`; places come from `places` and `rows`)
+
+    def slice(self, elems: Elems, clamp: bool = False) -> Layout:
+        """A slice by the layer's elements. Raises what `slice_view` does: a bound outside is an `IndexError`.
+
+        >>> Layout.over(4, 4).slice([Slice(1, None, -2)]).places()
+        (3, 1)
+        """
+        return self._kept(*slice_view(self.start, self.shape, self.strides, elems, clamp), self.owned)
+
+    def reshape(self, shape: Numbers, order: str = "C") -> Layout:
+        """The same places in an order along another shape, one length of which may be -1.
+
+        Raises what `reshape_dim` does.
+
+        >>> Layout.over(6, (2, 3)).reshape((3, -1)).shape
+        (3, 2)
+        """
+        lens = without_minus_one(self.shape, tuple(map(as_int, listing(shape))))
+        return self._kept(self.start, lens, reshape_dim(self.shape, self.strides, lens, order), self.owned)
+
+    def broadcast_to(self, shape: Numbers) -> Layout:
+        """The layout read as one of another shape. It isn't owned: all coordinates of a new axis have one place.
+
+        >>> Layout.over(3, 3).broadcast_to((2, 3))
+        Layout(start=0, shape=(2, 3), strides=(0, 1), length=3, owned=False)
+        """
+        lens = tuple(map(as_int, listing(shape)))
+        return self._kept(self.start, lens, broadcast_strides(self.shape, self.strides, lens), False)
+
+    def permute(self, axes: Numbers) -> Layout:
+        """The axes in another order: axis k is axis `axes[k]`. Raises what `permuted_axes` does."""
+        return self._kept(self.start, *permuted_axes(self.shape, self.strides, axes), self.owned)
+
+    def transpose(self, *axes: Any) -> Layout:
+        """The axes in another order, as NumPy takes them: reversed without any, and negative ones count from the end.
+
+        >>> Layout.over(24, (2, 3, 4)).transpose(-1, 0, 1).shape
+        (4, 2, 3)
+        """
+        listed = listing(axes[0]) if len(axes) == 1 and axes[0] is not None else axes
+        if listed in ((), (None,)):
+            return self.permute(range(self.ndim)[::-1])
+        return self.permute([_axis(axis, self.ndim) for axis in listed])
+
+    @property
+    def T(self) -> Layout:
+        """The axes in reverse order."""
+        return self.transpose()
+
+    # ---- Places
+
+    def place(self, index: Numbers) -> int:
+        """The place of an index. Raises `IndexError` where it is none of the shape."""
+        return place(self.start, self.shape, self.strides, index)
+
+    def places(self, order: str = "C") -> Lens:
+        """The places of all indices, in an order. Takes time and memory for each index."""
+        return places(self.start, self.shape, self.strides, order)
+
+    def rows(self) -> Iterator[Row]:
+        """The runs of the last axis, in row-major order: what a loop over the elements needs.
+
+        No call is made for each. An index of no axes is a run of one.
+
+        >>> list(Layout.over(6, (2, 3), (-3, 1)).rows())
+        [Row(start=3, stride=1, length=3), Row(start=0, stride=1, length=3)]
+        """
+        if 0 in self.shape:
+            return iter(())
+        starts: Iterable[int] = (self.start,)
+        for length, stride in zip(self.shape[:-1], self.strides[:-1]):
+            starts = _steps_from(starts, length, stride)
+        stride, length = (self.strides[-1], self.shape[-1]) if self.shape else (0, 1)
+        return (Row(start, stride, length) for start in starts)
+
+    def intersects(self, first: Any, second: Any, max_work: Optional[int] = MAX_WORK) -> bool:
+        """Whether two slices by NumPy's keys share a place: exact. See `share_element` for `max_work`.
+
+        >>> layout = Layout.over(9, 9)
+        >>> layout.intersects(slice(0, None, 9), slice(3, None, 6))
+        False
+        >>> windows = Layout.over(6, (4, 3), (1, 1))
+        >>> windows.intersects(0, 2), windows.intersects(0, 3)
+        (True, False)
+        """
+        if not self.has_overlap:
+            return slices_intersect(self.shape, basic_key(self.shape, first), basic_key(self.shape, second))
+        shared = share_byte(self._view(first), self._view(second), 1, max_work) if max_work != 0 else None
+        if shared is None:
+            text = f"places of {self} may overlap, and {max_work} steps don't decide whether these do"
+            raise ShapeError("Unsupported", text)
+        return shared
+
+    def _view(self, key: Any) -> View:
+        return slice_by_key(self.start, self.shape, self.strides, key)
+
+    # ---- Buffers
+
+    def as_array(self, buffer: Any, dtype: Any = None) -> numpy.ndarray[Any, Any]:
+        """A NumPy array of this layout over a buffer, whose items it has without a `dtype`.
+
+        Raises `IndexError` where the buffer has fewer than `length` items. A layout that isn't owned gives an array
+        that is only to be read, as `numpy.broadcast_to` does.
+        """
+        import numpy
+
+        kind = numpy.dtype(_dtype(buffer) if dtype is None else dtype)
+        nbytes = memoryview(buffer).nbytes
+        self._check_room(nbytes // kind.itemsize, kind.itemsize)
+        byte_strides = tuple([stride * kind.itemsize for stride in self.strides])
+        offset = self.start * kind.itemsize
+        array: numpy.ndarray[Any, Any] = numpy.ndarray(self.shape, kind, buffer, offset, byte_strides)
+        array.flags.writeable = array.flags.writeable and self.owned
+        return array
+
+    def as_memoryview(self, buffer: Any) -> memoryview:
+        """A `memoryview` of this layout over the items of a buffer, which has to be contiguous.
+
+        A `memoryview` of several axes has no gaps: other layouts raise `ShapeError` of the kind 'Unsupported'. A
+        layout that isn't owned gives one that is only to be read.
+
+        >>> Layout.over(b"abcdef", 3, -2).as_memoryview(b"abcdef").tobytes()
+        b'eca'
+        """
+        items = memoryview(buffer)
+        self._check_room(items.nbytes // items.itemsize, items.itemsize)
+        items = (items if self.owned else items.toreadonly()).cast("B").cast(items.format)
+        if self.ndim == 1:
+            return _stepped(items, self.start, *self.shape, *self.strides)
+        if not self.is_layout_c or 0 in self.shape:
+            raise ShapeError("Unsupported", f"a memoryview can't have the strides {self.strides}")
+        run = items[self.start : self.start + self.size]
+        return run.cast("B").cast(items.format, self.shape)
+
+    def _check_room(self, items: int, itemsize: int) -> None:
+        if items < self.length:
+            numbers = {"length": self.length, "items": items}
+            raise OutOfBoundsError("OutOfBounds", f"the buffer has {items} items of {self.length}", None, numbers)
+        check_layout(self.start, self.shape, self.strides, items, itemsize)
+
+
+def _items(buffer: Any) -> tuple[int, int]:
+    """How many items a buffer has, and their size. A number stands for so many items."""
+    if isinstance(buffer, Integral):
+        return as_int(buffer), 1
+    view = memoryview(buffer)
+    return view.nbytes // view.itemsize, view.itemsize
+
+
+def _dtype(buffer: Any) -> Any:
+    """The dtype of an array, or the format of another buffer's items, which NumPy reads alike."""
+    return buffer.dtype if hasattr(buffer, "dtype") else memoryview(buffer).format
+
+
+def _axis(axis: SupportsIndex, axes: int) -> int:
+    """An axis, counted from the end where it is negative."""
+    number = as_int(axis)
+    if not -axes <= number < axes:
+        raise OutOfBoundsError("OutOfBounds", f"axis {number}: there are {axes} axes", number, {"axes": axes})
+    return number % axes
+
+
+def _steps_from(starts: Iterable[int], length: int, stride: int) -> Iterator[int]:
+    return (start + stride * step for start in starts for step in range(length))
+
+
+def _stepped(items: memoryview, start: int, length: int, stride: int) -> memoryview:
+    """A run of items, of any stride but 0 where it has several."""
+    if length > 1 and stride == 0:
+        raise ShapeError("Unsupported", "a memoryview can't have the stride 0")
+    step = stride or 1
+    stop = start + length * step
+    return items[start : None if stop < 0 else stop : step] if length else items[:0]

@@ -1,0 +1,180 @@
+"""Which layouts are accepted, where their indices lie, and in which order."""
+
+from __future__ import annotations
+
+from array import array
+from ctypes import c_size_t, c_void_p
+from math import prod
+from typing import Optional, SupportsIndex
+
+from . import _library as library
+from ._numbers import (
+    LIMIT,
+    ORDERS,
+    Lens,
+    Numbers,
+    Packed,
+    one_answer,
+    one_number,
+    order_number,
+    signed,
+    size,
+    unsigned,
+)
+
+
+def layout_start(
+    shape: Numbers, strides: Numbers, length: SupportsIndex, itemsize: SupportsIndex = 1, owned: bool = False
+) -> int:
+    """The start of a layout over `length` elements, at which its lowest place is 0.
+
+    Raises `ShapeError` for different counts of axes, `OverflowError` where the layout is too large, `IndexError` where
+    it spans more than the elements, and `ShapeError` where `owned` is true and it breaks the no-alias rule.
+
+    >>> layout_start((2, 3), (-3, 1), length=6)
+    3
+    >>> layout_start((2, 2), (3, 1), length=4)
+    Traceback (most recent call last):
+    ndarray_layout.OutOfBoundsError: the layout needs 5 elements of 4
+    """
+    start, sizes = one_number(), (size(itemsize, "item size"), size(length, "length"))
+    library.layout_start(*sizes, *unsigned(shape), *signed(strides), bool(owned), start)
+    return int(start[0])
+
+
+def check_layout(
+    start: SupportsIndex,
+    shape: Numbers,
+    strides: Numbers,
+    length: SupportsIndex,
+    itemsize: SupportsIndex = 1,
+    owned: bool = False,
+) -> None:
+    """Raises what `layout_start` does where a layout with this start doesn't lie within `length` elements.
+
+    >>> check_layout(3, (2, 2), (-2, 1), length=5)
+    >>> check_layout(1, (2, 2), (-2, 1), length=5)
+    Traceback (most recent call last):
+    ndarray_layout.OutOfBoundsError: the lowest place -1 is below 0
+    """
+    sizes = size(start, "start"), size(itemsize, "item size"), size(length, "length")
+    library.check_layout(*sizes, *unsigned(shape), *signed(strides), bool(owned))
+
+
+def has_overlap(shape: Numbers, strides: Numbers) -> bool:
+    """Whether a layout breaks the no-alias rule. One that keeps it has no two indices with one place.
+
+    >>> has_overlap((2, 3), (3, 1)), has_overlap((2, 3), (0, 1))
+    (False, True)
+    """
+    return _answer(library.has_overlap, unsigned(shape), signed(strides))
+
+
+def is_contiguous(shape: Numbers, strides: Numbers) -> bool:
+    """Whether the indices fill a stretch of the buffer without a gap, in any order of the axes.
+
+    >>> is_contiguous((2, 3), (-3, -1)), is_contiguous((5,), (2,))
+    (True, False)
+    """
+    return _answer(library.is_contiguous, unsigned(shape), signed(strides))
+
+
+def is_layout_c(shape: Numbers, strides: Numbers) -> bool:
+    """Whether the places follow one another in row-major order.
+
+    >>> is_layout_c((2, 3), (3, 1)), is_layout_c((2, 3), (1, 2))
+    (True, False)
+    """
+    return _answer(library.is_layout_c, unsigned(shape), signed(strides))
+
+
+def is_layout_f(shape: Numbers, strides: Numbers) -> bool:
+    """Whether the places follow one another in column-major order.
+
+    >>> is_layout_f((2, 3), (3, 1)), is_layout_f((2, 3), (1, 2))
+    (False, True)
+    """
+    return _answer(library.is_layout_f, unsigned(shape), signed(strides))
+
+
+def _answer(call: library.Call, lens: Packed, steps: Packed) -> bool:
+    answer = one_answer()
+    call(*lens, *steps, answer)
+    return bool(answer[0])
+
+
+def order_of(order: str, lens: Packed, steps: Packed) -> int:
+    """How the exports write an order. 'A' is 'F' for what is column-major and not row-major, else 'C', as in NumPy."""
+    if order in ORDERS:
+        return ORDERS[order]
+    if order not in ("A", "a"):
+        raise ValueError(f"order must be 'C', 'F' or 'A', not {order!r}")
+    return int(_answer(library.is_layout_f, lens, steps) and not _answer(library.is_layout_c, lens, steps))
+
+
+def default_strides(shape: Numbers) -> Lens:
+    """The row-major strides of a shape: the last axis moves fastest. All 0 where a length is 0.
+
+    >>> default_strides((2, 3, 4))
+    (12, 4, 1)
+    """
+    return _strides_by(library.default_strides, unsigned(shape))
+
+
+def fortran_strides(shape: Numbers) -> Lens:
+    """The column-major strides of a shape: the first axis moves fastest. All 0 where a length is 0.
+
+    >>> fortran_strides((2, 3, 4))
+    (1, 2, 6)
+    """
+    return _strides_by(library.fortran_strides, unsigned(shape))
+
+
+def _strides_by(call: library.Call, packed: Packed) -> Lens:
+    lens, axes = packed
+    strides = axes.signed_room()
+    call(lens, axes, strides, axes)
+    return axes.unpack_signed(strides)
+
+
+def place(start: SupportsIndex, shape: Numbers, strides: Numbers, index: Numbers) -> int:
+    """The place of an index. Raises `IndexError` where it is no index of the shape.
+
+    >>> place(3, (2, 3), (-3, 1), (1, 2))
+    2
+    >>> place(3, (2, 3), (-3, 1), (1, 3))
+    Traceback (most recent call last):
+    ndarray_layout.OutOfBoundsError: axis 1: index 3 is out of bounds of length 3
+    """
+    found = one_number()
+    library.place(size(start, "start"), *unsigned(shape), *signed(strides), *unsigned(index, "index"), found)
+    return int(found[0])
+
+
+def next_index(shape: Numbers, index: Numbers, order: str = "C") -> Optional[Lens]:
+    """The index after this one in an order, or `None` after the last one.
+
+    >>> next_index((2, 3), (0, 2)), next_index((2, 3), (0, 2), order="F"), next_index((2, 3), (1, 2))
+    ((1, 0), (1, 2), None)
+    """
+    first, axes = unsigned(index, "index")
+    coordinates, has_next = axes.unsigned_room.from_buffer_copy(first), one_answer()
+    library.next_index(*unsigned(shape), coordinates, axes, order_number(order), has_next)
+    return axes.unpack_unsigned(coordinates) if has_next[0] else None
+
+
+def places(start: SupportsIndex, shape: Numbers, strides: Numbers, order: str = "C") -> Lens:
+    """The places of all indices, in an order. Takes time and memory for each index.
+
+    The order 'A' is 'F' for a layout that is column-major and not row-major, else 'C'.
+
+    >>> places(3, (2, 3), (-3, 1))
+    (3, 4, 5, 0, 1, 2)
+    """
+    lens, steps, first = unsigned(shape), signed(strides), size(start, "start")
+    library.check_layout(first, c_size_t(1), c_size_t(LIMIT + 1), *lens, *steps, False)
+    count = prod(lens[1].unpack_unsigned(lens[0]))
+    found = array("Q", (0,)) * max(count, 1)
+    written = c_void_p(found.buffer_info()[0]), c_size_t(count)
+    library.places(first, *lens, *steps, order_of(order, lens, steps), *written)
+    return tuple(found) if count else ()

@@ -1,0 +1,104 @@
+"""Other shapes of a layout: broadcast, merged, reshaped, permuted."""
+
+from __future__ import annotations
+
+from typing import Optional, SupportsIndex
+
+from . import _library as library
+from ._layouts import order_of
+from ._numbers import (
+    Lens,
+    Numbers,
+    Packed,
+    one_answer,
+    signed,
+    size,
+    unsigned,
+)
+
+
+def co_broadcast(first: Numbers, second: Numbers) -> Lens:
+    """The common shape of two shapes, by NumPy's rule. Raises `ShapeError` where there is none.
+
+    >>> co_broadcast((2, 1), (3,))
+    (2, 3)
+    """
+    one, other = unsigned(first), unsigned(second)
+    axes = one[1] if one[1].value > other[1].value else other[1]
+    common = axes.unsigned_room()
+    library.common_shape(*one, *other, common, axes)
+    return axes.unpack_unsigned(common)
+
+
+def broadcast_strides(shape: Numbers, strides: Numbers, target: Numbers) -> Lens:
+    """The strides with which a layout is read as one of a shape that it can be broadcast to.
+
+    Raises `ShapeError` where it can't, then `OverflowError` where that shape is too large.
+
+    >>> broadcast_strides((2, 1), (5, 1), (3, 2, 4))
+    (0, 5, 0)
+    >>> broadcast_strides((2, 1), (5, 1), (3, 4))
+    Traceback (most recent call last):
+    ndarray_layout.ShapeError: IncompatibleShape: axis 0: length 2 can't be broadcast to 3
+    """
+    lens, axes = unsigned(target)
+    stretched = axes.signed_room()
+    library.broadcast_strides(*unsigned(shape), *signed(strides), lens, axes, stretched, axes)
+    return axes.unpack_signed(stretched)
+
+
+def merge_axes(
+    shape: Numbers, strides: Numbers, take: SupportsIndex, into: SupportsIndex
+) -> Optional[tuple[Lens, Lens]]:
+    """The shape and the strides after axis `take` is merged into axis `into`; `None` where no stride reaches both.
+
+    Raises `IndexError` for a missing axis, then `ShapeError` for one axis twice.
+
+    >>> merge_axes((2, 3), (3, 1), take=0, into=1)
+    ((1, 6), (3, 1))
+    >>> merge_axes((2, 3), (3, 1), take=1, into=0)
+    """
+    (lens, axes), (steps, count) = unsigned(shape), signed(strides)
+    new_lens, new_steps = axes.unsigned_room.from_buffer_copy(lens), count.signed_room.from_buffer_copy(steps)
+    merged = one_answer()
+    library.merge_axes(new_lens, axes, new_steps, count, size(take, "axis"), size(into, "axis"), merged)
+    return (axes.unpack_unsigned(new_lens), count.unpack_signed(new_steps)) if merged[0] else None
+
+
+def reshape_dim(shape: Numbers, strides: Numbers, new_shape: Numbers, order: str = "C") -> Lens:
+    """The strides of another shape with the same places in an order: no element is moved.
+
+    The order 'A' is 'F' for a layout that is column-major and not row-major, else 'C'. Raises `OverflowError` where
+    the new shape is too large, and `ShapeError` where no strides would do.
+
+    >>> reshape_dim((4, 4), (8, 1), (2, 2, 2, 2))
+    (16, 8, 2, 1)
+    >>> reshape_dim((4, 4), (8, 1), (2, 8))
+    Traceback (most recent call last):
+    ndarray_layout.ShapeError: IncompatibleLayout: axis 0: stride 8 isn't 4 times 1, the stride of axis 1
+    """
+    lens, steps = unsigned(shape), signed(strides)
+    return reshaped(lens, steps, unsigned(new_shape), order_of(order, lens, steps))
+
+
+def reshaped(lens: Packed, steps: Packed, new_lens: Packed, order: int) -> Lens:
+    """The strides of another shape, of lists that are packed."""
+    axes = new_lens[1]
+    new_steps = axes.signed_room()
+    library.reshape(*lens, *steps, order, *new_lens, new_steps, axes)
+    return axes.unpack_signed(new_steps)
+
+
+def permuted_axes(shape: Numbers, strides: Numbers, axes: Numbers) -> tuple[Lens, Lens]:
+    """The shape and the strides with the axes in another order: axis k is axis `axes[k]` of the layout.
+
+    Raises `ShapeError` where the list isn't each axis once.
+
+    >>> permuted_axes((2, 3, 4), (12, 4, 1), (2, 0, 1))
+    ((4, 2, 3), (1, 12, 4))
+    """
+    lens, count = unsigned(shape)
+    new_lens, new_steps = count.unsigned_room(), count.signed_room()
+    written = new_lens, count, new_steps, count
+    library.permute_axes(lens, count, *signed(strides), *unsigned(axes, "axis"), *written)
+    return count.unpack_unsigned(new_lens), count.unpack_signed(new_steps)

@@ -1,0 +1,135 @@
+"""Whether two parts of one buffer share a byte, where neither has to keep the no-alias rule.
+
+They do if and only if a sum of products has a given value: one product for each axis, of its stride and of a number
+from 0 to its length less 1. Whether there is such a sum is decided exactly, from the largest stride to the smallest.
+Only those numbers are tried that leave a rest which the smaller strides can reach, by its size and by their greatest
+common divisor.
+"""
+
+from __future__ import annotations
+
+from itertools import accumulate
+from math import gcd
+from typing import Iterator, NamedTuple, Optional, Sequence
+
+MAX_WORK = 100_000
+"""How many steps a comparison may take, of some 2 microseconds, where no other number is given."""
+
+
+class Part(NamedTuple):
+    """A part of a buffer, in bytes: a `View` has the same fields."""
+
+    start: int
+    shape: tuple[int, ...]
+    strides: tuple[int, ...]
+
+
+class _Term(NamedTuple):
+    """A product: of the stride, which is above 0, and of a number from 0 to the greatest."""
+
+    stride: int
+    greatest: int
+
+    @property
+    def reach(self) -> int:
+        return self.stride * self.greatest
+
+
+def share_byte(
+    first: tuple[int, Sequence[int], Sequence[int]],
+    second: tuple[int, Sequence[int], Sequence[int]],
+    itemsize: int,
+    max_work: Optional[int] = MAX_WORK,
+) -> Optional[bool]:
+    """Whether elements of two parts share a byte, or `None` where `max_work` steps don't decide.
+
+    >>> share_byte(Part(0, (3,), (16,)), Part(40, (3,), (-24,)), itemsize=8)
+    True
+    >>> share_byte(Part(0, (3,), (16,)), Part(24, (3,), (32,)), itemsize=8)
+    False
+    """
+    if 0 in first[1] or 0 in second[1]:
+        return False
+    distance, greatest = second[0] - first[0], dict[int, int]()
+    for sign, (_, shape, strides) in ((1, first), (-1, second)):
+        for length, stride in zip(shape, strides):
+            step = sign * stride
+            distance -= min(step, 0) * (length - 1)  # (counted down instead, the axis has a stride above 0)
+            greatest[abs(step)] = greatest.get(abs(step), 0) + length - 1
+    terms = [_Term(stride, number) for stride, number in sorted(greatest.items()) if stride and number]
+    return _reaches_near(terms, distance, itemsize, max_work)
+
+
+def _reaches_near(terms: list[_Term], distance: int, itemsize: int, max_work: Optional[int]) -> Optional[bool]:
+    """Whether a sum of the terms is less than the item size away from a distance. Ascending terms."""
+    unit = gcd(*[term.stride for term in terms]) or 1
+    lowest, highest = -(-(distance - itemsize + 1) // unit), (distance + itemsize - 1) // unit
+    if lowest > highest:
+        return False
+    in_units = [_Term(stride // unit, greatest) for stride, greatest in terms]
+    return _reaches(_joined([_Term(1, highest - lowest), *in_units]), highest, max_work)
+
+
+def _joined(terms: list[_Term]) -> list[_Term]:
+    """The same sums with fewer terms: the first ones as one, as long as they reach each multiple of their unit."""
+    terms = [term for term in terms if term.greatest]
+    while len(terms) > 1 and terms[1].stride % terms[0].stride == 0:
+        first, second = terms[:2]
+        if second.stride > first.reach + first.stride:
+            break
+        terms[:2] = [_Term(first.stride, (first.reach + second.reach) // first.stride)]
+    return terms
+
+
+class _Level:
+    """A term, and what the terms of smaller strides reach."""
+
+    def __init__(self, term: _Term, reach: int, divisor: int) -> None:
+        self.stride, self.greatest = term
+        self.reach = reach
+        self.common = gcd(self.stride, divisor)
+        self.period = divisor // self.common
+        self.inverse = pow(self.stride // self.common, -1, self.period) if divisor else 0
+
+    def numbers(self, wanted: int) -> range:
+        """The numbers that leave a rest within the reach of the others, and a multiple of their common divisor."""
+        if wanted % self.common:
+            return range(0)
+        lowest = max(-(-(wanted - self.reach) // self.stride), 0)
+        highest = min(wanted // self.stride, self.greatest)
+        first = wanted // self.common * self.inverse % self.period
+        return range(lowest + (first - lowest) % self.period, highest + 1, self.period)
+
+
+def _reaches(terms: list[_Term], wanted: int, max_work: Optional[int]) -> Optional[bool]:
+    """Whether a sum of ascending terms is the number that is wanted, or `None` past `max_work` steps."""
+    if len(terms) < 2:
+        stride, greatest = terms[0] if terms else (1, 0)
+        return wanted % stride == 0 and 0 <= wanted // stride <= greatest
+    levels = _levels(terms)
+    pending, seen, work = [_rests(levels, 0, wanted)], set[tuple[int, int]](), 0
+    while pending:
+        rest = next(pending[-1], None)
+        if rest is None:
+            pending.pop()
+        elif len(pending) == len(levels):
+            return True  # (the smallest stride divides the rest, and reaches it)
+        elif (len(pending), rest) not in seen:
+            seen.add((len(pending), rest))
+            pending.append(_rests(levels, len(pending), rest))
+        work += 1
+        if max_work is not None and work > max_work:
+            return None
+    return False
+
+
+def _levels(terms: list[_Term]) -> list[_Level]:
+    """All terms but the smallest, from the largest on."""
+    reaches = accumulate(term.reach for term in terms)
+    divisors = accumulate((term.stride for term in terms), gcd)
+    return [_Level(*level) for level in zip(terms[1:], reaches, divisors)][::-1]
+
+
+def _rests(levels: list[_Level], at: int, wanted: int) -> Iterator[int]:
+    level = levels[at]
+    return (wanted - number * level.stride for number in level.numbers(wanted))

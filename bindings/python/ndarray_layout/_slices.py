@@ -1,0 +1,263 @@
+"""Slices of one shape or layout, as the layer takes them, and as NumPy does."""
+
+from __future__ import annotations
+
+from ctypes import c_size_t
+from numbers import Integral
+from struct import error as StructError
+from typing import Any, Iterable, NamedTuple, Optional, Sequence, SupportsIndex, Union
+
+from . import _library as library
+from ._errors import OutOfBoundsError, SizeOverflowError, error_of_kind
+from ._numbers import (
+    INDEX,
+    LIMIT,
+    NEW_AXIS,
+    SLICE,
+    Count,
+    Lens,
+    Numbers,
+    Packed,
+    count_of,
+    element_head,
+    one_answer,
+    one_number,
+    said,
+    signed,
+    size,
+    unsigned,
+)
+from ._reasons import out_of_axis
+
+
+class Slice(NamedTuple):
+    """A range of coordinates of one axis, and the step from one pick to the next.
+
+    A negative bound counts from the end of the axis; a missing end is its length. With a negative step the first pick
+    is the last coordinate before the end.
+    """
+
+    start: int = 0
+    end: Optional[int] = None
+    step: int = 1
+
+
+Elem = Union[Slice, SupportsIndex, None]
+"""What a slice does with one axis: a range, one coordinate, or `None` for a new axis of length 1."""
+
+Elems = Iterable[Elem]
+"""What a slice does with all axes. A `Slice` is a tuple itself: alone it is one element and not three coordinates."""
+
+
+class View(NamedTuple):
+    """A layout, and the place of its first index."""
+
+    start: int
+    shape: Lens
+    strides: Lens
+
+
+_SLICE = element_head(SLICE, False)
+_SLICE_WITH_END = element_head(SLICE, True)
+_INDEX = element_head(INDEX, False)
+_NEW_AXIS = element_head(NEW_AXIS, False)
+
+
+def _packed(fields: Sequence[Any]) -> Packed:
+    """A list of elements, each of four numbers."""
+    try:
+        return count_of(len(fields)).pack_signed(*fields), count_of(len(fields) // 4)
+    except StructError:
+        return _packed_slowly(fields)
+
+
+def _packed_slowly(fields: Sequence[Any]) -> Packed:
+    """The same list, or the error of its first number without 64 bits."""
+    try:
+        return signed(fields)[0], count_of(len(fields) // 4)
+    except SizeOverflowError as error:
+        raise _past_64_bits(fields, error.axis or 0) from None
+
+
+def _past_64_bits(fields: Sequence[Any], at: int) -> SizeOverflowError:
+    element, field = divmod(at, 4)
+    name = "index" if fields[4 * element] == _INDEX else ("kind", "start", "end", "step")[field]
+    axis = sum(head != _NEW_AXIS for head in fields[: 4 * element : 4])
+    text = f"axis {axis}: {name} {said(fields[at])} is past 64 bits"
+    return SizeOverflowError("Overflow", text, axis, {name: fields[at]})
+
+
+def _fields_of(elems: Elems) -> list[Any]:
+    """The elements of a slice, each of them read once: the head, start, end and step of each."""
+    fields: list[Any] = []
+    for elem in (elems,) if isinstance(elems, Slice) else elems:
+        if isinstance(elem, Slice):
+            start, end, step = elem
+            fields += (_SLICE, start, 0, step) if end is None else (_SLICE_WITH_END, start, end, step)
+        else:
+            fields += (_NEW_AXIS, 0, 0, 1) if elem is None else (_INDEX, elem, 0, 1)
+    return fields
+
+
+def _axes_left(fields: Sequence[Any]) -> Count:
+    """How many axes a slice leaves."""
+    return count_of(len(fields) // 4 - fields[::4].count(_INDEX))
+
+
+def slice_view(start: SupportsIndex, shape: Numbers, strides: Numbers, elems: Elems, clamp: bool = False) -> View:
+    """The view that a slice leaves of a view: one range or index for each axis, and any new axes.
+
+    Raises `ShapeError` for another count of axes, `IndexError` for a bound or an index outside of its axis, and
+    `ShapeError` for a step of 0. Where `clamp` is true a bound outside is moved to the nearest end, an index never.
+
+    >>> slice_view(0, (2, 3), (3, 1), [1, Slice(step=-1)])
+    View(start=5, shape=(3,), strides=(-1,))
+    >>> slice_view(0, (2, 3), (3, 1), [1, Slice(0, 4)])
+    Traceback (most recent call last):
+    ndarray_layout.OutOfBoundsError: axis 1: bound 4 is past length 3
+    """
+    fields = _fields_of(elems)
+    return _sliced(size(start, "start"), unsigned(shape), signed(strides), fields, clamp)
+
+
+def _sliced(start: c_size_t, shape: Packed, strides: Packed, fields: Sequence[Any], clamp: bool) -> View:
+    axes = _axes_left(fields)
+    new_start, new_shape, new_strides = one_number(), axes.unsigned_room(), axes.signed_room()
+    written = new_start, new_shape, axes, new_strides, axes
+    library.slice_view(start, *shape, *strides, *_packed(fields), bool(clamp), *written)
+    return View(new_start[0], axes.unpack_unsigned(new_shape), axes.unpack_signed(new_strides))
+
+
+def slices_intersect(shape: Numbers, first: Elems, second: Elems, clamp: bool = False) -> bool:
+    """Whether two slices of one shape share an index: exact for all steps. Raises what `slice_view` does.
+
+    >>> slices_intersect((10,), [Slice(0, None, 9)], [Slice(3, None, 6)])
+    True
+    >>> slices_intersect((9,), [Slice(0, None, 9)], [Slice(3, None, 6)])
+    False
+    """
+    return intersect(unsigned(shape), _packed(_fields_of(first)), _packed(_fields_of(second)), bool(clamp))
+
+
+def intersect(shape: Packed, first: Packed, second: Packed, clamp: bool) -> bool:
+    answer = one_answer()
+    library.slices_intersect(*shape, *first, *second, clamp, answer)
+    return bool(answer[0])
+
+
+def picked(shape: Numbers, elems: Elems, clamp: bool = False) -> int:
+    """How many indices a slice leaves. Raises what `slice_view` does.
+
+    >>> picked((4, 5), [Slice(1), Slice(step=-2)])
+    9
+    """
+    count = one_number()
+    library.picked(*unsigned(shape), *_packed(_fields_of(elems)), bool(clamp), count)
+    return int(count[0])
+
+
+# ---- NumPy's keys
+
+
+def basic_key(shape: Sequence[int], key: Any) -> list[Elem]:
+    """A basic slice of NumPy, as `slice_view` takes it: the same coordinates of each axis in the same order.
+
+    A `Slice` among the keys, or alone, stays as it is. Raises `IndexError` and `ValueError` where NumPy does, and
+    `TypeError` for what is no integer, slice, `...` or `None`. NumPy takes booleans, lists and arrays by other rules.
+
+    >>> basic_key((4, 5), (slice(None, None, -2), None))
+    [Slice(start=0, end=4, step=-2), None, Slice(start=0, end=5, step=1)]
+    >>> basic_key((4, 5), Slice(1, None, -2))
+    [Slice(start=1, end=None, step=-2), Slice(start=0, end=5, step=1)]
+    """
+    fields = _key_fields(shape, key)
+    return [_elem_of(*fields[at : at + 4]) for at in range(0, len(fields), 4)]
+
+
+def _elem_of(head: int, start: int, end: int, step: int) -> Elem:
+    if head == _NEW_AXIS:
+        return None
+    if head == _INDEX:
+        return start
+    return Slice(start, end if head == _SLICE_WITH_END else None, step)
+
+
+def packed_key(shape: Sequence[int], key: Any) -> Packed:
+    """The elements of a basic slice of NumPy."""
+    return _packed(_key_fields(shape, key))
+
+
+def slice_by_key(start: int, shape: Lens, strides: Lens, key: Any) -> View:
+    """The view that a basic slice of NumPy leaves of a view."""
+    fields = _key_fields(shape, key)
+    return _sliced(size(start, "start"), unsigned(shape), signed(strides), fields, False)
+
+
+def _key_fields(shape: Sequence[int], key: Any) -> list[int]:
+    """The elements of a basic slice of NumPy, four numbers for each.
+
+    One slice or int for each axis is the usual key, and read without another call.
+    """
+    keys = key if type(key) is tuple else (key,)
+    fields: list[int] = []
+    if len(keys) != len(shape):
+        return _any_key_fields(shape, key)
+    for length, entry in zip(shape, keys):
+        if type(entry) is slice:
+            start, stop, step = entry.indices(length)
+            if 0 < step <= LIMIT:
+                fields += (_SLICE_WITH_END, start, stop, step)
+                continue
+            if -LIMIT <= step < 0:
+                fields += (_SLICE_WITH_END, stop + 1, start + 1, step)
+                continue
+        elif type(entry) is int and -length <= entry < length:
+            fields += (_INDEX, entry if entry >= 0 else entry + length, 0, 1)
+            continue
+        return _any_key_fields(shape, key)
+    return fields
+
+
+def _any_key_fields(shape: Sequence[int], key: Any) -> list[int]:
+    """`_key_fields` of any key, or its error."""
+    fields: list[int] = []
+    axis = 0
+    for entry in _one_for_each_axis(shape, key):
+        if entry is None:
+            fields += _fields_of((None,))
+        else:
+            fields += _basic_fields(axis, shape[axis], entry)
+            axis += 1
+    return fields
+
+
+def _one_for_each_axis(shape: Sequence[int], key: Any) -> list[Any]:
+    """The entries of a key, with whole axes in the place of `...`, or at the end."""
+    entries = list(key) if isinstance(key, tuple) and not isinstance(key, Slice) else [key]
+    given = sum(entry is not None and entry is not Ellipsis for entry in entries)
+    gaps = [k for k, entry in enumerate(entries) if entry is Ellipsis]
+    if given > len(shape):
+        numbers = {"indices": given, "axes": len(shape)}
+        raise OutOfBoundsError("OutOfBounds", f"{given} indices are too many for {len(shape)} axes", None, numbers)
+    if len(gaps) > 1:
+        raise OutOfBoundsError("OutOfBounds", f"{len(gaps)} of the indices are '...', where one may be")
+    gap = gaps[0] if gaps else len(entries)
+    entries[gap : gap + 1] = [slice(None)] * (len(shape) - given)
+    return entries
+
+
+def _basic_fields(axis: int, length: int, entry: Any) -> tuple[int, ...]:
+    """One entry of a key, for an axis."""
+    if isinstance(entry, slice):
+        start, stop, step = entry.indices(length)
+        if step > 0:
+            return (_SLICE_WITH_END, start, stop, min(step, LIMIT))
+        return (_SLICE_WITH_END, stop + 1, start + 1, max(step, -LIMIT))
+    if isinstance(entry, Slice):
+        return tuple(_fields_of(entry))
+    if not isinstance(entry, Integral) or isinstance(entry, bool):
+        raise TypeError(f"axis {axis}: {entry!r} is no basic slice")
+    index = int(entry)
+    if not -length <= index < length:
+        raise error_of_kind(*out_of_axis(axis, index, length))
+    return (_INDEX, index % length, 0, 1)

@@ -1,0 +1,227 @@
+"""`Layout`: what it accepts, what is made of it, and its arrays and memoryviews, beside the functions and NumPy.
+
+    python3 test_layout.py
+"""
+
+import array
+import copy
+import dataclasses
+import pickle
+import random
+import unittest
+
+import ndarray_layout as nd
+from ndarray_layout import Layout, Row, ShapeError, Slice
+
+try:
+    import numpy as np
+except ImportError:
+    np = None
+
+LAYOUTS = 20_000
+LEFT_OUT = "NumPy is missing: arrays of layouts are not compared"
+
+
+def setUpModule():
+    if np is None:
+        print(LEFT_OUT)
+
+
+class Accepted(unittest.TestCase):
+    def test_over(self):
+        self.assertEqual(Layout.over(6, (2, 3)), Layout(0, (2, 3), (3, 1), 6))
+        self.assertEqual(Layout.over(6, (2, 3), order="F"), Layout(0, (2, 3), (1, 2), 6))
+        self.assertEqual(Layout.over(6, (2, 3), (-3, 1), owned=True), Layout(3, (2, 3), (-3, 1), 6, True))
+        self.assertEqual(Layout.over(9, 3, 2, start=1), Layout(1, (3,), (2,), 9))
+        self.assertEqual(Layout.over(bytearray(24), (4, 6)).length, 24)
+        self.assertEqual(Layout.over(array.array("q", range(6)), (2, 3)).length, 6)
+        self.assertRaises(IndexError, Layout.over, 5, (2, 3))
+        self.assertRaises(IndexError, Layout.over, 6, 3, 2, start=2)
+        self.assertRaises(ShapeError, Layout.over, 9, (3, 2), (2, 3), owned=True)
+        self.assertRaises(OverflowError, Layout.over, array.array("q", [0]), (1, 3), (1, 2**60))
+        self.assertRaises(ValueError, Layout.over, 6, (2, 3), order="A")
+        self.assertRaises(TypeError, Layout.over, 6.0, (2, 3))
+
+    def test_every_layout_is_accepted(self):
+        """The constructor accepts too: none can be made that leaves its elements."""
+        for start, shape, strides, length in ((2, (2,), (1,), 3), (0, (2,), (-1,), 3), (0, (2,), (1, 1), 3)):
+            self.assertRaises((IndexError, ShapeError), Layout, start, shape, strides, length)
+        self.assertRaises(ShapeError, Layout, 0, (3, 2), (2, 3), 9, owned=True)
+        layout = Layout(0, [2, 3], iter((3, 1)), 6)
+        self.assertEqual((layout.shape, layout.strides), ((2, 3), (3, 1)))
+        for field in dataclasses.fields(layout):
+            with self.assertRaises(dataclasses.FrozenInstanceError):
+                setattr(layout, field.name, 0)
+        self.assertRaises(IndexError, dataclasses.replace, layout, length=5)
+
+    def test_copies(self):
+        layout = Layout.over(6, (2, 3), (-3, 1))[::-1, 1:]
+        for again in (
+            copy.copy(layout),
+            copy.deepcopy(layout),
+            pickle.loads(pickle.dumps(layout)),
+            eval(repr(layout)),
+        ):
+            self.assertEqual(again, layout)
+            self.assertEqual(hash(again), hash(layout))
+
+    def test_of(self):
+        view = memoryview(array.array("i", range(9)))
+        self.assertEqual(Layout.of(view[::-2]), Layout(8, (5,), (-2,), 9))
+        self.assertEqual(Layout.of(b"abc"), Layout(0, (3,), (1,), 3))
+        self.assertEqual(Layout.of(view.cast("B").cast("i", (3, 3))), Layout(0, (3, 3), (3, 1), 9))
+
+
+class Methods(unittest.TestCase):
+    LAYOUT = Layout.over(24, (2, 3, 4), owned=True)
+
+    def test_owned(self):
+        for made in (self.LAYOUT[1], self.LAYOUT.T, self.LAYOUT.reshape(-1), self.LAYOUT.slice([0, Slice(), Slice()])):
+            self.assertTrue(made.owned)
+            self.assertEqual(made.length, 24)
+        self.assertFalse(self.LAYOUT.broadcast_to((5, 2, 3, 4)).owned)
+        self.assertFalse(self.LAYOUT.has_overlap)
+        self.assertTrue(self.LAYOUT.broadcast_to((5, 2, 3, 4)).has_overlap)
+
+    def test_slices(self):
+        self.assertEqual(self.LAYOUT[1, ..., ::-2].places(), (15, 13, 19, 17, 23, 21))
+        self.assertEqual(self.LAYOUT[:99, None, 1:].shape, (2, 1, 2, 4))
+        self.assertRaises(IndexError, lambda: self.LAYOUT[2])
+        self.assertRaises(TypeError, lambda: self.LAYOUT[[0]])
+        self.assertRaises(TypeError, iter, self.LAYOUT)
+        self.assertRaises(IndexError, self.LAYOUT.slice, [Slice(0, 3), Slice(), Slice()])
+        self.assertEqual(self.LAYOUT.slice([Slice(0, 3), 0, 0], clamp=True).places(), (0, 12))
+
+    def test_shapes(self):
+        self.assertEqual(self.LAYOUT.reshape((4, -1)).shape, (4, 6))
+        self.assertEqual(self.LAYOUT.T.reshape(24, order="A").strides, (1,))
+        self.assertRaises(ShapeError, self.LAYOUT.T.reshape, 24)
+        self.assertEqual(self.LAYOUT.transpose(), self.LAYOUT.T)
+        self.assertEqual(self.LAYOUT.transpose(2, 0, 1), self.LAYOUT.permute((2, 0, 1)))
+        self.assertEqual(self.LAYOUT.transpose((-1, 0, 1)).shape, (4, 2, 3))
+        self.assertRaises(IndexError, self.LAYOUT.transpose, 3, 0, 1)
+        self.assertRaises(ShapeError, self.LAYOUT.transpose, 0, 0, 1)
+        self.assertEqual(Layout.over(1, ()).transpose().shape, ())
+        self.assertEqual((self.LAYOUT.ndim, self.LAYOUT.size), (3, 24))
+        self.assertEqual(
+            (self.LAYOUT.is_layout_c, self.LAYOUT.is_layout_f, self.LAYOUT.is_contiguous), (True, False, True)
+        )
+
+    def test_rows(self):
+        self.assertEqual(list(Layout.over(1, ()).rows()), [Row(0, 0, 1)])
+        self.assertEqual(list(Layout.over(1, (3, 0)).rows()), [])
+        self.assertEqual(next(Layout.over(3, 3).broadcast_to((2**61, 1, 3)).rows()), Row(0, 1, 3))
+        self.assertEqual(list(self.LAYOUT[:, ::2, ::-3].rows()), [Row(k, -3, 2) for k in (3, 11, 15, 23)])
+
+    def test_random_layouts(self):
+        """Rows have the places, and parts intersect where they share one."""
+        numbers = random.Random("layouts")
+        for _ in range(2_000):
+            shape = [numbers.choice((0, 1, 2, 3, 4, 3)) for _ in range(numbers.randint(0, 3))]
+            strides = [numbers.randint(-6, 6) for _ in shape]
+            layout = Layout.over(80, shape, strides)
+            places = layout.places()
+            rows = tuple(row.start + row.stride * k for row in layout.rows() for k in range(row.length))
+            self.assertEqual(rows, places)
+            self.assertEqual(tuple(layout.place(index) for index in indices(shape)), places)
+            keys = [
+                tuple(slice(numbers.randint(0, 2), None, numbers.choice((1, 2, -1))) for _ in shape) for _ in range(2)
+            ]
+            expected = bool(set(layout[keys[0]].places()) & set(layout[keys[1]].places()))
+            self.assertIs(layout.intersects(*keys), expected, (layout, keys))
+
+
+def indices(shape):
+    index = None if 0 in shape else (0,) * len(shape)
+    while index is not None:
+        yield index
+        index = nd.next_index(shape, index)
+
+
+class Memoryviews(unittest.TestCase):
+    ITEMS = array.array("i", range(12))
+
+    def test_out(self):
+        layout = Layout.over(self.ITEMS, (3, 4), owned=True)
+        self.assertEqual(layout.as_memoryview(self.ITEMS).tolist(), [[0, 1, 2, 3], [4, 5, 6, 7], [8, 9, 10, 11]])
+        self.assertEqual(layout[1:].as_memoryview(self.ITEMS).tolist(), [[4, 5, 6, 7], [8, 9, 10, 11]])
+        self.assertEqual(layout[1, 2].as_memoryview(self.ITEMS).tolist(), 6)
+        self.assertRaises(ShapeError, layout.T.as_memoryview, self.ITEMS)
+        self.assertRaises(ShapeError, Layout.over(12, 1).broadcast_to(3).as_memoryview, self.ITEMS)
+        self.assertRaises(IndexError, layout.as_memoryview, self.ITEMS[:11])
+
+    def test_one_axis(self):
+        for start in range(12):
+            for step in (-12, -5, -1, 1, 2, 7, 12):
+                expected = list(range(12))[start::step]
+                view = Layout.over(12, 12)[start::step].as_memoryview(self.ITEMS)
+                self.assertEqual(view.tolist(), expected)
+        self.assertEqual(Layout.over(12, 12)[5:5].as_memoryview(self.ITEMS).tolist(), [])
+
+    def test_there_and_back(self):
+        for step in (-5, -1, 2):
+            layout = Layout.over(12, 12)[::step]
+            view = layout.as_memoryview(self.ITEMS)
+            self.assertEqual(Layout.of(view).strides, layout.strides)
+
+    def test_only_to_be_read(self):
+        items = array.array("i", range(3))
+        self.assertTrue(Layout.over(3, 3).as_memoryview(items).readonly)
+        Layout.over(3, 3, owned=True).as_memoryview(items)[1] = 9
+        self.assertEqual(items.tolist(), [0, 9, 2])
+
+
+@unittest.skipIf(np is None, LEFT_OUT)
+class Arrays(unittest.TestCase):
+    def test_random_arrays(self):
+        """The array of a layout is the array that NumPy makes by the same keys."""
+        numbers, base = random.Random("arrays"), np.arange(360)
+        for _ in range(LAYOUTS):
+            shape = numbers.choice(((360,), (2, 180), (3, 4, 30), (5, 6, 12), (2, 3, 5, 12)))
+            expected, layout = base.reshape(shape), Layout.over(base, shape, owned=True)
+            axes = numbers.sample(range(len(shape)), len(shape))
+            expected, layout = expected.transpose(axes), layout.transpose(axes)
+            key = tuple(self.entry(numbers, length) for length in expected.shape)
+            expected, layout = expected[(*key, ...)], layout[key]
+            array = layout.as_array(base)
+            self.assertTrue(np.array_equal(array, expected), (shape, axes, key))
+            self.assertEqual((array.dtype, array.shape), (expected.dtype, expected.shape))
+            if array.size:
+                self.assertEqual(array.__array_interface__["data"][0], expected.__array_interface__["data"][0])
+                again = Layout.of(array)
+                self.assertEqual((again.shape, again.strides), (layout.shape, layout.strides))
+                low = array.__array_interface__["data"][0] // 8 - base.__array_interface__["data"][0] // 8
+                self.assertEqual(low - again.start, min(layout.places()))
+
+    def entry(self, numbers, length):
+        if length and numbers.random() < 0.2:
+            return numbers.randint(-length, length - 1)
+        return slice(numbers.choice((None, numbers.randint(-9, 9))), None, numbers.choice((None, 2, -1, -3)))
+
+    def test_only_to_be_read(self):
+        numbers = np.zeros(3)
+        self.assertFalse(Layout.over(3, 3).as_array(numbers).flags.writeable)
+        self.assertFalse(Layout.over(3, 3, owned=True).broadcast_to((2, 3)).as_array(numbers).flags.writeable)
+        Layout.over(3, 3, owned=True).as_array(numbers)[:] = 1
+        self.assertEqual(numbers.tolist(), [1, 1, 1])
+        self.assertFalse(Layout.over(3, 3, owned=True).as_array(b"abc").flags.writeable)
+
+    def test_room(self):
+        self.assertRaises(IndexError, Layout.over(4, 3).as_array, np.zeros(3))
+        self.assertRaises(IndexError, Layout.over(3, 3).as_array, b"abc", dtype=np.int16)
+        self.assertEqual(Layout.over(2, 2).as_array(b"\1\0\2\0", dtype="<i2").tolist(), [1, 2])
+        self.assertEqual(Layout.over(3, ()).as_array(np.arange(3)).tolist(), 0)
+        self.assertEqual(Layout.over(np.int16(6), 6).length, 6)
+        self.assertEqual(Layout.over(np.array(6), ()).length, 1)
+
+    def test_of(self):
+        a = np.arange(24, dtype=np.int32).reshape(2, 3, 4)
+        self.assertEqual(Layout.of(a[::-1, 1:, ::2]), Layout(12, (2, 2, 2), (-12, 4, 2), 19))
+        self.assertEqual(Layout.of(a[:, :0]).size, 0)
+        self.assertRaises(ShapeError, Layout.of, np.broadcast_to(a, (2, 2, 3, 4)), owned=True)
+        records = np.zeros(3, [("key", np.int32), ("text", "S3")])
+        self.assertRaises(ValueError, Layout.of, records["key"])
+
+
+if __name__ == "__main__":
+    unittest.main()
