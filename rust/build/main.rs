@@ -58,7 +58,12 @@ const ALLOWED: &[(&str, &[&str])] = &[
     ),
     (
         "what the kit has no form for",
-        &["clippy::comparison_to_empty", "clippy::partialeq_to_none", "clippy::unused_unit"],
+        &[
+            "clippy::comparison_to_empty",
+            "clippy::partialeq_to_none",
+            "clippy::unused_unit",
+            "clippy::unwrap_or_default",
+        ],
     ),
     ("a sequence is never asked whether it is empty", &["clippy::len_without_is_empty"]),
     (

@@ -160,8 +160,7 @@ fn small_slices(numbers: &mut Numbers, shape: &[usize]) -> Vec<Vec<SliceInfoElem
         SliceInfoElem::Slice { start: start as isize, end: Some(end as isize), step: numbers.pick(&step) }
     };
     let count = numbers.below(9);
-    let mut slices: Vec<Vec<_>> =
-        (0..count).map(|_| shape.iter().map(|len| elem(numbers, *len)).collect()).collect();
+    let mut slices: Vec<Vec<_>> = (0..count).map(|_| shape.iter().map(|len| elem(numbers, *len)).collect()).collect();
     if !shape.is_empty() && !numbers.once_in(4) {
         let axis = numbers.below(shape.len());
         slices.sort_by_key(|slice| start_of(slice, axis));
@@ -193,7 +192,8 @@ fn first_intersections_are_the_models() {
             let meets = |one: &[SliceInfoElem], other: &[SliceInfoElem]| {
                 model::slices_intersect(shape, one, other, *fit) == Some(Ok(true))
             };
-            let some = slices.iter().enumerate().any(|(at, one)| slices[at + 1..].iter().any(|other| meets(one, other)));
+            let some =
+                slices.iter().enumerate().any(|(at, one)| slices[at + 1..].iter().any(|other| meets(one, other)));
             yes.set(yes.get() + usize::from(some));
             Ok(some)
         },
