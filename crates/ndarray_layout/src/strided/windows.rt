@@ -16,7 +16,7 @@ impl<D: Lengths> Strided<D> {
     /// `window` is the shape of a window, one length for each axis. Index `i` in window `w` has the
     /// place of the index `w + i` of the view. An axis has `len - window + 1` windows, and none where
     /// the window is longer. The strides are those of the view, twice; without an index all are 0.
-    /// Windows overlap, so their places aren't distinct.
+    /// Windows may overlap, so their places need not be distinct.
     ///
     /// # Errors
     ///
