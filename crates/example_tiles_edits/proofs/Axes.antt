@@ -6,7 +6,8 @@ use Rattle.std.specs.Prelude.{IsFalse, ◌==◌}
 use Rattle.std.proofs.lemmas.Bool.{le-leb, ltb-true, ne_eqb}
 use Rattle.ndarray_layout.specs.declared.Fit.TheVariants.{Strict}
 use Rattle.ndarray_layout.specs.declared.Slice.{Slice}
-use Rattle.ndarray_layout.specs.Picks.{picks, slice_with}
+use Rattle.ndarray_layout.specs.Picks.{picks}
+use Rattle.ndarray_layout.specs.SliceBounds.{slice_with}
 use Rattle.ndarray_layout.specs.Signed.{magnitude}
 use Rattle.ndarray_layout.specs.AxisFault.{SliceFits}
 use Rattle.ndarray_layout.proofs.laws.Between.{pick_up, pick_down}

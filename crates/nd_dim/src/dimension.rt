@@ -18,10 +18,12 @@ ghost use Rattle.nd_dim.specs.LastLen.{last_len as last_of_lengths};
 ghost use Rattle.nd_dim.specs.OneInterval.{FillsInterval};
 ghost use Rattle.nd_dim.specs.Strides.{default_strides as default_strides_of, fortran_strides as fortran_strides_of, AreEquivalent};
 
-use crate::axis_edits::{insert_axis_into, last_len, remove_axis_into, set_last_len};
 use crate::contiguous::is_contiguous;
 use crate::conversion::IntoDimension;
+use crate::insert_axis::insert_axis_into;
+use crate::last_len::{last_len, set_last_len};
 use crate::next_index::{advance_column_major, advance_row_major};
+use crate::remove_axis::remove_axis_into;
 use crate::sizes::{checked_size, product};
 use crate::stride_axes::{max_stride_axis, min_stride_axis};
 use crate::stride_order::fill_stride_order;

@@ -2,12 +2,13 @@
 //! item of ndarray, it is that of ndarray 0.17.2.
 #![tactic(auto)]
 
-mod axis_edits;
 mod contiguous;
 mod conversion;
 mod dimension;
 mod dimensions;
 mod error;
+mod insert_axis;
+mod last_len;
 mod next_index;
 mod remove_axis;
 mod sequence;

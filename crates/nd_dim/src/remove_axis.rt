@@ -1,10 +1,20 @@
-//! Dimensions that have an axis to remove.
-ghost use Rattle.std.specs.Prelude.{◌≡◌, ◌-◌, ◌<◌, length, remove, IsOk, IfOk};
+//! Lengths with an axis less, and the dimensions that have an axis to remove.
+ghost use Rattle.std.specs.Prelude.{◌≡◌, ◌+◌, ◌-◌, ◌<◌, length, remove, IsOk, IfOk};
 ghost use Rattle.nd_base.specs.Lengths.{NeedsNoMemory};
 
 use crate::dimension::Dimension;
 use nd_base::{Axis, Ix1, Ix2, Ix3, Ix4, Ix5, Ix6, IxDyn};
 use std::alloc::{AllocError, Global};
+
+/// Writes the lengths without that of the axis `axis`.
+pub(crate) fn remove_axis_into(lens: &[usize], axis: usize, smaller: &mut [usize])
+    requires within { axis < length lens.now }
+    requires one_less { length smaller.old + 1 ≡ length lens.now }
+    ensures { smaller.new ≡ remove lens.now axis }
+{
+    smaller[..axis].copy_from_slice(&lens[..axis]);
+    smaller[axis..].copy_from_slice(&lens[axis + 1..]);
+}
 
 /// A dimension type that can have an axis to remove: all but that of no axes. ndarray's
 /// `RemoveAxis`.

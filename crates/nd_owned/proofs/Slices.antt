@@ -13,11 +13,11 @@ use Rattle.ndarray_layout.specs.declared.Fit.TheVariants.{Strict}
 use Rattle.ndarray_layout.specs.declared.Order.{Order}
 use Rattle.ndarray_layout.specs.declared.Order.TheVariants.{RowMajor}
 use Rattle.ndarray_layout.specs.SliceFault.{argument_fault}
-use Rattle.ndarray_layout.specs.SlicesIntersect.{AreApart}
+use Rattle.ndarray_layout.specs.FirstIntersection.{AreApart}
 use Rattle.ndarray_layout.specs.DistinctPlaces.{HasDistinctPlaces}
 use Rattle.ndarray_layout.specs.Indices.{indices_in, is_index}
 use Rattle.ndarray_layout.specs.Size.{size}
-use Rattle.ndarray_layout.specs.Sliced.{sliced_shape}
+use Rattle.ndarray_layout.specs.SlicedAxis.{sliced_shape}
 use Rattle.ndarray_layout.specs.SlicedView.{slice_of}
 use Rattle.ndarray_layout.specs.View.{View, IsView, place_at, view_places}
 use Rattle.ndarray_layout.proofs.laws.Indices.{All-indices_in, AllPairs-indices_in}

@@ -9,11 +9,11 @@ mod broadcast;
 mod indexes;
 mod layout;
 mod layout_order;
+mod low_span;
 mod merge;
 mod min_stride;
 mod ndindex;
 mod no_alias;
-mod offsets;
 mod shape_builder;
 mod size_limits;
 
@@ -29,9 +29,9 @@ pub use indexes::{
 };
 pub use layout::Layout;
 pub use layout_order::{is_layout_c, is_layout_f};
+pub use low_span::{low_span, offset_from_low_addr_ptr_to_logical_ptr};
 pub use merge::{merge_axes, merge_fitting};
 pub use min_stride::move_min_stride_axis_to_last;
 pub use ndindex::NdIndex;
 pub use no_alias::{dim_stride_overlap, has_overlap};
-pub use offsets::{low_span, offset_from_low_addr_ptr_to_logical_ptr};
 pub use shape_builder::{Shape, ShapeBuilder, StrideShape, Strides};

@@ -3,8 +3,8 @@ pub mod AxisFault
 pub mod Between
 pub mod Intersect
 pub mod Offsets
+pub mod PickOffsets
 pub mod PickSequences
-pub mod Picked
 pub mod Picks
 pub mod Selected
 pub mod SliceFault

@@ -7,7 +7,7 @@ use Rattle.nd_base.specs.Signed.{magnitude}
 use Rattle.nd_slice.specs.declared.fit.Fit.{Fit}
 use Rattle.nd_slice.specs.declared.fit.Fit.TheVariants.{Strict, Clamp}
 use Rattle.nd_slice.specs.declared.slice.Slice.{Slice}
-use Rattle.nd_slice.specs.Picks.{slice_with, meaning, is_bound, is_coordinate, start_meaning, end_meaning}
+use Rattle.nd_slice.specs.SliceBounds.{slice_with, meaning, is_bound, is_coordinate, start_meaning, end_meaning}
 
 -- both ends of the range of a slice are bounds of an axis of length len: numbers from 0 to len
 abbrev pub is_within : Fit → ℕ → Slice → Bool

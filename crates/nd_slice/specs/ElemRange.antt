@@ -5,7 +5,7 @@ use Rattle.nd_slice.specs.declared.fit.Fit.{Fit}
 use Rattle.nd_slice.specs.declared.fit.Fit.TheVariants.{Strict, Clamp}
 use Rattle.nd_slice.specs.declared.elem.SliceInfoElem.{SliceInfoElem}
 use Rattle.nd_slice.specs.declared.elem.SliceInfoElem.TheVariants as elem
-use Rattle.nd_slice.specs.Picks.{end_meaning, meaning, slice_with, start_meaning}
+use Rattle.nd_slice.specs.SliceBounds.{end_meaning, meaning, slice_with, start_meaning}
 
 -- where the range of an element begins on an axis of length len, counted from 0
 abbrev pub elem_start : Fit → ℕ → SliceInfoElem → ℕ

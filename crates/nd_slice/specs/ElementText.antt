@@ -1,7 +1,7 @@
 -- How the elements of a slice argument are written.
 use Rattle.std.specs.Prelude.{◌≡◌, ℕ, pos, negsuc, None, List, codes, refl}
 use Rattle.std.specs.Fmt.{digits, signed_decimal}
-use Rattle.nd_slice.specs.Picks.{slice_with}
+use Rattle.nd_slice.specs.SliceBounds.{slice_with}
 use Rattle.nd_slice.specs.SliceText.{slice_text}
 use Rattle.nd_slice.specs.declared.elem.SliceInfoElem.{SliceInfoElem}
 use Rattle.nd_slice.specs.declared.elem.SliceInfoElem.TheVariants as elem

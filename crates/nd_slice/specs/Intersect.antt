@@ -9,7 +9,8 @@ use Rattle.nd_base.specs.Signed.{magnitude}
 use Rattle.nd_slice.specs.declared.fit.Fit.{Fit}
 use Rattle.nd_slice.specs.declared.fit.Fit.TheVariants.{Strict}
 use Rattle.nd_slice.specs.AxisElems.{axis_elems}
-use Rattle.nd_slice.specs.Picks.{slice_with, meaning, picks}
+use Rattle.nd_slice.specs.Picks.{picks}
+use Rattle.nd_slice.specs.SliceBounds.{slice_with, meaning}
 use Rattle.nd_slice.specs.declared.elem.SliceInfoElem.{SliceInfoElem}
 use Rattle.nd_slice.specs.declared.elem.SliceInfoElem.TheVariants as elem
 

@@ -5,7 +5,8 @@ use Rattle.nd_slice.specs.declared.fit.Fit.{Fit}
 use Rattle.nd_slice.specs.declared.fit.Fit.TheVariants.{Strict, Clamp}
 use Rattle.nd_slice.specs.declared.elem.SliceInfoElem.{SliceInfoElem}
 use Rattle.nd_slice.specs.declared.elem.SliceInfoElem.TheVariants as elem
-use Rattle.nd_slice.specs.Picks.{slice_with, meaning, picks}
+use Rattle.nd_slice.specs.Picks.{picks}
+use Rattle.nd_slice.specs.SliceBounds.{slice_with, meaning}
 
 -- the index of a shape that an index of its slice stands for, read along the elements of an argument without fault: for a range
 -- the coordinate is a position among its picks, for a new axis it says nothing, and an index has none, since it names the coordinate itself

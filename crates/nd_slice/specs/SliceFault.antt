@@ -6,7 +6,7 @@ use Rattle.nd_base.specs.declared.error.ErrorKind.TheVariants.{IncompatibleShape
 use Rattle.nd_slice.specs.declared.fit.Fit.{Fit}
 use Rattle.nd_slice.specs.declared.fit.Fit.TheVariants.{Strict, Clamp}
 use Rattle.nd_slice.specs.AxisElems.{axis_elems}
-use Rattle.nd_slice.specs.Picks.{slice_with}
+use Rattle.nd_slice.specs.SliceBounds.{slice_with}
 use Rattle.nd_slice.specs.AxisFault.{slice_fault, index_fault}
 use Rattle.nd_slice.specs.declared.elem.SliceInfoElem.{SliceInfoElem}
 use Rattle.nd_slice.specs.declared.elem.SliceInfoElem.TheVariants as elem

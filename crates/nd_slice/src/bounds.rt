@@ -2,7 +2,7 @@
 ghost use Rattle.std.specs.Prelude.{◌≡◌, ◌≤◌, max, pos, ◌≤ℤ◌, ◌↔◌, IsOk, IfOk, OkIff, IsOkUnless, IsTrue};
 ghost use Rattle.std.specs.Result.{result_err};
 ghost use Rattle.nd_base.specs.Signed.{magnitude};
-ghost use Rattle.nd_slice.specs.Picks.{meaning, is_bound, bound_meaning, start_meaning, end_meaning};
+ghost use Rattle.nd_slice.specs.SliceBounds.{meaning, is_bound, bound_meaning, start_meaning, end_meaning};
 ghost use Rattle.nd_slice.specs.AxisFault.{slice_fault, index_fault, SliceFits};
 
 use crate::fit::Fit;

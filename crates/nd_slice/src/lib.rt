@@ -3,38 +3,36 @@
 #![tactic(auto)]
 
 mod arg;
-mod axis;
 mod axis_elems;
 mod bounds;
 mod collapse;
 mod elem;
 mod elems;
+mod first_intersection;
 mod fit;
 mod info;
 mod intersect;
-mod intersections;
 mod picks;
-mod ranges;
-mod resolve;
 mod slice;
 mod slice_errors;
-mod sweep;
+mod slice_range;
+mod sliced_axis;
+mod slices_in_order;
 
 pub use arg::SliceArg;
-pub use axis::do_slice;
 pub use axis_elems::AxisElems;
 pub use bounds::{abs_index, coordinate_of, to_abs_slice};
 pub use collapse::do_collapse_axis;
 pub use elem::{NewAxis, SliceInfoElem};
 pub use elems::SliceElems;
+pub use first_intersection::{first_elems_intersection, first_intersection};
 pub use fit::Fit;
 pub use info::SliceInfo;
 pub use intersect::{
     arith_seq_intersect, elems_intersect, extended_gcd, slices_intersect,
     solve_linear_diophantine_eq,
 };
-pub use intersections::{first_elems_intersection, first_intersection};
-pub use picks::AxisPicks;
-pub use resolve::{resolve_elem, resolve_slice, slice_min_max};
+pub use picks::{AxisPicks, resolve_elem, resolve_slice, slice_min_max};
 pub use slice::Slice;
 pub use slice_errors::{check_elems, check_slice, in_ndim_of, out_ndim_of};
+pub use sliced_axis::do_slice;

@@ -1,15 +1,26 @@
-//! What an element of a slice argument picks of an axis: how many coordinates, which, and where they lie.
-ghost use Rattle.std.specs.Prelude.{◌≡◌, ◌↔◌, ◌-◌, ◌*◌, ◌<◌, ◌≤◌, ◌^◌, pos, ◌≤ℤ◌, IsTrue, length, slice_index};
+//! What an element of a slice argument picks of an axis: how many coordinates, which, where they lie, and the errors of one that
+//! doesn't fit.
+ghost use Rattle.std.specs.Prelude.{◌≡◌, ◌↔◌, ◌-◌, ◌*◌, ◌<◌, ◌≤◌, ◌^◌, pos, ◌≤ℤ◌, IfOk, IsTrue, MatchOption, [], length, max, slice_index};
 ghost use Rattle.std.specs.List.{All, Contains};
+ghost use Rattle.std.specs.Result.{result_err};
 ghost use Rattle.nd_base.specs.Signed.{magnitude, signed as signed_reading};
 ghost use Rattle.nd_base.specs.Size.{limit};
 ghost use Rattle.nd_base.specs.Span.{reach};
-ghost use Rattle.nd_slice.specs.Picked.{picked_stride, first_offset};
-ghost use Rattle.nd_slice.specs.Picks.{between};
+ghost use Rattle.nd_slice.specs.AxisFault.{slice_fault, SliceFits};
+ghost use Rattle.nd_slice.specs.ElemRange.{elem_end, elem_start, elem_step};
+ghost use Rattle.nd_slice.specs.Intersect.{elem_picks};
+ghost use Rattle.nd_slice.specs.PickOffsets.{picked_stride, first_offset};
+ghost use Rattle.nd_slice.specs.Picks.{between, picks};
 ghost use Rattle.nd_slice.specs.PicksIntersect.{PicksIntersect};
+ghost use Rattle.nd_slice.specs.SliceBounds.{end_meaning, start_meaning};
+ghost use Rattle.nd_slice.specs.SliceFault.{elem_fault};
 
+use crate::bounds::{coordinate_of, to_abs_slice};
+use crate::elem::SliceInfoElem;
+use crate::fit::Fit;
 use crate::intersect::arith_seq_intersect;
-use nd_base::{signed, stride_offset, unsigned};
+use crate::slice::Slice;
+use nd_base::{ShapeError, signed, stride_offset, unsigned};
 
 /// The coordinates that an element of a slice argument picks of an axis: every |`step`|-th from `start` up to, not
 /// including, `end`, from the last one on where `step` is negative. None where `start` is `end`. The project's own.
@@ -152,5 +163,82 @@ impl AxisPicks {
             return false;
         }
         arith_seq_intersect(self.sequence(), other.sequence())
+    }
+}
+
+/// What a slice picks of an axis of `len` coordinates.
+///
+/// # Errors
+///
+/// Those of `to_abs_slice`.
+///
+/// `1..;-2` on an axis of 4: 1 to 4 with the step -2. The project's own.
+#[inline(always)]
+pub fn resolve_slice(len: usize, slice: Slice, fit: Fit) -> Result<AxisPicks, ShapeError>
+    ensures fault { result_err result ≡ slice_fault fit len slice }
+    ensures picks { IfOk result (λ p. between p.step p.start p.end ≡ picks fit len slice) }
+    ensures start { IfOk result (λ p. pos p.start ≡ start_meaning fit len slice) }
+    ensures end { IfOk result (λ p. p.end ≡ max p.start (magnitude (end_meaning fit len slice))) }
+    ensures within { IfOk result (λ p. p.end ≤ len) }
+    ensures step { IfOk result (λ p. p.step ≡ slice.step) }
+{
+    let (start, end, step) = to_abs_slice(len, slice, fit)?;
+    Ok(AxisPicks { start, end, step })
+}
+
+/// What an element picks of an axis of `len` coordinates: an index one coordinate, a new axis none.
+///
+/// # Errors
+///
+/// Those of `to_abs_slice` for a slice; `OutOfBounds` for an index that is not from `-len` to `len - 1`.
+///
+/// The index -1 on an axis of 4: 3 to 4 with the step 1. The project's own.
+#[inline(always)]
+pub fn resolve_elem(len: usize, elem: SliceInfoElem, fit: Fit) -> Result<AxisPicks, ShapeError>
+    ensures fault { result_err result ≡ elem_fault fit len elem }
+    ensures picks { IfOk result (λ p. between p.step p.start p.end ≡ elem_picks fit len elem) }
+    ensures start { IfOk result (λ p. p.start ≡ elem_start fit len elem) }
+    ensures end { IfOk result (λ p. p.end ≡ elem_end fit len elem) }
+    ensures step { IfOk result (λ p. p.step ≡ elem_step elem) }
+    ensures within { IfOk result (λ p. p.end ≤ len) }
+{
+    match elem {
+        SliceInfoElem::Slice { start, end, step } => {
+            resolve_slice(len, Slice { start, end, step }, fit)
+        }
+        SliceInfoElem::Index(index) => {
+            let start = coordinate_of(len, index)?;
+            Ok(AxisPicks {
+                start,
+                end: start + 1,
+                step: 1,
+            })
+        }
+        SliceInfoElem::NewAxis => Ok(AxisPicks {
+            start: 0,
+            end: 0,
+            step: 1,
+        }),
+    }
+}
+
+/// The least and the greatest coordinate that a slice picks of an axis of `len` coordinates; `None`
+/// where it picks none.
+///
+/// The caller ensures that the slice fits the axis.
+///
+/// `1..;-2` on an axis of 4: (1, 3). ndarray's `slice_min_max`.
+pub fn slice_min_max(len: usize, slice: Slice, fit: Fit) -> Option<(usize, usize)>
+    requires { SliceFits fit len slice }
+    ensures picks { MatchOption result (picks fit len slice ≡ [])
+        (λ (least, greatest). Contains (picks fit len slice) least
+        × Contains (picks fit len slice) greatest
+        × All (λ pick. (least ≤ pick) × (pick ≤ greatest)) (picks fit len slice)) }
+{
+    let picks = resolve_slice(len, slice, fit).unwrap();
+    if picks.start < picks.end {
+        Some(picks.ends())
+    } else {
+        None
     }
 }

@@ -7,7 +7,7 @@ use crate::axis_elems::AxisElems;
 use crate::elem::SliceInfoElem;
 use crate::elems::SliceElems;
 use crate::fit::Fit;
-use crate::resolve::resolve_elem;
+use crate::picks::resolve_elem;
 use nd_base::{ErrorKind, Lengths, ShapeError, from_kind};
 
 /// The number of axes of the shapes that a slice argument is for: one for each element but a new

@@ -68,7 +68,7 @@ pub use Rattle.nd_shape.specs.NoAliasPass
 pub use Rattle.nd_slice.specs.SliceFault
 pub use Rattle.nd_slice.specs.SliceRange
 pub use Rattle.nd_slice.specs.SlicesInOrder
-pub use Rattle.nd_slice.specs.SlicesIntersect
+pub use Rattle.nd_slice.specs.FirstIntersection
 pub use Rattle.nd_slice.specs.AxisElems
 pub use Rattle.nd_slice.specs.Counts
 pub use Rattle.nd_slice.specs.ElemRange
@@ -76,12 +76,12 @@ pub use Rattle.nd_slice.specs.ElementText
 pub use Rattle.nd_slice.specs.Equation
 pub use Rattle.nd_slice.specs.Kinds
 pub use Rattle.nd_slice.specs.Intersect
-pub use Rattle.nd_slice.specs.Picked
+pub use Rattle.nd_slice.specs.PickOffsets
 pub use Rattle.nd_slice.specs.Picks
 pub use Rattle.nd_slice.specs.PicksIntersect
-pub use Rattle.nd_slice.specs.Ranges
+pub use Rattle.nd_slice.specs.SliceBounds
 pub use Rattle.nd_slice.specs.Selected
 pub use Rattle.nd_slice.specs.Sequence
 pub use Rattle.nd_slice.specs.AxisFault
-pub use Rattle.nd_slice.specs.Sliced
+pub use Rattle.nd_slice.specs.SlicedAxis
 pub use Rattle.nd_slice.specs.SliceText

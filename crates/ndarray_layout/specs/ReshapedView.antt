@@ -12,7 +12,7 @@ use Rattle.nd_base.specs.Lengths.{NeedsNoMemory}
 use Rattle.nd_base.specs.FlatIndex.{index_of_flat_in, flat_index_in}
 use Rattle.nd_base.specs.Size.{is_empty, nonzero_size, limit}
 use Rattle.ndarray_layout.specs.reshape.ForcedStrides.{forced_strides}
-use Rattle.ndarray_layout.specs.reshape.Keeps.{Keeps}
+use Rattle.ndarray_layout.specs.reshape.SamePlaces.{Keeps}
 use Rattle.ndarray_layout.specs.reshape.ReshapeFault.{reshape_fault}
 use Rattle.ndarray_layout.specs.View.{View}
 

@@ -1,4 +1,4 @@
 -- What a session leaves of its devices.
+pub mod ReadWrite
 pub mod Session
 pub mod Watched
-pub mod Whole

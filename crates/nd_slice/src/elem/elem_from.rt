@@ -1,7 +1,7 @@
 //! Elements of a slice argument from ranges and numbers.
 ghost use Rattle.std.specs.Prelude.{◌≡◌, pos, Some, None};
 ghost use Rattle.std.specs.Range.{range_inclusive_start, range_inclusive_end};
-ghost use Rattle.nd_slice.specs.Ranges.{end_after};
+ghost use Rattle.nd_slice.specs.SliceBounds.{end_after};
 ghost use Rattle.nd_slice.specs.declared.elem.SliceInfoElem.TheVariants as elem_of;
 
 use super::{NewAxis, SliceInfoElem};

@@ -1,8 +1,8 @@
 //! Slices from ranges that need a condition.
 ghost use Rattle.std.specs.Prelude.{◌≡◌, ◌+◌, ◌<◌, ◌≤◌, pos, ◌<ℤ◌, Some, None};
 ghost use Rattle.nd_base.specs.Size.{limit};
-ghost use Rattle.nd_slice.specs.Picks.{slice_with};
-ghost use Rattle.nd_slice.specs.Ranges.{end_after};
+ghost use Rattle.nd_slice.specs.SliceBounds.{slice_with};
+ghost use Rattle.nd_slice.specs.SliceBounds.{end_after};
 
 use super::Slice;
 

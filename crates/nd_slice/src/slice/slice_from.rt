@@ -1,8 +1,8 @@
 //! Slices from ranges.
 ghost use Rattle.std.specs.Prelude.{◌≡◌, pos, Some, None};
 ghost use Rattle.std.specs.Range.{range_inclusive_start, range_inclusive_end};
-ghost use Rattle.nd_slice.specs.Picks.{slice_with};
-ghost use Rattle.nd_slice.specs.Ranges.{end_after};
+ghost use Rattle.nd_slice.specs.SliceBounds.{slice_with};
+ghost use Rattle.nd_slice.specs.SliceBounds.{end_after};
 
 use super::Slice;
 use std::ops::{Range, RangeFrom, RangeFull, RangeInclusive, RangeTo, RangeToInclusive};

@@ -17,7 +17,7 @@ use Rattle.nd_base.proofs.laws.AsRead.{length-as_read, as_read-as_read, size-as_
 use Rattle.nd_dim.specs.Strides.{size_after}
 use Rattle.ndarray_layout.specs.reshape.ForcedStrides.{forced_strides, offset_at_flat_index, stride_at}
 use Rattle.ndarray_layout.specs.reshape.Joints.{has_bad_joint}
-use Rattle.ndarray_layout.specs.reshape.Keeps.{Keeps, AgreeOnLonger}
+use Rattle.ndarray_layout.specs.reshape.SamePlaces.{Keeps, AgreeOnLonger}
 use Rattle.ndarray_layout.specs.reshape.ReshapeFault.{reshape_fault}
 use Rattle.ndarray_layout.proofs.matching.FlatOffsets.{length-index_of_flat}
 use Rattle.ndarray_layout.proofs.matching.Exact.{HaveAsMany, exactly}

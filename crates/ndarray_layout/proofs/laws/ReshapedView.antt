@@ -18,7 +18,7 @@ use Rattle.nd_base.proofs.laws.FlatIndex.{same_from_flat_index_in}
 use Rattle.nd_base.proofs.laws.Size.{size_of_empty, size_of_nonempty}
 use Rattle.nd_base.proofs.laws.Flipped.{least_offset, greatest_offset}
 use Rattle.ndarray_layout.specs.reshape.ForcedStrides.{forced_strides}
-use Rattle.ndarray_layout.specs.reshape.Keeps.{Keeps}
+use Rattle.ndarray_layout.specs.reshape.SamePlaces.{Keeps}
 use Rattle.ndarray_layout.specs.reshape.ReshapeFault.{reshape_fault}
 use Rattle.nd_base.proofs.laws.AsRead.{size-as_read}
 use Rattle.ndarray_layout.proofs.laws.Keeps.{alike-of-keeps, fault-exactly, forced-keeps, keeps-exactly, offset-as_read, size-of-keeps}

@@ -6,7 +6,7 @@ use Rattle.nd_base.proofs.laws.Definitions.{IsValidLayout}
 use Rattle.nd_base.proofs.laws.NonzeroSize.{nonzero_size_of_nonempty}
 use Rattle.nd_base.proofs.laws.AsRead.{length-as_read, as_read-as_read, size-as_read, is_empty-as_read, map-as_read, sum_over_axes-as_read}
 use Rattle.ndarray_layout.specs.reshape.ForcedStrides.{forced_strides, stride_at}
-use Rattle.ndarray_layout.specs.reshape.Keeps.{Keeps}
+use Rattle.ndarray_layout.specs.reshape.SamePlaces.{Keeps}
 use Rattle.ndarray_layout.specs.reshape.ReshapeFault.{reshape_fault, fault_as_read}
 use Rattle.ndarray_layout.specs.private.ReshapeProgress.{CanMatch, Layouts, fault_of, layouts}
 use Rattle.ndarray_layout.proofs.laws.Keeps.{fault-exactly, forced-keeps}

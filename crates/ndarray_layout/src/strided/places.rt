@@ -1,4 +1,4 @@
-//! The places of all indices of a view, as a list.
+//! The place of an index of a view, and a list of the places of all.
 ghost use Rattle.std.specs.List.{All};
 ghost use Rattle.std.specs.Option.{option_map};
 ghost use Rattle.std.specs.Prelude.{◌≡◌, ◌+◌, ◌<◌, ◌≤◌, ◌^◌, pos, ◌+ℤ◌, ◌*ℤ◌, ◌≤ℤ◌, ◌++◌, map, length, vec_len, vec_capacity, ℕ, IfOk, IsOk, Some, slice_get};
@@ -7,12 +7,13 @@ ghost use Rattle.nd_base.specs.Bounds.{IsInBounds};
 ghost use Rattle.nd_base.specs.Signed.{signed as signed_reading};
 ghost use Rattle.nd_base.specs.Size.{size, limit};
 ghost use Rattle.ndarray_layout.specs.Rows.{row_places, rows_places};
-ghost use Rattle.ndarray_layout.specs.View.{view_places, LiesWithin, place_at};
+ghost use Rattle.ndarray_layout.specs.View.{checked_place, view_places, LiesWithin, place_at};
 
 use crate::strided::Strided;
 use crate::strided::rows::{Row, Rows};
 use nd_base::{Lengths, Order, stride_offset, unsigned};
 use nd_dim::product;
+use nd_shape::NdIndex;
 use std::alloc::{AllocError, Global};
 
 /// Appends the places of rows, one row after another, to a list with room for them.
@@ -72,6 +73,17 @@ pub(super) fn offset_place(start: usize, offset: isize) -> usize
 }
 
 impl<D: Lengths> Strided<D> {
+    /// The place of an index, in elements from the start of the data; `None` where it is no index
+    /// of the shape.
+    ///
+    /// `[2,3]` with strides `[3,1]` from 0: (1,2) lies at 5, and (2,0) nowhere. The project's own.
+    pub fn place<I: NdIndex<D>>(&self, index: &I) -> Option<usize>
+        ensures { option_map pos result ≡ checked_place self.now (I.index_list index.now) }
+    {
+        let offset = index.index_checked(&self.dim, &self.strides)?;
+        Some(offset_place(self.start, offset))
+    }
+
     /// The places of all indices, in row-major order (the last axis moves fastest) or in
     /// column-major order (the first one does).
     ///

@@ -1,16 +1,14 @@
-//! What a view has, and where its indices lie.
+//! What a view has: its start, shape and strides.
 ghost use Rattle.std.specs.Iterator.{YieldsFirst, YieldsLast};
 ghost use Rattle.std.specs.Iterator.Runs.{YieldsInOrder, YieldsInReverse};
-ghost use Rattle.std.specs.Option.{option_map};
-ghost use Rattle.std.specs.Prelude.{◌≡◌, ◌<◌, pos, Some};
+ghost use Rattle.std.specs.Prelude.{◌≡◌};
 ghost use Rattle.nd_base.specs.Signed.{all_signed};
 ghost use Rattle.nd_shape.specs.Axes.{axes, axes_left};
-ghost use Rattle.ndarray_layout.specs.View.{IsView, checked_place};
+ghost use Rattle.ndarray_layout.specs.View.{IsView};
 
 use crate::strided::Strided;
-use crate::strided::places::offset_place;
 use nd_base::Lengths;
-use nd_shape::{Axes, NdIndex, axes_of};
+use nd_shape::{Axes, axes_of};
 
 impl<D: Lengths> Strided<D> {
     /// The place of the first index, in elements from the start of the data. The project's own.
@@ -51,16 +49,5 @@ impl<D: Lengths> Strided<D> {
         ensures is_view { IsView self.now }
     {
         axes_of(&self.dim, &self.strides)
-    }
-
-    /// The place of an index, in elements from the start of the data; `None` where it is no index
-    /// of the shape.
-    ///
-    /// `[2,3]` with strides `[3,1]` from 0: (1,2) lies at 5, and (2,0) nowhere. The project's own.
-    pub fn place<I: NdIndex<D>>(&self, index: &I) -> Option<usize>
-        ensures { option_map pos result ≡ checked_place self.now (I.index_list index.now) }
-    {
-        let offset = index.index_checked(&self.dim, &self.strides)?;
-        Some(offset_place(self.start, offset))
     }
 }

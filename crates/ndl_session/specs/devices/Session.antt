@@ -10,7 +10,7 @@ use Rattle.ndarray_layout.specs.Run.{Outcome}
 use Rattle.ndl_session.specs.Answer.{Reply, answer_of, reply_to_reading, reply_to_run, reply_to_steps, unless, view_of_layout}
 use Rattle.ndl_session.specs.script.Script.{ScriptValue, script_of}
 use Rattle.ndl_session.specs.text.Bytes.{line_feed}
-use Rattle.ndl_session.specs.devices.Whole.{AppendsBeginning}
+use Rattle.ndl_session.specs.devices.ReadWrite.{AppendsBeginning}
 
 -- the whole text where a read failed
 abbrev pub input_failed_text : List ℕ

@@ -5,7 +5,7 @@
 ghost use Rattle.std.specs.Prelude.{◌≡◌, ◌≢◌, ◌≤◌, ◌↔◌, ◌⊎◌, ℕ, List, true, false, Err, IfOk, IsTrue, OnOk};
 ghost use Rattle.std.specs.Io.KnownBytes.{Appends, IsAtEnd};
 ghost use Rattle.ndl_session.specs.Answer.{answer_of, IsReply};
-ghost use Rattle.ndl_session.specs.devices.Whole.{AppendsBeginning};
+ghost use Rattle.ndl_session.specs.devices.ReadWrite.{AppendsBeginning};
 ghost use Rattle.ndl_session.specs.devices.Session.{AppendsAnswer, AppendsAnswerBeginning, IsInput};
 ghost use Rattle.ndl_session.specs.devices.Session.{input_failed_text, out_of_memory_text};
 ghost use Rattle.ndl_session.specs.devices.Watched.{device, has_ended, has_failed, was_used_late};
@@ -13,7 +13,7 @@ ghost use Rattle.ndl_session.specs.devices.Watched.{lacks_room, was_read_without
 
 use crate::answer::{Answer, answer_to};
 use crate::devices::watched::Watched;
-use crate::devices::whole::{InputError, read_whole, write_whole};
+use crate::devices::read_write::{InputError, read_whole, write_whole};
 use std::alloc::Global;
 use std::io;
 

@@ -1,0 +1,14 @@
+-- Where each slice shares no index with one that is read after it, no two do.
+use Rattle.std.proofs.Common.{map, below_more, arith}
+use Rattle.std.proofs.lemmas.List.{length-map}
+use Rattle.nd_slice.proofs.Slices.{all_apart}
+use Rattle.nd_slice.proofs.first_intersection.first_in_direction.Goals as goal
+
+pub loop-place-preserved : goal.loop-place-preserved
+loop-place-preserved g c = below_more _ _ c.loop-place.invariant c.in_default.ensures.none
+
+pub returns : goal.returns
+returns g c = all_apart c.args.fit c.args.shape.now (map g.S.SliceElems.list c.args.slices.now) g.R.Direction.backwards
+    (λ place later order below. c.loop-place.invariant place
+    (omega (arith, order, below, c.loop-place-test.false, length-map c.args.slices.now g.S.SliceElems.list)) later order
+    (omega (arith, below, length-map c.args.slices.now g.S.SliceElems.list)))

@@ -1,7 +1,0 @@
--- The slices so far begin in their order, and none after the last of them.
-use Rattle.std.proofs.Common.{map}
-use Rattle.nd_slice.proofs.Slices.{SoFar}
-use Rattle.nd_slice.proofs.sweep.are_in_order.Given as goal
-
-abbrev pub invariant-loop-place : goal.invariant-loop-place
-invariant-loop-place g l = SoFar l.fit l.shape (map g.S.SliceElems.list l.slices) g.R.Direction.backwards l.axis l.place l.last

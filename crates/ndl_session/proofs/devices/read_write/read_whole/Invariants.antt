@@ -1,0 +1,19 @@
+-- No read has failed so far, none has found the end unless one did before, no room was lacking unless it was before, and what was
+-- read stands in `bytes`, whose length grows.
+use Rattle.std.proofs.Common.{◌≡◌, ◌-◌, ◌^◌, false, vec_len}
+use Rattle.std.specs.Io.KnownBytes.{Consumes}
+use Rattle.ndl_session.specs.devices.Watched.{device, has_ended, has_failed, was_used_late, lacks_room, was_read_without_room}
+use Rattle.ndl_session.proofs.devices.read_write.read_whole.Given as goal
+
+abbrev pub invariant-loop-bytes : goal.invariant-loop-bytes
+invariant-loop-bytes g l = record {
+  intact : has_failed l.reader ≡ false;
+  unended : has_ended l.initial.reader ≡ false → has_ended l.reader ≡ false;
+  on_time : has_ended l.initial.reader ≡ false → was_used_late l.reader ≡ was_used_late l.initial.reader;
+  room : lacks_room l.initial.reader ≡ false → lacks_room l.reader ≡ false;
+  with_room : lacks_room l.initial.reader ≡ false → was_read_without_room l.reader ≡ was_read_without_room l.initial.reader;
+  read : Consumes (g.R.Read.remaining (device l.initial.reader)) (g.R.Read.remaining (device l.reader)) l.bytes.items;
+}
+
+abbrev pub decreases-loop-bytes : goal.decreases-loop-bytes
+decreases-loop-bytes g l = 2 ^ 64 - vec_len l.bytes

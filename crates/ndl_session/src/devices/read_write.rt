@@ -1,0 +1,99 @@
+//! Reads a device to its end, and writes a whole text to one.
+//!
+//! `Read` and `Write` are not in scope here: each read and each write goes through `read_on` and
+//! `write_on`, which require that no call before it failed.
+ghost use Rattle.std.specs.Prelude.{◌≡◌, ◌↔◌, true, false, Err, IfOk, IfSome, IsTrue, OnOk};
+ghost use Rattle.std.specs.Io.KnownBytes.{Appends, IsAtEnd};
+ghost use Rattle.ndl_session.specs.devices.ReadWrite.{AppendsBeginning};
+ghost use Rattle.ndl_session.specs.devices.Watched.{device, has_ended, has_failed, was_used_late};
+ghost use Rattle.ndl_session.specs.devices.Watched.{lacks_room, was_read_without_room};
+ghost use Rattle.ndl_session.specs.declared.devices.read_write.InputError.TheVariants.{ReadFailed, OutOfMemory};
+
+use crate::devices::watched::Watched;
+use std::alloc::{AllocError, Global};
+use std::io;
+
+/// Why an input was not read whole.
+#[derive(Clone, Copy)]
+pub(super) enum InputError {
+    /// A read returned an error.
+    ReadFailed,
+    /// An allocation for the bytes failed.
+    OutOfMemory,
+}
+
+impl From<io::Error> for InputError {
+    ghost from_gives = { λ _ e. e ≡ ReadFailed };
+
+    fn from(_error: io::Error) -> InputError {
+        InputError::ReadFailed
+    }
+}
+
+impl From<AllocError> for InputError {
+    ghost from_gives = { λ _ e. e ≡ OutOfMemory };
+
+    fn from(_error: AllocError) -> InputError {
+        InputError::OutOfMemory
+    }
+}
+
+/// How many bytes one read asks for.
+const PIECE_LEN: usize = 8192;
+
+/// Reads all the bytes that are left, up to the first read that gives 0 bytes.
+///
+/// The caller ensures that no read or write of the device has failed before.
+///
+/// Errors: `ReadFailed` at the first read that fails, an interrupted one too; `OutOfMemory` where the
+/// bytes read so far do not fit into memory. Nothing more is read then, nor after the end.
+pub(super) fn read_whole<R: io::Read>(
+    alloc: Global,
+    reader: &mut Watched<R>,
+) -> Result<Vec<u8>, InputError>
+    requires { has_failed reader.old ≡ false }
+    ensures bytes { IfOk result (λ bytes. IfSome (R.remaining (device reader.old))
+        (λ all. bytes.items ≡ all)) }
+    ensures end { OnOk result (IsAtEnd (R.remaining (device reader.new))) }
+    ensures failed { IsTrue (has_failed reader.new) ↔ (result ≡ Err InputError.ReadFailed) }
+    ensures ended { OnOk result (has_ended reader.new ≡ true) }
+    ensures late { has_ended reader.old ≡ false
+        → was_used_late reader.new ≡ was_used_late reader.old }
+    ensures room { result ≡ Err InputError.OutOfMemory → lacks_room reader.new ≡ true }
+    ensures memory { lacks_room reader.old ≡ false → lacks_room reader.new ≡ true
+        → result ≡ Err InputError.OutOfMemory }
+    ensures no_room { lacks_room reader.old ≡ false
+        → was_read_without_room reader.new ≡ was_read_without_room reader.old }
+{
+    let mut bytes = Vec::new(alloc);
+    let mut piece = [0u8; PIECE_LEN];
+    loop {
+        let count = reader.read_on(&mut piece)?;
+        if count == 0 {
+            return Ok(bytes);
+        }
+        reader.keep(&mut bytes, &piece[..count])?;
+    }
+}
+
+/// Writes the whole text, or a beginning of it where a write fails.
+///
+/// The caller ensures that no read or write of the device has failed before. After a write that
+/// returns an error, an interrupted one too, or that takes no byte, nothing more is written; the
+/// device has failed then.
+pub(super) fn write_whole<W: io::Write>(writer: &mut Watched<W>, text: &[u8])
+    requires { has_failed writer.old ≡ false }
+    ensures whole { has_failed writer.new ≡ false → Appends (W.contents (device writer.old))
+        (W.contents (device writer.new)) text.now }
+    ensures cut { has_failed writer.new ≡ true → AppendsBeginning
+        (W.contents (device writer.old)) (W.contents (device writer.new)) text.now }
+    ensures late { was_used_late writer.new ≡ was_used_late writer.old }
+{
+    let mut written = 0;
+    while written < text.len() {
+        match writer.write_on(&text[written..]) {
+            Ok(taken) if taken > 0 => written += taken,
+            _ => return,
+        }
+    }
+}
