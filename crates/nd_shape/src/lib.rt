@@ -9,7 +9,7 @@ mod broadcast;
 mod indexes;
 mod layout;
 mod layout_order;
-mod low_span;
+mod layout_start;
 mod merge;
 mod min_stride;
 mod ndindex;
@@ -29,7 +29,7 @@ pub use indexes::{
 };
 pub use layout::Layout;
 pub use layout_order::{is_layout_c, is_layout_f};
-pub use low_span::{low_span, offset_from_low_addr_ptr_to_logical_ptr};
+pub use layout_start::{low_span, offset_from_low_addr_ptr_to_logical_ptr};
 pub use merge::{merge_axes, merge_fitting};
 pub use min_stride::move_min_stride_axis_to_last;
 pub use ndindex::NdIndex;

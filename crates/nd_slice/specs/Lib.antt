@@ -4,7 +4,7 @@ pub mod Counts
 pub mod ElemRange
 pub mod ElementText
 pub mod Equation
-pub mod FirstIntersection
+pub mod Intersections
 pub mod Intersect
 pub mod Kinds
 pub mod PickOffsets

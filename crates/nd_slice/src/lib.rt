@@ -8,10 +8,10 @@ mod bounds;
 mod collapse;
 mod elem;
 mod elems;
-mod first_intersection;
 mod fit;
 mod info;
 mod intersect;
+mod intersections;
 mod picks;
 mod slice;
 mod slice_errors;
@@ -25,13 +25,13 @@ pub use bounds::{abs_index, coordinate_of, to_abs_slice};
 pub use collapse::do_collapse_axis;
 pub use elem::{NewAxis, SliceInfoElem};
 pub use elems::SliceElems;
-pub use first_intersection::{first_elems_intersection, first_intersection};
 pub use fit::Fit;
 pub use info::SliceInfo;
 pub use intersect::{
     arith_seq_intersect, elems_intersect, extended_gcd, slices_intersect,
     solve_linear_diophantine_eq,
 };
+pub use intersections::{first_elems_intersection, first_intersection};
 pub use picks::{AxisPicks, resolve_elem, resolve_slice, slice_min_max};
 pub use slice::Slice;
 pub use slice_errors::{check_elems, check_slice, in_ndim_of, out_ndim_of};

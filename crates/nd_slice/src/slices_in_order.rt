@@ -3,7 +3,7 @@ ghost use Rattle.std.specs.Prelude.{◌≡◌, ℕ, ◌<◌, ◌≤◌, Bool, tr
 ghost use Rattle.nd_slice.specs.declared.fit.Fit.{Fit};
 ghost use Rattle.nd_slice.specs.SliceFault.{argument_fault};
 ghost use Rattle.nd_slice.specs.SliceRange.{end_on, start_on};
-ghost use Rattle.nd_slice.specs.FirstIntersection.{slices_fault};
+ghost use Rattle.nd_slice.specs.Intersections.{slices_fault};
 ghost use Rattle.nd_slice.specs.SlicesInOrder.{AreInOrder, position_of, slice_at};
 
 use crate::elem::SliceInfoElem;

@@ -68,7 +68,7 @@ pub use Rattle.nd_shape.specs.NoAliasPass
 pub use Rattle.nd_slice.specs.SliceFault
 pub use Rattle.nd_slice.specs.SliceRange
 pub use Rattle.nd_slice.specs.SlicesInOrder
-pub use Rattle.nd_slice.specs.FirstIntersection
+pub use Rattle.nd_slice.specs.Intersections
 pub use Rattle.nd_slice.specs.AxisElems
 pub use Rattle.nd_slice.specs.Counts
 pub use Rattle.nd_slice.specs.ElemRange

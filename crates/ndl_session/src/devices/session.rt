@@ -12,8 +12,8 @@ ghost use Rattle.ndl_session.specs.devices.Watched.{device, has_ended, has_faile
 ghost use Rattle.ndl_session.specs.devices.Watched.{lacks_room, was_read_without_room};
 
 use crate::answer::{Answer, answer_to};
-use crate::devices::watched::Watched;
 use crate::devices::read_write::{InputError, read_whole, write_whole};
+use crate::devices::watched::Watched;
 use std::alloc::Global;
 use std::io;
 

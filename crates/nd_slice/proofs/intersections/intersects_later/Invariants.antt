@@ -1,7 +1,7 @@
 -- The slices that were read so far after the one share no index with it.
 use Rattle.std.proofs.Common.{ℕ, ◌<◌, map}
 use Rattle.nd_slice.proofs.Definitions.{AreApart, slice_at}
-use Rattle.nd_slice.proofs.first_intersection.intersects_later.Given as goal
+use Rattle.nd_slice.proofs.intersections.intersects_later.Given as goal
 
 abbrev pub invariant-loop-later : goal.invariant-loop-later
 invariant-loop-later g l = (k : ℕ) → k < l.later → l.place < k

@@ -3,8 +3,8 @@ use Rattle.std.proofs.lemmas.List.{length_push}
 use Rattle.nd_base.proofs.laws.Definitions.{all_signed, signed, reach_down}
 use Rattle.nd_base.proofs.laws.Span.{sum_from, low_high_span}
 use Rattle.nd_shape.proofs.SumLoop.{sum_at_turn, sum_at_end}
-use Rattle.nd_shape.proofs.low_span.low_span.Goals as goal
-use Rattle.nd_shape.proofs.low_span.low_span.Goals.{In-Some}
+use Rattle.nd_shape.proofs.layout_start.low_span.Goals as goal
+use Rattle.nd_shape.proofs.layout_start.low_span.Goals.{In-Some}
 
 pub returns : goal.returns
 returns c =

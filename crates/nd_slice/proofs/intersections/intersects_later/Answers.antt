@@ -5,7 +5,7 @@ use Rattle.std.proofs.lemmas.Bool.{cases_lt, false≢true}
 use Rattle.std.proofs.lemmas.List.{length-map}
 use Rattle.nd_slice.proofs.Definitions.{AreApart, Intersect, slice_at, start_on}
 use Rattle.nd_slice.proofs.Slices.{apart_in_order}
-use Rattle.nd_slice.proofs.first_intersection.intersects_later.Goals as goal
+use Rattle.nd_slice.proofs.intersections.intersects_later.Goals as goal
 
 pub returns-then-begins_past-clause-none : goal.returns-then-begins_past-clause-none
 returns-then-begins_past-clause-none g c = λ k after below.

@@ -3,7 +3,7 @@ ghost use Rattle.std.specs.Prelude.{◌≡◌, ◌<◌, ◌^◌, ℕ, None, IfNo
 ghost use Rattle.std.specs.List.{All};
 ghost use Rattle.std.specs.Result.{result_err};
 ghost use Rattle.nd_slice.specs.Intersect.{Intersect};
-ghost use Rattle.nd_slice.specs.FirstIntersection.{AreApart, IsIntersection, slices_fault};
+ghost use Rattle.nd_slice.specs.Intersections.{AreApart, IsIntersection, slices_fault};
 ghost use Rattle.nd_slice.specs.SlicesInOrder.{AreInOrder, slice_at};
 
 use crate::elems::SliceElems;

@@ -2,7 +2,7 @@
 use Rattle.std.proofs.Common.{map, below_more, arith}
 use Rattle.std.proofs.lemmas.List.{length-map}
 use Rattle.nd_slice.proofs.Slices.{all_apart}
-use Rattle.nd_slice.proofs.first_intersection.first_in_direction.Goals as goal
+use Rattle.nd_slice.proofs.intersections.first_in_direction.Goals as goal
 
 pub loop-place-preserved : goal.loop-place-preserved
 loop-place-preserved g c = below_more _ _ c.loop-place.invariant c.in_default.ensures.none

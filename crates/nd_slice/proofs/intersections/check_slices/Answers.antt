@@ -4,7 +4,7 @@ use Rattle.std.specs.Option.{option_or}
 use Rattle.std.specs.Result.{result_err}
 use Rattle.nd_slice.proofs.Definitions.{argument_fault, slices_fault}
 use Rattle.nd_slice.proofs.Slices.{ended, next}
-use Rattle.nd_slice.proofs.first_intersection.check_slices.Goals as goal
+use Rattle.nd_slice.proofs.intersections.check_slices.Goals as goal
 
 pub returns-in_err-check_elems : goal.returns-in_err-check_elems
 returns-in_err-check_elems g c =
