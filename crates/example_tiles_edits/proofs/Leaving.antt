@@ -8,7 +8,7 @@ use Rattle.ndarray_layout.specs.declared.SliceInfoElem.TheVariants as elem
 use Rattle.ndarray_layout.specs.Descends.{Descends}
 use Rattle.ndarray_layout.specs.Indices.{is_index}
 use Rattle.ndarray_layout.specs.Selected.{selected}
-use Rattle.ndarray_layout.specs.SlicedAxis.{sliced_shape}
+use Rattle.ndarray_layout.specs.SlicedLayout.{sliced_shape}
 use Rattle.ndarray_layout.specs.SlicedView.{slice_of, view_slice_fault}
 use Rattle.ndarray_layout.specs.View.{View, place_at}
 use Rattle.ndarray_layout.proofs.laws.Picks.{pick_below}

@@ -7,7 +7,7 @@ use Rattle.nd_base.proofs.laws.Definitions.{is_index, farthest_offset, size}
 use Rattle.nd_base.proofs.laws.Coordinates.{farthest_offset-set, is_index-set, size-set}
 use Rattle.nd_base.proofs.laws.IsIndex.{coordinate_of_index, is_index_from_coordinates, length_of_index}
 use Rattle.nd_base.proofs.laws.Reach.{farthest_offset-zeros}
-use Rattle.nd_dim.specs.AxisOrder.{magnitude_at}
+use Rattle.nd_dim.specs.StrideOrder.{magnitude_at}
 
 -- each number below the size is how far one index lies, and no other
 pub record ReachesEach (shape : List ℕ) (strides : List ℤ) : Type 0 where

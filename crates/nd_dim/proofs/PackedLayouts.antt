@@ -10,7 +10,7 @@ use Rattle.nd_base.proofs.laws.Coordinates.{is_index-step_along, size-set, size_
 use Rattle.nd_base.proofs.laws.IsIndex.{coordinate_of_index, length_of_index}
 use Rattle.nd_base.proofs.laws.Reach.{farthest_offset-zeros}
 use Rattle.nd_base.proofs.laws.Size.{length_pos}
-use Rattle.nd_dim.specs.AxisOrder.{magnitude_at}
+use Rattle.nd_dim.specs.StrideOrder.{magnitude_at}
 use Rattle.nd_dim.specs.Contiguous.{lens_before}
 use Rattle.nd_dim.proofs.Filled.{ReachesEach, Fills, fills_next, fills_ones}
 use Rattle.nd_dim.proofs.FirstAxes.{first_axes, first_all, first_count, first_kept, first_left, first_more, first_none, first_same}

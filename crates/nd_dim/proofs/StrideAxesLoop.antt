@@ -1,7 +1,7 @@
 -- The leading axis so far.
 use Rattle.std.proofs.Common.{◌≡◌, ◌<◌, ◌≤◌, ℕ, List, length, get_or}
 use Rattle.std.specs.Prelude.{ℤ}
-use Rattle.nd_dim.specs.AxisOrder.{magnitude_at}
+use Rattle.nd_dim.specs.StrideOrder.{magnitude_at}
 
 -- what `IsLeadingAxis` says of the last of equals, of the axes below i alone
 pub record LeadsBelow (leads : ℕ → ℕ → Type 0) (otherwise : ℕ) (lens : List ℕ) (strides : List ℤ) (i axis : ℕ) : Type 0 where

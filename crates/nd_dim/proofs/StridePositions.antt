@@ -5,7 +5,7 @@ use Rattle.std.proofs.Math.Nat.{mul-le-mul_right, suc-mul}
 use Rattle.std.proofs.lemmas.Bool.{cases_eq, cases_lt, cases_order}
 use Rattle.std.proofs.lemmas.Bool.Decides.{nat_tests}
 use Rattle.std.proofs.lemmas.Nat.{mod-mul-add}
-use Rattle.nd_dim.specs.AxisOrder.{magnitude_at, comes_before}
+use Rattle.nd_dim.specs.StrideOrder.{magnitude_at, comes_before}
 
 -- ---- the place of an axis
 -- by the magnitude of its stride, and between equals by its number; n counts the axes

@@ -6,7 +6,7 @@ use Rattle.std.specs.Ordering.{int_eq}
 use Rattle.std.specs.Cmp.Lexicographic.{pointwise}
 use Rattle.nd_base.specs.Indices.{below}
 use Rattle.nd_base.specs.Size.{size}
-use Rattle.nd_dim.specs.AxisOrder.{magnitude_at, comes_before}
+use Rattle.nd_dim.specs.StrideOrder.{magnitude_at, comes_before}
 use Rattle.nd_dim.specs.Strides.{default_strides}
 
 -- the strides are the default ones

@@ -1,8 +1,8 @@
 pub mod AxesInOrder
-pub mod AxisOrder
 pub mod Contiguous
 pub mod LastLen
 pub mod OneInterval
+pub mod StrideOrder
 pub mod Strides
 pub use Rattle.nd_base.specs.Dim
 pub use Rattle.nd_base.specs.Indices

@@ -2,7 +2,7 @@
 ghost use Rattle.std.specs.Prelude.{◌≡◌, ◌≤◌, ◌↔◌, IsTrue, length};
 ghost use Rattle.nd_base.specs.Signed.{all_signed};
 ghost use Rattle.nd_base.specs.Size.{size, nonzero_size, limit};
-ghost use Rattle.nd_dim.specs.AxisOrder.{comes_before as comes_before_axis};
+ghost use Rattle.nd_dim.specs.StrideOrder.{comes_before as comes_before_axis};
 ghost use Rattle.nd_dim.specs.Contiguous.{lens_before, is_packed as is_packed_layout, is_contiguous as is_contiguous_layout};
 ghost use Rattle.nd_dim.specs.Strides.{default_strides};
 

@@ -12,7 +12,7 @@ ghost use Rattle.nd_base.specs.Reach.{farthest_offset};
 ghost use Rattle.nd_base.specs.Signed.{all_signed};
 ghost use Rattle.nd_base.specs.Size.{size, nonzero_size, is_empty, limit};
 ghost use Rattle.nd_base.specs.ValidLayout.{IsValidLayout};
-ghost use Rattle.nd_dim.specs.AxisOrder.{IsLeastStrideAxis, IsGreatestStrideAxis, IsStrideOrder};
+ghost use Rattle.nd_dim.specs.StrideOrder.{IsLeastStrideAxis, IsGreatestStrideAxis, IsStrideOrder};
 ghost use Rattle.nd_dim.specs.Contiguous.{is_contiguous as is_contiguous_layout};
 ghost use Rattle.nd_dim.specs.LastLen.{last_len as last_of_lengths};
 ghost use Rattle.nd_dim.specs.OneInterval.{FillsInterval};

@@ -1,7 +1,7 @@
 //! The axes of least and of greatest stride.
 ghost use Rattle.std.specs.Prelude.{◌≡◌, ℕ, ◌<◌, ◌≤◌, length};
 ghost use Rattle.nd_base.specs.Signed.{all_signed};
-ghost use Rattle.nd_dim.specs.AxisOrder.{magnitude_at as magnitude_at_axis, IsLeastStrideAxis, IsGreatestStrideAxis};
+ghost use Rattle.nd_dim.specs.StrideOrder.{magnitude_at as magnitude_at_axis, IsLeastStrideAxis, IsGreatestStrideAxis};
 
 use nd_base::signed;
 

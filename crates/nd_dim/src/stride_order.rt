@@ -1,7 +1,7 @@
 //! The axes in the order of their strides.
 ghost use Rattle.std.specs.Prelude.{◌≡◌, length};
 ghost use Rattle.nd_base.specs.Signed.{all_signed};
-ghost use Rattle.nd_dim.specs.AxisOrder.{IsStrideOrder};
+ghost use Rattle.nd_dim.specs.StrideOrder.{IsStrideOrder};
 
 use crate::stride_axes::magnitude_at;
 

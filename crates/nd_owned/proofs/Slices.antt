@@ -17,7 +17,7 @@ use Rattle.ndarray_layout.specs.Intersections.{AreApart}
 use Rattle.ndarray_layout.specs.DistinctPlaces.{HasDistinctPlaces}
 use Rattle.ndarray_layout.specs.Indices.{indices_in, is_index}
 use Rattle.ndarray_layout.specs.Size.{size}
-use Rattle.ndarray_layout.specs.SlicedAxis.{sliced_shape}
+use Rattle.ndarray_layout.specs.SlicedLayout.{sliced_shape}
 use Rattle.ndarray_layout.specs.SlicedView.{slice_of}
 use Rattle.ndarray_layout.specs.View.{View, IsView, place_at, view_places}
 use Rattle.ndarray_layout.proofs.laws.Indices.{All-indices_in, AllPairs-indices_in}

@@ -16,7 +16,7 @@ use Rattle.ndarray_layout.specs.Indices.{is_index}
 use Rattle.ndarray_layout.specs.Lengths.{NeedsNoMemory}
 use Rattle.ndarray_layout.specs.Signed.{magnitude}
 use Rattle.ndarray_layout.specs.Size.{size}
-use Rattle.ndarray_layout.specs.SlicedAxis.{sliced_shape}
+use Rattle.ndarray_layout.specs.SlicedLayout.{sliced_shape}
 use Rattle.ndarray_layout.specs.View.{View, IsView, LiesWithin, place_at}
 
 -- the items, and the view that has places among them; items at no place are spare ones

@@ -16,7 +16,7 @@ use Rattle.ndarray_layout.specs.declared.SliceInfoElem.TheVariants as elem
 use Rattle.ndarray_layout.specs.Intersect.{Intersect}
 use Rattle.ndarray_layout.specs.Intersections.{AreApart, SomeIntersect, slices_fault as fault_of_slices}
 use Rattle.ndarray_layout.specs.Size.{size}
-use Rattle.ndarray_layout.specs.SlicedAxis.{sliced_shape}
+use Rattle.ndarray_layout.specs.SlicedLayout.{sliced_shape}
 use Rattle.ndarray_layout.specs.SlicedView.{slice_of}
 use Rattle.ndarray_layout.specs.View.{View, view_places}
 use Rattle.nd_owned.specs.Owned.{item_at_place}

@@ -1,6 +1,6 @@
 -- The first axis of the least stride so far, where a pass goes from the last axis to the first.
 use Rattle.std.proofs.Common.{◌≡◌, ◌<◌, ◌≤◌, ◌-◌, ℕ, ℤ, List, length, get_or}
-use Rattle.nd_dim.specs.AxisOrder.{magnitude_at}
+use Rattle.nd_dim.specs.StrideOrder.{magnitude_at}
 
 -- what `IsFirstLeastAxis` says, of the axes from i on alone
 pub record IsFirstLeastFrom (lens : List ℕ) (strides : List ℤ) (i axis : ℕ) : Type 0 where

@@ -22,4 +22,4 @@ pub use Rattle.nd_base.specs.Signed
 pub use Rattle.nd_base.specs.Size
 pub use Rattle.nd_base.specs.Span
 pub use Rattle.nd_base.specs.ValidLayout
-pub use Rattle.nd_dim.specs.AxisOrder
+pub use Rattle.nd_dim.specs.StrideOrder

@@ -3,7 +3,7 @@ use Rattle.std.specs.Prelude.{◌≡◌, ◌≢◌, ℕ, ◌-◌, ◌≤◌, ◌
 use Rattle.std.specs.Prelude.{if◌then◌else◌, List, [], ◌∷◌, length, slice_index, refl}
 use Rattle.std.proofs.Math.Arith.{le→nltb}
 use Rattle.std.proofs.Math.Dec.{lit<, lt→ltb}
-use Rattle.nd_dim.specs.AxisOrder.{magnitude_at, IsLeadingAxis}
+use Rattle.nd_dim.specs.StrideOrder.{magnitude_at, IsLeadingAxis}
 
 -- of the axes longer than 1 the first among those of the least stride; without such an axis the last one
 abbrev pub IsFirstLeastAxis : List ℕ → List ℤ → ℕ → Type 0

@@ -5,7 +5,7 @@ use Rattle.std.proofs.Math.Dec.{lit<, lt→ltb}
 use Rattle.std.specs.List.{list_all, range_with_len}
 use Rattle.nd_base.specs.Signed.{magnitude}
 use Rattle.nd_base.specs.Span.{reach, sum_over_axes}
-use Rattle.nd_dim.specs.AxisOrder.{magnitude_at}
+use Rattle.nd_dim.specs.StrideOrder.{magnitude_at}
 
 -- the summed spans of the axes whose strides are of magnitude at most m
 abbrev pub span_up_to : ℕ → List ℕ → List ℤ → ℕ

@@ -2,7 +2,7 @@
 use Rattle.std.specs.Prelude.{◌≡◌, ℕ, ◌+◌, ℤ, pos, negsuc, Bool, true, false, ◌&&◌, ◌||◌, nat_le, nat_lt, List, [], ◌∷◌}
 use Rattle.std.specs.Prelude.{slice_index, slice_index_or, refl}
 use Rattle.nd_base.specs.Span.{reach}
-use Rattle.nd_dim.specs.AxisOrder.{magnitude_at}
+use Rattle.nd_dim.specs.StrideOrder.{magnitude_at}
 
 -- how far the axis of a number reaches
 abbrev pub reach_at : List ℕ → List ℤ → ℕ → ℕ

@@ -4,7 +4,7 @@ ghost use Rattle.std.specs.Prelude.{◌≡◌, ℕ, List, ◌<◌, ◌≤◌, �
 ghost use Rattle.nd_base.specs.Signed.{signed as signed_reading, all_signed};
 ghost use Rattle.nd_base.specs.Size.{is_empty, limit};
 ghost use Rattle.nd_base.specs.Span.{reach as reach_of_axis, span};
-ghost use Rattle.nd_dim.specs.AxisOrder.{IsStrideOrder};
+ghost use Rattle.nd_dim.specs.StrideOrder.{IsStrideOrder};
 ghost use Rattle.nd_shape.specs.NoAlias.{satisfies_no_alias_rule, strides_over_others, span_up_to as span_up_to_magnitude, SatisfiesNoAliasRule};
 ghost use Rattle.nd_shape.specs.NoAliasPass.{holds_in_one_pass};
 ghost use Rattle.nd_base.specs.DistinctOffsets.{HasDistinctOffsets};

@@ -3,10 +3,10 @@ pub mod AxisFault
 pub mod Between
 pub mod Intersect
 pub mod Offsets
-pub mod PickOffsets
 pub mod PickSequences
 pub mod Picks
 pub mod Selected
 pub mod SliceFault
 pub mod SliceRange
+pub mod SlicedAxis
 pub mod UnitStep

@@ -4,10 +4,9 @@ pub mod Counts
 pub mod ElemRange
 pub mod ElementText
 pub mod Equation
-pub mod Intersections
 pub mod Intersect
+pub mod Intersections
 pub mod Kinds
-pub mod PickOffsets
 pub mod Picks
 pub mod PicksIntersect
 pub mod Selected
@@ -17,6 +16,7 @@ pub mod SliceFault
 pub mod SliceRange
 pub mod SliceText
 pub mod SlicedAxis
+pub mod SlicedLayout
 pub mod SlicesInOrder
 pub use Rattle.nd_base.specs.Lengths
 pub use Rattle.nd_base.specs.Signed

@@ -9,7 +9,7 @@ ghost use Rattle.nd_base.specs.Span.{reach};
 ghost use Rattle.nd_slice.specs.AxisFault.{slice_fault, SliceFits};
 ghost use Rattle.nd_slice.specs.ElemRange.{elem_end, elem_start, elem_step};
 ghost use Rattle.nd_slice.specs.Intersect.{elem_picks};
-ghost use Rattle.nd_slice.specs.PickOffsets.{picked_stride, first_offset};
+ghost use Rattle.nd_slice.specs.SlicedAxis.{picked_stride, first_offset};
 ghost use Rattle.nd_slice.specs.Picks.{between, picks};
 ghost use Rattle.nd_slice.specs.PicksIntersect.{PicksIntersect};
 ghost use Rattle.nd_slice.specs.SliceBounds.{end_meaning, start_meaning};

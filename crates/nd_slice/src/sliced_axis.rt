@@ -6,7 +6,7 @@ ghost use Rattle.nd_base.specs.Size.{limit};
 ghost use Rattle.nd_base.specs.Span.{reach};
 ghost use Rattle.nd_slice.specs.Picks.{picks};
 ghost use Rattle.nd_slice.specs.AxisFault.{slice_fault};
-ghost use Rattle.nd_slice.specs.PickOffsets.{picked_stride, first_offset};
+ghost use Rattle.nd_slice.specs.SlicedAxis.{picked_stride, first_offset};
 
 use crate::fit::Fit;
 use crate::picks::resolve_slice;

@@ -4,7 +4,7 @@ use Rattle.std.proofs.Common.{inr, arith, ap}
 use Rattle.std.proofs.lemmas.Int.{ints}
 use Rattle.std.proofs.lemmas.Bool.{cases_lt}
 use Rattle.nd_base.specs.Span.{reach, reach_down, reach_up}
-use Rattle.nd_slice.specs.PickOffsets.{picked_stride, first_offset}
+use Rattle.nd_slice.specs.SlicedAxis.{picked_stride, first_offset}
 use Rattle.nd_base.proofs.laws.Span.{reach_parts}
 use Rattle.nd_slice.proofs.laws.Offsets.{offset_of_some, picked_few, picked_many}
 use Rattle.ndarray_layout.proofs.OneAxis.{Within, axis_within}

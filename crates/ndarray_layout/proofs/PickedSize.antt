@@ -13,7 +13,7 @@ use Rattle.nd_slice.specs.SliceFault.{elem_fault, fault_of_each, first_fault, in
 use Rattle.nd_slice.specs.AxisElems.{axis_elems}
 use Rattle.nd_slice.specs.Picks.{picks}
 use Rattle.nd_slice.specs.SliceBounds.{slice_with}
-use Rattle.nd_slice.specs.SlicedAxis.{sliced_shape}
+use Rattle.nd_slice.specs.SlicedLayout.{sliced_shape}
 use Rattle.nd_slice.proofs.laws.AxisElems.{lens_of_axis_elems}
 use Rattle.std.specs.Option.{option_or}
 

@@ -22,8 +22,8 @@ use Rattle.nd_slice.specs.Picks.{picks}
 use Rattle.nd_slice.specs.SliceBounds.{meaning}
 use Rattle.nd_slice.specs.AxisFault.{slice_fault, index_fault}
 use Rattle.nd_slice.specs.SliceFault.{in_count, out_count, first_fault}
-use Rattle.nd_slice.specs.PickOffsets.{picked_stride, first_offset}
-use Rattle.nd_slice.specs.SlicedAxis.{sliced_shape, sliced_strides, sliced_offset}
+use Rattle.nd_slice.specs.SlicedAxis.{picked_stride, first_offset}
+use Rattle.nd_slice.specs.SlicedLayout.{sliced_shape, sliced_strides, sliced_offset}
 use Rattle.ndarray_layout.proofs.OneAxis.{Within, axis_within}
 use Rattle.ndarray_layout.proofs.Picked.{slice_kept}
 use Rattle.ndarray_layout.proofs.PicksFit.{picks_fit}

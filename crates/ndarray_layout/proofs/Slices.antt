@@ -14,7 +14,7 @@ use Rattle.nd_slice.specs.Picks.{picks}
 use Rattle.nd_slice.specs.SliceBounds.{meaning, is_coordinate}
 use Rattle.nd_slice.specs.AxisFault.{slice_fault, index_fault}
 use Rattle.nd_slice.specs.SliceFault.{in_count, first_fault}
-use Rattle.nd_slice.specs.SlicedAxis.{sliced_shape, sliced_strides, sliced_offset}
+use Rattle.nd_slice.specs.SlicedLayout.{sliced_shape, sliced_strides, sliced_offset}
 use Rattle.nd_slice.specs.Selected.{selected}
 use Rattle.ndarray_layout.proofs.OneAxis.{Within, axis_within}
 use Rattle.ndarray_layout.proofs.Picked.{slice_kept, pick_offset}

@@ -71,7 +71,7 @@ pub use Rattle.nd_slice.proofs.laws.Between
 pub use Rattle.nd_slice.proofs.laws.Intersect
 pub use Rattle.nd_slice.proofs.laws.Offsets
 pub use Rattle.nd_slice.proofs.laws.PickSequences
-pub use Rattle.nd_slice.proofs.laws.PickOffsets
+pub use Rattle.nd_slice.proofs.laws.SlicedAxis
 pub use Rattle.nd_slice.proofs.laws.Picks
 pub use Rattle.nd_slice.proofs.laws.Selected
 pub use Rattle.nd_slice.proofs.laws.AxisFault

@@ -48,7 +48,7 @@ pub use Rattle.nd_base.specs.Size
 pub use Rattle.nd_base.specs.Span
 pub use Rattle.nd_base.specs.ValidLayout
 pub use Rattle.nd_dim.specs.AxesInOrder
-pub use Rattle.nd_dim.specs.AxisOrder
+pub use Rattle.nd_dim.specs.StrideOrder
 pub use Rattle.nd_dim.specs.Contiguous
 pub use Rattle.nd_dim.specs.LastLen
 pub use Rattle.nd_dim.specs.OneInterval
@@ -76,12 +76,12 @@ pub use Rattle.nd_slice.specs.ElementText
 pub use Rattle.nd_slice.specs.Equation
 pub use Rattle.nd_slice.specs.Kinds
 pub use Rattle.nd_slice.specs.Intersect
-pub use Rattle.nd_slice.specs.PickOffsets
+pub use Rattle.nd_slice.specs.SlicedAxis
 pub use Rattle.nd_slice.specs.Picks
 pub use Rattle.nd_slice.specs.PicksIntersect
 pub use Rattle.nd_slice.specs.SliceBounds
 pub use Rattle.nd_slice.specs.Selected
 pub use Rattle.nd_slice.specs.Sequence
 pub use Rattle.nd_slice.specs.AxisFault
-pub use Rattle.nd_slice.specs.SlicedAxis
+pub use Rattle.nd_slice.specs.SlicedLayout
 pub use Rattle.nd_slice.specs.SliceText

@@ -8,7 +8,7 @@ use Rattle.nd_slice.specs.declared.fit.Fit.TheVariants.{Strict, Clamp}
 use Rattle.nd_slice.specs.declared.elem.SliceInfoElem.{SliceInfoElem}
 use Rattle.nd_slice.specs.declared.elem.SliceInfoElem.TheVariants as elem
 use Rattle.nd_slice.specs.SliceFault.{out_count, argument_fault}
-use Rattle.nd_slice.specs.SlicedAxis.{sliced_shape, sliced_strides, sliced_offset}
+use Rattle.nd_slice.specs.SlicedLayout.{sliced_shape, sliced_strides, sliced_offset}
 use Rattle.ndarray_layout.specs.View.{View}
 
 -- the place of the first index that an argument leaves of a view

@@ -9,7 +9,7 @@ ghost use Rattle.ndarray_layout.specs.ShapeFault.{shape_fault};
 ghost use Rattle.ndarray_layout.specs.Signed.{all_signed};
 ghost use Rattle.ndarray_layout.specs.Size.{size};
 ghost use Rattle.ndarray_layout.specs.SlicedView.{slice_of};
-ghost use Rattle.ndarray_layout.specs.SlicedAxis.{sliced_shape};
+ghost use Rattle.ndarray_layout.specs.SlicedLayout.{sliced_shape};
 ghost use Rattle.ndarray_layout.specs.View.{view_of};
 ghost use Rattle.ndarray_layout_c.specs.Codes.{fit_named, is_choice};
 ghost use Rattle.ndarray_layout_c.specs.Elements.{are_elems, elems_named, sliced_view};

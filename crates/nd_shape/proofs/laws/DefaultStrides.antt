@@ -10,7 +10,7 @@ use Rattle.nd_base.proofs.laws.Size.{size_of_nonempty}
 use Rattle.nd_base.proofs.laws.Span.{sum_le}
 use Rattle.nd_dim.specs.Strides.{default_strides}
 use Rattle.nd_dim.proofs.laws.Strides.{default_cons}
-use Rattle.nd_dim.specs.AxisOrder.{magnitude_at}
+use Rattle.nd_dim.specs.StrideOrder.{magnitude_at}
 use Rattle.nd_shape.specs.NoAlias.{SatisfiesNoAliasRule}
 use Rattle.nd_shape.proofs.laws.NoAlias.{reach_up_to, reach_up_to_le}
 

@@ -7,7 +7,7 @@ use Rattle.std.proofs.lemmas.Bool.{and_from, and_parts, both_ways, cases_eq, cas
 use Rattle.std.proofs.lemmas.Int.{ints}
 use Rattle.std.proofs.lemmas.List.Edits.{get_or-remove_above, get_or-remove_below, length-remove}
 use Rattle.nd_base.proofs.laws.Definitions.{HasDistinctOffsets, is_index, offset_of, magnitude, is_empty, reach}
-use Rattle.nd_dim.specs.AxisOrder.{magnitude_at}
+use Rattle.nd_dim.specs.StrideOrder.{magnitude_at}
 use Rattle.nd_shape.specs.NoAlias.{span_up_to, span_of_others, satisfies_no_alias_rule, SatisfiesNoAliasRule}
 use Rattle.nd_base.proofs.laws.IsIndex.{length_of_index, coordinate_of_index, nonempty_from_index}
 use Rattle.nd_shape.proofs.laws.NoAlias.{reach_up_to, no_overlap}

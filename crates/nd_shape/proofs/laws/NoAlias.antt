@@ -8,7 +8,7 @@ use Rattle.std.proofs.lemmas.Bool.{both_ways, false_from_ne_true}
 use Rattle.std.proofs.lemmas.Bool.Decides.{nat_tests}
 use Rattle.nd_base.proofs.laws.Below.{all_below, passes_below}
 use Rattle.nd_base.proofs.laws.Definitions.{magnitude, is_empty, reach, sum_over_axes}
-use Rattle.nd_dim.specs.AxisOrder.{magnitude_at}
+use Rattle.nd_dim.specs.StrideOrder.{magnitude_at}
 use Rattle.nd_base.proofs.laws.Lists.{get_or-from_back}
 use Rattle.nd_base.proofs.laws.Span.{sum_and_others, sum_over_axes-reverse}
 use Rattle.nd_shape.specs.NoAlias.{span_of_others, span_up_to, strides_over_others, satisfies_no_alias_rule, SatisfiesNoAliasRule}

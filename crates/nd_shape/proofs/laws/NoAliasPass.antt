@@ -13,7 +13,7 @@ use Rattle.std.proofs.lemmas.List.Sums.{sum_by_more_le}
 use Rattle.nd_base.proofs.laws.Below.{All-below, get_or-below, length-below}
 use Rattle.nd_base.proofs.laws.Definitions.{below, magnitude, reach, span, sum_over_axes}
 use Rattle.nd_base.proofs.laws.Span.{sum_and_others}
-use Rattle.nd_dim.specs.AxisOrder.{magnitude_at, comes_before, IsStrideOrder}
+use Rattle.nd_dim.specs.StrideOrder.{magnitude_at, comes_before, IsStrideOrder}
 use Rattle.nd_shape.specs.NoAlias.{span_of_others, strides_over_others, satisfies_no_alias_rule, SatisfiesNoAliasRule}
 use Rattle.nd_shape.specs.NoAliasPass.{reach_at, strides_over, pass_from, holds_in_one_pass}
 use Rattle.nd_shape.proofs.laws.NoAlias.{reach_up_to, reach_up_to_le, rule_broken, rule_holds, rule_tested}

@@ -3,7 +3,7 @@ ghost use Rattle.std.specs.Prelude.{◌≡◌, ◌≤◌, IfOk};
 ghost use Rattle.std.specs.Result.{result_err};
 ghost use Rattle.nd_base.specs.Size.{nonzero_size, size, limit};
 ghost use Rattle.nd_slice.specs.SliceFault.{argument_fault};
-ghost use Rattle.nd_slice.specs.SlicedAxis.{sliced_shape};
+ghost use Rattle.nd_slice.specs.SlicedLayout.{sliced_shape};
 
 use crate::strided::Strided;
 use nd_base::{ErrorKind, Lengths, ShapeError, from_kind};

@@ -9,11 +9,11 @@ ghost use Rattle.nd_base.specs.Span.{reach};
 ghost use Rattle.nd_base.specs.ValidLayout.{IsValidLayout};
 ghost use Rattle.nd_slice.specs.SliceFault.{first_fault, in_count, out_count};
 ghost use Rattle.nd_slice.specs.Counts.{HasCounts};
-ghost use Rattle.nd_slice.specs.PickOffsets.{picked_stride, first_offset};
+ghost use Rattle.nd_slice.specs.SlicedAxis.{picked_stride, first_offset};
 ghost use Rattle.nd_slice.specs.Picks.{picks};
 ghost use Rattle.nd_slice.specs.Selected.{selected};
 ghost use Rattle.nd_slice.specs.AxisFault.{slice_fault};
-ghost use Rattle.nd_slice.specs.SlicedAxis.{sliced_shape, sliced_strides, sliced_offset};
+ghost use Rattle.nd_slice.specs.SlicedLayout.{sliced_shape, sliced_strides, sliced_offset};
 ghost use Rattle.ndarray_layout.specs.Descends.{Descends};
 ghost use Rattle.ndarray_layout.specs.SlicedView.{slice_of, view_slice_fault};
 

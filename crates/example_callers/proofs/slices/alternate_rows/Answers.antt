@@ -12,7 +12,7 @@ use Rattle.ndarray_layout.specs.Descends.{Descends}
 use Rattle.ndarray_layout.specs.Picks.{picks}
 use Rattle.ndarray_layout.specs.SliceBounds.{slice_with}
 use Rattle.ndarray_layout.specs.Selected.{selected}
-use Rattle.ndarray_layout.specs.SlicedAxis.{sliced_shape}
+use Rattle.ndarray_layout.specs.SlicedLayout.{sliced_shape}
 use Rattle.ndarray_layout.specs.SlicedView.{slice_of}
 use Rattle.ndarray_layout.specs.View.{View, place_at}
 use Rattle.ndarray_layout.proofs.laws.Between.{pick_down}

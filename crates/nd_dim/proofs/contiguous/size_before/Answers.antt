@@ -1,6 +1,6 @@
 use Rattle.std.proofs.Common.{◌+◌, ◌*◌, drop, get_or, arith, sym, ◌∙◌, ℕ}
 use Rattle.nd_base.proofs.laws.Definitions.{all_signed, limit}
-use Rattle.nd_dim.specs.AxisOrder.{comes_before}
+use Rattle.nd_dim.specs.StrideOrder.{comes_before}
 use Rattle.nd_dim.proofs.Packed.{chosen_taken, chosen_left}
 use Rattle.nd_dim.proofs.Products.{room_taken, room_left, within_room}
 use Rattle.nd_dim.proofs.contiguous.size_before.Goals as goal

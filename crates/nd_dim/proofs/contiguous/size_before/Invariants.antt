@@ -2,7 +2,7 @@
 use Rattle.std.proofs.Common.{◌≡◌, ◌≤◌, ◌*◌, drop, map}
 use Rattle.std.specs.List.{filter, slice_index}
 use Rattle.nd_base.proofs.laws.Definitions.{below, all_signed, limit, nonzero_size, size}
-use Rattle.nd_dim.specs.AxisOrder.{comes_before}
+use Rattle.nd_dim.specs.StrideOrder.{comes_before}
 use Rattle.nd_dim.proofs.contiguous.size_before.Given as goal
 
 abbrev pub invariant-loop-other : goal.invariant-loop-other

@@ -2,7 +2,7 @@ use Rattle.std.proofs.Common.{rules, ◌≡◌, ◌⊎◌, ◌↔◌, Bool, List
 use Rattle.std.specs.Prelude.{IsFalse, IsTrue, not, ◌&&◌}
 use Rattle.std.proofs.lemmas.List.{length-map}
 use Rattle.nd_base.proofs.laws.Definitions.{HasDistinctOffsets, all_signed, signed, is_empty}
-use Rattle.nd_dim.specs.AxisOrder.{IsStrideOrder}
+use Rattle.nd_dim.specs.StrideOrder.{IsStrideOrder}
 use Rattle.nd_shape.specs.NoAlias.{satisfies_no_alias_rule, SatisfiesNoAliasRule}
 use Rattle.nd_shape.specs.NoAliasPass.{holds_in_one_pass}
 use Rattle.nd_shape.proofs.laws.DistinctOffsets.{distinct_without_overlap}

@@ -10,7 +10,7 @@ use Rattle.std.proofs.lemmas.List.Sorted.{IsPermutation-refl}
 use Rattle.std.proofs.lemmas.List.Sums.{sum_by_more}
 use Rattle.nd_base.proofs.laws.Below.{get_or-below, length-below}
 use Rattle.nd_base.proofs.laws.Definitions.{below, all_signed, signed, reach, span}
-use Rattle.nd_dim.specs.AxisOrder.{magnitude_at}
+use Rattle.nd_dim.specs.StrideOrder.{magnitude_at}
 use Rattle.nd_shape.specs.NoAlias.{satisfies_no_alias_rule}
 use Rattle.nd_shape.specs.NoAliasPass.{reach_at}
 use Rattle.nd_shape.proofs.NoAliasTest.{signed_at}

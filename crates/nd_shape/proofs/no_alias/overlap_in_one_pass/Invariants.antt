@@ -4,7 +4,7 @@ use Rattle.std.proofs.Common.{◌≡◌, ℕ, ◌<◌, ◌≤◌, length, get_or
 use Rattle.std.specs.List.{sum_by}
 use Rattle.nd_base.specs.Indices.{below}
 use Rattle.nd_base.specs.Signed.{all_signed}
-use Rattle.nd_dim.specs.AxisOrder.{magnitude_at}
+use Rattle.nd_dim.specs.StrideOrder.{magnitude_at}
 use Rattle.nd_shape.specs.NoAliasPass.{reach_at}
 use Rattle.nd_shape.proofs.no_alias.overlap_in_one_pass.Given as goal
 

@@ -4,7 +4,7 @@ use Rattle.std.proofs.lemmas.Bool.{false≢true}
 use Rattle.ndarray_layout.specs.declared.Fit.TheVariants.{Strict}
 use Rattle.ndarray_layout.specs.declared.Order.TheVariants.{RowMajor}
 use Rattle.ndarray_layout.specs.Size.{size}
-use Rattle.ndarray_layout.specs.SlicedAxis.{sliced_shape}
+use Rattle.ndarray_layout.specs.SlicedLayout.{sliced_shape}
 use Rattle.ndarray_layout.specs.View.{view_places}
 use Rattle.nd_owned.specs.Owned.{item_at_place}
 use Rattle.nd_owned.specs.private.Parts.{view_of_part}
