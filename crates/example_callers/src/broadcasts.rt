@@ -5,7 +5,8 @@ ghost use Rattle.ndarray_layout.specs.declared.ErrorKind.{ErrorKind};
 ghost use Rattle.ndarray_layout.specs.declared.ErrorKind.TheVariants.{IncompatibleShape};
 ghost use Rattle.ndarray_layout.specs.BroadcastView.{broadcast_fault, broadcast_of};
 ghost use Rattle.ndarray_layout.specs.CommonShape.{common_shape};
-ghost use Rattle.ndarray_layout.specs.Lengths.{IsCount, NeedsNoMemory};
+ghost use Rattle.ndarray_layout.specs.Lengths.{IsCount};
+ghost use Rattle.ndarray_layout.specs.Memory.{NeedsNoMemory};
 ghost use Rattle.ndarray_layout.specs.ShapeFault.{shape_fault};
 ghost use Rattle.ndarray_layout.specs.View.{LiesWithin};
 

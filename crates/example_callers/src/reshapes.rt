@@ -1,7 +1,7 @@
 //! Reads a view along another shape, or learns that no strides would do.
 ghost use Rattle.std.specs.Prelude.{◌≡◌, IfNone, IfOk, IfSome, IsOk, OnErr, length};
 ghost use Rattle.ndarray_layout.specs.declared.Order.TheVariants.{RowMajor};
-ghost use Rattle.ndarray_layout.specs.Lengths.{NeedsNoMemory};
+ghost use Rattle.ndarray_layout.specs.Memory.{NeedsNoMemory};
 ghost use Rattle.ndarray_layout.specs.ReshapedView.{MayAskForMemory, ReshapeFits};
 ghost use Rattle.ndarray_layout.specs.View.{view_places};
 

@@ -7,7 +7,7 @@ ghost use Rattle.ndarray_layout.specs.AcceptanceByStrides.{acceptance_by_strides
 ghost use Rattle.ndarray_layout.specs.Dim.{lengths};
 ghost use Rattle.ndarray_layout.specs.DistinctPlaces.{HasDistinctPlaces};
 ghost use Rattle.ndarray_layout.specs.Indices.{is_index};
-ghost use Rattle.ndarray_layout.specs.Lengths.{NeedsNoMemory};
+ghost use Rattle.ndarray_layout.specs.Memory.{NeedsNoMemory};
 ghost use Rattle.ndarray_layout.specs.FlatIndex.{index_of_flat_in, flat_index_in};
 ghost use Rattle.ndarray_layout.specs.ReshapedView.{view_reshape_fault};
 ghost use Rattle.ndarray_layout.specs.ShapeFault.{shape_fault};

@@ -2,7 +2,8 @@
 ghost use Rattle.std.specs.Prelude.{◌≡◌, ℕ, ◌<◌, ◌↔◌, List, length, replicate, IsTrue, IsOk, IfOk, Option, Some, slice_get};
 ghost use Rattle.std.specs.Bool.{Decides};
 ghost use Rattle.std.specs.Borrow.{Lends, sem, Array, u64 as word};
-ghost use Rattle.nd_base.specs.Lengths.{NeedsNoMemory, IsCount};
+ghost use Rattle.nd_base.specs.Lengths.{IsCount};
+ghost use Rattle.nd_base.specs.Memory.{NeedsNoMemory};
 
 use std::alloc::{AllocError, Global};
 use std::fmt::Debug;

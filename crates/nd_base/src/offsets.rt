@@ -4,7 +4,7 @@ ghost use Rattle.std.specs.Int.RustNames.{FitsSigned};
 ghost use Rattle.std.specs.Prelude.{◌≡◌, ◌≤◌, pos, ◌+ℤ◌, ◌*ℤ◌};
 ghost use Rattle.std.specs.List.{All};
 ghost use Rattle.nd_base.specs.Offset.{offset_of, checked_offset};
-ghost use Rattle.nd_base.specs.Reach.{farthest_offset};
+ghost use Rattle.nd_base.specs.FarthestOffset.{farthest_offset};
 ghost use Rattle.nd_base.specs.Signed.{signed, all_signed};
 ghost use Rattle.nd_base.specs.Size.{limit};
 ghost use Rattle.nd_base.specs.ValidLayout.{IsValidLayout};

@@ -6,7 +6,7 @@ use Rattle.std.proofs.lemmas.Nat.{div_below, div-add-mod', div-mul-add, mod_belo
 use Rattle.nd_base.proofs.laws.Definitions.{is_index, farthest_offset, size}
 use Rattle.nd_base.proofs.laws.Coordinates.{farthest_offset-set, is_index-set, size-set}
 use Rattle.nd_base.proofs.laws.IsIndex.{coordinate_of_index, is_index_from_coordinates, length_of_index}
-use Rattle.nd_base.proofs.laws.Reach.{farthest_offset-zeros}
+use Rattle.nd_base.proofs.laws.FarthestOffset.{farthest_offset-zeros}
 use Rattle.nd_dim.specs.StrideOrder.{magnitude_at}
 
 -- each number below the size is how far one index lies, and no other

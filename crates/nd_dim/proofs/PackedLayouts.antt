@@ -8,7 +8,7 @@ use Rattle.nd_base.proofs.laws.Definitions.{is_index, farthest_offset, is_empty,
 use Rattle.nd_base.proofs.laws.Coordinates.{farthest_offset-set, farthest_offset_ge_coordinate, index_or_coordinate, is_index_of_larger}
 use Rattle.nd_base.proofs.laws.Coordinates.{is_index-step_along, size-set, size_le, step_along}
 use Rattle.nd_base.proofs.laws.IsIndex.{coordinate_of_index, length_of_index}
-use Rattle.nd_base.proofs.laws.Reach.{farthest_offset-zeros}
+use Rattle.nd_base.proofs.laws.FarthestOffset.{farthest_offset-zeros}
 use Rattle.nd_base.proofs.laws.Size.{length_pos}
 use Rattle.nd_dim.specs.StrideOrder.{magnitude_at}
 use Rattle.nd_dim.specs.Contiguous.{lens_before}

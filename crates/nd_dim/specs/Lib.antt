@@ -7,9 +7,10 @@ pub mod Strides
 pub use Rattle.nd_base.specs.Dim
 pub use Rattle.nd_base.specs.Indices
 pub use Rattle.nd_base.specs.Lengths
+pub use Rattle.nd_base.specs.Memory
 pub use Rattle.nd_base.specs.Offset
 pub use Rattle.nd_base.specs.FlatIndex
-pub use Rattle.nd_base.specs.Reach
+pub use Rattle.nd_base.specs.FarthestOffset
 pub use Rattle.nd_base.specs.Signed
 pub use Rattle.nd_base.specs.Size
 pub use Rattle.nd_base.specs.ValidLayout

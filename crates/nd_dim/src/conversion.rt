@@ -1,7 +1,7 @@
 //! What makes a dimension.
 ghost use Rattle.std.specs.Prelude.{◌≡◌, ℕ, Bool, false, nat_lt, List, [], ◌∷◌, length, IsOk, IfOk};
 ghost use Rattle.nd_base.specs.Dim.{lengths};
-ghost use Rattle.nd_base.specs.Lengths.{NeedsNoMemory};
+ghost use Rattle.nd_base.specs.Memory.{NeedsNoMemory};
 ghost use Rattle.nd_base.specs.declared.lengths.TheConstants.{INLINE_AXES};
 
 use nd_base::{

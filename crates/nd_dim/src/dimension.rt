@@ -5,10 +5,11 @@ ghost use Rattle.std.specs.Prelude.{◌≡◌, ℕ, ◌+◌, ◌-◌, ◌<◌, �
 ghost use Rattle.nd_base.specs.declared.order.Order.TheVariants.{ColumnMajor};
 ghost use Rattle.nd_base.specs.Dim.{lengths};
 ghost use Rattle.nd_base.specs.Indices.{is_index};
-ghost use Rattle.nd_base.specs.Lengths.{IsCount, NeedsNoMemory, default_count};
+ghost use Rattle.nd_base.specs.Lengths.{IsCount, default_count};
+ghost use Rattle.nd_base.specs.Memory.{NeedsNoMemory};
 ghost use Rattle.nd_base.specs.Offset.{offset_of, checked_offset};
 ghost use Rattle.nd_base.specs.FlatIndex.{flat_index, flat_index_in, index_of_flat, index_of_flat_in};
-ghost use Rattle.nd_base.specs.Reach.{farthest_offset};
+ghost use Rattle.nd_base.specs.FarthestOffset.{farthest_offset};
 ghost use Rattle.nd_base.specs.Signed.{all_signed};
 ghost use Rattle.nd_base.specs.Size.{size, nonzero_size, is_empty, limit};
 ghost use Rattle.nd_base.specs.ValidLayout.{IsValidLayout};

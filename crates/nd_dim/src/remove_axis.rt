@@ -1,6 +1,6 @@
 //! Lengths with an axis less, and the dimensions that have an axis to remove.
 ghost use Rattle.std.specs.Prelude.{◌≡◌, ◌+◌, ◌-◌, ◌<◌, length, remove, IsOk, IfOk};
-ghost use Rattle.nd_base.specs.Lengths.{NeedsNoMemory};
+ghost use Rattle.nd_base.specs.Memory.{NeedsNoMemory};
 
 use crate::dimension::Dimension;
 use nd_base::{Axis, Ix1, Ix2, Ix3, Ix4, Ix5, Ix6, IxDyn};

@@ -1,6 +1,6 @@
 //! What a caller gives for a shape, with or without an order.
 ghost use Rattle.std.specs.Prelude.{◌≡◌, ℕ, Bool, false, List, length, Option, Some, None, IsOk, IfOk};
-ghost use Rattle.nd_base.specs.Lengths.{NeedsNoMemory};
+ghost use Rattle.nd_base.specs.Memory.{NeedsNoMemory};
 ghost use Rattle.nd_base.specs.declared.order.Order.{Order};
 
 use crate::conversion::IntoDimension;

@@ -7,7 +7,7 @@ use Rattle.ndarray_layout.specs.declared.Order.TheVariants.{RowMajor}
 use Rattle.ndarray_layout.specs.declared.Row.{Row}
 use Rattle.ndarray_layout.specs.Indices.{below}
 use Rattle.ndarray_layout.specs.Bounds.{IsInBounds}
-use Rattle.ndarray_layout.specs.LayoutOrder.{LiesInOrder}
+use Rattle.ndarray_layout.specs.MajorOrder.{LiesInOrder}
 use Rattle.ndarray_layout.specs.Rows.{row_places, rows_places, view_rows}
 use Rattle.ndarray_layout.specs.Size.{size}
 use Rattle.ndarray_layout.specs.View.{View, IsView, LiesWithin, view_places}

@@ -13,7 +13,7 @@ use Rattle.ndarray_layout.specs.declared.SliceInfoElem.TheVariants as elem
 use Rattle.ndarray_layout.specs.SliceFault.{argument_fault, out_count}
 use Rattle.ndarray_layout.specs.DistinctPlaces.{HasDistinctPlaces}
 use Rattle.ndarray_layout.specs.Indices.{is_index}
-use Rattle.ndarray_layout.specs.Lengths.{NeedsNoMemory}
+use Rattle.ndarray_layout.specs.Memory.{NeedsNoMemory}
 use Rattle.ndarray_layout.specs.Signed.{magnitude}
 use Rattle.ndarray_layout.specs.Size.{size}
 use Rattle.ndarray_layout.specs.SlicedLayout.{sliced_shape}

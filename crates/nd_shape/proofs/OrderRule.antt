@@ -12,9 +12,9 @@ use Rattle.nd_base.proofs.laws.Lists.{get_or-from_back, map-reverse}
 use Rattle.nd_base.proofs.laws.Size.{is_empty-reverse}
 use Rattle.nd_dim.specs.Strides.{default_strides, fortran_strides}
 use Rattle.nd_dim.proofs.laws.Strides.{default_by_fortran}
-use Rattle.nd_shape.specs.LayoutOrder.{HasStandardStrides, LiesInOrder, SatisfiesOrderRule}
+use Rattle.nd_shape.specs.MajorOrder.{HasStandardStrides, LiesInOrder, SatisfiesOrderRule}
 use Rattle.nd_shape.specs.ShapeBuilder.{standard_strides}
-use Rattle.nd_shape.proofs.laws.LayoutOrder.{in_order_exactly}
+use Rattle.nd_shape.proofs.laws.MajorOrder.{in_order_exactly}
 use Rattle.nd_shape.proofs.laws.StandardStrides.{standard_count, standard_signed}
 
 module _ (order : Order) (lens : List ℕ) where

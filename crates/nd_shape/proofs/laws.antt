@@ -5,7 +5,7 @@ pub mod CommonShape
 pub mod DefaultStrides
 pub mod DistinctOffsets
 pub mod IndicesLeft
-pub mod LayoutOrder
+pub mod MajorOrder
 pub mod Merge
 pub mod NoAlias
 pub mod NoAliasPass

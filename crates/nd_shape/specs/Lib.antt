@@ -4,7 +4,7 @@ pub mod Axes
 pub mod CommonShape
 pub mod IndicesLeft
 pub mod Layout
-pub mod LayoutOrder
+pub mod MajorOrder
 pub mod Merge
 pub mod MinStride
 pub mod NoAlias
@@ -15,8 +15,9 @@ pub use Rattle.nd_base.specs.Dim
 pub use Rattle.nd_base.specs.DistinctOffsets
 pub use Rattle.nd_base.specs.Indices
 pub use Rattle.nd_base.specs.Lengths
+pub use Rattle.nd_base.specs.Memory
 pub use Rattle.nd_base.specs.Offset
-pub use Rattle.nd_base.specs.Reach
+pub use Rattle.nd_base.specs.FarthestOffset
 pub use Rattle.nd_base.specs.ShapeFault
 pub use Rattle.nd_base.specs.Signed
 pub use Rattle.nd_base.specs.Size

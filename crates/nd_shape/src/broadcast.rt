@@ -2,7 +2,8 @@
 ghost use Rattle.std.specs.Bool.{OnTrue};
 ghost use Rattle.std.specs.Prelude.{◌≡◌, ◌≤◌, true, length, Some, is_some, max, None, IsOk, IfOk};
 ghost use Rattle.nd_shape.specs.CommonShape.{common_length, common_shape, common_shape_fault};
-ghost use Rattle.nd_base.specs.Lengths.{IsCount, NeedsNoMemory};
+ghost use Rattle.nd_base.specs.Lengths.{IsCount};
+ghost use Rattle.nd_base.specs.Memory.{NeedsNoMemory};
 ghost use Rattle.nd_base.specs.ShapeFault.{shape_fault};
 
 use nd_base::{ErrorKind, INLINE_AXES, LayoutError, Lengths, from_kind};

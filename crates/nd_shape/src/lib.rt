@@ -8,8 +8,8 @@ mod axes_iter;
 mod broadcast;
 mod indexes;
 mod layout;
-mod layout_order;
 mod layout_start;
+mod major_order;
 mod merge;
 mod min_stride;
 mod ndindex;
@@ -28,8 +28,8 @@ pub use indexes::{
     IndexCursor, IndexCursorF, Indices, IndicesIter, IndicesIterF, all_indices, indices_iter_f,
 };
 pub use layout::Layout;
-pub use layout_order::{is_layout_c, is_layout_f};
 pub use layout_start::{low_span, offset_from_low_addr_ptr_to_logical_ptr};
+pub use major_order::{is_layout_c, is_layout_f};
 pub use merge::{merge_axes, merge_fitting};
 pub use min_stride::move_min_stride_axis_to_last;
 pub use ndindex::NdIndex;

@@ -1,7 +1,7 @@
 //! Shapes with an order or with strides, and what they are built from.
 ghost use Rattle.std.specs.Option.{IsSome, IfSome, option_map};
 ghost use Rattle.std.specs.Prelude.{◌≡◌, ℕ, ◌<◌, ◌^◌, ◌↔◌, Bool, false, List, length, Option, Some, IsTrue, IsOk, IfOk, Ok, if◌then◌else◌};
-ghost use Rattle.nd_base.specs.Lengths.{NeedsNoMemory};
+ghost use Rattle.nd_base.specs.Memory.{NeedsNoMemory};
 ghost use Rattle.nd_base.specs.Size.{size};
 ghost use Rattle.nd_base.specs.declared.order.Order.{Order};
 ghost use Rattle.nd_shape.specs.ShapeBuilder.{dim_of, order_of, custom_strides, strides_in, strides_list};

@@ -9,7 +9,7 @@ use Rattle.nd_slice.proofs.Definitions.{AreApart, AreInOrder, Fit, Intersect, In
 use Rattle.nd_slice.proofs.Definitions.{slice_at, slices_fault, start_on}
 use Rattle.nd_slice.proofs.laws.Intersect.{intersect_symmetric}
 use Rattle.nd_slice.proofs.laws.SliceFault.{each_fits}
-use Rattle.nd_slice.proofs.laws.SliceRange.{apart_past}
+use Rattle.nd_slice.proofs.laws.RangesApart.{apart_past}
 
 -- ---- what a function makes of each item of a list
 module _ {X Y : Type 0} (f : X → Y) (xs : List X) (i : ℕ) where

@@ -5,8 +5,8 @@ pub mod Intersect
 pub mod Offsets
 pub mod PickSequences
 pub mod Picks
+pub mod RangesApart
 pub mod Selected
 pub mod SliceFault
-pub mod SliceRange
 pub mod SlicedAxis
 pub mod UnitStep

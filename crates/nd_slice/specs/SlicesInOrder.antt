@@ -7,7 +7,7 @@ use Rattle.nd_slice.specs.declared.fit.Fit.{Fit}
 use Rattle.nd_slice.specs.declared.fit.Fit.TheVariants.{Strict}
 use Rattle.nd_slice.specs.declared.elem.SliceInfoElem.{SliceInfoElem}
 use Rattle.nd_slice.specs.declared.elem.SliceInfoElem.TheVariants as elem
-use Rattle.nd_slice.specs.SliceRange.{start_on}
+use Rattle.nd_slice.specs.RangesApart.{start_on}
 
 -- the position in a list of count items of the one that is read after place others
 abbrev pub position_of : Bool → ℕ → ℕ → ℕ

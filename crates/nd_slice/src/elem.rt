@@ -1,7 +1,7 @@
 //! The elements of a slice argument.
 ghost use Rattle.std.specs.Prelude.{◌≡◌, ◌≤◌, pos};
 ghost use Rattle.nd_base.specs.Size.{limit};
-ghost use Rattle.nd_slice.specs.Kinds.{is_slice, is_index, is_new_axis};
+ghost use Rattle.nd_slice.specs.ElemKinds.{is_slice, is_index, is_new_axis};
 
 mod elem_from;
 mod elem_text;

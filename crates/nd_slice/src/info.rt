@@ -2,7 +2,7 @@
 ghost use Rattle.std.specs.Prelude.{◌≡◌, ◌↔◌, ⊤, IsTrue, OkIff, IsOkUnless};
 ghost use Rattle.nd_base.specs.declared.error.ErrorKind.{ErrorKind};
 ghost use Rattle.nd_base.specs.Lengths.{IsCount};
-ghost use Rattle.nd_slice.specs.Counts.{HasCounts};
+ghost use Rattle.nd_slice.specs.AxisCounts.{HasCounts};
 ghost use Rattle.nd_slice.specs.SliceFault.{in_count, out_count};
 
 use crate::elem::SliceInfoElem;
@@ -22,7 +22,7 @@ pub struct SliceInfo<T: SliceElems, Din: FixedCount, Dout: FixedCount> {
 }
 
 impl<T: SliceElems, Din: FixedCount, Dout: FixedCount> Model for SliceInfo<T, Din, Dout> {
-    ghost use Rattle.nd_slice.specs.Counts.{HasCounts};
+    ghost use Rattle.nd_slice.specs.AxisCounts.{HasCounts};
 
     ghost Value = { T };
 

@@ -13,9 +13,9 @@ mod info;
 mod intersect;
 mod intersections;
 mod picks;
+mod ranges_apart;
 mod slice;
 mod slice_errors;
-mod slice_range;
 mod sliced_axis;
 mod slices_in_order;
 

@@ -2,14 +2,14 @@
 ghost use Rattle.std.specs.Prelude.{◌≡◌, ℕ, ◌<◌, ◌≤◌, Bool, true, false, Some, None, IfSome, IsSomeAnd, IsTrue, List, length, map};
 ghost use Rattle.nd_slice.specs.declared.fit.Fit.{Fit};
 ghost use Rattle.nd_slice.specs.SliceFault.{argument_fault};
-ghost use Rattle.nd_slice.specs.SliceRange.{end_on, start_on};
+ghost use Rattle.nd_slice.specs.RangesApart.{end_on, start_on};
 ghost use Rattle.nd_slice.specs.Intersections.{slices_fault};
 ghost use Rattle.nd_slice.specs.SlicesInOrder.{AreInOrder, position_of, slice_at};
 
 use crate::elem::SliceInfoElem;
 use crate::elems::SliceElems;
 use crate::fit::Fit;
-use crate::slice_range::range_on;
+use crate::ranges_apart::range_on;
 
 /// From which end a list of slices is read.
 pub(crate) trait Direction {

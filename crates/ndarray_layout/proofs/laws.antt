@@ -39,7 +39,7 @@ pub use Rattle.nd_base.proofs.laws.Offset
 pub use Rattle.nd_base.proofs.laws.Options
 pub use Rattle.nd_base.proofs.laws.Place
 pub use Rattle.nd_base.proofs.laws.FlatIndex
-pub use Rattle.nd_base.proofs.laws.Reach
+pub use Rattle.nd_base.proofs.laws.FarthestOffset
 pub use Rattle.nd_base.proofs.laws.AsRead
 pub use Rattle.nd_base.proofs.laws.Signed
 pub use Rattle.nd_base.proofs.laws.Size
@@ -55,7 +55,7 @@ pub use Rattle.nd_shape.proofs.laws.AcceptanceByStrides
 pub use Rattle.nd_shape.proofs.laws.Axes
 pub use Rattle.nd_shape.proofs.laws.DefaultStrides
 pub use Rattle.nd_shape.proofs.laws.IndicesLeft
-pub use Rattle.nd_shape.proofs.laws.LayoutOrder
+pub use Rattle.nd_shape.proofs.laws.MajorOrder
 pub use Rattle.nd_shape.proofs.laws.StandardStrides
 pub use Rattle.nd_shape.proofs.laws.Acceptance
 pub use Rattle.nd_shape.proofs.laws.CommonShape
@@ -65,7 +65,7 @@ pub use Rattle.nd_shape.proofs.laws.NoAlias
 pub use Rattle.nd_shape.proofs.laws.NoAliasPass
 pub use Rattle.nd_shape.proofs.laws.Stretches
 pub use Rattle.nd_slice.proofs.laws.SliceFault
-pub use Rattle.nd_slice.proofs.laws.SliceRange
+pub use Rattle.nd_slice.proofs.laws.RangesApart
 pub use Rattle.nd_slice.proofs.laws.AxisElems
 pub use Rattle.nd_slice.proofs.laws.Between
 pub use Rattle.nd_slice.proofs.laws.Intersect

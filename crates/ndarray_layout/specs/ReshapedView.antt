@@ -8,7 +8,7 @@ use Rattle.nd_base.specs.declared.error.LayoutError.{LayoutError}
 use Rattle.nd_base.specs.declared.error.LayoutError.TheVariants.{Shape, Memory}
 use Rattle.nd_base.specs.declared.order.Order.{Order}
 use Rattle.nd_base.specs.declared.order.Order.TheVariants.{RowMajor, ColumnMajor}
-use Rattle.nd_base.specs.Lengths.{NeedsNoMemory}
+use Rattle.nd_base.specs.Memory.{NeedsNoMemory}
 use Rattle.nd_base.specs.FlatIndex.{index_of_flat_in, flat_index_in}
 use Rattle.nd_base.specs.Size.{is_empty, nonzero_size, limit}
 use Rattle.ndarray_layout.specs.reshape.ForcedStrides.{forced_strides}

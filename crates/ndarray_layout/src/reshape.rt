@@ -4,7 +4,7 @@ ghost use Rattle.std.specs.Int.{w64};
 ghost use Rattle.std.specs.Int.RustNames.{FitsSigned};
 ghost use Rattle.std.specs.Prelude.{◌≡◌, ◌≢◌, ◌+◌, ◌-◌, ◌*◌, ◌<◌, ◌≤◌, ◌↔◌, ℕ, ℤ, List, Some, None, false, pos, ◌*ℤ◌, IsTrue, IfOk, IfErr, OnOk, length, take, drop, map, slice_index};
 ghost use Rattle.nd_base.specs.Indices.{below};
-ghost use Rattle.nd_base.specs.Lengths.{NeedsNoMemory};
+ghost use Rattle.nd_base.specs.Memory.{NeedsNoMemory};
 ghost use Rattle.nd_base.specs.Signed.{signed as signed_reading, all_signed};
 ghost use Rattle.nd_base.specs.Size.{size, nonzero_size, is_empty, limit};
 ghost use Rattle.nd_base.specs.ValidLayout.{IsValidLayout};

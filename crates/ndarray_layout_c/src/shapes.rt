@@ -6,7 +6,7 @@ ghost use Rattle.ndarray_layout.specs.Acceptance.{size_fault};
 ghost use Rattle.ndarray_layout.specs.AxesInOrder.{axis_numbers};
 ghost use Rattle.ndarray_layout.specs.BroadcastView.{broadcast_fault, broadcast_strides};
 ghost use Rattle.ndarray_layout.specs.CommonShape.{common_shape, common_shape_fault};
-ghost use Rattle.ndarray_layout.specs.Lengths.{NeedsNoMemory};
+ghost use Rattle.ndarray_layout.specs.Memory.{NeedsNoMemory};
 ghost use Rattle.ndarray_layout.specs.Merge.{MergeFits, merged_shape, merged_strides};
 ghost use Rattle.ndarray_layout.specs.MergedView.{axes_fault};
 ghost use Rattle.ndarray_layout.specs.PermutedView.{permute_fault, permuted_of};

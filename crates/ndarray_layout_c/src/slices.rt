@@ -3,7 +3,7 @@ ghost use Rattle.std.specs.Option.{option_or};
 ghost use Rattle.std.specs.Prelude.{◌≡◌, ◌≢◌, ◌≤◌, ◌↔◌, ◌==◌, ◌&&◌, ◌||◌, not, true, false, pos, None, Some, length, if◌then◌else◌, IfOk, IsOk, IsTrue, OnOk};
 ghost use Rattle.ndarray_layout.specs.declared.ErrorKind.{ErrorKind};
 ghost use Rattle.ndarray_layout.specs.SliceFault.{argument_fault, out_count};
-ghost use Rattle.ndarray_layout.specs.Lengths.{NeedsNoMemory};
+ghost use Rattle.ndarray_layout.specs.Memory.{NeedsNoMemory};
 ghost use Rattle.ndarray_layout.specs.Intersect.{Intersect};
 ghost use Rattle.ndarray_layout.specs.ShapeFault.{shape_fault};
 ghost use Rattle.ndarray_layout.specs.Signed.{all_signed};

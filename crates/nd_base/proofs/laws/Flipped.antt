@@ -7,7 +7,7 @@ use Rattle.std.proofs.lemmas.Int.{ints}
 use Rattle.nd_base.proofs.laws.Definitions.{is_index, offset_of, farthest_offset, magnitude, is_empty, high_span, low_span, reach_down}
 use Rattle.nd_base.proofs.laws.Definitions.{span}
 use Rattle.nd_base.proofs.laws.IsIndex.{is_index-zeros}
-use Rattle.nd_base.proofs.laws.Reach.{farthest_offset-zeros}
+use Rattle.nd_base.proofs.laws.FarthestOffset.{farthest_offset-zeros}
 use Rattle.nd_base.proofs.laws.Span.{low_high_span}
 
 -- ---- the coordinate and the index

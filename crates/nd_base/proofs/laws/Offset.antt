@@ -11,7 +11,7 @@ use Rattle.nd_base.proofs.laws.Definitions.{is_index, checked_offset, offset_of,
 use Rattle.nd_base.proofs.laws.Definitions.{low_span, reach_down, reach_up, IsValidLayout}
 use Rattle.nd_base.proofs.laws.IsIndex.{length_of_index}
 use Rattle.nd_base.proofs.laws.NonzeroSize.{coordinate_le_nonzero_size}
-use Rattle.nd_base.proofs.laws.Reach.{farthest_offset_le}
+use Rattle.nd_base.proofs.laws.FarthestOffset.{farthest_offset_le}
 
 -- one coordinate lies within the reach of its axis
 pub coordinate_bounds : (len : ℕ) (stride : ℤ) (i : ℕ) → i < len

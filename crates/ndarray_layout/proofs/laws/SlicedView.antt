@@ -8,7 +8,7 @@ use Rattle.nd_base.proofs.laws.Definitions.{IsCount, limit}
 use Rattle.nd_slice.specs.declared.fit.Fit.{Fit}
 use Rattle.nd_slice.specs.declared.elem.SliceInfoElem.{SliceInfoElem}
 use Rattle.nd_slice.specs.SliceFault.{in_count, out_count, first_fault, argument_fault}
-use Rattle.nd_slice.specs.Counts.{HasCounts}
+use Rattle.nd_slice.specs.AxisCounts.{HasCounts}
 use Rattle.nd_slice.specs.Selected.{selected}
 use Rattle.nd_slice.proofs.laws.Selected.{selected_injective}
 use Rattle.nd_slice.proofs.laws.SliceFault.{elements_of_no_fault}

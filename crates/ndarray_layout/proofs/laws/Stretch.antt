@@ -11,7 +11,7 @@ use Rattle.nd_base.proofs.laws.Definitions.{below, flat_index_in, index_of_flat_
 use Rattle.nd_base.proofs.laws.FlatIndex.{flat_index_in-index_of_flat_in, flat_index_in-lt-size, get_or-indices_in, index_of_flat_in-flat_index_in}
 use Rattle.nd_base.proofs.laws.FlatIndex.{is_index-index_of_flat_in, length-indices_in}
 use Rattle.nd_base.proofs.laws.Place.{places_at_flat_indices}
-use Rattle.nd_shape.specs.LayoutOrder.{LiesInOrder}
+use Rattle.nd_shape.specs.MajorOrder.{LiesInOrder}
 use Rattle.ndarray_layout.specs.Stretch.{IsStretch, stretch_start}
 use Rattle.ndarray_layout.specs.View.{View, LiesWithin, place_at}
 

@@ -2,7 +2,7 @@
 ghost use Rattle.std.specs.Prelude.{◌≡◌, ◌+◌, ◌*◌, ◌<◌, ◌≤◌, ◌==◌, ◌&&◌, ◌++◌, true, false, None, ℕ, length, nat_lt, slice_index, IfOk, IsOk, SomeIff};
 ghost use Rattle.std.specs.Option.{option_map_or};
 ghost use Rattle.std.specs.Result.{result_err};
-ghost use Rattle.nd_base.specs.Lengths.{NeedsNoMemory};
+ghost use Rattle.nd_base.specs.Memory.{NeedsNoMemory};
 ghost use Rattle.nd_base.specs.ShapeFault.{shape_fault};
 ghost use Rattle.nd_base.specs.Signed.{signed as signed_reading, all_signed};
 ghost use Rattle.nd_base.specs.Size.{is_empty, limit, nonzero_size};

@@ -1,7 +1,7 @@
 //! Views stretched to a shape, and the strides that they have then.
 ghost use Rattle.std.specs.Prelude.{◌≡◌, ◌≤◌, None, length, IfOk, IsOk};
 ghost use Rattle.std.specs.Result.{result_err};
-ghost use Rattle.nd_base.specs.Lengths.{NeedsNoMemory};
+ghost use Rattle.nd_base.specs.Memory.{NeedsNoMemory};
 ghost use Rattle.nd_base.specs.ShapeFault.{shape_fault};
 ghost use Rattle.nd_base.specs.Signed.{all_signed};
 ghost use Rattle.ndarray_layout.specs.BroadcastView.{broadcast_fault, broadcast_strides, takes_in, broadcast_of, broadcast_source};

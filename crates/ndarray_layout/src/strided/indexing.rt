@@ -1,6 +1,6 @@
 //! One coordinate of an axis, without the axis.
 ghost use Rattle.std.specs.Prelude.{◌≡◌, ◌-◌, None, IfOk, IsOk, length};
-ghost use Rattle.nd_base.specs.Lengths.{NeedsNoMemory};
+ghost use Rattle.nd_base.specs.Memory.{NeedsNoMemory};
 ghost use Rattle.nd_base.specs.ShapeFault.{shape_fault};
 ghost use Rattle.ndarray_layout.specs.CollapsedView.{collapse_fault};
 ghost use Rattle.ndarray_layout.specs.Descends.{Descends};

@@ -1,6 +1,6 @@
 //! A new axis.
 ghost use Rattle.std.specs.Prelude.{◌≡◌, ◌+◌, None, IfOk, IsOk, length};
-ghost use Rattle.nd_base.specs.Lengths.{NeedsNoMemory};
+ghost use Rattle.nd_base.specs.Memory.{NeedsNoMemory};
 ghost use Rattle.nd_base.specs.ShapeFault.{shape_fault};
 ghost use Rattle.ndarray_layout.specs.Descends.{Descends};
 ghost use Rattle.ndarray_layout.specs.InsertedView.{insert_fault, inserted_of, insert_source};

@@ -2,7 +2,7 @@
 ghost use Rattle.std.specs.List.{list_any, swap};
 ghost use Rattle.std.specs.Prelude.{◌≡◌, ◌==◌, ◌↔◌, ◌<◌, true, None, length, replicate, reverse, slice_index, IfOk, IsOk, IsTrue, OnErr, OnOk};
 ghost use Rattle.std.specs.Result.{result_err};
-ghost use Rattle.nd_base.specs.Lengths.{NeedsNoMemory};
+ghost use Rattle.nd_base.specs.Memory.{NeedsNoMemory};
 ghost use Rattle.nd_base.specs.ShapeFault.{shape_fault};
 ghost use Rattle.nd_dim.specs.AxesInOrder.{axis_numbers, is_axis_order, reordered as in_order};
 ghost use Rattle.ndarray_layout.specs.Descends.{Descends};

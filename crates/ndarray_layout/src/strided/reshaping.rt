@@ -1,6 +1,6 @@
 //! Views that have the places of a view along another shape.
 ghost use Rattle.std.specs.Prelude.{◌≡◌, ◌↔◌, None, length, IfErr, IfOk, IsOk, OnOk};
-ghost use Rattle.nd_base.specs.Lengths.{NeedsNoMemory};
+ghost use Rattle.nd_base.specs.Memory.{NeedsNoMemory};
 ghost use Rattle.nd_base.specs.Signed.{all_signed};
 ghost use Rattle.ndarray_layout.specs.Descends.{Descends};
 ghost use Rattle.ndarray_layout.specs.ReshapedView.{IsReshapeError, ReshapeFits, reshape_of, view_reshape_fault, reshape_source, reshaped_strides as strides_of};

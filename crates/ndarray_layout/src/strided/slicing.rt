@@ -1,14 +1,14 @@
 //! Slices of a view, and the shape and the strides that a slice argument leaves.
 ghost use Rattle.std.specs.Prelude.{◌≡◌, ◌↔◌, ◌⊎◌, ◌<◌, ◌≤◌, ◌^◌, IsTrue, IsFalse, Some, None, IfOk, IsOk, OnErr, OnOk, length, ℕ};
 ghost use Rattle.std.specs.Result.{result_err};
-ghost use Rattle.nd_base.specs.Lengths.{NeedsNoMemory};
+ghost use Rattle.nd_base.specs.Memory.{NeedsNoMemory};
 ghost use Rattle.nd_base.specs.ShapeFault.{shape_fault};
 ghost use Rattle.nd_base.specs.Signed.{signed as signed_reading, all_signed};
 ghost use Rattle.nd_base.specs.Size.{limit};
 ghost use Rattle.nd_base.specs.Span.{reach};
 ghost use Rattle.nd_base.specs.ValidLayout.{IsValidLayout};
 ghost use Rattle.nd_slice.specs.SliceFault.{first_fault, in_count, out_count};
-ghost use Rattle.nd_slice.specs.Counts.{HasCounts};
+ghost use Rattle.nd_slice.specs.AxisCounts.{HasCounts};
 ghost use Rattle.nd_slice.specs.SlicedAxis.{picked_stride, first_offset};
 ghost use Rattle.nd_slice.specs.Picks.{picks};
 ghost use Rattle.nd_slice.specs.Selected.{selected};

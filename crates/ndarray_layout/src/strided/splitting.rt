@@ -1,6 +1,6 @@
 //! The two parts of a view that is split along an axis.
 ghost use Rattle.std.specs.Prelude.{◌≡◌, ◌↔◌, ◌<◌, IsTrue, None, IfOk, IsOk, length, slice_set};
-ghost use Rattle.nd_base.specs.Lengths.{NeedsNoMemory};
+ghost use Rattle.nd_base.specs.Memory.{NeedsNoMemory};
 ghost use Rattle.nd_base.specs.ShapeFault.{shape_fault};
 ghost use Rattle.ndarray_layout.specs.Descends.{Descends};
 ghost use Rattle.ndarray_layout.specs.SplitView.{split_fault, first_part_of, second_part_of, second_source};

@@ -2,7 +2,7 @@
 ghost use Rattle.std.specs.Prelude.{◌≡◌, ◌+◌, ◌≤◌, ◌↔◌, ℕ, IsTrue, IsSome, IfSome, length};
 ghost use Rattle.nd_base.specs.Signed.{all_signed};
 ghost use Rattle.nd_base.specs.Size.{limit, nonzero_size, size};
-ghost use Rattle.nd_shape.specs.LayoutOrder.{LiesInOrder};
+ghost use Rattle.nd_shape.specs.MajorOrder.{LiesInOrder};
 ghost use Rattle.ndarray_layout.specs.Stretch.{IsStretch, stretch_start};
 ghost use Rattle.ndarray_layout.specs.View.{LiesWithin};
 

@@ -1,6 +1,6 @@
 //! All windows of a view.
 ghost use Rattle.std.specs.Prelude.{◌≡◌, ◌+◌, None, length, IfOk, IsOk};
-ghost use Rattle.nd_base.specs.Lengths.{NeedsNoMemory};
+ghost use Rattle.nd_base.specs.Memory.{NeedsNoMemory};
 ghost use Rattle.nd_base.specs.ShapeFault.{shape_fault};
 ghost use Rattle.ndarray_layout.specs.Descends.{IsViewOf};
 ghost use Rattle.ndarray_layout.specs.WindowsView.{window_source, windows_fault, windows_of};

@@ -2,7 +2,7 @@
 use Rattle.std.proofs.Common.{◌≡◌, Some, sym, ◌∙◌, subst}
 use Rattle.std.proofs.lemmas.Bool.{false≢true}
 use Rattle.ndarray_layout.specs.CommonShape.{common_shape}
-use Rattle.ndarray_layout.specs.Lengths.{NeedsNoMemory}
+use Rattle.ndarray_layout.specs.Memory.{NeedsNoMemory}
 use Rattle.ndarray_layout.specs.ShapeFault.{shape_fault}
 use Rattle.ndarray_layout.specs.View.{View}
 use Rattle.ndarray_layout.proofs.laws.CommonShape.{common_shape_count}

@@ -2,7 +2,7 @@
 use Rattle.std.proofs.Common.{◌≤◌, pos, length, sym, ap, subst, ◌∙◌}
 use Rattle.std.proofs.lemmas.List.{length-map}
 use Rattle.ndarray_layout.specs.declared.Order.TheVariants.{RowMajor}
-use Rattle.ndarray_layout.specs.LayoutOrder.{LiesInOrder}
+use Rattle.ndarray_layout.specs.MajorOrder.{LiesInOrder}
 use Rattle.ndarray_layout.specs.Rows.{row_places}
 use Rattle.ndarray_layout.specs.Signed.{all_signed, signed}
 use Rattle.ndarray_layout.specs.Size.{limit, nonzero_size}

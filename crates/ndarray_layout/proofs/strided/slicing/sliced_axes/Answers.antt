@@ -8,7 +8,7 @@ use Rattle.nd_base.proofs.laws.Definitions.{NeedsNoMemory, shape_fault, all_sign
 use Rattle.nd_slice.specs.declared.fit.Fit.{Fit}
 use Rattle.nd_slice.specs.declared.elem.SliceInfoElem.{SliceInfoElem}
 use Rattle.nd_slice.specs.SliceFault.{first_fault}
-use Rattle.nd_slice.specs.Counts.{HasCounts}
+use Rattle.nd_slice.specs.AxisCounts.{HasCounts}
 use Rattle.ndarray_layout.specs.SlicedView.{view_slice_fault}
 use Rattle.ndarray_layout.proofs.laws.SlicedView.{view_fault_of_counts}
 use Rattle.ndarray_layout.proofs.strided.slicing.sliced_axes.Goals as goal

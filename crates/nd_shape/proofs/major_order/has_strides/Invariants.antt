@@ -1,7 +1,7 @@
 -- The product of the lengths so far; the axes so far have the strides of their order.
 use Rattle.std.proofs.Common.{◌≡◌, ◌≢◌, ◌<◌, ℕ, get_or}
 use Rattle.nd_dim.specs.Strides.{size_until}
-use Rattle.nd_shape.proofs.layout_order.has_strides.Given as goal
+use Rattle.nd_shape.proofs.major_order.has_strides.Given as goal
 
 abbrev pub invariant-loop-k : goal.invariant-loop-k
 invariant-loop-k g l = record {

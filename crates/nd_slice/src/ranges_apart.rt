@@ -3,7 +3,7 @@ ghost use Rattle.std.specs.Prelude.{◌≡◌, ◌⊎◌, ◌<◌, None, IfSome,
 ghost use Rattle.nd_slice.specs.SliceFault.{argument_fault};
 ghost use Rattle.nd_slice.specs.ElemRange.{elem_end, elem_start};
 ghost use Rattle.nd_slice.specs.Intersect.{Intersect};
-ghost use Rattle.nd_slice.specs.SliceRange.{IsPast, end_on, start_on};
+ghost use Rattle.nd_slice.specs.RangesApart.{IsPast, end_on, start_on};
 
 use crate::elem::SliceInfoElem;
 use crate::fit::Fit;

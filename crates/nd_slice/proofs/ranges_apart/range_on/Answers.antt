@@ -4,9 +4,9 @@ use Rattle.nd_slice.proofs.Definitions.{SliceInfoElem, elem_on}
 use Rattle.nd_slice.specs.ElemRange.{elem_end, elem_start}
 use Rattle.nd_slice.specs.declared.elem.SliceInfoElem.TheVariants as elem
 use Rattle.nd_slice.proofs.laws.SliceFault.{elements_of_no_fault}
-use Rattle.nd_slice.proofs.laws.SliceRange.{elem_on-at}
-use Rattle.nd_slice.proofs.slice_range.range_on.Goals as goal
-use Rattle.nd_slice.proofs.slice_range.range_on.Goals.{After-range_of}
+use Rattle.nd_slice.proofs.laws.RangesApart.{elem_on-at}
+use Rattle.nd_slice.proofs.ranges_apart.range_on.Goals as goal
+use Rattle.nd_slice.proofs.ranges_apart.range_on.Goals.{After-range_of}
 
 -- what stands past the end of a list of elements
 abbrev nothing : SliceInfoElem

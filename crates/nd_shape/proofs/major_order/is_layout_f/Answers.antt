@@ -2,9 +2,9 @@ use Rattle.std.specs.Prelude.{IsTrue}
 use Rattle.std.proofs.Common.{◌↔◌, true, inl, refl, sym, ap, ◌∙◌}
 use Rattle.nd_base.specs.declared.order.Order.TheVariants.{ColumnMajor}
 use Rattle.nd_base.proofs.laws.Definitions.{all_signed, is_empty}
-use Rattle.nd_shape.specs.LayoutOrder.{SatisfiesOrderRule}
+use Rattle.nd_shape.specs.MajorOrder.{SatisfiesOrderRule}
 use Rattle.nd_shape.proofs.OrderRule.{lies_by_rule}
-use Rattle.nd_shape.proofs.layout_order.is_layout_f.Goals as goal
+use Rattle.nd_shape.proofs.major_order.is_layout_f.Goals as goal
 
 pub returns-then-contains : goal.returns-then-contains
 returns-then-contains g c =

@@ -12,7 +12,7 @@ use Rattle.nd_base.proofs.laws.Indices.{get_or-indices_in, indices_in_of_empty, 
 use Rattle.nd_base.proofs.laws.Offset.{offset_of-zeros}
 use Rattle.nd_base.proofs.laws.FlatIndex.{flat_index_in-lt-size, index_of_flat_in-flat_index_in}
 use Rattle.nd_base.proofs.laws.Size.{length_pos, size_of_empty}
-use Rattle.nd_shape.specs.LayoutOrder.{LiesInOrder, SatisfiesOrderRule}
+use Rattle.nd_shape.specs.MajorOrder.{LiesInOrder, SatisfiesOrderRule}
 use Rattle.nd_shape.specs.ShapeBuilder.{standard_strides}
 use Rattle.nd_base.proofs.laws.Place.{places_at_flat_indices}
 use Rattle.nd_shape.proofs.laws.StandardStrides.{offset_of-standard_strides, standard_count}

@@ -5,13 +5,13 @@ use Rattle.nd_dim.specs.Strides.{size_until}
 use Rattle.nd_dim.proofs.laws.Strides.{fortran_at}
 use Rattle.nd_base.proofs.laws.NonzeroSize.{size_le_nonzero_size}
 use Rattle.nd_base.proofs.laws.Size.{size_take_le, size_take_more}
-use Rattle.nd_shape.specs.LayoutOrder.{SatisfiesOrderRule}
+use Rattle.nd_shape.specs.MajorOrder.{SatisfiesOrderRule}
 use Rattle.nd_shape.proofs.OrderRule.{axis_by_rule, rule_by_axes}
-use Rattle.nd_shape.proofs.layout_order.has_strides.Given.{Over}
-use Rattle.nd_shape.proofs.layout_order.has_strides.Goals as goal
-use Rattle.nd_shape.proofs.layout_order.has_strides.Goals.{After-item-len}
-use Rattle.nd_shape.proofs.layout_order.has_strides.Goals.{else-len-ne1-via-then-len-ne1+else-item-size}
-use Rattle.nd_shape.proofs.layout_order.has_strides.Goals.{else-len-ne1-via-else-len-ne1}
+use Rattle.nd_shape.proofs.major_order.has_strides.Given.{Over}
+use Rattle.nd_shape.proofs.major_order.has_strides.Goals as goal
+use Rattle.nd_shape.proofs.major_order.has_strides.Goals.{After-item-len}
+use Rattle.nd_shape.proofs.major_order.has_strides.Goals.{else-len-ne1-via-then-len-ne1+else-item-size}
+use Rattle.nd_shape.proofs.major_order.has_strides.Goals.{else-len-ne1-via-else-len-ne1}
 
 -- the product with the length
 next_is : (g : Over) (c : After-item-len g)

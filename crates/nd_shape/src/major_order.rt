@@ -3,7 +3,7 @@ ghost use Rattle.std.specs.Prelude.{◌≡◌, ◌≤◌, ◌↔◌, IsTrue, fal
 ghost use Rattle.nd_base.specs.declared.order.Order.TheVariants.{RowMajor, ColumnMajor};
 ghost use Rattle.nd_base.specs.Signed.{all_signed};
 ghost use Rattle.nd_base.specs.Size.{is_empty, nonzero_size, limit};
-ghost use Rattle.nd_shape.specs.LayoutOrder.{LiesInOrder, SatisfiesOrderRule};
+ghost use Rattle.nd_shape.specs.MajorOrder.{LiesInOrder, SatisfiesOrderRule};
 
 use nd_base::Lengths;
 use nd_dim::{Forward, Reverse, Sequence, item};
