@@ -1,6 +1,7 @@
 //! Callers of the layout layer, one for each task, as docs/CALLING.md quotes them.
 #![tactic(auto)]
 
+mod blurs;
 mod broadcasts;
 mod counts;
 mod crops;
@@ -16,6 +17,7 @@ mod steps;
 mod transposes;
 mod writes;
 
+pub use blurs::blur;
 pub use broadcasts::on_common_shape;
 pub use counts::count_bright;
 pub use crops::{band, crop, cut};

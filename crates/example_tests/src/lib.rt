@@ -7,6 +7,8 @@ mod arrays;
 #[cfg(test)]
 mod assertions;
 #[cfg(test)]
+mod blurs;
+#[cfg(test)]
 mod callers;
 #[cfg(test)]
 mod foreign;

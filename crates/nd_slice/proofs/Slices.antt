@@ -56,26 +56,35 @@ module _ (fit : Fit) (shape : List ℕ) (slices : List (List SliceInfoElem)) (ba
         before = before;
       }
 
-  -- where one begins past a slice, each that is read after it does too
-  pub apart_from_here : (axis : ℕ) (slice : List SliceInfoElem) (here later : ℕ) → AreInOrder fit shape axis slices backwards
-      → IsPast fit shape axis slice (at here) → argument_fault fit shape slice ≡ None → slices_fault fit shape slices ≡ None
-      → here ≤ later → later < length slices → AreApart fit shape slice (at later)
-  apart_from_here axis slice here later order is fits none after below =
-      apart_past fit shape axis slice (at later) fits (fits_read later none below)
-      (record { there = is.there; past = omega (arith, is.past, order.in_order here later after below) })
+  -- a slice and a position, at or after another one, of slices that fit as it does
+  pub record ReadAfter (slice : List SliceInfoElem) (here later : ℕ) : Type 0 where
+    pub fits : argument_fault fit shape slice ≡ None
+    pub none : slices_fault fit shape slices ≡ None
+    pub after : here ≤ later
+    pub below : later < length slices
 
--- the same where it isn't known on which axis they are in order
-pub apart_in_order : (fit : Fit) (shape : List ℕ) (slices : List (List SliceInfoElem)) (backwards : Bool) (axis : Option ℕ)
-    (end : Option (ℕ × ℕ)) (slice : List SliceInfoElem) (here later : ℕ) → IfSome axis (λ a. AreInOrder fit shape a slices backwards)
-    → IfSome end (λ e. (axis ≡ Some e.0) × (e.0 < length shape) × (e.1 ≡ end_on fit shape e.0 slice))
-    → IsSomeAnd end (λ e. (e.0 < length shape) × (e.1 ≤ start_on fit shape e.0 (slice_at slices backwards here)))
-    → argument_fault fit shape slice ≡ None → slices_fault fit shape slices ≡ None → here ≤ later → later < length slices
-    → AreApart fit shape slice (slice_at slices backwards later)
-apart_in_order fit shape slices backwards axis None slice here later order known past fits none after below = absurd past
-apart_in_order fit shape slices backwards axis (Some end) slice here later order known past fits none after below =
-    apart_from_here fit shape slices backwards end.0 slice here later
-    (subst (λ a. IfSome a (λ number. AreInOrder fit shape number slices backwards)) known.0 order)
-    (record { there = past.0; past = omega (arith, known.2, past.1) }) fits none after below
+  -- where one begins past a slice, each that is read after it does too
+  apart_from_here : (axis : ℕ) (slice : List SliceInfoElem) (here later : ℕ) → AreInOrder fit shape axis slices backwards
+      → IsPast fit shape axis slice (at here) → ReadAfter slice here later → AreApart fit shape slice (at later)
+  apart_from_here axis slice here later order is read =
+      apart_past fit shape axis slice (at later) read.fits (fits_read later read.none read.below)
+      (record { there = is.there; past = omega (arith, is.past, order.in_order here later read.after read.below) })
+
+  -- the same where it isn't known on which axis they are in order: where it is, the slice ends there, and the one at a position begins
+  -- at that end or later
+  pub record BeginsPast (axis : Option ℕ) (end : Option (ℕ × ℕ)) (slice : List SliceInfoElem) (here : ℕ) : Type 0 where
+    pub order : IfSome axis (λ a. AreInOrder fit shape a slices backwards)
+    pub end_on_axis : IfSome end (λ e. (axis ≡ Some e.0) × (e.0 < length shape) × (e.1 ≡ end_on fit shape e.0 slice))
+    pub past : IsSomeAnd end (λ e. (e.0 < length shape) × (e.1 ≤ start_on fit shape e.0 (at here)))
+
+  pub apart_in_order : (axis : Option ℕ) (end : Option (ℕ × ℕ)) (slice : List SliceInfoElem) (here later : ℕ)
+      → BeginsPast axis end slice here → ReadAfter slice here later → AreApart fit shape slice (at later)
+  apart_in_order axis None slice here later begins read = absurd begins.past
+  apart_in_order axis (Some end) slice here later begins read =
+      let known = begins.end_on_axis in
+      apart_from_here end.0 slice here later
+      (subst (λ a. IfSome a (λ number. AreInOrder fit shape number slices backwards)) known.0 begins.order)
+      (record { there = begins.past.0; past = omega (arith, known.2, begins.past.1) }) read
 
 -- ---- two slices by the order in which they are read
 module _ (fit : Fit) (shape : List ℕ) (slices : List (List SliceInfoElem)) where

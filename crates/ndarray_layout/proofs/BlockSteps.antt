@@ -5,7 +5,6 @@ use Rattle.std.proofs.Math.Nat.{mul-le-mul_right}
 use Rattle.std.proofs.lemmas.Bool.{and_from, and_parts, cases_lt, lt-ltb, ltb-true}
 use Rattle.std.proofs.lemmas.Int.{ints}
 use Rattle.std.proofs.lemmas.List.{length-append}
-use Rattle.std.proofs.lemmas.Nat.{same_from_place}
 use Rattle.nd_base.specs.Elementwise.{elementwise, products, sums}
 use Rattle.nd_base.proofs.laws.Definitions.{is_empty, is_index, limit, nonzero_size, offset_of}
 use Rattle.nd_base.proofs.laws.IsIndex.{length_of_index, nonempty_from_index}
@@ -51,15 +50,27 @@ pub record AreBlocks (count : ℕ → ℕ → ℕ) (step : ℕ → ℕ) (along :
   pub fit : (len size : ℕ) → 0 < size → 0 < count len size → (count len size - 1) * step size + size ≤ len
   pub stride : (len size : ℕ) (stride : ℤ) → 2 ≤ count len size → along len size stride ≡ pos (step size) *ℤ stride
 
-module _ (count : ℕ → ℕ → ℕ) (step : ℕ → ℕ) (along : ℕ → ℕ → ℤ → ℤ) (blocks : AreBlocks count step along) where
-  pub length-strides_along : (shape block : List ℕ) (strides : List ℤ) → length shape ≡ length block → length shape ≡ length strides
-      → length (strides_along along shape block strides) ≡ length shape
-  length-strides_along [] block strides e g = refl
-  length-strides_along (len ∷ shape) [] strides e g = absurd (omega arith)
-  length-strides_along (len ∷ shape) (size ∷ block) [] e g = absurd (omega arith)
-  length-strides_along (len ∷ shape) (size ∷ block) (stride ∷ strides) e g =
-      ap suc (length-strides_along shape block strides (omega arith) (omega arith))
+-- there is a length of a block for each axis, and a stride
+pub record IsForEachAxis (shape block : List ℕ) (strides : List ℤ) : Type 0 where
+  pub block_count : length shape ≡ length block
+  pub stride_count : length shape ≡ length strides
 
+pub next_axes : {len size : ℕ} {stride : ℤ} {shape block : List ℕ} {strides : List ℤ}
+    → IsForEachAxis (len ∷ shape) (size ∷ block) (stride ∷ strides) → IsForEachAxis shape block strides
+next_axes each =
+    let blocks = each.block_count in
+    let strides = each.stride_count in
+    record { block_count = omega arith; stride_count = omega arith }
+
+pub length-strides_along : (along : ℕ → ℕ → ℤ → ℤ) (shape block : List ℕ) (strides : List ℤ) → IsForEachAxis shape block strides
+    → length (strides_along along shape block strides) ≡ length shape
+length-strides_along along [] block strides each = refl
+length-strides_along along (len ∷ shape) [] strides each = let count = each.block_count in absurd (omega arith)
+length-strides_along along (len ∷ shape) (size ∷ block) [] each = let count = each.stride_count in absurd (omega arith)
+length-strides_along along (len ∷ shape) (size ∷ block) (stride ∷ strides) each =
+    ap suc (length-strides_along along shape block strides (next_axes each))
+
+module _ (count : ℕ → ℕ → ℕ) (step : ℕ → ℕ) (along : ℕ → ℕ → ℤ → ℤ) (blocks : AreBlocks count step along) where
   -- a coordinate in a block is one of the axis
   below : (len size i j : ℕ) → i < count len size → j < size → i * step size + j < len
   below len size i j here there =
@@ -87,24 +98,23 @@ module _ (count : ℕ → ℕ → ℕ) (step : ℕ → ℕ) (along : ℕ → ℕ
     pub offset : offset_of (strides_along along shape block strides) index +ℤ offset_of strides inner
         ≡ offset_of strides (sums (products index (map step block)) inner)
 
-  source_kept : (shape block : List ℕ) (strides : List ℤ) (index inner : List ℕ) → length shape ≡ length block
-      → length shape ≡ length strides
-      → is_index (elementwise count shape block) index ≡ true → is_index block inner ≡ true
+  source_kept : (shape block : List ℕ) (strides : List ℤ) (index inner : List ℕ) → IsForEachAxis shape block strides
+      → (is_index (elementwise count shape block) index ≡ true) × (is_index block inner ≡ true)
       → SourceKept shape block strides index inner
-  source_kept [] [] strides [] [] e g here there = record { within = refl; offset = omega (arith, ints) }
-  source_kept [] [] strides [] (j ∷ inner) e g here there = absurd (cc)
-  source_kept [] [] strides (i ∷ index) inner e g here there = absurd (cc)
-  source_kept [] (size ∷ block) strides index inner e g here there = absurd (omega arith)
-  source_kept (len ∷ shape) [] strides index inner e g here there = absurd (omega arith)
-  source_kept (len ∷ shape) (size ∷ block) [] index inner e g here there = absurd (omega arith)
-  source_kept (len ∷ shape) (size ∷ block) (stride ∷ strides) [] inner e g here there = absurd (cc)
-  source_kept (len ∷ shape) (size ∷ block) (stride ∷ strides) (i ∷ index) [] e g here there = absurd (cc)
-  source_kept (len ∷ shape) (size ∷ block) (stride ∷ strides) (i ∷ index) (j ∷ inner) e g here there =
-      let outer = and_parts (nat_lt i (count len size)) (is_index (elementwise count shape block) index) here in
-      let inside = and_parts (nat_lt j size) (is_index block inner) there in
+  source_kept [] [] strides [] [] each here = record { within = refl; offset = omega (arith, ints) }
+  source_kept [] [] strides [] (j ∷ inner) each here = let inside = here.1 in absurd (cc)
+  source_kept [] [] strides (i ∷ index) inner each here = let outer = here.0 in absurd (cc)
+  source_kept [] (size ∷ block) strides index inner each here = let count = each.block_count in absurd (omega arith)
+  source_kept (len ∷ shape) [] strides index inner each here = let count = each.block_count in absurd (omega arith)
+  source_kept (len ∷ shape) (size ∷ block) [] index inner each here = let count = each.stride_count in absurd (omega arith)
+  source_kept (len ∷ shape) (size ∷ block) (stride ∷ strides) [] inner each here = let outer = here.0 in absurd (cc)
+  source_kept (len ∷ shape) (size ∷ block) (stride ∷ strides) (i ∷ index) [] each here = let inside = here.1 in absurd (cc)
+  source_kept (len ∷ shape) (size ∷ block) (stride ∷ strides) (i ∷ index) (j ∷ inner) each here =
+      let outer = and_parts (nat_lt i (count len size)) (is_index (elementwise count shape block) index) here.0 in
+      let inside = and_parts (nat_lt j size) (is_index block inner) here.1 in
       let block_there = ltb-true i (count len size) outer.0 in
       let first = below len size i j block_there (ltb-true j size inside.0) in
-      let rest = source_kept shape block strides index inner (omega arith) (omega arith) outer.1 inside.1 in
+      let rest = source_kept shape block strides index inner (next_axes each) (outer.1, inside.1) in
       let at = i * step size + j in
       record {
         within = and_from (nat_lt at len) (is_index shape (sums (products index (map step block)) inner)) (lt-ltb at len first) rest.within;
@@ -125,8 +135,11 @@ module _ (count : ℕ → ℕ → ℕ) (step : ℕ → ℕ) (along : ℕ → ℕ
     counts_count : length counts ≡ n
     counts_count = length-elementwise count view.shape block (sym same)
 
+    each_axis : IsForEachAxis view.shape block view.strides
+    each_axis = record { block_count = sym same; stride_count = v.valid.same_count }
+
     strides_count : length strides ≡ n
-    strides_count = length-strides_along view.shape block view.strides (sym same) v.valid.same_count
+    strides_count = length-strides_along along view.shape block view.strides each_axis
 
     pub blocks_keep : KeepsPlaces (λ index. sums (products (take n index) (map step block)) (drop n index)) view
         (blocks_of counts strides block view)
@@ -136,7 +149,7 @@ module _ (count : ℕ → ℕ → ℕ) (step : ℕ → ℕ) (along : ℕ → ℕ
         let whole : length (counts ++ block) ≡ length counts + length block = length-append counts block in
         let outer : is_index counts (take n index) ≡ true = ap (λ m. is_index counts (take m index)) (sym counts_count) ∙ parts.0 in
         let inside : is_index block (drop n index) ≡ true = ap (λ m. is_index block (drop m index)) (sym counts_count) ∙ parts.1 in
-        let kept = source_kept view.shape block view.strides (take n index) (drop n index) (sym same) v.valid.same_count outer inside in
+        let kept = source_kept view.shape block view.strides (take n index) (drop n index) each_axis (outer, inside) in
         let some : strides_of_blocks (counts ++ block) (strides ++ view.strides) ≡ strides ++ view.strides =
         ap (λ empty. cond empty (replicate (length (counts ++ block)) (pos 0)) (strides ++ view.strides))
         (nonempty_from_index (counts ++ block) index here) in
@@ -160,26 +173,3 @@ module _ (count : ℕ → ℕ → ℕ) (step : ℕ → ℕ) (along : ℕ → ℕ
             ∙ omega (arith, counts_count, strides_count, v.valid.same_count, length-append strides view.strides)
             ∙ ap length (sym along_all) in
             IsView-from_places (λ index. sums (products (take n index) (map step block)) (drop n index)) v count_all fits some blocks_keep
-
--- ---- blocks side by side
--- two indices in blocks with one source are one
-pub apart_side_by_side : (block index inner other within : List ℕ) → length index ≡ length block → length other ≡ length block
-    → is_index block inner ≡ true → is_index block within ≡ true
-    → sums (products index block) inner ≡ sums (products other block) within → (index ≡ other) × (inner ≡ within)
-apart_side_by_side [] [] [] [] [] e g here there same = (refl, refl)
-apart_side_by_side [] (i ∷ index) inner other within e g here there same = absurd (omega arith)
-apart_side_by_side [] [] (j ∷ inner) other within e g here there same = absurd (cc)
-apart_side_by_side [] [] [] (k ∷ other) within e g here there same = absurd (omega arith)
-apart_side_by_side [] [] [] [] (l ∷ within) e g here there same = absurd (cc)
-apart_side_by_side (size ∷ block) [] inner other within e g here there same = absurd (omega arith)
-apart_side_by_side (size ∷ block) (i ∷ index) [] other within e g here there same = absurd (cc)
-apart_side_by_side (size ∷ block) (i ∷ index) (j ∷ inner) [] within e g here there same = absurd (omega arith)
-apart_side_by_side (size ∷ block) (i ∷ index) (j ∷ inner) (k ∷ other) [] e g here there same = absurd (cc)
-apart_side_by_side (size ∷ block) (i ∷ index) (j ∷ inner) (k ∷ other) (l ∷ within) e g here there same =
-    let first = and_parts (nat_lt j size) (is_index block inner) here in
-    let second = and_parts (nat_lt l size) (is_index block within) there in
-    let head : i * size + j ≡ k * size + l = cc in
-    let tail : sums (products index block) inner ≡ sums (products other block) within = cc in
-    let one = same_from_place i j k l size (ltb-true j size first.0) (ltb-true l size second.0) head in
-    let rest = apart_side_by_side block index inner other within (omega arith) (omega arith) first.1 second.1 tail in
-    (ap (λ x. x ∷ index) one.0 ∙ ap (λ xs. k ∷ xs) rest.0, ap (λ x. x ∷ inner) one.1 ∙ ap (λ xs. l ∷ xs) rest.1)

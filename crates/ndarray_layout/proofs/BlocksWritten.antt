@@ -4,6 +4,7 @@ use Rattle.std.proofs.Common.{◌≡◌, ℕ, zero, suc, ◌+◌, ◌-◌, ◌*�
 use Rattle.std.proofs.Common.{List, [], ◌∷◌, ◌++◌, length, get_or, take, drop, refl, sym, ap, ◌∙◌, arith, drop_of_length-le, mul_assoc}
 use Rattle.std.specs.Prelude.{◌&&◌, ◌==◌, nat_lt}
 use Rattle.std.proofs.lemmas.List.{append-nil, ext_get_or, get_or-take, length-drop, length-take-le}
+use Rattle.nd_base.specs.declared.error.ErrorKind.{ErrorKind}
 use Rattle.nd_base.specs.declared.error.ErrorKind.TheVariants.{IncompatibleShape, Overflow, Unsupported}
 use Rattle.nd_base.specs.Elementwise.{elementwise}
 use Rattle.nd_base.proofs.laws.Definitions.{is_empty, limit, nonzero_size}
@@ -13,7 +14,7 @@ use Rattle.ndarray_layout.specs.BlocksView.{blocks_fault, strides_along}
 use Rattle.ndarray_layout.specs.ChunksView.{chunk_count, chunk_stride}
 use Rattle.ndarray_layout.specs.WindowsView.{window_count}
 use Rattle.ndarray_layout.specs.private.Blocks.{block_count, block_counts, block_stride, block_strides}
-use Rattle.ndarray_layout.proofs.BlockSteps.{length-elementwise}
+use Rattle.ndarray_layout.proofs.BlockSteps.{IsForEachAxis, length-elementwise, length-strides_along, next_axes}
 use Rattle.ndarray_layout.proofs.laws.BlocksView.{allows}
 
 -- ---- two lists axis by axis
@@ -24,22 +25,15 @@ get_or-elementwise f (x ∷ xs) [] k e h = absurd (omega arith)
 get_or-elementwise f (x ∷ xs) (y ∷ ys) zero e h = refl
 get_or-elementwise f (x ∷ xs) (y ∷ ys) (suc k) e h = get_or-elementwise f xs ys k (omega arith) (omega arith)
 
-length-along : (along : ℕ → ℕ → ℤ → ℤ) (shape block : List ℕ) (strides : List ℤ) → length shape ≡ length block
-    → length shape ≡ length strides → length (strides_along along shape block strides) ≡ length shape
-length-along along [] block strides e g = refl
-length-along along (len ∷ shape) [] strides e g = absurd (omega arith)
-length-along along (len ∷ shape) (size ∷ block) [] e g = absurd (omega arith)
-length-along along (len ∷ shape) (size ∷ block) (stride ∷ strides) e g = ap suc (length-along along shape block strides (omega arith) (omega arith))
-
-get_or-along : (along : ℕ → ℕ → ℤ → ℤ) (shape block : List ℕ) (strides : List ℤ) (k : ℕ) → length shape ≡ length block
-    → length shape ≡ length strides → k < length shape
+get_or-along : (along : ℕ → ℕ → ℤ → ℤ) (shape block : List ℕ) (strides : List ℤ) (k : ℕ) → IsForEachAxis shape block strides
+    → k < length shape
     → get_or (strides_along along shape block strides) k (pos 0) ≡ along (get_or shape k 0) (get_or block k 0) (get_or strides k (pos 0))
-get_or-along along [] block strides k e g h = absurd (omega arith)
-get_or-along along (len ∷ shape) [] strides k e g h = absurd (omega arith)
-get_or-along along (len ∷ shape) (size ∷ block) [] k e g h = absurd (omega arith)
-get_or-along along (len ∷ shape) (size ∷ block) (stride ∷ strides) zero e g h = refl
-get_or-along along (len ∷ shape) (size ∷ block) (stride ∷ strides) (suc k) e g h =
-    get_or-along along shape block strides k (omega arith) (omega arith) (omega arith)
+get_or-along along [] block strides k each h = absurd (omega arith)
+get_or-along along (len ∷ shape) [] strides k each h = let count = each.block_count in absurd (omega arith)
+get_or-along along (len ∷ shape) (size ∷ block) [] k each h = let count = each.stride_count in absurd (omega arith)
+get_or-along along (len ∷ shape) (size ∷ block) (stride ∷ strides) zero each h = refl
+get_or-along along (len ∷ shape) (size ∷ block) (stride ∷ strides) (suc k) each h =
+    get_or-along along shape block strides k (next_axes each) (omega arith)
 
 -- ---- blocks axis by axis
 pub length-block_counts : (blocks : Blocks) (shape block : List ℕ) → length shape ≡ length block
@@ -52,17 +46,17 @@ pub get_or-block_counts : (blocks : Blocks) (shape block : List ℕ) (k : ℕ) �
 get_or-block_counts Windows shape block k e h = get_or-elementwise window_count shape block k e h
 get_or-block_counts Chunks shape block k e h = get_or-elementwise chunk_count shape block k e h
 
-pub length-block_strides : (blocks : Blocks) (shape block : List ℕ) (strides : List ℤ) → length shape ≡ length block
-    → length shape ≡ length strides → length (block_strides blocks shape block strides) ≡ length shape
-length-block_strides Windows shape block strides e g = sym g
-length-block_strides Chunks shape block strides e g = length-along chunk_stride shape block strides e g
+pub length-block_strides : (blocks : Blocks) (shape block : List ℕ) (strides : List ℤ) → IsForEachAxis shape block strides
+    → length (block_strides blocks shape block strides) ≡ length shape
+length-block_strides Windows shape block strides each = sym each.stride_count
+length-block_strides Chunks shape block strides each = length-strides_along chunk_stride shape block strides each
 
-pub get_or-block_strides : (blocks : Blocks) (shape block : List ℕ) (strides : List ℤ) (k : ℕ) → length shape ≡ length block
-    → length shape ≡ length strides → k < length shape
+pub get_or-block_strides : (blocks : Blocks) (shape block : List ℕ) (strides : List ℤ) (k : ℕ) → IsForEachAxis shape block strides
+    → k < length shape
     → get_or (block_strides blocks shape block strides) k (pos 0)
     ≡ block_stride blocks (get_or shape k 0) (get_or block k 0) (get_or strides k (pos 0))
-get_or-block_strides Windows shape block strides k e g h = refl
-get_or-block_strides Chunks shape block strides k e g h = get_or-along chunk_stride shape block strides k e g h
+get_or-block_strides Windows shape block strides k each h = refl
+get_or-block_strides Chunks shape block strides k each h = get_or-along chunk_stride shape block strides k each h
 
 -- ---- what is written
 -- a list whose first items are those of another one
@@ -90,6 +84,15 @@ nonzero_size-append (len ∷ xs) ys =
         ≡ cond none (nonzero_size xs) (len * nonzero_size xs) * nonzero_size ys
     by true = refl
     by false = sym (mul_assoc len (nonzero_size xs) (nonzero_size ys))
+
+-- a number past the limit is what a fault of it reports
+pub overflow_reported : (large : Bool) {kind : ErrorKind} → Some kind ≡ cond large (Some Overflow) None → large ≡ true
+overflow_reported true e = refl
+overflow_reported false e = absurd (cc)
+
+pub no_overflow_reported : (large : Bool) → None ≡ cond large (Some Overflow) None → large ≡ false
+no_overflow_reported true e = absurd (cc)
+no_overflow_reported false e = refl
 
 -- the fault where the counts of axes fit and no length of the block is 0
 pub overflow_fault : (fixed : Option ℕ) (shape counts block : List ℕ) (large : Bool)

@@ -35,16 +35,22 @@ pub stride_read : (strides : List ℕ) (axis : ℕ) {stride : ℕ} → slice_get
 stride_read strides axis e = ap signed (length_read strides axis e) ∙ sym (get_or-map signed strides axis 0)
 
 -- ---- all axes
+-- there is such an axis, and a stride for each
+pub record HasAxis (shape : List ℕ) (strides : List ℤ) (axis : ℕ) : Type 0 where
+  pub counts : length shape ≡ length strides
+  pub there : axis < length shape
+
 -- what is summed over the axes changes by that one
-pub sum-changed : (f : ℕ → ℤ → ℕ) (shape : List ℕ) (strides : List ℤ) (axis len : ℕ) (stride : ℤ) → length shape ≡ length strides
-    → axis < length shape
+pub sum-changed : (f : ℕ → ℤ → ℕ) (shape : List ℕ) (strides : List ℤ) (axis len : ℕ) (stride : ℤ) → HasAxis shape strides axis
     → sum_over_axes f (set shape axis len) (set strides axis stride) + f (get_or shape axis 0) (get_or strides axis (pos 0))
     ≡ sum_over_axes f shape strides + f len stride
-sum-changed f [] strides axis len stride e h = absurd (omega arith)
-sum-changed f (n ∷ shape) [] axis len stride e h = absurd (omega arith)
-sum-changed f (n ∷ shape) (s ∷ strides) zero len stride e h = omega arith
-sum-changed f (n ∷ shape) (s ∷ strides) (suc axis) len stride e h =
-    omega (arith, sum-changed f shape strides axis len stride (omega arith) (omega arith))
+sum-changed f [] strides axis len stride has = let there = has.there in absurd (omega arith)
+sum-changed f (n ∷ shape) [] axis len stride has = let counts = has.counts in absurd (omega arith)
+sum-changed f (n ∷ shape) (s ∷ strides) zero len stride has = omega arith
+sum-changed f (n ∷ shape) (s ∷ strides) (suc axis) len stride has =
+    let counts = has.counts in
+    let there = has.there in
+    omega (arith, sum-changed f shape strides axis len stride (record { counts = omega arith; there = omega arith }))
 
 -- so does an offset
 pub offset-changed : (strides : List ℤ) (coordinates : List ℕ) (axis : ℕ) (stride : ℤ) (i : ℕ) → length strides ≡ length coordinates

@@ -1,19 +1,21 @@
 -- What a slice with a step of 1 picks: every coordinate of its range, so that pick j is the start plus j. A crop is such a slice of each
 -- axis.
 use Rattle.std.proofs.Common.{◌≡◌, ℕ, ◌+◌, ◌-◌, ◌<◌, ◌≤◌, min, ℤ, pos, negsuc, Option, Some, None, List, [], ◌∷◌, length, refl, ap, ◌∙◌}
-use Rattle.std.proofs.Common.{arith, IsTrue, nat_lt, slice_index}
+use Rattle.std.proofs.Common.{arith, IsTrue, map, nat_lt, slice_index}
 use Rattle.std.specs.Int.{div_ceil}
 use Rattle.std.specs.List.{range_with_len}
-use Rattle.std.proofs.lemmas.Bool.{and_parts, ltb-true}
+use Rattle.std.proofs.lemmas.Bool.{and_parts, cond-true, eq-eqb, le-leb, ltb-true}
 use Rattle.std.proofs.lemmas.Grind.{div_ceil_times}
 use Rattle.std.proofs.lemmas.List.{ext_get_or}
 use Rattle.std.proofs.lemmas.List.FromFn.{length-range_with_len, get_or-range_with_len}
-use Rattle.nd_base.specs.Elementwise.{sums}
+use Rattle.nd_base.specs.Elementwise.{sums, differences, DifferencesFit}
 use Rattle.nd_base.specs.Indices.{below}
-use Rattle.nd_slice.proofs.Definitions.{Fit, Slice, SliceInfoElem, between, end_meaning, is_index, magnitude, nearest, picks, range}
-use Rattle.nd_slice.proofs.Definitions.{selected, slice_with, sliced_shape, start_meaning}
+use Rattle.nd_base.specs.declared.error.ErrorKind.TheVariants.{IncompatibleShape}
+use Rattle.nd_slice.proofs.Definitions.{Fit, Slice, SliceInfoElem, argument_fault, between, end_meaning, first_fault, in_count, is_index}
+use Rattle.nd_slice.proofs.Definitions.{magnitude, nearest, picks, range, selected, slice_fault, slice_with, sliced_shape, start_meaning}
 use Rattle.nd_slice.specs.declared.fit.Fit.TheVariants.{Strict, Clamp}
 use Rattle.nd_slice.specs.declared.elem.SliceInfoElem.TheVariants as elem
+use Rattle.nd_slice.proofs.laws.AxisFault.{no_fault_of_fits}
 use Rattle.nd_slice.proofs.laws.Between.{length-between, pick_up}
 
 -- ---- of a range
@@ -108,3 +110,51 @@ selected_by_ranges fit (start ∷ starts) (end ∷ ends) (len ∷ shape) (j ∷ 
     let first = pick_of_range fit len start end j (ltb-true j count parts.0) in
     let rest = selected_by_ranges fit starts ends shape index parts.1 in
     cc
+
+-- ---- from a start up to an end on each axis
+-- the argument that takes of each axis the coordinates from a start up to, not including, an end
+abbrev pub ranges_between : List ℕ → List ℕ → List SliceInfoElem
+ranges_between starts ends = ranges starts (map (λ end. Some (pos end)) ends)
+
+-- it leaves of each axis as many coordinates as the end is above the start
+pub shape_between : (starts ends shape : List ℕ) → length starts ≡ length shape → length ends ≡ length shape
+    → sliced_shape Strict (ranges_between starts ends) shape ≡ differences ends starts
+shape_between [] [] [] e f = refl
+shape_between [] [] (len ∷ shape) e f = absurd (omega arith)
+shape_between [] (end ∷ ends) shape e f = absurd (omega arith)
+shape_between (start ∷ starts) [] shape e f = absurd (omega arith)
+shape_between (start ∷ starts) (end ∷ ends) [] e f = absurd (omega arith)
+shape_between (start ∷ starts) (end ∷ ends) (len ∷ shape) e f =
+    let first = length-picks_by_one Strict len (pos start) (Some (pos end)) in
+    let rest = shape_between starts ends shape (omega arith) (omega arith) in
+    cc
+
+axis_fits : (len start end : ℕ) → start ≤ len → end ≤ len → slice_fault Strict len (slice_with (pos start) (Some (pos end)) (pos 1)) ≡ None
+axis_fits len start end a b = no_fault_of_fits Strict len (slice_with (pos start) (Some (pos end)) (pos 1)) (record {
+  start_within = le-leb start len a;
+  end_within = le-leb end len b;
+  step_moves = refl;
+})
+
+axes_fit : (starts ends shape : List ℕ) → DifferencesFit shape starts → DifferencesFit shape ends
+    → first_fault Strict shape (ranges_between starts ends) ≡ None
+axes_fit [] ends shape a b = refl
+axes_fit (start ∷ starts) [] shape a b = refl
+axes_fit (start ∷ starts) (end ∷ ends) [] a b = refl
+axes_fit (start ∷ starts) (end ∷ ends) (len ∷ shape) a b =
+    rw (axis_fits len start end a.0 b.0) (axes_fit starts ends shape a.1 b.1)
+
+one_for_each_axis : (starts ends shape : List ℕ) → DifferencesFit shape starts → DifferencesFit shape ends
+    → in_count (ranges_between starts ends) ≡ length shape
+one_for_each_axis [] ends [] a b = refl
+one_for_each_axis [] ends (len ∷ shape) a b = absurd a
+one_for_each_axis (start ∷ starts) ends [] a b = absurd a
+one_for_each_axis (start ∷ starts) [] (len ∷ shape) a b = absurd b
+one_for_each_axis (start ∷ starts) (end ∷ ends) (len ∷ shape) a b = omega (arith, one_for_each_axis starts ends shape a.1 b.1)
+
+-- and it fits a shape of which no length is below the start or the end on its axis
+pub fits_between : (starts ends shape : List ℕ) → DifferencesFit shape starts → DifferencesFit shape ends
+    → argument_fault Strict shape (ranges_between starts ends) ≡ None
+fits_between starts ends shape a b =
+    let same = eq-eqb (in_count (ranges_between starts ends)) (length shape) (one_for_each_axis starts ends shape a b) in
+    cond-true _ (first_fault Strict shape (ranges_between starts ends)) (Some IncompatibleShape) same ∙ axes_fit starts ends shape a b

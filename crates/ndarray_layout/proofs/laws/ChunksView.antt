@@ -5,7 +5,7 @@ use Rattle.std.specs.Prelude.{◌/◌, ◌%◌, ◌==◌}
 use Rattle.std.proofs.Math.Nat.{div-mul-le_self}
 use Rattle.std.proofs.lemmas.Bool.{and_from, and_parts, eqb-false, le-ltb, lt-ltb, ltb-true, or_parts}
 use Rattle.std.proofs.lemmas.List.{drop_at, length-append, length-take-le, map-id, take-append-drop, take_at}
-use Rattle.std.proofs.lemmas.Nat.{div-add-mod', div_below, mod_below}
+use Rattle.std.proofs.lemmas.Nat.{div-add-mod', div_below, mod_below, same_from_place}
 use Rattle.nd_base.specs.Elementwise.{elementwise, products, sums}
 use Rattle.nd_base.proofs.laws.Definitions.{is_empty, is_index}
 use Rattle.nd_base.proofs.laws.IsIndex.{length_of_index}
@@ -13,7 +13,7 @@ use Rattle.ndarray_layout.specs.ChunksView.{chunk_count, chunk_counts, chunk_sou
 use Rattle.ndarray_layout.specs.Descends.{Descends}
 use Rattle.ndarray_layout.specs.KeepsPlaces.{KeepsPlaces}
 use Rattle.ndarray_layout.specs.View.{View, IsView, place_at}
-use Rattle.ndarray_layout.proofs.BlockSteps.{AreBlocks, apart_side_by_side, blocks_are_view, blocks_keep, is_index-append, is_index-joined}
+use Rattle.ndarray_layout.proofs.BlockSteps.{AreBlocks, blocks_are_view, blocks_keep, is_index-append, is_index-joined}
 use Rattle.ndarray_layout.proofs.BlockSteps.{length-elementwise}
 use Rattle.ndarray_layout.proofs.laws.BlocksView.{CanTakeBlocks, can_take_blocks}
 use Rattle.ndarray_layout.proofs.laws.KeepsPlaces.{AreApart, Descends-kept}
@@ -35,11 +35,43 @@ are_blocks = record {
         omega arith
 
 -- ---- each index in a chunk is in no other
--- two indices in chunks that stand for one index are one
-pub chunks_are_apart : (chunk at inner other within : List ℕ) → length at ≡ length chunk → length other ≡ length chunk
-    → is_index chunk inner ≡ true → is_index chunk within ≡ true
-    → sums (products at chunk) inner ≡ sums (products other chunk) within → (at ≡ other) × (inner ≡ within)
-chunks_are_apart = apart_side_by_side
+-- an index in each of two chunks, which stand for one index
+pub record HaveOneSource (chunk at inner other within : List ℕ) : Type 0 where
+  pub count : length at ≡ length chunk
+  pub other_count : length other ≡ length chunk
+  pub inside : is_index chunk inner ≡ true
+  pub other_inside : is_index chunk within ≡ true
+  pub same : sums (products at chunk) inner ≡ sums (products other chunk) within
+
+-- are one index in one chunk
+pub chunks_are_apart : (chunk at inner other within : List ℕ) → HaveOneSource chunk at inner other within
+    → (at ≡ other) × (inner ≡ within)
+chunks_are_apart [] [] [] [] [] h = (refl, refl)
+chunks_are_apart [] (i ∷ at) inner other within h = let count = h.count in absurd (omega arith)
+chunks_are_apart [] [] (j ∷ inner) other within h = let inside = h.inside in absurd (cc)
+chunks_are_apart [] [] [] (k ∷ other) within h = let count = h.other_count in absurd (omega arith)
+chunks_are_apart [] [] [] [] (l ∷ within) h = let inside = h.other_inside in absurd (cc)
+chunks_are_apart (size ∷ chunk) [] inner other within h = let count = h.count in absurd (omega arith)
+chunks_are_apart (size ∷ chunk) (i ∷ at) [] other within h = let inside = h.inside in absurd (cc)
+chunks_are_apart (size ∷ chunk) (i ∷ at) (j ∷ inner) [] within h = let count = h.other_count in absurd (omega arith)
+chunks_are_apart (size ∷ chunk) (i ∷ at) (j ∷ inner) (k ∷ other) [] h = let inside = h.other_inside in absurd (cc)
+chunks_are_apart (size ∷ chunk) (i ∷ at) (j ∷ inner) (k ∷ other) (l ∷ within) h =
+    let first = and_parts (nat_lt j size) (is_index chunk inner) h.inside in
+    let second = and_parts (nat_lt l size) (is_index chunk within) h.other_inside in
+    let same = h.same in
+    let head : i * size + j ≡ k * size + l = cc in
+    let tail : sums (products at chunk) inner ≡ sums (products other chunk) within = cc in
+    let one = same_from_place i j k l size (ltb-true j size first.0) (ltb-true l size second.0) head in
+    let count = h.count in
+    let other_count = h.other_count in
+    let rest = chunks_are_apart chunk at inner other within (record {
+      count = omega arith;
+      other_count = omega arith;
+      inside = first.1;
+      other_inside = second.1;
+      same = tail;
+    }) in
+    (ap (λ x. x ∷ at) one.0 ∙ ap (λ xs. k ∷ xs) rest.0, ap (λ x. x ∷ inner) one.1 ∙ ap (λ xs. l ∷ xs) rest.1)
 
 -- the chunk of an index, and the index in it
 abbrev pub quotients : List ℕ → List ℕ → List ℕ
@@ -112,8 +144,13 @@ module _ (fixed : Option ℕ) (chunk : List ℕ) {view : View} (v : IsView view)
       let n = length chunk in
       let first = parts_of index here in
       let second = parts_of other there in
-      let both = apart_side_by_side chunk (take n index) (drop n index) (take n other) (drop n other)
-      first.outer second.outer first.inner second.inner same in
+      let both = chunks_are_apart chunk (take n index) (drop n index) (take n other) (drop n other) (record {
+        count = first.outer;
+        other_count = second.outer;
+        inside = first.inner;
+        other_inside = second.inner;
+        same = same;
+      }) in
       sym (take-append-drop n index) ∙ ap (λ front. front ++ drop n index) both.0 ∙ ap (λ back. take n other ++ back) both.1
       ∙ take-append-drop n other
 

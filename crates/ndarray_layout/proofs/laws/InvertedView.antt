@@ -130,7 +130,8 @@ module _ (axis : ℕ) (view : View) (v : IsView view) (there : axis < length vie
       → sum_over_axes f view.shape (set view.strides axis (opposite_stride stride)) + f len stride
       ≡ sum_over_axes f view.shape view.strides + f len (opposite_stride stride)
   spans f =
-      let changed = sum-changed f view.shape view.strides axis len (opposite_stride stride) v.valid.same_count there in
+      let changed = sum-changed f view.shape view.strides axis len (opposite_stride stride)
+      (record { counts = v.valid.same_count; there = there }) in
       rw (set-get_or view.shape axis 0) at changed
 
   is_view : IsView (inverted_of axis view)

@@ -58,7 +58,7 @@ module _ (axis index : ℕ) (view : View) (v : IsView view) (none : split_fault 
   sums : (f : ℕ → ℤ → ℕ) (count : ℕ)
       → sum_over_axes f (set view.shape axis count) view.strides + f len stride ≡ sum_over_axes f view.shape view.strides + f count stride
   sums f count =
-      let changed = sum-changed f view.shape view.strides axis count stride v.valid.same_count there in
+      let changed = sum-changed f view.shape view.strides axis count stride (record { counts = v.valid.same_count; there = there }) in
       rw (set-get_or view.strides axis (pos 0)) at changed
 
   counts : (count : ℕ) → length (set view.shape axis count) ≡ length view.strides

@@ -1,7 +1,7 @@
 -- Laws of views: each index of the shape has a place; how many places there are, in which order, and where they lie.
-use Rattle.std.proofs.Common.{◌≡◌, ℕ, ◌+◌, ◌<◌, ◌≤◌, ◌^◌, ℤ, pos, ◌+ℤ◌, ◌≤ℤ◌, Bool, true, false, cond, Some, None, List, [], length}
-use Rattle.std.proofs.Common.{map, refl, sym, ap, subst, ◌∙◌, arith}
-use Rattle.std.specs.Prelude.{slice_get}
+use Rattle.std.proofs.Common.{◌≡◌, ℕ, ◌+◌, ◌<◌, ◌≤◌, ◌^◌, ℤ, pos, ◌+ℤ◌, ◌≤ℤ◌, Bool, true, false, cond, Some, None, List, [], ◌∷◌}
+use Rattle.std.proofs.Common.{length, map, refl, sym, ap, subst, ◌∙◌, arith}
+use Rattle.std.specs.Prelude.{slice_get, slice_index}
 use Rattle.std.specs.Option.{option_map}
 use Rattle.std.specs.List.{All}
 use Rattle.std.proofs.lemmas.Grind.{get_or_default_zero}
@@ -11,7 +11,7 @@ use Rattle.std.proofs.lemmas.List.Elements.{All-map, All-weaker}
 use Rattle.std.proofs.lemmas.Option.{slice_get-map}
 use Rattle.nd_base.specs.declared.order.Order.{Order}
 use Rattle.nd_base.proofs.laws.Definitions.{indices_in, is_index, IsInBounds, checked_offset, offset_of, place, index_of_flat_in}
-use Rattle.nd_base.proofs.laws.Definitions.{limit, nonzero_size, size, high_span, low_span, IsValidLayout}
+use Rattle.nd_base.proofs.laws.Definitions.{limit, nonzero_size, size, high_span, low_span, IsCount, IsValidLayout}
 use Rattle.nd_base.proofs.laws.Indices.{length-indices_in, All-indices_in, indices_in_of_empty}
 use Rattle.nd_base.proofs.laws.NonzeroSize.{length_le_nonzero_size, size_le_nonzero_size}
 use Rattle.nd_base.proofs.laws.FlatIndex.{slice_get-indices_in}
@@ -119,3 +119,13 @@ item_at_flat_index order view items r same below =
 pub lens_fit : {view : View} → IsView view → All (λ len. len < 2 ^ 63) view.shape
 lens_fit {view} v = λ axis d below.
     omega (arith, get_or_default_zero view.shape axis d below, length_le_nonzero_size view.shape axis, v.valid.size_fits)
+
+-- a view of a type that fixes two axes has two lengths
+pub two_lengths : (view : View) → IsCount (Some 2) (length view.shape) → view.shape ≡ slice_index view.shape 0 ∷ slice_index view.shape 1 ∷ []
+two_lengths view count = of view.shape count
+  where
+    of : (shape : List ℕ) → length shape ≡ 2 → shape ≡ slice_index shape 0 ∷ slice_index shape 1 ∷ []
+    of [] two = absurd (omega arith)
+    of (len ∷ []) two = absurd (omega arith)
+    of (rows ∷ columns ∷ []) two = refl
+    of (rows ∷ columns ∷ more ∷ shape) two = absurd (omega arith)

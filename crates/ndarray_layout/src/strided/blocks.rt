@@ -1,7 +1,8 @@
 //! Blocks of a shape at steps: what windows and chunks have in common.
-ghost use Rattle.std.specs.Prelude.{◌≡◌, ◌+◌, ◌*◌, ◌<◌, ◌≤◌, ◌==◌, ◌&&◌, ◌++◌, true, false, None, ℕ, length, nat_lt, slice_index, IfOk, IsOk, SomeIff};
+ghost use Rattle.std.specs.Prelude.{◌≡◌, ◌+◌, ◌*◌, ◌<◌, ◌≤◌, ◌==◌, ◌&&◌, ◌++◌, if◌then◌else◌, true, false, None, Some, ℕ, length, nat_lt, slice_index, IfOk, IsOk};
 ghost use Rattle.std.specs.Option.{option_map_or};
 ghost use Rattle.std.specs.Result.{result_err};
+ghost use Rattle.nd_base.specs.declared.error.ErrorKind.TheVariants.{Overflow};
 ghost use Rattle.nd_base.specs.Memory.{NeedsNoMemory};
 ghost use Rattle.nd_base.specs.ShapeFault.{shape_fault};
 ghost use Rattle.nd_base.specs.Signed.{signed as signed_reading, all_signed};
@@ -11,7 +12,9 @@ ghost use Rattle.nd_base.specs.ValidLayout.{IsValidLayout};
 ghost use Rattle.ndarray_layout.specs.BlocksView.{blocks_fault, strides_of_blocks};
 ghost use Rattle.ndarray_layout.specs.private.Blocks.{block_count, block_counts, block_stride, block_strides};
 
-use nd_base::{ErrorKind, LayoutError, Lengths, ShapeError, from_kind, stride_offset, unsigned};
+use nd_base::{
+    ErrorKind, LayoutError, Lengths, ShapeError, from_kind, new_ix2, stride_offset, unsigned,
+};
 use nd_shape::size_of_shape_checked;
 use std::alloc::Global;
 
@@ -65,41 +68,33 @@ fn has_counts(fixed: Option<usize>, shape: &[usize], block: &[usize]) -> bool
     block.len() == shape.len() && !matches!(fixed, Some(ndim) if ndim != 2 * shape.len())
 }
 
-/// The product, where it is at most the greatest `isize`.
+/// Checks that blocks of so many indices each have at most the greatest `isize` of indices together,
+/// where an axis without a block counts as one with one. Errors: `Overflow`.
 #[inline(always)]
-fn multiply(size: usize, len: usize) -> Option<usize>
-    ensures { SomeIff result (size * len ≤ limit) (size * len) }
-{
-    let product = size as u128 * len as u128;
-    if product <= isize::MAX as u128 {
-        Some(product as usize)
-    } else {
-        None
-    }
-}
-
-/// Whether blocks of so many indices each have more than the greatest `isize` of indices together, where
-/// an axis without a block counts as one with one.
-#[inline(always)]
-fn passes_limit(blocks: Blocks, shape: &[usize], block: &[usize], size: usize) -> bool
+fn check_total(
+    blocks: Blocks,
+    shape: &[usize],
+    block: &[usize],
+    size: usize,
+) -> Result<(), ShapeError>
     requires lens_fit { (k : ℕ) → slice_index shape.now k ≤ limit }
     requires some { is_empty block.now ≡ false }
     requires counts { length block.now ≡ length shape.now }
     requires size_fits { size ≤ limit }
-    ensures { result ≡
-        nat_lt limit (nonzero_size (block_counts blocks shape.now block.now) * size) }
+    requires has_index { 0 < size }
+    ensures { result_err result ≡
+        (if nat_lt limit (nonzero_size (block_counts blocks shape.now block.now) * size)
+        then Some Overflow else None) }
 {
     let mut total = size;
     for axis in 0..shape.len() {
         let count = blocks.count(shape[axis], block[axis]);
         if count != 0 {
-            match multiply(total, count) {
-                Some(product) => total = product,
-                None => return true,
-            }
+            let product = size_of_shape_checked(&new_ix2(total, count))?;
+            total = product;
         }
     }
-    false
+    Ok(())
 }
 
 /// Checks that the blocks of a shape make a shape of a type that may fix a count of axes. The caller
@@ -124,10 +119,7 @@ fn check_blocks<D: Lengths>(
         return Err(from_kind(ErrorKind::Unsupported));
     }
     let size = size_of_shape_checked(block)?;
-    if passes_limit(blocks, shape, lens, size) {
-        return Err(from_kind(ErrorKind::Overflow));
-    }
-    Ok(())
+    check_total(blocks, shape, lens, size)
 }
 
 /// Writes how many blocks there are along each axis, and then the lengths of a block.

@@ -31,7 +31,7 @@ loop-axis-preserved c =
     let new = c.loop-axis.new_strides in
     let at = (goal.at.loop-axis-preserved c).In-loop-axis in
     let here = rw (own at) at (get_or-block_strides c.args.blocks c.args.shape.now c.args.block.now (all_signed c.args.strides.now) axis
-    (sym c.requires.counts) c.requires.valid.same_count c.loop-axis-test.true) in
+    (record { block_count = sym c.requires.counts; stride_count = c.requires.valid.same_count }) c.loop-axis-test.true) in
     record {
       room = omega (arith, length-set new axis c.stride.result, c.loop-axis.invariant.room);
       written = below_more _ _ (λ k h. let ne : k ≢ axis = omega arith in rw get_or-set_other (c.loop-axis.invariant.written k h))
@@ -46,7 +46,7 @@ returns c =
     let back = c.copy_from_slice.new.self in
     let along = block_strides c.args.blocks c.args.shape.now c.args.block.now (all_signed c.args.strides.now) in
     let long : length along ≡ n = length-block_strides c.args.blocks c.args.shape.now c.args.block.now (all_signed c.args.strides.now)
-    (sym c.requires.counts) c.requires.valid.same_count in
+    (record { block_count = sym c.requires.counts; stride_count = c.requires.valid.same_count }) in
     let front : take n (all_signed new) ≡ along = ap (λ m. take m (all_signed new)) (sym long)
     ∙ first_items (pos 0) (all_signed new) along (omega (arith, long, c.loop-axis.invariant.room, length-map new signed))
     (λ k h. get_or-map signed new k 0 (pos 0) (omega (arith, h, long, c.loop-axis.invariant.room))

@@ -28,14 +28,14 @@ record IsAdded (sum stride : ℤ) (rest : ℕ) : Type 0 where
   pub low : pos rest ≤ℤ ((sum +ℤ stride) +ℤ pos limit)
   pub high : ((sum +ℤ stride) +ℤ pos rest) ≤ℤ pos limit
 
-added : (sum stride : ℤ) (len rest whole : ℕ) → 2 ≤ len → whole ≡ reach len stride + rest → pos whole ≤ℤ (sum +ℤ pos limit)
-    → (sum +ℤ pos whole) ≤ℤ pos limit → IsAdded sum stride rest
-added sum stride len rest whole more split low high =
+added : (sum stride : ℤ) (len rest : ℕ) → 2 ≤ len → pos (reach len stride + rest) ≤ℤ (sum +ℤ pos limit)
+    → (sum +ℤ pos (reach len stride + rest)) ≤ℤ pos limit → IsAdded sum stride rest
+added sum stride len rest more low high =
     let bounds = stride_bounds len stride more in
     record {
-      fits = omega (arith, ints, bounds, split, low, high);
-      low = omega (arith, ints, bounds, split, low);
-      high = omega (arith, ints, bounds, split, high);
+      fits = omega (arith, ints, bounds, low, high);
+      low = omega (arith, ints, bounds, low);
+      high = omega (arith, ints, bounds, high);
     }
 
 -- there is an axis for this stride
@@ -49,10 +49,9 @@ next c =
     let i = c.loop-stride.stride-index in
     let shape = c.args.shape.now in
     let more : 2 ≤ get_or shape i 0 = omega (arith, c.requires.least, c.if-len-lt2.false, diagonal_len_below shape i (axis_there c)) in
+    let split = sum_from_step reach shape c.args.strides.now i (axis_there c) c.loop-stride-test.true in
     added (to_z w64 c.loop-stride.sum-bits) (signed (get_or c.args.strides.now i 0)) (get_or shape i 0)
-    (sum_from reach shape c.args.strides.now (i + 1)) (sum_from reach shape c.args.strides.now i) more
-    (sum_from_step reach shape c.args.strides.now i (axis_there c) c.loop-stride-test.true)
-    c.loop-stride.invariant.low c.loop-stride.invariant.high
+    (sum_from reach shape c.args.strides.now (i + 1)) more (rw split at c.loop-stride.invariant.low) (rw split at c.loop-stride.invariant.high)
 
 -- what `signed` returned is the stride
 read : (c : After-signed-sum) → to_z w64 (of_z w64 c.signed-sum.result) ≡ signed (get_or c.args.strides.now c.loop-stride.stride-index 0)
