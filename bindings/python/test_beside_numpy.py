@@ -152,7 +152,7 @@ class BesideNumpy(unittest.TestCase):
             common = outcome(lambda: nd.co_broadcast(a.shape, target))
             self.assertEqual(common, outcome(lambda: np.broadcast_shapes(a.shape, target)))
             expected = outcome(lambda: np.broadcast_to(a, target))
-            ours = outcome(lambda: nd.broadcast_strides(a.shape, strides, target))
+            ours = outcome(lambda: nd.broadcast(a.shape, strides, target))
             if isinstance(expected, str):
                 self.assertEqual(ours, expected)
                 self.seen["errors"] += 1

@@ -270,7 +270,7 @@ class BesideRules(unittest.TestCase):
             target = self.shape()[:2] + target if self.numbers.random() < 0.8 else self.shape()
             self.compare(Rules.common(shape, target), nd.co_broadcast, shape, target)
             expected = Rules.layout(shape, strides) or Rules.target(shape, target)
-            self.compare(expected, nd.broadcast_strides, shape, strides, target)
+            self.compare(expected, nd.broadcast, shape, strides, target)
 
     def test_merges_and_permutations(self):
         for _ in range(CALLS):
@@ -297,7 +297,7 @@ class BesideRules(unittest.TestCase):
             if numbers.random() < 0.1:
                 new_shape = self.shape()
             expected = Rules.layout(shape, strides) or Rules.reshaped(shape, strides, order, new_shape)
-            self.compare(expected, nd.reshape_dim, shape, strides, new_shape, order)
+            self.compare(expected, nd.reshape, shape, strides, new_shape, order)
 
 
 class Texts(unittest.TestCase):
@@ -366,7 +366,7 @@ class AsNumpyTakesThem(unittest.TestCase):
     def test_a_number_is_a_shape(self):
         self.assertEqual(nd.default_strides(5), (1,))
         self.assertEqual(nd.layout_start(5, -1, length=5), 4)
-        self.assertEqual(nd.reshape_dim((2, 3), (3, 1), 6), (1,))
+        self.assertEqual(nd.reshape((2, 3), (3, 1), 6), (1,))
         self.assertEqual(nd.place(4, 5, -1, 3), 1)
         self.assertRaises(TypeError, nd.default_strides, 5.0)
         self.assertRaises(OverflowError, nd.default_strides, -5)
@@ -375,14 +375,14 @@ class AsNumpyTakesThem(unittest.TestCase):
         columns, rows, line = ((2, 3), (1, 2)), ((2, 3), (3, 1)), ((3,), (1,))
         for order in ("f", "A", "a"):
             self.assertEqual(nd.places(0, *columns, order), tuple(range(6)))
-            self.assertEqual(nd.reshape_dim(*columns, 6, order), (1,))
+            self.assertEqual(nd.reshape(*columns, 6, order), (1,))
         for order in ("c", "A", "a"):
             self.assertEqual(nd.places(0, *rows, order), tuple(range(6)))
-            self.assertEqual(nd.reshape_dim(*rows, 6, order), (1,))
-            self.assertEqual(nd.reshape_dim(*line, (3, 1), order), nd.reshape_dim(*line, (3, 1), "C"))
+            self.assertEqual(nd.reshape(*rows, 6, order), (1,))
+            self.assertEqual(nd.reshape(*line, (3, 1), order), nd.reshape(*line, (3, 1), "C"))
         self.assertEqual(nd.next_index((2, 3), (0, 2), "f"), (1, 2))
         for wrong in ("K", "", "CF", "Fortran"):
-            self.assertRaises(ValueError, nd.reshape_dim, *rows, 6, wrong)
+            self.assertRaises(ValueError, nd.reshape, *rows, 6, wrong)
 
 
 if __name__ == "__main__":

@@ -104,9 +104,9 @@ class WorkedRows(Case):
     def test_shapes(self):
         self.assertEqual(nd.co_broadcast((2, 1, 1), (0, 0, 1, 3, 4)), (0, 0, 2, 3, 4))
         self.assert_kind("IncompatibleShape", nd.co_broadcast, (1, 2, 2), (1, 3, 4))
-        self.assertEqual(nd.broadcast_strides((1, 3), (3, 1), (0, 3)), (0, 1))
-        self.assert_kind("IncompatibleShape", nd.broadcast_strides, (2, 3), (3, 1), (0, 3))
-        self.assertRaises(OverflowError, nd.broadcast_strides, (1,), (1,), (MAX, 2))
+        self.assertEqual(nd.broadcast((1, 3), (3, 1), (0, 3)), (0, 1))
+        self.assert_kind("IncompatibleShape", nd.broadcast, (2, 3), (3, 1), (0, 3))
+        self.assertRaises(OverflowError, nd.broadcast, (1,), (1,), (MAX, 2))
         self.assertEqual(nd.merge_axes((3, 2), (2, 1), 0, 1), ((1, 6), (2, 1)))
         self.assertIsNone(nd.merge_axes((3, 2), (2, 1), 1, 0))
         self.assertRaises(IndexError, nd.merge_axes, (3, 2), (2, 1), 2, 0)
@@ -116,15 +116,15 @@ class WorkedRows(Case):
 
     def test_reshapes(self):
         wide = 3074457345618258602
-        self.assertEqual(nd.reshape_dim((4,), (wide,), (2, 2)), (2 * wide, wide))
-        self.assertEqual(nd.reshape_dim((6, 2), (2, 1), (4, 1, 3)), (3, 3, 1))
-        self.assertEqual(nd.reshape_dim((16,), (-4,), (2, 2, 4), order="F"), (-4, -8, -16))
-        self.assertEqual(nd.reshape_dim((1, 10), (10, 1), (1, 10, 1, 1, 1)), (10, 1, 1, 1, 1))
-        self.assertEqual(nd.reshape_dim((0, 2), (0, 0), (5, 0)), (0, 0))
-        self.assert_kind("IncompatibleLayout", nd.reshape_dim, (4, 4), (8, 1), (3, 5))
-        self.assert_kind("IncompatibleShape", nd.reshape_dim, (1, 2, 3), (6, 3, 1), (1,))
-        self.assert_kind("IncompatibleShape", nd.reshape_dim, (5, 0), (0, 0), (1,))
-        self.assertRaises(OverflowError, nd.reshape_dim, (6,), (1,), (MAX, 2))
+        self.assertEqual(nd.reshape((4,), (wide,), (2, 2)), (2 * wide, wide))
+        self.assertEqual(nd.reshape((6, 2), (2, 1), (4, 1, 3)), (3, 3, 1))
+        self.assertEqual(nd.reshape((16,), (-4,), (2, 2, 4), order="F"), (-4, -8, -16))
+        self.assertEqual(nd.reshape((1, 10), (10, 1), (1, 10, 1, 1, 1)), (10, 1, 1, 1, 1))
+        self.assertEqual(nd.reshape((0, 2), (0, 0), (5, 0)), (0, 0))
+        self.assert_kind("IncompatibleLayout", nd.reshape, (4, 4), (8, 1), (3, 5))
+        self.assert_kind("IncompatibleShape", nd.reshape, (1, 2, 3), (6, 3, 1), (1,))
+        self.assert_kind("IncompatibleShape", nd.reshape, (5, 0), (0, 0), (1,))
+        self.assertRaises(OverflowError, nd.reshape, (6,), (1,), (MAX, 2))
 
 
 class BadArguments(Case):

@@ -125,7 +125,7 @@ def reshape_without_copy(a: Array, new_shape: Numbers, order: Optional[str] = "C
 
     `a` has a `shape`, `strides` and an `itemsize`. One new length may be -1, as in NumPy. With the new strides `a`
     equals `a.reshape(new_shape, order=..)` in the order that is returned. That is 'C' where no order is given, as in
-    NumPy. The order `None` asks for 'C' if no element has to be moved then, else for 'F'. Raises what `reshape_dim`
+    NumPy. The order `None` asks for 'C' if no element has to be moved then, else for 'F'. Raises what `reshape`
     does, of the first order that is tried, and `ValueError` where a stride is no multiple of the item size.
 
     >>> class Columns: shape, strides, itemsize = (4, 3), (8, 32), 8

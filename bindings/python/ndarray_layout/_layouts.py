@@ -24,9 +24,9 @@ from ._numbers import (
 
 
 def layout_start(
-    shape: Numbers, strides: Numbers, length: SupportsIndex, itemsize: SupportsIndex = 1, owned: bool = False
+    shape: Numbers, strides: Numbers, *, elem_size: SupportsIndex = 1, length: SupportsIndex, owned: bool = False
 ) -> int:
-    """The start of a layout over `length` elements, at which its lowest place is 0.
+    """The start of a layout over `length` elements of `elem_size` bytes, at which its lowest place is 0.
 
     Raises `ShapeError` for different counts of axes, `OverflowError` where the layout is too large, `IndexError` where
     it spans more than the elements, and `ShapeError` where `owned` is true and it breaks the no-alias rule.
@@ -37,8 +37,8 @@ def layout_start(
     Traceback (most recent call last):
     ndarray_layout.OutOfBoundsError: the layout needs 5 elements of 4
     """
-    start, sizes = one_number(), (size(itemsize, "item size"), size(length, "length"))
-    library.layout_start(*sizes, *unsigned(shape), *signed(strides), bool(owned), start)
+    start, sizes = one_number(), (size(elem_size, "element size"), size(length, "length"))
+    library.layout_start(*unsigned(shape), *signed(strides), *sizes, bool(owned), start)
     return int(start[0])
 
 
@@ -46,8 +46,9 @@ def check_layout(
     start: SupportsIndex,
     shape: Numbers,
     strides: Numbers,
+    *,
+    elem_size: SupportsIndex = 1,
     length: SupportsIndex,
-    itemsize: SupportsIndex = 1,
     owned: bool = False,
 ) -> None:
     """Raises what `layout_start` does where a layout with this start doesn't lie within `length` elements.
@@ -57,8 +58,8 @@ def check_layout(
     Traceback (most recent call last):
     ndarray_layout.OutOfBoundsError: the lowest place -1 is below 0
     """
-    sizes = size(start, "start"), size(itemsize, "item size"), size(length, "length")
-    library.check_layout(*sizes, *unsigned(shape), *signed(strides), bool(owned))
+    first, sizes = size(start, "start"), (size(elem_size, "element size"), size(length, "length"))
+    library.check_layout(first, *unsigned(shape), *signed(strides), *sizes, bool(owned))
 
 
 def has_overlap(shape: Numbers, strides: Numbers) -> bool:
@@ -172,7 +173,7 @@ def places(start: SupportsIndex, shape: Numbers, strides: Numbers, order: str = 
     (3, 4, 5, 0, 1, 2)
     """
     lens, steps, first = unsigned(shape), signed(strides), size(start, "start")
-    library.check_layout(first, c_size_t(1), c_size_t(LIMIT + 1), *lens, *steps, False)
+    library.check_layout(first, *lens, *steps, c_size_t(1), c_size_t(LIMIT + 1), False)
     count = prod(lens[1].unpack_unsigned(lens[0]))
     found = array("Q", (0,)) * max(count, 1)
     written = c_void_p(found.buffer_info()[0]), c_size_t(count)

@@ -81,26 +81,26 @@ def _reaches(shape: Lens, strides: Lens) -> list[int]:
     return [max(length - 1, 0) * abs(stride) for length, stride in zip(shape, strides)]
 
 
-def of_layout(shape: Lens, strides: Lens, itemsize: int = 1) -> Optional[Reason]:
+def of_layout(shape: Lens, strides: Lens, elem_size: int = 1) -> Optional[Reason]:
     if len(shape) != len(strides):
         numbers = {"lengths": len(shape), "strides": len(strides)}
         return Reason("IncompatibleLayout", f"{len(shape)} lengths, but {len(strides)} strides", None, numbers)
-    return of_size(shape) or _of_span(sum(_reaches(shape, strides)), itemsize)
+    return of_size(shape) or _of_span(sum(_reaches(shape, strides)), elem_size)
 
 
-def _of_span(span: int, itemsize: int) -> Optional[Reason]:
+def _of_span(span: int, elem_size: int) -> Optional[Reason]:
     if span > LIMIT:
         return Reason("Overflow", f"span {said(span)} is above the limit {said(LIMIT)}", None, {"span": span})
-    if span * itemsize > LIMIT:
-        numbers = {"span": span, "itemsize": itemsize}
-        text = f"span {said(span)} times item size {said(itemsize)} is above the limit {said(LIMIT)}"
+    if span * elem_size > LIMIT:
+        numbers = {"span": span, "elem_size": elem_size}
+        text = f"span {said(span)} times element size {said(elem_size)} is above the limit {said(LIMIT)}"
         return Reason("Overflow", text, None, numbers)
     return None
 
 
-def of_layout_start(itemsize: int, length: int, shape: Lens, strides: Lens, owned: int) -> Optional[Reason]:
+def of_layout_start(shape: Lens, strides: Lens, elem_size: int, length: int, owned: int) -> Optional[Reason]:
     return (
-        of_layout(shape, strides, itemsize)
+        of_layout(shape, strides, elem_size)
         or _of_room(sum(_reaches(shape, strides)) + (0 not in shape), length)
         or (of_overlap(shape, strides) if owned else None)
     )
@@ -114,10 +114,10 @@ def _of_room(needed: int, length: int) -> Optional[Reason]:
 
 
 def of_check_layout(
-    start: int, itemsize: int, length: int, shape: Lens, strides: Lens, owned: int
+    start: int, shape: Lens, strides: Lens, elem_size: int, length: int, owned: int
 ) -> Optional[Reason]:
     return (
-        of_layout(shape, strides, itemsize)
+        of_layout(shape, strides, elem_size)
         or _of_places(start, length, shape, strides)
         or (of_overlap(shape, strides) if owned else None)
     )
@@ -181,7 +181,7 @@ def of_place(start: int, shape: Lens, strides: Lens, index: Lens) -> Optional[Re
 
 
 def of_places(start: int, shape: Lens, strides: Lens, _: int = 0) -> Optional[Reason]:
-    return of_check_layout(start, 1, LIMIT + 1, shape, strides, False)
+    return of_check_layout(start, shape, strides, 1, LIMIT + 1, False)
 
 
 # ---- Slices
@@ -221,7 +221,7 @@ def _of_element(axis: int, length: int, element: Element, clamp: int) -> Optiona
 # ---- Shapes
 
 
-def of_common_shape(first: Lens, second: Lens) -> Optional[Reason]:
+def of_co_broadcast(first: Lens, second: Lens) -> Optional[Reason]:
     axes = max(len(first), len(second))
     padded = ((1,) * (axes - len(shape)) + shape for shape in (first, second))
     for axis, (one, other) in enumerate(zip(*padded)):
@@ -257,7 +257,7 @@ def of_merge(shape: Lens, strides: Lens, take: int, into: int) -> Optional[Reaso
     return _of_axis("Unsupported", take, "it can't be merged into itself") if take == into else None
 
 
-def of_permute(shape: Lens, strides: Lens, axes: Lens) -> Optional[Reason]:
+def of_permuted_axes(shape: Lens, strides: Lens, axes: Lens) -> Optional[Reason]:
     error = of_layout(shape, strides)
     if error or sorted(axes) == list(range(len(shape))):
         return error

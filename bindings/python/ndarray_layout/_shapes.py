@@ -26,24 +26,24 @@ def co_broadcast(first: Numbers, second: Numbers) -> Lens:
     one, other = unsigned(first), unsigned(second)
     axes = one[1] if one[1].value > other[1].value else other[1]
     common = axes.unsigned_room()
-    library.common_shape(*one, *other, common, axes)
+    library.co_broadcast(*one, *other, common, axes)
     return axes.unpack_unsigned(common)
 
 
-def broadcast_strides(shape: Numbers, strides: Numbers, target: Numbers) -> Lens:
+def broadcast(shape: Numbers, strides: Numbers, target: Numbers) -> Lens:
     """The strides with which a layout is read as one of a shape that it can be broadcast to.
 
     Raises `ShapeError` where it can't, then `OverflowError` where that shape is too large.
 
-    >>> broadcast_strides((2, 1), (5, 1), (3, 2, 4))
+    >>> broadcast((2, 1), (5, 1), (3, 2, 4))
     (0, 5, 0)
-    >>> broadcast_strides((2, 1), (5, 1), (3, 4))
+    >>> broadcast((2, 1), (5, 1), (3, 4))
     Traceback (most recent call last):
     ndarray_layout.ShapeError: IncompatibleShape: axis 0: length 2 can't be broadcast to 3
     """
     lens, axes = unsigned(target)
     stretched = axes.signed_room()
-    library.broadcast_strides(*unsigned(shape), *signed(strides), lens, axes, stretched, axes)
+    library.broadcast(*unsigned(shape), *signed(strides), lens, axes, stretched, axes)
     return axes.unpack_signed(stretched)
 
 
@@ -65,15 +65,15 @@ def merge_axes(
     return (axes.unpack_unsigned(new_lens), count.unpack_signed(new_steps)) if merged[0] else None
 
 
-def reshape_dim(shape: Numbers, strides: Numbers, new_shape: Numbers, order: str = "C") -> Lens:
+def reshape(shape: Numbers, strides: Numbers, new_shape: Numbers, order: str = "C") -> Lens:
     """The strides of another shape with the same places in an order: no element is moved.
 
     The order 'A' is 'F' for a layout that is column-major and not row-major, else 'C'. Raises `OverflowError` where
     the new shape is too large, and `ShapeError` where no strides would do.
 
-    >>> reshape_dim((4, 4), (8, 1), (2, 2, 2, 2))
+    >>> reshape((4, 4), (8, 1), (2, 2, 2, 2))
     (16, 8, 2, 1)
-    >>> reshape_dim((4, 4), (8, 1), (2, 8))
+    >>> reshape((4, 4), (8, 1), (2, 8))
     Traceback (most recent call last):
     ndarray_layout.ShapeError: IncompatibleLayout: axis 0: stride 8 isn't 4 times 1, the stride of axis 1
     """
@@ -100,5 +100,5 @@ def permuted_axes(shape: Numbers, strides: Numbers, axes: Numbers) -> tuple[Lens
     lens, count = unsigned(shape)
     new_lens, new_steps = count.unsigned_room(), count.signed_room()
     written = new_lens, count, new_steps, count
-    library.permute_axes(lens, count, *signed(strides), *unsigned(axes, "axis"), *written)
+    library.permuted_axes(lens, count, *signed(strides), *unsigned(axes, "axis"), *written)
     return count.unpack_unsigned(new_lens), count.unpack_signed(new_steps)
