@@ -31,11 +31,11 @@ class Rules:
         return ("Overflow", None) if math.prod([length for length in shape if length > 0]) > MAX else OK
 
     @staticmethod
-    def layout(shape, strides, itemsize=1):
+    def layout(shape, strides, elem_size=1):
         if len(shape) != len(strides):
             return ("IncompatibleLayout", None)
         span = sum((length - 1) * abs(stride) for length, stride in zip(shape, strides) if length > 0)
-        return Rules.sized(shape) or (("Overflow", None) if max(span, span * itemsize) > MAX else OK)
+        return Rules.sized(shape) or (("Overflow", None) if max(span, span * elem_size) > MAX else OK)
 
     @staticmethod
     def corners(start, shape, strides):
@@ -44,8 +44,8 @@ class Rules:
         return [start + sum(corner) for corner in product(*ends)]
 
     @staticmethod
-    def accepted(start, length, shape, strides, itemsize, owned):
-        found = Rules.layout(shape, strides, itemsize)
+    def accepted(start, length, shape, strides, elem_size, owned):
+        found = Rules.layout(shape, strides, elem_size)
         if found:
             return found
         if start is None:
@@ -219,13 +219,14 @@ class BesideRules(unittest.TestCase):
     def test_layouts(self):
         for _ in range(CALLS):
             shape, numbers = self.shape(), self.numbers
-            strides, owned, itemsize = self.strides(shape), numbers.random() < 0.5, numbers.choice((0, 1, 8, 2**40))
+            strides, owned, elem_size = self.strides(shape), numbers.random() < 0.5, numbers.choice((0, 1, 8, 2**40))
             length = numbers.choice((numbers.randint(0, 150), 2**64 - 1, MAX))
-            expected = Rules.accepted(None, length, shape, strides, itemsize, owned)
-            self.compare(expected, nd.layout_start, shape, strides, length, itemsize, owned)
+            sizes = {"elem_size": elem_size, "length": length, "owned": owned}
+            expected = Rules.accepted(None, length, shape, strides, elem_size, owned)
+            self.compare(expected, nd.layout_start, shape, strides, **sizes)
             start = numbers.choice((0, numbers.randint(0, 30), numbers.randint(0, 150), MAX))
-            expected = Rules.accepted(start, length, shape, strides, itemsize, owned)
-            self.compare(expected, nd.check_layout, start, shape, strides, length, itemsize, owned)
+            expected = Rules.accepted(start, length, shape, strides, elem_size, owned)
+            self.compare(expected, nd.check_layout, start, shape, strides, **sizes)
 
     def test_shapes_alone(self):
         for _ in range(CALLS):
@@ -318,7 +319,7 @@ class Texts(unittest.TestCase):
         text = "size 2**64 is above the limit 2**63 - 1"
         self.assert_error(text, {"size": 2**64}, nd.default_strides, (2**32, 2**32))
         text = "the layout needs 6 elements of 5"
-        self.assert_error(text, {"needed": 6, "length": 5}, nd.lay_over, 23, (2, 3), (-12, 4), itemsize=4)
+        self.assert_error(text, {"needed": 6, "length": 5}, nd.lay_over, (2, 3), (-12, 4), itemsize=4, nbytes=23)
         text = "Unsupported: axis 0: stride 2 isn't past 3, the reach of the axes with no greater stride"
         self.assert_error(text, {"stride": 2, "reach": 3}, nd.layout_start, (2, 4), (2, 1), length=9, owned=True)
 

@@ -184,6 +184,10 @@ def of_places(start: int, shape: Lens, strides: Lens, _: int = 0) -> Optional[Re
     return of_check_layout(start, shape, strides, 1, LIMIT + 1, False)
 
 
+def of_rows(start: int, shape: Lens, strides: Lens, _: int) -> Optional[Reason]:
+    return of_places(start, shape, strides)
+
+
 # ---- Slices
 
 
@@ -193,6 +197,19 @@ def of_slice(start: int, shape: Lens, strides: Lens, elements: list[Element], cl
 
 def of_slices_intersect(shape: Lens, first: list[Element], second: list[Element], clamp: int) -> Optional[Reason]:
     return of_size(shape) or _of_argument(shape, first, clamp) or _of_argument(shape, second, clamp)
+
+
+def of_first_intersection(shape: Lens, elements: list[Element], counts: Lens, clamp: int) -> Optional[Reason]:
+    ends = list(accumulate(counts))
+    slices = [elements[end - count : end] for end, count in zip(ends, counts)]
+    faults = (_of_argument(shape, argument, clamp) for argument in slices)
+    found = next(((number, fault) for number, fault in enumerate(faults) if fault), None)
+    return of_size(shape) or (in_list("slice", *found) if found else None)
+
+
+def in_list(name: str, number: int, fault: Reason) -> Reason:
+    """The reason of an error of one of many."""
+    return fault._replace(text=f"{name} {number}: {fault.text}", numbers={name: number, **fault.numbers})
 
 
 def of_picked(shape: Lens, elements: list[Element], clamp: int) -> Optional[Reason]:
@@ -266,6 +283,34 @@ def of_permuted_axes(shape: Lens, strides: Lens, axes: Lens) -> Optional[Reason]
         numbers = {"listed": len(axes), "axes": len(shape)}
         return Reason("IncompatibleShape", f"{len(axes)} axes are listed of {len(shape)}", None, numbers)
     return _of_axis("IncompatibleShape", missing[0], f"it isn't among the axes {axes}")
+
+
+# ---- Blocks and parts
+
+
+def of_windows(shape: Lens, strides: Lens, window: Lens) -> Optional[Reason]:
+    moves = (max(length - block + 1, 0) for length, block in zip(shape, window))
+    return of_layout(shape, strides) or of_block(shape, window) or of_size((*moves, *window))
+
+
+def of_exact_chunks(shape: Lens, strides: Lens, chunk: Lens) -> Optional[Reason]:
+    found = of_layout(shape, strides) or of_block(shape, chunk)
+    return found or of_size((*(length // block for length, block in zip(shape, chunk)), *chunk))
+
+
+def of_block(shape: Lens, block: Lens) -> Optional[Reason]:
+    if len(shape) != len(block):
+        numbers = {"lengths": len(block), "axes": len(shape)}
+        return Reason("IncompatibleShape", f"{len(block)} lengths of a block for {len(shape)} axes", None, numbers)
+    return _of_axis("Unsupported", block.index(0), "the length of a block is 0", length=0) if 0 in block else None
+
+
+def of_split_at(start: int, shape: Lens, strides: Lens, axis: int, index: int) -> Optional[Reason]:
+    error = of_places(start, shape, strides)
+    if error or axis >= len(shape):
+        return error or _of_axis("OutOfBounds", axis, f"there are {len(shape)} axes", axes=len(shape))
+    text = f"index {said(index)} is past length {said(shape[axis])}"
+    return _of_axis("OutOfBounds", axis, text, index=index, length=shape[axis]) if index > shape[axis] else None
 
 
 # ---- Reshapes
