@@ -3,9 +3,9 @@
 from __future__ import annotations
 
 from array import array
-from itertools import product
+from itertools import product, repeat
 from math import gcd, prod
-from typing import Any, Iterable, NamedTuple, Optional
+from typing import Any, Iterable, Optional
 
 from ._errors import LayoutError, ShapeError, error_of_kind
 from ._layouts import default_strides
@@ -17,19 +17,8 @@ MAX_PARTS = 1_000_000
 """How many parts all keys together may have, where no other number is given."""
 
 
-class _Run(NamedTuple):
-    """Numbers along one axis, of indices or of chunks: the first, the last, and the step to the next, above 0."""
-
-    first: int
-    last: int
-    step: int
-
-
-class _Part(NamedTuple):
-    """The position of a key, and along each axis the numbers of its indices, or of some of its chunks."""
-
-    position: int
-    runs: tuple[_Run, ...]
+_Part = tuple[int, tuple[range, ...]]
+"""The position of a key, and along each axis the numbers of its indices, or of some of its chunks: they ascend."""
 
 
 def first_conflict(
@@ -62,10 +51,10 @@ def first_conflict(
         raise error_of_kind(*fault)
     parts: list[_Part] = []
     for position, key in enumerate(keys):
-        touched = [_touched(run, block) for run, block in zip(_runs_at(position, lens, key), blocks)]
+        touched = [_touched(picks, block) for picks, block in zip(_picks_at(position, lens, key), blocks)]
         if len(parts) + prod(map(len, touched)) > max_parts:
             raise ShapeError("Unsupported", f"the keys up to {position} have more than {max_parts} parts")
-        parts += [_Part(position, runs) for runs in product(*touched)]
+        parts += zip(repeat(position), product(*touched))
     return _first_conflict(tuple([-(-length // block) for length, block in zip(lens, blocks)]), parts)
 
 
@@ -74,48 +63,48 @@ def _lengths(numbers: Numbers, name: str) -> Lens:
     return count.unpack_unsigned(packed)
 
 
-def _runs_at(position: int, shape: Lens, key: Any) -> list[Optional[_Run]]:
-    """The indices that a key takes along each axis; where there are none, `None`."""
+def _picks_at(position: int, shape: Lens, key: Any) -> list[range]:
+    """The indices that a key takes along each axis."""
     try:
-        return _runs(shape, key)
+        return _picks(shape, key)
     except LayoutError as error:
         numbers = {"key": position, **error.numbers}
         raise error_of_kind(error.kind, f"key {position}: {error.text}", error.axis, numbers) from None
 
 
-def _runs(shape: Lens, key: Any) -> list[Optional[_Run]]:
+def _picks(shape: Lens, key: Any) -> list[range]:
     entries = key if type(key) is tuple else (key,)
     if len(entries) == len(shape) and all([type(entry) is slice for entry in entries]):
-        return [_run_of(range(length)[entry]) for length, entry in zip(shape, entries)]
+        return [range(length)[entry] for length, entry in zip(shape, entries)]
     elems = [elem for elem in basic_key(shape, key) if elem is not None]
     picked(shape, elems)  # (which refuses a `Slice` that leaves its axis)
-    return [_run_of(_picks(length, elem)) for length, elem in zip(shape, elems)]
+    return [_picks_of(length, elem) for length, elem in zip(shape, elems)]
 
 
-def _picks(length: int, elem: Elem) -> range:
+def _picks_of(length: int, elem: Elem) -> range:
     """The indices that an element of a slice takes of one axis."""
-    start, shape, strides = slice_view(0, (length,), (1,), elem if isinstance(elem, Slice) else (elem,))
-    return range(start, start + shape[0] * (strides[0] or 1), strides[0] or 1) if shape else range(start, start + 1)
+    start, lens, strides = slice_view(0, (length,), (1,), elem if isinstance(elem, Slice) else (elem,))
+    count, step = (lens[0], strides[0] or 1) if lens else (1, 1)
+    return range(start, start + count * step, step)
 
 
-def _run_of(picks: range) -> Optional[_Run]:
+def _touched(picks: range, block: int) -> list[range]:
+    """The numbers of the blocks that have one of the indices: each number once."""
     if not picks:
-        return None
-    first, last = picks[0], picks[-1]
-    return _Run(first, last, picks.step) if first <= last else _Run(last, first, -picks.step)
-
-
-def _touched(run: Optional[_Run], block: int) -> list[_Run]:
-    """The numbers of the blocks that have a number of a run, each number once."""
-    if run is None:
         return []
-    first, last, step = run
+    ascending = picks if picks.step > 0 else picks[::-1]
+    first, last, step = ascending[0], ascending[-1], ascending.step
+    if block == 1:
+        return [ascending]
     if step <= block or first // block == last // block:
-        return [_Run(first // block, last // block, 1)]
+        return [range(first // block, last // block + 1)]
     period = block // gcd(step, block)  # (so many steps are a multiple of the block)
-    starts = range(first, last + 1, step)[:period]
-    lasts = (start + (last - start) // (period * step) * (period * step) for start in starts)
-    return [_Run(start // block, end // block, period * step // block) for start, end in zip(starts, lasts)]
+    return [_numbers(ascending[begin::period], block) for begin in range(min(period, len(ascending)))]
+
+
+def _numbers(picks: range, block: int) -> range:
+    """The numbers of the blocks of indices whose step is a multiple of the block, or that are one."""
+    return range(picks[0] // block, picks[-1] // block + 1, max(picks.step // block, 1))
 
 
 def _first_conflict(shape: Lens, parts: list[_Part]) -> Optional[tuple[int, int]]:
@@ -123,17 +112,18 @@ def _first_conflict(shape: Lens, parts: list[_Part]) -> Optional[tuple[int, int]
 
     They are compared in their order along the axis that comes first: there the most begin apart.
     """
-    apart = [len({part.runs[axis].first for part in parts}) for axis in range(len(shape))]
+    apart = [len({runs[axis].start for _, runs in parts}) for axis in range(len(shape))]
     axes = sorted(range(len(shape)), key=lambda axis: -apart[axis])
     if axes:
-        parts.sort(key=lambda part: part.runs[axes[0]].first)
-    fields = array("q")
-    for _, runs in parts:
-        for axis in axes:
-            fields.extend((SLICE_WITH_END, runs[axis].first, runs[axis].last + 1, runs[axis].step))
+        parts.sort(key=lambda part: part[1][axes[0]].start)
+    fields = [field for _, runs in parts for axis in axes for field in _fields(runs[axis])]
     counts = [len(shape)] * len(parts)
-    pair = intersection(unsigned([shape[axis] for axis in axes]), fields.tobytes(), counts, False)
+    pair = intersection(unsigned([shape[axis] for axis in axes]), array("q", fields).tobytes(), counts, False)
     if pair is None:
         return None
-    first, second = sorted(parts[place].position for place in pair)
+    first, second = sorted(parts[place][0] for place in pair)
     return first, second
+
+
+def _fields(run: range) -> tuple[int, int, int, int]:
+    return SLICE_WITH_END, run.start, run[-1] + 1, run.step

@@ -157,7 +157,7 @@ def first_intersection(shape: Numbers, slices: Iterable[Elems], clamp: bool = Fa
 def intersection(shape: Packed, elems: bytes, counts: Sequence[int], clamp: bool) -> Optional[tuple[int, int]]:
     """`first_intersection` of slices that are packed one after another, with the count of elements of each."""
     two, found = count_of(2), one_answer()
-    pair, listed = two.unsigned_room(), (array("Q", counts).tobytes(), c_size_t(len(counts)))
+    pair, listed = two.unsigned_room(), (array("Q", counts).tobytes(), count_of(len(counts)))
     library.first_intersection(*shape, elems, c_size_t(sum(counts)), *listed, clamp, pair, two, found)
     return (pair[0], pair[1]) if found[0] else None
 
