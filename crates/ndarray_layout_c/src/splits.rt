@@ -2,7 +2,7 @@
 ghost use Rattle.std.specs.Option.{option_or};
 ghost use Rattle.std.specs.Prelude.{◌≡◌, ◌≢◌, ◌==◌, ◌+◌, ◌++◌, ◌&&◌, not, false, None, Some, [], ◌∷◌, length, IfOk, IsOk, OnOk};
 ghost use Rattle.ndarray_layout.specs.declared.ErrorKind.{ErrorKind};
-ghost use Rattle.ndarray_layout.specs.Lengths.{NeedsNoMemory};
+ghost use Rattle.ndarray_layout.specs.Memory.{NeedsNoMemory};
 ghost use Rattle.ndarray_layout.specs.ShapeFault.{shape_fault};
 ghost use Rattle.ndarray_layout.specs.Signed.{all_signed};
 ghost use Rattle.ndarray_layout.specs.SplitView.{first_part_of, second_part_of, split_fault};
