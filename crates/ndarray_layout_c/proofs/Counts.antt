@@ -14,7 +14,7 @@ use Rattle.ndarray_layout.specs.Size.{nonzero_size, size}
 use Rattle.ndarray_layout.specs.View.{View}
 use Rattle.ndarray_layout.specs.WindowsView.{window_count, window_counts, windows_fault, windows_of}
 use Rattle.ndarray_layout.proofs.laws.AxesInOrder.{length_of_order}
-use Rattle.ndarray_layout.proofs.laws.BlocksView.{CanTakeBlocks, can_take_blocks}
+use Rattle.ndarray_layout.proofs.laws.BlocksView.{can_take_blocks}
 use Rattle.ndarray_layout.proofs.laws.NonzeroSize.{size_le_nonzero_size}
 use Rattle.ndarray_layout.proofs.laws.Strides.{default_count, fortran_count}
 use Rattle.ndarray_layout_c.specs.OwnStrides.{own_strides}
