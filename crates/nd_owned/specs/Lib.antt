@@ -1,3 +1,4 @@
+pub mod ArrayView
 pub mod Owned
 pub mod Writes
 pub mod private

@@ -2,11 +2,13 @@
 //! places of its layout.
 #![tactic(auto)]
 
+mod array_view;
 mod iterating;
 mod owned;
 mod parts;
 mod rows;
 mod writes;
 
+pub use array_view::{ArrayView, Iter};
 pub use iterating::Items;
 pub use owned::OwnedArray;
