@@ -90,6 +90,15 @@ fn check_within<D: Lengths>(view: &Strided<D>, len: usize) -> Result<(), ShapeEr
 }
 
 impl<'a, T, D: Lengths> ArrayView<'a, T, D> {
+    /// The array of a view that is known to lie within the items.
+    pub(crate) fn new(view: Strided<D>, items: &'a [T]) -> Self
+        requires { HasItems (length items.now) view }
+        ensures items { result.items ≡ items.now }
+        ensures view { result.view ≡ view }
+    {
+        ArrayView { items, view }
+    }
+
     /// The array of a shape, by its own strides or by given ones, over items.
     ///
     /// The lowest place of the layout is 0, the first item. Items past the layout, or between its places, are spare ones.

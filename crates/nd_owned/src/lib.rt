@@ -3,6 +3,8 @@
 #![tactic(auto)]
 
 mod array_view;
+mod array_view_mut;
+mod fitted;
 mod iterating;
 mod owned;
 mod parts;
@@ -10,5 +12,6 @@ mod rows;
 mod writes;
 
 pub use array_view::{ArrayView, Iter};
+pub use array_view_mut::ArrayViewMut;
 pub use iterating::Items;
 pub use owned::OwnedArray;
