@@ -1,3 +1,6 @@
+pub mod ArrayView
+pub mod ArrayViewMut
+pub mod Lender
 pub mod Owned
 pub mod Writes
 pub mod private

@@ -19,8 +19,8 @@ use Rattle.ndarray_layout.specs.Size.{size}
 use Rattle.ndarray_layout.specs.SlicedLayout.{sliced_shape}
 use Rattle.ndarray_layout.specs.View.{View, IsView, LiesWithin, place_at}
 
--- the items, and the view that has places among them; items at no place are spare ones
-pub record Owned (T : Type 0) : Type 0 where
+-- what a contract sees of an array: the items, and the view that has places among them; items at no place are spare ones
+pub record ArrayValue (T : Type 0) : Type 0 where
   pub items : List T
   pub view : View
 
@@ -36,18 +36,18 @@ item_at_place items (pos place) = slice_get items place
 item_at_place items (negsuc below) = None
 
 -- the item of an index of the shape
-abbrev pub item_at : {T : Type 0} → Owned T → List ℕ → Option T
+abbrev pub item_at : {T : Type 0} → ArrayValue T → List ℕ → Option T
 item_at array index = if is_index array.view.shape index then item_at_place array.items (place_at array.view index) else None
 
 -- the array with another item at an index of the shape
-abbrev pub with_item : {T : Type 0} → Owned T → List ℕ → T → Owned T
+abbrev pub with_item : {T : Type 0} → ArrayValue T → List ℕ → T → ArrayValue T
 with_item array index item =
     (if is_index array.view.shape index
     then record { items = slice_set array.items (magnitude (place_at array.view index)) item; view = array.view }
     else array)
 
 -- the array with other items, cut or filled up from its own to as many
-abbrev pub with_items : {T : Type 0} → Owned T → List T → Owned T
+abbrev pub with_items : {T : Type 0} → ArrayValue T → List T → ArrayValue T
 with_items array items = record { items = refill (length array.items) array.items items; view = array.view }
 
 -- the fault of a shape in the error of a call that hands something back
@@ -67,7 +67,7 @@ item_of_two_indices : IsOwned 2 (record { start = 0; shape = 2 ∷ []; strides =
 item_of_two_indices owned =
     both_ways (nat_eq 0 1) refl (eq-eqb 0 1 (ap (λ index. slice_index index 0) (owned.distinct (0 ∷ []) (1 ∷ []) refl refl refl)))
 
-abbrev back_to_front : Owned ℕ
+abbrev back_to_front : ArrayValue ℕ
 back_to_front = record { items = 7 ∷ 8 ∷ 9 ∷ []; view = record { start = 1; shape = 2 ∷ []; strides = negsuc 0 ∷ [] } }
 
 no_item_below : item_at_place {T = ℕ} (7 ∷ 8 ∷ 9 ∷ []) (negsuc 0) ≡ None

@@ -2,11 +2,16 @@
 //! places of its layout.
 #![tactic(auto)]
 
+mod array_view;
+mod array_view_mut;
+mod fitted;
 mod iterating;
 mod owned;
 mod parts;
 mod rows;
 mod writes;
 
+pub use array_view::{ArrayView, Iter};
+pub use array_view_mut::ArrayViewMut;
 pub use iterating::Items;
 pub use owned::OwnedArray;

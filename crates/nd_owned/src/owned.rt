@@ -42,9 +42,9 @@ pub struct OwnedArray<T: Copy, D: Lengths> {
 
 impl<T: Copy, D: Lengths> Model for OwnedArray<T, D> {
     ghost use Rattle.std.specs.Prelude.{length};
-    ghost use Rattle.nd_owned.specs.Owned.{Owned, IsOwned};
+    ghost use Rattle.nd_owned.specs.Owned.{ArrayValue, IsOwned};
 
-    ghost Value = { Owned T };
+    ghost Value = { ArrayValue T };
 
     ghost view = { λ a. record { items = a.items.items; view = a.view } };
 

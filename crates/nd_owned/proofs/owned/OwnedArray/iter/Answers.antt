@@ -1,27 +1,17 @@
 -- Each place of the view is in bounds of the items, and what is left comes from its front on, in order.
-use Rattle.std.proofs.Common.{◌≡◌, ℕ, ℤ, List, Option, Some, length, subst, sym, ap, ◌∙◌}
+use Rattle.std.proofs.Common.{List, Option, Some, ap, length, ◌∙◌}
 use Rattle.std.specs.Iterator.{YieldsFirstBy}
-use Rattle.std.specs.List.{All}
 use Rattle.std.proofs.iter.runs.Sources.{from_front}
 use Rattle.std.proofs.lemmas.List.{length-map}
 use Rattle.ndarray_layout.specs.declared.Order.TheVariants.{RowMajor}
-use Rattle.ndarray_layout.specs.Bounds.{IsInBounds}
-use Rattle.ndarray_layout.specs.View.{View, view_places}
-use Rattle.ndarray_layout.proofs.laws.View.{length-view_places, places_lie_within}
-use Rattle.nd_owned.specs.Owned.{IsOwned, item_at_place}
+use Rattle.ndarray_layout.proofs.laws.View.{length-view_places}
+use Rattle.nd_owned.specs.Owned.{item_at_place}
+use Rattle.nd_owned.proofs.PlacesLeft.{all_places, are_in_bounds}
 use Rattle.nd_owned.proofs.owned.OwnedArray.iter.Goals as goal
-
--- places of a view that has one of the items for each index lie among them
-are_in_bounds : {len : ℕ} {view : View} {places : List ℤ} → IsOwned len view → places ≡ view_places RowMajor view → All (IsInBounds len) places
-are_in_bounds {len} {view} owned are = subst (All (IsInBounds len)) (sym are) (places_lie_within len RowMajor view owned.within)
-
--- the places of a view are those of one that is equal
-all_places : {view other : View} {places : List ℤ} → places ≡ view_places RowMajor view → view ≡ other → places ≡ view_places RowMajor other
-all_places are same = are ∙ ap (view_places RowMajor) same
 
 pub invariant_of-result : goal.invariant_of-result
 invariant_of-result g c =
-    rw c.stored.ensures.items (are_in_bounds c.stored.ensures.owned (all_places c.iter_places.ensures.items c.view.ensures.view))
+    rw c.stored.ensures.items (are_in_bounds _ c.stored.ensures.owned.within (all_places c.iter_places.ensures.items c.view.ensures.view))
 
 pub returns-clause-count : goal.returns-clause-count
 returns-clause-count g c =

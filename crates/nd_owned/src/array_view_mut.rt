@@ -1,0 +1,181 @@
+//! Items that are kept elsewhere, lent as an array to be written.
+ghost use Rattle.std.specs.Option.{IsSome};
+ghost use Rattle.std.specs.Prelude.{◌≡◌, ◌↔◌, IsTrue, None, IfOk, IsOk, Some, length, option_copied};
+ghost use Rattle.ndarray_layout.specs.declared.CanIndexCheckMode.TheVariants.{OwnedMutable};
+ghost use Rattle.ndarray_layout.specs.AcceptanceByStrides.{acceptance_by_strides};
+ghost use Rattle.ndarray_layout.specs.Indices.{is_index};
+ghost use Rattle.ndarray_layout.specs.Memory.{NeedsNoMemory};
+ghost use Rattle.ndarray_layout.specs.ShapeBuilder.{custom_strides, strides_list};
+ghost use Rattle.ndarray_layout.specs.ShapeFault.{shape_fault};
+ghost use Rattle.ndarray_layout.specs.Signed.{all_signed};
+ghost use Rattle.ndarray_layout.specs.Size.{size};
+ghost use Rattle.ndarray_layout.specs.Span.{low_span};
+ghost use Rattle.ndarray_layout.specs.View.{view_of};
+
+use crate::array_view::ArrayView;
+use crate::fitted::Fitted;
+use crate::rows::view_size;
+use ndarray_layout::{LayoutError, Lengths, NdIndex, StrideShape, Strided};
+use std::alloc::{AllocError, Global};
+
+/// Items of any type that are kept elsewhere and lent to be written, with a view by which each index has one of them to
+/// itself. Items at no place of the view are spare ones, which no call writes. ndarray's `ArrayViewMut`.
+pub struct ArrayViewMut<'a, T, D: Lengths> {
+    items: &'a mut [T],
+    fitted: Fitted<D>,
+    pub ghost fits: { fitted.count ≡ length items.now },
+}
+
+/// What is written stays where the items are kept.
+impl<T, D: Lengths> Drop for ArrayViewMut<'_, T, D> {
+    fn drop(self)
+        ensures { self.exit.0.now ≡ self.entry.items.now }
+    {
+        let ArrayViewMut {
+            items: _,
+            fitted: _,
+        } = self;
+    }
+}
+
+impl<'a, T: Drop, D: Lengths> ArrayViewMut<'a, T, D> {
+    ghost use Rattle.nd_owned.specs.Owned.{IsOwned, item_at, with_item};
+    ghost use Rattle.nd_owned.specs.Lender.{array_of};
+
+    /// The array of a shape, by its own strides or by given ones, over items.
+    ///
+    /// The lowest place of the layout is 0, the first item. Items past the layout, or between its places, are spare ones.
+    ///
+    /// # Errors
+    ///
+    /// Those of `Strided::from_shape` in owned mode, over as many elements of one byte as there are items, which are
+    /// unchanged.
+    ///
+    /// `[2]` with the stride `[-1]` over 7 8 9: (0) is 8, (1) is 7, and 9 is spare. ndarray's `from_shape`.
+    pub fn from_shape(
+        alloc: Global,
+        shape: StrideShape<D>,
+        items: &'a mut [T],
+    ) -> Result<Self, LayoutError>
+        ensures fault { shape_fault result ≡
+            acceptance_by_strides D.list 1 (length items.old) OwnedMutable
+            (D.list shape.dim) shape.strides }
+        ensures given { shape_fault result ≡ None → IsSome (custom_strides shape.strides) →
+            IsOk result }
+        ensures memory { shape_fault result ≡ None →
+            NeedsNoMemory D.NDIM (length (D.list shape.dim)) → IsOk result }
+        ensures same_reference { IfOk result (λ a. a.items.ghost_name ≡ items.entry.ghost_name) }
+        ensures stored { IfOk result (λ a. (array_of a).items ≡ items.old) }
+        ensures view { IfOk result (λ a. (array_of a).view ≡
+            view_of
+            (low_span
+            (D.list shape.dim)
+            (all_signed (strides_list D.list (D.list shape.dim) shape.strides)))
+            (D.list shape.dim)
+            (strides_list D.list (D.list shape.dim) shape.strides)) }
+        ensures owned { IfOk result (λ a. IsOwned (length (array_of a).items) (array_of a).view) }
+    {
+        let fitted = Fitted::from_shape(alloc, shape, items.len())?;
+        Ok(ArrayViewMut { items, fitted })
+    }
+
+    /// The view: the shape, the strides and the place of the first index. Each place of it has an item, and no two indices
+    /// alias.
+    ///
+    /// `[2]` with the stride `[-1]` over 7 8 9: `[2]`, `[-1]` from 1. The project's own.
+    #[inline]
+    pub fn view(&self) -> &Strided<D>
+        ensures view { result.now ≡ (array_of self.now).view }
+        ensures owned { IsOwned (length (array_of self.now).items) (array_of self.now).view }
+    {
+        self.fitted.view()
+    }
+
+    /// The shape. ndarray's `raw_dim`, which copies it.
+    #[inline]
+    pub fn dim(&self) -> &D
+        ensures list { D.list result.now ≡ (array_of self.now).view.shape }
+    {
+        self.fitted.view().dim()
+    }
+
+    /// How many indices the shape has; spare items don't count.
+    ///
+    /// `[2]` with the stride `[-1]` over 7 8 9: 2. ndarray's `len`.
+    pub fn len(&self) -> usize
+        ensures { result ≡ size (array_of self.now).view.shape }
+    {
+        view_size(self.fitted.view())
+    }
+
+    /// Whether the shape has no index. ndarray's `is_empty`.
+    pub fn is_empty(&self) -> bool
+        ensures { IsTrue result ↔ (size (array_of self.now).view.shape ≡ 0) }
+    {
+        self.len() == 0
+    }
+
+    /// All items as they are stored, spare ones too.
+    ///
+    /// `[2]` with the stride `[-1]` over 7 8 9: 7 8 9. ndarray's `as_slice_memory_order`, where no item is spare.
+    #[inline]
+    pub fn stored(&self) -> &[T]
+        ensures items { result.now ≡ (array_of self.now).items }
+        ensures owned { IsOwned (length (array_of self.now).items) (array_of self.now).view }
+    {
+        let items = &*self.items;
+        let _count = self.fitted.count();
+        items
+    }
+
+    /// The item of an index; `None` where it is no index of the shape.
+    ///
+    /// `[2]` with the stride `[-1]` over 7 8 9: (0) is 8, and (2) is `None`. ndarray's `get`.
+    #[inline]
+    pub fn get<I: NdIndex<D>>(&self, index: &I) -> Option<&T>
+        ensures found { IsSome result ↔
+            IsTrue (is_index (array_of self.now).view.shape (I.index_list index.now)) }
+        ensures item { option_copied result ≡
+            item_at (array_of self.now) (I.index_list index.now) }
+    {
+        let place = self.fitted.view().place(index)?;
+        let items = self.stored();
+        Some(&items[place])
+    }
+
+    /// Replaces the item of an index, and returns whether it is an index of the shape; else the array is unchanged.
+    ///
+    /// `[2]` with the stride `[-1]` over 7 8 9: 5 at (1) makes it 5 8 9. ndarray's `get_mut`, with the write.
+    #[inline]
+    pub fn set<I: NdIndex<D>>(&mut self, index: &I, item: T) -> bool
+        ensures is_index { result ≡
+            is_index (array_of self.old).view.shape (I.index_list index.now) }
+        ensures written { array_of self.new ≡
+            with_item (array_of self.old) (I.index_list index.now) item }
+        ensures same_reference { self.new.items.ghost_name ≡ self.old.items.ghost_name }
+    {
+        match self.fitted.view().place(index) {
+            Some(place) => {
+                self.items[place] = item;
+                true
+            },
+            None => false,
+        }
+    }
+
+    /// The array, to be read for as long as this one isn't written.
+    ///
+    /// # Errors
+    ///
+    /// Out of memory; never where the type fixes the count of axes or there are at most 4.
+    ///
+    /// ndarray's `view`.
+    pub fn as_view(&self, alloc: Global) -> Result<ArrayView<'_, T, D>, AllocError>
+        ensures array { IfOk result (λ a. a ≡ array_of self.now) }
+        ensures memory { NeedsNoMemory D.NDIM (length (array_of self.now).view.shape) →
+            IsOk result }
+    {
+        let view = self.fitted.view().duplicate(alloc)?;
+        Ok(ArrayView::new(view, self.stored()))
+    }
+}

@@ -1,0 +1,101 @@
+//! A view that has a place for each of its indices among so many items.
+ghost use Rattle.std.specs.Prelude.{◌≡◌, IfOk, IsOk, None, length};
+ghost use Rattle.std.specs.Option.{IsSome};
+ghost use Rattle.ndarray_layout.specs.declared.CanIndexCheckMode.TheVariants.{OwnedMutable};
+ghost use Rattle.ndarray_layout.specs.AcceptanceByStrides.{acceptance_by_strides};
+ghost use Rattle.ndarray_layout.specs.Memory.{NeedsNoMemory};
+ghost use Rattle.ndarray_layout.specs.ShapeBuilder.{custom_strides, strides_list};
+ghost use Rattle.ndarray_layout.specs.ShapeFault.{shape_fault};
+ghost use Rattle.ndarray_layout.specs.Signed.{all_signed};
+ghost use Rattle.ndarray_layout.specs.Span.{low_span};
+ghost use Rattle.ndarray_layout.specs.View.{view_of};
+ghost use Rattle.nd_owned.specs.Owned.{IsOwned};
+
+use ndarray_layout::{CanIndexCheckMode, LayoutError, Lengths, StrideShape, Strided};
+use std::alloc::Global;
+use std::marker::Model;
+
+/// A view, and how many items it has places among: each index has one of them to itself.
+#[derive(Drop)]
+pub(crate) struct Fitted<D: Lengths> {
+    view: Strided<D>,
+    count: usize,
+}
+
+impl<D: Lengths> Model for Fitted<D> {
+    ghost use Rattle.nd_owned.specs.Owned.{IsOwned};
+    ghost use Rattle.nd_owned.specs.ArrayViewMut.{Fit};
+
+    ghost Value = { Fit };
+
+    ghost view = { λ a. record { count = a.count; view = a.view } };
+
+    ghost invariant = { λ a. IsOwned a.count a.view };
+}
+
+impl<D: Lengths> Fitted<D> {
+    /// A view that is known to fit.
+    pub(crate) fn new(view: Strided<D>, count: usize) -> Self
+        requires { IsOwned count view }
+        ensures count { result.count ≡ count }
+        ensures view { result.view ≡ view }
+    {
+        Fitted { view, count }
+    }
+
+    /// The view of a shape, by its own strides or by given ones. Errors: those of `Strided::from_shape` in owned mode, over
+    /// elements of one byte.
+    pub(crate) fn from_shape(
+        alloc: Global,
+        shape: StrideShape<D>,
+        count: usize,
+    ) -> Result<Self, LayoutError>
+        ensures fault { shape_fault result ≡
+            acceptance_by_strides D.list 1 count OwnedMutable (D.list shape.dim) shape.strides }
+        ensures given { shape_fault result ≡ None → IsSome (custom_strides shape.strides) →
+            IsOk result }
+        ensures memory { shape_fault result ≡ None →
+            NeedsNoMemory D.NDIM (length (D.list shape.dim)) → IsOk result }
+        ensures count { IfOk result (λ a. a.count ≡ count) }
+        ensures view { IfOk result (λ a. a.view ≡
+            view_of
+            (low_span
+            (D.list shape.dim)
+            (all_signed (strides_list D.list (D.list shape.dim) shape.strides)))
+            (D.list shape.dim)
+            (strides_list D.list (D.list shape.dim) shape.strides)) }
+        ensures owned { IfOk result (λ a. IsOwned a.count a.view) }
+    {
+        let mode = CanIndexCheckMode::OwnedMutable;
+        let view = Strided::from_shape(alloc, shape, 1, count, mode)?;
+        Ok(Fitted { view, count })
+    }
+
+    /// The view.
+    #[inline]
+    pub(crate) fn view(&self) -> &Strided<D>
+        ensures view { result.now ≡ self.now.view }
+        ensures owned { IsOwned self.now.count self.now.view }
+    {
+        &self.view
+    }
+
+    /// How many items there are.
+    #[inline]
+    pub(crate) fn count(&self) -> usize
+        ensures count { result ≡ self.now.count }
+        ensures owned { IsOwned self.now.count self.now.view }
+    {
+        self.count
+    }
+
+    /// The view alone.
+    #[inline]
+    pub(crate) fn into_view(self) -> Strided<D>
+        ensures view { result ≡ self.view }
+        ensures owned { IsOwned self.count self.view }
+    {
+        let Fitted { view, count: _ } = self;
+        view
+    }
+}
