@@ -1,5 +1,5 @@
+pub mod MultiSet
 pub mod Owned
-pub mod Writes
 pub mod private
 pub use Rattle.ndarray_layout.specs.AcceptanceByStrides
 pub use Rattle.ndarray_layout.specs.Lengths

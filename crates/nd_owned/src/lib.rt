@@ -3,10 +3,10 @@
 #![tactic(auto)]
 
 mod iterating;
+mod multi_set;
 mod owned;
-mod parts;
+mod part;
 mod rows;
-mod writes;
 
 pub use iterating::Items;
 pub use owned::OwnedArray;
