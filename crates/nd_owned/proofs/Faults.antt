@@ -16,7 +16,7 @@ use Rattle.ndarray_layout.specs.declared.LayoutError.TheVariants.{Shape, Memory}
 use Rattle.ndarray_layout.specs.SliceFault.{argument_fault}
 use Rattle.ndarray_layout.specs.ShapeFault.{shape_fault}
 use Rattle.nd_owned.proofs.Placed.{IsItem}
-use Rattle.nd_owned.specs.Writes.{Write, IsFaultOfWrites, IsIntersectionFault, counts_fault, has_count, slices_fault}
+use Rattle.nd_owned.specs.MultiSet.{Write, IsFaultOfWrites, IsIntersectionFault, counts_fault, has_count, slices_fault}
 
 -- ---- a list that a function was applied to, at its next item
 within : {X Y : Type 0} (f : X → Y) (xs : List X) (i : ℕ) → i < length xs → i < length (map f xs)

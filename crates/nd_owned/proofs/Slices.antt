@@ -26,8 +26,8 @@ use Rattle.ndarray_layout.proofs.laws.SlicedView.{Descends-slice_of}
 use Rattle.ndarray_layout.proofs.laws.View.{length-view_places}
 use Rattle.nd_owned.specs.Owned.{item_at_place}
 use Rattle.nd_owned.specs.private.Written.{HasWritten}
-use Rattle.nd_owned.specs.Writes.{Write, IsFaultOfWrites, IsIntersectionFault, IsWritten, KeepsOthers, Spares, counts_fault}
-use Rattle.nd_owned.specs.Writes.{has_count, slices_fault, slices_of, write_places}
+use Rattle.nd_owned.specs.MultiSet.{Write, IsFaultOfWrites, IsIntersectionFault, IsWritten, KeepsOthers, Spares, counts_fault}
+use Rattle.nd_owned.specs.MultiSet.{has_count, slices_fault, slices_of, write_places}
 use Rattle.nd_owned.proofs.Faults.{both_none}
 use Rattle.nd_owned.proofs.Placed.{other_default}
 

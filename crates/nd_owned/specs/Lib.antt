@@ -1,11 +1,11 @@
 pub mod ArrayView
 pub mod ArrayViewMut
 pub mod Lender
+pub mod MultiSet
 pub mod Owned
-pub mod Writes
 pub mod private
 pub use Rattle.ndarray_layout.specs.AcceptanceByStrides
-pub use Rattle.ndarray_layout.specs.Lengths
+pub use Rattle.ndarray_layout.specs.Memory
 pub use Rattle.ndarray_layout.specs.ShapeBuilder
 pub use Rattle.ndarray_layout.specs.ShapeFault
 pub use Rattle.ndarray_layout.specs.Signed

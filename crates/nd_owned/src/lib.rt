@@ -6,10 +6,10 @@ mod array_view;
 mod array_view_mut;
 mod fitted;
 mod iterating;
+mod multi_set;
 mod owned;
-mod parts;
+mod part;
 mod rows;
-mod writes;
 
 pub use array_view::{ArrayView, Iter};
 pub use array_view_mut::ArrayViewMut;

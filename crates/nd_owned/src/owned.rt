@@ -18,12 +18,12 @@ ghost use Rattle.ndarray_layout.specs.SlicedView.{slice_of};
 ghost use Rattle.ndarray_layout.specs.Span.{low_span};
 ghost use Rattle.ndarray_layout.specs.View.{view_of, view_places};
 ghost use Rattle.nd_owned.specs.Owned.{IsOfNone, IsOwned, item_at, item_at_place, shape_fault_of, with_item, with_items};
-ghost use Rattle.nd_owned.specs.Writes.{HaveNoItems, IsFaultOfWrites, IsWritten, KeepsOthers, counts_fault, write_of, write_places};
+ghost use Rattle.nd_owned.specs.MultiSet.{HaveNoItems, IsFaultOfWrites, IsWritten, KeepsOthers, counts_fault, write_of, write_places};
 ghost use Rattle.nd_owned.specs.private.Written.{HasWritten};
 
-use crate::parts::Part;
+use crate::multi_set::{check_apart, check_counts, part_of_write, parts_of, write_all};
+use crate::part::Part;
 use crate::rows::view_size;
-use crate::writes::{check_apart, check_counts, part_of_write, parts_of, write_all};
 use ndarray_layout::{
     CanIndexCheckMode, LayoutError, Lengths, NdIndex, SliceElems, SliceInfoElem, StrideShape,
     Strided,

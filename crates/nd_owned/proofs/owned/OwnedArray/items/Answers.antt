@@ -7,7 +7,7 @@ use Rattle.ndarray_layout.specs.Size.{size}
 use Rattle.ndarray_layout.specs.SlicedLayout.{sliced_shape}
 use Rattle.ndarray_layout.specs.View.{view_places}
 use Rattle.nd_owned.specs.Owned.{item_at_place}
-use Rattle.nd_owned.specs.private.Parts.{view_of_part}
+use Rattle.nd_owned.specs.private.Part.{view_of_part}
 use Rattle.nd_owned.proofs.owned.OwnedArray.items.Goals as goal
 
 pub read-requires : goal.read-requires

@@ -5,14 +5,14 @@ use Rattle.std.proofs.lemmas.List.{take_at}
 use Rattle.std.proofs.lemmas.List.Elements.{All-head}
 use Rattle.std.specs.List.{All}
 use Rattle.ndarray_layout.specs.ShapeFault.{shape_fault}
-use Rattle.nd_owned.specs.declared.parts.Part.{Part}
+use Rattle.nd_owned.specs.declared.part.Part.{Part}
 use Rattle.nd_owned.specs.private.Written.{HasWritten}
 use Rattle.ndarray_layout.specs.View.{View}
-use Rattle.nd_owned.specs.Writes.{Write, write_places}
+use Rattle.nd_owned.specs.MultiSet.{Write, write_places}
 use Rattle.nd_owned.proofs.Faults.{HaveCounts}
 use Rattle.std.specs.List.{flat_map}
 use Rattle.nd_owned.proofs.owned.OwnedArray.multi_set.Goals.{After-drop-parts}
-use Rattle.nd_owned.specs.Writes.{HaveNoItems, IsFaultOfWrites, IsWritten, KeepsOthers, write_of}
+use Rattle.nd_owned.specs.MultiSet.{HaveNoItems, IsFaultOfWrites, IsWritten, KeepsOthers, write_of}
 use Rattle.nd_owned.proofs.Faults.{handed_on, have_counts, no_fault}
 use Rattle.nd_owned.proofs.Slices.{all_distinct, all_written, on_ok, one_fault, one_kept, one_written, only, others_kept}
 use Rattle.nd_owned.proofs.owned.OwnedArray.multi_set.Given.{Over}

@@ -4,7 +4,7 @@ use Rattle.std.proofs.lemmas.List.{take_at}
 use Rattle.ndarray_layout.specs.declared.Fit.TheVariants.{Strict}
 use Rattle.ndarray_layout.specs.SliceFault.{argument_fault}
 use Rattle.nd_owned.specs.private.Written.{HasWritten}
-use Rattle.nd_owned.specs.Writes.{write_of, write_places}
+use Rattle.nd_owned.specs.MultiSet.{write_of, write_places}
 use Rattle.nd_owned.proofs.Faults.{both_none, have_counts}
 use Rattle.nd_owned.proofs.Slices.{one_distinct}
 use Rattle.nd_owned.proofs.owned.OwnedArray.set_one.Goals as goal

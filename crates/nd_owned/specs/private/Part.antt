@@ -2,8 +2,8 @@
 use Rattle.std.specs.Prelude.{◌≡◌, ℤ, pos, List, [], ◌∷◌, refl}
 use Rattle.ndarray_layout.specs.declared.Order.TheVariants.{RowMajor}
 use Rattle.ndarray_layout.specs.View.{View, view_places}
-use Rattle.nd_owned.specs.declared.parts.Part.{Part}
-use Rattle.nd_owned.specs.declared.parts.Part.TheVariants.{Line, Plane, Any}
+use Rattle.nd_owned.specs.declared.part.Part.{Part}
+use Rattle.nd_owned.specs.declared.part.Part.TheVariants.{Line, Plane, Any}
 
 -- the view that a part is, whatever its type
 abbrev pub view_of_part : Part → View

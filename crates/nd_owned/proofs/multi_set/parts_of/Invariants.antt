@@ -3,9 +3,9 @@ use Rattle.std.proofs.Common.{◌≡◌, ℕ, ◌++◌, length, map, drop}
 use Rattle.std.specs.List.{All, flat_map}
 use Rattle.ndarray_layout.specs.Size.{size}
 use Rattle.ndarray_layout.specs.View.{LiesWithin}
-use Rattle.nd_owned.specs.private.Parts.{part_places, view_of_part}
-use Rattle.nd_owned.specs.Writes.{write_of, write_places}
-use Rattle.nd_owned.proofs.writes.parts_of.Given as goal
+use Rattle.nd_owned.specs.private.Part.{part_places, view_of_part}
+use Rattle.nd_owned.specs.MultiSet.{write_of, write_places}
+use Rattle.nd_owned.proofs.multi_set.parts_of.Given as goal
 
 abbrev pub invariant-loop-slice : goal.invariant-loop-slice
 invariant-loop-slice g l = record {

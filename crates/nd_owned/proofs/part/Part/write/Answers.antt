@@ -1,10 +1,10 @@
 -- The places of a part are those of its view.
 use Rattle.std.proofs.Common.{◌≢◌, List, sym, subst}
 use Rattle.std.specs.List.{AllPairs}
-use Rattle.nd_owned.specs.declared.parts.Part.{Part}
-use Rattle.nd_owned.specs.private.Parts.{part_places}
+use Rattle.nd_owned.specs.declared.part.Part.{Part}
+use Rattle.nd_owned.specs.private.Part.{part_places}
 use Rattle.nd_owned.specs.private.Written.{HasWritten}
-use Rattle.nd_owned.proofs.parts.Part.write.Goals as goal
+use Rattle.nd_owned.proofs.part.Part.write.Goals as goal
 
 -- what a write at a part leaves
 abbrev Leaves : {T : Type 0} → List T → List T → List T → Part → Type 0

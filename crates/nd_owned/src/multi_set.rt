@@ -8,11 +8,11 @@ ghost use Rattle.ndarray_layout.specs.ShapeFault.{shape_fault};
 ghost use Rattle.ndarray_layout.specs.Size.{size};
 ghost use Rattle.ndarray_layout.specs.SlicedView.{slice_of};
 ghost use Rattle.ndarray_layout.specs.View.{LiesWithin};
-ghost use Rattle.nd_owned.specs.Writes.{HaveNoItems, IsIntersectionFault, counts_fault, has_count, slices_fault, write_of, write_places};
-ghost use Rattle.nd_owned.specs.private.Parts.{part_places, view_of_part};
+ghost use Rattle.nd_owned.specs.MultiSet.{HaveNoItems, IsIntersectionFault, counts_fault, has_count, slices_fault, write_of, write_places};
+ghost use Rattle.nd_owned.specs.private.Part.{part_places, view_of_part};
 ghost use Rattle.nd_owned.specs.private.Written.{HasWritten};
 
-use crate::parts::Part;
+use crate::part::Part;
 use ndarray_layout::{
     ErrorKind, Fit, LayoutError, Lengths, ShapeError, SliceInfoElem, Strided,
     first_elems_intersection, from_kind,

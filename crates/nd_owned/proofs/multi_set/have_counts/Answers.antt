@@ -4,11 +4,11 @@ use Rattle.std.proofs.lemmas.Bool.{eq-eqb, ne_eqb}
 use Rattle.std.specs.List.{list_all}
 use Rattle.std.specs.Option.{option_or}
 use Rattle.std.specs.Result.{result_err}
-use Rattle.nd_owned.specs.Writes.{has_count, slices_fault, write_of}
+use Rattle.nd_owned.specs.MultiSet.{has_count, slices_fault, write_of}
 use Rattle.nd_owned.proofs.Faults.{next_count, next_fault, none_more}
 use Rattle.nd_owned.proofs.Placed.{IsItem}
-use Rattle.nd_owned.proofs.writes.have_counts.Goals as goal
-use Rattle.nd_owned.proofs.writes.have_counts.Goals.{then-branch-len, else-branch-len}
+use Rattle.nd_owned.proofs.multi_set.have_counts.Goals as goal
+use Rattle.nd_owned.proofs.multi_set.have_counts.Goals.{then-branch-len, else-branch-len}
 
 pub returns-in_err-picked-clause-fault : goal.returns-in_err-picked-clause-fault
 returns-in_err-picked-clause-fault g c =

@@ -1,8 +1,8 @@
 -- The slices so far fit, and whether there are as many items for each of them is known.
 use Rattle.std.proofs.Common.{◌≡◌, ◌&&◌, map, drop}
 use Rattle.std.specs.List.{list_all}
-use Rattle.nd_owned.specs.Writes.{has_count, slices_fault, write_of}
-use Rattle.nd_owned.proofs.writes.have_counts.Given as goal
+use Rattle.nd_owned.specs.MultiSet.{has_count, slices_fault, write_of}
+use Rattle.nd_owned.proofs.multi_set.have_counts.Given as goal
 
 abbrev pub invariant-loop-slice : goal.invariant-loop-slice
 invariant-loop-slice g l = record {

@@ -2,9 +2,9 @@
 use Rattle.std.proofs.Common.{Some, length, sym, ap, ◌∙◌}
 use Rattle.std.proofs.lemmas.Bool.{eq-eqb, ne_eqb}
 use Rattle.ndarray_layout.specs.Size.{size}
-use Rattle.nd_owned.specs.Writes.{write_of}
+use Rattle.nd_owned.specs.MultiSet.{write_of}
 use Rattle.nd_owned.proofs.Faults.{fault_of_one}
-use Rattle.nd_owned.proofs.writes.part_of_write.Goals as goal
+use Rattle.nd_owned.proofs.multi_set.part_of_write.Goals as goal
 
 pub returns-then-size-len-clause-fault : goal.returns-then-size-len-clause-fault
 returns-then-size-len-clause-fault g c =

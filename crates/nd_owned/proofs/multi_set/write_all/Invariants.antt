@@ -1,9 +1,9 @@
 -- Once the items that are left are at the places of the parts that are left, all are at theirs.
 use Rattle.std.proofs.Common.{◌≢◌, List, drop}
 use Rattle.std.specs.List.{AllPairs, flat_map}
-use Rattle.nd_owned.specs.private.Parts.{part_places}
+use Rattle.nd_owned.specs.private.Part.{part_places}
 use Rattle.nd_owned.specs.private.Written.{HasWritten}
-use Rattle.nd_owned.proofs.writes.write_all.Given as goal
+use Rattle.nd_owned.proofs.multi_set.write_all.Given as goal
 
 abbrev pub invariant-loop-one : goal.invariant-loop-one
 invariant-loop-one g l = record {

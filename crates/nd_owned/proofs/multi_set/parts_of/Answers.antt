@@ -9,13 +9,13 @@ use Rattle.ndarray_layout.specs.Size.{size}
 use Rattle.ndarray_layout.specs.SlicedView.{slice_of}
 use Rattle.ndarray_layout.specs.View.{LiesWithin, view_places}
 use Rattle.ndarray_layout.proofs.laws.View.{length-view_places}
-use Rattle.nd_owned.specs.declared.parts.Part.{Part}
-use Rattle.nd_owned.specs.private.Parts.{part_places, view_of_part}
-use Rattle.nd_owned.specs.Writes.{write_of, write_places}
+use Rattle.nd_owned.specs.declared.part.Part.{Part}
+use Rattle.nd_owned.specs.private.Part.{part_places, view_of_part}
+use Rattle.nd_owned.specs.MultiSet.{write_of, write_places}
 use Rattle.nd_owned.proofs.Faults.{all_pushed, ended, handed_on, have_counts, next, of_this}
 use Rattle.nd_owned.proofs.Placed.{parts_ended, parts_pushed, parts_skipped}
 use Rattle.nd_owned.proofs.Slices.{each_count, each_fits}
-use Rattle.nd_owned.proofs.writes.parts_of.Goals as goal
+use Rattle.nd_owned.proofs.multi_set.parts_of.Goals as goal
 
 pub loop-slice-preserved-then-is_empty : goal.loop-slice-preserved-then-is_empty
 loop-slice-preserved-then-is_empty g c =

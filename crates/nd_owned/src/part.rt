@@ -8,7 +8,7 @@ ghost use Rattle.ndarray_layout.specs.Size.{size};
 ghost use Rattle.ndarray_layout.specs.SlicedView.{slice_of};
 ghost use Rattle.ndarray_layout.specs.View.{LiesWithin};
 ghost use Rattle.nd_owned.specs.Owned.{IsOfNone, item_at_place};
-ghost use Rattle.nd_owned.specs.private.Parts.{part_places, view_of_part};
+ghost use Rattle.nd_owned.specs.private.Part.{part_places, view_of_part};
 ghost use Rattle.nd_owned.specs.private.Written.{HasWritten};
 
 use crate::rows::{read_view, view_size, write_view};

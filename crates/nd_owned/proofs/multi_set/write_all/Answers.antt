@@ -5,10 +5,10 @@ use Rattle.std.proofs.lemmas.List.{drop_all, drop_more}
 use Rattle.ndarray_layout.specs.declared.Order.TheVariants.{RowMajor}
 use Rattle.ndarray_layout.specs.View.{LiesWithin}
 use Rattle.ndarray_layout.proofs.laws.View.{places_lie_within}
-use Rattle.nd_owned.specs.private.Parts.{part_places, view_of_part}
+use Rattle.nd_owned.specs.private.Part.{part_places, view_of_part}
 use Rattle.nd_owned.specs.private.Written.{HasWritten}
 use Rattle.nd_owned.proofs.Placed.{AreBoth, first_distinct, none_written, parts_written, second_distinct}
-use Rattle.nd_owned.proofs.writes.write_all.Goals as goal
+use Rattle.nd_owned.proofs.multi_set.write_all.Goals as goal
 
 pub write-requires-clause-within : goal.write-requires-clause-within
 write-requires-clause-within g c =

@@ -5,8 +5,8 @@ use Rattle.std.specs.List.{All}
 use Rattle.ndarray_layout.specs.declared.Fit.TheVariants.{Strict}
 use Rattle.ndarray_layout.specs.Intersections.{IsIntersection, slices_fault}
 use Rattle.ndarray_layout.proofs.laws.View.{lens_fit}
-use Rattle.nd_owned.specs.Writes.{write_of}
-use Rattle.nd_owned.proofs.writes.check_apart.Goals as goal
+use Rattle.nd_owned.specs.MultiSet.{write_of}
+use Rattle.nd_owned.proofs.multi_set.check_apart.Goals as goal
 
 pub first_elems_intersection-found-requires : goal.first_elems_intersection-found-requires
 first_elems_intersection-found-requires g c =
