@@ -9,7 +9,7 @@ from collections import Counter
 
 import ndarray_layout as nd
 from ndarray_layout import Layout, ShapeError
-from test_beside_numpy import ARRAYS, outcome, start_of, view_of
+from test_beside_numpy import ARRAYS, longer_axes, other_shape, outcome, start_of, view_of
 
 try:
     import numpy as np
@@ -154,6 +154,22 @@ class BesideNumpy(Counted):
             self.assertEqual(records[name].tolist(), again.tolist())
             with self.assertRaises(IndexError):
                 nd.lay_over(field.shape, field.strides, **how, offset=15 - dtype.itemsize + 1)
+
+
+    def test_reshapes_of_fields(self):
+        """NumPy's views of packed fields with another shape, and no others."""
+        for _ in range(ARRAYS // 4):
+            shape = tuple(self.numbers.choice((1, 2, 3, 4, 6)) for _ in range(self.numbers.randint(1, 3)))
+            records = np.zeros(shape, [("key", np.int32), ("text", "S3")])
+            field = records["key"].transpose(self.numbers.sample(range(len(shape)), len(shape)))
+            new_shape, order = other_shape(self.numbers, field.shape), self.numbers.choice("CFA")
+            expected = outcome(lambda: field.reshape(new_shape, order=order))
+            ours = outcome(lambda: nd.reshape_without_copy(field, new_shape, order))
+            if isinstance(expected, str) or not np.may_share_memory(expected, field):
+                self.assertEqual(ours, "ValueError", (field.shape, field.strides, new_shape, order))
+            else:
+                self.assertEqual(longer_axes(new_shape, ours.strides), longer_axes(new_shape, expected.strides))
+            self.seen["copies" if isinstance(ours, str) else "views"] += 1
 
 
 class DistinctPlaces(Counted):

@@ -114,6 +114,21 @@ class Rules:
         return ("Unsupported", take) if take == into else OK
 
     @staticmethod
+    def blocks(shape, block, counts):
+        """`counts` has how many blocks an axis has, of its length and that of the block."""
+        if len(block) != len(shape):
+            return ("IncompatibleShape", None)
+        empty = next((axis for axis, length in enumerate(block) if length == 0), None)
+        if empty is not None:
+            return ("Unsupported", empty)
+        return Rules.sized([*map(counts, shape, block), *block])
+
+    @staticmethod
+    def split(shape, axis, index):
+        is_part = axis < len(shape) and index <= shape[axis]
+        return OK if is_part else ("OutOfBounds", axis)
+
+    @staticmethod
     def permuted(shape, axes):
         missing = [axis for axis in range(len(shape)) if axis not in axes]
         if missing:
@@ -159,7 +174,7 @@ class BesideRules(unittest.TestCase):
             found = (error.kind, error.axis)
             self.assertNotEqual(error.text, "")
             if error.axis is not None:
-                self.assertTrue(error.text.startswith(f"axis {error.axis}: "), error.text)
+                self.assertRegex(error.text, rf"^(slice \d+: )?axis {error.axis}: ")
             self.assert_class(error)
         self.assertEqual(found, expected, (call.__name__, arguments, named))
         where = "" if not expected or expected[1] is None else ", of an axis"
@@ -245,6 +260,8 @@ class BesideRules(unittest.TestCase):
             index += [0] * (self.numbers.random() < 0.03)
             accepted = Rules.accepted(start, MAX + 1, shape, strides, 1, False)
             self.compare(accepted or Rules.index(shape, index), nd.place, start, shape, strides, index)
+            if accepted or max(shape, default=0) < 9:
+                self.compare(accepted, nd.rows, start, shape, strides, self.numbers.choice("CF"))
             self.compare(Rules.index(shape, index), nd.next_index, shape, index)
 
     def test_slices(self):
@@ -262,6 +279,7 @@ class BesideRules(unittest.TestCase):
             self.compare(Rules.sized(shape) or of_first, nd.picked, shape, first, clamp)
             both = Rules.sized(shape) or of_first or of_second
             self.compare(both, nd.slices_intersect, shape, first, second, clamp)
+            self.compare(both, nd.first_intersection, shape, [first, second], clamp)
 
     def test_broadcasts(self):
         for _ in range(CALLS):
@@ -272,6 +290,18 @@ class BesideRules(unittest.TestCase):
             self.compare(Rules.common(shape, target), nd.co_broadcast, shape, target)
             expected = Rules.layout(shape, strides) or Rules.target(shape, target)
             self.compare(expected, nd.broadcast, shape, strides, target)
+
+    def test_blocks_and_parts(self):
+        for _ in range(CALLS):
+            shape, numbers = self.shape(), self.numbers
+            strides, block = self.strides(shape), [self.length() for _ in shape] + [1] * (numbers.random() < 0.05)
+            layout = Rules.layout(shape, strides)
+            by_ones, apart = lambda length, one: max(length - one + 1, 0), int.__floordiv__
+            self.compare(layout or Rules.blocks(shape, block, by_ones), nd.windows, shape, strides, block)
+            self.compare(layout or Rules.blocks(shape, block, apart), nd.exact_chunks, shape, strides, block)
+            start, axis, index = numbers.choice((0, 50, 1_000)), numbers.randint(0, 4), numbers.choice((0, 1, 2, 3, MAX))
+            expected = Rules.accepted(start, MAX + 1, shape, strides, 1, False) or Rules.split(shape, axis, index)
+            self.compare(expected, nd.split_at, start, shape, strides, axis, index)
 
     def test_merges_and_permutations(self):
         for _ in range(CALLS):

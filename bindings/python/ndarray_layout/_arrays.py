@@ -2,16 +2,30 @@
 
 from __future__ import annotations
 
+from ctypes import c_size_t
 from math import gcd, prod
 from typing import Any, NamedTuple, Optional, Protocol, Sequence
 
 from . import _library as library
 from ._errors import OutOfBoundsError, ShapeError
-from ._layouts import check_layout, layout_start, order_of
-from ._numbers import LIMIT, Lens, Numbers, Packed, listing, one_answer, said, signed, unsigned
+from ._layouts import is_layout_c, is_layout_f, layout_start, order_by
+from ._numbers import (
+    LIMIT,
+    ORDERS,
+    Lens,
+    Numbers,
+    Packed,
+    listing,
+    one_answer,
+    one_number,
+    said,
+    signed,
+    size,
+    unsigned,
+)
 from ._shapes import reshaped
 from ._sharing import MAX_WORK, share_byte
-from ._slices import intersect, packed_key, slice_by_key
+from ._slices import packed_key, slice_by_key
 
 
 class Reshaped(NamedTuple):
@@ -75,27 +89,25 @@ def lay_over(
     >>> lay_over(3, 7, itemsize=4, nbytes=20, offset=2, owned=True)    # of 4 bytes in each 7, the last at 16
     2
     """
-    numbers = strides if type(strides) is tuple else listing(strides)
+    steps = strides if type(strides) is tuple else listing(strides)
     if itemsize < 1:
         raise ValueError(f"the item size {itemsize} isn't above 0")
-    if offset is not None and not 0 <= offset <= nbytes:
-        outside = {"offset": offset, "nbytes": nbytes}
-        raise OutOfBoundsError("OutOfBounds", f"offset {offset} lies outside of {nbytes} bytes", None, outside)
-    if gcd(itemsize, *numbers) != itemsize:
-        return _start_over((*listing(shape), itemsize), (*numbers, 1), 1, nbytes, offset, owned)
-    start, below = (None, 0) if offset is None else divmod(offset, itemsize)
-    steps = tuple([stride // itemsize for stride in numbers])
-    return itemsize * _start_over(shape, steps, itemsize, (nbytes - below) // itemsize, start, owned) + below
-
-
-def _start_over(
-    shape: Numbers, steps: Lens, elem_size: int, length: int, start: Optional[int], owned: bool
-) -> int:
-    """The start that is given, where the layout lies over so many elements, or the lowest one."""
-    if start is None:
-        return layout_start(shape, steps, elem_size=elem_size, length=length, owned=owned)
-    check_layout(start, shape, steps, elem_size=elem_size, length=length, owned=owned)
-    return start
+    unit = itemsize if gcd(itemsize, *steps) == itemsize else 1
+    if unit == itemsize:
+        steps = tuple([stride // unit for stride in steps])
+    else:
+        shape, steps = (*listing(shape), itemsize), (*steps, 1)
+    lens, packed_steps = unsigned(shape), signed(steps)
+    if offset is None:
+        start, sizes = one_number(), (c_size_t(unit), size(nbytes // unit, "length"))
+        library.layout_start(*lens, *packed_steps, *sizes, bool(owned), start)
+        return unit * int(start[0])
+    if not 0 <= offset <= nbytes:
+        numbers = {"offset": offset, "nbytes": nbytes}
+        raise OutOfBoundsError("OutOfBounds", f"offset {offset} lies outside of {nbytes} bytes", None, numbers)
+    sizes = c_size_t(unit), size((nbytes - offset % unit) // unit, "length")
+    library.check_layout(size(offset // unit, "start"), *lens, *packed_steps, *sizes, bool(owned))
+    return offset
 
 
 def share_element(a: Array, first: Any, second: Any, max_work: Optional[int] = MAX_WORK) -> bool:
@@ -122,11 +134,13 @@ def share_element(a: Array, first: Any, second: Any, max_work: Optional[int] = M
     Traceback (most recent call last):
     ndarray_layout.ShapeError: Unsupported: elements of shape (4, 3) and strides (8, 8) may overlap
     """
-    shape, overlap = a.shape, one_answer()
-    library.has_overlap(*unsigned((*shape, a.itemsize)), *signed((*a.strides, 1)), overlap)
-    if overlap[0]:
+    shape, answer = a.shape, one_answer()
+    library.has_overlap(*unsigned((*shape, a.itemsize)), *signed((*a.strides, 1)), answer)
+    if answer[0]:
         return _share_byte(a, first, second, max_work)
-    return intersect(unsigned(shape), packed_key(shape, first), packed_key(shape, second), False)
+    keys = *packed_key(shape, first), *packed_key(shape, second)
+    library.slices_intersect(*unsigned(shape), *keys, False, answer)
+    return bool(answer[0])
 
 
 def _share_byte(a: Array, first: Any, second: Any, max_work: Optional[int]) -> bool:
@@ -149,29 +163,40 @@ def reshape_without_copy(a: Array, new_shape: Numbers, order: Optional[str] = "C
     `a` has a `shape`, `strides` and an `itemsize`. One new length may be -1, as in NumPy. With the new strides `a`
     equals `a.reshape(new_shape, order=..)` in the order that is returned. That is 'C' where no order is given, as in
     NumPy. The order `None` asks for 'C' if no element has to be moved then, else for 'F'. Raises what `reshape`
-    does, of the first order that is tried, and `ValueError` where a stride is no multiple of the item size.
+    does, of the first order that is tried; its text and its numbers count bytes.
 
     >>> class Columns: shape, strides, itemsize = (4, 3), (8, 32), 8
     >>> reshape_without_copy(Columns, (2, 2, 3))
     Reshaped(order='C', strides=(16, 8, 32))
     >>> reshape_without_copy(Columns, 12)
     Traceback (most recent call last):
-    ndarray_layout.ShapeError: IncompatibleLayout: axis 0: stride 1 isn't 3 times 4, the stride of axis 1
+    ndarray_layout.ShapeError: IncompatibleLayout: axis 0: stride 8 isn't 3 times 32, the stride of axis 1
     >>> reshape_without_copy(Columns, 12, order=None)
     Reshaped(order='F', strides=(8,))
     """
-    shape, itemsize = a.shape, a.itemsize
-    lens, steps = unsigned(shape), signed(element_strides(a.strides, itemsize))
-    new_lens = unsigned(without_minus_one(shape, listing(new_shape)))
-    number, strides = _reshaped_by_any(lens, steps, new_lens, order)
-    return Reshaped("CF"[number], tuple([stride * itemsize for stride in strides]))
+    shape, wanted = a.shape, new_shape if type(new_shape) is tuple else listing(new_shape)
+    if -1 in wanted:
+        wanted = without_minus_one(shape, wanted)
+    lens, steps, new_lens = unsigned(shape), signed(a.strides), unsigned(wanted)
+    if order is None:
+        number, strides = _reshaped_by_any(lens, steps, new_lens)
+    else:
+        number = ORDERS[order] if order in ORDERS else _order_of(a, order)
+        strides = reshaped(lens, steps, new_lens, number)
+    if 1 in wanted:  # (an axis of length 1 may be left with stride 1, for one element)
+        pairs = zip(wanted, strides)
+        strides = tuple([a.itemsize if length == stride == 1 else stride for length, stride in pairs])
+    return Reshaped("CF"[number], strides)
 
 
-def _reshaped_by_any(lens: Packed, steps: Packed, new_lens: Packed, order: Optional[str]) -> tuple[int, Lens]:
-    """The number of the order, and the strides in elements."""
-    if order is not None:
-        number = order_of(order, lens, steps)
-        return number, reshaped(lens, steps, new_lens, number)
+def _order_of(a: Array, order: str) -> int:
+    """How the exports write the order 'A' of the elements of an array, or the error of another one."""
+    columns, rows = ((a.itemsize, *a.shape), (1, *a.strides)), ((*a.shape, a.itemsize), (*a.strides, 1))
+    return order_by(order, lambda: is_layout_f(*columns) and not is_layout_c(*rows))
+
+
+def _reshaped_by_any(lens: Packed, steps: Packed, new_lens: Packed) -> tuple[int, Lens]:
+    """The number of the first order that has strides, and these."""
     try:
         return 0, reshaped(lens, steps, new_lens, 0)
     except ShapeError as error:

@@ -114,8 +114,8 @@ class Layout:
     def of(array: Any, *, owned: bool = False) -> Layout:
         """The layout of an array, or of what a `memoryview` shows, over its elements from the lowest to the highest.
 
-        Raises `ValueError` where a stride is no multiple of the item size, and `ShapeError` where it is to be owned
-        and breaks the no-alias rule.
+        Raises `ValueError` where a stride is no multiple of the item size, as of packed records, and `ShapeError`
+        where it is to be owned and breaks the no-alias rule.
 
         >>> Layout.of(memoryview(b"abcdef")[::-2])
         Layout(start=4, shape=(3,), strides=(-2,), length=5, owned=False)

@@ -6,7 +6,7 @@ from array import array
 from ctypes import c_size_t, c_void_p
 from itertools import repeat
 from math import prod
-from typing import Iterator, NamedTuple, Optional, SupportsIndex
+from typing import Callable, Iterator, NamedTuple, Optional, SupportsIndex
 
 from . import _library as library
 from ._errors import ShapeError
@@ -135,9 +135,17 @@ def order_of(order: str, lens: Packed, steps: Packed) -> int:
     """How the exports write an order. 'A' is 'F' for what is column-major and not row-major, else 'C', as in NumPy."""
     if order in ORDERS:
         return ORDERS[order]
-    if order not in ("A", "a"):
+    is_f, is_c = library.is_layout_f, library.is_layout_c
+    return order_by(order, lambda: _answer(is_f, lens, steps) and not _answer(is_c, lens, steps))
+
+
+def order_by(order: str, is_column_major: Callable[[], bool]) -> int:
+    """How the exports write an order, where 'A' is decided by a question."""
+    if order in ("A", "a"):
+        return int(is_column_major())
+    if order not in ORDERS:
         raise ValueError(f"order must be 'C', 'F' or 'A', not {order!r}")
-    return int(_answer(library.is_layout_f, lens, steps) and not _answer(library.is_layout_c, lens, steps))
+    return ORDERS[order]
 
 
 def default_strides(shape: Numbers) -> Lens:

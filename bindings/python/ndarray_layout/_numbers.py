@@ -49,18 +49,18 @@ class Count(ctypes.c_size_t):
 Packed = tuple[bytes, Count]
 """A list as a call takes it: its bytes, and its count."""
 
-_COUNTS = [Count(number) for number in range(65)]  # (the axes of an array, or the numbers of a slice of 16 axes)
+COUNTS = [Count(number) for number in range(65)]  # (the axes of an array, or the numbers of a slice of 16 axes)
 
 
 def count_of(number: int) -> Count:
     """The count of a list of so many numbers."""
-    return _COUNTS[number] if number < 65 else Count(number)
+    return COUNTS[number] if number < 65 else Count(number)
 
 
 def unsigned(numbers: Numbers, name: str = "length") -> Packed:
     """A list of `size_t`. One that is none is a `SizeOverflowError`, which calls it by `name`."""
     try:
-        count = _COUNTS[len(numbers)]  # type: ignore[arg-type]
+        count = COUNTS[len(numbers)]  # type: ignore[arg-type]
         return count.pack_unsigned(*numbers), count  # type: ignore[misc]
     except (TypeError, StructError, IndexError):
         return _packed("Q", numbers, name)
@@ -69,7 +69,7 @@ def unsigned(numbers: Numbers, name: str = "length") -> Packed:
 def signed(numbers: Numbers, name: str = "stride") -> Packed:
     """A list of `ptrdiff_t`. One that is none is a `SizeOverflowError`, which calls it by `name`."""
     try:
-        count = _COUNTS[len(numbers)]  # type: ignore[arg-type]
+        count = COUNTS[len(numbers)]  # type: ignore[arg-type]
         return count.pack_signed(*numbers), count  # type: ignore[misc]
     except (TypeError, StructError, IndexError):
         return _packed("q", numbers, name)

@@ -11,6 +11,7 @@ from typing import Any, Iterable, NamedTuple, Optional, Sequence, SupportsIndex,
 from . import _library as library
 from ._errors import OutOfBoundsError, SizeOverflowError, error_of_kind
 from ._numbers import (
+    COUNTS,
     INDEX,
     LIMIT,
     NEW_AXIS,
@@ -60,8 +61,8 @@ _NEW_AXIS = element_head(NEW_AXIS, False)
 def _packed(fields: Sequence[Any]) -> Packed:
     """A list of elements, each of four numbers."""
     try:
-        return count_of(len(fields)).pack_signed(*fields), count_of(len(fields) // 4)
-    except StructError:
+        return COUNTS[len(fields)].pack_signed(*fields), COUNTS[len(fields) // 4]
+    except (StructError, IndexError):
         return _packed_slowly(fields)
 
 
@@ -130,12 +131,8 @@ def slices_intersect(shape: Numbers, first: Elems, second: Elems, clamp: bool = 
     >>> slices_intersect((9,), [Slice(0, None, 9)], [Slice(3, None, 6)])
     False
     """
-    return intersect(unsigned(shape), _packed(_fields_of(first)), _packed(_fields_of(second)), bool(clamp))
-
-
-def intersect(shape: Packed, first: Packed, second: Packed, clamp: bool) -> bool:
-    answer = one_answer()
-    library.slices_intersect(*shape, *first, *second, clamp, answer)
+    answer, elems = one_answer(), (*_packed(_fields_of(first)), *_packed(_fields_of(second)))
+    library.slices_intersect(*unsigned(shape), *elems, bool(clamp), answer)
     return bool(answer[0])
 
 
