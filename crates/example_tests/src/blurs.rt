@@ -64,7 +64,10 @@ fn mean_by_hand(
     let mut sum = 0u32;
     for k in 0..9usize {
         let down = layout.strides.at(0).wrapping_mul(row.wrapping_sub(k / 3));
-        let across = layout.strides.at(1).wrapping_mul(column.wrapping_sub(k % 3));
+        let across = layout
+            .strides
+            .at(1)
+            .wrapping_mul(column.wrapping_sub(k % 3));
         let place = start.wrapping_add(down).wrapping_add(across);
         sum = sum.wrapping_add(u32::from(*pixels.get(place)?));
     }
@@ -72,19 +75,16 @@ fn mean_by_hand(
 }
 
 /// The means of all windows of a picture that starts at a place.
-fn blur_by_hand(
-    alloc: Global,
-    pixels: &[u8],
-    layout: &Layout,
-    start: usize,
-) -> Option<Vec<u8>> {
+fn blur_by_hand(alloc: Global, pixels: &[u8], layout: &Layout, start: usize) -> Option<Vec<u8>> {
     let rows = layout.shape.at(0).checked_sub(2)?;
     let columns = layout.shape.at(1).checked_sub(2)?;
     let mut means = Vec::new(alloc);
     for number in 0..rows.checked_mul(columns)? {
         let row = number.checked_div(columns)?.checked_add(2)?;
         let column = number.checked_rem(columns)?.checked_add(2)?;
-        means.push(mean_by_hand(pixels, layout, start, row, column)?).ok()?;
+        means
+            .push(mean_by_hand(pixels, layout, start, row, column)?)
+            .ok()?;
     }
     Some(means)
 }
@@ -95,10 +95,9 @@ blur 4,5 5,1 20 => 6,7,8,11,12,13
 blur 3,4 -4,1 12 => 5,6
 blur 4,3 1,4 12 => 5,6
 blur 3,3 250,1 503 => 83
-blur 2,5 5,1 10 / 5,2 2,1 10 / 0,3 3,1 0 / 3,0 1,1 3 => -
-blur 102,102 102,1 10404 => rows:103,102,1
+blur 2,5 5,1 10 / 5,2 2,1 10 / 0,3 3,1 2 / 3,0 1,1 3 => -
 blur 2147483648,2147483648 0,0 1 => Overflow
-blur 40,50 50,1 2000 / 40,50 -50,-1 2000 / 50,40 1,50 2000 / 7,9 -40,3 400 => by_hand";
+blur 40,50 50,1 2000 / 40,50 -50,-1 2000 / 50,40 1,50 2000 / 7,9 -40,3 400 / 102,102 102,1 10404 => by_hand";
 
 #[test]
 fn rows_of_blurs(rt: HostRuntime) {
