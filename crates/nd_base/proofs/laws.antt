@@ -2,6 +2,7 @@ pub mod Below
 pub mod Definitions
 pub mod Dim
 pub mod Coordinates
+pub mod ElementwiseLoop
 pub mod Faults
 pub mod Indices
 pub mod Bounds
