@@ -16,7 +16,7 @@ use Rattle.ndarray_layout.specs.SlicedView.{slice_of, view_slice_fault}
 use Rattle.ndarray_layout.specs.View.{View, place_at}
 use Rattle.ndarray_layout.proofs.laws.SliceFault.{elements_of_no_fault}
 use Rattle.ndarray_layout.proofs.laws.SlicedView.{no_argument_fault}
-use Rattle.ndarray_layout.proofs.laws.UnitStep.{length-picks_by_one, ranges, selected_by_ranges}
+use Rattle.ndarray_layout.proofs.laws.UnitStep.{length-picks_by_one, ranges, selected_by_ranges, shape_between}
 
 -- two axes, of which as many coordinates are picked as lie between the bounds
 rows_between : (rows top bottom : ℕ) → length (picks Strict rows (slice_with (pos top) (Some (pos bottom)) (pos 1))) ≡ bottom - top
@@ -25,13 +25,7 @@ rows_between rows top bottom = length-picks_by_one Strict rows (pos top) (Some (
 pub sizes : (top left bottom right : ℕ) (shape : List ℕ) → 2 ≡ length shape
     → sliced_shape Strict (ranges (top ∷ left ∷ []) (Some (pos bottom) ∷ Some (pos right) ∷ []))
     shape ≡ (bottom - top) ∷ (right - left) ∷ []
-sizes top left bottom right [] count = absurd (omega arith)
-sizes top left bottom right (rows ∷ []) count = absurd (omega arith)
-sizes top left bottom right (rows ∷ columns ∷ []) count =
-    let first = rows_between rows top bottom in
-    let second = rows_between columns left right in
-    cc
-sizes top left bottom right (rows ∷ columns ∷ more ∷ shape) count = absurd (omega arith)
+sizes top left bottom right shape count = shape_between (top ∷ left ∷ []) (bottom ∷ right ∷ []) shape count count
 
 -- `..` leaves all columns
 pub sizes_of_band : (top bottom : ℕ) (shape : List ℕ) → 2 ≡ length shape

@@ -4,6 +4,7 @@ pub mod Bounds
 pub mod Coordinates
 pub mod Definitions
 pub mod Dim
+pub mod ElementwiseLoop
 pub mod FarthestOffset
 pub mod Faults
 pub mod FlatIndex

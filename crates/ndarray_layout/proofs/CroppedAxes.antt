@@ -1,13 +1,21 @@
 -- A range of coordinates on each axis of a layout: what they reach, and where their sources lie.
 use Rattle.std.proofs.Common.{◌≡◌, ◌⊎◌, ℕ, zero, suc, ◌+◌, ◌-◌, ◌*◌, ◌<◌, ◌≤◌, ℤ, pos, negsuc, ◌+ℤ◌, ◌*ℤ◌, ◌≤ℤ◌, true, cond, List, [], ◌∷◌}
-use Rattle.std.proofs.Common.{length, nat_lt, refl, sym, subst, ap, drop, get_or, inl, inr, arith}
+use Rattle.std.proofs.Common.{length, nat_lt, refl, sym, subst, ap, ◌∙◌, drop, get_or, inl, inr, arith, Some}
+use Rattle.std.proofs.Math.IntN.{zero-*ℤ}
+use Rattle.std.specs.List.{range_with_len}
 use Rattle.std.proofs.Math.Nat.{mul-le-mul_right}
 use Rattle.std.proofs.lemmas.Bool.{and_parts, and_from, cases_lt, cond-true, cond-false, le-ltb, ltb-true, lt-ltb}
 use Rattle.std.proofs.lemmas.Int.{ints}
 use Rattle.nd_base.proofs.laws.Definitions.{is_index, offset_of, nonzero_size, high_span, low_span, reach, reach_down, reach_up, span}
 use Rattle.nd_base.proofs.laws.Definitions.{farthest_offset, magnitude}
 use Rattle.nd_base.specs.Elementwise.{differences, sums, DifferencesFit}
-use Rattle.ndarray_layout.specs.CroppedView.{moved_starts}
+use Rattle.ndarray_layout.specs.CroppedView.{RangesFit, moved_starts}
+use Rattle.nd_slice.specs.declared.fit.Fit.TheVariants.{Strict}
+use Rattle.nd_slice.specs.SlicedAxis.{first_offset}
+use Rattle.nd_slice.specs.Picks.{picks}
+use Rattle.nd_slice.specs.SliceBounds.{slice_with}
+use Rattle.nd_slice.specs.SlicedLayout.{sliced_offset}
+use Rattle.nd_slice.proofs.laws.UnitStep.{between_one, ranges_between}
 use Rattle.ndarray_layout.proofs.ChangedAxis.{coordinates_add}
 use Rattle.ndarray_layout.proofs.KeptCoordinates.{none_down, none_up, range_kept}
 use Rattle.ndarray_layout.proofs.Slices.{nonzero_more}
@@ -99,21 +107,48 @@ crop_kept (len ∷ shape) (start ∷ starts) (end ∷ ends) (stride ∷ strides)
       far = omega (arith, axis.far, others.far);
     }
 
+-- the starts that move lie where the slice by these ranges begins
+first_between : (len start end : ℕ) (stride : ℤ)
+    → first_offset (picks Strict len (slice_with (pos start) (Some (pos end)) (pos 1))) stride ≡ pos (moved start end) *ℤ stride
+first_between len start end stride = ap (λ picked. first_offset picked stride) (between_one start end) ∙ elim (moved_cases start end) [
+  | inl some ↦
+      let more : end - start ≡ suc (end - start - 1) = omega (arith, some.0) in
+      ap (λ n. first_offset (range_with_len start n) stride) more ∙ ap (λ from. pos from *ℤ stride) (sym some.1)
+  | inr none ↦
+      ap (λ n. first_offset (range_with_len start n) stride) none.0
+      ∙ sym (zero-*ℤ stride)
+      ∙ ap (λ from. pos from *ℤ stride) (sym none.1)
+]
+
+pub offset_as_sliced : (shape starts ends : List ℕ) (strides : List ℤ) → Ranges shape starts ends strides
+    → offset_of strides (moved_starts starts ends) ≡ sliced_offset Strict (ranges_between starts ends) shape strides
+offset_as_sliced [] [] [] [] r = refl
+offset_as_sliced [] starts ends (stride ∷ strides) r = let counts = r.counts in absurd (omega arith)
+offset_as_sliced [] starts (end ∷ ends) [] r = absurd r.within
+offset_as_sliced [] (start ∷ starts) [] [] r = absurd r.in_order
+offset_as_sliced (len ∷ shape) starts ends [] r = let counts = r.counts in absurd (omega arith)
+offset_as_sliced (len ∷ shape) starts [] (stride ∷ strides) r = absurd r.within
+offset_as_sliced (len ∷ shape) [] (end ∷ ends) (stride ∷ strides) r = absurd r.in_order
+offset_as_sliced (len ∷ shape) (start ∷ starts) (end ∷ ends) (stride ∷ strides) r =
+    let first = first_between len start end stride in
+    let others = offset_as_sliced shape starts ends strides (rest r) in
+    cc
+
 -- no start that moves is past its axis
-pub moved_le : (shape starts ends : List ℕ) (strides : List ℤ) → Ranges shape starts ends strides → (k d : ℕ)
+pub moved_le : (shape starts ends : List ℕ) → RangesFit shape starts ends → (k d : ℕ)
     → k < length (moved_starts starts ends) → get_or (moved_starts starts ends) k d ≤ get_or shape k 0
-moved_le shape [] ends strides r k d h = absurd (omega arith)
-moved_le shape (start ∷ starts) [] strides r k d h = absurd (omega arith)
-moved_le [] (start ∷ starts) (end ∷ ends) strides r k d h = absurd r.within
-moved_le (len ∷ shape) (start ∷ starts) (end ∷ ends) [] r k d h = let counts = r.counts in absurd (omega arith)
-moved_le (len ∷ shape) (start ∷ starts) (end ∷ ends) (stride ∷ strides) r zero d h =
-    let ordered = r.in_order.0 in
-    let within = r.within.0 in
+moved_le shape [] ends fit k d h = absurd (omega arith)
+moved_le shape (start ∷ starts) [] fit k d h = absurd (omega arith)
+moved_le [] (start ∷ starts) (end ∷ ends) fit k d h = absurd fit.within
+moved_le (len ∷ shape) (start ∷ starts) (end ∷ ends) fit zero d h =
+    let ordered = fit.in_order.0 in
+    let within = fit.within.0 in
     elim (moved_cases start end) [
       | inl some ↦ omega (arith, some.1)
       | inr none ↦ omega (arith, none.1)
     ]
-moved_le (len ∷ shape) (start ∷ starts) (end ∷ ends) (stride ∷ strides) r (suc k) d h = moved_le shape starts ends strides (rest r) k d (omega arith)
+moved_le (len ∷ shape) (start ∷ starts) (end ∷ ends) fit (suc k) d h =
+    moved_le shape starts ends (record { in_order = fit.in_order.1; within = fit.within.1 }) k d (omega arith)
 
 -- an index that is kept, and its source
 pub record SourceKept (shape starts ends : List ℕ) (strides : List ℤ) (coordinates : List ℕ) : Type 0 where

@@ -5,7 +5,6 @@ pub mod Broadcasts
 pub mod ByRows
 pub mod ChangedAxis
 pub mod Collapses
-pub mod Combined
 pub mod CroppedAxes
 pub mod Fastest
 pub mod FromPlaces

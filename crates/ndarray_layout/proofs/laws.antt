@@ -29,6 +29,7 @@ pub use Rattle.nd_base.proofs.laws.Below
 pub use Rattle.nd_base.proofs.laws.Definitions
 pub use Rattle.nd_base.proofs.laws.Dim
 pub use Rattle.nd_base.proofs.laws.Coordinates
+pub use Rattle.nd_base.proofs.laws.ElementwiseLoop
 pub use Rattle.nd_base.proofs.laws.Faults
 pub use Rattle.nd_base.proofs.laws.Indices
 pub use Rattle.nd_base.proofs.laws.Bounds

@@ -1,17 +1,20 @@
 -- Laws of views of a range of coordinates on each axis.
-use Rattle.std.proofs.Common.{◌≡◌, ℕ, suc, ◌<◌, ◌≤◌, pos, ◌≤ℤ◌, true, List, [], ◌∷◌, length, get_or, refl, sym, ◌∙◌, arith}
+use Rattle.std.proofs.Common.{◌≡◌, ℕ, suc, ◌<◌, ◌≤◌, pos, ◌+ℤ◌, ◌≤ℤ◌, true, List, [], ◌∷◌, length, get_or, refl, ap, sym, ◌∙◌, arith}
 use Rattle.std.specs.List.{All}
 use Rattle.std.proofs.lemmas.Int.{ints}
 use Rattle.std.proofs.lemmas.List.Elements.{length_all_zip}
-use Rattle.nd_base.proofs.laws.Definitions.{farthest_offset, is_index, limit}
+use Rattle.nd_base.proofs.laws.Definitions.{farthest_offset, is_index, limit, magnitude}
 use Rattle.nd_base.proofs.laws.IsIndex.{length_of_index}
 use Rattle.nd_base.proofs.laws.NonzeroSize.{length_le_nonzero_size}
 use Rattle.nd_base.proofs.laws.Signed.{magnitude_from}
 use Rattle.nd_base.specs.Elementwise.{differences, DifferencesFit}
+use Rattle.nd_slice.specs.declared.fit.Fit.TheVariants.{Strict}
+use Rattle.nd_slice.proofs.laws.UnitStep.{ranges_between, shape_between}
 use Rattle.ndarray_layout.specs.CroppedView.{RangesFit, moved_starts, cropped_start, cropped_of, crop_source}
 use Rattle.ndarray_layout.specs.Descends.{Descends}
+use Rattle.ndarray_layout.specs.SlicedView.{slice_of}
 use Rattle.ndarray_layout.specs.View.{View, IsView}
-use Rattle.ndarray_layout.proofs.CroppedAxes.{CropKept, Ranges, crop_kept, moved_le, source_kept, sums_injective}
+use Rattle.ndarray_layout.proofs.CroppedAxes.{CropKept, Ranges, crop_kept, moved_le, offset_as_sliced, source_kept, sums_injective}
 use Rattle.ndarray_layout.proofs.laws.KeepsPlaces.{Descends-kept}
 use Rattle.ndarray_layout.proofs.laws.View.{IsView-within}
 
@@ -49,7 +52,7 @@ module _ (starts ends : List ℕ) (view : View) (v : IsView view) (fit : RangesF
   -- the starts that move add up
   pub moved_small : All (λ coordinate. coordinate ≤ limit) (moved_starts starts ends)
   moved_small = λ k d h.
-      omega (arith, moved_le view.shape starts ends view.strides ranges k d h, length_le_nonzero_size view.shape k, v.valid.size_fits)
+      omega (arith, moved_le view.shape starts ends fit k d h, length_le_nonzero_size view.shape k, v.valid.size_fits)
 
   pub moved_far : farthest_offset view.strides (moved_starts starts ends) ≤ limit
   moved_far = omega (arith, kept.far, v.valid.span_fits)
@@ -88,3 +91,13 @@ module _ (starts ends : List ℕ) (view : View) (v : IsView view) (fit : RangesF
       let stays = source_kept view.shape starts ends view.strides coordinates ranges here in
       (stays.within, omega (arith, ints, start-cropped_of, stays.offset)))
       (λ coordinates others here also same. sym (sums_injective others coordinates starts (long others also) (long coordinates here) (sym same)))
+
+  -- it has the shape and the start of the slice by the same ranges, also where no index is kept
+  pub shape_of_slice : (slice_of Strict (ranges_between starts ends) view).shape ≡ (cropped_of starts ends view).shape
+  shape_of_slice =
+      let within = length_all_zip (λ x y. y ≤ x) view.shape ends fit.within in
+      let in_order = length_all_zip (λ x y. y ≤ x) ends starts fit.in_order in
+      shape_between starts ends view.shape (omega arith) (omega arith)
+
+  pub start_of_slice : (slice_of Strict (ranges_between starts ends) view).start ≡ (cropped_of starts ends view).start
+  start_of_slice = ap (λ z. magnitude (pos view.start +ℤ z)) (sym (offset_as_sliced view.shape starts ends view.strides ranges))

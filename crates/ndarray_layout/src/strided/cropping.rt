@@ -50,8 +50,8 @@ impl<D: Lengths + Copy> Strided<D> {
     /// The view of the coordinates from `starts` to `ends`, one of each for each axis; `None` where a start is
     /// greater than its end, or an end greater than the length of its axis. No element is moved.
     ///
-    /// The strides are unchanged. The start moves to the first coordinate of each axis that keeps one. Takes no
-    /// memory, and time in proportion to the count of axes.
+    /// The strides are unchanged. The start moves to the first coordinate of each axis that keeps one, as it does in
+    /// `slice` by these ranges. Takes no memory, and time in proportion to the count of axes.
     ///
     /// From (1,1) to (3,2) of `[4,3]`, `[3,1]` from 0: `[2,1]`, `[3,1]` from 4. In place of ndarray's `slice` by
     /// ranges.

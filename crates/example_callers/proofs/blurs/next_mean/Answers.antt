@@ -78,22 +78,14 @@ pub overflow_cast-result : goal.overflow_cast-result
 overflow_cast-result c = omega (arith, c.loop-pixel.invariant.small, c.loop-pixel-test.false)
 
 -- in the end none is left
-ended : (pixels : List ℕ) (i sum : ℕ) (left all : List ℤ) → 9 ≤ i
-    → sum + sum_by (pixel_at pixels) (take (9 - i) left) ≡ sum_by (pixel_at pixels) (take 9 all) → drop (9 - i) left ≡ drop 9 all
-    → (sum ≡ sum_by (pixel_at pixels) (take 9 all)) × (left ≡ drop 9 all)
-ended pixels i sum left all done added others =
-    let none : 9 - i ≡ 0 = omega arith in
-    (omega (arith, rw none at added), rw none at others)
-
 pub returns-clause-mean : goal.returns-clause-mean
 returns-clause-mean c =
-    let before = c.loop-pixel.invariant in
-    let end = ended c.args.pixels.now c.loop-pixel._pixel c.loop-pixel.sum c.loop-pixel.places c.args.places.now
-    (omega (arith, c.loop-pixel-test.false)) before.added before.left in
-    ap (λ n. n / 9) end.0
+    let none : 9 - c.loop-pixel._pixel ≡ 0 = omega (arith, c.loop-pixel-test.false) in
+    let sum : c.loop-pixel.sum ≡ sum_by (pixel_at c.args.pixels.now) (take 9 c.args.places.now) =
+    omega (arith, rw none at c.loop-pixel.invariant.added) in
+    ap (λ n. n / 9) sum
 
 pub returns-clause-left : goal.returns-clause-left
 returns-clause-left c =
-    let before = c.loop-pixel.invariant in
-    (ended c.args.pixels.now c.loop-pixel._pixel c.loop-pixel.sum c.loop-pixel.places c.args.places.now
-    (omega (arith, c.loop-pixel-test.false)) before.added before.left).1
+    let none : 9 - c.loop-pixel._pixel ≡ 0 = omega (arith, c.loop-pixel-test.false) in
+    rw none at c.loop-pixel.invariant.left

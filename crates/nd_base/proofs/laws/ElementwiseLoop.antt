@@ -1,4 +1,4 @@
--- Facts about two lists that a loop combines number by number, from the front on.
+-- Laws of two lists that a loop combines number by number, from the front on.
 use Rattle.std.proofs.Common.{◌≡◌, ℕ, zero, suc, ◌+◌, ◌<◌, List, [], ◌∷◌, length, get_or, set, refl, ap, ◌∙◌, sym, subst, arith, add-one}
 use Rattle.std.specs.List.{AllZip}
 use Rattle.std.proofs.lemmas.List.Elements.{AllZip-get_or, length_all_zip}
@@ -36,6 +36,17 @@ all_of_them f [] (y ∷ ys) h = absurd (omega arith)
 all_of_them f (x ∷ xs) [] h = absurd (omega arith)
 all_of_them f (x ∷ xs) (y ∷ ys) h = ap (λ zs. f x y ∷ zs) (all_of_them f xs ys (omega arith))
 
+module _ (f : ℕ → ℕ → ℕ) (xs ys zs : List ℕ) (n : ℕ) (long : length xs ≡ length ys)
+    (e : zs ≡ combined f n xs ys) where
+  -- a turn of the loop
+  pub combined_more : n < length ys
+      → set zs n (f (get_or zs n 0) (get_or ys n 0)) ≡ combined f (n + 1) xs ys
+  combined_more h = rw (add-one, e, next_of_combined f n xs ys 0) (one_more f n xs ys (omega arith) h)
+
+  -- the end of the loop
+  pub combined_all : n ≡ length ys → zs ≡ elementwise f xs ys
+  combined_all h = e ∙ ap (λ m. combined f m xs ys) h ∙ all_of_them f xs ys long
+
 module _ (R : ℕ → ℕ → Type 0) (f : ℕ → ℕ → ℕ) (xs ys zs : List ℕ) (n : ℕ)
     (r : AllZip R xs ys) (e : zs ≡ combined f n xs ys) where
   -- what holds of the items of xs and ys at one place holds of those that the loop reads
@@ -44,15 +55,3 @@ module _ (R : ℕ → ℕ → Type 0) (f : ℕ → ℕ → ℕ) (xs ys zs : List
       let long : length xs ≡ length ys = length_all_zip R xs ys r in
       let same = ap (λ l. get_or l n 0) e ∙ next_of_combined f n xs ys 0 in
       subst (λ x. R x (get_or ys n 0)) (sym same) (AllZip-get_or R xs ys n 0 0 r (omega arith))
-
-  -- a turn of the loop
-  pub combined_more : n < length ys
-      → set zs n (f (get_or zs n 0) (get_or ys n 0)) ≡ combined f (n + 1) xs ys
-  combined_more h =
-      let long : length xs ≡ length ys = length_all_zip R xs ys r in
-      rw (add-one, e, next_of_combined f n xs ys 0) (one_more f n xs ys (omega arith) h)
-
-  -- the end of the loop
-  pub combined_all : n ≡ length ys → zs ≡ elementwise f xs ys
-  combined_all h =
-      e ∙ ap (λ m. combined f m xs ys) h ∙ all_of_them f xs ys (length_all_zip R xs ys r)
