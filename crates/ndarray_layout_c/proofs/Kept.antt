@@ -29,7 +29,7 @@ pub returned_ok : {status : ℤ} → FitsSigned w32 status → to_z w32 (of_z w3
 returned_ok {status} fits returned = sym (to_z-of_z w32 status fits) ∙ returned
 
 -- the lists that a view was written to, from its start, are that view
-pub as_written : (view : View) (shape strides : List ℕ) → shape ≡ view.shape → all_signed strides ≡ view.strides
+as_written : (view : View) (shape strides : List ℕ) → shape ≡ view.shape → all_signed strides ≡ view.strides
     → view ≡ view_of view.start shape strides
 as_written view shape strides same along =
     ap₂ (λ shape strides. record { start = view.start; shape = shape; strides = strides }) (sym same) (sym along)
