@@ -538,6 +538,49 @@ ND_INLINE int32_t nd_layout_broadcast(const nd_layout *layout, const size_t *tar
                    &made, broadcast);
 }
 
+/* nd_windows: what is written has twice as many axes, those along which the windows move and then those in a window. */
+ND_INLINE int32_t nd_layout_windows(const nd_layout *layout, const size_t *window, size_t window_len, nd_layout *windows) {
+    nd_layout made;
+    if (layout->axes > ND_MAX_AXES / 2) return ND_BAD_ARGUMENT;
+    made.start = layout->start;
+    made.axes = 2 * layout->axes;
+    return nd_keep(nd_windows(layout->shape, layout->axes, layout->strides, layout->axes, window, window_len, made.shape,
+                              made.axes, made.strides, made.axes),
+                   &made, windows);
+}
+
+/* nd_exact_chunks: what is written has twice as many axes, those of the chunks' numbers and then those in a chunk. */
+ND_INLINE int32_t nd_layout_exact_chunks(const nd_layout *layout, const size_t *chunk, size_t chunk_len,
+                                         nd_layout *chunks) {
+    nd_layout made;
+    if (layout->axes > ND_MAX_AXES / 2) return ND_BAD_ARGUMENT;
+    made.start = layout->start;
+    made.axes = 2 * layout->axes;
+    return nd_keep(nd_exact_chunks(layout->shape, layout->axes, layout->strides, layout->axes, chunk, chunk_len, made.shape,
+                                   made.axes, made.strides, made.axes),
+                   &made, chunks);
+}
+
+/* nd_split_at: the parts below a coordinate of an axis and from it on. Each may be the layout that is read, but not both. */
+ND_INLINE int32_t nd_layout_split_at(const nd_layout *layout, size_t axis, size_t index, nd_layout *first,
+                                     nd_layout *second) {
+    nd_layout made;
+    size_t starts[2], shapes[2 * ND_MAX_AXES], other;
+    int32_t status;
+    if (layout->axes > ND_MAX_AXES) return ND_BAD_ARGUMENT;
+    made.axes = layout->axes;
+    status = nd_split_at(layout->start, layout->shape, layout->axes, layout->strides, layout->axes, axis, index, starts, 2,
+                         shapes, 2 * made.axes, made.strides, made.axes);
+    if (status != ND_OK) return status;
+    made.start = starts[0];
+    for (other = 0; other < made.axes; other++) made.shape[other] = shapes[other];
+    *first = made;
+    made.start = starts[1];
+    for (other = 0; other < made.axes; other++) made.shape[other] = shapes[made.axes + other];
+    *second = made;
+    return ND_OK;
+}
+
 #ifdef __cplusplus
 }
 #endif

@@ -1,2 +1,3 @@
 pub mod CommonShapes
 pub mod Counts
+pub mod RowsFrom

@@ -135,8 +135,7 @@ fn write_pair(found: Option<(usize, usize)>, pair: &mut [usize]) -> i32
     ensures unchanged { result ≡ pos 0 → pair.new ≡ pair.old }
 {
     if let Some((first, second)) = found {
-        pair[0] = first;
-        pair[1] = second;
+        pair.copy_from_slice(&[first, second]);
     }
     answer_of(found.is_some())
 }

@@ -40,6 +40,7 @@ fn fill_starts(view: &Strided<IxDyn>, order: Order, starts: &mut [usize])
 }
 
 /// Writes the rows of a view, in an order, and returns the status.
+#[tactic(auto, using(crate::proofs::RowsFrom::fastest_signed, crate::proofs::RowsFrom::from_starts))]
 fn write_rows(
     view: &Strided<IxDyn>,
     order: Order,
@@ -53,8 +54,9 @@ fn write_rows(
         rows_from stride.new len.new starts.new ≡ view_rows order view.now }
     ensures stride { result ≡ ok → stride.new ≡ fastest_item order view.now.strides (pos 0) }
     ensures len { result ≡ ok → len.new ≡ fastest_item order view.now.shape 1 }
-    ensures unchanged { result ≢ ok → (starts.new ≡ starts.old)
-        × (stride.new ≡ stride.old) × (len.new ≡ len.old) }
+    ensures unchanged_starts { result ≢ ok → starts.new ≡ starts.old }
+    ensures unchanged_stride { result ≢ ok → stride.new ≡ stride.old }
+    ensures unchanged_len { result ≢ ok → len.new ≡ len.old }
 {
     if starts.len() != view.rows(order).len() {
         return BAD_ARGUMENT;
@@ -89,8 +91,9 @@ pub extern "C" fn nd_rows(
     ensures stride { result ≡ ok → stride.new ≡
         fastest_item (order_named order) (all_signed strides.now) (pos 0) }
     ensures len { result ≡ ok → len.new ≡ fastest_item (order_named order) shape.now 1 }
-    ensures unchanged { result ≢ ok → (starts.new ≡ starts.old)
-        × (stride.new ≡ stride.old) × (len.new ≡ len.old) }
+    ensures unchanged_starts { result ≢ ok → starts.new ≡ starts.old }
+    ensures unchanged_stride { result ≢ ok → stride.new ≡ stride.old }
+    ensures unchanged_len { result ≢ ok → len.new ≡ len.old }
 {
     if !is_choice(order) {
         return BAD_ARGUMENT;

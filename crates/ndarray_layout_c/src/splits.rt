@@ -86,8 +86,7 @@ pub extern "C" fn nd_split_at(
     }
     match parts(alloc, start, shape, strides, axis, index) {
         Ok((first, second)) => {
-            new_starts[0] = first.start();
-            new_starts[1] = second.start();
+            new_starts.copy_from_slice(&[first.start(), second.start()]);
             new_shapes[..ndim].copy_from_slice(first.dim().slice());
             new_shapes[ndim..].copy_from_slice(second.dim().slice());
             new_strides.copy_from_slice(first.strides().slice());
