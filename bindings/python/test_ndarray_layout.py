@@ -272,6 +272,13 @@ class Checked:
         self.assertRaises(ctypes.ArgumentError, library.has_overlap, *nothing, *nothing, b"    ")
 
 
+class Version(unittest.TestCase):
+    def test_library(self):
+        library.check_version(nd.__version__)
+        with self.assertRaisesRegex(ImportError, rf"is of version {nd.__version__}, and this package of 0\.0\.9"):
+            library.check_version("0.0.9")
+
+
 class CheckedRows(Checked, WorkedRows):
     pass
 
