@@ -105,7 +105,8 @@ static void test_no_memory(void) {
     ptrdiff_t steps[6] = {6, 9, 2, 9, 1, 9};
     REQUESTS(0, nd_layout_start(LONG_LAYOUT, 1, 12, ND_OWNED, &written.number));
     REQUESTS(0, nd_has_overlap(LONG_LAYOUT, &written.answer));
-    REQUESTS(0, nd_next_index(LIST(long_shape), memset(written.shape, 0, sizeof long_shape), 6, ND_ROW_MAJOR, &written.answer));
+    REQUESTS(0, nd_next_index(LIST(long_shape), memset(written.shape, 0, sizeof long_shape), 6, ND_ROW_MAJOR,
+                              &written.answer));
     REQUESTS(0, nd_co_broadcast(LIST(long_shape), LIST(target), written.shape, 6));
     REQUESTS(0, nd_merge_axes(LIST(lens), LIST(steps), 0, 2, &written.answer));
     REQUESTS(0, nd_status_text(ND_OK, LIST(text), &written.number));

@@ -1,3 +1,4 @@
 pub mod CommonShapes
 pub mod Counts
+pub mod Kept
 pub mod RowsFrom

@@ -2,6 +2,7 @@ pub mod Arguments
 pub mod Elements
 pub mod IndexAfter
 pub mod IndexFault
+pub mod Kept
 pub mod LayoutFault
 pub mod OwnStrides
 pub mod RowsFrom

@@ -2,11 +2,12 @@
 ghost use Rattle.std.specs.Option.{option_or};
 ghost use Rattle.std.specs.Prelude.{◌≡◌, ◌≢◌, ◌==◌, ◌+◌, ◌&&◌, not, false, None, Some, length, IfOk, IsOk, OnOk};
 ghost use Rattle.ndarray_layout.specs.declared.ErrorKind.{ErrorKind};
-ghost use Rattle.ndarray_layout.specs.ChunksView.{chunks_fault, chunks_of};
+ghost use Rattle.ndarray_layout.specs.ChunksView.{chunk_source, chunks_fault, chunks_of};
 ghost use Rattle.ndarray_layout.specs.Lengths.{NeedsNoMemory};
 ghost use Rattle.ndarray_layout.specs.ShapeFault.{shape_fault};
 ghost use Rattle.ndarray_layout.specs.Signed.{all_signed};
-ghost use Rattle.ndarray_layout.specs.WindowsView.{windows_fault, windows_of};
+ghost use Rattle.ndarray_layout.specs.WindowsView.{window_source, windows_fault, windows_of};
+ghost use Rattle.ndarray_layout_c.specs.Kept.{DescendsInPlace, IsLayoutOf};
 ghost use Rattle.ndarray_layout_c.specs.LayoutFault.{layout_fault, lowest_view};
 ghost use Rattle.ndarray_layout_c.specs.Statuses.{bad_argument, ok, out_of_memory, status_where};
 
@@ -67,6 +68,8 @@ pub extern "C" fn nd_windows(
         (windows_of window.now (lowest_view shape.now strides.now)).shape }
     ensures strides { result ≡ ok → all_signed new_strides.new ≡
         (windows_of window.now (lowest_view shape.now strides.now)).strides }
+    ensures kept { result ≡ ok → IsLayoutOf (window_source (length shape.now))
+        shape.now strides.now new_shape.new new_strides.new }
     ensures unchanged { result ≢ ok →
         (new_shape.new ≡ new_shape.old) × (new_strides.new ≡ new_strides.old) }
 {
@@ -133,6 +136,8 @@ pub extern "C" fn nd_exact_chunks(
         (chunks_of chunk.now (lowest_view shape.now strides.now)).shape }
     ensures strides { result ≡ ok → all_signed new_strides.new ≡
         (chunks_of chunk.now (lowest_view shape.now strides.now)).strides }
+    ensures kept { result ≡ ok → DescendsInPlace (chunk_source chunk.now)
+        shape.now strides.now new_shape.new new_strides.new }
     ensures unchanged { result ≢ ok →
         (new_shape.new ≡ new_shape.old) × (new_strides.new ≡ new_strides.old) }
 {

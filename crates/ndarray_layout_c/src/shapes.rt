@@ -4,16 +4,17 @@ ghost use Rattle.std.specs.Option.{option_or};
 ghost use Rattle.ndarray_layout.specs.declared.ErrorKind.{ErrorKind};
 ghost use Rattle.ndarray_layout.specs.Acceptance.{size_fault};
 ghost use Rattle.ndarray_layout.specs.AxesInOrder.{axis_numbers};
-ghost use Rattle.ndarray_layout.specs.BroadcastView.{broadcast_fault, broadcast_strides};
+ghost use Rattle.ndarray_layout.specs.BroadcastView.{broadcast_fault, broadcast_source, broadcast_strides};
 ghost use Rattle.ndarray_layout.specs.CommonShape.{common_shape, common_shape_fault};
 ghost use Rattle.ndarray_layout.specs.Lengths.{NeedsNoMemory};
 ghost use Rattle.ndarray_layout.specs.Merge.{MergeFits, merged_shape, merged_strides};
 ghost use Rattle.ndarray_layout.specs.MergedView.{axes_fault};
-ghost use Rattle.ndarray_layout.specs.PermutedView.{permute_fault, permuted_of};
-ghost use Rattle.ndarray_layout.specs.ReshapedView.{view_reshape_fault, reshaped_strides};
+ghost use Rattle.ndarray_layout.specs.PermutedView.{permute_fault, permute_source, permuted_of};
+ghost use Rattle.ndarray_layout.specs.ReshapedView.{reshape_source, reshaped_strides, view_reshape_fault};
 ghost use Rattle.ndarray_layout.specs.ShapeFault.{shape_fault};
 ghost use Rattle.ndarray_layout.specs.Signed.{all_signed, signed};
 ghost use Rattle.ndarray_layout_c.specs.Arguments.{is_choice, order_named};
+ghost use Rattle.ndarray_layout_c.specs.Kept.{DescendsInPlace, IsLayoutOf};
 ghost use Rattle.ndarray_layout_c.specs.LayoutFault.{layout_fault, lowest_view};
 ghost use Rattle.ndarray_layout_c.specs.Statuses.{bad_argument, ok, out_of_memory, status_of, status_where};
 
@@ -148,6 +149,8 @@ pub extern "C" fn nd_broadcast(
         result ≢ out_of_memory }
     ensures strides { result ≡ ok → all_signed new_strides.new ≡
         broadcast_strides target.now shape.now (all_signed strides.now) }
+    ensures kept { result ≡ ok → IsLayoutOf (broadcast_source shape.now)
+        shape.now strides.now target.now new_strides.new }
     ensures unchanged { result ≢ ok → new_strides.new ≡ new_strides.old }
 {
     if new_strides.len() != target.len() {
@@ -175,6 +178,7 @@ fn write_reshaped(
     requires count { length new_strides.old ≡ length new_shape.now }
     ensures status { result ≢ out_of_memory →
         result ≡ status_of (view_reshape_fault order new_shape.now view.now) }
+    ensures fits { result ≡ ok → view_reshape_fault order new_shape.now view.now ≡ None }
     ensures memory { NeedsNoMemory None (length new_shape.now) → result ≢ out_of_memory }
     ensures strides { result ≡ ok → all_signed new_strides.new ≡
         reshaped_strides order new_shape.now view.now }
@@ -214,6 +218,9 @@ pub extern "C" fn nd_reshape(
         result ≢ out_of_memory }
     ensures strides { result ≡ ok → all_signed new_strides.new ≡ reshaped_strides
         (order_named order) new_shape.now (lowest_view shape.now strides.now) }
+    ensures kept { result ≡ ok →
+        DescendsInPlace (reshape_source (order_named order) shape.now new_shape.now)
+        shape.now strides.now new_shape.now new_strides.new }
     ensures unchanged { result ≢ ok → new_strides.new ≡ new_strides.old }
 {
     if !is_choice(order) || new_strides.len() != new_shape.len() {
@@ -302,6 +309,8 @@ pub extern "C" fn nd_permuted_axes(
         (permuted_of axes.now (lowest_view shape.now strides.now)).shape }
     ensures strides { result ≡ ok → all_signed new_strides.new ≡
         (permuted_of axes.now (lowest_view shape.now strides.now)).strides }
+    ensures kept { result ≡ ok → DescendsInPlace (permute_source axes.now)
+        shape.now strides.now new_shape.new new_strides.new }
     ensures unchanged { result ≢ ok →
         (new_shape.new ≡ new_shape.old) × (new_strides.new ≡ new_strides.old) }
 {

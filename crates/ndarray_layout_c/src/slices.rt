@@ -3,8 +3,10 @@ ghost use Rattle.std.specs.Option.{option_or};
 ghost use Rattle.std.specs.Prelude.{◌≡◌, ◌≢◌, ◌≤◌, ◌↔◌, ◌==◌, ◌&&◌, ◌||◌, not, true, false, pos, None, Some, length, if◌then◌else◌, IfOk, IsOk, IsTrue, OnOk};
 ghost use Rattle.ndarray_layout.specs.declared.ErrorKind.{ErrorKind};
 ghost use Rattle.ndarray_layout.specs.SliceFault.{argument_fault, out_count};
+ghost use Rattle.ndarray_layout.specs.Descends.{Descends};
 ghost use Rattle.ndarray_layout.specs.Lengths.{NeedsNoMemory};
 ghost use Rattle.ndarray_layout.specs.Intersect.{Intersect};
+ghost use Rattle.ndarray_layout.specs.Selected.{selected};
 ghost use Rattle.ndarray_layout.specs.ShapeFault.{shape_fault};
 ghost use Rattle.ndarray_layout.specs.Signed.{all_signed};
 ghost use Rattle.ndarray_layout.specs.Size.{size};
@@ -96,6 +98,8 @@ fn sliced(
     ensures memory { length raws.now ≤ 4 → NeedsNoMemory None (out_count (elems_named raws.now)) →
         shape_fault result ≡ None → IsOk result }
     ensures sliced { IfOk result (λ v. v ≡ slice_of fit (elems_named raws.now) view.now) }
+    ensures kept { IfOk result (λ v.
+        Descends (selected fit (elems_named raws.now) view.now.shape) view.now v) }
 {
     if raws.len() <= FEW {
         let elems = few_elems(raws);
@@ -127,6 +131,8 @@ fn write_slice(
         new_shape.new ≡ (slice_of fit (elems_named raws.now) view.now).shape }
     ensures strides { result ≡ ok → all_signed new_strides.new ≡
         (slice_of fit (elems_named raws.now) view.now).strides }
+    ensures kept { result ≡ ok → Descends (selected fit (elems_named raws.now) view.now.shape)
+        view.now (view_of new_start.new new_shape.new new_strides.new) }
     ensures unchanged_start { result ≢ ok → new_start.new ≡ new_start.old }
     ensures unchanged_shape { result ≢ ok → new_shape.new ≡ new_shape.old }
     ensures unchanged_strides { result ≢ ok → new_strides.new ≡ new_strides.old }
@@ -175,6 +181,10 @@ pub extern "C" fn nd_slice(
         new_shape.new ≡ (sliced_view fit elems.now start shape.now strides.now).shape }
     ensures strides { result ≡ ok → all_signed new_strides.new ≡
         (sliced_view fit elems.now start shape.now strides.now).strides }
+    ensures kept { result ≡ ok → Descends
+        (selected (fit_named fit) (elems_named elems.now) shape.now)
+        (view_of start shape.now strides.now)
+        (view_of new_start.new new_shape.new new_strides.new) }
     ensures unchanged_start { result ≢ ok → new_start.new ≡ new_start.old }
     ensures unchanged_shape { result ≢ ok → new_shape.new ≡ new_shape.old }
     ensures unchanged_strides { result ≢ ok → new_strides.new ≡ new_strides.old }

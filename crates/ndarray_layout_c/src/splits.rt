@@ -1,11 +1,12 @@
 //! The two parts of a layout that is split along an axis.
 ghost use Rattle.std.specs.Option.{option_or};
-ghost use Rattle.std.specs.Prelude.{◌≡◌, ◌≢◌, ◌==◌, ◌+◌, ◌++◌, ◌&&◌, not, false, None, Some, [], ◌∷◌, length, IfOk, IsOk, OnOk};
+ghost use Rattle.std.specs.Prelude.{◌≡◌, ◌≢◌, ◌==◌, ◌+◌, ◌++◌, ◌&&◌, not, false, None, Some, [], ◌∷◌, length, slice_index, take, drop, IfOk, IsOk, OnOk};
 ghost use Rattle.ndarray_layout.specs.declared.ErrorKind.{ErrorKind};
+ghost use Rattle.ndarray_layout.specs.Descends.{Descends};
 ghost use Rattle.ndarray_layout.specs.Lengths.{NeedsNoMemory};
 ghost use Rattle.ndarray_layout.specs.ShapeFault.{shape_fault};
 ghost use Rattle.ndarray_layout.specs.Signed.{all_signed};
-ghost use Rattle.ndarray_layout.specs.SplitView.{first_part_of, second_part_of, split_fault};
+ghost use Rattle.ndarray_layout.specs.SplitView.{first_part_of, second_part_of, second_source, split_fault};
 ghost use Rattle.ndarray_layout.specs.View.{view_of};
 ghost use Rattle.ndarray_layout_c.specs.LayoutFault.{layout_fault_from};
 ghost use Rattle.ndarray_layout_c.specs.Statuses.{bad_argument, ok, out_of_memory, status_where};
@@ -37,6 +38,10 @@ fn parts(
         first_part_of axis index (view_of start shape.now strides.now)) }
     ensures second { IfOk result (λ both. both.1 ≡
         second_part_of axis index (view_of start shape.now strides.now)) }
+    ensures first_kept { IfOk result (λ both.
+        Descends (λ coordinates. coordinates) (view_of start shape.now strides.now) both.0) }
+    ensures second_kept { IfOk result (λ both.
+        Descends (second_source axis index) (view_of start shape.now strides.now) both.1) }
 {
     let view = view_from(alloc, start, shape, strides)?;
     view.split_at(alloc, Axis(axis), index)
@@ -77,6 +82,12 @@ pub extern "C" fn nd_split_at(
         (first_part_of axis index (view_of start shape.now strides.now)).strides }
     ensures second_strides { result ≡ ok → all_signed new_strides.new ≡
         (second_part_of axis index (view_of start shape.now strides.now)).strides }
+    ensures first_kept { result ≡ ok → Descends (λ coordinates. coordinates)
+        (view_of start shape.now strides.now) (view_of (slice_index new_starts.new 0)
+        (take (length shape.now) new_shapes.new) new_strides.new) }
+    ensures second_kept { result ≡ ok → Descends (second_source axis index)
+        (view_of start shape.now strides.now) (view_of (slice_index new_starts.new 1)
+        (drop (length shape.now) new_shapes.new) new_strides.new) }
     ensures unchanged { result ≢ ok → (new_starts.new ≡ new_starts.old)
         × (new_shapes.new ≡ new_shapes.old) × (new_strides.new ≡ new_strides.old) }
 {
