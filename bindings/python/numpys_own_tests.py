@@ -2,8 +2,8 @@
 
     python3 numpys_own_tests.py
 
-The tests are those of the NumPy that is installed: `test_mem_overlap` and `test_stride_tricks`, which need pytest. What
-stands in is listed in `OVERLAP` and `STRIDES`. A test that can't pass with it is named in `LEFT_OUT`, and fails here.
+The tests are those of the NumPy that is installed: `test_mem_overlap` and `test_stride_tricks`, which need pytest.
+What stands in is listed in `OVERLAP` and `STRIDES`. `LEFT_OUT` names the tests that fail with it, and says why.
 """
 
 import importlib
@@ -33,7 +33,7 @@ LEFT_OUT = {
     "test_writeable": "views of `as_strided`, which these are made by, can't be set writeable again",
     "test_may_share_memory_bad_max_work": "a count of steps may be any number, and not only one of 64 bits",
     "TestSlidingWindowView.test_2d_repeated_axis": "windows along an axis twice are no call of this package",
-    "TestSlidingWindowView.test_errors": "the texts of errors, and windows longer than an axis, of which there are none",
+    "TestSlidingWindowView.test_errors": "other texts; a window may be longer than its axis, and there are none then",
 }
 
 STEPS = 8
@@ -173,9 +173,11 @@ class NumpysOwn(unittest.TestCase):
         for place in (module, *places):
             for name, call in stand_ins.items():
                 if hasattr(place, name):
-                    self.enterContext(mock.patch.object(place, name, counted(call)))
+                    patch = mock.patch.object(place, name, counted(call))
+                    patch.start()
+                    self.addCleanup(patch.stop)
         for name, test in tests.items():
-            before = calls.total()
+            before = sum(calls.values())
             with self.subTest(name), warnings.catch_warnings():
                 warnings.simplefilter("ignore", DeprecationWarning)
                 if name in LEFT_OUT:
@@ -183,15 +185,16 @@ class NumpysOwn(unittest.TestCase):
                 else:
                     test()
                     passed += 1
-                    without += calls.total() == before
+                    without += sum(calls.values()) == before
         missing = [call.__name__ for call in stand_ins.values() if not calls[call.__name__]]
         self.assertEqual(missing, [], "these never stood in")
-        print(f"{module.__name__}: {passed - without} tests pass with calls that stand in, {without} make none of them")
+        print(f"{module.__name__}: {passed} tests pass, {without} of them without a call that stands in")
 
     def named_tests(self, module):
         for name, found in vars(module).items():
             if name.startswith("Test"):
-                yield from ((f"{name}.{part}", getattr(found(), part)) for part in dir(found) if part.startswith("test_"))
+                parts = [part for part in dir(found) if part.startswith("test_")]
+                yield from ((f"{name}.{part}", getattr(found(), part)) for part in parts)
             elif name.startswith("test_"):
                 yield name, found
 

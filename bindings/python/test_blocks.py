@@ -1,4 +1,4 @@
-"""Windows, chunks, parts and rows beside NumPy; packed records, and layouts with distinct places, beside sets of places.
+"""Windows, chunks, parts, rows and packed records beside NumPy; distinct places beside sets of places.
 
     python3 test_blocks.py
 """
@@ -126,7 +126,11 @@ class BesideNumpy(Counted):
         for _ in range(ARRAYS):
             shape = tuple(self.numbers.choices((1, 2, 3, 4), k=self.numbers.randint(1, 3)))
             strides = tuple(self.numbers.randint(-25, 25) for _ in shape)
-            nbytes, offset, owned = self.numbers.randint(1, 120), self.numbers.randint(0, 60), self.numbers.random() < 0.5
+            nbytes, offset, owned = (
+                self.numbers.randint(1, 120),
+                self.numbers.randint(0, 60),
+                self.numbers.random() < 0.5,
+            )
             expected = outcome(lambda: np.ndarray(shape, np.int32, bytes(nbytes), offset, strides).shape == shape)
             how = {"itemsize": 4, "nbytes": nbytes, "owned": owned}
             ours = outcome(lambda: nd.lay_over(shape, strides, **how, offset=offset) == offset)
@@ -154,7 +158,6 @@ class BesideNumpy(Counted):
             self.assertEqual(records[name].tolist(), again.tolist())
             with self.assertRaises(IndexError):
                 nd.lay_over(field.shape, field.strides, **how, offset=15 - dtype.itemsize + 1)
-
 
     def test_reshapes_of_fields(self):
         """NumPy's views of packed fields with another shape, and no others."""

@@ -4,6 +4,7 @@
 """
 
 import random
+import time
 import unittest
 from collections import Counter
 from itertools import combinations, product
@@ -121,6 +122,18 @@ class Conflicts(unittest.TestCase):
                 self.assertEqual(nd.first_conflict(shape, [*tiles, tiles[7]]), (7, 9_000))
                 random.Random(1).shuffle(tiles)
 
+    def test_no_order_takes_no_longer(self):
+        """Tiles in no order are sorted: to compare each with each would take 20 times as long."""
+        tiles = [(slice(i, i + 10), slice(j, j + 10)) for i in range(0, 3_000, 10) for j in range(0, 1_000, 10)]
+        in_order = self.seconds((3_000, 1_000), tiles)
+        random.Random(1).shuffle(tiles)
+        self.assertLess(self.seconds((3_000, 1_000), tiles), 8 * in_order)
+
+    def seconds(self, shape, keys):
+        began = time.process_time()
+        self.assertIsNone(nd.first_conflict(shape, keys))
+        return time.process_time() - began
+
     def test_large_arrays(self):
         shape = (2**31, 2**31)
         halves = [(..., slice(0, 2**30)), (..., slice(2**30, None)), (-1, slice(2**30, None, 2**20))]
@@ -140,7 +153,9 @@ class Conflicts(unittest.TestCase):
             nd.first_conflict((4, 4), [0, (slice(0, 0), 9)])
         self.assertEqual(str(caught.exception), "key 1: axis 1: index 9 is out of bounds of length 4")
         self.assertEqual((caught.exception.axis, caught.exception.numbers["key"]), (1, 1))
-        self.assertRaises(IndexError, nd.first_conflict, (4,), [Slice(0, 5)])
+        with self.assertRaises(IndexError) as caught:
+            nd.first_conflict((4, 4), [0, 1, (2, Slice(0, 5))])
+        self.assertEqual(str(caught.exception), "key 2: axis 1: bound 5 is past length 4")
         with self.assertRaises(LayoutError) as caught:
             nd.first_intersection((4, 4), [[0, 0], [0, Slice(0, 9)]])
         self.assertEqual(str(caught.exception), "slice 1: axis 1: bound 9 is past length 4")

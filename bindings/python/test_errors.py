@@ -299,7 +299,11 @@ class BesideRules(unittest.TestCase):
             by_ones, apart = lambda length, one: max(length - one + 1, 0), int.__floordiv__
             self.compare(layout or Rules.blocks(shape, block, by_ones), nd.windows, shape, strides, block)
             self.compare(layout or Rules.blocks(shape, block, apart), nd.exact_chunks, shape, strides, block)
-            start, axis, index = numbers.choice((0, 50, 1_000)), numbers.randint(0, 4), numbers.choice((0, 1, 2, 3, MAX))
+            start, axis, index = (
+                numbers.choice((0, 50, 1_000)),
+                numbers.randint(0, 4),
+                numbers.choice((0, 1, 2, 3, MAX)),
+            )
             expected = Rules.accepted(start, MAX + 1, shape, strides, 1, False) or Rules.split(shape, axis, index)
             self.compare(expected, nd.split_at, start, shape, strides, axis, index)
 
@@ -348,6 +352,9 @@ class Texts(unittest.TestCase):
         self.assert_error(text, {"bound": 7, "length": 4}, nd.picked, (4,), [Slice(0, 7)])
         text = "size 2**64 is above the limit 2**63 - 1"
         self.assert_error(text, {"size": 2**64}, nd.default_strides, (2**32, 2**32))
+        self.assert_error("size 2**64 is above the limit 2**63 - 1", {"size": 2**64}, nd.windows, 2**62 + 3, 1, 4)
+        text = "axis 1: index 4 is past length 3"
+        self.assert_error(text, {"index": 4, "length": 3}, nd.split_at, 0, (2, 3), (3, 1), 1, 4)
         text = "the layout needs 6 elements of 5"
         self.assert_error(text, {"needed": 6, "length": 5}, nd.lay_over, (2, 3), (-12, 4), itemsize=4, nbytes=23)
         text = "Unsupported: axis 0: stride 2 isn't past 3, the reach of the axes with no greater stride"

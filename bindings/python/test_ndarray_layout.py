@@ -226,6 +226,11 @@ class Arrays(Case):
         self.assertEqual(nd.reshape_without_copy(columns, (2, 2, 3), None), Reshaped("C", (16, 8, 32)))
         self.assertEqual(nd.reshape_without_copy(columns, (2, 2, 3), "F"), Reshaped("F", (8, 16, 32)))
 
+    def test_axes_of_length_1(self):
+        """Their strides count elements, also of elements that overlap and lie a byte apart."""
+        self.assertEqual(nd.reshape_without_copy(array_of((3,), (16,)), (3, 1)), Reshaped("C", (16, 8)))
+        self.assertEqual(nd.reshape_without_copy(array_of((3,), (1,)), (3, 1)), Reshaped("C", (1, 8)))
+
 
 class Strict:
     """The type of a parameter, for ctypes: it takes what is of some types, and leaves it as it is."""
@@ -265,6 +270,13 @@ class Checked:
         self.assertRaises(TypeError, library.has_overlap, *nothing, *nothing)
         self.assertRaises(ctypes.ArgumentError, library.has_overlap, *nothing, b"", 0, answer)
         self.assertRaises(ctypes.ArgumentError, library.has_overlap, *nothing, *nothing, b"    ")
+
+
+class Version(unittest.TestCase):
+    def test_library(self):
+        library.check_version(nd.__version__)
+        with self.assertRaisesRegex(ImportError, rf"is of version {nd.__version__}, and this package of 0\.0\.9"):
+            library.check_version("0.0.9")
 
 
 class CheckedRows(Checked, WorkedRows):

@@ -26,10 +26,10 @@ from ._layouts import (
     places,
     rows,
 )
-from ._numbers import LIMIT, Lens, Numbers, listing, order_number
+from ._numbers import LIMIT, Lens, Numbers, View, listing, order_number
 from ._shapes import broadcast, exact_chunks, permuted_axes, reshape, split_at, windows
 from ._sharing import MAX_WORK, share_byte
-from ._slices import Elems, Slice, View, basic_key, first_intersection, slice_by_key, slice_view, slices_intersect
+from ._slices import Elems, Slice, basic_key, first_intersection, slice_by_key, slice_view, slices_intersect
 
 if TYPE_CHECKING:
     import numpy

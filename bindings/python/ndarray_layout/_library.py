@@ -96,7 +96,16 @@ def _error(status: int, find: _reasons.Find, arguments: list[Any]) -> LayoutErro
     return error_of_kind(*reason)
 
 
-_status_text = _prepare("nd_status_text")
+def check_version(version: str) -> None:
+    """Raises `ImportError` where the library is of another version than the package, whose calls it may not have."""
+    numbers = [ctypes.c_int32(), ctypes.c_int32(), ctypes.c_int32()]
+    _version(*map(ctypes.byref, numbers))
+    found = ".".join(str(number.value) for number in numbers)
+    if found != version:
+        raise ImportError(f"{library_path} is of version {found}, and this package of {version}")
+
+
+_status_text, _version = _prepare("nd_status_text"), _prepare("nd_version")
 exports: list[tuple[Any, str]] = []
 """Each call with the letters of its parameters: `_export`."""
 

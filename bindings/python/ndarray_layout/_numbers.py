@@ -20,6 +20,7 @@ Numbers = Union[SupportsIndex, Iterable[SupportsIndex]]
 
 Lens = tuple[int, ...]
 
+
 class View(NamedTuple):
     """A layout, and the place of its first index."""
 
