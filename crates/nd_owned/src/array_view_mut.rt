@@ -12,6 +12,9 @@ ghost use Rattle.ndarray_layout.specs.Size.{size};
 ghost use Rattle.ndarray_layout.specs.Span.{low_span};
 ghost use Rattle.ndarray_layout.specs.View.{view_of};
 
+mod steps;
+mod writing;
+
 use crate::array_view::ArrayView;
 use crate::fitted::Fitted;
 use crate::rows::view_size;
@@ -23,10 +26,10 @@ use std::alloc::{AllocError, Global};
 pub struct ArrayViewMut<'a, T, D: Lengths> {
     items: &'a mut [T],
     fitted: Fitted<D>,
-    pub ghost fits: { fitted.count ≡ length items.now },
+    ghost fits: { fitted.count ≡ length items.now },
 }
 
-/// What is written stays where the items are kept.
+// What is written stays where the items are kept.
 impl<T, D: Lengths> Drop for ArrayViewMut<'_, T, D> {
     fn drop(self)
         ensures { self.exit.0.now ≡ self.entry.items.now }
@@ -124,7 +127,7 @@ impl<'a, T: Drop, D: Lengths> ArrayViewMut<'a, T, D> {
         ensures owned { IsOwned (length (array_of self.now).items) (array_of self.now).view }
     {
         let items = &*self.items;
-        let _count = self.fitted.count();
+        let _parts = self.fitted.parts();
         items
     }
 
