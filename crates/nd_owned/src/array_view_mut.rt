@@ -45,6 +45,22 @@ impl<'a, T: Drop, D: Lengths> ArrayViewMut<'a, T, D> {
     ghost use Rattle.nd_owned.specs.Owned.{IsOwned, item_at, with_item};
     ghost use Rattle.nd_owned.specs.Lender.{array_of};
 
+    /// The array of a view over items. The caller ensures that each place of it has an item, and that no two indices alias:
+    /// that is so where `Strided::from_shape`, `new` or `from_parts` accepted it in owned mode over as many elements.
+    ///
+    /// By this call a proof knows what the items are once the array is gone, as `fill` and the others left them.
+    ///
+    /// `[2]`, `[-1]` from 1 over 7 8 9: (0) is 8, (1) is 7, and 9 is spare. The project's own.
+    pub fn new(view: Strided<D>, items: &'a mut [T]) -> Self
+        requires { IsOwned (length items.old) view }
+        ensures same_reference { result.items.ghost_name ≡ items.entry.ghost_name }
+        ensures stored { (array_of result).items ≡ items.old }
+        ensures view { (array_of result).view ≡ view }
+    {
+        let fitted = Fitted::new(view, items.len());
+        ArrayViewMut { items, fitted }
+    }
+
     /// The array of a shape, by its own strides or by given ones, over items.
     ///
     /// The lowest place of the layout is 0, the first item. Items past the layout, or between its places, are spare ones.

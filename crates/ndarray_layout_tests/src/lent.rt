@@ -2,8 +2,8 @@
 //! own memory.
 use nd_owned::{ArrayView, ArrayViewMut, Iter};
 use ndarray_layout::{
-    Axis, Fit, Ix1, Ix2, Ix4, LayoutError, Lengths, NewAxis, Order, Slice, SliceInfoElem,
-    StrideShape, Strided, Strides, new_ix0, new_ix1, new_ix2, new_ix3, unsigned,
+    Axis, Fit, Ix1, Ix2, Ix4, LayoutError, Lengths, Order, SliceInfoElem, StrideShape, Strides,
+    new_ix1, new_ix2, unsigned,
 };
 use std::alloc::Global;
 
@@ -145,4 +145,77 @@ fn numbers_are_lent(rt: HostRuntime) {
     assert!(rt; orders_are_lent(alloc).is_ok_and(|holds| holds), "orders and shapes");
     assert!(rt; axes_are_changed(alloc).is_ok_and(|holds| holds), "axes in place");
     assert!(rt; arrays_are_made(alloc).is_ok_and(|holds| holds), "shapes and views");
+}
+
+/// What writes through an array leave of the numbers.
+fn numbers_are_set(alloc: Global) -> Result<bool, LayoutError> {
+    let mut numbers = NUMBERS;
+    let mut rows = ArrayViewMut::from_shape(alloc, two_rows(), &mut numbers)?;
+    let set = rows.set(&new_ix2(1, 0), 30);
+    let missed = rows.set(&new_ix2(2, 0), 31);
+    let got = rows.get(&new_ix2(1, 0)).copied() == Some(30) && rows.get(&new_ix2(0, 3)).is_none();
+    let mut backwards: ArrayViewMut<'_, u8, Ix1> =
+        rows.slice(alloc, &[SliceInfoElem::Index(0), BACK], Fit::Strict)?;
+    let read = backwards.as_view(alloc)?;
+    let lent = come(read.iter(), &[2, 1, 0]) && backwards.len() == 3 && !backwards.is_empty();
+    backwards.fill(9);
+    drop(backwards);
+    Ok(set && !missed && got && lent && numbers == [9, 9, 9, 30, 4, 5, 6])
+}
+
+/// What an array of another order leaves of the numbers, and one of another shape.
+fn numbers_are_assigned(alloc: Global) -> Result<bool, LayoutError> {
+    let mut numbers = NUMBERS;
+    let others = [10u8, 11, 12, 13, 14, 15];
+    let source = ArrayView::from_shape(alloc, two_rows(), &others)?;
+    let columns = source.duplicate(alloc)?.reversed_axes();
+    let mut rows = ArrayViewMut::from_shape(alloc, two_rows(), &mut numbers)?;
+    let refused = rows.assign(&columns).is_err() && rows.stored() == NUMBERS.as_slice();
+    let mut turned = rows.reversed_axes();
+    let assigned = turned.assign(&columns).is_ok();
+    let mut swapped = turned.permuted_axes(alloc, &[Axis(1), Axis(0)])?;
+    let again = swapped.set(&new_ix2(0, 2), 20);
+    let mut flat: ArrayViewMut<'_, u8, Ix1> = swapped.reshape(alloc, &new_ix1(6), Order::RowMajor)?;
+    let first = flat.set(&new_ix1(0), 21);
+    let pairs: ArrayViewMut<'_, u8, Ix2> = flat.exact_chunks(alloc, &new_ix1(2))?;
+    let mut last = pairs.index_axis(alloc, Axis(0), 2)?;
+    last.fill(22);
+    drop(last);
+    Ok(refused
+        && assigned
+        && again
+        && first
+        && numbers == [21, 11, 20, 13, 22, 22, 6])
+}
+
+#[test]
+fn numbers_are_written(rt: HostRuntime) {
+    let alloc = rt.alloc();
+    assert!(rt; numbers_are_set(alloc).is_ok_and(|holds| holds), "set and fill");
+    assert!(rt; numbers_are_assigned(alloc).is_ok_and(|holds| holds), "assign");
+}
+
+/// A list of one number, in memory of its own.
+fn owned(alloc: Global, number: u8) -> Option<Vec<u8>> {
+    [number].as_slice().to_vec(alloc).ok()
+}
+
+/// Whether lists are lent and replaced, of which each owns memory.
+fn lists_are_lent(alloc: Global) -> Option<bool> {
+    let mut lists = Vec::new(alloc);
+    for number in NUMBERS {
+        lists.push(owned(alloc, number)?).ok()?;
+    }
+    let rows = ArrayView::from_shape(alloc, two_rows(), lists.as_slice()).ok()?;
+    let mut columns = rows.reversed_axes().iter().count() == 6;
+    let mut written = ArrayViewMut::from_shape(alloc, two_rows(), lists.as_mut_slice()).ok()?;
+    columns = columns && written.set(&new_ix2(1, 2), owned(alloc, 50)?);
+    let last = written.get(&new_ix2(1, 2))?.as_slice() == [50].as_slice();
+    drop(written);
+    Some(columns && last && lists.get(5)?.as_slice() == [50].as_slice())
+}
+
+#[test]
+fn lists_of_numbers_are_lent(rt: HostRuntime) {
+    assert!(rt; lists_are_lent(rt.alloc()) == Some(true), "lists");
 }
