@@ -7,11 +7,11 @@ ghost use Rattle.ndarray_layout.specs.View.{view_of};
 ghost use Rattle.nd_owned.specs.ArrayViewMut.{HasItemsOf};
 
 use nd_owned::ArrayViewMut;
-use ndarray_layout::{LayoutError, Lengths, StrideShape};
+use ndarray_layout::{CanIndexCheckMode, LayoutError, Lengths, StrideShape, Strided};
 use std::alloc::Global;
 
 /// Paints each pixel of a picture, whose pixels lie in a list by the strides of its shape. The list's other pixels are
-/// unchanged. Errors: those of `ArrayViewMut::from_shape`; then all pixels are unchanged.
+/// unchanged. Errors: those of `Strided::from_shape`; then all pixels are unchanged.
 pub fn paint<D: Lengths>(
     alloc: Global,
     pixels: &mut [u8],
@@ -27,7 +27,9 @@ pub fn paint<D: Lengths>(
         (record { items = pixels.new; view = view })) }
     ensures unchanged { OnErr result (pixels.new ≡ pixels.old) }
 {
-    let mut picture = ArrayViewMut::from_shape(alloc, shape, pixels)?;
+    let mode = CanIndexCheckMode::OwnedMutable;
+    let view = Strided::from_shape(alloc, shape, 1, pixels.len(), mode)?;
+    let mut picture = ArrayViewMut::new(view, pixels);
     picture.fill(pixel);
     Ok(())
 }
