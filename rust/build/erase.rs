@@ -39,13 +39,14 @@ pub(crate) struct Eraser<'a> {
 type Form<'a> = fn(&mut Eraser<'a>, &[Tree]) -> Result<Option<usize>, Fault>;
 
 impl<'a> Eraser<'a> {
-    const FORMS: [Form<'a>; 18] = [
+    const FORMS: [Form<'a>; 19] = [
         Self::doc,
         Self::clause,
         Self::ghost,
         Self::error,
         Self::attribute,
         Self::model,
+        Self::drop_impl,
         Self::export,
         Self::finality,
         Self::drop_bound,
@@ -184,20 +185,29 @@ impl<'a> Eraser<'a> {
 
     /// `impl Model for T { .. }`, which has ghost members alone, goes.
     fn model(&mut self, trees: &[Tree]) -> Result<Option<usize>, Fault> {
-        if !trees[0].is("impl") {
-            return Ok(None);
-        }
-        let Some(body) = trees.iter().position(|tree| tree.group("{").is_some()) else {
+        let Some(body) = body_of_impl(trees, "Model") else {
             return Ok(None);
         };
-        if !trees[..body].windows(2).any(|pair| pair[0].is("Model") && pair[1].is("for")) {
-            return Ok(None);
-        }
         let mut members = trees[body].group("{").map_or(&[][..], |group| &group.trees);
         while let Some(first) = members.first() {
             let taken = self.ghost(members)?;
             let taken = taken.ok_or_else(|| fault(first.first(), "is no ghost member of a model"))?;
             members = &members[taken..];
+        }
+        Ok(Some(body + 1))
+    }
+
+    /// `impl Drop for T { fn drop(self) .. { let T { a: _, .. } = self; } }` goes: it drops each field, as plain Rust does.
+    fn drop_impl(&mut self, trees: &[Tree]) -> Result<Option<usize>, Fault> {
+        let Some(body) = body_of_impl(trees, "Drop") else {
+            return Ok(None);
+        };
+        let members = trees[body].group("{").map_or(&[][..], |group| &group.trees);
+        let drops = members.iter().filter(|tree| tree.is("fn")).count() == 1
+            && begins_with(members, &["fn", "drop"])
+            && members.last().and_then(|tree| tree.group("{")).is_some_and(drops_fields);
+        if !drops {
+            return Err(fault(trees[0].first(), "drops a value by more than its fields"));
         }
         Ok(Some(body + 1))
     }
@@ -327,6 +337,28 @@ impl<'a> Eraser<'a> {
 /// Whether trees begin with tokens of these texts.
 pub(crate) fn begins_with(trees: &[Tree], texts: &[&str]) -> bool {
     trees.len() >= texts.len() && trees.iter().zip(texts).all(|(tree, text)| tree.is(text))
+}
+
+/// The body of `impl TRAIT for ..`, where trees begin with one.
+fn body_of_impl(trees: &[Tree], of: &str) -> Option<usize> {
+    let body = trees.iter().position(|tree| tree.group("{").is_some())?;
+    let is_of = trees[..body].windows(2).any(|pair| pair[0].is(of) && pair[1].is("for"));
+    (trees[0].is("impl") && is_of).then_some(body)
+}
+
+/// Whether a body is `let NAME { a: _, b: _ } = self;`.
+fn drops_fields(body: &Group) -> bool {
+    match &body.trees[..] {
+        [word, name, Tree::Group(fields), rest @ ..] => {
+            let mut fields = fields.trees.split(|tree| tree.is(","));
+            word.is("let")
+                && name.word().is_some()
+                && fields.all(|field| matches!(field, [] | [_, _, _]) && (field.is_empty() || field[2].is("_")))
+                && rest.len() == 3
+                && begins_with(rest, &["=", "self", ";"])
+        }
+        _ => false,
+    }
 }
 
 /// Whether a name is one of a type parameter: a capital letter alone.

@@ -37,6 +37,7 @@ fn line(source: &str) -> String {
 #[test]
 fn each_form_becomes_plain_rust() {
     const ROWS: &[(&str, &str)] = &[
+        ("impl<T> Drop for S<T> { fn drop(self) ensures { x } { let S { a: _, b: _ } = self; } } fn f();", "fn f();"),
         ("ghost use Rattle.a.{◌≡◌}; use crate::dim::Dim;", "use crate::upper::dim::Dim;"),
         ("struct S { a: usize, ghost inside: { 0 < a }, }", "struct S { a: usize, }"),
         ("trait T { ghost list: { Self → List ℕ }; fn f(&self); }", "trait T { fn f(&self); }"),
@@ -156,7 +157,8 @@ fn what_is_not_known_is_an_error_with_its_line() {
         ("let a = x ≡ y;", "1: `≡` is no form that can be erased"),
         ("fn f(a: Global) {}", "1: `Global` is no form that can be erased"),
         ("g(&alloc)", "1: `alloc` is no form that can be erased"),
-        ("impl Drop for S { fn drop(self) {} }", "1: `Drop` is no form that can be erased"),
+        ("impl Drop for S { fn drop(self) {} }", "1: `impl` drops a value by more than its fields"),
+        ("impl Drop for S { fn drop(self) { let S { a } = self; f(a); } }", "1: `impl` drops a value by more than its fields"),
         ("#[unsafe(no_drop)] fn f() {}", "1: `[` opens an attribute that isn't known: unsafe"),
         ("unsafe { f() }", "1: `unsafe` is no form that can be erased"),
         ("fn f(x: &dyn T) {}", "1: `dyn` is no form that can be erased"),

@@ -1,7 +1,9 @@
 pub mod Faults
+pub mod OwnedParts
 pub mod Placed
 pub mod PlacesLeft
 pub mod RowPlaces
+pub mod Sets
 pub mod Slices
 pub mod ViewRows
 pub mod Within

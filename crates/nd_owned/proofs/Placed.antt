@@ -75,12 +75,12 @@ pub parts_ended : {B X : Type 0} (g : B → List X) (kept : List X) {left : List
 parts_ended g kept ended so_far = sym (append-nil kept) ∙ ap (λ ys. kept ++ flat_map g ys) (sym ended) ∙ so_far
 
 -- ---- writes
-set_same : {X : Type 0} (xs : List X) (i : ℕ) {x : X} → i < length xs → slice_get (set xs i x) i ≡ Some x
+pub set_same : {X : Type 0} (xs : List X) (i : ℕ) {x : X} → i < length xs → slice_get (set xs i x) i ≡ Some x
 set_same [] i below = absurd (omega arith)
 set_same (y ∷ xs) zero below = refl
 set_same (y ∷ xs) (suc i) below = set_same xs i (omega arith)
 
-set_other : {X : Type 0} (xs : List X) (i : ℕ) (x : X) (j : ℕ) → j ≢ i → slice_get (set xs i x) j ≡ slice_get xs j
+pub set_other : {X : Type 0} (xs : List X) (i : ℕ) (x : X) (j : ℕ) → j ≢ i → slice_get (set xs i x) j ≡ slice_get xs j
 set_other [] i x j apart = refl
 set_other (y ∷ xs) zero x zero apart = absurd (apart refl)
 set_other (y ∷ xs) zero x (suc j) apart = refl

@@ -71,7 +71,7 @@ same_parts xs us ys vs long same =
 
 -- ---- the places of one slice
 -- where no two indices of a view have one place, no place is listed twice
-distinct_places : (order : Order) (view : View) → HasDistinctPlaces view → AllPairs (λ one other. one ≢ other) (view_places order view)
+pub distinct_places : (order : Order) (view : View) → HasDistinctPlaces view → AllPairs (λ one other. one ≢ other) (view_places order view)
 distinct_places order view distinct = λ i j d earlier below same.
     let indices = indices_in order view.shape in
     let late : j < length indices = omega (arith, length-map indices (place_at view)) in

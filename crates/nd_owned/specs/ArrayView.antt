@@ -1,5 +1,5 @@
 -- Items that are lent with a view that has a place among them for each index.
-use Rattle.std.specs.Prelude.{◌≡◌, ℕ, pos, negsuc, true, Some, List, [], ◌∷◌, nat_eq, unwrap_or, refl}
+use Rattle.std.specs.Prelude.{◌≡◌, ℕ, pos, negsuc, true, List, [], ◌∷◌, nat_eq, unwrap_or, refl}
 use Rattle.std.proofs.Common.{ap, eq-eqb}
 use Rattle.std.proofs.Math.Dec.{lt→ltb}
 use Rattle.std.proofs.lemmas.Bool.{both_ways}

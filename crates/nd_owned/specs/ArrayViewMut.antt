@@ -1,7 +1,6 @@
 -- Items that are lent to be written, with a view by which each index has one of them to itself.
-use Rattle.std.specs.Prelude.{◌≡◌, ℕ, ℤ, pos, true, Option, Some, List, [], ◌∷◌, map, nat_eq, slice_get, unwrap_or, refl}
+use Rattle.std.specs.Prelude.{◌≡◌, ℕ, pos, true, Option, Some, List, [], ◌∷◌, nat_eq, slice_get, unwrap_or, refl}
 use Rattle.std.proofs.Common.{ap, eq-eqb}
-use Rattle.std.proofs.Math.Nat.{not-suc-le-zero}
 use Rattle.std.proofs.lemmas.Bool.{both_ways}
 use Rattle.std.specs.List.{Contains}
 use Rattle.ndarray_layout.specs.declared.Order.TheVariants.{RowMajor}

@@ -12,6 +12,9 @@ ghost use Rattle.ndarray_layout.specs.Size.{size};
 ghost use Rattle.ndarray_layout.specs.Span.{low_span};
 ghost use Rattle.ndarray_layout.specs.View.{view_of};
 
+mod steps;
+mod writing;
+
 use crate::array_view::ArrayView;
 use crate::fitted::Fitted;
 use crate::rows::view_size;
@@ -23,10 +26,10 @@ use std::alloc::{AllocError, Global};
 pub struct ArrayViewMut<'a, T, D: Lengths> {
     items: &'a mut [T],
     fitted: Fitted<D>,
-    pub ghost fits: { fitted.count ≡ length items.now },
+    ghost fits: { fitted.count ≡ length items.now },
 }
 
-/// What is written stays where the items are kept.
+// What is written stays where the items are kept.
 impl<T, D: Lengths> Drop for ArrayViewMut<'_, T, D> {
     fn drop(self)
         ensures { self.exit.0.now ≡ self.entry.items.now }
@@ -41,6 +44,22 @@ impl<T, D: Lengths> Drop for ArrayViewMut<'_, T, D> {
 impl<'a, T: Drop, D: Lengths> ArrayViewMut<'a, T, D> {
     ghost use Rattle.nd_owned.specs.Owned.{IsOwned, item_at, with_item};
     ghost use Rattle.nd_owned.specs.Lender.{array_of};
+
+    /// The array of a view over items. The caller ensures that each place of it has an item, and that no two indices alias:
+    /// that is so where `Strided::from_shape`, `new` or `from_parts` accepted it in owned mode over as many elements.
+    ///
+    /// By this call a proof knows what the items are once the array is gone, as `fill` and the others left them.
+    ///
+    /// `[2]`, `[-1]` from 1 over 7 8 9: (0) is 8, (1) is 7, and 9 is spare. The project's own.
+    pub fn new(view: Strided<D>, items: &'a mut [T]) -> Self
+        requires { IsOwned (length items.old) view }
+        ensures same_reference { result.items.ghost_name ≡ items.entry.ghost_name }
+        ensures stored { (array_of result).items ≡ items.old }
+        ensures view { (array_of result).view ≡ view }
+    {
+        let fitted = Fitted::new(view, items.len());
+        ArrayViewMut { items, fitted }
+    }
 
     /// The array of a shape, by its own strides or by given ones, over items.
     ///
@@ -124,7 +143,7 @@ impl<'a, T: Drop, D: Lengths> ArrayViewMut<'a, T, D> {
         ensures owned { IsOwned (length (array_of self.now).items) (array_of self.now).view }
     {
         let items = &*self.items;
-        let _count = self.fitted.count();
+        let _parts = self.fitted.parts();
         items
     }
 

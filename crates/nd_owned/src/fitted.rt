@@ -80,22 +80,24 @@ impl<D: Lengths> Fitted<D> {
         &self.view
     }
 
-    /// How many items there are.
+    /// The view, and how many items there are.
     #[inline]
-    pub(crate) fn count(&self) -> usize
-        ensures count { result ≡ self.now.count }
-        ensures owned { IsOwned self.now.count self.now.view }
+    pub(crate) fn parts(&self) -> (&Strided<D>, usize)
+        ensures view { result.0.now ≡ self.now.view }
+        ensures count { result.1 ≡ self.now.count }
+        ensures owned { IsOwned result.1 result.0.now }
     {
-        self.count
+        (&self.view, self.count)
     }
 
-    /// The view alone.
+    /// The same, and the end of this value.
     #[inline]
-    pub(crate) fn into_view(self) -> Strided<D>
-        ensures view { result ≡ self.view }
-        ensures owned { IsOwned self.count self.view }
+    pub(crate) fn into_parts(self) -> (Strided<D>, usize)
+        ensures view { result.0 ≡ self.view }
+        ensures count { result.1 ≡ self.count }
+        ensures owned { IsOwned result.1 result.0 }
     {
-        let Fitted { view, count: _ } = self;
-        view
+        let Fitted { view, count } = self;
+        (view, count)
     }
 }

@@ -35,6 +35,8 @@ mod iterated_rows;
 #[cfg(test)]
 mod layout;
 #[cfg(test)]
+mod lent;
+#[cfg(test)]
 mod memory;
 #[cfg(test)]
 mod range_rows;

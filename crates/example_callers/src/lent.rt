@@ -1,0 +1,35 @@
+//! Pixels that are kept elsewhere, read and written as a picture.
+ghost use Rattle.std.specs.Prelude.{◌≡◌, IfOk, OnErr, OnOk, Some};
+ghost use Rattle.ndarray_layout.specs.ShapeBuilder.{strides_list};
+ghost use Rattle.ndarray_layout.specs.Signed.{all_signed};
+ghost use Rattle.ndarray_layout.specs.Span.{low_span};
+ghost use Rattle.ndarray_layout.specs.View.{view_of};
+ghost use Rattle.nd_owned.specs.ArrayViewMut.{HasItemsOf};
+
+use nd_owned::ArrayViewMut;
+use ndarray_layout::{CanIndexCheckMode, LayoutError, Lengths, StrideShape, Strided};
+use std::alloc::Global;
+
+/// Paints each pixel of a picture, whose pixels lie in a list by the strides of its shape. The list's other pixels are
+/// unchanged. Errors: those of `Strided::from_shape`; then all pixels are unchanged.
+pub fn paint<D: Lengths>(
+    alloc: Global,
+    pixels: &mut [u8],
+    shape: StrideShape<D>,
+    pixel: u8,
+) -> Result<(), LayoutError>
+    ensures painted { OnOk result (
+        let lens = D.list shape.dim in
+        let strides = strides_list D.list lens shape.strides in
+        let view = view_of (low_span lens (all_signed strides)) lens strides in
+        HasItemsOf (λ index. Some pixel)
+        (record { items = pixels.old; view = view })
+        (record { items = pixels.new; view = view })) }
+    ensures unchanged { OnErr result (pixels.new ≡ pixels.old) }
+{
+    let mode = CanIndexCheckMode::OwnedMutable;
+    let view = Strided::from_shape(alloc, shape, 1, pixels.len(), mode)?;
+    let mut picture = ArrayViewMut::new(view, pixels);
+    picture.fill(pixel);
+    Ok(())
+}
