@@ -5,7 +5,7 @@ ghost use Rattle.ndarray_layout.specs.AxesInOrder.{axis_numbers};
 ghost use Rattle.ndarray_layout.specs.ChunksView.{chunk_source, chunks_fault, chunks_of};
 ghost use Rattle.ndarray_layout.specs.CollapsedView.{collapse_fault};
 ghost use Rattle.ndarray_layout.specs.IndexedView.{indexed_of, index_source};
-ghost use Rattle.ndarray_layout.specs.Lengths.{NeedsNoMemory};
+ghost use Rattle.ndarray_layout.specs.Memory.{NeedsNoMemory};
 ghost use Rattle.ndarray_layout.specs.PermutedView.{permute_fault, permuted_of, permute_source, reversed_of};
 ghost use Rattle.ndarray_layout.specs.ReshapedView.{IsReshapeError, ReshapeFits, reshape_of, view_reshape_fault, reshape_source};
 ghost use Rattle.ndarray_layout.specs.Selected.{selected};
