@@ -1,19 +1,24 @@
 -- Laws of the windows of a view: where each of their indices lies.
-use Rattle.std.proofs.Common.{◌≡◌, ℕ, ℤ, pos, negsuc, ◌*ℤ◌, true, Option, None, List, [], ◌∷◌, ◌++◌, length, map}
+use Rattle.std.proofs.Common.{◌≡◌, ℕ, ◌*◌, ℤ, pos, negsuc, ◌*ℤ◌, true, Option, None, List, [], ◌∷◌, ◌++◌, length, map}
 use Rattle.std.proofs.Common.{take, drop, refl, sym, ap, subst, ◌∙◌, arith, mul-one}
 use Rattle.std.proofs.lemmas.Int.{ints}
 use Rattle.std.proofs.lemmas.List.{drop_at, length-append, length-take-le, take_at}
+use Rattle.std.proofs.lemmas.List.Elements.{All-weaker}
 use Rattle.nd_base.specs.Elementwise.{products, sums}
-use Rattle.nd_base.proofs.laws.Definitions.{is_index}
+use Rattle.nd_base.specs.declared.order.Order.TheVariants.{RowMajor}
+use Rattle.nd_base.proofs.laws.Definitions.{flat_index_in, indices_in, is_index, size}
+use Rattle.nd_base.proofs.laws.Indices.{All-indices_in}
+use Rattle.nd_base.proofs.laws.Lists.{map_same}
 use Rattle.nd_base.proofs.laws.IsIndex.{length_of_index}
 use Rattle.ndarray_layout.specs.BlocksView.{blocks_of, strides_along}
 use Rattle.ndarray_layout.specs.Descends.{IsViewOf}
 use Rattle.ndarray_layout.specs.KeepsPlaces.{KeepsPlaces}
-use Rattle.ndarray_layout.specs.View.{View, IsView, place_at}
+use Rattle.ndarray_layout.specs.View.{View, IsView, place_at, view_places}
 use Rattle.ndarray_layout.specs.WindowsView.{window_count, window_counts, window_source, windows_fault, windows_of}
 use Rattle.ndarray_layout.proofs.BlockSteps.{AreBlocks, blocks_are_view, blocks_keep, is_index-joined, length-elementwise}
 use Rattle.ndarray_layout.proofs.laws.BlocksView.{CanTakeBlocks, can_take_blocks}
 use Rattle.ndarray_layout.proofs.laws.KeepsPlaces.{IsViewOf-kept}
+use Rattle.ndarray_layout.proofs.laws.RowMajor.{places-joined}
 
 -- ---- windows are blocks at steps of 1
 abbrev one : ℕ → ℕ
@@ -48,6 +53,11 @@ steps_of_one [] (size ∷ window) e = absurd (omega arith)
 steps_of_one (i ∷ index) [] e = absurd (omega arith)
 steps_of_one (i ∷ index) (size ∷ window) e =
     ap (λ j. j ∷ products index (map one window)) (mul-one i) ∙ ap (λ rest. i ∷ rest) (steps_of_one index window (omega arith))
+
+-- an index in a window stands for the sum of both
+source_joined : (at inner : List ℕ) (n : ℕ) → length at ≡ n → window_source n (at ++ inner) ≡ sums at inner
+source_joined at inner n long =
+    ap (λ front. sums front (drop n (at ++ inner))) (take_at at inner n long) ∙ ap (λ back. sums at back) (drop_at at inner n long)
 
 module _ (fixed : Option ℕ) (window : List ℕ) {view : View} (v : IsView view) (none : windows_fault fixed view.shape window ≡ None) where
   can : CanTakeBlocks fixed view.shape (window_counts view.shape window) window
@@ -92,6 +102,22 @@ module _ (fixed : Option ℕ) (window : List ℕ) {view : View} (v : IsView view
       let kept = KeepsPlaces-windows_of (at ++ inner) (is_index-joined (window_counts view.shape window) window at inner here inside) in
       let long : length at ≡ n = length_of_index (window_counts view.shape window) at here
       ∙ length-elementwise window_count view.shape window (sym can.same_count) in
-      let same : window_source n (at ++ inner) ≡ sums at inner =
-      ap (λ front. sums front (drop n (at ++ inner))) (take_at at inner n long) ∙ ap (λ back. sums at back) (drop_at at inner n long) in
+      let same = source_joined at inner n long in
       (ap (is_index view.shape) (sym same) ∙ kept.0, kept.1 ∙ ap (place_at view) same)
+
+-- in row-major order the places of a window follow one another: so many times its size come before as its flat index tells
+pub places_of_window : (window : List ℕ) (view : View) (at : List ℕ)
+    → KeepsPlaces (window_source (length view.shape)) view (windows_of window view) → length at ≡ length view.shape
+    → is_index (window_counts view.shape window) at ≡ true
+    → take (size window) (drop (flat_index_in RowMajor (window_counts view.shape window) at * size window)
+    (view_places RowMajor (windows_of window view)))
+    ≡ map (λ inner. place_at view (sums at inner)) (indices_in RowMajor window)
+places_of_window window view at kept long here =
+    let new = windows_of window view in
+    let counts = window_counts view.shape window in
+    places-joined new.start new.strides counts window at here
+    ∙ map_same (λ inner. place_at new (at ++ inner)) (λ inner. place_at view (sums at inner)) (indices_in RowMajor window)
+    (All-weaker (λ inner. is_index window inner ≡ true) (λ inner. place_at new (at ++ inner) ≡ place_at view (sums at inner))
+    (λ inner inside. (kept (at ++ inner) (is_index-joined counts window at inner here inside)).1
+    ∙ ap (place_at view) (source_joined at inner (length view.shape) long))
+    (indices_in RowMajor window) (All-indices_in RowMajor window))

@@ -6,12 +6,13 @@ use Rattle.std.specs.Prelude.{nat_lt, slice_index}
 use Rattle.std.proofs.Math.Nat.{mul-div_cancel}
 use Rattle.std.proofs.lemmas.Bool.{and_from, false≢true, lt-ltb}
 use Rattle.std.proofs.lemmas.List.{drop-drop, get_or_append_left, get_or_push, length-append}
-use Rattle.std.proofs.lemmas.List.Elements.{All-drop, All-weaker}
+use Rattle.std.proofs.lemmas.List.Elements.{All-drop}
 use Rattle.std.proofs.lemmas.Nat.{mul-add-lt}
 use Rattle.std.proofs.lemmas.Option.{slice_get-get_or}
 use Rattle.ndarray_layout.specs.declared.Order.TheVariants.{RowMajor}
 use Rattle.ndarray_layout.specs.Bounds.{IsInBounds}
 use Rattle.ndarray_layout.specs.Elementwise.{sums}
+use Rattle.ndarray_layout.specs.FlatIndex.{flat_index_in}
 use Rattle.ndarray_layout.specs.Indices.{indices_in, is_index}
 use Rattle.ndarray_layout.specs.KeepsPlaces.{KeepsPlaces}
 use Rattle.ndarray_layout.specs.Signed.{magnitude}
@@ -19,10 +20,8 @@ use Rattle.ndarray_layout.specs.Size.{size}
 use Rattle.ndarray_layout.specs.View.{View, place_at, view_places}
 use Rattle.ndarray_layout.specs.WindowsView.{window_counts, window_source, windows_fault, windows_of}
 use Rattle.ndarray_layout.proofs.laws.BlocksView.{can_take_blocks}
-use Rattle.ndarray_layout.proofs.laws.Indices.{All-indices_in}
-use Rattle.ndarray_layout.proofs.laws.Lists.{map_same}
-use Rattle.ndarray_layout.proofs.laws.RowMajor.{places-joined}
 use Rattle.ndarray_layout.proofs.laws.View.{length-view_places, places_lie_within, two_lengths}
+use Rattle.ndarray_layout.proofs.laws.WindowsView.{places_of_window}
 use Rattle.example_callers.proofs.blurs.blur.Goals as goal
 use Rattle.example_callers.proofs.blurs.blur.Goals.{After-len-count}
 
@@ -33,7 +32,7 @@ three = 3 ∷ 3 ∷ []
 record AreWindows (rows columns : ℕ) (picture windows : View) : Type 0 where
   shape : picture.shape ≡ rows ∷ columns ∷ []
   are : windows ≡ windows_of three picture
-  kept : KeepsPlaces (window_source (length picture.shape)) picture windows
+  kept : KeepsPlaces (window_source (length picture.shape)) picture (windows_of three picture)
 
 module _ {rows columns : ℕ} {picture windows : View} (w : AreWindows rows columns picture windows) where
   lengths : windows.shape ≡ (rows - 2) ∷ (columns - 2) ∷ three
@@ -53,28 +52,21 @@ module _ {rows columns : ℕ} {picture windows : View} (w : AreWindows rows colu
     abbrev at : List ℕ
     at = i ∷ j ∷ []
 
-    here : is_index ((rows - 2) ∷ (columns - 2) ∷ []) at ≡ true
-    here = and_from (nat_lt i (rows - 2)) _ (lt-ltb i (rows - 2) (omega arith))
-        (and_from (nat_lt j (columns - 2)) true (lt-ltb j (columns - 2) (omega arith)) refl)
-
-    -- where an index in the window lies
-    place : (inner : List ℕ) → is_index three inner ≡ true → place_at windows (at ++ inner) ≡ place_at picture (sums at inner)
-    place inner inside =
-        let there : is_index windows.shape (at ++ inner) ≡ true = rw lengths
-        (and_from (nat_lt i (rows - 2)) _ (lt-ltb i (rows - 2) (omega arith))
-        (and_from (nat_lt j (columns - 2)) (is_index three inner) (lt-ltb j (columns - 2) (omega arith)) inside)) in
-        (w.kept (at ++ inner) there).1 ∙ ap (λ shape. place_at picture (window_source (length shape) (at ++ inner))) w.shape
+    here : is_index (window_counts picture.shape three) at ≡ true
+    here = ap (λ shape. is_index (window_counts shape three) at) w.shape
+        ∙ and_from (nat_lt i (rows + 1 - 3)) _ (lt-ltb i (rows + 1 - 3) (omega arith))
+        (and_from (nat_lt j (columns + 1 - 3)) true (lt-ltb j (columns + 1 - 3) (omega arith)) refl)
 
     window_places : take 9 (drop ((i * (columns - 2) + j) * 9) (view_places RowMajor windows))
         ≡ map (λ inner. place_at picture (sums at inner)) (indices_in RowMajor three)
     window_places =
-        let number : (i * (columns - 2) + j) * 9 ≡ (i * ((columns - 2) * 1) + (j * 1 + 0)) * 9 = omega arith in
+        let across : columns - 2 ≡ columns + 1 - 3 = omega arith in
+        let number : (i * (columns - 2) + j) * 9 ≡ flat_index_in RowMajor (window_counts picture.shape three) at * 9 =
+        ap (λ n. (i * n + j) * 9) across ∙ omega arith
+        ∙ sym (ap (λ shape. flat_index_in RowMajor (window_counts shape three) at * 9) w.shape) in
         ap (λ n. take 9 (drop n (view_places RowMajor windows))) number
-        ∙ ap (λ shape. take 9 (drop ((i * ((columns - 2) * 1) + (j * 1 + 0)) * 9) (map (place_at windows) (indices_in RowMajor shape)))) lengths
-        ∙ places-joined windows.start windows.strides ((rows - 2) ∷ (columns - 2) ∷ []) three at here
-        ∙ map_same (λ inner. place_at windows (at ++ inner)) (λ inner. place_at picture (sums at inner)) (indices_in RowMajor three)
-        (All-weaker (λ inner. is_index three inner ≡ true) (λ inner. place_at windows (at ++ inner) ≡ place_at picture (sums at inner)) place
-        (indices_in RowMajor three) (All-indices_in RowMajor three))
+        ∙ ap (λ view. take 9 (drop (flat_index_in RowMajor (window_counts picture.shape three) at * 9) (view_places RowMajor view))) w.are
+        ∙ places_of_window three picture at w.kept (sym (ap length w.shape)) here
 
     in_means : i * (columns - 2) + j < (rows - 2) * (columns - 2)
     in_means = omega (arith, mul-add-lt i (columns - 2) j (rows - 2) (omega arith) (omega arith))
@@ -86,11 +78,12 @@ made c =
     let view = c.args.picture.now in
     let ensured = c.in_ok-windows.ensures in
     let none : windows_fault (Some 4) view.shape three ≡ None = rw c.new_ix2.ensures at (sym ensured.fault) in
+    let are : c.in_ok-windows.windows ≡ windows_of three view = rw c.new_ix2.ensures at ensured.windows in
     let counts = can_take_blocks (Some 4) view.shape (window_counts view.shape three) three none in
     record {
       shape = two_lengths view (sym counts.same_count);
-      are = rw c.new_ix2.ensures at ensured.windows;
-      kept = ensured.kept.places;
+      are = are;
+      kept = rw are at ensured.kept.places;
     }
 
 counted : (c : After-len-count) → c.len-count.result / 9
