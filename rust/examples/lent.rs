@@ -1,8 +1,6 @@
 //! A picture that is lent to two threads: each blurs its half into pixels of its own, with no `unsafe` and no place at hand.
 
-use ndarray_layout::{
-    ArrayView, ArrayViewMut, CanIndexCheckMode, Ix2, Ix4, LayoutError, Strided,
-};
+use ndarray_layout::{ArrayView, ArrayViewMut, CanIndexCheckMode, Ix2, Ix4, LayoutError, Strided};
 use std::thread;
 
 /// Writes the mean of each pixel and its eight neighbours, row by row; the border has none.

@@ -158,7 +158,10 @@ fn what_is_not_known_is_an_error_with_its_line() {
         ("fn f(a: Global) {}", "1: `Global` is no form that can be erased"),
         ("g(&alloc)", "1: `alloc` is no form that can be erased"),
         ("impl Drop for S { fn drop(self) {} }", "1: `impl` drops a value by more than its fields"),
-        ("impl Drop for S { fn drop(self) { let S { a } = self; f(a); } }", "1: `impl` drops a value by more than its fields"),
+        (
+            "impl Drop for S { fn drop(self) { let S { a } = self; f(a); } }",
+            "1: `impl` drops a value by more than its fields",
+        ),
         ("#[unsafe(no_drop)] fn f() {}", "1: `[` opens an attribute that isn't known: unsafe"),
         ("unsafe { f() }", "1: `unsafe` is no form that can be erased"),
         ("fn f(x: &dyn T) {}", "1: `dyn` is no form that can be erased"),
