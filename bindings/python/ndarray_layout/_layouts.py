@@ -254,4 +254,5 @@ def rows(start: SupportsIndex, shape: Numbers, strides: Numbers, order: str = "C
     starts, written = _room_for(count)
     stride, length = one_stride(), one_number()
     library.rows(first, *lens, *steps, number, *written, stride, length)
-    return map(Row, starts, repeat(stride[0], count), repeat(length[0]))
+    each = zip(starts, repeat(stride[0], count), repeat(length[0]))
+    return map(tuple.__new__, repeat(Row), each)  # (in half the time of `map(Row, ..)`)
