@@ -65,6 +65,7 @@ const ALLOWED: &[(&str, &[&str])] = &[
             "clippy::unwrap_or_default",
         ],
     ),
+    ("a drop that ends what is lent, which the compiler does by itself", &["clippy::drop_non_drop"]),
     ("a sequence is never asked whether it is empty", &["clippy::len_without_is_empty"]),
     (
         "what a test is about",
