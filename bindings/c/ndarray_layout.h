@@ -11,15 +11,17 @@
  *
  * Statuses. Each call returns one of ND_OK to ND_OUT_OF_MEMORY. After any status but ND_OK nothing has been written.
  * ND_BAD_ARGUMENT is a number that has no meaning (an order, a mode, a fit, a kind of element), or a list to be written of
- * another count than is due. It comes before every other status, ND_OUT_OF_MEMORY too. Only the counts of what nd_places and
- * nd_slice write are tested last. ND_OUT_OF_MEMORY may come where a list that is read has more than four numbers, in place of
- * every status but a ND_BAD_ARGUMENT that comes first.
+ * another count than is due. It comes before every other status, ND_OUT_OF_MEMORY too. Only the counts of what nd_places,
+ * nd_rows and nd_slice write are tested last. ND_OUT_OF_MEMORY may come where a list that is read has more than four items, or
+ * the new layout of nd_windows or nd_exact_chunks more than four axes, in place of every status but a ND_BAD_ARGUMENT that
+ * comes first.
  *
- * New layouts. Each index of what nd_slice, nd_permute_axes, nd_reshape or nd_broadcast_strides writes has the place of an
- * index of the layout that it was given. So the new layout lies in every buffer in which the given one lies. Where no two
- * indices of the given one have one place, no two of a slice, a permutation or a reshape have: what was accepted as owned
- * may be written through them. A broadcast is only to be read: along an axis that it stretches all coordinates have one
- * place. nd_merge_axes keeps both: the indices of what it writes have the places of the indices of what it was given.
+ * New layouts. Each index of what nd_slice, nd_permuted_axes, nd_reshape, nd_broadcast, nd_windows, nd_exact_chunks or
+ * nd_split_at writes has the place of an index of the layout that it was given. So the new layout lies in every buffer in
+ * which the given one lies. Where no two indices of the given one have one place, no two of a slice, a permutation, a reshape,
+ * the chunks or a part have: what was accepted as owned may be written through them. A broadcast and windows are only to be
+ * read: along an axis that a broadcast stretches all coordinates have one place, and windows overlap. nd_merge_axes keeps
+ * both: the indices of what it writes have the places of the indices of what it was given.
  *
  * What the caller ensures. Nothing else can make a call misbehave:
  *   - no pointer is null, and each is aligned as its type asks. The library that `bindings/c/build` makes doesn't look at
@@ -113,8 +115,8 @@ typedef struct nd_slice_elem {
  *
  * (3), strides (-1), over 3 elements: 2.
  */
-int32_t nd_layout_start(size_t elem_size, size_t len, const size_t *shape, size_t shape_len, const ptrdiff_t *strides,
-                        size_t strides_len, int32_t mode, size_t *start);
+int32_t nd_layout_start(const size_t *shape, size_t shape_len, const ptrdiff_t *strides, size_t strides_len,
+                        size_t elem_size, size_t len, int32_t mode, size_t *start);
 
 /*
  * Accepts a layout whose first index lies at `start`, over a buffer of `len` elements of `elem_size` bytes.
@@ -123,8 +125,8 @@ int32_t nd_layout_start(size_t elem_size, size_t len, const size_t *shape, size_
  *
  * (3), strides (-1), over 5 elements: ND_OK from 4, ND_OUT_OF_BOUNDS from 1.
  */
-int32_t nd_check_layout(size_t start, size_t elem_size, size_t len, const size_t *shape, size_t shape_len,
-                        const ptrdiff_t *strides, size_t strides_len, int32_t mode);
+int32_t nd_check_layout(size_t start, const size_t *shape, size_t shape_len, const ptrdiff_t *strides, size_t strides_len,
+                        size_t elem_size, size_t len, int32_t mode);
 
 /*
  * Writes 1 where two indices of a layout may alias, else 0: it has an index, and breaks the rule of owned layouts. After 0
@@ -197,6 +199,19 @@ int32_t nd_next_index(const size_t *shape, size_t shape_len, size_t *index, size
 int32_t nd_places(size_t start, const size_t *shape, size_t shape_len, const ptrdiff_t *strides, size_t strides_len,
                   int32_t order, size_t *places, size_t places_len);
 
+/*
+ * Writes the start of each row of a layout in an order: the places along the axis that moves fastest, one row for each index
+ * of the other axes. All rows have one stride and one length, which are written too. Without axes there is one row, of one
+ * place and the stride 0; without an index none. `starts`: as many as there are rows.
+ *
+ * ND_BAD_ARGUMENT for the order; then those of nd_place for the layout; then ND_BAD_ARGUMENT for another count of starts.
+ *
+ * From 3, (2,3), strides (-3,1): 3 0, stride 1, length 3, in row-major order; 3 4 5, stride -3, length 2, in column-major
+ * order.
+ */
+int32_t nd_rows(size_t start, const size_t *shape, size_t shape_len, const ptrdiff_t *strides, size_t strides_len,
+                int32_t order, size_t *starts, size_t starts_len, ptrdiff_t *stride, size_t *len);
+
 /* ---- Slices ---------------------------------------------------------------------------------------------------------- */
 
 /*
@@ -226,6 +241,19 @@ int32_t nd_slices_intersect(const size_t *shape, size_t shape_len, const nd_slic
                             const nd_slice_elem *second, size_t second_len, int32_t fit, int32_t *answer);
 
 /*
+ * Writes the positions of two of many slices of a shape that share an index, the less first, and 1; else writes 0 and leaves
+ * `pair`. `elems`: those of all slices, one slice after another. `counts`: how many each slice has. `pair`: two.
+ *
+ * ND_BAD_ARGUMENT, first, also where the counts don't add up to that of the elements. ND_OVERFLOW as of nd_slices_intersect;
+ * then those of nd_slice for the elements of the first slice with one.
+ *
+ * (2,3), the first row, the last row and the last column: 1, and 0 2. The two rows alone: 0.
+ */
+int32_t nd_first_intersection(const size_t *shape, size_t shape_len, const nd_slice_elem *elems, size_t elems_len,
+                              const size_t *counts, size_t counts_len, int32_t fit, size_t *pair, size_t pair_len,
+                              int32_t *found);
+
+/*
  * Writes how many indices a slice leaves of a shape.
  *
  * ND_OVERFLOW as of nd_slices_intersect; then those of nd_slice for the elements.
@@ -244,7 +272,7 @@ int32_t nd_picked(const size_t *shape, size_t shape_len, const nd_slice_elem *el
  *
  * (4,1) and (3): (4,3).
  */
-int32_t nd_common_shape(const size_t *first, size_t first_len, const size_t *second, size_t second_len, size_t *common,
+int32_t nd_co_broadcast(const size_t *first, size_t first_len, const size_t *second, size_t second_len, size_t *common,
                         size_t common_len);
 
 /*
@@ -256,8 +284,8 @@ int32_t nd_common_shape(const size_t *first, size_t first_len, const size_t *sec
  *
  * (1,4), strides (9,-1), to (2,3,4): (0,0,-1).
  */
-int32_t nd_broadcast_strides(const size_t *shape, size_t shape_len, const ptrdiff_t *strides, size_t strides_len,
-                             const size_t *target, size_t target_len, ptrdiff_t *new_strides, size_t new_strides_len);
+int32_t nd_broadcast(const size_t *shape, size_t shape_len, const ptrdiff_t *strides, size_t strides_len,
+                     const size_t *target, size_t target_len, ptrdiff_t *new_strides, size_t new_strides_len);
 
 /*
  * Merges the axis `take` into the axis `into`, in place, where one stride serves for both, and writes 1; else writes
@@ -295,9 +323,49 @@ int32_t nd_reshape(const size_t *shape, size_t shape_len, const ptrdiff_t *strid
  *
  * (2,3,4), strides (12,4,1), by (2,0,1): (4,2,3), strides (1,12,4).
  */
-int32_t nd_permute_axes(const size_t *shape, size_t shape_len, const ptrdiff_t *strides, size_t strides_len,
-                        const size_t *axes, size_t axes_len, size_t *new_shape, size_t new_shape_len,
+int32_t nd_permuted_axes(const size_t *shape, size_t shape_len, const ptrdiff_t *strides, size_t strides_len,
+                         const size_t *axes, size_t axes_len, size_t *new_shape, size_t new_shape_len,
+                         ptrdiff_t *new_strides, size_t new_strides_len);
+
+/*
+ * Writes the shape and the strides of all windows of a layout: first an axis for each axis along which the windows move, then
+ * those in a window. The start is unchanged. `window`: the shape of a window. An axis has len - window + 1 windows, none where
+ * the window is longer; strides are 0 where there is no index. `new_shape`, `new_strides`: two for each axis of `shape`.
+ *
+ * ND_INCOMPATIBLE_LAYOUT and ND_OVERFLOW as of nd_has_overlap; then ND_INCOMPATIBLE_SHAPE where `window` has not one length
+ * for each axis; then ND_UNSUPPORTED for a length of 0; then ND_OVERFLOW where what is written is too large.
+ *
+ * (4), strides (1), by (2): (3,2), strides (1,1).
+ */
+int32_t nd_windows(const size_t *shape, size_t shape_len, const ptrdiff_t *strides, size_t strides_len,
+                   const size_t *window, size_t window_len, size_t *new_shape, size_t new_shape_len,
+                   ptrdiff_t *new_strides, size_t new_strides_len);
+
+/*
+ * The same for the chunks that lie side by side from the first index on: an axis has len / chunk of them, and what is left
+ * over at its end is left out. The stride of an axis with fewer than two chunks is 0.
+ *
+ * The statuses of nd_windows, in their order.
+ *
+ * (5), strides (1), by (2): (2,2), strides (2,1).
+ */
+int32_t nd_exact_chunks(const size_t *shape, size_t shape_len, const ptrdiff_t *strides, size_t strides_len,
+                        const size_t *chunk, size_t chunk_len, size_t *new_shape, size_t new_shape_len,
                         ptrdiff_t *new_strides, size_t new_strides_len);
+
+/*
+ * Splits a layout along an axis: the first part has the coordinates below `index`, the second those from `index` on. Writes
+ * both starts, the lengths of the first part and then those of the second, and the strides, which are those of both parts.
+ * Where the second part has no index it starts where the layout does. `new_starts`: two. `new_shapes`: two for each axis.
+ * `new_strides`: one for each axis.
+ *
+ * Those of nd_place for the layout; then ND_OUT_OF_BOUNDS where there is no such axis, or `index` is greater than its length.
+ *
+ * From 0, (2,3), strides (3,1), axis 1 at 1: from 0, (2,1), and from 1, (2,2), strides (3,1).
+ */
+int32_t nd_split_at(size_t start, const size_t *shape, size_t shape_len, const ptrdiff_t *strides, size_t strides_len,
+                    size_t axis, size_t index, size_t *new_starts, size_t new_starts_len, size_t *new_shapes,
+                    size_t new_shapes_len, ptrdiff_t *new_strides, size_t new_strides_len);
 
 /* ---- Statuses -------------------------------------------------------------------------------------------------------- */
 
@@ -311,6 +379,9 @@ int32_t nd_permute_axes(const size_t *shape, size_t shape_len, const ptrdiff_t *
  * ND_BAD_ARGUMENT: a number that is no status, or less room.
  */
 int32_t nd_status_text(int32_t status, char *text, size_t text_len, size_t *used);
+
+/* Writes the three numbers of the version of the library that a program has loaded. Always ND_OK. */
+int32_t nd_version(int32_t *major, int32_t *minor, int32_t *patch);
 
 /* The version of the header that a program was compiled with. */
 ND_INLINE const char *nd_header_version(void) {
@@ -381,23 +452,30 @@ ND_INLINE int32_t nd_layout_from_shape(const size_t *shape, size_t shape_len, in
     return ND_BAD_ARGUMENT;
 }
 
+/* A buffer of `len` elements of `elem_size` bytes. */
+typedef struct nd_data {
+    size_t elem_size;
+    size_t len;
+} nd_data;
+
 /* nd_layout_start: accepts a shape and strides over a buffer whose first element is the lowest one. */
-ND_INLINE int32_t nd_layout_from_strides(size_t elem_size, size_t len, const size_t *shape, size_t shape_len,
-                                         const ptrdiff_t *strides, size_t strides_len, int32_t mode, nd_layout *layout) {
+ND_INLINE int32_t nd_layout_from_strides(const size_t *shape, size_t shape_len, const ptrdiff_t *strides,
+                                         size_t strides_len, nd_data data, int32_t mode, nd_layout *layout) {
     nd_layout made;
     size_t axis;
     int32_t status;
     if (!nd_put_shape(&made, shape, shape_len)) return ND_BAD_ARGUMENT;
-    status = nd_layout_start(elem_size, len, shape, shape_len, strides, strides_len, mode, &made.start);
+    status = nd_layout_start(shape, shape_len, strides, strides_len, data.elem_size, data.len, mode, &made.start);
     if (status != ND_OK) return status;
     for (axis = 0; axis < made.axes; axis++) made.strides[axis] = strides[axis];
     return nd_keep(status, &made, layout);
 }
 
 /* nd_check_layout: whether a layout fits a buffer. */
-ND_INLINE int32_t nd_layout_check(const nd_layout *layout, size_t elem_size, size_t len, int32_t mode) {
+ND_INLINE int32_t nd_layout_check(const nd_layout *layout, nd_data data, int32_t mode) {
     if (layout->axes > ND_MAX_AXES) return ND_BAD_ARGUMENT;
-    return nd_check_layout(layout->start, elem_size, len, layout->shape, layout->axes, layout->strides, layout->axes, mode);
+    return nd_check_layout(layout->start, layout->shape, layout->axes, layout->strides, layout->axes, data.elem_size,
+                           data.len, mode);
 }
 
 /* nd_place: the place of an index. */
@@ -426,13 +504,14 @@ ND_INLINE int32_t nd_layout_slice(const nd_layout *layout, const nd_slice_elem *
                    &made, slice);
 }
 
-/* nd_permute_axes: axis k of what is written is axis `axes[k]` of the layout. */
-ND_INLINE int32_t nd_layout_permute(const nd_layout *layout, const size_t *axes, size_t axes_len, nd_layout *permuted) {
+/* nd_permuted_axes: axis k of what is written is axis `axes[k]` of the layout. */
+ND_INLINE int32_t nd_layout_permuted_axes(const nd_layout *layout, const size_t *axes, size_t axes_len,
+                                          nd_layout *permuted) {
     nd_layout made;
     if (layout->axes > ND_MAX_AXES) return ND_BAD_ARGUMENT;
     made.start = layout->start;
     made.axes = layout->axes;
-    return nd_keep(nd_permute_axes(layout->shape, layout->axes, layout->strides, layout->axes, axes, axes_len,
+    return nd_keep(nd_permuted_axes(layout->shape, layout->axes, layout->strides, layout->axes, axes, axes_len,
                                    made.shape, made.axes, made.strides, made.axes),
                    &made, permuted);
 }
@@ -448,15 +527,58 @@ ND_INLINE int32_t nd_layout_reshape(const nd_layout *layout, int32_t order, cons
                    &made, reshaped);
 }
 
-/* nd_broadcast_strides: the layout read as one of the shape `target`. */
+/* nd_broadcast: the layout read as one of the shape `target`. */
 ND_INLINE int32_t nd_layout_broadcast(const nd_layout *layout, const size_t *target, size_t target_len,
                                       nd_layout *broadcast) {
     nd_layout made;
     if (layout->axes > ND_MAX_AXES || !nd_put_shape(&made, target, target_len)) return ND_BAD_ARGUMENT;
     made.start = layout->start;
-    return nd_keep(nd_broadcast_strides(layout->shape, layout->axes, layout->strides, layout->axes, made.shape, made.axes,
+    return nd_keep(nd_broadcast(layout->shape, layout->axes, layout->strides, layout->axes, made.shape, made.axes,
                                         made.strides, made.axes),
                    &made, broadcast);
+}
+
+/* nd_windows: what is written has twice as many axes, those along which the windows move and then those in a window. */
+ND_INLINE int32_t nd_layout_windows(const nd_layout *layout, const size_t *window, size_t window_len, nd_layout *windows) {
+    nd_layout made;
+    if (layout->axes > ND_MAX_AXES / 2) return ND_BAD_ARGUMENT;
+    made.start = layout->start;
+    made.axes = 2 * layout->axes;
+    return nd_keep(nd_windows(layout->shape, layout->axes, layout->strides, layout->axes, window, window_len, made.shape,
+                              made.axes, made.strides, made.axes),
+                   &made, windows);
+}
+
+/* nd_exact_chunks: what is written has twice as many axes, those of the chunks' numbers and then those in a chunk. */
+ND_INLINE int32_t nd_layout_exact_chunks(const nd_layout *layout, const size_t *chunk, size_t chunk_len,
+                                         nd_layout *chunks) {
+    nd_layout made;
+    if (layout->axes > ND_MAX_AXES / 2) return ND_BAD_ARGUMENT;
+    made.start = layout->start;
+    made.axes = 2 * layout->axes;
+    return nd_keep(nd_exact_chunks(layout->shape, layout->axes, layout->strides, layout->axes, chunk, chunk_len, made.shape,
+                                   made.axes, made.strides, made.axes),
+                   &made, chunks);
+}
+
+/* nd_split_at: the parts below a coordinate of an axis and from it on. Each may be the layout that is read, but not both. */
+ND_INLINE int32_t nd_layout_split_at(const nd_layout *layout, size_t axis, size_t index, nd_layout *first,
+                                     nd_layout *second) {
+    nd_layout made;
+    size_t starts[2], shapes[2 * ND_MAX_AXES], other;
+    int32_t status;
+    if (layout->axes > ND_MAX_AXES) return ND_BAD_ARGUMENT;
+    made.axes = layout->axes;
+    status = nd_split_at(layout->start, layout->shape, layout->axes, layout->strides, layout->axes, axis, index, starts, 2,
+                         shapes, 2 * made.axes, made.strides, made.axes);
+    if (status != ND_OK) return status;
+    made.start = starts[0];
+    for (other = 0; other < made.axes; other++) made.shape[other] = shapes[other];
+    *first = made;
+    made.start = starts[1];
+    for (other = 0; other < made.axes; other++) made.shape[other] = shapes[made.axes + other];
+    *second = made;
+    return ND_OK;
 }
 
 #ifdef __cplusplus

@@ -26,6 +26,7 @@ static void check(int holds, int line, const char *what) {
 
 static const size_t two_three[2] = {2, 3}, many[ND_MAX_AXES + 1] = {1};
 static const ptrdiff_t up[2] = {-3, 1}, by_rows[2] = {3, 1}, zeros[ND_MAX_AXES + 1] = {0};
+static const nd_data five_bytes = {1, 5}, six_bytes = {1, 6};
 
 /* Whether a layout of one or two axes has this start, shape and strides. */
 static int is(const nd_layout *layout, size_t start, size_t axes, size_t len, size_t last_len, ptrdiff_t stride,
@@ -36,8 +37,11 @@ static int is(const nd_layout *layout, size_t start, size_t axes, size_t len, si
 
 static void test_versions(void) {
     char text[32];
+    int32_t major = -1, minor = -1, patch = -1;
     sprintf(text, "%d.%d.%d", ND_VERSION_MAJOR, ND_VERSION_MINOR, ND_VERSION_PATCH);
     CHECK(strcmp(nd_header_version(), text) == 0);
+    CHECK(nd_version(&major, &minor, &patch) == ND_OK);
+    CHECK(major == ND_VERSION_MAJOR && minor == ND_VERSION_MINOR && patch == ND_VERSION_PATCH);
 }
 
 static void test_status_message(void) {
@@ -62,15 +66,15 @@ static void test_new_layouts(void) {
     CHECK(nd_layout_from_shape(LIST(two_three), 2, &layout) == ND_BAD_ARGUMENT);
     CHECK(nd_layout_from_shape(LIST(many), ND_ROW_MAJOR, &layout) == ND_BAD_ARGUMENT);
     CHECK(nd_layout_from_shape(LIST(huge), ND_COLUMN_MAJOR, &layout) == ND_OVERFLOW);
-    CHECK(nd_layout_from_strides(1, 5, LIST(two_three), LIST(up), ND_OWNED, &layout) == ND_OUT_OF_BOUNDS);
-    CHECK(nd_layout_from_strides(1, 6, LIST(two_three), up, 1, ND_OWNED, &layout) == ND_INCOMPATIBLE_LAYOUT);
-    CHECK(nd_layout_from_strides(1, 6, LIST(two_three), LIST(up), 2, &layout) == ND_BAD_ARGUMENT);
-    CHECK(nd_layout_from_strides(1, 6, LIST(many), LIST(zeros), ND_READ_ONLY, &layout) == ND_BAD_ARGUMENT);
+    CHECK(nd_layout_from_strides(LIST(two_three), LIST(up), five_bytes, ND_OWNED, &layout) == ND_OUT_OF_BOUNDS);
+    CHECK(nd_layout_from_strides(LIST(two_three), up, 1, six_bytes, ND_OWNED, &layout) == ND_INCOMPATIBLE_LAYOUT);
+    CHECK(nd_layout_from_strides(LIST(two_three), LIST(up), six_bytes, 2, &layout) == ND_BAD_ARGUMENT);
+    CHECK(nd_layout_from_strides(LIST(many), LIST(zeros), six_bytes, ND_READ_ONLY, &layout) == ND_BAD_ARGUMENT);
     CHECK(memcmp(&layout, &before, sizeof layout) == 0);
     CHECK(nd_layout_from_shape(LIST(two_three), ND_ROW_MAJOR, &layout) == ND_OK && is(&layout, 0, 2, 2, 3, 3, 1));
     CHECK(nd_layout_from_shape(LIST(two_three), ND_COLUMN_MAJOR, &layout) == ND_OK && is(&layout, 0, 2, 2, 3, 1, 2));
     CHECK(nd_layout_from_shape(many, ND_MAX_AXES, ND_ROW_MAJOR, &layout) == ND_OK && layout.axes == ND_MAX_AXES);
-    CHECK(nd_layout_from_strides(1, 6, LIST(two_three), LIST(up), ND_OWNED, &layout) == ND_OK);
+    CHECK(nd_layout_from_strides(LIST(two_three), LIST(up), six_bytes, ND_OWNED, &layout) == ND_OK);
     CHECK(is(&layout, 3, 2, 2, 3, -3, 1));
 }
 
@@ -78,16 +82,16 @@ static void test_places(void) {
     static const size_t last[2] = {1, 2}, past[2] = {2, 0};
     nd_layout layout;
     size_t place = 77, places[6] = {7, 7, 7, 7, 7, 7};
-    CHECK(nd_layout_from_strides(1, 6, LIST(two_three), LIST(up), ND_OWNED, &layout) == ND_OK);
-    CHECK(nd_layout_check(&layout, 1, 6, ND_OWNED) == ND_OK);
-    CHECK(nd_layout_check(&layout, 1, 5, ND_OWNED) == ND_OUT_OF_BOUNDS);
+    CHECK(nd_layout_from_strides(LIST(two_three), LIST(up), six_bytes, ND_OWNED, &layout) == ND_OK);
+    CHECK(nd_layout_check(&layout, six_bytes, ND_OWNED) == ND_OK);
+    CHECK(nd_layout_check(&layout, five_bytes, ND_OWNED) == ND_OUT_OF_BOUNDS);
     CHECK(nd_layout_place(&layout, LIST(past), &place) == ND_OUT_OF_BOUNDS && place == 77);
     CHECK(nd_layout_place(&layout, LIST(last), &place) == ND_OK && place == 2);
     CHECK(nd_layout_places(&layout, ND_ROW_MAJOR, places, 5) == ND_BAD_ARGUMENT && places[0] == 7);
     CHECK(nd_layout_places(&layout, ND_COLUMN_MAJOR, LIST(places)) == ND_OK);
     CHECK(places[0] == 3 && places[1] == 0 && places[2] == 4 && places[5] == 2);
     layout.axes = ND_MAX_AXES + 1;
-    CHECK(nd_layout_check(&layout, 1, 6, ND_OWNED) == ND_BAD_ARGUMENT);
+    CHECK(nd_layout_check(&layout, six_bytes, ND_OWNED) == ND_BAD_ARGUMENT);
     CHECK(nd_layout_place(&layout, LIST(last), &place) == ND_BAD_ARGUMENT);
     CHECK(nd_layout_places(&layout, ND_ROW_MAJOR, LIST(places)) == ND_BAD_ARGUMENT);
 }
@@ -95,19 +99,33 @@ static void test_places(void) {
 static void test_layouts_of_layouts(void) {
     static const nd_slice_elem row[2] = {{ND_INDEX, 0, -1, 0, 0}, {ND_SLICE, 0, 0, 0, -1}};
     static const size_t swapped[2] = {1, 0}, six[1] = {6}, five[1] = {5}, rows[2] = {4, 3};
-    nd_layout layout, other;
-    CHECK(nd_layout_from_strides(1, 6, LIST(two_three), LIST(by_rows), ND_OWNED, &layout) == ND_OK);
-    CHECK(nd_layout_permute(&layout, LIST(swapped), &other) == ND_OK && is(&other, 0, 2, 3, 2, 1, 3));
-    CHECK(nd_layout_permute(&layout, swapped, 1, &other) == ND_INCOMPATIBLE_SHAPE && is(&other, 0, 2, 3, 2, 1, 3));
+    static const size_t pairs[2] = {1, 2}, ones[2] = {1, 1};
+    nd_layout layout, other, part;
+    CHECK(nd_layout_from_strides(LIST(two_three), LIST(by_rows), six_bytes, ND_OWNED, &layout) == ND_OK);
+    CHECK(nd_layout_permuted_axes(&layout, LIST(swapped), &other) == ND_OK && is(&other, 0, 2, 3, 2, 1, 3));
+    CHECK(nd_layout_permuted_axes(&layout, swapped, 1, &other) == ND_INCOMPATIBLE_SHAPE && is(&other, 0, 2, 3, 2, 1, 3));
     CHECK(nd_layout_reshape(&layout, ND_ROW_MAJOR, LIST(six), &other) == ND_OK && is(&other, 0, 1, 6, 6, 1, 1));
     CHECK(nd_layout_reshape(&layout, ND_ROW_MAJOR, LIST(five), &other) == ND_INCOMPATIBLE_SHAPE);
     CHECK(nd_layout_slice(&layout, row, 1, ND_STRICT, &other) == ND_INCOMPATIBLE_SHAPE);
     CHECK(is(&other, 0, 1, 6, 6, 1, 1));
+    CHECK(nd_layout_windows(&layout, five, 1, &other) == ND_INCOMPATIBLE_SHAPE && is(&other, 0, 1, 6, 6, 1, 1));
+    CHECK(nd_layout_exact_chunks(&layout, five, 1, &other) == ND_INCOMPATIBLE_SHAPE && is(&other, 0, 1, 6, 6, 1, 1));
+    CHECK(nd_layout_windows(&layout, LIST(pairs), &other) == ND_OK && is(&other, 0, 4, 2, 2, 3, 1));
+    CHECK(other.shape[1] == 2 && other.shape[2] == 1 && other.strides[1] == 1 && other.strides[2] == 3);
+    CHECK(nd_layout_exact_chunks(&layout, LIST(pairs), &other) == ND_OK && is(&other, 0, 4, 2, 2, 3, 1));
+    CHECK(other.shape[1] == 1 && other.shape[2] == 1 && other.strides[1] == 0 && other.strides[2] == 3);
+    CHECK(nd_layout_split_at(&layout, 1, 4, &other, &part) == ND_OUT_OF_BOUNDS && is(&other, 0, 4, 2, 2, 3, 1));
+    CHECK(nd_layout_split_at(&layout, 1, 1, &other, &part) == ND_OK);
+    CHECK(is(&other, 0, 2, 2, 1, 3, 1) && is(&part, 1, 2, 2, 2, 3, 1));
     /* over itself */
+    CHECK(nd_layout_split_at(&part, 0, 1, &other, &part) == ND_OK);
+    CHECK(is(&other, 1, 2, 1, 2, 3, 1) && is(&part, 4, 2, 1, 2, 3, 1));
+    CHECK(nd_layout_windows(&part, LIST(ones), &part) == ND_OK && is(&part, 4, 4, 1, 1, 3, 1));
+    CHECK(nd_layout_exact_chunks(&other, LIST(ones), &other) == ND_OK && is(&other, 1, 4, 1, 1, 0, 1));
     CHECK(nd_layout_slice(&layout, LIST(row), ND_STRICT, &layout) == ND_OK && is(&layout, 5, 1, 3, 3, -1, -1));
     CHECK(nd_layout_broadcast(&layout, LIST(five), &layout) == ND_INCOMPATIBLE_SHAPE);
     CHECK(nd_layout_broadcast(&layout, LIST(rows), &layout) == ND_OK && is(&layout, 5, 2, 4, 3, 0, -1));
-    CHECK(nd_layout_permute(&layout, LIST(swapped), &layout) == ND_OK && is(&layout, 5, 2, 3, 4, -1, 0));
+    CHECK(nd_layout_permuted_axes(&layout, LIST(swapped), &layout) == ND_OK && is(&layout, 5, 2, 3, 4, -1, 0));
 }
 
 static void test_too_many_axes(void) {
@@ -123,12 +141,20 @@ static void test_too_many_axes(void) {
     CHECK(nd_layout_broadcast(&layout, LIST(many), &layout) == ND_BAD_ARGUMENT && layout.axes == 0);
     CHECK(nd_layout_reshape(&layout, ND_ROW_MAJOR, LIST(many), &layout) == ND_BAD_ARGUMENT && layout.axes == 0);
     CHECK(nd_layout_slice(&layout, axes, ND_MAX_AXES, ND_STRICT, &layout) == ND_OK && layout.axes == ND_MAX_AXES);
-    CHECK(nd_layout_permute(&layout, numbers, ND_MAX_AXES, &other) == ND_OK && other.axes == ND_MAX_AXES);
+    CHECK(nd_layout_permuted_axes(&layout, numbers, ND_MAX_AXES, &other) == ND_OK && other.axes == ND_MAX_AXES);
+    CHECK(nd_layout_windows(&layout, layout.shape, ND_MAX_AXES, &other) == ND_BAD_ARGUMENT);
+    CHECK(nd_layout_exact_chunks(&layout, layout.shape, ND_MAX_AXES, &other) == ND_BAD_ARGUMENT);
+    CHECK(nd_layout_split_at(&layout, ND_MAX_AXES - 1, 1, &layout, &other) == ND_OK && other.axes == ND_MAX_AXES);
+    CHECK(layout.shape[ND_MAX_AXES - 1] == 1 && other.shape[ND_MAX_AXES - 1] == 0 && other.shape[0] == 1);
     layout.axes = ND_MAX_AXES + 1;
     CHECK(nd_layout_slice(&layout, LIST(axes), ND_STRICT, &other) == ND_BAD_ARGUMENT);
-    CHECK(nd_layout_permute(&layout, LIST(numbers), &other) == ND_BAD_ARGUMENT);
+    CHECK(nd_layout_permuted_axes(&layout, LIST(numbers), &other) == ND_BAD_ARGUMENT);
     CHECK(nd_layout_reshape(&layout, ND_ROW_MAJOR, many, 1, &other) == ND_BAD_ARGUMENT);
     CHECK(nd_layout_broadcast(&layout, many, 1, &other) == ND_BAD_ARGUMENT);
+    CHECK(nd_layout_split_at(&layout, 0, 0, &other, &layout) == ND_BAD_ARGUMENT && layout.axes == ND_MAX_AXES + 1);
+    layout.axes = ND_MAX_AXES / 2;
+    CHECK(nd_layout_windows(&layout, layout.shape, ND_MAX_AXES / 2, &other) == ND_OK && other.axes == ND_MAX_AXES);
+    CHECK(nd_layout_exact_chunks(&layout, layout.shape, ND_MAX_AXES / 2, &other) == ND_OK && other.axes == ND_MAX_AXES);
 }
 
 /* A number from 0 to before `bound`, by a fixed sequence. */
@@ -138,8 +164,8 @@ static size_t below(size_t bound) {
     return (state >> 8) % bound;
 }
 
-/* A layout of up to four axes, most often without aliases, over a buffer of `*len` elements. */
-static int32_t random_layout(nd_layout *layout, size_t *len, int32_t mode) {
+/* A layout of up to four axes, most often without aliases, over a buffer of bytes. */
+static int32_t random_layout(nd_layout *layout, nd_data *data, int32_t mode) {
     size_t shape[4], axes = below(5), axis, reach = 1;
     ptrdiff_t strides[4];
     for (axis = axes; axis-- > 0;) {
@@ -147,8 +173,9 @@ static int32_t random_layout(nd_layout *layout, size_t *len, int32_t mode) {
         strides[axis] = (ptrdiff_t)(below(8) == 0 ? below(5) : reach) * (below(3) == 0 ? -1 : 1);
         reach *= shape[axis] > 0 ? shape[axis] + below(2) : 1;
     }
-    *len = below(3) == 0 ? reach : reach + below(9);
-    return nd_layout_from_strides(1, *len, shape, axes, strides, axes, mode, layout);
+    data->elem_size = 1;
+    data->len = below(3) == 0 ? reach : reach + below(9);
+    return nd_layout_from_strides(shape, axes, strides, axes, *data, mode, layout);
 }
 
 static int32_t random_slice(const nd_layout *layout, nd_layout *slice) {
@@ -177,7 +204,7 @@ static int32_t random_permutation(const nd_layout *layout, nd_layout *permuted) 
         axes[axis] = axes[other];
         axes[other] = axis;
     }
-    return nd_layout_permute(layout, axes, layout->axes, permuted);
+    return nd_layout_permuted_axes(layout, axes, layout->axes, permuted);
 }
 
 static int32_t random_reshape(const nd_layout *layout, nd_layout *reshaped) {
@@ -204,6 +231,32 @@ static int32_t random_broadcast(const nd_layout *layout, nd_layout *broadcast) {
     return nd_layout_broadcast(layout, shape, added + layout->axes, broadcast);
 }
 
+/* The lengths of a block of a layout, most often not greater than its own. */
+static void random_block(const nd_layout *layout, size_t block[ND_MAX_AXES]) {
+    size_t axis;
+    for (axis = 0; axis < layout->axes; axis++) block[axis] = 1 + below(layout->shape[axis] + 1);
+}
+
+static int32_t random_windows(const nd_layout *layout, nd_layout *windows) {
+    size_t window[ND_MAX_AXES];
+    random_block(layout, window);
+    return nd_layout_windows(layout, window, layout->axes, windows);
+}
+
+static int32_t random_chunks(const nd_layout *layout, nd_layout *chunks) {
+    size_t chunk[ND_MAX_AXES];
+    random_block(layout, chunk);
+    return nd_layout_exact_chunks(layout, chunk, layout->axes, chunks);
+}
+
+/* One of the two parts. */
+static int32_t random_part(const nd_layout *layout, nd_layout *part) {
+    nd_layout other;
+    size_t axis = below(layout->axes + 1), index = axis < layout->axes ? below(layout->shape[axis] + 1) : 0;
+    if (below(2) == 0) return nd_layout_split_at(layout, axis, index, part, &other);
+    return nd_layout_split_at(layout, axis, index, &other, part);
+}
+
 /* Axes are merged in place. Where they don't fit it is ND_UNSUPPORTED, as it is for one axis twice. */
 static int32_t random_merge(const nd_layout *layout, nd_layout *merged) {
     int32_t is_merged = 0, status;
@@ -214,7 +267,7 @@ static int32_t random_merge(const nd_layout *layout, nd_layout *merged) {
     return status == ND_OK && !is_merged ? ND_UNSUPPORTED : status;
 }
 
-#define MOST_PLACES 2000
+#define MOST_PLACES 2304
 
 /* How many places the indices of a layout have, with repetitions, of which it writes each. */
 static size_t places_of(const nd_layout *layout, size_t places[MOST_PLACES]) {
@@ -242,37 +295,41 @@ static int keeps_places(const nd_layout *made, const nd_layout *layout, int is_d
     return 1;
 }
 
+/* Who makes layouts of layouts; what the last two make is only to be read. */
+#define MAKERS 8
+#define OWNED_MAKERS 6
+
 /* What the header promises of new layouts, in 20,000 rounds. */
 static void test_what_is_kept(int32_t mode) {
-    int32_t (*const makers[5])(const nd_layout *, nd_layout *) = {random_slice, random_permutation, random_reshape,
-                                                                  random_merge, random_broadcast};
-    int made[5] = {0, 0, 0, 0, 0}, aliased = 0, round, maker;
+    int32_t (*const makers[MAKERS])(const nd_layout *, nd_layout *) = {random_slice, random_permutation, random_reshape,
+                                                                       random_merge, random_chunks,      random_part,
+                                                                       random_broadcast, random_windows};
+    int made[MAKERS] = {0, 0, 0, 0, 0, 0, 0, 0}, aliased[MAKERS] = {0, 0, 0, 0, 0, 0, 0, 0}, round, maker;
     for (round = 0; round < 20000; round++) {
         nd_layout layout, other;
-        size_t len;
-        if (random_layout(&layout, &len, mode) != ND_OK) continue;
-        for (maker = 0; maker < 5; maker++) {
-            int is_broadcast = maker == 4;
-            int32_t kept = is_broadcast ? ND_READ_ONLY : mode;
+        nd_data data;
+        if (random_layout(&layout, &data, mode) != ND_OK) continue;
+        for (maker = 0; maker < MAKERS; maker++) {
+            int32_t kept = maker < OWNED_MAKERS ? mode : ND_READ_ONLY;
             if (makers[maker](&layout, &other) != ND_OK) continue;
             made[maker]++;
             CHECK_QUIETLY(keeps_places(&other, &layout, kept == ND_OWNED));
-            CHECK_QUIETLY(nd_layout_check(&other, 1, len, kept) == ND_OK);
-            if (is_broadcast && nd_layout_check(&other, 1, len, ND_OWNED) == ND_UNSUPPORTED) aliased++;
+            CHECK_QUIETLY(nd_layout_check(&other, data, kept) == ND_OK);
+            if (nd_layout_check(&other, data, ND_OWNED) == ND_UNSUPPORTED) aliased[maker]++;
         }
     }
-    for (maker = 0; maker < 5; maker++) CHECK(made[maker] > 4000);
-    CHECK(aliased > 1000);
+    for (maker = 0; maker < MAKERS; maker++) CHECK(made[maker] > 4000);
+    for (maker = OWNED_MAKERS; maker < MAKERS; maker++) CHECK(aliased[maker] > 1000);
 }
 
 /* The library that cargo makes looks at no pointer of a list with the count 0. */
 static void test_no_lists(void) {
     nd_slice_elem *no_elems = NULL;
-    size_t *none = NULL, number;
-    ptrdiff_t *no_strides = NULL;
+    size_t *none = NULL, number, pair[2];
+    ptrdiff_t *no_strides = NULL, stride;
     int32_t answer;
-    CHECK(nd_layout_start(1, 1, none, 0, no_strides, 0, ND_OWNED, &number) == ND_OK && number == 0);
-    CHECK(nd_check_layout(0, 1, 1, none, 0, no_strides, 0, ND_OWNED) == ND_OK);
+    CHECK(nd_layout_start(none, 0, no_strides, 0, 1, 1, ND_OWNED, &number) == ND_OK && number == 0);
+    CHECK(nd_check_layout(0, none, 0, no_strides, 0, 1, 1, ND_OWNED) == ND_OK);
     CHECK(nd_has_overlap(none, 0, no_strides, 0, &answer) == ND_OK && answer == 0);
     CHECK(nd_default_strides(none, 0, no_strides, 0) == ND_OK);
     CHECK(nd_fortran_strides(none, 0, no_strides, 0) == ND_OK);
@@ -285,11 +342,16 @@ static void test_no_lists(void) {
     CHECK(nd_slice(5, none, 0, no_strides, 0, no_elems, 0, ND_STRICT, &number, none, 0, no_strides, 0) == ND_OK);
     CHECK(nd_slices_intersect(none, 0, no_elems, 0, no_elems, 0, ND_STRICT, &answer) == ND_OK && answer == 1);
     CHECK(nd_picked(none, 0, no_elems, 0, ND_STRICT, &number) == ND_OK && number == 1);
-    CHECK(nd_common_shape(none, 0, none, 0, none, 0) == ND_OK);
-    CHECK(nd_broadcast_strides(none, 0, no_strides, 0, none, 0, no_strides, 0) == ND_OK);
+    CHECK(nd_co_broadcast(none, 0, none, 0, none, 0) == ND_OK);
+    CHECK(nd_broadcast(none, 0, no_strides, 0, none, 0, no_strides, 0) == ND_OK);
     CHECK(nd_merge_axes(none, 0, no_strides, 0, 0, 1, &answer) == ND_OUT_OF_BOUNDS);
     CHECK(nd_reshape(none, 0, no_strides, 0, ND_ROW_MAJOR, none, 0, no_strides, 0) == ND_OK);
-    CHECK(nd_permute_axes(none, 0, no_strides, 0, none, 0, none, 0, no_strides, 0) == ND_OK);
+    CHECK(nd_permuted_axes(none, 0, no_strides, 0, none, 0, none, 0, no_strides, 0) == ND_OK);
+    CHECK(nd_rows(5, none, 0, no_strides, 0, ND_ROW_MAJOR, none, 0, &stride, &number) == ND_BAD_ARGUMENT);
+    CHECK(nd_first_intersection(none, 0, no_elems, 0, none, 0, ND_STRICT, pair, 2, &answer) == ND_OK && answer == 0);
+    CHECK(nd_windows(none, 0, no_strides, 0, none, 0, none, 0, no_strides, 0) == ND_OK);
+    CHECK(nd_exact_chunks(none, 0, no_strides, 0, none, 0, none, 0, no_strides, 0) == ND_OK);
+    CHECK(nd_split_at(5, none, 0, no_strides, 0, 0, 0, pair, 2, none, 0, no_strides, 0) == ND_OUT_OF_BOUNDS);
     CHECK(nd_status_text(ND_OK, NULL, 0, &number) == ND_BAD_ARGUMENT);
 }
 

@@ -6,7 +6,7 @@ use Rattle.ndarray_layout.specs.declared.SliceInfoElem.{SliceInfoElem}
 use Rattle.ndarray_layout.specs.declared.SliceInfoElem.TheVariants.{Slice, Index, NewAxis}
 use Rattle.ndarray_layout.specs.SlicedView.{slice_of}
 use Rattle.ndarray_layout.specs.View.{View, view_of}
-use Rattle.ndarray_layout_c.specs.Codes.{fit_named}
+use Rattle.ndarray_layout_c.specs.Arguments.{fit_named}
 use Rattle.ndarray_layout_c.specs.declared.elements.RawElem.{RawElem}
 
 -- the kind of an element has a meaning

@@ -1,8 +1,11 @@
-pub mod Codes
+pub mod Arguments
 pub mod Elements
 pub mod IndexAfter
 pub mod IndexFault
 pub mod LayoutFault
 pub mod OwnStrides
-pub mod Status
-pub mod StatusText
+pub mod RowsFrom
+pub mod SlicesNamed
+pub mod Statuses
+pub mod Texts
+pub mod Version

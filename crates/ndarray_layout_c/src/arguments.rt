@@ -1,6 +1,6 @@
 //! What the numbers mean that C gives for an order, a mode and a fit.
 ghost use Rattle.std.specs.Prelude.{◌≡◌, ◌↔◌, IsTrue, pos, if◌then◌else◌};
-ghost use Rattle.ndarray_layout_c.specs.Codes.{fit_named, is_choice, mode_named, order_named};
+ghost use Rattle.ndarray_layout_c.specs.Arguments.{fit_named, is_choice, mode_named, order_named};
 
 use ndarray_layout::{CanIndexCheckMode, Fit, Order};
 

@@ -9,10 +9,10 @@ ghost use Rattle.ndarray_layout.specs.Signed.{all_signed};
 ghost use Rattle.ndarray_layout.specs.Size.{size};
 ghost use Rattle.ndarray_layout.specs.View.{place_at, view_of, view_places};
 ghost use Rattle.ndarray_layout_c.specs.LayoutFault.{layout_fault_from};
-ghost use Rattle.ndarray_layout_c.specs.Codes.{is_choice, order_named};
+ghost use Rattle.ndarray_layout_c.specs.Arguments.{is_choice, order_named};
 ghost use Rattle.ndarray_layout_c.specs.IndexFault.{index_fault};
 ghost use Rattle.ndarray_layout_c.specs.IndexAfter.{has_index_after, index_after};
-ghost use Rattle.ndarray_layout_c.specs.Status.{bad_argument, ok, out_of_memory, status_of, status_until, status_where};
+ghost use Rattle.ndarray_layout_c.specs.Statuses.{bad_argument, ok, out_of_memory, status_of, status_until, status_where};
 
 use crate::arguments::{answer_of, is_choice, order_named};
 use crate::lists::view_from;

@@ -15,8 +15,8 @@ ghost use Rattle.ndarray_layout.specs.Size.{is_empty};
 ghost use Rattle.ndarray_layout.specs.Span.{low_span};
 ghost use Rattle.ndarray_layout.specs.ValidLayout.{IsValidLayout};
 ghost use Rattle.ndarray_layout_c.specs.OwnStrides.{own_strides, own_strides_fault};
-ghost use Rattle.ndarray_layout_c.specs.Codes.{is_choice, mode_named};
-ghost use Rattle.ndarray_layout_c.specs.Status.{bad_argument, ok, out_of_memory, status_of, status_where};
+ghost use Rattle.ndarray_layout_c.specs.Arguments.{is_choice, mode_named};
+ghost use Rattle.ndarray_layout_c.specs.Statuses.{bad_argument, ok, out_of_memory, status_of, status_where};
 
 use crate::arguments::{answer_of, is_choice, mode_named};
 use crate::lists::layout;
@@ -32,10 +32,10 @@ use std::alloc::Global;
 /// place is 0.
 #[unsafe(no_mangle)]
 pub extern "C" fn nd_layout_start(
-    elem_size: usize,
-    len: usize,
     shape: &[usize],
     strides: &[usize],
+    elem_size: usize,
+    len: usize,
     mode: i32,
     start: &mut usize,
 ) -> i32
@@ -58,10 +58,10 @@ pub extern "C" fn nd_layout_start(
 fn check_from(
     alloc: Global,
     start: usize,
-    elem_size: usize,
-    len: usize,
     shape: &[usize],
     strides: &[usize],
+    elem_size: usize,
+    len: usize,
     mode: CanIndexCheckMode,
 ) -> Result<(), LayoutError>
     ensures fits { OnOk result
@@ -81,10 +81,10 @@ fn check_from(
 pub extern "C" fn nd_check_layout(
     alloc: Global,
     start: usize,
-    elem_size: usize,
-    len: usize,
     shape: &[usize],
     strides: &[usize],
+    elem_size: usize,
+    len: usize,
     mode: i32,
 ) -> i32
     ensures status { result ≢ out_of_memory → result ≡ status_where (not (is_choice mode))
@@ -98,7 +98,7 @@ pub extern "C" fn nd_check_layout(
         return BAD_ARGUMENT;
     }
     let mode = mode_named(mode);
-    match check_from(alloc, start, elem_size, len, shape, strides, mode) {
+    match check_from(alloc, start, shape, strides, elem_size, len, mode) {
         Ok(()) => OK,
         Err(LayoutError::Shape(error)) => status_of(error.kind()),
         Err(LayoutError::Memory(_)) => OUT_OF_MEMORY,

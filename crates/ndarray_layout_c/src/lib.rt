@@ -5,11 +5,16 @@
 #![tactic(auto)]
 
 mod arguments;
+mod blocks;
 mod elements;
 mod indices;
+mod intersections;
 mod layouts;
 mod lists;
+mod rows;
 mod shapes;
 mod slices;
+mod splits;
 mod statuses;
 mod texts;
+mod version;

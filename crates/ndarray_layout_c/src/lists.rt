@@ -8,7 +8,7 @@ ghost use Rattle.ndarray_layout.specs.ShapeFault.{shape_fault};
 ghost use Rattle.ndarray_layout.specs.Signed.{all_signed};
 ghost use Rattle.ndarray_layout.specs.ValidLayout.{IsValidLayout};
 ghost use Rattle.ndarray_layout.specs.View.{view_of};
-ghost use Rattle.ndarray_layout_c.specs.Status.{bad_argument, ok};
+ghost use Rattle.ndarray_layout_c.specs.Statuses.{bad_argument, ok};
 ghost use Rattle.ndarray_layout_c.specs.LayoutFault.{layout_fault, layout_fault_from, lowest_view, own_layout_fault};
 
 use crate::statuses::{BAD_ARGUMENT, OK};

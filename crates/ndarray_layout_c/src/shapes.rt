@@ -13,9 +13,9 @@ ghost use Rattle.ndarray_layout.specs.PermutedView.{permute_fault, permuted_of};
 ghost use Rattle.ndarray_layout.specs.ReshapedView.{view_reshape_fault, reshaped_strides};
 ghost use Rattle.ndarray_layout.specs.ShapeFault.{shape_fault};
 ghost use Rattle.ndarray_layout.specs.Signed.{all_signed, signed};
-ghost use Rattle.ndarray_layout_c.specs.Codes.{is_choice, order_named};
+ghost use Rattle.ndarray_layout_c.specs.Arguments.{is_choice, order_named};
 ghost use Rattle.ndarray_layout_c.specs.LayoutFault.{layout_fault, lowest_view};
-ghost use Rattle.ndarray_layout_c.specs.Status.{bad_argument, ok, out_of_memory, status_of, status_where};
+ghost use Rattle.ndarray_layout_c.specs.Statuses.{bad_argument, ok, out_of_memory, status_of, status_where};
 
 use crate::arguments::{answer_of, is_choice, order_named};
 use crate::elements::FEW;
@@ -50,7 +50,7 @@ fn write_common_shape(longer: &[usize], shorter: &[usize], common: &mut [usize])
 /// Writes the shape that two shapes have in common, by NumPy's rule.
 #[tactic(auto, using(crate::proofs::CommonShapes::shape_commutes, crate::proofs::CommonShapes::fault_commutes))]
 #[unsafe(no_mangle)]
-pub extern "C" fn nd_common_shape(first: &[usize], second: &[usize], common: &mut [usize]) -> i32
+pub extern "C" fn nd_co_broadcast(first: &[usize], second: &[usize], common: &mut [usize]) -> i32
     ensures status { result ≡ status_where
         (not (length common.old == max (length first.now) (length second.now)))
         (common_shape_fault first.now second.now) }
@@ -131,7 +131,7 @@ fn broadcast(
 
 /// Writes the strides along which a layout is read as one of the shape `target`.
 #[unsafe(no_mangle)]
-pub extern "C" fn nd_broadcast_strides(
+pub extern "C" fn nd_broadcast(
     alloc: Global,
     shape: &[usize],
     strides: &[usize],
@@ -281,7 +281,7 @@ fn permuted(
 
 /// Writes the shape and the strides of a layout with its axes in another order.
 #[unsafe(no_mangle)]
-pub extern "C" fn nd_permute_axes(
+pub extern "C" fn nd_permuted_axes(
     alloc: Global,
     shape: &[usize],
     strides: &[usize],

@@ -11,10 +11,10 @@ ghost use Rattle.ndarray_layout.specs.Size.{size};
 ghost use Rattle.ndarray_layout.specs.SlicedView.{slice_of};
 ghost use Rattle.ndarray_layout.specs.SlicedLayout.{sliced_shape};
 ghost use Rattle.ndarray_layout.specs.View.{view_of};
-ghost use Rattle.ndarray_layout_c.specs.Codes.{fit_named, is_choice};
+ghost use Rattle.ndarray_layout_c.specs.Arguments.{fit_named, is_choice};
 ghost use Rattle.ndarray_layout_c.specs.Elements.{are_elems, elems_named, sliced_view};
 ghost use Rattle.ndarray_layout_c.specs.LayoutFault.{layout_fault_from, own_layout_fault};
-ghost use Rattle.ndarray_layout_c.specs.Status.{bad_argument, ok, out_of_memory, status_until, status_where};
+ghost use Rattle.ndarray_layout_c.specs.Statuses.{bad_argument, ok, out_of_memory, status_until, status_where};
 
 use crate::arguments::{answer_of, fit_named, is_choice};
 use crate::elements::{FEW, RawElem, are_elems, few_elems, many_elems};

@@ -1,6 +1,6 @@
 //! The numbers by which C learns how a call ended.
 ghost use Rattle.std.specs.Prelude.{◌≡◌, ◌≢◌};
-ghost use Rattle.ndarray_layout_c.specs.Status.{number_of, ok, out_of_memory};
+ghost use Rattle.ndarray_layout_c.specs.Statuses.{number_of, ok, out_of_memory};
 
 use ndarray_layout::ErrorKind;
 

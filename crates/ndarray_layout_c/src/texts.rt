@@ -1,7 +1,7 @@
 //! What statuses mean, as text.
 ghost use Rattle.std.specs.Prelude.{◌≡◌, ◌≢◌, ◌+◌, ◌<◌, ◌==◌, ◌||◌, nat_lt, None, Some, length, take, drop, slice_get};
-ghost use Rattle.ndarray_layout_c.specs.Status.{ok, status_where};
-ghost use Rattle.ndarray_layout_c.specs.StatusText.{status_text};
+ghost use Rattle.ndarray_layout_c.specs.Statuses.{ok, status_where};
+ghost use Rattle.ndarray_layout_c.specs.Texts.{status_text};
 
 use crate::statuses::{BAD_ARGUMENT, OK};
 

@@ -1,4 +1,4 @@
-//! Indices, and where they lie.
+//! Indices, and where they lie, and rows of them.
 
 use crate::arguments::index;
 use crate::compare::*;
@@ -46,5 +46,30 @@ fn places() {
     compare!("nd_places", statuses, arguments, |(start, shape, strides, order, room)| {
         let mut places = room.clone();
         (nd_places(*start, shape, strides, *order, &mut places), places)
+    });
+}
+
+/// How many rows a shape has in an order.
+fn count_of_rows(shape: &[usize], order: i32) -> usize {
+    let slower = match shape {
+        [] => shape,
+        [slower @ .., _] if order == 0 => slower,
+        [_, slower @ ..] => slower,
+    };
+    if shape.contains(&0) { 0 } else { layouts::size(slower).min(1_000) as usize }
+}
+
+#[test]
+fn rows() {
+    let arguments = |numbers: &mut Numbers| {
+        let (view, order) = (view(numbers), choice(numbers));
+        let room = room(numbers, count_of_rows(&view.shape, order));
+        (view.start, view.shape, kept(&view.strides), order, room)
+    };
+    let statuses = [OK, INCOMPATIBLE_LAYOUT, OUT_OF_BOUNDS, OVERFLOW, BAD_ARGUMENT];
+    compare!("nd_rows", statuses, arguments, |(start, shape, strides, order, room)| {
+        let (mut starts, mut stride, mut len) = (room.clone(), UNWRITTEN as isize, UNWRITTEN);
+        let status = nd_rows(*start, shape, strides, *order, &mut starts, &mut stride, &mut len);
+        (status, (starts, stride, len))
     });
 }

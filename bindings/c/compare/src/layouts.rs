@@ -10,12 +10,12 @@ fn layout_start() {
         let (shape, strides) = layout(numbers);
         let elem_size = numbers.pick(&[0, 1, 1, 2, 4, 8, 1 << 40, usize::MAX]);
         let len = buffer_len(numbers, &shape, &strides);
-        (elem_size, len, shape, kept(&strides), choice(numbers))
+        (shape, kept(&strides), elem_size, len, choice(numbers))
     };
     let statuses = [OK, INCOMPATIBLE_LAYOUT, OUT_OF_BOUNDS, UNSUPPORTED, OVERFLOW, BAD_ARGUMENT];
-    compare!("nd_layout_start", statuses, arguments, |(elem_size, len, shape, strides, mode)| {
+    compare!("nd_layout_start", statuses, arguments, |(shape, strides, elem_size, len, mode)| {
         let mut start = UNWRITTEN;
-        (nd_layout_start(*elem_size, *len, shape, strides, *mode, &mut start), start)
+        (nd_layout_start(shape, strides, *elem_size, *len, *mode, &mut start), start)
     });
 }
 
@@ -25,11 +25,11 @@ fn check_layout() {
         let view = view(numbers);
         let elem_size = numbers.pick(&[1, 1, 2, 8, 1 << 62]);
         let len = buffer_len(numbers, &view.shape, &view.strides).saturating_add(numbers.below(20));
-        (view.start, elem_size, len, view.shape, kept(&view.strides), choice(numbers))
+        (view.start, view.shape, kept(&view.strides), elem_size, len, choice(numbers))
     };
     let statuses = [OK, INCOMPATIBLE_LAYOUT, OUT_OF_BOUNDS, UNSUPPORTED, OVERFLOW, BAD_ARGUMENT];
-    compare!("nd_check_layout", statuses, arguments, |(start, elem_size, len, shape, strides, mode)| {
-        (nd_check_layout(*start, *elem_size, *len, shape, strides, *mode), ())
+    compare!("nd_check_layout", statuses, arguments, |(start, shape, strides, elem_size, len, mode)| {
+        (nd_check_layout(*start, shape, strides, *elem_size, *len, *mode), ())
     });
 }
 

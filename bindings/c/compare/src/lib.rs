@@ -7,6 +7,7 @@
 #[allow(dead_code)]
 #[path = "../../../../rust/tests/random/arguments.rs"]
 mod arguments;
+mod blocks;
 mod compare;
 mod indices;
 mod layouts;
@@ -28,7 +29,10 @@ include!(concat!(env!("OUT_DIR"), "/exports.rs"));
 /// The exports of the package.
 mod erased {
     pub use crate::ndarray_layout_c::elements::RawElem;
-    pub use crate::ndarray_layout_c::{indices::*, layouts::*, shapes::*, slices::*, texts::*};
+    pub use crate::ndarray_layout_c::{
+        blocks::*, indices::*, intersections::*, layouts::*, rows::*, shapes::*, slices::*, splits::*, texts::*,
+        version::*,
+    };
 }
 
 /// (a call of `proved` that no test makes is dead code, which is an error)

@@ -37,8 +37,8 @@ macro_rules! exports {
 }
 
 exports! {
-    nd_layout_start(elem_size: usize, len: usize, shape: &[usize], strides: &[usize], mode: i32, start: &mut usize);
-    nd_check_layout(start: usize, elem_size: usize, len: usize, shape: &[usize], strides: &[usize], mode: i32);
+    nd_layout_start(shape: &[usize], strides: &[usize], elem_size: usize, len: usize, mode: i32, start: &mut usize);
+    nd_check_layout(start: usize, shape: &[usize], strides: &[usize], elem_size: usize, len: usize, mode: i32);
     nd_has_overlap(shape: &[usize], strides: &[usize], answer: &mut i32);
     nd_default_strides(shape: &[usize], strides: &mut [usize]);
     nd_fortran_strides(shape: &[usize], strides: &mut [usize]);
@@ -48,14 +48,23 @@ exports! {
     nd_place(start: usize, shape: &[usize], strides: &[usize], index: &[usize], place: &mut usize);
     nd_next_index(shape: &[usize], index: &mut [usize], order: i32, has_next: &mut i32);
     nd_places(start: usize, shape: &[usize], strides: &[usize], order: i32, places: &mut [usize]);
+    nd_rows(start: usize, shape: &[usize], strides: &[usize], order: i32, starts: &mut [usize], stride: &mut isize,
+        len: &mut usize);
     nd_slice(start: usize, shape: &[usize], strides: &[usize], elems: &[RawElem], fit: i32, new_start: &mut usize,
         new_shape: &mut [usize], new_strides: &mut [usize]);
     nd_slices_intersect(shape: &[usize], first: &[RawElem], second: &[RawElem], fit: i32, answer: &mut i32);
+    nd_first_intersection(shape: &[usize], elems: &[RawElem], counts: &[usize], fit: i32, pair: &mut [usize],
+        found: &mut i32);
     nd_picked(shape: &[usize], elems: &[RawElem], fit: i32, count: &mut usize);
-    nd_common_shape(first: &[usize], second: &[usize], common: &mut [usize]);
-    nd_broadcast_strides(shape: &[usize], strides: &[usize], target: &[usize], new_strides: &mut [usize]);
+    nd_co_broadcast(first: &[usize], second: &[usize], common: &mut [usize]);
+    nd_broadcast(shape: &[usize], strides: &[usize], target: &[usize], new_strides: &mut [usize]);
     nd_merge_axes(shape: &mut [usize], strides: &mut [usize], take: usize, into: usize, merged: &mut i32);
     nd_reshape(shape: &[usize], strides: &[usize], order: i32, new_shape: &[usize], new_strides: &mut [usize]);
-    nd_permute_axes(shape: &[usize], strides: &[usize], axes: &[usize], new_shape: &mut [usize], new_strides: &mut [usize]);
+    nd_permuted_axes(shape: &[usize], strides: &[usize], axes: &[usize], new_shape: &mut [usize], new_strides: &mut [usize]);
+    nd_windows(shape: &[usize], strides: &[usize], window: &[usize], new_shape: &mut [usize], new_strides: &mut [usize]);
+    nd_exact_chunks(shape: &[usize], strides: &[usize], chunk: &[usize], new_shape: &mut [usize], new_strides: &mut [usize]);
+    nd_split_at(start: usize, shape: &[usize], strides: &[usize], axis: usize, index: usize, new_starts: &mut [usize],
+        new_shapes: &mut [usize], new_strides: &mut [usize]);
+    nd_version(major: &mut i32, minor: &mut i32, patch: &mut i32);
     nd_status_text(status: i32, text: &mut [u8], used: &mut usize);
 }

@@ -5,7 +5,7 @@ use crate::compare::*;
 use crate::numbers::Numbers;
 
 #[test]
-fn common_shape() {
+fn co_broadcast() {
     let arguments = |numbers: &mut Numbers| {
         let first = shape(numbers);
         let mut second = target(numbers, &first);
@@ -17,14 +17,14 @@ fn common_shape() {
         let room = room(numbers, first.len().max(second.len()));
         if numbers.once_in(2) { (second, first, room) } else { (first, second, room) }
     };
-    compare!("nd_common_shape", [OK, INCOMPATIBLE_SHAPE, BAD_ARGUMENT], arguments, |(first, second, room)| {
+    compare!("nd_co_broadcast", [OK, INCOMPATIBLE_SHAPE, BAD_ARGUMENT], arguments, |(first, second, room)| {
         let mut common = room.clone();
-        (nd_common_shape(first, second, &mut common), common)
+        (nd_co_broadcast(first, second, &mut common), common)
     });
 }
 
 #[test]
-fn broadcast_strides() {
+fn broadcast() {
     let arguments = |numbers: &mut Numbers| {
         let (shape, strides) = layout(numbers);
         let target = target(numbers, &shape);
@@ -32,9 +32,9 @@ fn broadcast_strides() {
         (shape, kept(&strides), target, room)
     };
     let statuses = [OK, INCOMPATIBLE_SHAPE, INCOMPATIBLE_LAYOUT, OVERFLOW, BAD_ARGUMENT];
-    compare!("nd_broadcast_strides", statuses, arguments, |(shape, strides, target, room)| {
+    compare!("nd_broadcast", statuses, arguments, |(shape, strides, target, room)| {
         let mut new_strides = room.clone();
-        (nd_broadcast_strides(shape, strides, target, &mut new_strides), new_strides)
+        (nd_broadcast(shape, strides, target, &mut new_strides), new_strides)
     });
 }
 
@@ -69,7 +69,7 @@ fn reshape() {
 }
 
 #[test]
-fn permute_axes() {
+fn permuted_axes() {
     let arguments = |numbers: &mut Numbers| {
         let (shape, strides) = layout(numbers);
         let axes = axes(numbers, &shape);
@@ -77,9 +77,9 @@ fn permute_axes() {
         (shape, kept(&strides), axes, new_shape, new_strides)
     };
     let statuses = [OK, INCOMPATIBLE_SHAPE, INCOMPATIBLE_LAYOUT, OVERFLOW, BAD_ARGUMENT];
-    compare!("nd_permute_axes", statuses, arguments, |(shape, strides, axes, shape_room, strides_room)| {
+    compare!("nd_permuted_axes", statuses, arguments, |(shape, strides, axes, shape_room, strides_room)| {
         let (mut new_shape, mut new_strides) = (shape_room.clone(), strides_room.clone());
-        let status = nd_permute_axes(shape, strides, axes, &mut new_shape, &mut new_strides);
+        let status = nd_permuted_axes(shape, strides, axes, &mut new_shape, &mut new_strides);
         (status, (new_shape, new_strides))
     });
 }

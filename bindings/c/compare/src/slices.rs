@@ -100,3 +100,26 @@ fn picked() {
         (nd_picked(shape, &raw(elems), *fit, &mut count), count)
     });
 }
+
+#[test]
+fn first_intersection() {
+    let arguments = |numbers: &mut Numbers| {
+        let shape = shape(numbers);
+        let slices: Vec<_> = (0..numbers.below(7)).map(|_| elems(numbers, &shape)).collect();
+        let mut counts: Vec<usize> = slices.iter().map(Vec::len).collect();
+        match numbers.below(40) {
+            0 => counts.push(numbers.extreme_len()),
+            1 => drop(counts.pop()),
+            2 if !counts.is_empty() => counts[0] = numbers.extreme_len(),
+            3 if counts.len() > 1 => counts.swap(0, 1),
+            _ => {}
+        }
+        let room = room(numbers, 2);
+        (shape, slices.into_iter().flatten().collect::<Vec<_>>(), counts, choice(numbers), room)
+    };
+    compare!("nd_first_intersection", STATUSES, arguments, |(shape, elems, counts, fit, room)| {
+        let (mut pair, mut found) = (room.clone(), NO_ANSWER);
+        let status = nd_first_intersection(shape, &raw(elems), counts, *fit, &mut pair, &mut found);
+        (status, (pair, found))
+    });
+}

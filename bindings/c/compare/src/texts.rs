@@ -1,4 +1,4 @@
-//! What statuses mean, as text.
+//! What statuses mean, as text, and the version.
 
 use crate::compare::*;
 use crate::numbers::Numbers;
@@ -13,5 +13,13 @@ fn status_text() {
     compare!("nd_status_text", [OK, BAD_ARGUMENT], arguments, |(status, room)| {
         let (mut text, mut used) = (vec![0xa5; *room], UNWRITTEN);
         (nd_status_text(*status, &mut text, &mut used), (text, used))
+    });
+}
+
+#[test]
+fn version() {
+    compare!("nd_version", [OK], |_| (), |()| {
+        let (mut major, mut minor, mut patch) = (NO_ANSWER, NO_ANSWER, NO_ANSWER);
+        (nd_version(&mut major, &mut minor, &mut patch), (major, minor, patch))
     });
 }
