@@ -152,7 +152,7 @@ class BesideNumpy(unittest.TestCase):
             common = outcome(lambda: nd.co_broadcast(a.shape, target))
             self.assertEqual(common, outcome(lambda: np.broadcast_shapes(a.shape, target)))
             expected = outcome(lambda: np.broadcast_to(a, target))
-            ours = outcome(lambda: nd.broadcast_strides(a.shape, strides, target))
+            ours = outcome(lambda: nd.broadcast(a.shape, strides, target))
             if isinstance(expected, str):
                 self.assertEqual(ours, expected)
                 self.seen["errors"] += 1
@@ -214,7 +214,7 @@ class BesideNumpy(unittest.TestCase):
             nbytes, offset = self.numbers.choice((0, *range(121))), self.numbers.randint(0, 60)
             buffer = bytearray(nbytes)
             expected = outcome(lambda: np.ndarray(shape, np.int32, buffer, offset, strides).shape == shape)
-            ours = outcome(lambda: nd.lay_over(nbytes, shape, strides, itemsize=4, offset=offset) == offset)
+            ours = outcome(lambda: nd.lay_over(shape, strides, itemsize=4, nbytes=nbytes, offset=offset) == offset)
             if 0 in shape or nbytes == 0:
                 case = "empty shapes" if 0 in shape else "buffers of no bytes"
                 self.assertFalse(ours is True and expected is not True)
@@ -236,9 +236,10 @@ class BesideNumpy(unittest.TestCase):
             if a.size == 0:
                 continue
             low, high = np.byte_bounds(a)
-            offset = nd.lay_over(high - low, a.shape, a.strides, a.itemsize)
+            offset = nd.lay_over(a.shape, a.strides, itemsize=a.itemsize, nbytes=high - low)
             self.assertEqual(offset, a.__array_interface__["data"][0] - low)
-            self.assertRaises(IndexError, nd.lay_over, high - low - 1, a.shape, a.strides, a.itemsize)
+            with self.assertRaises(IndexError):
+                nd.lay_over(a.shape, a.strides, itemsize=a.itemsize, nbytes=high - low - 1)
             self.seen["arrays"] += 1
 
     def test_shared_elements(self):

@@ -31,11 +31,11 @@ class Rules:
         return ("Overflow", None) if math.prod([length for length in shape if length > 0]) > MAX else OK
 
     @staticmethod
-    def layout(shape, strides, itemsize=1):
+    def layout(shape, strides, elem_size=1):
         if len(shape) != len(strides):
             return ("IncompatibleLayout", None)
         span = sum((length - 1) * abs(stride) for length, stride in zip(shape, strides) if length > 0)
-        return Rules.sized(shape) or (("Overflow", None) if max(span, span * itemsize) > MAX else OK)
+        return Rules.sized(shape) or (("Overflow", None) if max(span, span * elem_size) > MAX else OK)
 
     @staticmethod
     def corners(start, shape, strides):
@@ -44,8 +44,8 @@ class Rules:
         return [start + sum(corner) for corner in product(*ends)]
 
     @staticmethod
-    def accepted(start, length, shape, strides, itemsize, owned):
-        found = Rules.layout(shape, strides, itemsize)
+    def accepted(start, length, shape, strides, elem_size, owned):
+        found = Rules.layout(shape, strides, elem_size)
         if found:
             return found
         if start is None:
@@ -219,13 +219,14 @@ class BesideRules(unittest.TestCase):
     def test_layouts(self):
         for _ in range(CALLS):
             shape, numbers = self.shape(), self.numbers
-            strides, owned, itemsize = self.strides(shape), numbers.random() < 0.5, numbers.choice((0, 1, 8, 2**40))
+            strides, owned, elem_size = self.strides(shape), numbers.random() < 0.5, numbers.choice((0, 1, 8, 2**40))
             length = numbers.choice((numbers.randint(0, 150), 2**64 - 1, MAX))
-            expected = Rules.accepted(None, length, shape, strides, itemsize, owned)
-            self.compare(expected, nd.layout_start, shape, strides, length, itemsize, owned)
+            sizes = {"elem_size": elem_size, "length": length, "owned": owned}
+            expected = Rules.accepted(None, length, shape, strides, elem_size, owned)
+            self.compare(expected, nd.layout_start, shape, strides, **sizes)
             start = numbers.choice((0, numbers.randint(0, 30), numbers.randint(0, 150), MAX))
-            expected = Rules.accepted(start, length, shape, strides, itemsize, owned)
-            self.compare(expected, nd.check_layout, start, shape, strides, length, itemsize, owned)
+            expected = Rules.accepted(start, length, shape, strides, elem_size, owned)
+            self.compare(expected, nd.check_layout, start, shape, strides, **sizes)
 
     def test_shapes_alone(self):
         for _ in range(CALLS):
@@ -270,7 +271,7 @@ class BesideRules(unittest.TestCase):
             target = self.shape()[:2] + target if self.numbers.random() < 0.8 else self.shape()
             self.compare(Rules.common(shape, target), nd.co_broadcast, shape, target)
             expected = Rules.layout(shape, strides) or Rules.target(shape, target)
-            self.compare(expected, nd.broadcast_strides, shape, strides, target)
+            self.compare(expected, nd.broadcast, shape, strides, target)
 
     def test_merges_and_permutations(self):
         for _ in range(CALLS):
@@ -297,7 +298,7 @@ class BesideRules(unittest.TestCase):
             if numbers.random() < 0.1:
                 new_shape = self.shape()
             expected = Rules.layout(shape, strides) or Rules.reshaped(shape, strides, order, new_shape)
-            self.compare(expected, nd.reshape_dim, shape, strides, new_shape, order)
+            self.compare(expected, nd.reshape, shape, strides, new_shape, order)
 
 
 class Texts(unittest.TestCase):
@@ -318,7 +319,7 @@ class Texts(unittest.TestCase):
         text = "size 2**64 is above the limit 2**63 - 1"
         self.assert_error(text, {"size": 2**64}, nd.default_strides, (2**32, 2**32))
         text = "the layout needs 6 elements of 5"
-        self.assert_error(text, {"needed": 6, "length": 5}, nd.lay_over, 23, (2, 3), (-12, 4), itemsize=4)
+        self.assert_error(text, {"needed": 6, "length": 5}, nd.lay_over, (2, 3), (-12, 4), itemsize=4, nbytes=23)
         text = "Unsupported: axis 0: stride 2 isn't past 3, the reach of the axes with no greater stride"
         self.assert_error(text, {"stride": 2, "reach": 3}, nd.layout_start, (2, 4), (2, 1), length=9, owned=True)
 
@@ -366,7 +367,7 @@ class AsNumpyTakesThem(unittest.TestCase):
     def test_a_number_is_a_shape(self):
         self.assertEqual(nd.default_strides(5), (1,))
         self.assertEqual(nd.layout_start(5, -1, length=5), 4)
-        self.assertEqual(nd.reshape_dim((2, 3), (3, 1), 6), (1,))
+        self.assertEqual(nd.reshape((2, 3), (3, 1), 6), (1,))
         self.assertEqual(nd.place(4, 5, -1, 3), 1)
         self.assertRaises(TypeError, nd.default_strides, 5.0)
         self.assertRaises(OverflowError, nd.default_strides, -5)
@@ -375,14 +376,14 @@ class AsNumpyTakesThem(unittest.TestCase):
         columns, rows, line = ((2, 3), (1, 2)), ((2, 3), (3, 1)), ((3,), (1,))
         for order in ("f", "A", "a"):
             self.assertEqual(nd.places(0, *columns, order), tuple(range(6)))
-            self.assertEqual(nd.reshape_dim(*columns, 6, order), (1,))
+            self.assertEqual(nd.reshape(*columns, 6, order), (1,))
         for order in ("c", "A", "a"):
             self.assertEqual(nd.places(0, *rows, order), tuple(range(6)))
-            self.assertEqual(nd.reshape_dim(*rows, 6, order), (1,))
-            self.assertEqual(nd.reshape_dim(*line, (3, 1), order), nd.reshape_dim(*line, (3, 1), "C"))
+            self.assertEqual(nd.reshape(*rows, 6, order), (1,))
+            self.assertEqual(nd.reshape(*line, (3, 1), order), nd.reshape(*line, (3, 1), "C"))
         self.assertEqual(nd.next_index((2, 3), (0, 2), "f"), (1, 2))
         for wrong in ("K", "", "CF", "Fortran"):
-            self.assertRaises(ValueError, nd.reshape_dim, *rows, 6, wrong)
+            self.assertRaises(ValueError, nd.reshape, *rows, 6, wrong)
 
 
 if __name__ == "__main__":

@@ -29,10 +29,10 @@ def setUpModule():
 
 class Accepted(unittest.TestCase):
     def test_over(self):
-        self.assertEqual(Layout.over(6, (2, 3)), Layout(0, (2, 3), (3, 1), 6))
-        self.assertEqual(Layout.over(6, (2, 3), order="F"), Layout(0, (2, 3), (1, 2), 6))
-        self.assertEqual(Layout.over(6, (2, 3), (-3, 1), owned=True), Layout(3, (2, 3), (-3, 1), 6, True))
-        self.assertEqual(Layout.over(9, 3, 2, start=1), Layout(1, (3,), (2,), 9))
+        self.assertEqual(Layout.over(6, (2, 3)), Layout(0, (2, 3), (3, 1), length=6))
+        self.assertEqual(Layout.over(6, (2, 3), order="F"), Layout(0, (2, 3), (1, 2), length=6))
+        self.assertEqual(Layout.over(6, (2, 3), (-3, 1), owned=True), Layout(3, (2, 3), (-3, 1), length=6, owned=True))
+        self.assertEqual(Layout.over(9, 3, 2, start=1), Layout(1, (3,), (2,), length=9))
         self.assertEqual(Layout.over(bytearray(24), (4, 6)).length, 24)
         self.assertEqual(Layout.over(array.array("q", range(6)), (2, 3)).length, 6)
         self.assertRaises(IndexError, Layout.over, 5, (2, 3))
@@ -45,9 +45,10 @@ class Accepted(unittest.TestCase):
     def test_every_layout_is_accepted(self):
         """The constructor accepts too: none can be made that leaves its elements."""
         for start, shape, strides, length in ((2, (2,), (1,), 3), (0, (2,), (-1,), 3), (0, (2,), (1, 1), 3)):
-            self.assertRaises((IndexError, ShapeError), Layout, start, shape, strides, length)
-        self.assertRaises(ShapeError, Layout, 0, (3, 2), (2, 3), 9, owned=True)
-        layout = Layout(0, [2, 3], iter((3, 1)), 6)
+            self.assertRaises((IndexError, ShapeError), Layout, start, shape, strides, length=length)
+        self.assertRaises(ShapeError, Layout, 0, (3, 2), (2, 3), length=9, owned=True)
+        self.assertRaises(TypeError, Layout, 0, (3, 2), (2, 3), 9)
+        layout = Layout(0, [2, 3], iter((3, 1)), length=6)
         self.assertEqual((layout.shape, layout.strides), ((2, 3), (3, 1)))
         for field in dataclasses.fields(layout):
             with self.assertRaises(dataclasses.FrozenInstanceError):
@@ -67,9 +68,9 @@ class Accepted(unittest.TestCase):
 
     def test_of(self):
         view = memoryview(array.array("i", range(9)))
-        self.assertEqual(Layout.of(view[::-2]), Layout(8, (5,), (-2,), 9))
-        self.assertEqual(Layout.of(b"abc"), Layout(0, (3,), (1,), 3))
-        self.assertEqual(Layout.of(view.cast("B").cast("i", (3, 3))), Layout(0, (3, 3), (3, 1), 9))
+        self.assertEqual(Layout.of(view[::-2]), Layout(8, (5,), (-2,), length=9))
+        self.assertEqual(Layout.of(b"abc"), Layout(0, (3,), (1,), length=3))
+        self.assertEqual(Layout.of(view.cast("B").cast("i", (3, 3))), Layout(0, (3, 3), (3, 1), length=9))
 
 
 class Methods(unittest.TestCase):
@@ -79,9 +80,9 @@ class Methods(unittest.TestCase):
         for made in (self.LAYOUT[1], self.LAYOUT.T, self.LAYOUT.reshape(-1), self.LAYOUT.slice([0, Slice(), Slice()])):
             self.assertTrue(made.owned)
             self.assertEqual(made.length, 24)
-        self.assertFalse(self.LAYOUT.broadcast_to((5, 2, 3, 4)).owned)
+        self.assertFalse(self.LAYOUT.broadcast((5, 2, 3, 4)).owned)
         self.assertFalse(self.LAYOUT.has_overlap)
-        self.assertTrue(self.LAYOUT.broadcast_to((5, 2, 3, 4)).has_overlap)
+        self.assertTrue(self.LAYOUT.broadcast((5, 2, 3, 4)).has_overlap)
 
     def test_slices(self):
         self.assertEqual(self.LAYOUT[1, ..., ::-2].places(), (15, 13, 19, 17, 23, 21))
@@ -97,7 +98,7 @@ class Methods(unittest.TestCase):
         self.assertEqual(self.LAYOUT.T.reshape(24, order="A").strides, (1,))
         self.assertRaises(ShapeError, self.LAYOUT.T.reshape, 24)
         self.assertEqual(self.LAYOUT.transpose(), self.LAYOUT.T)
-        self.assertEqual(self.LAYOUT.transpose(2, 0, 1), self.LAYOUT.permute((2, 0, 1)))
+        self.assertEqual(self.LAYOUT.transpose(2, 0, 1), self.LAYOUT.permuted_axes((2, 0, 1)))
         self.assertEqual(self.LAYOUT.transpose((-1, 0, 1)).shape, (4, 2, 3))
         self.assertRaises(IndexError, self.LAYOUT.transpose, 3, 0, 1)
         self.assertRaises(ShapeError, self.LAYOUT.transpose, 0, 0, 1)
@@ -110,7 +111,10 @@ class Methods(unittest.TestCase):
     def test_rows(self):
         self.assertEqual(list(Layout.over(1, ()).rows()), [Row(0, 0, 1)])
         self.assertEqual(list(Layout.over(1, (3, 0)).rows()), [])
-        self.assertEqual(next(Layout.over(3, 3).broadcast_to((2**61, 1, 3)).rows()), Row(0, 1, 3))
+        self.assertEqual(list(Layout.over(6, (2, 3)).rows("F")), [Row(0, 3, 2), Row(1, 3, 2), Row(2, 3, 2)])
+        self.assertEqual(list(Layout.over(6, (2, 3), order="F").rows("A")), [Row(0, 1, 2), Row(2, 1, 2), Row(4, 1, 2)])
+        self.assertRaises(MemoryError, Layout.over(3, 3).broadcast((2**61, 1, 3)).rows)
+        self.assertRaises(IndexError, nd.rows, 0, (2, 3), (-3, 1))
         self.assertEqual(list(self.LAYOUT[:, ::2, ::-3].rows()), [Row(k, -3, 2) for k in (3, 11, 15, 23)])
 
     def test_random_layouts(self):
@@ -147,7 +151,7 @@ class Memoryviews(unittest.TestCase):
         self.assertEqual(layout[1:].as_memoryview(self.ITEMS).tolist(), [[4, 5, 6, 7], [8, 9, 10, 11]])
         self.assertEqual(layout[1, 2].as_memoryview(self.ITEMS).tolist(), 6)
         self.assertRaises(ShapeError, layout.T.as_memoryview, self.ITEMS)
-        self.assertRaises(ShapeError, Layout.over(12, 1).broadcast_to(3).as_memoryview, self.ITEMS)
+        self.assertRaises(ShapeError, Layout.over(12, 1).broadcast(3).as_memoryview, self.ITEMS)
         self.assertRaises(IndexError, layout.as_memoryview, self.ITEMS[:11])
 
     def test_one_axis(self):
@@ -201,7 +205,7 @@ class Arrays(unittest.TestCase):
     def test_only_to_be_read(self):
         numbers = np.zeros(3)
         self.assertFalse(Layout.over(3, 3).as_array(numbers).flags.writeable)
-        self.assertFalse(Layout.over(3, 3, owned=True).broadcast_to((2, 3)).as_array(numbers).flags.writeable)
+        self.assertFalse(Layout.over(3, 3, owned=True).broadcast((2, 3)).as_array(numbers).flags.writeable)
         Layout.over(3, 3, owned=True).as_array(numbers)[:] = 1
         self.assertEqual(numbers.tolist(), [1, 1, 1])
         self.assertFalse(Layout.over(3, 3, owned=True).as_array(b"abc").flags.writeable)
@@ -216,7 +220,7 @@ class Arrays(unittest.TestCase):
 
     def test_of(self):
         a = np.arange(24, dtype=np.int32).reshape(2, 3, 4)
-        self.assertEqual(Layout.of(a[::-1, 1:, ::2]), Layout(12, (2, 2, 2), (-12, 4, 2), 19))
+        self.assertEqual(Layout.of(a[::-1, 1:, ::2]), Layout(12, (2, 2, 2), (-12, 4, 2), length=19))
         self.assertEqual(Layout.of(a[:, :0]).size, 0)
         self.assertRaises(ShapeError, Layout.of, np.broadcast_to(a, (2, 2, 3, 4)), owned=True)
         records = np.zeros(3, [("key", np.int32), ("text", "S3")])

@@ -70,7 +70,7 @@ class WorkedRows(Case):
         self.assert_kind("Unsupported", nd.layout_start, (3, 2), (2, 3), length=8, owned=True)
         self.assertEqual(nd.layout_start((3, 2), (2, 3), length=8), 0)
         self.assertRaises(OverflowError, nd.layout_start, (1, MAX, 2), (1, 1, 1), length=MAX)
-        self.assertRaises(OverflowError, nd.layout_start, (3,), (1,), length=3, itemsize=MAX)
+        self.assertRaises(OverflowError, nd.layout_start, (3,), (1,), length=3, elem_size=MAX)
         self.assertEqual(nd.layout_start((1, 2), (MIN, 1), length=2, owned=True), 0)
         self.assert_kind("IncompatibleLayout", nd.layout_start, (2,), (1, 1), length=9)
         self.assertTrue(nd.has_overlap((3, 2), (2, 3)))
@@ -104,9 +104,9 @@ class WorkedRows(Case):
     def test_shapes(self):
         self.assertEqual(nd.co_broadcast((2, 1, 1), (0, 0, 1, 3, 4)), (0, 0, 2, 3, 4))
         self.assert_kind("IncompatibleShape", nd.co_broadcast, (1, 2, 2), (1, 3, 4))
-        self.assertEqual(nd.broadcast_strides((1, 3), (3, 1), (0, 3)), (0, 1))
-        self.assert_kind("IncompatibleShape", nd.broadcast_strides, (2, 3), (3, 1), (0, 3))
-        self.assertRaises(OverflowError, nd.broadcast_strides, (1,), (1,), (MAX, 2))
+        self.assertEqual(nd.broadcast((1, 3), (3, 1), (0, 3)), (0, 1))
+        self.assert_kind("IncompatibleShape", nd.broadcast, (2, 3), (3, 1), (0, 3))
+        self.assertRaises(OverflowError, nd.broadcast, (1,), (1,), (MAX, 2))
         self.assertEqual(nd.merge_axes((3, 2), (2, 1), 0, 1), ((1, 6), (2, 1)))
         self.assertIsNone(nd.merge_axes((3, 2), (2, 1), 1, 0))
         self.assertRaises(IndexError, nd.merge_axes, (3, 2), (2, 1), 2, 0)
@@ -116,15 +116,15 @@ class WorkedRows(Case):
 
     def test_reshapes(self):
         wide = 3074457345618258602
-        self.assertEqual(nd.reshape_dim((4,), (wide,), (2, 2)), (2 * wide, wide))
-        self.assertEqual(nd.reshape_dim((6, 2), (2, 1), (4, 1, 3)), (3, 3, 1))
-        self.assertEqual(nd.reshape_dim((16,), (-4,), (2, 2, 4), order="F"), (-4, -8, -16))
-        self.assertEqual(nd.reshape_dim((1, 10), (10, 1), (1, 10, 1, 1, 1)), (10, 1, 1, 1, 1))
-        self.assertEqual(nd.reshape_dim((0, 2), (0, 0), (5, 0)), (0, 0))
-        self.assert_kind("IncompatibleLayout", nd.reshape_dim, (4, 4), (8, 1), (3, 5))
-        self.assert_kind("IncompatibleShape", nd.reshape_dim, (1, 2, 3), (6, 3, 1), (1,))
-        self.assert_kind("IncompatibleShape", nd.reshape_dim, (5, 0), (0, 0), (1,))
-        self.assertRaises(OverflowError, nd.reshape_dim, (6,), (1,), (MAX, 2))
+        self.assertEqual(nd.reshape((4,), (wide,), (2, 2)), (2 * wide, wide))
+        self.assertEqual(nd.reshape((6, 2), (2, 1), (4, 1, 3)), (3, 3, 1))
+        self.assertEqual(nd.reshape((16,), (-4,), (2, 2, 4), order="F"), (-4, -8, -16))
+        self.assertEqual(nd.reshape((1, 10), (10, 1), (1, 10, 1, 1, 1)), (10, 1, 1, 1, 1))
+        self.assertEqual(nd.reshape((0, 2), (0, 0), (5, 0)), (0, 0))
+        self.assert_kind("IncompatibleLayout", nd.reshape, (4, 4), (8, 1), (3, 5))
+        self.assert_kind("IncompatibleShape", nd.reshape, (1, 2, 3), (6, 3, 1), (1,))
+        self.assert_kind("IncompatibleShape", nd.reshape, (5, 0), (0, 0), (1,))
+        self.assertRaises(OverflowError, nd.reshape, (6,), (1,), (MAX, 2))
 
 
 class BadArguments(Case):
@@ -139,7 +139,7 @@ class BadArguments(Case):
             self.assertRaises(OverflowError, nd.picked, (2,), [Slice(0, None, stride)])
         for number in (-1, 2**64):
             self.assertRaises(OverflowError, nd.layout_start, (2,), (1,), length=number)
-            self.assertRaises(OverflowError, nd.layout_start, (2,), (1,), length=9, itemsize=number)
+            self.assertRaises(OverflowError, nd.layout_start, (2,), (1,), length=9, elem_size=number)
             self.assertRaises(OverflowError, nd.place, number, (2,), (1,), (0,))
             self.assertRaises(OverflowError, nd.merge_axes, (2, 3), (3, 1), number, 0)
         self.assertEqual(nd.check_layout(MAX, (1,), (1,), length=2**64 - 1), None)
@@ -152,7 +152,7 @@ class BadArguments(Case):
         self.assertRaises(ValueError, nd.next_index, (2,), (1,), order="A")
         self.assertRaises(ValueError, nd.element_strides, (8, 4), 8)
         self.assertRaises(ValueError, nd.element_strides, (8,), 0)
-        self.assertRaises(ValueError, nd.lay_over, 24, (2,), (6,), itemsize=4)
+        self.assertRaises(ValueError, nd.lay_over, (2,), (4,), itemsize=0, nbytes=24)
         self.assertRaises(ValueError, nd.reshape_without_copy, ROWS, (12,), order="")
 
     def test_keys(self):
@@ -259,7 +259,7 @@ class Checked:
             self.addCleanup(setattr, call, "argtypes", None)
 
     def test_arguments_are_looked_at(self):
-        self.assertEqual(len(library.exports), 19)
+        self.assertEqual(len(library.exports), 24)
         nothing, answer = (b"", count_of(0)), one_answer()
         library.has_overlap(*nothing, *nothing, answer)
         self.assertRaises(TypeError, library.has_overlap, *nothing, *nothing)

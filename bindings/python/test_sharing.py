@@ -79,7 +79,7 @@ class Bounds(unittest.TestCase):
         keys = (..., 0), (30,) * 6 + (1,)
         array = SimpleNamespace(shape=(*shape, 2), strides=(*strides, 1), itemsize=1)
         whole, point = (*keys[0], slice(0, 1)), (*keys[1], slice(0, 1))
-        layout = Layout(0, array.shape, array.strides, 2**62)
+        layout = Layout(0, array.shape, array.strides, length=2**62)
 
         def by_array(max_work):
             return nd.share_element(array, whole, point, max_work)

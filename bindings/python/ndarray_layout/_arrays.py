@@ -50,29 +50,52 @@ class Array(Protocol):
 
 
 def lay_over(
-    nbytes: int, shape: Numbers, strides: Numbers, itemsize: int, offset: Optional[int] = None, owned: bool = False
+    shape: Numbers,
+    strides: Numbers,
+    *,
+    itemsize: int,
+    nbytes: int,
+    offset: Optional[int] = None,
+    owned: bool = False,
 ) -> int:
     """The offset of element (0, .., 0) of an array with these strides, in bytes, over a buffer of `nbytes` bytes.
 
-    Strides and `offset` count in bytes. Without an offset the lowest element begins at byte 0. Raises `ValueError`
-    where a stride is no multiple of the item size, and what `layout_start` does where the array doesn't lie within the
-    buffer. What it returns is what `numpy.ndarray(shape, dtype, buffer, offset, strides)` takes.
+    Strides and `offset` count in bytes. Without an offset the lowest element begins at byte 0. Raises what
+    `layout_start` does where the array doesn't lie within the buffer. What it returns is what
+    `numpy.ndarray(shape, dtype, buffer, offset, strides)` takes.
 
-    >>> lay_over(24, (2, 3), (-12, 4), itemsize=4)
+    A stride may be no multiple of the item size, as that of a field of packed records is. The layout is one of bytes
+    then, with an axis more, and errors count bytes.
+
+    >>> lay_over((2, 3), (-12, 4), itemsize=4, nbytes=24)
     12
-    >>> lay_over(23, (2, 3), (-12, 4), itemsize=4)
+    >>> lay_over((2, 3), (-12, 4), itemsize=4, nbytes=23)
     Traceback (most recent call last):
     ndarray_layout.OutOfBoundsError: the layout needs 6 elements of 5
+    >>> lay_over(3, 7, itemsize=4, nbytes=20, offset=2, owned=True)    # of 4 bytes in each 7, the last at 16
+    2
     """
-    steps = element_strides(strides, itemsize)
-    if offset is None:
-        return itemsize * layout_start(shape, steps, nbytes // itemsize, itemsize, owned)
-    if not 0 <= offset <= nbytes:
-        numbers = {"offset": offset, "nbytes": nbytes}
-        raise OutOfBoundsError("OutOfBounds", f"offset {offset} lies outside of {nbytes} bytes", None, numbers)
-    start, below = divmod(offset, itemsize)
-    check_layout(start, shape, steps, (nbytes - below) // itemsize, itemsize, owned)
-    return offset
+    numbers = strides if type(strides) is tuple else listing(strides)
+    if itemsize < 1:
+        raise ValueError(f"the item size {itemsize} isn't above 0")
+    if offset is not None and not 0 <= offset <= nbytes:
+        outside = {"offset": offset, "nbytes": nbytes}
+        raise OutOfBoundsError("OutOfBounds", f"offset {offset} lies outside of {nbytes} bytes", None, outside)
+    if gcd(itemsize, *numbers) != itemsize:
+        return _start_over((*listing(shape), itemsize), (*numbers, 1), 1, nbytes, offset, owned)
+    start, below = (None, 0) if offset is None else divmod(offset, itemsize)
+    steps = tuple([stride // itemsize for stride in numbers])
+    return itemsize * _start_over(shape, steps, itemsize, (nbytes - below) // itemsize, start, owned) + below
+
+
+def _start_over(
+    shape: Numbers, steps: Lens, elem_size: int, length: int, start: Optional[int], owned: bool
+) -> int:
+    """The start that is given, where the layout lies over so many elements, or the lowest one."""
+    if start is None:
+        return layout_start(shape, steps, elem_size=elem_size, length=length, owned=owned)
+    check_layout(start, shape, steps, elem_size=elem_size, length=length, owned=owned)
+    return start
 
 
 def share_element(a: Array, first: Any, second: Any, max_work: Optional[int] = MAX_WORK) -> bool:
@@ -109,7 +132,7 @@ def share_element(a: Array, first: Any, second: Any, max_work: Optional[int] = M
 def _share_byte(a: Array, first: Any, second: Any, max_work: Optional[int]) -> bool:
     """`share_element` of an array whose elements may overlap."""
     shape, strides = tuple(a.shape), tuple(a.strides)
-    start = layout_start(shape, strides, LIMIT + 1)
+    start = layout_start(shape, strides, length=LIMIT + 1)
     refusal = f"elements of shape {shape} and strides {strides} may overlap"
     if max_work == 0:
         raise ShapeError("Unsupported", refusal)
@@ -125,7 +148,7 @@ def reshape_without_copy(a: Array, new_shape: Numbers, order: Optional[str] = "C
 
     `a` has a `shape`, `strides` and an `itemsize`. One new length may be -1, as in NumPy. With the new strides `a`
     equals `a.reshape(new_shape, order=..)` in the order that is returned. That is 'C' where no order is given, as in
-    NumPy. The order `None` asks for 'C' if no element has to be moved then, else for 'F'. Raises what `reshape_dim`
+    NumPy. The order `None` asks for 'C' if no element has to be moved then, else for 'F'. Raises what `reshape`
     does, of the first order that is tried, and `ValueError` where a stride is no multiple of the item size.
 
     >>> class Columns: shape, strides, itemsize = (4, 3), (8, 32), 8

@@ -7,14 +7,16 @@ from functools import cached_property
 from math import prod
 from numbers import Integral
 from operator import index as as_int
-from typing import TYPE_CHECKING, Any, Iterable, Iterator, NamedTuple, Optional, SupportsIndex, Union
+from typing import TYPE_CHECKING, Any, Iterator, Optional, Sequence, SupportsIndex
 
 from ._arrays import element_strides, without_minus_one
 from ._errors import OutOfBoundsError, ShapeError
 from ._layouts import (
+    Row,
     check_layout,
     default_strides,
     fortran_strides,
+    has_distinct_places,
     has_overlap,
     is_contiguous,
     is_layout_c,
@@ -22,25 +24,18 @@ from ._layouts import (
     layout_start,
     place,
     places,
+    rows,
 )
 from ._numbers import LIMIT, Lens, Numbers, listing, order_number
-from ._shapes import broadcast_strides, permuted_axes, reshape_dim
+from ._shapes import broadcast, exact_chunks, permuted_axes, reshape, split_at, windows
 from ._sharing import MAX_WORK, share_byte
-from ._slices import Elems, Slice, View, basic_key, slice_by_key, slice_view, slices_intersect
+from ._slices import Elems, Slice, View, basic_key, first_intersection, slice_by_key, slice_view, slices_intersect
 
 if TYPE_CHECKING:
     import numpy
 
 
-class Row(NamedTuple):
-    """A run of places: the first one, the stride to the next, and how many there are."""
-
-    start: int
-    stride: int
-    length: int
-
-
-@dataclass(frozen=True)
+@dataclass(frozen=True, init=False)
 class Layout:
     """A layout that was accepted over `length` elements, so every index lies within them.
 
@@ -66,11 +61,13 @@ class Layout:
     length: int
     owned: bool = False
 
-    def __post_init__(self) -> None:
-        shape, strides = tuple(map(as_int, listing(self.shape))), tuple(map(as_int, listing(self.strides)))
-        check_layout(self.start, shape, strides, self.length, owned=self.owned)
-        self.__dict__.update(start=as_int(self.start), shape=shape, strides=strides, length=as_int(self.length))
-        self.__dict__.update(owned=bool(self.owned))
+    def __init__(
+        self, start: SupportsIndex, shape: Numbers, strides: Numbers, *, length: SupportsIndex, owned: bool = False
+    ) -> None:
+        lens, steps = tuple(map(as_int, listing(shape))), tuple(map(as_int, listing(strides)))
+        check_layout(start, lens, steps, length=length, owned=owned)
+        self.__dict__.update(start=as_int(start), shape=lens, strides=steps)
+        self.__dict__.update(length=as_int(length), owned=bool(owned))
 
     def _kept(self, start: int, shape: Lens, strides: Lens, owned: bool) -> Layout:
         """What a call made of this layout, which is accepted by that call's promise."""
@@ -101,20 +98,20 @@ class Layout:
         >>> Layout.over(6, 6, -1).start
         5
         """
-        length, itemsize = _items(buffer)
+        length, elem_size = _items(buffer)
         lens = listing(shape)
         if strides is None:
             steps = (default_strides, fortran_strides)[order_number(order)](lens)
         else:
             steps = listing(strides)
         if start is None:
-            start = layout_start(lens, steps, length, itemsize, owned)
+            start = layout_start(lens, steps, elem_size=elem_size, length=length, owned=owned)
         else:
-            check_layout(start, lens, steps, length, itemsize, owned)
-        return Layout(as_int(start), lens, steps, length, owned)
+            check_layout(start, lens, steps, elem_size=elem_size, length=length, owned=owned)
+        return Layout(start, lens, steps, length=length, owned=owned)
 
     @staticmethod
-    def of(array: Any, owned: bool = False) -> Layout:
+    def of(array: Any, *, owned: bool = False) -> Layout:
         """The layout of an array, or of what a `memoryview` shows, over its elements from the lowest to the highest.
 
         Raises `ValueError` where a stride is no multiple of the item size, and `ShapeError` where it is to be owned
@@ -127,9 +124,9 @@ class Layout:
         if getattr(view, "suboffsets", ()):
             raise ShapeError("Unsupported", "a layout has no suboffsets")
         shape, strides = tuple(view.shape), element_strides(view.strides, view.itemsize)
-        start = layout_start(shape, strides, LIMIT + 1, view.itemsize, owned)
+        start = layout_start(shape, strides, elem_size=view.itemsize, length=LIMIT + 1, owned=owned)
         span = sum(max(length - 1, 0) * abs(stride) for length, stride in zip(shape, strides))
-        return Layout(start, shape, strides, span + (0 not in shape), owned)
+        return Layout(start, shape, strides, length=span + (0 not in shape), owned=owned)
 
     # ---- What it is
 
@@ -182,24 +179,53 @@ class Layout:
     def reshape(self, shape: Numbers, order: str = "C") -> Layout:
         """The same places in an order along another shape, one length of which may be -1.
 
-        Raises what `reshape_dim` does.
+        Raises what `reshape` does.
 
         >>> Layout.over(6, (2, 3)).reshape((3, -1)).shape
         (3, 2)
         """
         lens = without_minus_one(self.shape, tuple(map(as_int, listing(shape))))
-        return self._kept(self.start, lens, reshape_dim(self.shape, self.strides, lens, order), self.owned)
+        return self._kept(self.start, lens, reshape(self.shape, self.strides, lens, order), self.owned)
 
-    def broadcast_to(self, shape: Numbers) -> Layout:
+    def broadcast(self, shape: Numbers) -> Layout:
         """The layout read as one of another shape. It isn't owned: all coordinates of a new axis have one place.
 
-        >>> Layout.over(3, 3).broadcast_to((2, 3))
+        >>> Layout.over(3, 3).broadcast((2, 3))
         Layout(start=0, shape=(2, 3), strides=(0, 1), length=3, owned=False)
         """
         lens = tuple(map(as_int, listing(shape)))
-        return self._kept(self.start, lens, broadcast_strides(self.shape, self.strides, lens), False)
+        return self._kept(self.start, lens, broadcast(self.shape, self.strides, lens), False)
 
-    def permute(self, axes: Numbers) -> Layout:
+    def windows(self, window: Numbers) -> Layout:
+        """All windows of a shape: first the index of the window, then the index in it. Raises what `windows` does.
+
+        It isn't owned: windows overlap.
+
+        >>> Layout.over(5, 5).windows(3)
+        Layout(start=0, shape=(3, 3), strides=(1, 1), length=5, owned=False)
+        """
+        return self._kept(self.start, *windows(self.shape, self.strides, window), False)
+
+    def exact_chunks(self, chunk: Numbers) -> Layout:
+        """The chunks of a shape that lie side by side: first the number of the chunk, then the index in it.
+
+        What is left over at the end of an axis is left out. Raises what `exact_chunks` does.
+
+        >>> Layout.over(7, 7, owned=True).exact_chunks(3)
+        Layout(start=0, shape=(2, 3), strides=(3, 1), length=7, owned=True)
+        """
+        return self._kept(self.start, *exact_chunks(self.shape, self.strides, chunk), self.owned)
+
+    def split_at(self, axis: SupportsIndex, index: SupportsIndex) -> tuple[Layout, Layout]:
+        """The coordinates of an axis below an index, and those from it on. Raises what `split_at` does.
+
+        >>> [part.places() for part in Layout.over(6, (2, 3)).split_at(axis=1, index=1)]
+        [(0, 3), (1, 2, 4, 5)]
+        """
+        first, second = split_at(self.start, self.shape, self.strides, axis, index)
+        return self._kept(*first, self.owned), self._kept(*second, self.owned)
+
+    def permuted_axes(self, axes: Numbers) -> Layout:
         """The axes in another order: axis k is axis `axes[k]`. Raises what `permuted_axes` does."""
         return self._kept(self.start, *permuted_axes(self.shape, self.strides, axes), self.owned)
 
@@ -211,8 +237,8 @@ class Layout:
         """
         listed = listing(axes[0]) if len(axes) == 1 and axes[0] is not None else axes
         if listed in ((), (None,)):
-            return self.permute(range(self.ndim)[::-1])
-        return self.permute([_axis(axis, self.ndim) for axis in listed])
+            return self.permuted_axes(range(self.ndim)[::-1])
+        return self.permuted_axes([_axis(axis, self.ndim) for axis in listed])
 
     @property
     def T(self) -> Layout:
@@ -229,21 +255,29 @@ class Layout:
         """The places of all indices, in an order. Takes time and memory for each index."""
         return places(self.start, self.shape, self.strides, order)
 
-    def rows(self) -> Iterator[Row]:
-        """The runs of the last axis, in row-major order: what a loop over the elements needs.
+    def rows(self, order: str = "C") -> Iterator[Row]:
+        """The places along the axis that moves fastest in an order, for each index of the others, in that order.
 
-        No call is made for each. An index of no axes is a run of one.
+        One call is made for all. It takes time, and memory for a number, for each row.
 
         >>> list(Layout.over(6, (2, 3), (-3, 1)).rows())
         [Row(start=3, stride=1, length=3), Row(start=0, stride=1, length=3)]
         """
-        if 0 in self.shape:
-            return iter(())
-        starts: Iterable[int] = (self.start,)
-        for length, stride in zip(self.shape[:-1], self.strides[:-1]):
-            starts = _steps_from(starts, length, stride)
-        stride, length = (self.strides[-1], self.shape[-1]) if self.shape else (0, 1)
-        return (Row(start, stride, length) for start in starts)
+        return rows(self.start, self.shape, self.strides, order)
+
+    def has_distinct_places(self, max_work: Optional[int] = MAX_WORK) -> bool:
+        """Whether no two indices have one place: exact. An owned layout has distinct places."""
+        return self.owned or has_distinct_places(self.shape, self.strides, max_work)
+
+    def first_intersection(self, keys: Sequence[Any]) -> Optional[tuple[int, int]]:
+        """Two slices by NumPy's keys that share an index: their positions, the less first; `None` if no two do.
+
+        Where the layout has distinct places these are the slices that share one. See `first_intersection`.
+
+        >>> Layout.over(6, (2, 3)).first_intersection([0, (1, 0), (..., -1)])
+        (0, 2)
+        """
+        return first_intersection(self.shape, [basic_key(self.shape, key) for key in keys])
 
     def intersects(self, first: Any, second: Any, max_work: Optional[int] = MAX_WORK) -> bool:
         """Whether two slices by NumPy's keys share a place: exact. See `share_element` for `max_work`.
@@ -304,11 +338,11 @@ class Layout:
         run = items[self.start : self.start + self.size]
         return run.cast("B").cast(items.format, self.shape)
 
-    def _check_room(self, items: int, itemsize: int) -> None:
+    def _check_room(self, items: int, elem_size: int) -> None:
         if items < self.length:
             numbers = {"length": self.length, "items": items}
             raise OutOfBoundsError("OutOfBounds", f"the buffer has {items} items of {self.length}", None, numbers)
-        check_layout(self.start, self.shape, self.strides, items, itemsize)
+        check_layout(self.start, self.shape, self.strides, elem_size=elem_size, length=items)
 
 
 def _items(buffer: Any) -> tuple[int, int]:
@@ -330,10 +364,6 @@ def _axis(axis: SupportsIndex, axes: int) -> int:
     if not -axes <= number < axes:
         raise OutOfBoundsError("OutOfBounds", f"axis {number}: there are {axes} axes", number, {"axes": axes})
     return number % axes
-
-
-def _steps_from(starts: Iterable[int], length: int, stride: int) -> Iterator[int]:
-    return (start + stride * step for start in starts for step in range(length))
 
 
 def _stepped(items: memoryview, start: int, length: int, stride: int) -> memoryview:

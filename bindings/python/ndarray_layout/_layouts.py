@@ -4,10 +4,12 @@ from __future__ import annotations
 
 from array import array
 from ctypes import c_size_t, c_void_p
+from itertools import repeat
 from math import prod
-from typing import Optional, SupportsIndex
+from typing import Iterator, NamedTuple, Optional, SupportsIndex
 
 from . import _library as library
+from ._errors import ShapeError
 from ._numbers import (
     LIMIT,
     ORDERS,
@@ -16,17 +18,19 @@ from ._numbers import (
     Packed,
     one_answer,
     one_number,
+    one_stride,
     order_number,
     signed,
     size,
     unsigned,
 )
+from ._sharing import MAX_WORK, repeat_a_place
 
 
 def layout_start(
-    shape: Numbers, strides: Numbers, length: SupportsIndex, itemsize: SupportsIndex = 1, owned: bool = False
+    shape: Numbers, strides: Numbers, *, elem_size: SupportsIndex = 1, length: SupportsIndex, owned: bool = False
 ) -> int:
-    """The start of a layout over `length` elements, at which its lowest place is 0.
+    """The start of a layout over `length` elements of `elem_size` bytes, at which its lowest place is 0.
 
     Raises `ShapeError` for different counts of axes, `OverflowError` where the layout is too large, `IndexError` where
     it spans more than the elements, and `ShapeError` where `owned` is true and it breaks the no-alias rule.
@@ -37,8 +41,8 @@ def layout_start(
     Traceback (most recent call last):
     ndarray_layout.OutOfBoundsError: the layout needs 5 elements of 4
     """
-    start, sizes = one_number(), (size(itemsize, "item size"), size(length, "length"))
-    library.layout_start(*sizes, *unsigned(shape), *signed(strides), bool(owned), start)
+    start, sizes = one_number(), (size(elem_size, "element size"), size(length, "length"))
+    library.layout_start(*unsigned(shape), *signed(strides), *sizes, bool(owned), start)
     return int(start[0])
 
 
@@ -46,8 +50,9 @@ def check_layout(
     start: SupportsIndex,
     shape: Numbers,
     strides: Numbers,
+    *,
+    elem_size: SupportsIndex = 1,
     length: SupportsIndex,
-    itemsize: SupportsIndex = 1,
     owned: bool = False,
 ) -> None:
     """Raises what `layout_start` does where a layout with this start doesn't lie within `length` elements.
@@ -57,8 +62,8 @@ def check_layout(
     Traceback (most recent call last):
     ndarray_layout.OutOfBoundsError: the lowest place -1 is below 0
     """
-    sizes = size(start, "start"), size(itemsize, "item size"), size(length, "length")
-    library.check_layout(*sizes, *unsigned(shape), *signed(strides), bool(owned))
+    first, sizes = size(start, "start"), (size(elem_size, "element size"), size(length, "length"))
+    library.check_layout(first, *unsigned(shape), *signed(strides), *sizes, bool(owned))
 
 
 def has_overlap(shape: Numbers, strides: Numbers) -> bool:
@@ -68,6 +73,29 @@ def has_overlap(shape: Numbers, strides: Numbers) -> bool:
     (False, True)
     """
     return _answer(library.has_overlap, unsigned(shape), signed(strides))
+
+
+def has_distinct_places(shape: Numbers, strides: Numbers, max_work: Optional[int] = MAX_WORK) -> bool:
+    """Whether no two indices of a layout have one place: exact, where the no-alias rule is only sufficient.
+
+    A layout that breaks the rule is decided in Python, in at most `max_work` steps of some 2 microseconds for each
+    axis: `None` is without end, 0 tries nothing. Raises `ShapeError` of the kind 'Unsupported' where these don't
+    decide, and never guesses. Raises what `has_overlap` does.
+
+    >>> has_overlap((3, 2), (2, 3)), has_distinct_places((3, 2), (2, 3))
+    (True, True)
+    >>> has_distinct_places((4, 3), (2, 3))
+    False
+    """
+    lens, steps = unsigned(shape), signed(strides)
+    if not _answer(library.has_overlap, lens, steps):
+        return True
+    layout = lens[1].unpack_unsigned(lens[0]), steps[1].unpack_signed(steps[0])
+    repeats = repeat_a_place(*layout, max_work) if max_work != 0 else None
+    if repeats is None:
+        text = f"shape {layout[0]} and strides {layout[1]} may have one place twice, and {max_work} steps don't decide"
+        raise ShapeError("Unsupported", text)
+    return not repeats
 
 
 def is_contiguous(shape: Numbers, strides: Numbers) -> bool:
@@ -171,10 +199,51 @@ def places(start: SupportsIndex, shape: Numbers, strides: Numbers, order: str = 
     >>> places(3, (2, 3), (-3, 1))
     (3, 4, 5, 0, 1, 2)
     """
-    lens, steps, first = unsigned(shape), signed(strides), size(start, "start")
-    library.check_layout(first, c_size_t(1), c_size_t(LIMIT + 1), *lens, *steps, False)
+    lens, steps, first = _view_of(start, shape, strides)
     count = prod(lens[1].unpack_unsigned(lens[0]))
-    found = array("Q", (0,)) * max(count, 1)
-    written = c_void_p(found.buffer_info()[0]), c_size_t(count)
+    found, written = _room_for(count)
     library.places(first, *lens, *steps, order_of(order, lens, steps), *written)
     return tuple(found) if count else ()
+
+
+def _view_of(start: SupportsIndex, shape: Numbers, strides: Numbers) -> tuple[Packed, Packed, c_size_t]:
+    """A layout whose places are within the limit, so that they can be counted."""
+    lens, steps, first = unsigned(shape), signed(strides), size(start, "start")
+    library.check_layout(first, *lens, *steps, c_size_t(1), c_size_t(LIMIT + 1), False)
+    return lens, steps, first
+
+
+def _room_for(count: int) -> tuple[array[int], tuple[c_void_p, c_size_t]]:
+    """Room for so many `size_t`, and how a call takes it."""
+    room = array("Q", (0,)) * max(count, 1)
+    return room, (c_void_p(room.buffer_info()[0]), c_size_t(count))
+
+
+class Row(NamedTuple):
+    """Places along one axis: the first one, the stride to the next, and how many there are."""
+
+    start: int
+    stride: int
+    length: int
+
+
+def rows(start: SupportsIndex, shape: Numbers, strides: Numbers, order: str = "C") -> Iterator[Row]:
+    """The places along the axis that moves fastest in an order, for each index of the others, in that order.
+
+    One call is made for all rows, in time, and with memory for a number, for each. A layout without axes has one row,
+    of one place.
+
+    >>> list(rows(3, (2, 3), (-3, 1)))
+    [Row(start=3, stride=1, length=3), Row(start=0, stride=1, length=3)]
+    >>> list(rows(3, (2, 3), (-3, 1), order="F"))[0]
+    Row(start=3, stride=-3, length=2)
+    """
+    lens, steps, first = _view_of(start, shape, strides)
+    number = order_of(order, lens, steps)
+    lengths = lens[1].unpack_unsigned(lens[0])
+    others = lengths[:-1] if number == 0 else lengths[1:]
+    count = prod(others) if 0 not in lengths else 0
+    starts, written = _room_for(count)
+    stride, length = one_stride(), one_number()
+    library.rows(first, *lens, *steps, number, *written, stride, length)
+    return map(Row, starts, repeat(stride[0], count), repeat(length[0]))

@@ -11,7 +11,7 @@ from operator import index
 from struct import Struct
 from struct import error as StructError
 from sys import byteorder
-from typing import Any, Callable, Iterable, SupportsIndex, Union
+from typing import Any, Callable, Iterable, NamedTuple, SupportsIndex, Union
 
 from ._errors import SizeOverflowError
 
@@ -19,6 +19,14 @@ Numbers = Union[SupportsIndex, Iterable[SupportsIndex]]
 """A list of numbers. One number alone is a list of one, as NumPy takes `5` for the shape `(5,)`."""
 
 Lens = tuple[int, ...]
+
+class View(NamedTuple):
+    """A layout, and the place of its first index."""
+
+    start: int
+    shape: Lens
+    strides: Lens
+
 
 LIMIT = 2**63 - 1
 """The greatest size and span of a layout."""
@@ -121,6 +129,9 @@ def said(number: int) -> str:
 
 one_number: Callable[[], Any] = ctypes.c_size_t * 1
 """Room for one `size_t`."""
+
+one_stride: Callable[[], Any] = ctypes.c_ssize_t * 1
+"""Room for one `ptrdiff_t`."""
 
 one_answer: Callable[[], Any] = ctypes.c_int32 * 1
 """Room for yes or no."""

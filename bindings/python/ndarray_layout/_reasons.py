@@ -81,26 +81,26 @@ def _reaches(shape: Lens, strides: Lens) -> list[int]:
     return [max(length - 1, 0) * abs(stride) for length, stride in zip(shape, strides)]
 
 
-def of_layout(shape: Lens, strides: Lens, itemsize: int = 1) -> Optional[Reason]:
+def of_layout(shape: Lens, strides: Lens, elem_size: int = 1) -> Optional[Reason]:
     if len(shape) != len(strides):
         numbers = {"lengths": len(shape), "strides": len(strides)}
         return Reason("IncompatibleLayout", f"{len(shape)} lengths, but {len(strides)} strides", None, numbers)
-    return of_size(shape) or _of_span(sum(_reaches(shape, strides)), itemsize)
+    return of_size(shape) or _of_span(sum(_reaches(shape, strides)), elem_size)
 
 
-def _of_span(span: int, itemsize: int) -> Optional[Reason]:
+def _of_span(span: int, elem_size: int) -> Optional[Reason]:
     if span > LIMIT:
         return Reason("Overflow", f"span {said(span)} is above the limit {said(LIMIT)}", None, {"span": span})
-    if span * itemsize > LIMIT:
-        numbers = {"span": span, "itemsize": itemsize}
-        text = f"span {said(span)} times item size {said(itemsize)} is above the limit {said(LIMIT)}"
+    if span * elem_size > LIMIT:
+        numbers = {"span": span, "elem_size": elem_size}
+        text = f"span {said(span)} times element size {said(elem_size)} is above the limit {said(LIMIT)}"
         return Reason("Overflow", text, None, numbers)
     return None
 
 
-def of_layout_start(itemsize: int, length: int, shape: Lens, strides: Lens, owned: int) -> Optional[Reason]:
+def of_layout_start(shape: Lens, strides: Lens, elem_size: int, length: int, owned: int) -> Optional[Reason]:
     return (
-        of_layout(shape, strides, itemsize)
+        of_layout(shape, strides, elem_size)
         or _of_room(sum(_reaches(shape, strides)) + (0 not in shape), length)
         or (of_overlap(shape, strides) if owned else None)
     )
@@ -114,10 +114,10 @@ def _of_room(needed: int, length: int) -> Optional[Reason]:
 
 
 def of_check_layout(
-    start: int, itemsize: int, length: int, shape: Lens, strides: Lens, owned: int
+    start: int, shape: Lens, strides: Lens, elem_size: int, length: int, owned: int
 ) -> Optional[Reason]:
     return (
-        of_layout(shape, strides, itemsize)
+        of_layout(shape, strides, elem_size)
         or _of_places(start, length, shape, strides)
         or (of_overlap(shape, strides) if owned else None)
     )
@@ -181,7 +181,11 @@ def of_place(start: int, shape: Lens, strides: Lens, index: Lens) -> Optional[Re
 
 
 def of_places(start: int, shape: Lens, strides: Lens, _: int = 0) -> Optional[Reason]:
-    return of_check_layout(start, 1, LIMIT + 1, shape, strides, False)
+    return of_check_layout(start, shape, strides, 1, LIMIT + 1, False)
+
+
+def of_rows(start: int, shape: Lens, strides: Lens, _: int) -> Optional[Reason]:
+    return of_places(start, shape, strides)
 
 
 # ---- Slices
@@ -193,6 +197,19 @@ def of_slice(start: int, shape: Lens, strides: Lens, elements: list[Element], cl
 
 def of_slices_intersect(shape: Lens, first: list[Element], second: list[Element], clamp: int) -> Optional[Reason]:
     return of_size(shape) or _of_argument(shape, first, clamp) or _of_argument(shape, second, clamp)
+
+
+def of_first_intersection(shape: Lens, elements: list[Element], counts: Lens, clamp: int) -> Optional[Reason]:
+    ends = list(accumulate(counts))
+    slices = [elements[end - count : end] for end, count in zip(ends, counts)]
+    faults = (_of_argument(shape, argument, clamp) for argument in slices)
+    found = next(((number, fault) for number, fault in enumerate(faults) if fault), None)
+    return of_size(shape) or (in_list("slice", *found) if found else None)
+
+
+def in_list(name: str, number: int, fault: Reason) -> Reason:
+    """The reason of an error of one of many."""
+    return fault._replace(text=f"{name} {number}: {fault.text}", numbers={name: number, **fault.numbers})
 
 
 def of_picked(shape: Lens, elements: list[Element], clamp: int) -> Optional[Reason]:
@@ -221,7 +238,7 @@ def _of_element(axis: int, length: int, element: Element, clamp: int) -> Optiona
 # ---- Shapes
 
 
-def of_common_shape(first: Lens, second: Lens) -> Optional[Reason]:
+def of_co_broadcast(first: Lens, second: Lens) -> Optional[Reason]:
     axes = max(len(first), len(second))
     padded = ((1,) * (axes - len(shape)) + shape for shape in (first, second))
     for axis, (one, other) in enumerate(zip(*padded)):
@@ -257,7 +274,7 @@ def of_merge(shape: Lens, strides: Lens, take: int, into: int) -> Optional[Reaso
     return _of_axis("Unsupported", take, "it can't be merged into itself") if take == into else None
 
 
-def of_permute(shape: Lens, strides: Lens, axes: Lens) -> Optional[Reason]:
+def of_permuted_axes(shape: Lens, strides: Lens, axes: Lens) -> Optional[Reason]:
     error = of_layout(shape, strides)
     if error or sorted(axes) == list(range(len(shape))):
         return error
@@ -266,6 +283,34 @@ def of_permute(shape: Lens, strides: Lens, axes: Lens) -> Optional[Reason]:
         numbers = {"listed": len(axes), "axes": len(shape)}
         return Reason("IncompatibleShape", f"{len(axes)} axes are listed of {len(shape)}", None, numbers)
     return _of_axis("IncompatibleShape", missing[0], f"it isn't among the axes {axes}")
+
+
+# ---- Blocks and parts
+
+
+def of_windows(shape: Lens, strides: Lens, window: Lens) -> Optional[Reason]:
+    moves = (max(length - block + 1, 0) for length, block in zip(shape, window))
+    return of_layout(shape, strides) or of_block(shape, window) or of_size((*moves, *window))
+
+
+def of_exact_chunks(shape: Lens, strides: Lens, chunk: Lens) -> Optional[Reason]:
+    found = of_layout(shape, strides) or of_block(shape, chunk)
+    return found or of_size((*(length // block for length, block in zip(shape, chunk)), *chunk))
+
+
+def of_block(shape: Lens, block: Lens) -> Optional[Reason]:
+    if len(shape) != len(block):
+        numbers = {"lengths": len(block), "axes": len(shape)}
+        return Reason("IncompatibleShape", f"{len(block)} lengths of a block for {len(shape)} axes", None, numbers)
+    return _of_axis("Unsupported", block.index(0), "the length of a block is 0", length=0) if 0 in block else None
+
+
+def of_split_at(start: int, shape: Lens, strides: Lens, axis: int, index: int) -> Optional[Reason]:
+    error = of_places(start, shape, strides)
+    if error or axis >= len(shape):
+        return error or _of_axis("OutOfBounds", axis, f"there are {len(shape)} axes", axes=len(shape))
+    text = f"index {said(index)} is past length {said(shape[axis])}"
+    return _of_axis("OutOfBounds", axis, text, index=index, length=shape[axis]) if index > shape[axis] else None
 
 
 # ---- Reshapes

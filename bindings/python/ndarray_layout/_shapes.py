@@ -1,4 +1,4 @@
-"""Other shapes of a layout: broadcast, merged, reshaped, permuted."""
+"""Other shapes of a layout: broadcast, merged, reshaped, permuted, in blocks, split."""
 
 from __future__ import annotations
 
@@ -10,6 +10,8 @@ from ._numbers import (
     Lens,
     Numbers,
     Packed,
+    View,
+    count_of,
     one_answer,
     signed,
     size,
@@ -26,24 +28,24 @@ def co_broadcast(first: Numbers, second: Numbers) -> Lens:
     one, other = unsigned(first), unsigned(second)
     axes = one[1] if one[1].value > other[1].value else other[1]
     common = axes.unsigned_room()
-    library.common_shape(*one, *other, common, axes)
+    library.co_broadcast(*one, *other, common, axes)
     return axes.unpack_unsigned(common)
 
 
-def broadcast_strides(shape: Numbers, strides: Numbers, target: Numbers) -> Lens:
+def broadcast(shape: Numbers, strides: Numbers, target: Numbers) -> Lens:
     """The strides with which a layout is read as one of a shape that it can be broadcast to.
 
     Raises `ShapeError` where it can't, then `OverflowError` where that shape is too large.
 
-    >>> broadcast_strides((2, 1), (5, 1), (3, 2, 4))
+    >>> broadcast((2, 1), (5, 1), (3, 2, 4))
     (0, 5, 0)
-    >>> broadcast_strides((2, 1), (5, 1), (3, 4))
+    >>> broadcast((2, 1), (5, 1), (3, 4))
     Traceback (most recent call last):
     ndarray_layout.ShapeError: IncompatibleShape: axis 0: length 2 can't be broadcast to 3
     """
     lens, axes = unsigned(target)
     stretched = axes.signed_room()
-    library.broadcast_strides(*unsigned(shape), *signed(strides), lens, axes, stretched, axes)
+    library.broadcast(*unsigned(shape), *signed(strides), lens, axes, stretched, axes)
     return axes.unpack_signed(stretched)
 
 
@@ -65,15 +67,15 @@ def merge_axes(
     return (axes.unpack_unsigned(new_lens), count.unpack_signed(new_steps)) if merged[0] else None
 
 
-def reshape_dim(shape: Numbers, strides: Numbers, new_shape: Numbers, order: str = "C") -> Lens:
+def reshape(shape: Numbers, strides: Numbers, new_shape: Numbers, order: str = "C") -> Lens:
     """The strides of another shape with the same places in an order: no element is moved.
 
     The order 'A' is 'F' for a layout that is column-major and not row-major, else 'C'. Raises `OverflowError` where
     the new shape is too large, and `ShapeError` where no strides would do.
 
-    >>> reshape_dim((4, 4), (8, 1), (2, 2, 2, 2))
+    >>> reshape((4, 4), (8, 1), (2, 2, 2, 2))
     (16, 8, 2, 1)
-    >>> reshape_dim((4, 4), (8, 1), (2, 8))
+    >>> reshape((4, 4), (8, 1), (2, 8))
     Traceback (most recent call last):
     ndarray_layout.ShapeError: IncompatibleLayout: axis 0: stride 8 isn't 4 times 1, the stride of axis 1
     """
@@ -100,5 +102,63 @@ def permuted_axes(shape: Numbers, strides: Numbers, axes: Numbers) -> tuple[Lens
     lens, count = unsigned(shape)
     new_lens, new_steps = count.unsigned_room(), count.signed_room()
     written = new_lens, count, new_steps, count
-    library.permute_axes(lens, count, *signed(strides), *unsigned(axes, "axis"), *written)
+    library.permuted_axes(lens, count, *signed(strides), *unsigned(axes, "axis"), *written)
     return count.unpack_unsigned(new_lens), count.unpack_signed(new_steps)
+
+
+def windows(shape: Numbers, strides: Numbers, window: Numbers) -> tuple[Lens, Lens]:
+    """The shape and the strides of all windows of a shape: first the axes along which they move, then those in one.
+
+    Windows begin at each index from which they fit, so they overlap. The start is unchanged. Raises `ShapeError` where
+    `window` hasn't one length for each axis, then where one is 0, then `OverflowError` where the result is too large.
+
+    >>> windows((4, 5), (5, 1), (2, 3))
+    ((3, 3, 2, 3), (5, 1, 5, 1))
+    >>> windows((4, 5), (5, 1), (2, 0))
+    Traceback (most recent call last):
+    ndarray_layout.ShapeError: Unsupported: axis 1: the length of a block is 0
+    """
+    return _in_blocks(library.windows, unsigned(shape), signed(strides), unsigned(window))
+
+
+def exact_chunks(shape: Numbers, strides: Numbers, chunk: Numbers) -> tuple[Lens, Lens]:
+    """The shape and the strides of the chunks of a shape: first the number of the chunk along each axis.
+
+    Chunks lie side by side; what is left over at the end of an axis is left out. The start is unchanged. Raises what
+    `windows` does.
+
+    >>> exact_chunks((4, 7), (7, 1), (2, 3))
+    ((2, 2, 2, 3), (14, 3, 7, 1))
+    """
+    return _in_blocks(library.exact_chunks, unsigned(shape), signed(strides), unsigned(chunk))
+
+
+def _in_blocks(call: library.Call, shape: Packed, strides: Packed, block: Packed) -> tuple[Lens, Lens]:
+    axes = count_of(2 * shape[1].value)
+    new_lens, new_steps = axes.unsigned_room(), axes.signed_room()
+    call(*shape, *strides, *block, new_lens, axes, new_steps, axes)
+    return axes.unpack_unsigned(new_lens), axes.unpack_signed(new_steps)
+
+
+def split_at(
+    start: SupportsIndex, shape: Numbers, strides: Numbers, axis: SupportsIndex, index: SupportsIndex
+) -> tuple[View, View]:
+    """The parts of a layout along an axis: the coordinates below an index, and those from it on.
+
+    Raises `IndexError` where there is no such axis, or the index is greater than its length.
+
+    >>> split_at(0, (2, 3), (3, 1), axis=1, index=1)
+    (View(start=0, shape=(2, 1), strides=(3, 1)), View(start=1, shape=(2, 2), strides=(3, 1)))
+    >>> split_at(0, (2, 3), (3, 1), axis=1, index=4)
+    Traceback (most recent call last):
+    ndarray_layout.OutOfBoundsError: axis 1: index 4 is past length 3
+    """
+    (lens, axes), two = unsigned(shape), count_of(2)
+    both = count_of(2 * axes.value)
+    starts, new_lens, steps = two.unsigned_room(), both.unsigned_room(), axes.signed_room()
+    cut, written = (size(axis, "axis"), size(index, "index")), (starts, two, new_lens, both, steps, axes)
+    library.split_at(size(start, "start"), lens, axes, *signed(strides), *cut, *written)
+    of_both, new_strides = both.unpack_unsigned(new_lens), axes.unpack_signed(steps)
+    parts = zip(starts, (of_both[: axes.value], of_both[axes.value :]))
+    first, second = (View(new_start, new_shape, new_strides) for new_start, new_shape in parts)
+    return first, second

@@ -60,6 +60,33 @@ def share_byte(
     return _reaches_near(terms, distance, itemsize, max_work)
 
 
+def repeat_a_place(shape: Sequence[int], strides: Sequence[int], max_work: Optional[int] = MAX_WORK) -> Optional[bool]:
+    """Whether two indices have one place, or `None` where `max_work` steps for each axis don't decide.
+
+    Two indices have one place where the differences of their coordinates, each times its stride, add up to 0. So one
+    axis has a difference other than 0, which may be taken as above 0, and none with a greater stride has.
+
+    >>> repeat_a_place((3, 2), (2, 3)), repeat_a_place((4, 3), (2, 3))
+    (False, True)
+    """
+    axes = sorted((abs(stride), length - 1) for length, stride in zip(shape, strides) if length != 1)
+    found = [_repeats_along(axis, axes[:k], max_work) for k, axis in enumerate(axes)] if 0 not in shape else []
+    return True if True in found else None if None in found else False
+
+
+def _repeats_along(axis: tuple[int, int], smaller: list[tuple[int, int]], max_work: Optional[int]) -> Optional[bool]:
+    """Whether a difference along an axis, above 0, is made up for by the axes of no greater stride."""
+    stride, greatest = axis
+    distance = sum(other * number for other, number in smaller) - stride
+    if stride == 0 or distance < 0:
+        return stride == 0
+    sums = {stride: greatest - 1}
+    for other, number in smaller:  # (from -number to number, counted from the lowest)
+        sums[other] = sums.get(other, 0) + 2 * number
+    terms = [_Term(*term) for term in sorted(sums.items()) if min(term) > 0]
+    return _reaches_near(terms, distance, 1, max_work)
+
+
 def _reaches_near(terms: list[_Term], distance: int, itemsize: int, max_work: Optional[int]) -> Optional[bool]:
     """Whether a sum of the terms is less than the item size away from a distance. Ascending terms."""
     unit = gcd(*[term.stride for term in terms]) or 1

@@ -2,6 +2,7 @@
 
 from __future__ import annotations
 
+from array import array
 from ctypes import c_size_t
 from numbers import Integral
 from struct import error as StructError
@@ -18,6 +19,7 @@ from ._numbers import (
     Lens,
     Numbers,
     Packed,
+    View,
     count_of,
     element_head,
     one_answer,
@@ -49,16 +51,8 @@ Elems = Iterable[Elem]
 """What a slice does with all axes. A `Slice` is a tuple itself: alone it is one element and not three coordinates."""
 
 
-class View(NamedTuple):
-    """A layout, and the place of its first index."""
-
-    start: int
-    shape: Lens
-    strides: Lens
-
-
 _SLICE = element_head(SLICE, False)
-_SLICE_WITH_END = element_head(SLICE, True)
+SLICE_WITH_END = element_head(SLICE, True)
 _INDEX = element_head(INDEX, False)
 _NEW_AXIS = element_head(NEW_AXIS, False)
 
@@ -93,7 +87,7 @@ def _fields_of(elems: Elems) -> list[Any]:
     for elem in (elems,) if isinstance(elems, Slice) else elems:
         if isinstance(elem, Slice):
             start, end, step = elem
-            fields += (_SLICE, start, 0, step) if end is None else (_SLICE_WITH_END, start, end, step)
+            fields += (_SLICE, start, 0, step) if end is None else (SLICE_WITH_END, start, end, step)
         else:
             fields += (_NEW_AXIS, 0, 0, 1) if elem is None else (_INDEX, elem, 0, 1)
     return fields
@@ -145,6 +139,29 @@ def intersect(shape: Packed, first: Packed, second: Packed, clamp: bool) -> bool
     return bool(answer[0])
 
 
+def first_intersection(shape: Numbers, slices: Iterable[Elems], clamp: bool = False) -> Optional[tuple[int, int]]:
+    """Two of many slices of one shape that share an index: their positions, the less first. `None` if no two do.
+
+    Raises what `slice_view` does, of the first slice with an error, before any two are compared. Slices that begin in
+    their order along an axis, as rows and tiles do, are compared with few others each; in no order each with each.
+
+    >>> first_intersection((2, 3), [[0, Slice()], [1, Slice()], [Slice(), 2]])
+    (0, 2)
+    >>> first_intersection((2, 3), [[0, Slice()], [1, Slice()]])
+    """
+    packed = [_packed(_fields_of(elems)) for elems in slices]
+    counts = [count.value for _, count in packed]
+    return intersection(unsigned(shape), b"".join([numbers for numbers, _ in packed]), counts, bool(clamp))
+
+
+def intersection(shape: Packed, elems: bytes, counts: Sequence[int], clamp: bool) -> Optional[tuple[int, int]]:
+    """`first_intersection` of slices that are packed one after another, with the count of elements of each."""
+    two, found = count_of(2), one_answer()
+    pair, listed = two.unsigned_room(), (array("Q", counts).tobytes(), count_of(len(counts)))
+    library.first_intersection(*shape, elems, c_size_t(sum(counts)), *listed, clamp, pair, two, found)
+    return (pair[0], pair[1]) if found[0] else None
+
+
 def picked(shape: Numbers, elems: Elems, clamp: bool = False) -> int:
     """How many indices a slice leaves. Raises what `slice_view` does.
 
@@ -179,7 +196,7 @@ def _elem_of(head: int, start: int, end: int, step: int) -> Elem:
         return None
     if head == _INDEX:
         return start
-    return Slice(start, end if head == _SLICE_WITH_END else None, step)
+    return Slice(start, end if head == SLICE_WITH_END else None, step)
 
 
 def packed_key(shape: Sequence[int], key: Any) -> Packed:
@@ -206,10 +223,10 @@ def _key_fields(shape: Sequence[int], key: Any) -> list[int]:
         if type(entry) is slice:
             start, stop, step = entry.indices(length)
             if 0 < step <= LIMIT:
-                fields += (_SLICE_WITH_END, start, stop, step)
+                fields += (SLICE_WITH_END, start, stop, step)
                 continue
             if -LIMIT <= step < 0:
-                fields += (_SLICE_WITH_END, stop + 1, start + 1, step)
+                fields += (SLICE_WITH_END, stop + 1, start + 1, step)
                 continue
         elif type(entry) is int and -length <= entry < length:
             fields += (_INDEX, entry if entry >= 0 else entry + length, 0, 1)
@@ -251,8 +268,8 @@ def _basic_fields(axis: int, length: int, entry: Any) -> tuple[int, ...]:
     if isinstance(entry, slice):
         start, stop, step = entry.indices(length)
         if step > 0:
-            return (_SLICE_WITH_END, start, stop, min(step, LIMIT))
-        return (_SLICE_WITH_END, stop + 1, start + 1, max(step, -LIMIT))
+            return (SLICE_WITH_END, start, stop, min(step, LIMIT))
+        return (SLICE_WITH_END, stop + 1, start + 1, max(step, -LIMIT))
     if isinstance(entry, Slice):
         return tuple(_fields_of(entry))
     if not isinstance(entry, Integral) or isinstance(entry, bool):
