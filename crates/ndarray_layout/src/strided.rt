@@ -23,7 +23,7 @@ mod splitting;
 mod stretch;
 mod windows;
 
-pub use iterating::Places;
+pub use iter_places::Places;
 use nd_base::Lengths;
 pub use rows::{Row, Rows};
 use std::marker::Model;
