@@ -1,4 +1,4 @@
 pub mod ForcedStrides
 pub mod Joints
-pub mod Keeps
+pub mod SamePlaces
 pub mod ReshapeFault
