@@ -158,7 +158,7 @@ fn of_runs_and_arrays() -> Vec<Row> {
         rows.push(array_row(("multi_set", true), name, shape, t, many));
     }
     let name = "OwnedArray::multi_set, all rows of 1000x1000 in one call *, a row";
-    rows.push(row(name, 1000, |n| theirs::rows(1000, 1000, n), |n| ours::rows(1000, 1000, n)));
+    rows.push(row(name, 1000, |n| theirs::rows(1000, 1000, n), |n| ours::rows(1000, 1000, [0, 1], n)));
     let name = "OwnedArray::multi_set, all 2500 tiles of 1000x1000 in one call *, a tile";
     rows.push(row(name, 2500, |n| theirs::tiles(50, 20, n), |n| ours::tiles(50, 20, n)));
     rows
