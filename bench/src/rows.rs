@@ -38,6 +38,10 @@ fn of_layouts() -> Vec<Row> {
     for (call, name) in ["can_index_slice", "dim_stride_overlap", "index_checked"].iter().enumerate() {
         rows.extend(any.iter().map(|(kind, t)| row_of(call, format!("{name} {kind}"), t)));
     }
+    for (name, kind, axes, most) in [("Ix3", 3, 3, 20), ("Ix4", 4, 4, 8), ("IxDyn, 4 axes", 14, 4, 8)] {
+        let t = kept(tables::row_lists(kind, axes, most));
+        rows.push(row_of(1, format!("dim_stride_overlap {name}, row-major"), t));
+    }
     for at in [2, 4] {
         let kind = any[at].0;
         rows.push(row_of(3, format!("is_contiguous {kind}, contiguous"), gapless[at].1));
