@@ -1,4 +1,4 @@
-"""Builds what the benchmark runs, in a folder of its own; this repository is only read.
+"""Builds what the benchmark runs, in a folder of its own, and shows its tables; of this repository only docs/PERFORMANCE.md is ever written.
 
 The crate in ffi/ is a static library in Rattle above this repository's crates. Its sources are kept as texts, since the gate reads no
 `.rt` or `.antt` file outside of crates. Where the kit is there it is proved, with each crate below it that isn't built yet. Everywhere it is
@@ -8,6 +8,7 @@ import argparse, contextlib, os, shutil, subprocess, sys, tempfile, time
 
 HERE = os.path.dirname(os.path.abspath(__file__))
 TOP = os.path.dirname(HERE)
+PAGE = f"{TOP}/docs/PERFORMANCE.md"
 sys.path.insert(0, f"{TOP}/checks")
 from rattle_source import crates_below, read_list
 
@@ -62,7 +63,7 @@ def opened_room(keep):
 def arguments(text):
     """The options that every script here has."""
     parser = argparse.ArgumentParser(description=text, formatter_class=argparse.RawDescriptionHelpFormatter)
-    parser.add_argument("--markdown", action="store_true", help="print the tables as docs/PERFORMANCE.md has them")
+    parser.add_argument("--page", action="store_true", help="write the table into docs/PERFORMANCE.md, in place of the one that is there")
     parser.add_argument("--keep", metavar="FOLDER", help="work there and keep it, so that the next run proves only what has changed")
     return parser
 
@@ -172,13 +173,24 @@ def build_program(room, name, *words, shift=0):
     return program
 
 
-def print_table(head, rows, is_markdown):
-    """Prints a table: as Markdown, or in columns."""
-    if is_markdown:
-        for cells in (head, ["---", *["---:"] * (len(head) - 1)], *rows):
-            print(f"| {' | '.join(cells)} |")
+def show_table(name, head, rows, is_for_page):
+    """Shows the table that a script makes: in columns, or as Markdown on the page, between the two comments with the script's name."""
+    if is_for_page:
+        lines = (head, ["---", *["---:"] * (len(head) - 1)], *rows)
+        write_between(f"<!-- bench/{name} -->", f"<!-- /bench/{name} -->", "\n".join(map(" | ".join, lines)))
         return
     widths = [max(map(len, column)) for column in zip(head, *rows)]
     for cells in (head, *rows):
         first, *others = (cell.ljust(width) if at == 0 else cell.rjust(width) for at, (cell, width) in enumerate(zip(cells, widths)))
         print("  ".join([first, *others]))
+
+
+def write_between(begin, end, text):
+    """Puts a text between two lines of docs/PERFORMANCE.md."""
+    with open(PAGE, encoding="utf-8") as file:
+        before, begun, rest = file.read().partition(begin)
+    _, ended, after = rest.partition(end)
+    if not begun or not ended:
+        raise NotBuilt(f"{PAGE} has no lines {begin} and {end}")
+    with open(PAGE, "w", encoding="utf-8") as file:
+        file.write(f"{before}{begin}\n\n{text}\n\n{end}{after}")

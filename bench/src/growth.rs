@@ -65,7 +65,8 @@ fn call_of(name: &str, size: usize) -> Box<dyn Fn(usize) -> usize> {
         "places" => Box::new(move |passes| {
             ours::places(size.div_ceil(1000), size.min(1000), [size.min(1000), 1], size, passes)
         }),
-        "multi_set" => Box::new(move |passes| ours::rows(size, 8, passes)),
+        "multi_set in order" => Box::new(move |passes| ours::rows(size, 8, [0, 1], passes)),
+        "multi_set against it" => Box::new(move |passes| ours::rows(size, 8, [size as isize - 1, -1], passes)),
         _ => panic!("{name} is no call here"),
     }
 }

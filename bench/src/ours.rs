@@ -130,7 +130,14 @@ unsafe extern "C" {
     fn bench_ffi_indices_three(planes: usize, rows: usize, columns: usize, passes: usize) -> usize;
     fn bench_ffi_slice_axes(dims: N, n: usize, strides: N, m: usize, len: usize, passes: usize) -> usize;
     fn bench_ffi_steps(count: usize, passes: usize) -> usize;
-    fn bench_ffi_rows(rows: usize, columns: usize, size: usize, passes: usize) -> usize;
+    fn bench_ffi_rows(
+        rows: usize,
+        columns: usize,
+        size: usize,
+        first: isize,
+        step: isize,
+        passes: usize,
+    ) -> usize;
     fn bench_ffi_tiles(
         count: usize,
         side: isize,
@@ -264,6 +271,6 @@ pub fn tiles(count: usize, side: usize, passes: usize) -> usize {
     let lines = count * side;
     unsafe { bench_ffi_tiles(count, side as isize, side * side, lines, lines * lines, passes) }
 }
-pub fn rows(rows: usize, columns: usize, passes: usize) -> usize {
-    unsafe { bench_ffi_rows(rows, columns, rows * columns, passes) }
+pub fn rows(rows: usize, columns: usize, [first, step]: [isize; 2], passes: usize) -> usize {
+    unsafe { bench_ffi_rows(rows, columns, rows * columns, first, step, passes) }
 }

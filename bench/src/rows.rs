@@ -19,8 +19,8 @@ fn by_kind(table: fn(usize, usize, usize) -> Lists) -> Vec<(&'static str, &'stat
         ("Ix3", 3, 3, 20),
         ("Ix4", 4, 4, 8),
         ("Ix6", 6, 6, 4),
-        ("IxDyn, 4 axes", 14, 4, 8),
-        ("IxDyn, 6 axes", 16, 6, 4),
+        ("IxDyn(4)", 14, 4, 8),
+        ("IxDyn(6)", 16, 6, 4),
     ];
     kinds.map(|(name, kind, axes, most)| (name, kept(table(kind, axes, most)))).to_vec()
 }
@@ -37,6 +37,10 @@ fn of_layouts() -> Vec<Row> {
     let mut rows = vec![];
     for (call, name) in ["can_index_slice", "dim_stride_overlap", "index_checked"].iter().enumerate() {
         rows.extend(any.iter().map(|(kind, t)| row_of(call, format!("{name} {kind}"), t)));
+    }
+    for (name, kind, axes, most) in [("Ix3", 3, 3, 20), ("Ix4", 4, 4, 8), ("IxDyn(4)", 14, 4, 8)] {
+        let t = kept(tables::row_lists(kind, axes, most));
+        rows.push(row_of(1, format!("dim_stride_overlap {name}, row-major"), t));
     }
     for at in [2, 4] {
         let kind = any[at].0;
@@ -59,9 +63,9 @@ fn of_shapes() -> Vec<Row> {
     let [firsts, seconds] = kept(tables::pairs());
     let packed = kept(tables::gapless_lists(4, 4, 8));
     let places = kept(tables::places(packed));
-    let name = "default_strides IxDyn, 4 axes";
+    let name = "default_strides IxDyn(4)";
     let mut rows = vec![row(name, SETS, |n| theirs::default_strides(dims, n), |n| ours::default_strides(4, dims, n))];
-    for (kind, name) in [(4, "Ix4"), (14, "IxDyn, 4 axes")] {
+    for (kind, name) in [(4, "Ix4"), (14, "IxDyn(4)")] {
         rows.push(row(
             format!("co_broadcast {name}"),
             SETS,
@@ -88,7 +92,7 @@ fn of_slices() -> Vec<Row> {
     let four = kept(tables::elems(&dyn4.dims, 4, |rng| rng.below(8)));
     let mut rows = vec![row("do_slice", SETS, |n| theirs::do_slice_loop(axes, n), |n| ours::do_slice(axes, n))];
     for (name, t, elems) in
-        [("Strided::slice Ix2 to Ix1 *", ix2, two), ("Strided::slice IxDyn, 4 axes *", dyn4, four)]
+        [("Strided::slice Ix2 to Ix1 *", ix2, two), ("Strided::slice IxDyn(4) *", dyn4, four)]
     {
         rows.push(row(name, SETS, move |n| theirs::slice(t, elems, n), move |n| ours::slice(t, elems, n)));
     }
@@ -105,14 +109,14 @@ fn of_reshapes_and_intersections() -> Vec<Row> {
     for (name, kind, by_columns, fails) in [
         ("reshape_dim Ix4 to Ix3", 4, false, false),
         ("reshape_dim Ix4 to Ix3, an error at the last joint", 4, false, true),
-        ("reshape_dim IxDyn, 4 axes to 3, row-major", 14, false, false),
-        ("reshape_dim IxDyn, 4 axes to 3, column-major", 14, true, false),
-        ("Strided::reshape IxDyn, 4 axes to 3 *", 0, false, false),
+        ("reshape_dim IxDyn(4) to 3, row-major", 14, false, false),
+        ("reshape_dim IxDyn(4) to 3, column-major", 14, true, false),
+        ("Strided::reshape IxDyn(4) to 3 *", 0, false, false),
     ] {
         let t = kept(tables::reshapes(by_columns, fails));
         rows.push(row(name, SETS, move |n| theirs::reshapes(kind, t, n), move |n| ours::reshapes(kind, t, n)));
     }
-    for (name, t) in [("Ix2", tables::lists(2, 2, 60)), ("IxDyn, 4 axes", tables::lists(14, 4, 8))] {
+    for (name, t) in [("Ix2", tables::lists(2, 2, 60)), ("IxDyn(4)", tables::lists(14, 4, 8))] {
         // (arguments on axes of one coordinate always share it)
         let dims = kept(t.dims.iter().map(|&len| len + 2).collect::<Vec<usize>>());
         for (how, sharing) in [
@@ -132,7 +136,7 @@ fn array_row(call: (&str, bool), name: &str, shape: [usize; 2], t: &'static Part
     // (a large part is timed by its items, a small one as a whole)
     let items = if many == SETS { many } else { many * t.count };
     row(
-        format!("OwnedArray::{}, {name}", call.0),
+        format!("{}, {name}", call.0),
         items,
         move |n| theirs::owned(writes, shape, t, n),
         move |n| ours::owned(writes, shape, t, n),
@@ -142,24 +146,24 @@ fn array_row(call: (&str, bool), name: &str, shape: [usize; 2], t: &'static Part
 /// Runs of steps, and arrays that own their items.
 fn of_runs_and_arrays() -> Vec<Row> {
     let runs = kept(tables::runs(&tables::lists(14, 4, 8)));
-    let name = "run of 3 steps IxDyn, 4 axes, of a copy *";
+    let name = "run of 3 steps IxDyn(4), of a copy *";
     let mut rows = vec![row(name, SETS, |n| theirs::run_steps(runs, n), |n| ours::run(&runs.rows, &runs.elems, n))];
     let large = [1000, 1000];
     for (name, shape, part, many) in [
-        ("a row of 1000x1000 *, an item", large, [1, 1000], 16),
-        ("a column of 1000x1000 *, an item", large, [1000, 1], 16),
-        ("two columns of 1000x1000 *, an item", large, [1000, 2], 16),
+        ("a row *, an item", large, [1, 1000], 16),
+        ("a column *, an item", large, [1000, 1], 16),
+        ("two columns *, an item", large, [1000, 2], 16),
         ("all of 1000x2 *, an item", [1000, 2], [1000, 2], 16),
-        ("a tile of 3x3 of 1000x1000 *", large, [3, 3], SETS),
+        ("a tile of 3x3 *", large, [3, 3], SETS),
         ("a row of 10x10 *", [10, 10], [1, 10], SETS),
     ] {
         let t = kept(tables::parts(many, shape, part));
         rows.push(array_row(("items", false), name, shape, t, many));
         rows.push(array_row(("multi_set", true), name, shape, t, many));
     }
-    let name = "OwnedArray::multi_set, all rows of 1000x1000 in one call *, a row";
-    rows.push(row(name, 1000, |n| theirs::rows(1000, 1000, n), |n| ours::rows(1000, 1000, n)));
-    let name = "OwnedArray::multi_set, all 2500 tiles of 1000x1000 in one call *, a tile";
+    let name = "multi_set, all rows *, a row";
+    rows.push(row(name, 1000, |n| theirs::rows(1000, 1000, n), |n| ours::rows(1000, 1000, [0, 1], n)));
+    let name = "multi_set, all 2500 tiles *, a tile";
     rows.push(row(name, 2500, |n| theirs::tiles(50, 20, n), |n| ours::tiles(50, 20, n)));
     rows
 }
@@ -171,10 +175,10 @@ fn of_place_iterators() -> Vec<Row> {
     let mut rows = vec![];
     for (name, kind) in [("Ix2", 2), ("IxDyn", 0)] {
         for (how, reads) in [("mixed", false), ("read", true)] {
-            for (beside, hand) in [("by hand", true), ("next_for", false)] {
+            for (beside, hand) in [("loops", true), ("next_for", false)] {
                 let way = theirs::PlacesWay { hand, reads, kind };
                 rows.push(row(
-                    format!("iter_places {name} 1000x1000 beside {beside} *, {how}, a place"),
+                    format!("iter_places {name} beside {beside} *, {how}"),
                     PLACES,
                     move |n| theirs::iter_places(way, LISTS, data, n),
                     move |n| ours::iter_places(kind, reads, LISTS, data, n),
@@ -189,7 +193,7 @@ fn of_place_iterators() -> Vec<Row> {
 fn of_iterators() -> Vec<Row> {
     let mut rows = vec![];
     for (name, row_by_row) in
-        [("places 1000x1000 by next_for *, a place", false), ("places 1000x1000 row by row *, a place", true)]
+        [("places beside next_for *, a place", false), ("places beside rows *, a place", true)]
     {
         rows.push(row(
             name,
@@ -199,7 +203,7 @@ fn of_iterators() -> Vec<Row> {
         ));
     }
     for (name, by_columns) in
-        [("IndicesIter 1000x1000, an index", false), ("indices_iter_f 1000x1000, an index", true)]
+        [("IndicesIter, an index", false), ("indices_iter_f, an index", true)]
     {
         rows.push(row(
             name,

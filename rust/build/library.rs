@@ -120,7 +120,6 @@ impl Eraser<'_> {
             return Err(fault(name.first(), "may fail for memory, and nothing stands for it in plain Rust"));
         }
         let new = match word {
-            "push_reserved" if is_method => "push".to_string(),
             _ if FALLIBLE_WITH_MEMORY.contains(&word) && !takes_memory(group) => return Ok(None),
             // a list of one's own has such calls as well
             _ if (is_std || self.out.ends_with("fn")) && FALLIBLE.contains(&word) => format!("fallible_{word}"),

@@ -59,6 +59,9 @@ pub trait FallibleVec<T>: Sized {
     /// One item more.
     fn fallible_push(&mut self, item: T) -> Result<(), AllocFailed<T>>;
 
+    /// One item more, for which there is room.
+    fn push_reserved(&mut self, item: T);
+
     /// The items of a slice after the own ones.
     fn fallible_extend_from_slice(&mut self, items: &[T]) -> Result<(), AllocError>
     where
@@ -86,6 +89,13 @@ impl<T> FallibleVec<T> for Vec<T> {
         }
         self.push(item);
         Ok(())
+    }
+
+    #[inline]
+    fn push_reserved(&mut self, item: T) {
+        // (so rustc sees that it takes no memory)
+        assert!(self.len() < self.capacity(), "room was reserved");
+        self.push(item);
     }
 
     #[inline]

@@ -4,8 +4,9 @@ use crate::memory::{AllocError, FallibleVec};
 use alloc::vec::Vec;
 
 /// How many items lie in the value itself: a type of five values, so that rustc tests no bound of them, and keeps in the
-/// same byte that there are more.
+/// same word that there are more. It is a whole word, so that all that is moved lies in words.
 #[derive(Clone, Copy)]
+#[repr(usize)]
 enum Count {
     Zero,
     One,
@@ -92,7 +93,9 @@ impl<T: Copy + Default> SmallVec<T, 4> {
         Ok(SmallVec(Items::Heap(Vec::fallible_with_capacity(capacity)?)))
     }
 
-    /// The items of a slice.
+    /// The items of a slice: more than four of them, so that this is left out of line.
+    #[cold]
+    #[inline(never)]
     pub(crate) fn fallible_from_slice(items: &[T]) -> Result<Self, AllocError> {
         let mut list = Self::fallible_with_capacity(items.len())?;
         list.fallible_extend_from_slice(items)?;

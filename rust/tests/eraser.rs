@@ -71,7 +71,7 @@ fn each_form_becomes_plain_rust() {
         ("S { alloc: before.alloc, n: 1 }", "S { n: 1 }"),
         ("lower::f(std::slice::from_ref(x))", "crate::lower::f(core::slice::from_ref(x))"),
         ("tables::g(smallvec::h())", "crate::tables::g(crate::smallvec::h())"),
-        ("v.push(1)?; w.push_reserved(2);", "v.fallible_push(1)?; w.push(2);"),
+        ("v.push(1)?; w.push_reserved(2);", "v.fallible_push(1)?; w.push_reserved(2);"),
         ("x.to_vec(alloc)?; Vec::new(alloc)", "x.fallible_to_vec()?; Vec::new()"),
         ("text.replace(a, b)", "text.replace(a, b)"),
         ("text.replace(alloc, a, b)?", "text.fallible_replace( a, b)?"),

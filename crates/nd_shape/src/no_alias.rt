@@ -135,7 +135,8 @@ fn breaks_no_alias_rule(shape: &[usize], strides: &[usize]) -> bool
     requires span_fits { span shape.now (all_signed strides.now) ≤ limit }
     ensures { result ≡ not (satisfies_no_alias_rule shape.now (all_signed strides.now)) }
 {
-    if shape.len() > 2 {
+    // (up to three axes are compared with all as fast, and without a branch that is hard to foresee)
+    if shape.len() > 3 {
         if let Some(overlaps) = overlap_in_order(shape, strides) {
             return overlaps;
         }
