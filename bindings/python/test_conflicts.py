@@ -148,6 +148,8 @@ class Conflicts(unittest.TestCase):
         self.assertRaises(ShapeError, nd.first_conflict, (4, 4), [0], chunks=(2, 0))
         self.assertRaises(TypeError, nd.first_conflict, (4,), [0, [1, 2]])
         self.assertRaises(TypeError, nd.first_conflict, (4,), [True])
+        for outside in (4, -5, (0, 0), (..., ...), (..., 0, ...), (slice(4), 0, ...)):
+            self.assertRaises(IndexError, nd.first_conflict, (4,), [outside])
         self.assertRaises(ValueError, nd.first_conflict, (4,), [slice(0, 4, 0)])
         with self.assertRaises(IndexError) as caught:
             nd.first_conflict((4, 4), [0, (slice(0, 0), 9)])

@@ -73,9 +73,24 @@ def _picks_at(position: int, shape: Lens, key: Any) -> list[range]:
 
 
 def _picks(shape: Lens, key: Any) -> list[range]:
+    """Slices and integers, the usual keys, are read without another call."""
     entries = key if type(key) is tuple else (key,)
-    if len(entries) == len(shape) and all([type(entry) is slice for entry in entries]):
-        return [range(length)[entry] for length, entry in zip(shape, entries)]
+    given = entries[:-1] if entries and entries[-1] is Ellipsis else entries
+    if len(given) > len(shape):
+        return _picks_of_any(shape, key)
+    found = []
+    for length, entry in zip(shape, given):
+        if type(entry) is slice:
+            found.append(range(length)[entry])
+        elif type(entry) is int and -length <= entry < length:
+            found.append(range(length)[entry:][:1])
+        else:
+            return _picks_of_any(shape, key)
+    return [*found, *map(range, shape[len(given) :])]
+
+
+def _picks_of_any(shape: Lens, key: Any) -> list[range]:
+    """`_picks` of any key, or its error."""
     elems = [elem for elem in basic_key(shape, key) if elem is not None]
     picked(shape, elems)  # (which refuses a `Slice` that leaves its axis)
     return [_picks_of(length, elem) for length, elem in zip(shape, elems)]
