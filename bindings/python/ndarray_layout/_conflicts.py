@@ -108,11 +108,11 @@ def _touched(picks: range, block: int) -> list[range]:
     if not picks:
         return []
     ascending = picks if picks.step > 0 else picks[::-1]
-    first, last, step = ascending[0], ascending[-1], ascending.step
     if block == 1:
         return [ascending]
-    if step <= block or first // block == last // block:
-        return [range(first // block, last // block + 1)]
+    step = ascending.step
+    if step <= block:
+        return [range(ascending[0] // block, ascending[-1] // block + 1)]
     period = block // gcd(step, block)  # (so many steps are a multiple of the block)
     return [_numbers(ascending[begin::period], block) for begin in range(min(period, len(ascending)))]
 
