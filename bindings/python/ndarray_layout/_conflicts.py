@@ -9,7 +9,7 @@ from typing import Any, Iterable, Optional
 
 from ._errors import LayoutError, ShapeError, error_of_kind
 from ._layouts import default_strides
-from ._numbers import Lens, Numbers, unsigned
+from ._numbers import LIMIT, Lens, Numbers, unsigned
 from ._reasons import of_block
 from ._slices import SLICE_WITH_END, Elem, Slice, basic_key, intersection, picked, slice_view
 
@@ -141,4 +141,5 @@ def _first_conflict(shape: Lens, parts: list[_Part]) -> Optional[tuple[int, int]
 
 
 def _fields(run: range) -> tuple[int, int, int, int]:
-    return SLICE_WITH_END, run.start, run[-1] + 1, run.step
+    """A run as an element of a slice. (a step above the limit leaves one number)"""
+    return SLICE_WITH_END, run.start, run[-1] + 1, min(run.step, LIMIT)
