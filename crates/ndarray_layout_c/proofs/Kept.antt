@@ -1,21 +1,28 @@
 -- What calls write, as views of the layout that they were given.
-use Rattle.std.proofs.Common.{◌≡◌, ℕ, ℤ, None, List, length, FitsSigned, to_z, of_z, w32, subst, sym, ap₂, ◌∙◌}
+use Rattle.std.proofs.Common.{◌≡◌, ℕ, ℤ, pos, Bool, true, false, cond, None, List, length, get_or, set, nat_lt, FitsSigned, to_z, of_z, w32}
+use Rattle.std.proofs.Common.{refl, subst, sym, ap, ap₂, ◌∙◌}
+use Rattle.std.proofs.Math.ListN.{get_or-map}
 use Rattle.std.proofs.lemmas.Int.{to_z-of_z}
+use Rattle.std.proofs.lemmas.List.{map-set}
 use Rattle.std.specs.Option.{option_or}
+use Rattle.std.specs.Prelude.{◌&&◌, nat_le}
 use Rattle.ndarray_layout.specs.declared.Fit.{Fit}
 use Rattle.ndarray_layout.specs.declared.Order.{Order}
 use Rattle.ndarray_layout.specs.declared.SliceInfoElem.{SliceInfoElem}
 use Rattle.ndarray_layout.specs.BroadcastView.{broadcast_fault, broadcast_source, broadcast_strides}
 use Rattle.ndarray_layout.specs.ChunksView.{chunk_source, chunks_fault, chunks_of}
 use Rattle.ndarray_layout.specs.Descends.{Descends, IsViewOf}
+use Rattle.ndarray_layout.specs.Merge.{MergeFits, merged_shape, merged_strides}
+use Rattle.ndarray_layout.specs.MergedView.{HasMergedStride, axes_fault, merge_of, merge_source}
 use Rattle.ndarray_layout.specs.PermutedView.{permute_fault, permute_source, permuted_of}
 use Rattle.ndarray_layout.specs.ReshapedView.{reshape_source, reshaped_strides, view_reshape_fault}
 use Rattle.ndarray_layout.specs.Selected.{selected}
-use Rattle.ndarray_layout.specs.Signed.{all_signed}
+use Rattle.ndarray_layout.specs.Signed.{signed, all_signed}
 use Rattle.ndarray_layout.specs.View.{View, view_of}
 use Rattle.ndarray_layout.specs.WindowsView.{window_source, windows_fault, windows_of}
 use Rattle.ndarray_layout.proofs.laws.BroadcastView.{IsViewOf-broadcast_of}
 use Rattle.ndarray_layout.proofs.laws.ChunksView.{Descends-chunks_of}
+use Rattle.ndarray_layout.proofs.laws.MergedView.{Descends-merge_of, merge_fault_of_answer}
 use Rattle.ndarray_layout.proofs.laws.Options.{option_or_none}
 use Rattle.ndarray_layout.proofs.laws.PermutedView.{Descends-same_axes, permuted_axes}
 use Rattle.ndarray_layout.proofs.laws.ReshapedView.{Descends-reshape_of}
@@ -40,6 +47,18 @@ pub of_same_view : (elems : List SliceInfoElem) {fit same_fit : Fit} {view same 
 of_same_view elems {fit} {same_fit} {view} {same} {new} is fits kept =
     subst (λ view. Descends (selected same_fit elems view.shape) view new) is
     (subst (λ fit. Descends (selected fit elems view.shape) view new) fits kept)
+
+-- strides where axes are merged: into the one, that of the axis that lasts
+merged_along : (shape strides : List ℕ) (take into : ℕ) {new_strides : List ℕ} → new_strides ≡ merged_strides take into shape strides
+    → all_signed new_strides ≡ (merge_of take into (lowest_view shape strides)).strides
+merged_along shape strides take into along =
+    ap all_signed along ∙ map-set signed strides into _
+    ∙ ap (set (all_signed strides) into) (lasting (nat_lt 1 (get_or shape take 0) && nat_le (get_or shape into 0) 1))
+  where
+    lasting : (taken : Bool)
+        → signed (cond taken (get_or strides take 0) (get_or strides into 0)) ≡ get_or (all_signed strides) (cond taken take into) (pos 0)
+    lasting true = sym (get_or-map signed strides take 0)
+    lasting false = sym (get_or-map signed strides into 0)
 
 -- ---- layouts whose start stays
 module _ {shape : List ℕ} (strides new_strides : List ℕ) where
@@ -88,3 +107,15 @@ module _ {shape : List ℕ} (strides new_strides : List ℕ) where
       let view = view_of start shape strides in
       subst (λ strides. Descends (reshape_source order shape target) view (record { start = start; shape = target; strides = strides })) (sym along)
       (Descends-reshape_of order target v none)
+
+  pub merge_kept : {new_shape : List ℕ} (take into : ℕ) → axes_fault shape take into ≡ None
+      → MergeFits (get_or shape take 0) (signed (get_or strides take 0)) (get_or shape into 0) (signed (get_or strides into 0))
+      → new_shape ≡ merged_shape take into shape → new_strides ≡ merged_strides take into shape strides
+      → DescendsInPlace (merge_source take into shape) shape strides new_shape new_strides
+  merge_kept {new_shape} take into axes fits same along start v =
+      let view = view_of start shape strides in
+      let has : HasMergedStride take into view = rw (get_or-map signed strides take 0, get_or-map signed strides into 0) fits in
+      let none = merge_fault_of_answer take into view {merged = true} axes ((λ yes. has), (λ has. refl)) in
+      subst (Descends (merge_source take into shape) view)
+      (as_written (merge_of take into view) new_shape new_strides same (merged_along shape strides take into along))
+      (Descends-merge_of take into view v none)

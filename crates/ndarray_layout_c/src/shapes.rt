@@ -8,7 +8,7 @@ ghost use Rattle.ndarray_layout.specs.BroadcastView.{broadcast_fault, broadcast_
 ghost use Rattle.ndarray_layout.specs.CommonShape.{common_shape, common_shape_fault};
 ghost use Rattle.ndarray_layout.specs.Lengths.{NeedsNoMemory};
 ghost use Rattle.ndarray_layout.specs.Merge.{MergeFits, merged_shape, merged_strides};
-ghost use Rattle.ndarray_layout.specs.MergedView.{axes_fault};
+ghost use Rattle.ndarray_layout.specs.MergedView.{axes_fault, merge_source};
 ghost use Rattle.ndarray_layout.specs.PermutedView.{permute_fault, permute_source, permuted_of};
 ghost use Rattle.ndarray_layout.specs.ReshapedView.{reshape_source, reshaped_strides, view_reshape_fault};
 ghost use Rattle.ndarray_layout.specs.ShapeFault.{shape_fault};
@@ -88,6 +88,9 @@ pub extern "C" fn nd_merge_axes(
         × (strides.new ≡ merged_strides take into shape.old strides.old) }
     ensures apart { result ≡ ok → merged.new ≡ pos 0 →
         (shape.new ≡ shape.old) × (strides.new ≡ strides.old) }
+    ensures kept { result ≡ ok → merged.new ≡ pos 1 →
+        DescendsInPlace (merge_source take into shape.old)
+        shape.old strides.old shape.new strides.new }
     ensures unchanged { result ≢ ok →
         (shape.new ≡ shape.old) × (strides.new ≡ strides.old) × (merged.new ≡ merged.old) }
 {
