@@ -139,6 +139,10 @@ class Conflicts(unittest.TestCase):
         halves = [(..., slice(0, 2**30)), (..., slice(2**30, None)), (-1, slice(2**30, None, 2**20))]
         self.assertEqual(nd.first_conflict(shape, halves), (1, 2))
         self.assertIsNone(nd.first_conflict(shape, halves[:2], chunks=(1, 2**20)))
+        for step in (2**63 - 1, 2**63, 10**30, -(2**63), -(10**30)):
+            far = [slice(0, None, abs(step)), slice(7, None, step), slice(8, None, step)]
+            self.assertIsNone(nd.first_conflict(2**63 - 1, far))
+            self.assertEqual(nd.first_conflict(2**63 - 1, far, chunks=8), (0, 1))
         self.assertEqual(nd.first_conflict(shape, halves[:2], chunks=(1, 2**31 - 1)), (0, 1))
 
     def test_errors(self):
@@ -148,6 +152,8 @@ class Conflicts(unittest.TestCase):
         self.assertRaises(ShapeError, nd.first_conflict, (4, 4), [0], chunks=(2, 0))
         self.assertRaises(TypeError, nd.first_conflict, (4,), [0, [1, 2]])
         self.assertRaises(TypeError, nd.first_conflict, (4,), [True])
+        for outside in (4, -5, (0, 0), (..., ...), (..., 0, ...), (slice(4), 0, ...)):
+            self.assertRaises(IndexError, nd.first_conflict, (4,), [outside])
         self.assertRaises(ValueError, nd.first_conflict, (4,), [slice(0, 4, 0)])
         with self.assertRaises(IndexError) as caught:
             nd.first_conflict((4, 4), [0, (slice(0, 0), 9)])

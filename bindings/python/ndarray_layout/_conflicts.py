@@ -9,7 +9,7 @@ from typing import Any, Iterable, Optional
 
 from ._errors import LayoutError, ShapeError, error_of_kind
 from ._layouts import default_strides
-from ._numbers import Lens, Numbers, unsigned
+from ._numbers import LIMIT, Lens, Numbers, unsigned
 from ._reasons import of_block
 from ._slices import SLICE_WITH_END, Elem, Slice, basic_key, intersection, picked, slice_view
 
@@ -73,9 +73,24 @@ def _picks_at(position: int, shape: Lens, key: Any) -> list[range]:
 
 
 def _picks(shape: Lens, key: Any) -> list[range]:
+    """Slices and integers, the usual keys, are read without another call."""
     entries = key if type(key) is tuple else (key,)
-    if len(entries) == len(shape) and all([type(entry) is slice for entry in entries]):
-        return [range(length)[entry] for length, entry in zip(shape, entries)]
+    given = entries[:-1] if entries and entries[-1] is Ellipsis else entries
+    if len(given) > len(shape):
+        return _picks_of_any(shape, key)
+    found = []
+    for length, entry in zip(shape, given):
+        if type(entry) is slice:
+            found.append(range(length)[entry])
+        elif type(entry) is int and -length <= entry < length:
+            found.append(range(length)[entry:][:1])
+        else:
+            return _picks_of_any(shape, key)
+    return [*found, *map(range, shape[len(given) :])]
+
+
+def _picks_of_any(shape: Lens, key: Any) -> list[range]:
+    """`_picks` of any key, or its error."""
     elems = [elem for elem in basic_key(shape, key) if elem is not None]
     picked(shape, elems)  # (which refuses a `Slice` that leaves its axis)
     return [_picks_of(length, elem) for length, elem in zip(shape, elems)]
@@ -93,11 +108,11 @@ def _touched(picks: range, block: int) -> list[range]:
     if not picks:
         return []
     ascending = picks if picks.step > 0 else picks[::-1]
-    first, last, step = ascending[0], ascending[-1], ascending.step
     if block == 1:
         return [ascending]
-    if step <= block or first // block == last // block:
-        return [range(first // block, last // block + 1)]
+    step = ascending.step
+    if step <= block:
+        return [range(ascending[0] // block, ascending[-1] // block + 1)]
     period = block // gcd(step, block)  # (so many steps are a multiple of the block)
     return [_numbers(ascending[begin::period], block) for begin in range(min(period, len(ascending)))]
 
@@ -126,4 +141,5 @@ def _first_conflict(shape: Lens, parts: list[_Part]) -> Optional[tuple[int, int]
 
 
 def _fields(run: range) -> tuple[int, int, int, int]:
-    return SLICE_WITH_END, run.start, run[-1] + 1, run.step
+    """A run as an element of a slice. (a step above the limit leaves one number)"""
+    return SLICE_WITH_END, run.start, run[-1] + 1, min(run.step, LIMIT)
