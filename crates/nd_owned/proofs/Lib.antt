@@ -7,3 +7,4 @@ pub mod Sets
 pub mod Slices
 pub mod ViewRows
 pub mod Within
+pub mod laws

@@ -67,8 +67,8 @@ impl<'a, T: Drop, D: Lengths> ArrayViewMut<'a, T, D> {
     ///
     /// # Errors
     ///
-    /// Those of `Strided::from_shape` in owned mode, over as many elements of one byte as there are items, which are
-    /// unchanged.
+    /// Those of `Strided::from_shape` in owned mode, over as many elements of one byte as there are items. (A proof that
+    /// needs to know what the items are in the end takes `new`.)
     ///
     /// `[2]` with the stride `[-1]` over 7 8 9: (0) is 8, (1) is 7, and 9 is spare. ndarray's `from_shape`.
     pub fn from_shape(

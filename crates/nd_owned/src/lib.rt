@@ -1,5 +1,5 @@
-//! Arrays that own their items, over the layout layer: parts of one array, picked by slices, are read and written by the
-//! places of its layout.
+//! Arrays that own their items, and arrays of items that are kept elsewhere and lent, over the layout layer: parts of one
+//! array, picked by slices, are read and written by the places of its layout.
 #![tactic(auto)]
 
 mod array_view;

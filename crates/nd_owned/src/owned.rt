@@ -21,6 +21,7 @@ ghost use Rattle.nd_owned.specs.Owned.{IsOfNone, IsOwned, item_at, item_at_place
 ghost use Rattle.nd_owned.specs.MultiSet.{HaveNoItems, IsFaultOfWrites, IsWritten, KeepsOthers, counts_fault, write_of, write_places};
 ghost use Rattle.nd_owned.specs.private.Written.{HasWritten};
 
+use crate::array_view::ArrayView;
 use crate::multi_set::{check_apart, check_counts, part_of_write, parts_of, write_all};
 use crate::part::Part;
 use crate::rows::view_size;
@@ -28,7 +29,7 @@ use ndarray_layout::{
     CanIndexCheckMode, LayoutError, Lengths, NdIndex, SliceElems, SliceInfoElem, StrideShape,
     Strided,
 };
-use std::alloc::Global;
+use std::alloc::{AllocError, Global};
 use std::marker::Model;
 
 /// An array that owns its items. Each index of its shape has an item, at its place in the list of the items, and no two
@@ -194,6 +195,22 @@ impl<T: Copy, D: Lengths> OwnedArray<T, D> {
             }
             None => false,
         }
+    }
+
+    /// The array with its items lent, for the calls of `ArrayView`.
+    ///
+    /// # Errors
+    ///
+    /// Out of memory; never where the type fixes the count of axes or there are at most 4.
+    ///
+    /// `[2]` with the stride `[-1]` over 7 8 9: (0) is 8, (1) is 7, and 9 is spare. ndarray's `view`. To write,
+    /// `ArrayViewMut::new` takes a duplicate of the view and `stored_mut`.
+    pub fn as_view(&self, alloc: Global) -> Result<ArrayView<'_, T, D>, AllocError>
+        ensures array { IfOk result (λ a. a ≡ self.now) }
+        ensures memory { NeedsNoMemory D.NDIM (length self.now.view.shape) → IsOk result }
+    {
+        let view = self.view.duplicate(alloc)?;
+        Ok(ArrayView::new(view, self.items.as_slice()))
     }
 
     /// Copies of the items that a slice picks, in row-major order.

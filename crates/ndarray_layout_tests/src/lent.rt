@@ -69,37 +69,53 @@ const REST: SliceInfoElem = SliceInfoElem::Slice {
 /// What slices and axes leave of two rows.
 fn parts_are_lent(alloc: Global) -> Result<bool, LayoutError> {
     let rows = ArrayView::from_shape(alloc, two_rows(), &NUMBERS)?;
-    let sliced: Result<ArrayView<'_, u8, Ix2>, LayoutError> =
-        rows.slice(alloc, &[BACK, REST], Fit::Strict);
+    let sliced: Result<ArrayView<'_, u8, Ix2>, LayoutError> = rows.slice(
+        alloc,
+        &[BACK, REST],
+        Fit::Strict,
+    );
     let (first, second) = rows.duplicate(alloc)?.split_at(alloc, Axis(1), 1)?;
     let cropped = rows.crop(&new_ix2(0, 1), &new_ix2(2, 3));
-    Ok(has(sliced, &[4, 5, 1, 2])
-        && has(rows.index_axis(alloc, Axis(0), 1), &[3, 4, 5])
-        && has(Ok(rows.diag()), &[0, 4])
-        && has(Ok(first), &[0, 3])
-        && has(Ok(second), &[1, 2, 4, 5])
-        && cropped.is_some_and(|part| has(Ok(part), &[1, 2, 4, 5]))
-        && rows.crop(&new_ix2(0, 1), &new_ix2(2, 4)).is_none())
+    Ok(
+        has(sliced, &[4, 5, 1, 2])
+            && has(rows.index_axis(alloc, Axis(0), 1), &[3, 4, 5])
+            && has(Ok(rows.diag()), &[0, 4])
+            && has(Ok(first), &[0, 3])
+            && has(Ok(second), &[1, 2, 4, 5])
+            && cropped.is_some_and(|part| has(Ok(part), &[1, 2, 4, 5]))
+            && rows.crop(&new_ix2(0, 1), &new_ix2(2, 4)).is_none(),
+    )
 }
 
 /// What other orders and shapes make of two rows.
 fn orders_are_lent(alloc: Global) -> Result<bool, LayoutError> {
     let rows = ArrayView::from_shape(alloc, two_rows(), &NUMBERS)?;
     let row = rows.index_axis(alloc, Axis(0), 0)?;
-    let windows: Result<ArrayView<'_, u8, Ix4>, LayoutError> =
-        rows.windows(alloc, &new_ix2(1, 2));
-    let chunks: Result<ArrayView<'_, u8, Ix4>, LayoutError> =
-        rows.exact_chunks(alloc, &new_ix2(2, 1));
+    let windows: Result<ArrayView<'_, u8, Ix4>, LayoutError> = rows.windows(alloc, &new_ix2(1, 2));
+    let chunks: Result<ArrayView<'_, u8, Ix4>, LayoutError> = rows.exact_chunks(
+        alloc,
+        &new_ix2(2, 1),
+    );
     let longer = rows.reshape(alloc, &new_ix2(3, 2), Order::ColumnMajor);
-    Ok(has(rows.permuted_axes(alloc, &[Axis(1), Axis(0)]), &[0, 3, 1, 4, 2, 5])
-        && has(Ok(rows.duplicate(alloc)?.reversed_axes()), &[0, 3, 1, 4, 2, 5])
-        && has(rows.reshape(alloc, &new_ix2(3, 2), Order::RowMajor), &[0, 1, 2, 3, 4, 5])
-        && has(rows.reshape(alloc, &new_ix1(6), Order::RowMajor), &[0, 1, 2, 3, 4, 5])
-        && longer.is_err()
-        && has(row.broadcast(alloc, &new_ix2(2, 3)), &[0, 1, 2, 0, 1, 2])
-        && has(row.insert_axis(alloc, Axis(1)), &[0, 1, 2])
-        && has(windows, &[0, 1, 1, 2, 3, 4, 4, 5])
-        && has(chunks, &[0, 3, 1, 4, 2, 5]))
+    Ok(
+        has(
+            rows.permuted_axes(alloc, &[Axis(1), Axis(0)]),
+            &[0, 3, 1, 4, 2, 5],
+        ) && has(
+            Ok(rows.duplicate(alloc)?.reversed_axes()),
+            &[0, 3, 1, 4, 2, 5],
+        ) && has(
+            rows.reshape(alloc, &new_ix2(3, 2), Order::RowMajor),
+            &[0, 1, 2, 3, 4, 5],
+        ) && has(
+            rows.reshape(alloc, &new_ix1(6), Order::RowMajor),
+            &[0, 1, 2, 3, 4, 5],
+        ) && longer.is_err()
+            && has(row.broadcast(alloc, &new_ix2(2, 3)), &[0, 1, 2, 0, 1, 2])
+            && has(row.insert_axis(alloc, Axis(1)), &[0, 1, 2])
+            && has(windows, &[0, 1, 1, 2, 3, 4, 4, 5])
+            && has(chunks, &[0, 3, 1, 4, 2, 5]),
+    )
 }
 
 /// What is done to the axes of two rows.
@@ -118,7 +134,14 @@ fn axes_are_changed(alloc: Global) -> Result<bool, LayoutError> {
         && columns.collapse(Axis(0), 3).is_err()
         && columns.invert_axis(Axis(2)).is_err()
         && columns.merge(Axis(0), Axis(0)).is_err();
-    Ok(inverted && merged && collapsed && swapped && failed && come(columns.iter(), &[0, 3, 1, 4, 2, 5]))
+    Ok(
+        inverted
+            && merged
+            && collapsed
+            && swapped
+            && failed
+            && come(columns.iter(), &[0, 3, 1, 4, 2, 5]),
+    )
 }
 
 /// What arrays are made of a shape and of a view.
@@ -128,23 +151,37 @@ fn arrays_are_made(alloc: Global) -> Result<bool, LayoutError> {
     let short = ArrayView::from_shape(alloc, two_rows(), &items);
     let over = ArrayView::over(two.view().duplicate(alloc)?, &items[..2])?;
     let past = ArrayView::over(two.view().duplicate(alloc)?, &items[..1]);
-    Ok(two.get(&new_ix1(0)).copied() == Some(8)
-        && two.get(&new_ix1(1)).copied() == Some(7)
-        && two.get(&new_ix1(2)).is_none()
-        && two.stored().len() == 3
-        && two.dim().equal(&new_ix1(2))
-        && short.is_err()
-        && come(over.iter(), &[8, 7])
-        && past.is_err())
+    Ok(
+        two.get(&new_ix1(0)).copied() == Some(8)
+            && two.get(&new_ix1(1)).copied() == Some(7)
+            && two.get(&new_ix1(2)).is_none()
+            && two.stored().len() == 3
+            && two.dim().equal(&new_ix1(2))
+            && short.is_err()
+            && come(over.iter(), &[8, 7])
+            && past.is_err(),
+    )
 }
 
 #[test]
 fn numbers_are_lent(rt: HostRuntime) {
     let alloc = rt.alloc();
-    assert!(rt; parts_are_lent(alloc).is_ok_and(|holds| holds), "slices and axes");
-    assert!(rt; orders_are_lent(alloc).is_ok_and(|holds| holds), "orders and shapes");
-    assert!(rt; axes_are_changed(alloc).is_ok_and(|holds| holds), "axes in place");
-    assert!(rt; arrays_are_made(alloc).is_ok_and(|holds| holds), "shapes and views");
+    assert!(rt;
+        parts_are_lent(alloc).is_ok_and(|holds| holds),
+        "slices and axes"
+    );
+    assert!(rt;
+        orders_are_lent(alloc).is_ok_and(|holds| holds),
+        "orders and shapes"
+    );
+    assert!(rt;
+        axes_are_changed(alloc).is_ok_and(|holds| holds),
+        "axes in place"
+    );
+    assert!(rt;
+        arrays_are_made(alloc).is_ok_and(|holds| holds),
+        "shapes and views"
+    );
 }
 
 /// What writes through an array leave of the numbers.
@@ -154,8 +191,11 @@ fn numbers_are_set(alloc: Global) -> Result<bool, LayoutError> {
     let set = rows.set(&new_ix2(1, 0), 30);
     let missed = rows.set(&new_ix2(2, 0), 31);
     let got = rows.get(&new_ix2(1, 0)).copied() == Some(30) && rows.get(&new_ix2(0, 3)).is_none();
-    let mut backwards: ArrayViewMut<'_, u8, Ix1> =
-        rows.slice(alloc, &[SliceInfoElem::Index(0), BACK], Fit::Strict)?;
+    let mut backwards: ArrayViewMut<'_, u8, Ix1> = rows.slice(
+        alloc,
+        &[SliceInfoElem::Index(0), BACK],
+        Fit::Strict,
+    )?;
     let read = backwards.as_view(alloc)?;
     let lent = come(read.iter(), &[2, 1, 0]) && backwards.len() == 3 && !backwards.is_empty();
     backwards.fill(9);
@@ -181,18 +221,20 @@ fn numbers_are_assigned(alloc: Global) -> Result<bool, LayoutError> {
     let mut last = pairs.index_axis(alloc, Axis(0), 2)?;
     last.fill(22);
     drop(last);
-    Ok(refused
-        && assigned
-        && again
-        && first
-        && numbers == [21, 11, 20, 13, 22, 22, 6])
+    Ok(refused && assigned && again && first && numbers == [21, 11, 20, 13, 22, 22, 6])
 }
 
 #[test]
 fn numbers_are_written(rt: HostRuntime) {
     let alloc = rt.alloc();
-    assert!(rt; numbers_are_set(alloc).is_ok_and(|holds| holds), "set and fill");
-    assert!(rt; numbers_are_assigned(alloc).is_ok_and(|holds| holds), "assign");
+    assert!(rt;
+        numbers_are_set(alloc).is_ok_and(|holds| holds),
+        "set and fill"
+    );
+    assert!(rt;
+        numbers_are_assigned(alloc).is_ok_and(|holds| holds),
+        "assign"
+    );
 }
 
 /// A list of one number, in memory of its own.

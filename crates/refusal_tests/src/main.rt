@@ -5,6 +5,7 @@
 mod answer;
 mod axes;
 mod dimensions;
+mod lent;
 mod line;
 mod lists;
 mod owned;

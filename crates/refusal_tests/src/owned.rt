@@ -1,6 +1,6 @@
 //! Calls of an array of numbers, 0 and so on: the lists are its shape, its strides, how many items it has, and the items that are
 //! written to each of the first two coordinates of its first axis.
-use crate::answer::{Answer, failed, left, listed};
+use crate::answer::{Answer, failed, left, listed, memory};
 use crate::line::Call;
 use crate::views::REVERSED;
 use nd_owned::OwnedArray;
@@ -12,6 +12,7 @@ use test_tables::layout_fault_name;
 pub fn answer(alloc: Global, call: &Call<'_>) -> Option<Answer> {
     match call.name {
         "OwnedArray::from_shape_vec" => by_columns(alloc, call),
+        "OwnedArray::as_view" => viewed(alloc, call),
         "OwnedArray::items" => items(alloc, call),
         "OwnedArray::multi_set" => written(alloc, call),
         _ => None,
@@ -54,6 +55,15 @@ fn laid(alloc: Global, call: &Call<'_>) -> Option<StrideShape<IxDyn>> {
 fn array(alloc: Global, call: &Call<'_>) -> Option<OwnedArray<usize, IxDyn>> {
     let items = numbers(alloc, call.lists.third.at(0))?;
     OwnedArray::from_shape_vec(alloc, laid(alloc, call)?, items).ok()
+}
+
+/// The layout of the array, its items lent.
+fn viewed(alloc: Global, call: &Call<'_>) -> Option<Answer> {
+    let array = array(alloc, call)?;
+    match array.as_view(alloc) {
+        Ok(lent) => Answer::of("")?.and_view(lent.view()),
+        Err(_) => memory(),
+    }
 }
 
 /// The items of all axes, each from the last coordinate back.

@@ -1,5 +1,5 @@
-//! Other views of items that are lent to be written: each is made as that of its layout is, and ends the array. After an
-//! error the items are unchanged.
+//! Other views of items that are lent to be written: each is made as that of its layout is, and ends the array. Through a
+//! step that may fail a proof loses what the items are in the end; `ArrayViewMut::new` of a view that is made first keeps it.
 ghost use Rattle.std.specs.Prelude.{◌≡◌, ◌+◌, ◌-◌, ◌↔◌, IfErr, IfOk, IsOk, None, OnOk, length, reverse};
 ghost use Rattle.ndarray_layout.specs.AxesInOrder.{axis_numbers};
 ghost use Rattle.ndarray_layout.specs.ChunksView.{chunk_source, chunks_fault, chunks_of};
