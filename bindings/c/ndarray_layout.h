@@ -311,8 +311,9 @@ int32_t nd_merge_axes(size_t *shape, size_t shape_len, ptrdiff_t *strides, size_
  *
  * (2,3), strides (3,1), to (3,2): (2,1) in row-major order, ND_INCOMPATIBLE_LAYOUT in column-major order.
  */
-int32_t nd_reshape(const size_t *shape, size_t shape_len, const ptrdiff_t *strides, size_t strides_len, int32_t order,
-                   const size_t *new_shape, size_t new_shape_len, ptrdiff_t *new_strides, size_t new_strides_len);
+int32_t nd_reshape(const size_t *shape, size_t shape_len, const ptrdiff_t *strides, size_t strides_len,
+                   const size_t *new_shape, size_t new_shape_len, int32_t order, ptrdiff_t *new_strides,
+                   size_t new_strides_len);
 
 /*
  * Writes the shape and the strides with the axes in another order: axis k is axis `axes[k]`. The start is unchanged.
@@ -517,12 +518,12 @@ ND_INLINE int32_t nd_layout_permuted_axes(const nd_layout *layout, const size_t 
 }
 
 /* nd_reshape: the same places along another shape, in an order. */
-ND_INLINE int32_t nd_layout_reshape(const nd_layout *layout, int32_t order, const size_t *new_shape, size_t new_shape_len,
+ND_INLINE int32_t nd_layout_reshape(const nd_layout *layout, const size_t *new_shape, size_t new_shape_len, int32_t order,
                                     nd_layout *reshaped) {
     nd_layout made;
     if (layout->axes > ND_MAX_AXES || !nd_put_shape(&made, new_shape, new_shape_len)) return ND_BAD_ARGUMENT;
     made.start = layout->start;
-    return nd_keep(nd_reshape(layout->shape, layout->axes, layout->strides, layout->axes, order, made.shape, made.axes,
+    return nd_keep(nd_reshape(layout->shape, layout->axes, layout->strides, layout->axes, made.shape, made.axes, order,
                               made.strides, made.axes),
                    &made, reshaped);
 }

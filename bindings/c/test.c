@@ -231,13 +231,13 @@ static void test_merge(void) {
 static void test_reshape(void) {
     const size_t empty[2] = {0, 3}, five[1] = {5};
     ptrdiff_t strides[2] = {7, 7};
-#define RESHAPE(order, target) nd_reshape(LIST(two_three), LIST(by_rows), order, LIST(target), LIST(strides))
+#define RESHAPE(order, target) nd_reshape(LIST(two_three), LIST(by_rows), LIST(target), order, LIST(strides))
     CHECK(RESHAPE(2, three_two) == ND_BAD_ARGUMENT);
     CHECK(RESHAPE(ND_ROW_MAJOR, five) == ND_BAD_ARGUMENT);
     CHECK(RESHAPE(ND_COLUMN_MAJOR, three_two) == ND_INCOMPATIBLE_LAYOUT);
     CHECK(RESHAPE(ND_ROW_MAJOR, huge) == ND_OVERFLOW);
     CHECK(RESHAPE(ND_ROW_MAJOR, empty) == ND_INCOMPATIBLE_SHAPE);
-    CHECK(nd_reshape(LIST(two_three), LIST(by_rows), ND_ROW_MAJOR, LIST(five), strides, 1) == ND_INCOMPATIBLE_SHAPE);
+    CHECK(nd_reshape(LIST(two_three), LIST(by_rows), LIST(five), ND_ROW_MAJOR, strides, 1) == ND_INCOMPATIBLE_SHAPE);
     SAME(strides, 7, 7);
     CHECK(RESHAPE(ND_ROW_MAJOR, three_two) == ND_OK);
     SAME(strides, 2, 1);

@@ -104,8 +104,8 @@ static void test_layouts_of_layouts(void) {
     CHECK(nd_layout_from_strides(LIST(two_three), LIST(by_rows), six_bytes, ND_OWNED, &layout) == ND_OK);
     CHECK(nd_layout_permuted_axes(&layout, LIST(swapped), &other) == ND_OK && is(&other, 0, 2, 3, 2, 1, 3));
     CHECK(nd_layout_permuted_axes(&layout, swapped, 1, &other) == ND_INCOMPATIBLE_SHAPE && is(&other, 0, 2, 3, 2, 1, 3));
-    CHECK(nd_layout_reshape(&layout, ND_ROW_MAJOR, LIST(six), &other) == ND_OK && is(&other, 0, 1, 6, 6, 1, 1));
-    CHECK(nd_layout_reshape(&layout, ND_ROW_MAJOR, LIST(five), &other) == ND_INCOMPATIBLE_SHAPE);
+    CHECK(nd_layout_reshape(&layout, LIST(six), ND_ROW_MAJOR, &other) == ND_OK && is(&other, 0, 1, 6, 6, 1, 1));
+    CHECK(nd_layout_reshape(&layout, LIST(five), ND_ROW_MAJOR, &other) == ND_INCOMPATIBLE_SHAPE);
     CHECK(nd_layout_slice(&layout, row, 1, ND_STRICT, &other) == ND_INCOMPATIBLE_SHAPE);
     CHECK(is(&other, 0, 1, 6, 6, 1, 1));
     CHECK(nd_layout_windows(&layout, five, 1, &other) == ND_INCOMPATIBLE_SHAPE && is(&other, 0, 1, 6, 6, 1, 1));
@@ -139,7 +139,7 @@ static void test_too_many_axes(void) {
     CHECK(nd_layout_from_shape(many, 0, ND_ROW_MAJOR, &layout) == ND_OK && layout.axes == 0);
     CHECK(nd_layout_slice(&layout, axes, ND_MAX_AXES + 1, ND_STRICT, &layout) == ND_BAD_ARGUMENT && layout.axes == 0);
     CHECK(nd_layout_broadcast(&layout, LIST(many), &layout) == ND_BAD_ARGUMENT && layout.axes == 0);
-    CHECK(nd_layout_reshape(&layout, ND_ROW_MAJOR, LIST(many), &layout) == ND_BAD_ARGUMENT && layout.axes == 0);
+    CHECK(nd_layout_reshape(&layout, LIST(many), ND_ROW_MAJOR, &layout) == ND_BAD_ARGUMENT && layout.axes == 0);
     CHECK(nd_layout_slice(&layout, axes, ND_MAX_AXES, ND_STRICT, &layout) == ND_OK && layout.axes == ND_MAX_AXES);
     CHECK(nd_layout_permuted_axes(&layout, numbers, ND_MAX_AXES, &other) == ND_OK && other.axes == ND_MAX_AXES);
     CHECK(nd_layout_windows(&layout, layout.shape, ND_MAX_AXES, &other) == ND_BAD_ARGUMENT);
@@ -149,7 +149,7 @@ static void test_too_many_axes(void) {
     layout.axes = ND_MAX_AXES + 1;
     CHECK(nd_layout_slice(&layout, LIST(axes), ND_STRICT, &other) == ND_BAD_ARGUMENT);
     CHECK(nd_layout_permuted_axes(&layout, LIST(numbers), &other) == ND_BAD_ARGUMENT);
-    CHECK(nd_layout_reshape(&layout, ND_ROW_MAJOR, many, 1, &other) == ND_BAD_ARGUMENT);
+    CHECK(nd_layout_reshape(&layout, many, 1, ND_ROW_MAJOR, &other) == ND_BAD_ARGUMENT);
     CHECK(nd_layout_broadcast(&layout, many, 1, &other) == ND_BAD_ARGUMENT);
     CHECK(nd_layout_split_at(&layout, 0, 0, &other, &layout) == ND_BAD_ARGUMENT && layout.axes == ND_MAX_AXES + 1);
     layout.axes = ND_MAX_AXES / 2;
@@ -220,7 +220,7 @@ static int32_t random_reshape(const nd_layout *layout, nd_layout *reshaped) {
             shape[axes++] = len;
         }
     }
-    return nd_layout_reshape(layout, (int32_t)below(2), shape, axes, reshaped);
+    return nd_layout_reshape(layout, shape, axes, (int32_t)below(2), reshaped);
 }
 
 static int32_t random_broadcast(const nd_layout *layout, nd_layout *broadcast) {
@@ -345,7 +345,7 @@ static void test_no_lists(void) {
     CHECK(nd_co_broadcast(none, 0, none, 0, none, 0) == ND_OK);
     CHECK(nd_broadcast(none, 0, no_strides, 0, none, 0, no_strides, 0) == ND_OK);
     CHECK(nd_merge_axes(none, 0, no_strides, 0, 0, 1, &answer) == ND_OUT_OF_BOUNDS);
-    CHECK(nd_reshape(none, 0, no_strides, 0, ND_ROW_MAJOR, none, 0, no_strides, 0) == ND_OK);
+    CHECK(nd_reshape(none, 0, no_strides, 0, none, 0, ND_ROW_MAJOR, no_strides, 0) == ND_OK);
     CHECK(nd_permuted_axes(none, 0, no_strides, 0, none, 0, none, 0, no_strides, 0) == ND_OK);
     CHECK(nd_rows(5, none, 0, no_strides, 0, ND_ROW_MAJOR, none, 0, &stride, &number) == ND_BAD_ARGUMENT);
     CHECK(nd_first_intersection(none, 0, no_elems, 0, none, 0, ND_STRICT, pair, 2, &answer) == ND_OK && answer == 0);

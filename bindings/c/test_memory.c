@@ -90,7 +90,7 @@ static void test_short_lists(void) {
     REQUESTS(0, nd_first_intersection(LIST(shape), elems, 4, LIST(counts), ND_STRICT, written.starts, 2, &written.answer));
     REQUESTS(0, nd_picked(LIST(shape), elems, 2, ND_STRICT, &written.number));
     REQUESTS(0, nd_broadcast(LAYOUT, LIST(third_target), written.strides, 3));
-    REQUESTS(0, nd_reshape(LAYOUT, ND_ROW_MAJOR, LIST(flat), written.strides, 1));
+    REQUESTS(0, nd_reshape(LAYOUT, LIST(flat), ND_ROW_MAJOR, written.strides, 1));
     REQUESTS(0, nd_permuted_axes(LAYOUT, LIST(axes), written.shape, 2, written.strides, 2));
     REQUESTS(0, nd_windows(LAYOUT, LIST(two), written.shape, 4, written.strides, 4));
     REQUESTS(0, nd_exact_chunks(LAYOUT, LIST(two), written.shape, 4, written.strides, 4));
@@ -128,7 +128,7 @@ static void test_long_lists(void) {
     REQUESTS(2, nd_first_intersection(flat, 1, LIST(elems), LIST(long_counts), ND_STRICT, written.starts, 2, &written.answer));
     REQUESTS(3, nd_picked(LIST(long_shape), LIST(elems), ND_STRICT, &written.number));
     REQUESTS(5, nd_broadcast(LONG_LAYOUT, LIST(target), written.strides, 6));
-    REQUESTS(5, nd_reshape(LONG_LAYOUT, ND_ROW_MAJOR, LIST(regrouped), written.strides, 6));
+    REQUESTS(5, nd_reshape(LONG_LAYOUT, LIST(regrouped), ND_ROW_MAJOR, written.strides, 6));
     REQUESTS(5, nd_permuted_axes(LONG_LAYOUT, LIST(long_axes), written.shape, 6, written.strides, 6));
     REQUESTS(5, nd_windows(LONG_LAYOUT, LIST(ones), written.shape, 12, written.strides, 12));
     REQUESTS(5, nd_exact_chunks(LONG_LAYOUT, LIST(ones), written.shape, 12, written.strides, 12));

@@ -323,7 +323,7 @@ class _Joint(NamedTuple):
     fast: int
 
 
-def of_reshape(shape: Lens, strides: Lens, order: int, new_shape: Lens) -> Optional[Reason]:
+def of_reshape(shape: Lens, strides: Lens, new_shape: Lens, order: int) -> Optional[Reason]:
     return (
         of_layout(shape, strides)
         or of_size(new_shape)

@@ -87,7 +87,7 @@ def reshaped(lens: Packed, steps: Packed, new_lens: Packed, order: int) -> Lens:
     """The strides of another shape, of lists that are packed."""
     axes = new_lens[1]
     new_steps = axes.signed_room()
-    library.reshape(*lens, *steps, order, *new_lens, new_steps, axes)
+    library.reshape(*lens, *steps, *new_lens, order, new_steps, axes)
     return axes.unpack_signed(new_steps)
 
 

@@ -206,8 +206,8 @@ pub extern "C" fn nd_reshape(
     alloc: Global,
     shape: &[usize],
     strides: &[usize],
-    order: i32,
     new_shape: &[usize],
+    order: i32,
     new_strides: &mut [usize],
 ) -> i32
     ensures status { result ≢ out_of_memory → result ≡ status_where

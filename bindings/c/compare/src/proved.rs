@@ -59,7 +59,7 @@ exports! {
     nd_co_broadcast(first: &[usize], second: &[usize], common: &mut [usize]);
     nd_broadcast(shape: &[usize], strides: &[usize], target: &[usize], new_strides: &mut [usize]);
     nd_merge_axes(shape: &mut [usize], strides: &mut [usize], take: usize, into: usize, merged: &mut i32);
-    nd_reshape(shape: &[usize], strides: &[usize], order: i32, new_shape: &[usize], new_strides: &mut [usize]);
+    nd_reshape(shape: &[usize], strides: &[usize], new_shape: &[usize], order: i32, new_strides: &mut [usize]);
     nd_permuted_axes(shape: &[usize], strides: &[usize], axes: &[usize], new_shape: &mut [usize], new_strides: &mut [usize]);
     nd_windows(shape: &[usize], strides: &[usize], window: &[usize], new_shape: &mut [usize], new_strides: &mut [usize]);
     nd_exact_chunks(shape: &[usize], strides: &[usize], chunk: &[usize], new_shape: &mut [usize], new_strides: &mut [usize]);

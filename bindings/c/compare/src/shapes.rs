@@ -64,7 +64,7 @@ fn reshape() {
     let statuses = [OK, INCOMPATIBLE_SHAPE, INCOMPATIBLE_LAYOUT, OVERFLOW, BAD_ARGUMENT];
     compare!("nd_reshape", statuses, arguments, |(shape, strides, order, new_shape, room)| {
         let mut new_strides = room.clone();
-        (nd_reshape(shape, strides, *order, new_shape, &mut new_strides), new_strides)
+        (nd_reshape(shape, strides, new_shape, *order, &mut new_strides), new_strides)
     });
 }
 
