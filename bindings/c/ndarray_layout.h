@@ -23,7 +23,7 @@
  * is held to the same bounds, but for its highest place, which may be the count: (4,0), strides (1,4), fits 3 elements, and
  * not 2. An owned layout that has an index satisfies the no-alias rule: for each axis of length greater than 1, the reaches of
  * the other axes whose stride, without signs, is at most its own add up to less than its stride. Then no two indices have one
- * place. The rule is not necessary for that: (3,2), strides (2,3), breaks it. docs/RULES.md of the project has all rules.
+ * place. The rule is not necessary for that: (3,2), strides (2,3), breaks it. The project's docs/RULES.md has examples.
  *
  * New layouts. Each index of what nd_slice, nd_permuted_axes, nd_reshape, nd_broadcast, nd_windows, nd_exact_chunks or
  * nd_split_at writes has the place of an index of the layout that it was given. So the new layout lies in every buffer in
@@ -183,8 +183,8 @@ int32_t nd_is_layout_f(const size_t *shape, size_t shape_len, const ptrdiff_t *s
 /*
  * Writes the place of an index: the start plus, for each axis, the coordinate times the stride.
  *
- * Those of nd_check_layout for a buffer of all places up to the limit; then ND_OUT_OF_BOUNDS where the list is no index of
- * the shape: not one coordinate for each axis, or one that is not less than its length.
+ * Those of nd_check_layout for a buffer of bytes at all places up to the limit; then ND_OUT_OF_BOUNDS where the list is no
+ * index of the shape: not one coordinate for each axis, or one that is not less than its length.
  *
  * From 3, (2,3), strides (-3,1): (1,2) lies at 2.
  */
@@ -229,9 +229,8 @@ int32_t nd_rows(size_t start, const size_t *shape, size_t shape_len, const ptrdi
 
 /*
  * Slices a layout: writes the start, the shape and the strides of what is left. The new start is the place of the first
- * coordinates that are picked; an axis of which none is picked counts as from coordinate 0. An axis with fewer than two
- * coordinates left, and a new one, has stride 0. `new_shape`, `new_strides`: one for each element but an ND_INDEX. `fit`:
- * ND_STRICT or ND_CLAMPED.
+ * coordinate that is picked of each axis, or of 0 where none is. An axis with fewer than two coordinates left, and a new one,
+ * has the stride 0. `new_shape`, `new_strides`: one for each element but an ND_INDEX. `fit`: ND_STRICT or ND_CLAMPED.
  *
  * Those of nd_place for the layout; then ND_INCOMPATIBLE_SHAPE where the elements are for more axes than there are or for
  * fewer; then that of the first element with one: ND_OUT_OF_BOUNDS for an index that is not on its axis, or a bound that is
@@ -436,8 +435,8 @@ ND_INLINE const char *nd_status_message(int32_t status) {
 /* ---- Layouts as one value -------------------------------------------------------------------------------------------- */
 
 /*
- * The functions below are of this header, and not of the library: each but the two counts makes one call from above with the
- * fields of a layout. It returns the call's status, and after any but ND_OK nothing has been written. The layout that is
+ * The functions below are of this header, and not of the library: each but the two that count makes one call from above with
+ * the fields of a layout. It returns the call's status, and after any but ND_OK nothing has been written. The layout that is
  * written comes last, and may be the one that is read. ND_BAD_ARGUMENT, before every other status, also says that a layout
  * has more than ND_MAX_AXES axes, or would have.
  */

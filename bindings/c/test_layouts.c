@@ -97,9 +97,9 @@ static void test_places(void) {
 }
 
 static void test_rows(void) {
-    static const size_t no_columns[2] = {4, 0}, no_rows[2] = {0, 4}, cube[3] = {4, 3, 2};
+    static const size_t no_columns[2] = {4, 0}, no_rows[2] = {0, 4}, cube[3] = {4, 3, 2}, limits[3] = {(size_t)-1 / 2, 0, 1};
     nd_layout layout;
-    size_t starts[4] = {7, 7, 7, 7}, len = 77;
+    size_t starts[4] = {7, 7, 7, 7}, places[1] = {7}, len = 77;
     ptrdiff_t stride = 77;
     CHECK(nd_layout_from_strides(LIST(two_three), LIST(up), six_bytes, ND_OWNED, &layout) == ND_OK);
     CHECK(nd_layout_size(&layout) == 6);
@@ -122,6 +122,13 @@ static void test_rows(void) {
     CHECK(nd_layout_rows(&layout, ND_COLUMN_MAJOR, starts, 0, &stride, &len) == ND_OK && len == 0);
     CHECK(nd_layout_from_shape(LIST(cube), ND_ROW_MAJOR, &layout) == ND_OK && nd_layout_size(&layout) == 24);
     CHECK(nd_layout_row_count(&layout, ND_ROW_MAJOR) == 12 && nd_layout_row_count(&layout, ND_COLUMN_MAJOR) == 6);
+    CHECK(nd_layout_from_shape(LIST(limits), ND_ROW_MAJOR, &layout) == ND_OK && nd_layout_size(&layout) == 0);
+    CHECK(nd_layout_row_count(&layout, ND_ROW_MAJOR) == 0 && nd_layout_row_count(&layout, ND_COLUMN_MAJOR) == 0);
+    layout.shape[1] = 4; /* not accepted, since the product wraps */
+    CHECK(nd_layout_places(&layout, ND_ROW_MAJOR, places, 1) == ND_OVERFLOW && places[0] == 7);
+    layout.shape[1] = 1;
+    CHECK(nd_layout_size(&layout) == limits[0] && nd_layout_row_count(&layout, ND_ROW_MAJOR) == limits[0]);
+    CHECK(nd_layout_row_count(&layout, ND_COLUMN_MAJOR) == 1);
     CHECK(nd_layout_from_shape(cube, 0, ND_ROW_MAJOR, &layout) == ND_OK && nd_layout_size(&layout) == 1);
     CHECK(nd_layout_row_count(&layout, ND_ROW_MAJOR) == 1 && nd_layout_row_count(&layout, ND_COLUMN_MAJOR) == 1);
     CHECK(nd_layout_rows(&layout, ND_ROW_MAJOR, starts, 1, &stride, &len) == ND_OK && stride == 0 && len == 1);
