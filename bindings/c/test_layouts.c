@@ -99,7 +99,7 @@ static void test_places(void) {
 static void test_rows(void) {
     static const size_t no_columns[2] = {4, 0}, no_rows[2] = {0, 4}, cube[3] = {4, 3, 2}, limits[3] = {(size_t)-1 / 2, 0, 1};
     nd_layout layout;
-    size_t starts[4] = {7, 7, 7, 7}, places[1] = {7}, len = 77;
+    size_t starts[4] = {7, 7, 7, 7}, places[1] = {7}, len = 77, axis;
     ptrdiff_t stride = 77;
     CHECK(nd_layout_from_strides(LIST(two_three), LIST(up), six_bytes, ND_OWNED, &layout) == ND_OK);
     CHECK(nd_layout_size(&layout) == 6);
@@ -112,6 +112,7 @@ static void test_rows(void) {
     CHECK(starts[0] == 3 && starts[1] == 0 && starts[2] == 7);
     CHECK(nd_layout_rows(&layout, ND_COLUMN_MAJOR, starts, 3, &stride, &len) == ND_OK && stride == -3 && len == 2);
     CHECK(starts[0] == 3 && starts[1] == 4 && starts[2] == 5 && starts[3] == 7);
+    for (axis = 0; axis < ND_MAX_AXES; axis++) layout.shape[axis] = 1;
     layout.axes = ND_MAX_AXES + 1;
     CHECK(nd_layout_size(&layout) == 0 && nd_layout_row_count(&layout, ND_ROW_MAJOR) == 0);
     CHECK(nd_layout_rows(&layout, ND_ROW_MAJOR, starts, 0, &stride, &len) == ND_BAD_ARGUMENT);
