@@ -36,7 +36,7 @@ int main(void) {
     const size_t shape[2] = {6, 10}, swapped[2] = {1, 0};
     const nd_slice_elem crop[2] = {{ND_SLICE, 0, 1, 0, 1}, {ND_SLICE, 1, 2, 6, 1}};
     const nd_slice_elem flip[2] = {{ND_SLICE, 0, 0, 0, -1}, {ND_SLICE, 0, 0, 0, 1}};
-    const nd_data data = {.elem_size = 1, .len = sizeof pixels - 1};
+    const nd_data data = {1, sizeof pixels - 1};
     nd_layout picture;
 
     expect_ok(nd_layout_from_shape(shape, 2, ND_ROW_MAJOR, &picture));

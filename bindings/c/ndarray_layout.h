@@ -16,6 +16,15 @@
  * the new layout of nd_windows or nd_exact_chunks more than four axes, in place of every status but a ND_BAD_ARGUMENT that
  * comes first.
  *
+ * Accepted layouts. The reach of an axis is its length less 1, times its stride without the sign; 0 where the length is 0. The
+ * span is the sum of the reaches. The product of the lengths that are not 0, the span, and the span in bytes are each at most
+ * the limit. The lowest place, the start less the reaches of the axes with a negative stride, is at least 0. The highest one,
+ * the lowest and the span, is less than the count of the buffer's elements, and at most the limit. A layout without an index
+ * is held to the same bounds, but for its highest place, which may be the count: (4,0), strides (1,4), fits 3 elements, and
+ * not 2. An owned layout that has an index satisfies the no-alias rule: for each axis of length greater than 1, the reaches of
+ * the other axes whose stride, without signs, is at most its own add up to less than its stride. Then no two indices have one
+ * place. The rule is not necessary for that: (3,2), strides (2,3), breaks it. The project's docs/RULES.md has examples.
+ *
  * New layouts. Each index of what nd_slice, nd_permuted_axes, nd_reshape, nd_broadcast, nd_windows, nd_exact_chunks or
  * nd_split_at writes has the place of an index of the layout that it was given. So the new layout lies in every buffer in
  * which the given one lies. Where no two indices of the given one have one place, no two of a slice, a permutation, a reshape,
@@ -80,7 +89,7 @@ enum {
 /* The order in which indices are read: the last axis moves fastest, or the first one. */
 enum { ND_ROW_MAJOR = 0, ND_COLUMN_MAJOR = 1 };
 
-/* How a layout is used: elements are only read, or owned and written, so that no two indices may alias. */
+/* How a layout is used: elements are only read, or owned and written, and the layout satisfies the no-alias rule. */
 enum { ND_READ_ONLY = 0, ND_OWNED = 1 };
 
 /* What becomes of a bound of a slice that lies outside its axis: ND_OUT_OF_BOUNDS, or the nearest bound. */
@@ -91,9 +100,9 @@ enum { ND_SLICE = 0, ND_INDEX = 1, ND_NEW_AXIS = 2 };
 
 /*
  * An element of a slice. ND_SLICE keeps an axis: from `start` to before `end`, or to the end of the axis where `has_end` is
- * 0, each `step`-th coordinate, from the last one back where `step` is negative. ND_INDEX takes the coordinate `start` and
- * drops the axis. ND_NEW_AXIS adds an axis of length 1. Numbers below 0 count from the end of the axis. Fields that a
- * kind doesn't name are not looked at.
+ * 0, each `step`-th coordinate, from the last one back where `step` is negative; nothing where `end` isn't after `start`.
+ * ND_INDEX takes the coordinate `start` and drops the axis. ND_NEW_AXIS adds an axis of length 1. A `start` or an `end` below
+ * 0 counts from the end of the axis. Fields that a kind doesn't name are not looked at.
  */
 typedef struct nd_slice_elem {
     int32_t kind;
@@ -109,11 +118,11 @@ typedef struct nd_slice_elem {
  * Accepts a layout over a buffer of `len` elements of `elem_size` bytes, and writes the place of its first index, where its
  * lowest place is 0. `mode`: ND_READ_ONLY or ND_OWNED.
  *
- * ND_INCOMPATIBLE_LAYOUT: not one stride for each length. ND_OVERFLOW: the product of the lengths that are not 0, or the
- * span, in elements or in bytes, is greater than the limit. ND_OUT_OF_BOUNDS: the layout needs more than `len` elements.
- * ND_UNSUPPORTED: owned, and two indices may alias.
+ * ND_INCOMPATIBLE_LAYOUT: not one stride for each length. ND_OVERFLOW: the product of the lengths that are not 0, the span,
+ * or the span times `elem_size` is greater than the limit. ND_OUT_OF_BOUNDS: the span is `len` or more; for a layout without
+ * an index, more than `len`. ND_UNSUPPORTED: owned, there is an index, and the no-alias rule is broken.
  *
- * (3), strides (-1), over 3 elements: 2.
+ * (3), strides (-1), over 3 elements: 2. (2,0), strides (-3,-1), over 3: 3. (0,3), strides (1,PTRDIFF_MAX): ND_OVERFLOW.
  */
 int32_t nd_layout_start(const size_t *shape, size_t shape_len, const ptrdiff_t *strides, size_t strides_len,
                         size_t elem_size, size_t len, int32_t mode, size_t *start);
@@ -121,16 +130,18 @@ int32_t nd_layout_start(const size_t *shape, size_t shape_len, const ptrdiff_t *
 /*
  * Accepts a layout whose first index lies at `start`, over a buffer of `len` elements of `elem_size` bytes.
  *
- * The statuses of nd_layout_start, in their order; ND_OUT_OF_BOUNDS where an index lies before the buffer or past it.
+ * The statuses of nd_layout_start, in their order; ND_OUT_OF_BOUNDS where the lowest place is below 0, or the highest is `len`
+ * or more, or past the limit. Without an index the highest may be `len`.
  *
- * (3), strides (-1), over 5 elements: ND_OK from 4, ND_OUT_OF_BOUNDS from 1.
+ * (3), strides (-1), over 5 elements: ND_OK from 4, ND_OUT_OF_BOUNDS from 1. (0), strides (1), over 5: ND_OK from 5,
+ * ND_OUT_OF_BOUNDS from 6.
  */
 int32_t nd_check_layout(size_t start, const size_t *shape, size_t shape_len, const ptrdiff_t *strides, size_t strides_len,
                         size_t elem_size, size_t len, int32_t mode);
 
 /*
- * Writes 1 where two indices of a layout may alias, else 0: it has an index, and breaks the rule of owned layouts. After 0
- * no two indices have one place.
+ * Writes 1 where two indices of a layout may alias, else 0: it has an index, and breaks the no-alias rule. After 0 no two
+ * indices have one place.
  *
  * ND_INCOMPATIBLE_LAYOUT and ND_OVERFLOW as of nd_layout_start with an element of one byte.
  *
@@ -150,13 +161,15 @@ int32_t nd_default_strides(const size_t *shape, size_t shape_len, ptrdiff_t *str
 int32_t nd_fortran_strides(const size_t *shape, size_t shape_len, ptrdiff_t *strides, size_t strides_len);
 
 /*
- * Writes 1 or 0. nd_is_contiguous: whether the indices fill a stretch of the buffer without a gap, whatever their order,
- * by a rule that is exact where no length is 0. nd_is_layout_c: whether the places of all indices in row-major order follow
- * one another without a gap, or there is no index. nd_is_layout_f: the same in column-major order.
+ * Writes 1 or 0. nd_is_contiguous: whether the indices fill a stretch of the buffer without a gap, whatever their order.
+ * Where a length is 0: whether all strides are 0, there is one axis, or each axis has length 1 or a stride that is, without
+ * its sign, the product of the lengths of the axes with a lesser one; of two equal strides that of the lower axis is less.
+ * nd_is_layout_c: whether the places of all indices in row-major order follow one another without a gap, or there is no
+ * index. nd_is_layout_f: the same in column-major order.
  *
  * The statuses of nd_has_overlap.
  *
- * (2,3), strides (-3,1): 1, 0, 0.
+ * (2,3), strides (-3,1): 1, 0, 0. (0,3), strides (3,1): 1, 1, 1; strides (9,9): 0, 1, 1.
  */
 int32_t nd_is_contiguous(const size_t *shape, size_t shape_len, const ptrdiff_t *strides, size_t strides_len,
                          int32_t *answer);
@@ -170,8 +183,8 @@ int32_t nd_is_layout_f(const size_t *shape, size_t shape_len, const ptrdiff_t *s
 /*
  * Writes the place of an index: the start plus, for each axis, the coordinate times the stride.
  *
- * Those of nd_check_layout for a buffer of all places up to the limit; then ND_OUT_OF_BOUNDS where the list is no index of
- * the shape: not one coordinate for each axis, or one that is not less than its length.
+ * Those of nd_check_layout for a buffer of bytes at all places up to the limit; then ND_OUT_OF_BOUNDS where the list is no
+ * index of the shape: not one coordinate for each axis, or one that is not less than its length.
  *
  * From 3, (2,3), strides (-3,1): (1,2) lies at 2.
  */
@@ -215,14 +228,16 @@ int32_t nd_rows(size_t start, const size_t *shape, size_t shape_len, const ptrdi
 /* ---- Slices ---------------------------------------------------------------------------------------------------------- */
 
 /*
- * Slices a layout: writes the start, the shape and the strides of what is left. `new_shape`, `new_strides`: one for each
- * element but an ND_INDEX. `fit`: ND_STRICT or ND_CLAMPED.
+ * Slices a layout: writes the start, the shape and the strides of what is left. The new start is the place of the first
+ * coordinate that is picked of each axis, or of 0 where none is. An axis with fewer than two coordinates left, and a new one,
+ * has the stride 0. `new_shape`, `new_strides`: one for each element but an ND_INDEX. `fit`: ND_STRICT or ND_CLAMPED.
  *
  * Those of nd_place for the layout; then ND_INCOMPATIBLE_SHAPE where the elements are for more axes than there are or for
  * fewer; then that of the first element with one: ND_OUT_OF_BOUNDS for an index that is not on its axis, or a bound that is
  * not and is not to be clamped, ND_UNSUPPORTED for a step of 0; then ND_BAD_ARGUMENT for another count of what is written.
  *
- * From 5, (4), strides (3), by `1..` with a step of -2: from 14, (2), strides (-6).
+ * From 5, (4), strides (3), by `1..` with a step of -2: from 14, (2), strides (-6); by `2..3`: from 11, (1), strides (0); by
+ * `3..1`: from 5, (0), strides (0).
  */
 int32_t nd_slice(size_t start, const size_t *shape, size_t shape_len, const ptrdiff_t *strides, size_t strides_len,
                  const nd_slice_elem *elems, size_t elems_len, int32_t fit, size_t *new_start, size_t *new_shape,
@@ -242,12 +257,18 @@ int32_t nd_slices_intersect(const size_t *shape, size_t shape_len, const nd_slic
 
 /*
  * Writes the positions of two of many slices of a shape that share an index, the less first, and 1; else writes 0 and leaves
- * `pair`. `elems`: those of all slices, one slice after another. `counts`: how many each slice has. `pair`: two.
+ * `pair`. Where several pairs do, it is one of them, and need not be the least. `elems`: those of all slices, one slice after
+ * another. `counts`: how many each slice has. `pair`: two.
+ *
+ * Slices that begin in their order along an axis, or in the reverse order, and overlap few others there take time in
+ * proportion to their count k. Those in no order, or with new axes, are compared pair by pair, k * (k - 1) / 2 times: 10,000
+ * of one axis took a millisecond in order, and a second in no order.
  *
  * ND_BAD_ARGUMENT, first, also where the counts don't add up to that of the elements. ND_OVERFLOW as of nd_slices_intersect;
  * then those of nd_slice for the elements of the first slice with one.
  *
- * (2,3), the first row, the last row and the last column: 1, and 0 2. The two rows alone: 0.
+ * (2,3), the first row, the last row and the last column: 1, and 0 2. The two rows alone: 0. (4), by `2..4`, `1..3` and
+ * `0..2`: 1, and 1 2.
  */
 int32_t nd_first_intersection(const size_t *shape, size_t shape_len, const nd_slice_elem *elems, size_t elems_len,
                               const size_t *counts, size_t counts_len, int32_t fit, size_t *pair, size_t pair_len,
@@ -290,12 +311,13 @@ int32_t nd_broadcast(const size_t *shape, size_t shape_len, const ptrdiff_t *str
 /*
  * Merges the axis `take` into the axis `into`, in place, where one stride serves for both, and writes 1; else writes
  * 0 and changes neither list. Then the axis `into` has the coordinates of both, that of `take` moving slowest, and `take`
- * keeps one coordinate, or none where there are none.
+ * keeps one coordinate, or none where one of the two has none. One stride serves where one of the two has a length of 0 or 1,
+ * or the stride of `take` is the length times the stride of `into`.
  *
  * ND_INCOMPATIBLE_LAYOUT and ND_OVERFLOW as of nd_has_overlap; then ND_OUT_OF_BOUNDS where there is no such axis; then
  * ND_UNSUPPORTED for one axis twice.
  *
- * Axis 0 into axis 1 of (2,3), strides (3,1): (1,6), strides (3,1).
+ * Axis 0 into axis 1 of (2,3), strides (3,1): (1,6), strides (3,1). Of (2,0), strides (3,1): (0,0), strides (3,3).
  */
 int32_t nd_merge_axes(size_t *shape, size_t shape_len, ptrdiff_t *strides, size_t strides_len, size_t take, size_t into,
                       int32_t *merged);
@@ -307,9 +329,13 @@ int32_t nd_merge_axes(size_t *shape, size_t shape_len, ptrdiff_t *strides, size_
  *
  * ND_INCOMPATIBLE_LAYOUT and ND_OVERFLOW as of nd_has_overlap; then ND_OVERFLOW where `new_shape` is too large; then
  * ND_INCOMPATIBLE_SHAPE where one of the two shapes alone has no index; then ND_INCOMPATIBLE_LAYOUT where two axes would
- * have to step as one and don't; then ND_INCOMPATIBLE_SHAPE where the sizes differ.
+ * have to step as one and don't; then ND_INCOMPATIBLE_SHAPE where the sizes differ. Two neighbours among the axes longer than
+ * 1 step as one where the stride of the slower is the length times the stride of the faster. They have to unless p, the
+ * product of the lengths from the slowest axis to the slower of the two, is the size of `new_shape` or more, or the product of
+ * its lengths from its slowest axis to some axis.
  *
- * (2,3), strides (3,1), to (3,2): (2,1) in row-major order, ND_INCOMPATIBLE_LAYOUT in column-major order.
+ * (2,3), strides (3,1), to (3,2): (2,1) in row-major order, ND_INCOMPATIBLE_LAYOUT in column-major order. Strides (4,1), in
+ * row-major order, p is 2: to (5) ND_INCOMPATIBLE_LAYOUT, to (2,4) or (2) ND_INCOMPATIBLE_SHAPE.
  */
 int32_t nd_reshape(const size_t *shape, size_t shape_len, const ptrdiff_t *strides, size_t strides_len,
                    const size_t *new_shape, size_t new_shape_len, int32_t order, ptrdiff_t *new_strides,
@@ -357,12 +383,13 @@ int32_t nd_exact_chunks(const size_t *shape, size_t shape_len, const ptrdiff_t *
 /*
  * Splits a layout along an axis: the first part has the coordinates below `index`, the second those from `index` on. Writes
  * both starts, the lengths of the first part and then those of the second, and the strides, which are those of both parts.
- * Where the second part has no index it starts where the layout does. `new_starts`: two. `new_shapes`: two for each axis.
- * `new_strides`: one for each axis.
+ * Where `index` is the length of the axis, the second part starts where the layout does; else at the coordinate `index`, even
+ * where another axis has the length 0. `new_starts`: two. `new_shapes`: two for each axis. `new_strides`: one for each axis.
  *
  * Those of nd_place for the layout; then ND_OUT_OF_BOUNDS where there is no such axis, or `index` is greater than its length.
  *
- * From 0, (2,3), strides (3,1), axis 1 at 1: from 0, (2,1), and from 1, (2,2), strides (3,1).
+ * From 0, (2,3), strides (3,1), axis 1 at 1: from 0, (2,1), and from 1, (2,2), strides (3,1). From 3, (2,0), strides (-3,-1),
+ * axis 0 at 1: from 3, (1,0), and from 0, (1,0); at 2: from 3, (2,0), and from 3, (0,0).
  */
 int32_t nd_split_at(size_t start, const size_t *shape, size_t shape_len, const ptrdiff_t *strides, size_t strides_len,
                     size_t axis, size_t index, size_t *new_starts, size_t new_starts_len, size_t *new_shapes,
@@ -408,10 +435,10 @@ ND_INLINE const char *nd_status_message(int32_t status) {
 /* ---- Layouts as one value -------------------------------------------------------------------------------------------- */
 
 /*
- * The functions below are of this header, and not of the library: each makes one call from above with the fields of a
- * layout. It returns the call's status, and after any but ND_OK nothing has been written. The layout that is written comes
- * last, and may be the one that is read. ND_BAD_ARGUMENT, before every other status, also says that a layout has more than
- * ND_MAX_AXES axes, or would have.
+ * The functions below are of this header, and not of the library: each but the two that count makes one call from above with
+ * the fields of a layout. It returns the call's status, and after any but ND_OK nothing has been written. The layout that is
+ * written comes last, and may be the one that is read. ND_BAD_ARGUMENT, before every other status, also says that a layout
+ * has more than ND_MAX_AXES axes, or would have.
  */
 #define ND_MAX_AXES 32
 
@@ -491,6 +518,47 @@ ND_INLINE int32_t nd_layout_places(const nd_layout *layout, int32_t order, size_
     return nd_places(layout->start, layout->shape, layout->axes, layout->strides, layout->axes, order, places, places_len);
 }
 
+/* nd_rows: the start of each row in an order, and the stride and the length of all rows. */
+ND_INLINE int32_t nd_layout_rows(const nd_layout *layout, int32_t order, size_t *starts, size_t starts_len,
+                                 ptrdiff_t *stride, size_t *len) {
+    if (layout->axes > ND_MAX_AXES) return ND_BAD_ARGUMENT;
+    return nd_rows(layout->start, layout->shape, layout->axes, layout->strides, layout->axes, order, starts, starts_len,
+                   stride, len);
+}
+
+/* nd_next_index: moves an index to the next one in an order. */
+ND_INLINE int32_t nd_layout_next_index(const nd_layout *layout, size_t *index, size_t index_len, int32_t order,
+                                       int32_t *has_next) {
+    if (layout->axes > ND_MAX_AXES) return ND_BAD_ARGUMENT;
+    return nd_next_index(layout->shape, layout->axes, index, index_len, order, has_next);
+}
+
+/* (of this header alone) The product of lengths; 0 where one is 0. */
+ND_INLINE size_t nd_product(const size_t *lengths, size_t count) {
+    size_t product = 1;
+    while (count > 0) product *= lengths[--count];
+    return product;
+}
+
+/*
+ * How many indices a layout has, which is how many places nd_layout_places writes. It is at most the limit, and never wraps,
+ * where a call has accepted the layout or made it; nd_layout_places refuses every other count. 0 where there are more than
+ * ND_MAX_AXES axes.
+ */
+ND_INLINE size_t nd_layout_size(const nd_layout *layout) {
+    return layout->axes > ND_MAX_AXES ? 0 : nd_product(layout->shape, layout->axes);
+}
+
+/*
+ * How many rows a layout has in an order, which is how many starts nd_layout_rows writes: 1 without axes, 0 without an index.
+ * What nd_layout_size says of its number holds of this one too. 0 for a number that is no order.
+ */
+ND_INLINE size_t nd_layout_row_count(const nd_layout *layout, int32_t order) {
+    if (order != ND_ROW_MAJOR && order != ND_COLUMN_MAJOR) return 0;
+    if (layout->axes == 0 || nd_layout_size(layout) == 0) return nd_layout_size(layout);
+    return nd_product(layout->shape + (order == ND_COLUMN_MAJOR), layout->axes - 1);
+}
+
 /* nd_slice. */
 ND_INLINE int32_t nd_layout_slice(const nd_layout *layout, const nd_slice_elem *elems, size_t elems_len, int32_t fit,
                                   nd_layout *slice) {
@@ -562,7 +630,10 @@ ND_INLINE int32_t nd_layout_exact_chunks(const nd_layout *layout, const size_t *
                    &made, chunks);
 }
 
-/* nd_split_at: the parts below a coordinate of an axis and from it on. Each may be the layout that is read, but not both. */
+/*
+ * nd_split_at: the parts below a coordinate of an axis and from it on, in two layouts that are not one. One of them may be the
+ * layout that is read.
+ */
 ND_INLINE int32_t nd_layout_split_at(const nd_layout *layout, size_t axis, size_t index, nd_layout *first,
                                      nd_layout *second) {
     nd_layout made;

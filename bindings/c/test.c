@@ -25,11 +25,12 @@ static void check(int holds, int line, const char *what) {
 static const size_t none[1] = {0};
 static const ptrdiff_t no_strides[1] = {0};
 static const size_t two_three[2] = {2, 3}, three_two[2] = {3, 2}, huge[2] = {PTRDIFF_MAX, 2};
-static const ptrdiff_t by_rows[2] = {3, 1}, up[2] = {-3, 1}, crossed[2] = {2, 3};
+static const ptrdiff_t by_rows[2] = {3, 1}, up[2] = {-3, 1}, crossed[2] = {2, 3}, back_both[2] = {-3, -1};
 
 static void test_layout_start(void) {
     const size_t three[1] = {3};
-    const ptrdiff_t back[1] = {-1}, far[1] = {PTRDIFF_MAX};
+    const size_t no_rows[2] = {0, 3}, no_columns[2] = {4, 0};
+    const ptrdiff_t back[1] = {-1}, far[1] = {PTRDIFF_MAX}, by_columns[2] = {1, 4}, far_columns[2] = {1, PTRDIFF_MAX};
     size_t start = 77;
     CHECK(nd_layout_start(LIST(three), LIST(back), 4, 3, ND_OWNED, &start) == ND_OK && start == 2);
     start = 77;
@@ -39,7 +40,14 @@ static void test_layout_start(void) {
     CHECK(nd_layout_start(LIST(three_two), LIST(crossed), 4, 8, ND_OWNED, &start) == ND_UNSUPPORTED);
     CHECK(nd_layout_start(LIST(three), LIST(back), 4, 6, 2, &start) == ND_BAD_ARGUMENT);
     CHECK(nd_layout_start(LIST(three), LIST(back), 4, 6, -1, &start) == ND_BAD_ARGUMENT);
+    CHECK(nd_layout_start(LIST(three), LIST(back), PTRDIFF_MAX / 2 + 1, 3, ND_READ_ONLY, &start) == ND_OVERFLOW);
+    CHECK(nd_layout_start(LIST(no_columns), LIST(by_columns), 4, 2, ND_OWNED, &start) == ND_OUT_OF_BOUNDS);
+    CHECK(nd_layout_start(LIST(no_rows), LIST(far_columns), 1, SIZE_MAX, ND_READ_ONLY, &start) == ND_OVERFLOW);
     CHECK(start == 77);
+    CHECK(nd_layout_start(LIST(three), LIST(back), PTRDIFF_MAX / 2, 3, ND_READ_ONLY, &start) == ND_OK && start == 2);
+    CHECK(nd_layout_start(LIST(three), no_strides, 1, PTRDIFF_MAX, 1, ND_READ_ONLY, &start) == ND_OK && start == 0);
+    CHECK(nd_layout_start(LIST(no_columns), LIST(back_both), 4, 9, ND_OWNED, &start) == ND_OK && start == 9);
+    CHECK(nd_layout_start(LIST(no_columns), LIST(by_columns), 4, 3, ND_OWNED, &start) == ND_OK && start == 0);
     CHECK(nd_layout_start(LIST(three_two), LIST(crossed), 4, 8, ND_READ_ONLY, &start) == ND_OK && start == 0);
     CHECK(nd_layout_start(none, 0, no_strides, 0, 4, 1, ND_OWNED, &start) == ND_OK && start == 0);
     CHECK(nd_layout_start(none, 0, no_strides, 0, 4, 0, ND_OWNED, &start) == ND_OUT_OF_BOUNDS);
@@ -55,10 +63,15 @@ static void test_check_layout(void) {
     CHECK(nd_check_layout(4, LIST(three), LIST(up), 1, 5, ND_OWNED) == ND_INCOMPATIBLE_LAYOUT);
     CHECK(nd_check_layout(0, LIST(three_two), LIST(crossed), 1, 8, ND_OWNED) == ND_UNSUPPORTED);
     CHECK(nd_check_layout(4, LIST(three), LIST(back), 1, 5, 7) == ND_BAD_ARGUMENT);
+    CHECK(nd_check_layout(PTRDIFF_MAX, LIST(three), LIST(back), 1, SIZE_MAX, ND_OWNED) == ND_OK);
+    CHECK(nd_check_layout((size_t)PTRDIFF_MAX + 1, LIST(three), LIST(back), 1, SIZE_MAX, ND_OWNED) == ND_OUT_OF_BOUNDS);
+    CHECK(nd_check_layout(5, none, 1, LIST(back), 1, 5, ND_OWNED) == ND_OK);
+    CHECK(nd_check_layout(6, none, 1, LIST(back), 1, 5, ND_OWNED) == ND_OUT_OF_BOUNDS);
 }
 
 static void test_questions(void) {
-    const ptrdiff_t by_columns[2] = {1, 2};
+    const size_t no_rows[2] = {0, 3};
+    const ptrdiff_t by_columns[2] = {1, 2}, nines[2] = {9, 9}, zeros[2] = {0, 0};
     int32_t answer = 77;
     CHECK(nd_has_overlap(LIST(two_three), no_strides, 1, &answer) == ND_INCOMPATIBLE_LAYOUT);
     CHECK(nd_is_contiguous(LIST(huge), LIST(by_rows), &answer) == ND_OVERFLOW);
@@ -69,6 +82,12 @@ static void test_questions(void) {
     CHECK(nd_has_overlap(LIST(three_two), LIST(crossed), &answer) == ND_OK && answer == 1);
     CHECK(nd_is_contiguous(LIST(two_three), LIST(up), &answer) == ND_OK && answer == 1);
     CHECK(nd_is_contiguous(LIST(three_two), LIST(crossed), &answer) == ND_OK && answer == 0);
+    CHECK(nd_is_contiguous(LIST(no_rows), LIST(by_rows), &answer) == ND_OK && answer == 1);
+    CHECK(nd_is_contiguous(LIST(no_rows), LIST(nines), &answer) == ND_OK && answer == 0);
+    CHECK(nd_is_contiguous(LIST(no_rows), LIST(zeros), &answer) == ND_OK && answer == 1);
+    CHECK(nd_is_contiguous(none, 1, nines, 1, &answer) == ND_OK && answer == 1);
+    CHECK(nd_is_layout_c(LIST(no_rows), LIST(nines), &answer) == ND_OK && answer == 1);
+    CHECK(nd_is_layout_f(LIST(no_rows), LIST(nines), &answer) == ND_OK && answer == 1);
     CHECK(nd_is_layout_c(LIST(two_three), LIST(by_rows), &answer) == ND_OK && answer == 1);
     CHECK(nd_is_layout_c(LIST(two_three), LIST(up), &answer) == ND_OK && answer == 0);
     CHECK(nd_is_layout_f(LIST(two_three), LIST(by_columns), &answer) == ND_OK && answer == 1);
@@ -229,7 +248,8 @@ static void test_merge(void) {
 }
 
 static void test_reshape(void) {
-    const size_t empty[2] = {0, 3}, five[1] = {5};
+    const size_t empty[2] = {0, 3}, five[1] = {5}, two[1] = {2}, two_four[2] = {2, 4};
+    const ptrdiff_t with_gap[2] = {4, 1};
     ptrdiff_t strides[2] = {7, 7};
 #define RESHAPE(order, target) nd_reshape(LIST(two_three), LIST(by_rows), LIST(target), order, LIST(strides))
     CHECK(RESHAPE(2, three_two) == ND_BAD_ARGUMENT);
@@ -238,6 +258,9 @@ static void test_reshape(void) {
     CHECK(RESHAPE(ND_ROW_MAJOR, huge) == ND_OVERFLOW);
     CHECK(RESHAPE(ND_ROW_MAJOR, empty) == ND_INCOMPATIBLE_SHAPE);
     CHECK(nd_reshape(LIST(two_three), LIST(by_rows), LIST(five), ND_ROW_MAJOR, strides, 1) == ND_INCOMPATIBLE_SHAPE);
+#define RESHAPE_GAP(target) nd_reshape(LIST(two_three), LIST(with_gap), LIST(target), ND_ROW_MAJOR, strides, COUNT(target))
+    CHECK(RESHAPE_GAP(five) == ND_INCOMPATIBLE_LAYOUT && RESHAPE_GAP(three_two) == ND_INCOMPATIBLE_LAYOUT);
+    CHECK(RESHAPE_GAP(two) == ND_INCOMPATIBLE_SHAPE && RESHAPE_GAP(two_four) == ND_INCOMPATIBLE_SHAPE);
     SAME(strides, 7, 7);
     CHECK(RESHAPE(ND_ROW_MAJOR, three_two) == ND_OK);
     SAME(strides, 2, 1);
@@ -378,6 +401,8 @@ static const nd_slice_elem slices[8] = {{ND_INDEX, 0, 0, 0, 0},  {ND_SLICE, 0, 0
 static void test_first_intersection(void) {
     const size_t four[1] = {4}, each[4] = {2, 2, 2, 2}, short_one[4] = {2, 2, 1, 3};
     const size_t too_many[2] = {SIZE_MAX, 9}, ones[6] = {0, 0, 0, 0, 0, 1};
+    const nd_slice_elem parts[3] = {{ND_SLICE, 1, 2, 4, 1}, {ND_SLICE, 1, 1, 3, 1}, {ND_SLICE, 1, 0, 2, 1}};
+    const size_t one_each[3] = {1, 1, 1};
     size_t pair[2] = {7, 7};
     int32_t found = 77;
 #define INTERSECTION(shape, elems, elems_len, counts, counts_len, fit) \
@@ -402,16 +427,12 @@ static void test_first_intersection(void) {
     SAME(pair, 7, 7);
     CHECK(INTERSECTION(two_three, slices, 6, each, 3, ND_STRICT) == ND_OK && found == 1);
     SAME(pair, 0, 2);
+    CHECK(INTERSECTION(four, parts, 3, one_each, 3, ND_STRICT) == ND_OK && found == 1);
+    SAME(pair, 1, 2); /* not 0 1 */
     CHECK(INTERSECTION(two_three, slices + 2, 4, each, 2, ND_STRICT) == ND_OK && found == 1);
     SAME(pair, 0, 1);
     CHECK(nd_first_intersection(none, 0, slices, 0, LIST(ones) - 1, ND_STRICT, LIST(pair), &found) == ND_OK && found == 1);
     SAME(pair, 0, 1);
-}
-
-static void test_version(void) {
-    int32_t major = 77, minor = 77, patch = 77;
-    CHECK(nd_version(&major, &minor, &patch) == ND_OK);
-    CHECK(major == ND_VERSION_MAJOR && minor == ND_VERSION_MINOR && patch == ND_VERSION_PATCH);
 }
 
 static void test_status_text(void) {
@@ -469,7 +490,6 @@ int main(void) {
     test_split_at();
     test_rows();
     test_first_intersection();
-    test_version();
     test_status_text();
     CHECK(calls == 0);
     printf("%d checked, %d failed\n", checked, failed);

@@ -96,6 +96,92 @@ static void test_places(void) {
     CHECK(nd_layout_places(&layout, ND_ROW_MAJOR, LIST(places)) == ND_BAD_ARGUMENT);
 }
 
+static void test_rows(void) {
+    static const size_t no_columns[2] = {4, 0}, no_rows[2] = {0, 4}, cube[3] = {4, 3, 2}, limits[3] = {(size_t)-1 / 2, 0, 1};
+    nd_layout layout;
+    size_t starts[4] = {7, 7, 7, 7}, places[1] = {7}, len = 77, axis;
+    ptrdiff_t stride = 77;
+    CHECK(nd_layout_from_strides(LIST(two_three), LIST(up), six_bytes, ND_OWNED, &layout) == ND_OK);
+    CHECK(nd_layout_size(&layout) == 6);
+    CHECK(nd_layout_row_count(&layout, ND_ROW_MAJOR) == 2 && nd_layout_row_count(&layout, ND_COLUMN_MAJOR) == 3);
+    CHECK(nd_layout_row_count(&layout, 2) == 0 && nd_layout_row_count(&layout, -1) == 0);
+    CHECK(nd_layout_rows(&layout, 2, starts, 2, &stride, &len) == ND_BAD_ARGUMENT);
+    CHECK(nd_layout_rows(&layout, ND_ROW_MAJOR, starts, 3, &stride, &len) == ND_BAD_ARGUMENT);
+    CHECK(starts[0] == 7 && stride == 77 && len == 77);
+    CHECK(nd_layout_rows(&layout, ND_ROW_MAJOR, starts, 2, &stride, &len) == ND_OK && stride == 1 && len == 3);
+    CHECK(starts[0] == 3 && starts[1] == 0 && starts[2] == 7);
+    CHECK(nd_layout_rows(&layout, ND_COLUMN_MAJOR, starts, 3, &stride, &len) == ND_OK && stride == -3 && len == 2);
+    CHECK(starts[0] == 3 && starts[1] == 4 && starts[2] == 5 && starts[3] == 7);
+    for (axis = 0; axis < ND_MAX_AXES; axis++) layout.shape[axis] = 1;
+    layout.axes = ND_MAX_AXES + 1;
+    CHECK(nd_layout_size(&layout) == 0 && nd_layout_row_count(&layout, ND_ROW_MAJOR) == 0);
+    CHECK(nd_layout_rows(&layout, ND_ROW_MAJOR, starts, 0, &stride, &len) == ND_BAD_ARGUMENT);
+    CHECK(nd_layout_from_shape(LIST(no_columns), ND_ROW_MAJOR, &layout) == ND_OK && nd_layout_size(&layout) == 0);
+    CHECK(nd_layout_row_count(&layout, ND_ROW_MAJOR) == 0 && nd_layout_row_count(&layout, ND_COLUMN_MAJOR) == 0);
+    CHECK(nd_layout_from_shape(LIST(no_rows), ND_ROW_MAJOR, &layout) == ND_OK && nd_layout_size(&layout) == 0);
+    CHECK(nd_layout_row_count(&layout, ND_ROW_MAJOR) == 0 && nd_layout_row_count(&layout, ND_COLUMN_MAJOR) == 0);
+    CHECK(nd_layout_rows(&layout, ND_COLUMN_MAJOR, starts, 0, &stride, &len) == ND_OK && len == 0);
+    CHECK(nd_layout_from_shape(LIST(cube), ND_ROW_MAJOR, &layout) == ND_OK && nd_layout_size(&layout) == 24);
+    CHECK(nd_layout_row_count(&layout, ND_ROW_MAJOR) == 12 && nd_layout_row_count(&layout, ND_COLUMN_MAJOR) == 6);
+    CHECK(nd_layout_from_shape(LIST(limits), ND_ROW_MAJOR, &layout) == ND_OK && nd_layout_size(&layout) == 0);
+    CHECK(nd_layout_row_count(&layout, ND_ROW_MAJOR) == 0 && nd_layout_row_count(&layout, ND_COLUMN_MAJOR) == 0);
+    layout.shape[1] = 4; /* not accepted, since the product wraps */
+    CHECK(nd_layout_places(&layout, ND_ROW_MAJOR, places, 1) == ND_OVERFLOW && places[0] == 7);
+    layout.shape[1] = 1;
+    CHECK(nd_layout_size(&layout) == limits[0] && nd_layout_row_count(&layout, ND_ROW_MAJOR) == limits[0]);
+    CHECK(nd_layout_row_count(&layout, ND_COLUMN_MAJOR) == 1);
+    CHECK(nd_layout_from_shape(cube, 0, ND_ROW_MAJOR, &layout) == ND_OK && nd_layout_size(&layout) == 1);
+    CHECK(nd_layout_row_count(&layout, ND_ROW_MAJOR) == 1 && nd_layout_row_count(&layout, ND_COLUMN_MAJOR) == 1);
+    CHECK(nd_layout_rows(&layout, ND_ROW_MAJOR, starts, 1, &stride, &len) == ND_OK && stride == 0 && len == 1);
+    CHECK(starts[0] == 0);
+}
+
+static void test_next_index(void) {
+    nd_layout layout;
+    size_t index[2] = {0, 2};
+    int32_t has_next = 77;
+    CHECK(nd_layout_from_strides(LIST(two_three), LIST(up), six_bytes, ND_OWNED, &layout) == ND_OK);
+    CHECK(nd_layout_next_index(&layout, LIST(index), 2, &has_next) == ND_BAD_ARGUMENT);
+    CHECK(nd_layout_next_index(&layout, index, 1, ND_ROW_MAJOR, &has_next) == ND_OUT_OF_BOUNDS && has_next == 77);
+    CHECK(nd_layout_next_index(&layout, LIST(index), ND_ROW_MAJOR, &has_next) == ND_OK && has_next == 1);
+    CHECK(index[0] == 1 && index[1] == 0);
+    CHECK(nd_layout_next_index(&layout, LIST(index), ND_COLUMN_MAJOR, &has_next) == ND_OK && has_next == 1);
+    CHECK(index[0] == 0 && index[1] == 1);
+    index[0] = 1;
+    index[1] = 2;
+    CHECK(nd_layout_next_index(&layout, LIST(index), ND_ROW_MAJOR, &has_next) == ND_OK && has_next == 0);
+    CHECK(index[0] == 0 && index[1] == 0);
+    layout.axes = ND_MAX_AXES + 1;
+    CHECK(nd_layout_next_index(&layout, LIST(index), ND_ROW_MAJOR, &has_next) == ND_BAD_ARGUMENT);
+}
+
+/* Layouts without an index, which have a start and strides all the same. */
+static void test_no_index(void) {
+    static const size_t no_columns[2] = {2, 0};
+    static const ptrdiff_t back[2] = {-3, -1};
+    static const nd_slice_elem backwards[1] = {{ND_SLICE, 1, 3, 1, 1}}, one[1] = {{ND_SLICE, 1, 2, 3, 1}};
+    static const nd_slice_elem nothing[1] = {{ND_SLICE, 1, 2, 2, -1}}, last[1] = {{ND_SLICE, 0, -1, 0, -1}};
+    static const nd_slice_elem corner[3] = {{ND_SLICE, 1, 2, 2, 1}, {ND_NEW_AXIS, 0, 0, 0, 0}, {ND_SLICE, 0, 1, 0, 1}};
+    static const nd_layout far = {5, 1, {4}, {3}};
+    nd_layout layout, first, second;
+    int32_t merged = 77;
+    CHECK(nd_layout_from_strides(LIST(no_columns), LIST(back), five_bytes, ND_OWNED, &layout) == ND_OK);
+    CHECK(is(&layout, 3, 2, 2, 0, -3, -1));
+    CHECK(nd_layout_split_at(&layout, 0, 1, &first, &second) == ND_OK);
+    CHECK(is(&first, 3, 2, 1, 0, -3, -1) && is(&second, 0, 2, 1, 0, -3, -1));
+    CHECK(nd_layout_split_at(&layout, 0, 2, &first, &second) == ND_OK);
+    CHECK(is(&first, 3, 2, 2, 0, -3, -1) && is(&second, 3, 2, 0, 0, -3, -1));
+    CHECK(nd_merge_axes(layout.shape, 2, layout.strides, 2, 0, 1, &merged) == ND_OK && merged == 1);
+    CHECK(is(&layout, 3, 2, 0, 0, -3, -3));
+    CHECK(nd_layout_slice(&far, LIST(backwards), ND_STRICT, &first) == ND_OK && is(&first, 5, 1, 0, 0, 0, 0));
+    CHECK(nd_layout_slice(&far, LIST(nothing), ND_STRICT, &first) == ND_OK && is(&first, 5, 1, 0, 0, 0, 0));
+    CHECK(nd_layout_slice(&far, LIST(one), ND_STRICT, &first) == ND_OK && is(&first, 11, 1, 1, 1, 0, 0));
+    CHECK(nd_layout_slice(&far, LIST(last), ND_STRICT, &first) == ND_OK && is(&first, 14, 1, 1, 1, 0, 0));
+    CHECK(nd_layout_from_strides(LIST(two_three), LIST(by_rows), six_bytes, ND_OWNED, &layout) == ND_OK);
+    CHECK(nd_layout_slice(&layout, LIST(corner), ND_STRICT, &first) == ND_OK && is(&first, 1, 3, 0, 2, 0, 1));
+    CHECK(first.shape[1] == 1 && first.strides[1] == 0);
+}
+
 static void test_layouts_of_layouts(void) {
     static const nd_slice_elem row[2] = {{ND_INDEX, 0, -1, 0, 0}, {ND_SLICE, 0, 0, 0, -1}};
     static const size_t swapped[2] = {1, 0}, six[1] = {6}, five[1] = {5}, rows[2] = {4, 3};
@@ -271,8 +357,7 @@ static int32_t random_merge(const nd_layout *layout, nd_layout *merged) {
 
 /* How many places the indices of a layout have, with repetitions, of which it writes each. */
 static size_t places_of(const nd_layout *layout, size_t places[MOST_PLACES]) {
-    size_t count = 1, axis;
-    for (axis = 0; axis < layout->axes; axis++) count *= layout->shape[axis];
+    size_t count = nd_layout_size(layout);
     CHECK_QUIETLY(count <= MOST_PLACES && nd_layout_places(layout, ND_ROW_MAJOR, places, count) == ND_OK);
     return count;
 }
@@ -360,6 +445,9 @@ int main(int count, char **arguments) {
     test_status_message();
     test_new_layouts();
     test_places();
+    test_rows();
+    test_next_index();
+    test_no_index();
     test_layouts_of_layouts();
     test_too_many_axes();
     test_what_is_kept(ND_READ_ONLY);
