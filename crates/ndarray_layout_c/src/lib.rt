@@ -6,6 +6,7 @@
 
 mod arguments;
 mod blocks;
+mod diagonals;
 mod elements;
 mod indices;
 mod intersections;
@@ -16,5 +17,6 @@ mod shapes;
 mod slices;
 mod splits;
 mod statuses;
+mod stretches;
 mod texts;
 mod version;

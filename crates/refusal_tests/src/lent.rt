@@ -22,14 +22,6 @@ fn read_array(made: Result<ArrayView<'_, u8, IxDyn>, LayoutError>) -> Option<Ans
     }
 }
 
-/// The layout of an array that is made to be written.
-fn written_array(made: Result<ArrayViewMut<'_, u8, IxDyn>, LayoutError>) -> Option<Answer> {
-    match made {
-        Ok(array) => Answer::of("")?.and_view(array.view()),
-        Err(fault) => failed(&fault),
-    }
-}
-
 /// The two parts of an array.
 fn split(
     alloc: Global,
@@ -74,25 +66,107 @@ fn read(
     }
 }
 
-/// The same of an array that is made to be written.
-fn written(
+/// The layout of numbers that are lent to be written, by the strides of the shape itself.
+fn written(alloc: Global, dim: IxDyn) -> Option<Answer> {
+    let mut numbers = [0u8; 99];
+    match ArrayViewMut::from_shape(alloc, by_columns(dim), &mut numbers) {
+        Ok(array) => Answer::of("")?.and_view(array.view()),
+        Err(fault) => failed(&fault),
+    }
+}
+
+/// That of their slice.
+fn written_slice(alloc: Global, shape: StrideShape<IxDyn>) -> Option<Answer> {
+    let mut numbers = [0u8; 99];
+    let array = ArrayViewMut::from_shape(alloc, shape, &mut numbers).ok()?;
+    let made: Result<ArrayViewMut<'_, u8, IxDyn>, LayoutError> = array.slice(
+        alloc,
+        &[REVERSED; 6],
+        Strict,
+    );
+    match made {
+        Ok(array) => Answer::of("")?.and_view(array.view()),
+        Err(fault) => failed(&fault),
+    }
+}
+
+/// That of the same with the axes from the last one back.
+fn written_permuted_axes(alloc: Global, shape: StrideShape<IxDyn>) -> Option<Answer> {
+    let mut numbers = [0u8; 99];
+    let array = ArrayViewMut::from_shape(alloc, shape, &mut numbers).ok()?;
+    let made: Result<ArrayViewMut<'_, u8, IxDyn>, LayoutError> = array.permuted_axes(alloc, &BACK);
+    match made {
+        Ok(array) => Answer::of("")?.and_view(array.view()),
+        Err(fault) => failed(&fault),
+    }
+}
+
+/// That of the same along another shape.
+fn written_reshape(alloc: Global, shape: StrideShape<IxDyn>, to: &IxDyn) -> Option<Answer> {
+    let mut numbers = [0u8; 99];
+    let array = ArrayViewMut::from_shape(alloc, shape, &mut numbers).ok()?;
+    let made: Result<ArrayViewMut<'_, u8, IxDyn>, LayoutError> = array.reshape(alloc, to, RowMajor);
+    match made {
+        Ok(array) => Answer::of("")?.and_view(array.view()),
+        Err(fault) => failed(&fault),
+    }
+}
+
+/// That of their chunks of a shape.
+fn written_exact_chunks(alloc: Global, shape: StrideShape<IxDyn>, chunk: &IxDyn) -> Option<Answer> {
+    let mut numbers = [0u8; 99];
+    let array = ArrayViewMut::from_shape(alloc, shape, &mut numbers).ok()?;
+    let made: Result<ArrayViewMut<'_, u8, IxDyn>, LayoutError> = array.exact_chunks(alloc, chunk);
+    match made {
+        Ok(array) => Answer::of("")?.and_view(array.view()),
+        Err(fault) => failed(&fault),
+    }
+}
+
+/// That of the same at one coordinate of an axis.
+fn written_index_axis(
+    alloc: Global,
+    shape: StrideShape<IxDyn>,
+    axis: Axis,
+    index: usize,
+) -> Option<Answer> {
+    let mut numbers = [0u8; 99];
+    let array = ArrayViewMut::from_shape(alloc, shape, &mut numbers).ok()?;
+    let made: Result<ArrayViewMut<'_, u8, IxDyn>, LayoutError> = array.index_axis(
+        alloc, axis, index,
+    );
+    match made {
+        Ok(array) => Answer::of("")?.and_view(array.view()),
+        Err(fault) => failed(&fault),
+    }
+}
+
+/// That of the same to read.
+fn written_as_view(alloc: Global, shape: StrideShape<IxDyn>) -> Option<Answer> {
+    let mut numbers = [0u8; 99];
+    let array = ArrayViewMut::from_shape(alloc, shape, &mut numbers).ok()?;
+    match array.as_view(alloc) {
+        Ok(array) => Answer::of("")?.and_view(array.view()),
+        Err(_) => memory(),
+    }
+}
+
+/// The layout of what a call makes of numbers that are lent to be written, if a call has this name.
+fn rewritten(
     alloc: Global,
     name: &str,
-    array: ArrayViewMut<'_, u8, IxDyn>,
+    shape: StrideShape<IxDyn>,
     to: &IxDyn,
     axis: Axis,
     index: usize,
 ) -> Option<Answer> {
     match name {
-        "ArrayViewMut::slice" => written_array(array.slice(alloc, &[REVERSED; 6], Strict)),
-        "ArrayViewMut::permuted_axes" => written_array(array.permuted_axes(alloc, &BACK)),
-        "ArrayViewMut::reshape" => written_array(array.reshape(alloc, to, RowMajor)),
-        "ArrayViewMut::exact_chunks" => written_array(array.exact_chunks(alloc, to)),
-        "ArrayViewMut::index_axis" => written_array(array.index_axis(alloc, axis, index)),
-        "ArrayViewMut::as_view" => match array.as_view(alloc) {
-            Ok(array) => read_array(Ok(array)),
-            Err(_) => memory(),
-        },
+        "ArrayViewMut::slice" => written_slice(alloc, shape),
+        "ArrayViewMut::permuted_axes" => written_permuted_axes(alloc, shape),
+        "ArrayViewMut::reshape" => written_reshape(alloc, shape, to),
+        "ArrayViewMut::exact_chunks" => written_exact_chunks(alloc, shape, to),
+        "ArrayViewMut::index_axis" => written_index_axis(alloc, shape, axis, index),
+        "ArrayViewMut::as_view" => written_as_view(alloc, shape),
         _ => None,
     }
 }
@@ -107,16 +181,14 @@ fn by_columns(dim: IxDyn) -> StrideShape<IxDyn> {
 
 /// What a call answers.
 pub fn answer(alloc: Global, call: &Call<'_>) -> Option<Answer> {
-    let mut numbers = [0u8; 99];
+    let numbers = [0u8; 99];
     let to: IxDyn = made(alloc, call.lists.third.as_slice())?;
     let (axis, index) = (Axis(call.lists.third.at(0)), call.lists.third.at(1));
     match call.name {
         "ArrayView::from_shape" => {
             return read_array(ArrayView::from_shape(alloc, by_columns(to), &numbers));
         },
-        "ArrayViewMut::from_shape" => {
-            return written_array(ArrayViewMut::from_shape(alloc, by_columns(to), &mut numbers));
-        },
+        "ArrayViewMut::from_shape" => return written(alloc, to),
         _ => {},
     }
     let dim: IxDyn = made(alloc, call.lists.first.as_slice())?;
@@ -127,6 +199,5 @@ pub fn answer(alloc: Global, call: &Call<'_>) -> Option<Answer> {
     }
     let strides = Strides::Custom(strides);
     let shape = StrideShape { dim, strides };
-    let array = ArrayViewMut::from_shape(alloc, shape, &mut numbers).ok()?;
-    written(alloc, call.name, array, &to, axis, index)
+    rewritten(alloc, call.name, shape, &to, axis, index)
 }
