@@ -36,15 +36,24 @@ class Reshaped(NamedTuple):
 
 
 def element_strides(byte_strides: Numbers, itemsize: int) -> Lens:
-    """Strides in bytes as strides in elements. Raises `ValueError` where one is no multiple of the item size.
+    """Strides in bytes as strides in elements. Raises `ShapeError` where one is no multiple of the item size.
 
     >>> element_strides((24, -8), 8)
     (3, -1)
     """
     strides = byte_strides if type(byte_strides) is tuple else listing(byte_strides)
-    if itemsize < 1 or gcd(itemsize, *strides) != itemsize:
-        raise ValueError(f"strides {strides} are no multiples of the item size {itemsize}")
+    if itemsize < 1:
+        raise no_itemsize(itemsize)
+    if gcd(itemsize, *strides) != itemsize:
+        axis = next(axis for axis, stride in enumerate(strides) if stride % itemsize)
+        text = f"axis {axis}: stride {strides[axis]} is no multiple of the item size {itemsize}"
+        raise ShapeError("IncompatibleLayout", text, axis, {"stride": strides[axis], "itemsize": itemsize})
     return tuple([stride // itemsize for stride in strides])
+
+
+def no_itemsize(itemsize: int) -> ShapeError:
+    """The error of an item size below 1."""
+    return ShapeError("Unsupported", f"the item size {itemsize} isn't above 0", None, {"itemsize": itemsize})
 
 
 class Array(Protocol):

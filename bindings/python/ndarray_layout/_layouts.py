@@ -6,7 +6,7 @@ from array import array
 from ctypes import c_size_t, c_void_p
 from itertools import repeat
 from math import prod
-from typing import Callable, Iterator, NamedTuple, Optional, SupportsIndex
+from typing import Callable, Iterator, NamedTuple, Optional, Sequence, SupportsIndex
 
 from . import _library as library
 from ._errors import ShapeError
@@ -228,11 +228,42 @@ def _room_for(count: int) -> tuple[array[int], tuple[c_void_p, c_size_t]]:
 
 
 class Row(NamedTuple):
-    """Places along one axis: the first one, the stride to the next, and how many there are."""
+    """Places along one axis: the first one, the stride to the next, and how many there are.
+
+    >>> for row in rows(5, (2, 3), (-3, -1)):
+    ...     print(list(row.places()), b"abcdef"[row.as_slice()])
+    [5, 4, 3] b'fed'
+    [2, 1, 0] b'cba'
+    """
 
     start: int
     stride: int
     length: int
+
+    def places(self) -> Sequence[int]:
+        """Each place: a `range`, or where the stride is 0 a tuple that has the one place `length` times.
+
+        >>> Row(2, -1, 3).places(), Row(7, 0, 3).places()
+        (range(2, -1, -1), (7, 7, 7))
+        """
+        if self.stride == 0:
+            return (self.start,) * self.length
+        return range(self.start, self.start + self.length * self.stride, self.stride)
+
+    def as_slice(self) -> slice:
+        """Python's slice that takes these places of a buffer: `buffer[row.as_slice()]`.
+
+        Raises `ShapeError` of the kind 'Unsupported' for several places with the stride 0.
+
+        >>> Row(2, -1, 3).as_slice()
+        slice(2, None, -1)
+        """
+        if self.stride == 0 and self.length > 1:
+            text = f"the stride is 0, and a slice takes no place {self.length} times"
+            raise ShapeError("Unsupported", text, None, {"stride": 0, "length": self.length})
+        step = self.stride or 1
+        stop = self.start + self.length * step
+        return slice(self.start, None if stop < 0 else stop, step)
 
 
 def rows(start: SupportsIndex, shape: Numbers, strides: Numbers, order: str = "C") -> Iterator[Row]:
