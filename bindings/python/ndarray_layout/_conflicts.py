@@ -7,7 +7,7 @@ from itertools import product, repeat
 from math import gcd, prod
 from typing import Any, Iterable, Optional
 
-from ._errors import LayoutError, ShapeError, error_of_kind
+from ._errors import LayoutError, ShapeError, error_of_kind, of_one
 from ._layouts import default_strides
 from ._numbers import LIMIT, Lens, Numbers, unsigned
 from ._reasons import of_block
@@ -53,7 +53,8 @@ def first_conflict(
     for position, key in enumerate(keys):
         touched = [_touched(picks, block) for picks, block in zip(_picks_at(position, lens, key), blocks)]
         if len(parts) + prod(map(len, touched)) > max_parts:
-            raise ShapeError("Unsupported", f"the keys up to {position} have more than {max_parts} parts")
+            numbers = {"key": position, "max_parts": max_parts}
+            raise ShapeError("Unsupported", f"the keys up to {position} have more than {max_parts} parts", None, numbers)
         parts += zip(repeat(position), product(*touched))
     return _first_conflict(tuple([-(-length // block) for length, block in zip(lens, blocks)]), parts)
 
@@ -67,9 +68,8 @@ def _picks_at(position: int, shape: Lens, key: Any) -> list[range]:
     """The indices that a key takes along each axis."""
     try:
         return _picks(shape, key)
-    except LayoutError as error:
-        numbers = {"key": position, **error.numbers}
-        raise error_of_kind(error.kind, f"key {position}: {error.text}", error.axis, numbers) from None
+    except (LayoutError, TypeError) as error:
+        raise of_one("key", position, error) from None
 
 
 def _picks(shape: Lens, key: Any) -> list[range]:
@@ -80,7 +80,7 @@ def _picks(shape: Lens, key: Any) -> list[range]:
         return _picks_of_any(shape, key)
     found = []
     for length, entry in zip(shape, given):
-        if type(entry) is slice:
+        if type(entry) is slice and entry.step != 0:
             found.append(range(length)[entry])
         elif type(entry) is int and -length <= entry < length:
             found.append(range(length)[entry:][:1])

@@ -10,7 +10,7 @@ from operator import index as as_int
 from typing import TYPE_CHECKING, Any, Iterator, Optional, Sequence, SupportsIndex
 
 from ._arrays import element_strides, without_minus_one
-from ._errors import OutOfBoundsError, ShapeError
+from ._errors import LayoutError, OutOfBoundsError, ShapeError, of_one
 from ._layouts import (
     Row,
     check_layout,
@@ -287,7 +287,13 @@ class Layout:
         >>> Layout.over(6, (2, 3)).first_intersection([0, (1, 0), (..., -1)])
         (0, 2)
         """
-        return first_intersection(self.shape, [basic_key(self.shape, key) for key in keys])
+        return first_intersection(self.shape, [self._elems_at(position, key) for position, key in enumerate(keys)])
+
+    def _elems_at(self, position: int, key: Any) -> Elems:
+        try:
+            return basic_key(self.shape, key)
+        except (LayoutError, TypeError) as error:
+            raise of_one("slice", position, error) from None
 
     def intersects(self, first: Any, second: Any, max_work: Optional[int] = MAX_WORK) -> bool:
         """Whether two slices by NumPy's keys share a place: exact. See `share_element` for `max_work`.
@@ -448,5 +454,6 @@ def _axis(axis: SupportsIndex, axes: int) -> int:
     """An axis, counted from the end where it is negative."""
     number = as_int(axis)
     if not -axes <= number < axes:
-        raise OutOfBoundsError("OutOfBounds", f"axis {number}: there are {axes} axes", number, {"axes": axes})
+        numbers = {"axis": number, "axes": axes}
+        raise OutOfBoundsError("OutOfBounds", f"axis {number}: there are {axes} axes", None, numbers)
     return number % axes

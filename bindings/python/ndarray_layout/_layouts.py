@@ -9,7 +9,7 @@ from math import prod
 from typing import Callable, Iterator, NamedTuple, Optional, Sequence, SupportsIndex
 
 from . import _library as library
-from ._errors import ShapeError
+from ._errors import OutOfMemoryError, ShapeError
 from ._numbers import (
     LIMIT,
     ORDERS,
@@ -20,6 +20,7 @@ from ._numbers import (
     one_number,
     one_stride,
     order_number,
+    said,
     signed,
     size,
     unsigned,
@@ -41,7 +42,7 @@ def layout_start(
     Traceback (most recent call last):
     ndarray_layout.OutOfBoundsError: the layout needs 5 elements of 4
     """
-    start, sizes = one_number(), (size(elem_size, "element size"), size(length, "length"))
+    start, sizes = one_number(), (size(elem_size, "elem_size"), size(length, "length"))
     library.layout_start(*unsigned(shape), *signed(strides), *sizes, bool(owned), start)
     return int(start[0])
 
@@ -62,7 +63,7 @@ def check_layout(
     Traceback (most recent call last):
     ndarray_layout.OutOfBoundsError: the lowest place -1 is below 0
     """
-    first, sizes = size(start, "start"), (size(elem_size, "element size"), size(length, "length"))
+    first, sizes = size(start, "start"), (size(elem_size, "elem_size"), size(length, "length"))
     library.check_layout(first, *unsigned(shape), *signed(strides), *sizes, bool(owned))
 
 
@@ -144,7 +145,7 @@ def order_by(order: str, is_column_major: Callable[[], bool]) -> int:
     if order in ("A", "a"):
         return int(is_column_major())
     if order not in ORDERS:
-        raise ValueError(f"order must be 'C', 'F' or 'A', not {order!r}")
+        raise ShapeError("Unsupported", f"order must be 'C', 'F' or 'A', not {order!r}")
     return ORDERS[order]
 
 
@@ -223,7 +224,10 @@ def _view_of(start: SupportsIndex, shape: Numbers, strides: Numbers) -> tuple[Pa
 
 def _room_for(count: int) -> tuple[array[int], tuple[c_void_p, c_size_t]]:
     """Room for so many `size_t`, and how a call takes it."""
-    room = array("Q", (0,)) * max(count, 1)
+    try:
+        room = array("Q", (0,)) * max(count, 1)
+    except MemoryError:
+        raise OutOfMemoryError("OutOfMemory", f"no memory for {said(count)} places", None, {"places": count}) from None
     return room, (c_void_p(room.buffer_info()[0]), c_size_t(count))
 
 
