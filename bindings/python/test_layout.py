@@ -102,6 +102,9 @@ class Methods(unittest.TestCase):
         self.assertEqual(self.LAYOUT.transpose(2, 0, 1), self.LAYOUT.permuted_axes((2, 0, 1)))
         self.assertEqual(self.LAYOUT.transpose((-1, 0, 1)).shape, (4, 2, 3))
         self.assertRaises(IndexError, self.LAYOUT.transpose, 3, 0, 1)
+        with self.assertRaises(IndexError) as caught:
+            self.LAYOUT.transpose(-4, 0, 1)
+        self.assertEqual((caught.exception.axis, caught.exception.numbers), (None, {"axis": -4, "axes": 3}))
         self.assertRaises(ShapeError, self.LAYOUT.transpose, 0, 0, 1)
         self.assertEqual(Layout.over(1, ()).transpose().shape, ())
         self.assertEqual((self.LAYOUT.ndim, self.LAYOUT.size), (3, 24))
@@ -317,6 +320,8 @@ class Arrays(unittest.TestCase):
             with self.assertRaisesRegex(ShapeError, "isn't C- or F-contiguous: it has the shape") as caught:
                 Layout.of(gaps).as_array(gaps)
             self.assertEqual(caught.exception.kind, "Unsupported")
+        with self.assertRaisesRegex(ShapeError, "isn't C-contiguous"):
+            Layout.over(6, 6).as_memoryview(a.T)
 
     def test_no_bytes_become_objects(self):
         """References to objects are taken from objects alone, and bytes never from them."""
@@ -335,6 +340,17 @@ class Arrays(unittest.TestCase):
         self.assertEqual(layout.as_array(objects).tolist(), [1, "b", None])
         self.assertEqual(layout.as_array(memoryview(objects), object).tolist(), [1, "b", None])
         self.assertEqual(layout.as_array(records, records.dtype)["a"].tolist(), [0, 0, 0])
+
+    def test_items_that_no_memoryview_has(self):
+        dates, names = np.zeros(3, "M8[s]"), np.zeros(3, [("a", np.int64)])
+        for call in (
+            lambda: Layout.over(dates, 3),
+            lambda: Layout.over(3, 3).as_array(dates),
+            lambda: Layout.over(3, 3).as_memoryview(names),
+        ):
+            with self.assertRaises(ShapeError) as caught:
+                call()
+            self.assertEqual(caught.exception.kind, "Unsupported")
 
     def test_items_of_no_bytes(self):
         nothing = np.zeros(3, "V0")

@@ -90,7 +90,8 @@ def lay_over(
     `layout_start` does where the array doesn't lie within the buffer. What it returns is what
     `numpy.ndarray(shape, dtype, buffer, offset, strides)` takes.
 
-    A stride may be no multiple of the item size, as that of a field of packed records is. Errors count bytes.
+    A stride may be no multiple of the item size, as that of a field of packed records is. Errors count bytes. Of an
+    array without an element the strides alone have to fit, so 0 records fit 0 bytes.
 
     >>> lay_over((2, 3), (-12, 4), itemsize=4, nbytes=24)
     12

@@ -124,7 +124,7 @@ class Layout:
         >>> Layout.of(memoryview(b"abcdef")[::-2])
         Layout(start=4, shape=(3,), strides=(-2,), length=5, owned=False)
         """
-        view = array if hasattr(array, "strides") else memoryview(array)
+        view = array if hasattr(array, "strides") else _shown(array)
         if getattr(view, "suboffsets", ()):
             raise ShapeError("Unsupported", "a layout has no suboffsets")
         shape, itemsize = tuple(view.shape), view.itemsize
@@ -258,7 +258,7 @@ class Layout:
     # ---- Places
 
     def place(self, index: Numbers) -> int:
-        """The place of an index. Raises `IndexError` where it is none of the shape."""
+        """The place of an index. Raises what `place` does."""
         return place(self.start, self.shape, self.strides, index)
 
     def places(self, order: str = "C") -> Lens:
@@ -355,7 +355,10 @@ class Layout:
         """
         items = _side_by_side(buffer, in_rows=True)
         self._check_room(items.nbytes // items.itemsize, items.itemsize)
-        items = (items if self.owned else items.toreadonly()).cast("B").cast(items.format)
+        try:
+            items = (items if self.owned else items.toreadonly()).cast("B").cast(items.format)
+        except ValueError:
+            raise ShapeError("Unsupported", f"a memoryview can't have items of the format {items.format!r}") from None
         if self.ndim == 1:
             return items[Row(self.start, *self.strides, *self.shape).as_slice()]
         self._check_rows()
@@ -384,10 +387,18 @@ def _items(buffer: Any) -> tuple[int, int]:
     """How many items a buffer has, and their size. A number stands for so many items."""
     if isinstance(buffer, Integral):
         return as_int(buffer), 1
-    view = memoryview(buffer)
+    view = _shown(buffer)
     if view.itemsize == 0:
         raise _no_bytes("items of the buffer")
     return view.nbytes // view.itemsize, view.itemsize
+
+
+def _shown(buffer: Any) -> memoryview:
+    """A `memoryview` of a buffer. NumPy gives none of an array of dates."""
+    try:
+        return memoryview(buffer)
+    except ValueError as error:
+        raise ShapeError("Unsupported", str(error)) from None
 
 
 def _no_bytes(what: str) -> ShapeError:
@@ -396,7 +407,7 @@ def _no_bytes(what: str) -> ShapeError:
 
 def _side_by_side(buffer: Any, in_rows: bool = False) -> memoryview:
     """A buffer whose items lie side by side: in the order of rows, where that is asked, else of any axes."""
-    view = memoryview(buffer)
+    view = _shown(buffer)
     if view.itemsize == 0:
         raise _no_bytes("items of the buffer")
     if not (view.c_contiguous if in_rows else view.contiguous):

@@ -177,6 +177,8 @@ def _strides_by(call: library.Call, packed: Packed) -> Lens:
 def place(start: SupportsIndex, shape: Numbers, strides: Numbers, index: Numbers) -> int:
     """The place of an index. Raises `IndexError` where it is no index of the shape.
 
+    A negative coordinate is an `OverflowError`, first of all: it never counts from the end.
+
     >>> place(3, (2, 3), (-3, 1), (1, 2))
     2
     >>> place(3, (2, 3), (-3, 1), (1, 3))
@@ -189,7 +191,7 @@ def place(start: SupportsIndex, shape: Numbers, strides: Numbers, index: Numbers
 
 
 def next_index(shape: Numbers, index: Numbers, order: str = "C") -> Optional[Lens]:
-    """The index after this one in an order, or `None` after the last one.
+    """The index after this one in an order, or `None` after the last one. Raises what `place` does of an index.
 
     >>> next_index((2, 3), (0, 2)), next_index((2, 3), (0, 2), order="F"), next_index((2, 3), (1, 2))
     ((1, 0), (1, 2), None)
