@@ -157,6 +157,8 @@ class Conflicts(unittest.TestCase):
                 nd.first_conflict((4, 4), [0], chunks=of_dask)
         with self.assertRaisesRegex(TypeError, "^key 1: axis 0: slice indices must be integers"):
             nd.first_conflict((4, 4), [0, slice("a", 2)])
+        with self.assertRaisesRegex(IndexError, "^key 1: 2 of the indices are '...'"):
+            nd.first_conflict((4, 4), [0, (slice("a", 2), ..., ...)])
         for outside in (4, -5, (0, 0), (..., ...), (..., 0, ...), (slice(4), 0, ...)):
             self.assertRaises(IndexError, nd.first_conflict, (4,), [outside])
         self.assertRaises(ValueError, nd.first_conflict, (4,), [slice(0, 4, 0)])

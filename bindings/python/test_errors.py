@@ -427,6 +427,13 @@ class Texts(unittest.TestCase):
         self.assert_error(
             text, {"stride": 3, "reach": 3}, nd.lay_over, 2, 3, itemsize=4, nbytes=20, owned=True
         )
+        text = "Unsupported: axis 0: stride 8 isn't past 11, the reach of the axes with no greater stride"
+        self.assert_error(
+            text, {"stride": 8, "reach": 11}, nd.lay_over, (2, 2), (8, 8), itemsize=4, nbytes=20, owned=True
+        )
+        for stride in (8, 9):
+            text, numbers = f"the array needs {4 * stride} bytes of 20", {"needed": 4 * stride, "nbytes": 20}
+            self.assert_error(text, numbers, nd.lay_over, (0, 5), (-400, stride), itemsize=4, nbytes=20)
         self.assert_error("nbytes -1 is negative", {"nbytes": -1}, nd.lay_over, 2, 4, itemsize=4, nbytes=-1)
         text = "axis 0: stride 2**70 is past 64 bits"
         self.assert_error(text, {"stride": 2**70}, nd.lay_over, 2, 2**70, itemsize=4, nbytes=9)
@@ -434,6 +441,35 @@ class Texts(unittest.TestCase):
             nd.lay_over(2, 4, itemsize=4, nbytes=None)
         text = "elem_size -1 is negative"
         self.assert_error(text, {"elem_size": -1}, nd.layout_start, 2, 1, elem_size=-1, length=2)
+
+    def test_numbers_count_bytes(self):
+        """The bytes that an array needs, beside the bytes of its elements one by one."""
+        numbers, seen = random.Random("bytes"), Counter()
+        for _ in range(CALLS):
+            shape = [numbers.randint(1, 4) for _ in range(numbers.randint(0, 3))]
+            unit, itemsize = numbers.choice((1, 4)), numbers.choice((1, 4))
+            strides = [unit * numbers.randint(-6, 6) for _ in shape]
+            nbytes, offset = numbers.randint(0, 90), numbers.choice((None, numbers.randint(0, 60)))
+            places = [sum(map(int.__mul__, index, strides)) for index in product(*map(range, shape))]
+            begin = -min(places) if offset is None else offset
+            lowest, end = begin + min(places), begin + max(places) + itemsize
+            try:
+                self.assertEqual(nd.lay_over(shape, strides, itemsize=itemsize, nbytes=nbytes, offset=offset), begin)
+                self.assertTrue(0 <= lowest <= end <= nbytes)
+                seen["accepted"] += 1
+            except IndexError as error:
+                self.assertFalse(0 <= lowest <= end <= nbytes and begin <= nbytes)
+                if offset is None:
+                    expected = {"needed": end, "nbytes": nbytes}
+                elif offset > nbytes:
+                    expected = {"offset": offset, "nbytes": nbytes}
+                else:
+                    expected = {"offset": offset, "lowest": lowest, "end": end, "nbytes": nbytes}
+                self.assertEqual(error.numbers, expected)
+                seen["refused" + ", of an offset" * (offset is not None)] += 1
+        print("test_numbers_count_bytes: " + ", ".join(f"{name} {count}" for name, count in sorted(seen.items())))
+        self.assertGreater(min(seen.values()), CALLS // 20)
+        self.assertEqual(len(seen), 3)
 
     def test_no_records(self):
         """No record needs no byte, packed or not."""

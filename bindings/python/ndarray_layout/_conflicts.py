@@ -83,13 +83,7 @@ def _picks_at(position: int, shape: Lens, key: Any) -> list[range]:
     """The indices that a key takes along each axis."""
     try:
         return _picks(shape, key)
-    except LayoutError as error:
-        raise of_one("key", position, error) from None
-    except TypeError:  # (which says of no axis where a slice has bounds that are no numbers)
-        pass
-    try:
-        return _picks_of_any(shape, key)
-    except TypeError as error:
+    except (LayoutError, TypeError) as error:
         raise of_one("key", position, error) from None
 
 
@@ -100,13 +94,16 @@ def _picks(shape: Lens, key: Any) -> list[range]:
     if len(given) > len(shape):
         return _picks_of_any(shape, key)
     found = []
-    for length, entry in zip(shape, given):
-        if type(entry) is slice and entry.step != 0:
-            found.append(range(length)[entry])
-        elif type(entry) is int and -length <= entry < length:
-            found.append(range(length)[entry:][:1])
-        else:
-            return _picks_of_any(shape, key)
+    try:
+        for length, entry in zip(shape, given):
+            if type(entry) is slice and entry.step != 0:
+                found.append(range(length)[entry])
+            elif type(entry) is int and -length <= entry < length:
+                found.append(range(length)[entry:][:1])
+            else:
+                return _picks_of_any(shape, key)
+    except TypeError:  # (of a slice whose bounds are no numbers)
+        return _picks_of_any(shape, key)
     return [*found, *map(range, shape[len(given) :])]
 
 

@@ -114,8 +114,9 @@ class Layout:
     def of(array: Any, *, base: Any = None, owned: bool = False) -> Layout:
         """The layout of an array, or of what a `memoryview` shows, over its elements from the lowest to the highest.
 
-        With a `base` it is one over the items of that buffer, from the lowest: what `as_array(base)` takes. Of an
-        array without an element all strides are 0, and it needs no items.
+        With a `base` it is one over the items of that buffer, from the lowest: what `as_array(base)` takes. Without
+        one the array's own lowest element has place 0, so `Layout.of(a[2:]).as_array(a)` shows other rows than
+        `Layout.of(a[2:], base=a).as_array(a)`. Of an array without an element all strides are 0, and it needs no items.
 
         Raises `ShapeError` where a stride is no multiple of the item size, as of packed records, where the base has
         gaps or items of another size, and where the layout is to be owned and breaks the no-alias rule; `IndexError`
@@ -189,7 +190,7 @@ class Layout:
     def reshape(self, shape: Numbers, order: str = "C") -> Layout:
         """The same places in an order along another shape, one length of which may be -1.
 
-        Raises what `reshape` does.
+        Raises what `reshape` does, and `ShapeError` where no one length makes the sizes equal.
 
         >>> Layout.over(6, (2, 3)).reshape((3, -1)).shape
         (3, 2)

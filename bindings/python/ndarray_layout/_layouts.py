@@ -236,6 +236,9 @@ def _room_for(count: int) -> tuple[array[int], tuple[c_void_p, c_size_t]]:
 class Row(NamedTuple):
     """Places along one axis: the first one, the stride to the next, and how many there are.
 
+    A `range` of these numbers has no step 0, and a slice up to their end none that ends below 0: so take `places` or
+    `as_slice`.
+
     >>> for row in rows(5, (2, 3), (-3, -1)):
     ...     print(list(row.places()), b"abcdef"[row.as_slice()])
     [5, 4, 3] b'fed'
