@@ -60,7 +60,9 @@ def first_conflict(
         touched = [_touched(picks, block) for picks, block in zip(_picks_at(position, lens, key), blocks)]
         if len(parts) + prod(map(len, touched)) > max_parts:
             numbers = {"key": position, "max_parts": max_parts}
-            raise ShapeError("Unsupported", f"the keys up to {position} have more than {max_parts} parts", None, numbers)
+            raise ShapeError(
+                "Unsupported", f"the keys up to {position} have more than {max_parts} parts", None, numbers
+            )
         parts += zip(repeat(position), product(*touched))
     return _first_conflict(tuple([-(-length // block) for length, block in zip(lens, blocks)]), parts)
 

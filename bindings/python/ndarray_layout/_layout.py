@@ -431,7 +431,9 @@ def _items_before(array: Any, base: Any, itemsize: int) -> int:
     """How many items of a base lie in memory before element (0, .., 0) of an array."""
     start, rest = divmod(_address(array) - _address(base), itemsize)
     if start < 0:
-        raise OutOfBoundsError("OutOfBounds", f"the array begins {-start} items below the base", None, {"start": start})
+        raise OutOfBoundsError(
+            "OutOfBounds", f"the array begins {-start} items below the base", None, {"start": start}
+        )
     if rest:
         text = f"the array begins {rest} bytes within an item of the base"
         raise ShapeError("IncompatibleLayout", text, None, {"bytes": rest})
