@@ -119,6 +119,8 @@ class Texts(unittest.TestCase):
         self.assert_error(text, {"stride": 2**70}, nd.lay_over, 2, 2**70, itemsize=4, nbytes=9)
         with self.assertRaisesRegex(TypeError, "nbytes is an integer, not None"):
             nd.lay_over(2, 4, itemsize=4, nbytes=None)
+        with self.assertRaisesRegex(TypeError, "offset is an integer, not 2.5"):
+            nd.lay_over(2, 4, itemsize=4, nbytes=9, offset=2.5)
         text = "elem_size -1 is negative"
         self.assert_error(text, {"elem_size": -1}, nd.layout_start, 2, 1, elem_size=-1, length=2)
 

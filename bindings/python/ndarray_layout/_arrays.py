@@ -15,6 +15,7 @@ from ._numbers import (
     Lens,
     Numbers,
     Packed,
+    integer,
     listing,
     not_64_bits,
     one_answer,
@@ -107,6 +108,7 @@ def lay_over(
     lens = shape if type(shape) is tuple else listing(shape)
     unsigned(lens), signed(steps)  # (which refuse what has no 64 bits, before it is divided)
     nbytes = size(nbytes, "nbytes").value
+    offset = None if offset is None else integer(offset, "offset")
     if offset is not None and not 0 <= offset <= nbytes:
         numbers = {"offset": offset, "nbytes": nbytes}
         raise OutOfBoundsError("OutOfBounds", f"offset {offset} lies outside of {nbytes} bytes", None, numbers)

@@ -98,12 +98,17 @@ def listing(numbers: Numbers) -> tuple[Any, ...]:
         raise
 
 
-def size(number: SupportsIndex, name: str) -> ctypes.c_size_t:
-    """A number as a call takes it, where it is a `size_t`: ctypes itself would drop its upper bits."""
+def integer(number: SupportsIndex, name: str) -> int:
+    """A number of Python. What is none is a `TypeError`, which calls it by `name`."""
     try:
-        counted = index(number)
+        return index(number)
     except TypeError:
         raise TypeError(f"{name} is an integer, not {number!r}") from None
+
+
+def size(number: SupportsIndex, name: str) -> ctypes.c_size_t:
+    """A number as a call takes it, where it is a `size_t`: ctypes itself would drop its upper bits."""
+    counted = integer(number, name)
     if 0 <= counted < 2**64:
         return ctypes.c_size_t(counted)
     raise not_64_bits(name, counted, True, None)
