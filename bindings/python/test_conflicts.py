@@ -152,6 +152,13 @@ class Conflicts(unittest.TestCase):
         self.assertRaises(ShapeError, nd.first_conflict, (4, 4), [0], chunks=(2, 0))
         self.assertRaises(TypeError, nd.first_conflict, (4,), [0, [1, 2]])
         self.assertRaises(TypeError, nd.first_conflict, (4,), [True])
+        for of_dask in (((2, 2), (4,)), (2, None)):
+            with self.assertRaisesRegex(TypeError, "^axis [01]: the length of a chunk is an integer.*`chunksize`"):
+                nd.first_conflict((4, 4), [0], chunks=of_dask)
+        with self.assertRaisesRegex(TypeError, "^key 1: axis 0: slice indices must be integers"):
+            nd.first_conflict((4, 4), [0, slice("a", 2)])
+        with self.assertRaisesRegex(IndexError, "^key 1: 2 of the indices are '...'"):
+            nd.first_conflict((4, 4), [0, (slice("a", 2), ..., ...)])
         for outside in (4, -5, (0, 0), (..., ...), (..., 0, ...), (slice(4), 0, ...)):
             self.assertRaises(IndexError, nd.first_conflict, (4,), [outside])
         self.assertRaises(ValueError, nd.first_conflict, (4,), [slice(0, 4, 0)])

@@ -1,4 +1,4 @@
-"""The kind, the axis and the text of errors, beside a second reading of the rules in docs/RULES.md: random calls.
+"""The kind and the axis of errors, beside a second reading of the rules in docs/RULES.md: random calls.
 
     python3 test_errors.py
 
@@ -6,16 +6,13 @@ Here each rule is written as the page says it, over lists of places where it can
 """
 
 import math
-import pickle
 import random
 import unittest
 from collections import Counter
 from itertools import product
-from unittest import mock
 
 import ndarray_layout as nd
 from ndarray_layout import LayoutError, Slice
-from ndarray_layout import _reasons as reasons
 
 CALLS = 20_000
 MAX = 2**63 - 1
@@ -333,94 +330,6 @@ class BesideRules(unittest.TestCase):
                 new_shape = self.shape()
             expected = Rules.layout(shape, strides) or Rules.reshaped(shape, strides, order, new_shape)
             self.compare(expected, nd.reshape, shape, strides, new_shape, order)
-
-
-class Texts(unittest.TestCase):
-    def assert_error(self, text, numbers, call, *arguments, **named):
-        with self.assertRaises(LayoutError) as caught:
-            call(*arguments, **named)
-        self.assertEqual(str(caught.exception), text)
-        self.assertEqual(caught.exception.numbers, numbers)
-
-    def test_texts(self):
-        bounds = {"index": 9, "length": 5}
-        text = "axis 2: index 9 is out of bounds of length 5"
-        self.assert_error(text, bounds, nd.place, 0, (2, 3, 5), (15, 5, 1), (1, 2, 9))
-        self.assert_error(text, bounds, nd.picked, (2, 3, 5), [1, 2, 9])
-        self.assert_error(text, bounds, nd.basic_key, (2, 3, 5), (1, ..., 9))
-        text = "axis 0: bound 7 is past length 4"
-        self.assert_error(text, {"bound": 7, "length": 4}, nd.picked, (4,), [Slice(0, 7)])
-        text = "size 2**64 is above the limit 2**63 - 1"
-        self.assert_error(text, {"size": 2**64}, nd.default_strides, (2**32, 2**32))
-        self.assert_error("size 2**64 is above the limit 2**63 - 1", {"size": 2**64}, nd.windows, 2**62 + 3, 1, 4)
-        text = "axis 1: index 4 is past length 3"
-        self.assert_error(text, {"index": 4, "length": 3}, nd.split_at, 0, (2, 3), (3, 1), 1, 4)
-        text = "the layout needs 6 elements of 5"
-        self.assert_error(text, {"needed": 6, "length": 5}, nd.lay_over, (2, 3), (-12, 4), itemsize=4, nbytes=23)
-        text = "Unsupported: axis 0: stride 2 isn't past 3, the reach of the axes with no greater stride"
-        self.assert_error(text, {"stride": 2, "reach": 3}, nd.layout_start, (2, 4), (2, 1), length=9, owned=True)
-
-    def test_numbers_without_64_bits(self):
-        self.assert_error("axis 1: length -1 is negative", {"length": -1}, nd.default_strides, (2, -1))
-        self.assert_error("axis 0: length 2**64 is past 64 bits", {"length": 2**64}, nd.default_strides, (2**64,))
-        self.assert_error("axis 1: index -1 is negative", {"index": -1}, nd.place, 0, (2, 3), (3, 1), (0, -1))
-        self.assert_error("length -1 is negative", {"length": -1}, nd.layout_start, (2,), (1,), length=-1)
-        self.assert_error(
-            "axis 0: stride -2**64 is past 64 bits", {"stride": -(2**64)}, nd.has_overlap, (2,), (-(2**64),)
-        )
-        elems = [None, 1, Slice(0, None, 2**70)]
-        self.assert_error("axis 1: step 2**70 is past 64 bits", {"step": 2**70}, nd.picked, (2, 3), elems)
-        for call in (nd.default_strides, nd.fortran_strides):
-            self.assertRaises(OverflowError, call, (2, -1))
-
-    def test_another_kind_says_nothing(self):
-        """The status decides: a reason for another kind names no axis, and the text is the status's own."""
-        wrong = reasons.Reason("Unsupported", "axis 0: wrong", 0, {"wrong": 1})
-        with mock.patch.object(reasons, "of_index", lambda shape, index: wrong):
-            with self.assertRaises(IndexError) as caught:
-                nd.place(0, (2,), (1,), (2,))
-        self.assertEqual((caught.exception.kind, caught.exception.axis), ("OutOfBounds", None))
-        self.assertEqual(str(caught.exception), "out of bounds indexing")
-        self.assertEqual(caught.exception.numbers, {})
-
-    def test_no_reason_says_nothing(self):
-        with mock.patch.object(reasons, "of_index", lambda shape, index: None):
-            with self.assertRaises(IndexError) as caught:
-                nd.place(0, (2,), (1,), (2,))
-        self.assertEqual(str(caught.exception), "out of bounds indexing")
-
-    def test_pickles(self):
-        with self.assertRaises(IndexError) as caught:
-            nd.place(0, (2, 3), (3, 1), (1, 3))
-        again = pickle.loads(pickle.dumps(caught.exception))
-        self.assertIs(type(again), nd.OutOfBoundsError)
-        self.assertEqual((again.kind, again.axis, again.numbers), ("OutOfBounds", 1, {"index": 3, "length": 3}))
-        self.assertEqual(str(again), str(caught.exception))
-
-
-class AsNumpyTakesThem(unittest.TestCase):
-    """Numbers for shapes, and letters for orders."""
-
-    def test_a_number_is_a_shape(self):
-        self.assertEqual(nd.default_strides(5), (1,))
-        self.assertEqual(nd.layout_start(5, -1, length=5), 4)
-        self.assertEqual(nd.reshape((2, 3), (3, 1), 6), (1,))
-        self.assertEqual(nd.place(4, 5, -1, 3), 1)
-        self.assertRaises(TypeError, nd.default_strides, 5.0)
-        self.assertRaises(OverflowError, nd.default_strides, -5)
-
-    def test_orders(self):
-        columns, rows, line = ((2, 3), (1, 2)), ((2, 3), (3, 1)), ((3,), (1,))
-        for order in ("f", "A", "a"):
-            self.assertEqual(nd.places(0, *columns, order), tuple(range(6)))
-            self.assertEqual(nd.reshape(*columns, 6, order), (1,))
-        for order in ("c", "A", "a"):
-            self.assertEqual(nd.places(0, *rows, order), tuple(range(6)))
-            self.assertEqual(nd.reshape(*rows, 6, order), (1,))
-            self.assertEqual(nd.reshape(*line, (3, 1), order), nd.reshape(*line, (3, 1), "C"))
-        self.assertEqual(nd.next_index((2, 3), (0, 2), "f"), (1, 2))
-        for wrong in ("K", "", "CF", "Fortran"):
-            self.assertRaises(ValueError, nd.reshape, *rows, 6, wrong)
 
 
 if __name__ == "__main__":

@@ -6,6 +6,7 @@
 import array
 import copy
 import dataclasses
+import itertools
 import pickle
 import random
 import unittest
@@ -101,6 +102,9 @@ class Methods(unittest.TestCase):
         self.assertEqual(self.LAYOUT.transpose(2, 0, 1), self.LAYOUT.permuted_axes((2, 0, 1)))
         self.assertEqual(self.LAYOUT.transpose((-1, 0, 1)).shape, (4, 2, 3))
         self.assertRaises(IndexError, self.LAYOUT.transpose, 3, 0, 1)
+        with self.assertRaises(IndexError) as caught:
+            self.LAYOUT.transpose(-4, 0, 1)
+        self.assertEqual((caught.exception.axis, caught.exception.numbers), (None, {"axis": -4, "axes": 3}))
         self.assertRaises(ShapeError, self.LAYOUT.transpose, 0, 0, 1)
         self.assertEqual(Layout.over(1, ()).transpose().shape, ())
         self.assertEqual((self.LAYOUT.ndim, self.LAYOUT.size), (3, 24))
@@ -142,6 +146,29 @@ def indices(shape):
         index = nd.next_index(shape, index)
 
 
+class Rows(unittest.TestCase):
+    ITEMS = bytes(range(20))
+
+    def test_places_and_slices(self):
+        """The places of a row, and what its slice takes, beside places counted one by one."""
+        for start, stride, length in itertools.product(range(10), (-3, -2, -1, 0, 1, 2, 3), range(4)):
+            row, expected = Row(start, stride, length), [start + stride * k for k in range(length)]
+            if expected and not 0 <= min(expected) <= max(expected) < 20:
+                continue
+            self.assertEqual(list(row.places()), expected)
+            self.assertEqual(len(row.places()), length)
+            if stride or length < 2:
+                self.assertEqual(list(self.ITEMS[row.as_slice()]), expected, row)
+            else:
+                self.assertRaises(ShapeError, row.as_slice)
+        self.assertEqual(list(self.ITEMS[Row(2, -1, 3).as_slice()]), [2, 1, 0])
+
+    def test_loop(self):
+        for layout in (Layout.over(20, (2, 3), (-9, -2)), Layout.over(20, 5).broadcast((2, 5))):
+            places = [place for row in layout.rows() for place in self.ITEMS[row.as_slice()]]
+            self.assertEqual(tuple(places), layout.places())
+
+
 class Memoryviews(unittest.TestCase):
     ITEMS = array.array("i", range(12))
 
@@ -161,6 +188,23 @@ class Memoryviews(unittest.TestCase):
                 view = Layout.over(12, 12)[start::step].as_memoryview(self.ITEMS)
                 self.assertEqual(view.tolist(), expected)
         self.assertEqual(Layout.over(12, 12)[5:5].as_memoryview(self.ITEMS).tolist(), [])
+
+    def test_refusals_say_why(self):
+        layout = Layout.over(12, (3, 4))
+        for wrong, axis, numbers in (
+            (layout.T, 0, {"stride": 1, "wanted": 3}),
+            (layout[:, ::2], 0, {"stride": 4, "wanted": 2}),
+            (layout[:, :0], 1, {"length": 0}),
+        ):
+            with self.assertRaises(ShapeError) as caught:
+                wrong.as_memoryview(self.ITEMS)
+            error = caught.exception
+            self.assertEqual((error.kind, error.axis, error.numbers), ("Unsupported", axis, numbers))
+        with self.assertRaises(ShapeError) as caught:
+            Layout.over(12, 1).broadcast(3).as_memoryview(self.ITEMS)
+        self.assertEqual(caught.exception.numbers, {"stride": 0, "length": 3})
+        with self.assertRaisesRegex(ShapeError, "isn't C-contiguous"):
+            Layout.over(6, 6).as_memoryview(memoryview(self.ITEMS)[::2])
 
     def test_there_and_back(self):
         for step in (-5, -1, 2):
@@ -224,7 +268,100 @@ class Arrays(unittest.TestCase):
         self.assertEqual(Layout.of(a[:, :0]).size, 0)
         self.assertRaises(ShapeError, Layout.of, np.broadcast_to(a, (2, 2, 3, 4)), owned=True)
         records = np.zeros(3, [("key", np.int32), ("text", "S3")])
-        self.assertRaises(ValueError, Layout.of, records["key"])
+        self.assertRaises(ShapeError, Layout.of, records["key"])
+        self.assertEqual(Layout.of(records["key"][:0]).length, 0)
+
+    def test_of_a_view_over_its_base(self):
+        """The array of a view's layout over its base is that view, in random orders, signs and parts."""
+        numbers, base = random.Random("bases"), np.arange(360)
+        for _ in range(LAYOUTS // 10):
+            shape = numbers.choice(((360,), (2, 180), (3, 4, 30), (5, 6, 12)))
+            whole = base.reshape(shape, order=numbers.choice("CF"))
+            view = whole[(..., *(self.entry(numbers, length) for length in shape))]
+            for owner in (base, whole, memoryview(base)):
+                layout = Layout.of(view, base=owner)
+                again = layout.as_array(owner)
+                self.assertTrue(np.array_equal(again, view))
+                self.assertEqual(layout.length, 360)
+                if view.size:
+                    self.assertEqual(*(array.__array_interface__["data"][0] for array in (view, again)), layout)
+            self.assertEqual(Layout.of(view, base=base).places(), tuple(view.ravel().tolist()))
+
+    def test_of_a_base(self):
+        a = np.arange(12).reshape(4, 3)
+        self.assertEqual(Layout.of(a[2:], base=a), Layout(6, (2, 3), (3, 1), length=12))
+        self.assertEqual(Layout.of(a[2:], base=a, owned=True).as_array(a).tolist(), [[6, 7, 8], [9, 10, 11]])
+        self.assertEqual(Layout.of(memoryview(a.ravel())[::-4], base=a), Layout(11, (3,), (-4,), length=12))
+        self.assertRaises(IndexError, Layout.of, a, base=a[1:])
+        self.assertRaises(IndexError, Layout.of, a, base=a[:3])
+        self.assertRaises(IndexError, Layout.of, a, base=np.zeros((4, 3), int))
+        self.assertRaises(ShapeError, Layout.of, a[2:], base=a[::2])
+        self.assertRaises(ShapeError, Layout.of, a[2:], base=a.view(np.int32))
+        self.assertRaises(ShapeError, Layout.of, np.broadcast_to(a[0], (2, 3)), base=a, owned=True)
+        data = np.zeros(50, np.uint8)
+        with self.assertRaises(ShapeError) as caught:
+            Layout.of(data[3:43].view(np.int64), base=data[:48].view(np.int64))
+        self.assertEqual(caught.exception.numbers, {"bytes": 3})
+
+    def test_empty_arrays(self):
+        """An empty layout fits over its own array, and over a base of which it is the end."""
+        a = np.zeros((5, 3))
+        for empty in (a[5:], a[5:, 3:], a[:, :0], a[::-1][:0], np.zeros((0, 4))):
+            self.assertEqual(Layout.of(empty).as_array(empty).shape, empty.shape)
+            self.assertEqual(Layout.of(empty).length, 0)
+            self.assertEqual(Layout.of(empty, base=a).as_array(a).shape, empty.shape)
+
+    def test_buffers_with_gaps(self):
+        """Items are counted in memory: an array in another order is taken so, and one with gaps is refused."""
+        a = np.arange(6).reshape(2, 3)
+        self.assertEqual(Layout.over(a.T, (3, 2)).as_array(a.T).tolist(), [[0, 1], [2, 3], [4, 5]])
+        self.assertTrue(np.array_equal(Layout.of(a.T).as_array(a.T), a.T))
+        for gaps in (a[::2, ::-1], a[::-1], a[:, ::2], np.arange(4)[::-1], memoryview(b"abc")[::-1]):
+            with self.assertRaisesRegex(ShapeError, "isn't C- or F-contiguous: it has the shape") as caught:
+                Layout.of(gaps).as_array(gaps)
+            self.assertEqual(caught.exception.kind, "Unsupported")
+        with self.assertRaisesRegex(ShapeError, "isn't C-contiguous"):
+            Layout.over(6, 6).as_memoryview(a.T)
+
+    def test_no_bytes_become_objects(self):
+        """References to objects are taken from objects alone, and bytes never from them."""
+        layout, objects = Layout.over(3, 3, owned=True), np.array([1, "b", None], object)
+        records = np.zeros(3, [("a", object), ("b", np.int64)])
+        for buffer, dtype in (
+            (b"\1" * 48, object),
+            (np.zeros(3), object),
+            (np.zeros(3), [("a", object)]),
+            (objects, np.int64),
+            (memoryview(objects), np.int64),
+            (objects, [("a", object)]),
+            (records, object),
+        ):
+            self.assertRaises(TypeError, layout.as_array, buffer, dtype)
+        self.assertEqual(layout.as_array(objects).tolist(), [1, "b", None])
+        self.assertEqual(layout.as_array(memoryview(objects), object).tolist(), [1, "b", None])
+        self.assertEqual(layout.as_array(records, records.dtype)["a"].tolist(), [0, 0, 0])
+
+    def test_items_that_no_memoryview_has(self):
+        dates, names = np.zeros(3, "M8[s]"), np.zeros(3, [("a", np.int64)])
+        for call in (
+            lambda: Layout.over(dates, 3),
+            lambda: Layout.over(3, 3).as_array(dates),
+            lambda: Layout.over(3, 3).as_memoryview(names),
+        ):
+            with self.assertRaises(ShapeError) as caught:
+                call()
+            self.assertEqual(caught.exception.kind, "Unsupported")
+
+    def test_items_of_no_bytes(self):
+        nothing = np.zeros(3, "V0")
+        for call in (
+            lambda: Layout.over(3, 3).as_array(b"abc", "V0"),
+            lambda: Layout.over(3, 3).as_array(nothing),
+            lambda: Layout.over(3, 3).as_memoryview(nothing),
+            lambda: Layout.over(nothing, 3),
+            lambda: Layout.of(nothing),
+        ):
+            self.assertRaises(ShapeError, call)
 
 
 if __name__ == "__main__":

@@ -7,7 +7,7 @@ from math import gcd, prod
 from typing import Any, NamedTuple, Optional, Protocol, Sequence
 
 from . import _library as library
-from ._errors import OutOfBoundsError, ShapeError
+from ._errors import LayoutError, OutOfBoundsError, ShapeError, SizeOverflowError, error_of_kind
 from ._layouts import is_layout_c, is_layout_f, layout_start, order_by
 from ._numbers import (
     LIMIT,
@@ -15,7 +15,9 @@ from ._numbers import (
     Lens,
     Numbers,
     Packed,
+    integer,
     listing,
+    not_64_bits,
     one_answer,
     one_number,
     said,
@@ -23,6 +25,8 @@ from ._numbers import (
     size,
     unsigned,
 )
+from ._reasons import Reason, of_array
+from ._reasons import of_lay_over as reason_of_lay_over
 from ._shapes import reshaped
 from ._sharing import MAX_WORK, share_byte
 from ._slices import packed_key, slice_by_key
@@ -36,15 +40,24 @@ class Reshaped(NamedTuple):
 
 
 def element_strides(byte_strides: Numbers, itemsize: int) -> Lens:
-    """Strides in bytes as strides in elements. Raises `ValueError` where one is no multiple of the item size.
+    """Strides in bytes as strides in elements. Raises `ShapeError` where one is no multiple of the item size.
 
     >>> element_strides((24, -8), 8)
     (3, -1)
     """
     strides = byte_strides if type(byte_strides) is tuple else listing(byte_strides)
-    if itemsize < 1 or gcd(itemsize, *strides) != itemsize:
-        raise ValueError(f"strides {strides} are no multiples of the item size {itemsize}")
+    if itemsize < 1:
+        raise no_itemsize(itemsize)
+    if gcd(itemsize, *strides) != itemsize:
+        axis = next(axis for axis, stride in enumerate(strides) if stride % itemsize)
+        text = f"axis {axis}: stride {strides[axis]} is no multiple of the item size {itemsize}"
+        raise ShapeError("IncompatibleLayout", text, axis, {"stride": strides[axis], "itemsize": itemsize})
     return tuple([stride // itemsize for stride in strides])
+
+
+def no_itemsize(itemsize: int) -> ShapeError:
+    """The error of an item size below 1."""
+    return ShapeError("Unsupported", f"the item size {itemsize} isn't above 0", None, {"itemsize": itemsize})
 
 
 class Array(Protocol):
@@ -78,36 +91,53 @@ def lay_over(
     `layout_start` does where the array doesn't lie within the buffer. What it returns is what
     `numpy.ndarray(shape, dtype, buffer, offset, strides)` takes.
 
-    A stride may be no multiple of the item size, as that of a field of packed records is. The layout is one of bytes
-    then, with an axis more, and errors count bytes.
+    A stride may be no multiple of the item size, as that of a field of packed records is. Errors count bytes. Of an
+    array without an element the strides alone have to fit, so 0 records fit 0 bytes.
 
     >>> lay_over((2, 3), (-12, 4), itemsize=4, nbytes=24)
     12
     >>> lay_over((2, 3), (-12, 4), itemsize=4, nbytes=23)
     Traceback (most recent call last):
-    ndarray_layout.OutOfBoundsError: the layout needs 6 elements of 5
+    ndarray_layout.OutOfBoundsError: the array needs 24 bytes of 23
     >>> lay_over(3, 7, itemsize=4, nbytes=20, offset=2, owned=True)    # of 4 bytes in each 7, the last at 16
     2
     """
     steps = strides if type(strides) is tuple else listing(strides)
     if itemsize < 1:
-        raise ValueError(f"the item size {itemsize} isn't above 0")
+        raise no_itemsize(itemsize)
+    lens = shape if type(shape) is tuple else listing(shape)
+    unsigned(lens), signed(steps)  # (which refuse what has no 64 bits, before it is divided)
+    nbytes = size(nbytes, "nbytes").value
+    offset = None if offset is None else integer(offset, "offset")
+    if offset is not None and not 0 <= offset <= nbytes:
+        numbers = {"offset": offset, "nbytes": nbytes}
+        raise OutOfBoundsError("OutOfBounds", f"offset {offset} lies outside of {nbytes} bytes", None, numbers)
+    try:
+        return _laid_over(lens, steps, itemsize, nbytes, offset, owned)
+    except LayoutError as error:
+        raise _in_bytes(error, reason_of_lay_over(lens, steps, itemsize, nbytes, offset, owned)) from None
+
+
+def _laid_over(lens: Lens, steps: Lens, itemsize: int, nbytes: int, offset: Optional[int], owned: bool) -> int:
+    """`lay_over`: of elements, or where a stride is no multiple of their size of bytes, with an axis more."""
     unit = itemsize if gcd(itemsize, *steps) == itemsize else 1
     if unit == itemsize:
         steps = tuple([stride // unit for stride in steps])
-    else:
-        shape, steps = (*listing(shape), itemsize), (*steps, 1)
-    lens, packed_steps = unsigned(shape), signed(steps)
+    elif 0 not in lens:
+        lens, steps = (*lens, itemsize), (*steps, 1)
+    packed_lens, packed_steps = unsigned(lens), signed(steps)
     if offset is None:
-        start, sizes = one_number(), (c_size_t(unit), size(nbytes // unit, "length"))
-        library.layout_start(*lens, *packed_steps, *sizes, bool(owned), start)
+        start, sizes = one_number(), (c_size_t(unit), c_size_t(nbytes // unit))
+        library.layout_start(*packed_lens, *packed_steps, *sizes, bool(owned), start)
         return unit * int(start[0])
-    if not 0 <= offset <= nbytes:
-        numbers = {"offset": offset, "nbytes": nbytes}
-        raise OutOfBoundsError("OutOfBounds", f"offset {offset} lies outside of {nbytes} bytes", None, numbers)
-    sizes = c_size_t(unit), size((nbytes - offset % unit) // unit, "length")
-    library.check_layout(size(offset // unit, "start"), *lens, *packed_steps, *sizes, bool(owned))
+    sizes = c_size_t(unit), size((nbytes - offset % unit) // unit, "nbytes")
+    library.check_layout(size(offset // unit, "offset"), *packed_lens, *packed_steps, *sizes, bool(owned))
     return offset
+
+
+def _in_bytes(error: LayoutError, reason: Optional[Reason]) -> LayoutError:
+    """The error of a call with a text that counts bytes. Its kind decides: a reason for another one is left out."""
+    return error if reason is None or reason.kind != error.kind else error_of_kind(*reason)
 
 
 def share_element(a: Array, first: Any, second: Any, max_work: Optional[int] = MAX_WORK) -> bool:
@@ -135,7 +165,10 @@ def share_element(a: Array, first: Any, second: Any, max_work: Optional[int] = M
     ndarray_layout.ShapeError: Unsupported: elements of shape (4, 3) and strides (8, 8) may overlap
     """
     shape, answer = a.shape, one_answer()
-    library.has_overlap(*unsigned((*shape, a.itemsize)), *signed((*a.strides, 1)), answer)
+    try:
+        library.has_overlap(*unsigned((*shape, a.itemsize)), *signed((*a.strides, 1)), answer)
+    except LayoutError as error:
+        raise _in_bytes(error, of_array(tuple(shape), tuple(a.strides), a.itemsize)) from None
     if answer[0]:
         return _share_byte(a, first, second, max_work)
     keys = *packed_key(shape, first), *packed_key(shape, second)
@@ -208,12 +241,18 @@ def _reshaped_by_any(lens: Packed, steps: Packed, new_lens: Packed) -> tuple[int
 
 
 def without_minus_one(shape: Sequence[int], new_shape: Lens) -> Lens:
-    """The new shape with the length that NumPy would put in the place of one -1."""
-    if -1 not in new_shape or new_shape.count(-1) > 1:
+    """The new shape with the length that NumPy would put in the place of one -1. It alone may be negative."""
+    if -1 not in new_shape:
         return new_shape
+    missing = new_shape.index(-1)
+    for axis, length in enumerate(new_shape):
+        if length < 0 and axis != missing:
+            error = not_64_bits("length", length, True, axis)
+            text = f"axis {axis}: length -1 is there twice, and only one may be -1"
+            raise SizeOverflowError("Overflow", text, axis, {"length": length}) if length == -1 else error
     others, size = prod([length for length in new_shape if length != -1]), prod(shape)
     if others == 0 or size % others:
-        axis, numbers = new_shape.index(-1), {"size": size, "others": others}
-        text = f"axis {axis}: no length times {said(others)} is the size {said(size)}"
-        raise ShapeError("IncompatibleShape", text, axis, numbers)
+        which = "any" if others == size == 0 else "no"
+        text = f"axis {missing}: {which} length times {said(others)} is the size {said(size)}"
+        raise ShapeError("IncompatibleShape", text, missing, {"size": size, "others": others})
     return tuple([size // others if length == -1 else length for length in new_shape])

@@ -7,9 +7,9 @@ from itertools import product, repeat
 from math import gcd, prod
 from typing import Any, Iterable, Optional
 
-from ._errors import LayoutError, ShapeError, error_of_kind
+from ._errors import LayoutError, ShapeError, error_of_kind, of_one
 from ._layouts import default_strides
-from ._numbers import LIMIT, Lens, Numbers, unsigned
+from ._numbers import LIMIT, Lens, Numbers, listing, unsigned
 from ._reasons import of_block
 from ._slices import SLICE_WITH_END, Elem, Slice, basic_key, intersection, picked, slice_view
 
@@ -26,15 +26,21 @@ def first_conflict(
 ) -> Optional[tuple[int, int]]:
     """Two of many parts of an array that conflict: the positions of their keys, the less first. `None` if no two do.
 
-    Exact. Without `chunks` two parts conflict where they share an index; with `chunks`, the lengths of a chunk along
-    each axis, where each has an index in the same chunk, so that two who write them race. Keys are NumPy's basic ones:
-    integers, slices, `...` and `None`. Raises what `basic_key` does, of the first key with an error, and `ShapeError`
-    where `chunks` hasn't one length for each axis, or one is 0. All keys are read before any two are compared.
+    Exact. It is any pair that conflicts, not the least one. Without `chunks` two parts conflict where they share an
+    index; with `chunks`, where each has an index in the same chunk, so that two who write them race. Keys are NumPy's
+    basic ones: integers, slices, `...` and `None`. Raises what `basic_key` does, of the first key with an error, and
+    `ShapeError` where `chunks` hasn't one length for each axis, or one is 0. All keys are read before any two are
+    compared.
 
-    Takes time for each key, and for each two that overlap along the axis on which most keys begin apart. Along an axis
-    on which a key steps further than a chunk, by no multiple of its length, it touches chunks in up to
-    chunk / gcd(step, chunk) progressions; each counts as a part. Past `max_parts` parts of all keys it raises
-    `ShapeError` of the kind 'Unsupported'.
+    `chunks` has the length of a chunk along each axis, as Zarr's `chunks` and HDF5's have; a number stands for one
+    axis, and nothing for the whole length of one. Of a Dask array it is `chunksize`, where all chunks but the last of
+    an axis have that length: `rechunk` makes them so.
+
+    Takes time for each key, and for each two whose stretches, from the first index to the last, overlap along the axis
+    on which most keys begin apart: for each two of all where columns interleave. The keys `(..., slice(k, None, n))`,
+    for k below n, take seconds for n = 10,000. Along an axis on which a key steps further than a chunk, by no multiple
+    of its length, it touches chunks in up to chunk / gcd(step, chunk) progressions; each counts as a part. Past
+    `max_parts` parts of all keys it raises `ShapeError` of the kind 'Unsupported'.
 
     >>> halves = [slice(0, 3), slice(3, 6)]
     >>> first_conflict((6, 6), halves)
@@ -45,7 +51,7 @@ def first_conflict(
     """
     lens = _lengths(shape, "length")
     default_strides(lens)  # (which refuses a size above the limit)
-    blocks = (1,) * len(lens) if chunks is None else _lengths(chunks, "chunk")
+    blocks = (1,) * len(lens) if chunks is None else _lengths(_chunk_lengths(chunks), "chunk")
     fault = of_block(lens, blocks)
     if fault is not None:
         raise error_of_kind(*fault)
@@ -53,9 +59,21 @@ def first_conflict(
     for position, key in enumerate(keys):
         touched = [_touched(picks, block) for picks, block in zip(_picks_at(position, lens, key), blocks)]
         if len(parts) + prod(map(len, touched)) > max_parts:
-            raise ShapeError("Unsupported", f"the keys up to {position} have more than {max_parts} parts")
+            numbers = {"key": position, "max_parts": max_parts}
+            raise ShapeError(
+                "Unsupported", f"the keys up to {position} have more than {max_parts} parts", None, numbers
+            )
         parts += zip(repeat(position), product(*touched))
     return _first_conflict(tuple([-(-length // block) for length, block in zip(lens, blocks)]), parts)
+
+
+def _chunk_lengths(chunks: Numbers) -> Lens:
+    listed = listing(chunks)
+    for axis, length in enumerate(listed):
+        if not hasattr(length, "__index__"):
+            text = f"axis {axis}: the length of a chunk is an integer, not {length!r}; Dask's are in `chunksize`"
+            raise TypeError(text)
+    return listed
 
 
 def _lengths(numbers: Numbers, name: str) -> Lens:
@@ -67,9 +85,8 @@ def _picks_at(position: int, shape: Lens, key: Any) -> list[range]:
     """The indices that a key takes along each axis."""
     try:
         return _picks(shape, key)
-    except LayoutError as error:
-        numbers = {"key": position, **error.numbers}
-        raise error_of_kind(error.kind, f"key {position}: {error.text}", error.axis, numbers) from None
+    except (LayoutError, TypeError) as error:
+        raise of_one("key", position, error) from None
 
 
 def _picks(shape: Lens, key: Any) -> list[range]:
@@ -79,13 +96,16 @@ def _picks(shape: Lens, key: Any) -> list[range]:
     if len(given) > len(shape):
         return _picks_of_any(shape, key)
     found = []
-    for length, entry in zip(shape, given):
-        if type(entry) is slice:
-            found.append(range(length)[entry])
-        elif type(entry) is int and -length <= entry < length:
-            found.append(range(length)[entry:][:1])
-        else:
-            return _picks_of_any(shape, key)
+    try:
+        for length, entry in zip(shape, given):
+            if type(entry) is slice and entry.step != 0:
+                found.append(range(length)[entry])
+            elif type(entry) is int and -length <= entry < length:
+                found.append(range(length)[entry:][:1])
+            else:
+                return _picks_of_any(shape, key)
+    except TypeError:  # (of a slice whose bounds are no numbers)
+        return _picks_of_any(shape, key)
     return [*found, *map(range, shape[len(given) :])]
 
 

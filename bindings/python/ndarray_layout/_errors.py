@@ -71,3 +71,15 @@ def error_of_kind(
 ) -> LayoutError:
     """An error of the class that stands for its kind."""
     return _CLASSES.get(kind, ShapeError)(kind, text, axis, numbers)
+
+
+def of_one(name: str, position: int, error: Exception) -> Exception:
+    """The error of one of many, which says which.
+
+    >>> of_one("key", 3, ShapeError("Unsupported", "axis 0: the step is 0", 0, {"step": 0})).numbers
+    {'key': 3, 'step': 0}
+    """
+    text = f"{name} {position}: {error.text if isinstance(error, LayoutError) else error}"
+    if isinstance(error, LayoutError):
+        return error_of_kind(error.kind, text, error.axis, {name: position, **error.numbers})
+    return TypeError(text)

@@ -10,7 +10,7 @@ from operator import index as as_int
 from typing import TYPE_CHECKING, Any, Iterator, Optional, Sequence, SupportsIndex
 
 from ._arrays import element_strides, without_minus_one
-from ._errors import OutOfBoundsError, ShapeError
+from ._errors import LayoutError, OutOfBoundsError, ShapeError, of_one
 from ._layouts import (
     Row,
     check_layout,
@@ -89,9 +89,9 @@ class Layout:
     ) -> Layout:
         """Accepts a layout over a buffer, or over so many elements.
 
-        The elements of a buffer are its items: those of `bytes` are bytes, those of an array its numbers. Without
-        strides the layout has no gaps, in the order 'C' or 'F'. Without a start its lowest place is 0. Raises what
-        `layout_start` and `check_layout` do.
+        The elements of a buffer are its items, in the order of memory: those of `bytes` are bytes, those of an array
+        its numbers. Without strides the layout has no gaps, in the order 'C' or 'F'. Without a start its lowest place
+        is 0. Raises what `layout_start` and `check_layout` do, and `ShapeError` where items have 0 bytes.
 
         >>> Layout.over(b"abcdef", (2, 3))
         Layout(start=0, shape=(2, 3), strides=(3, 1), length=6, owned=False)
@@ -111,22 +111,33 @@ class Layout:
         return Layout(start, lens, steps, length=length, owned=owned)
 
     @staticmethod
-    def of(array: Any, *, owned: bool = False) -> Layout:
+    def of(array: Any, *, base: Any = None, owned: bool = False) -> Layout:
         """The layout of an array, or of what a `memoryview` shows, over its elements from the lowest to the highest.
 
-        Raises `ValueError` where a stride is no multiple of the item size, as of packed records, and `ShapeError`
-        where it is to be owned and breaks the no-alias rule.
+        With a `base` it is one over the items of that buffer, from the lowest: what `as_array(base)` takes. Without
+        one the array's own lowest element has place 0, so `Layout.of(a[2:]).as_array(a)` shows other rows than
+        `Layout.of(a[2:], base=a).as_array(a)`. Of an array without an element all strides are 0, and it needs no items.
+
+        Raises `ShapeError` where a stride is no multiple of the item size, as of packed records, where the base has
+        gaps or items of another size, and where the layout is to be owned and breaks the no-alias rule; `IndexError`
+        where the array doesn't lie within the base. A base needs NumPy.
 
         >>> Layout.of(memoryview(b"abcdef")[::-2])
         Layout(start=4, shape=(3,), strides=(-2,), length=5, owned=False)
         """
-        view = array if hasattr(array, "strides") else memoryview(array)
+        view = array if hasattr(array, "strides") else _shown(array)
         if getattr(view, "suboffsets", ()):
             raise ShapeError("Unsupported", "a layout has no suboffsets")
-        shape, strides = tuple(view.shape), element_strides(view.strides, view.itemsize)
-        start = layout_start(shape, strides, elem_size=view.itemsize, length=LIMIT + 1, owned=owned)
-        span = sum(max(length - 1, 0) * abs(stride) for length, stride in zip(shape, strides))
-        return Layout(start, shape, strides, length=span + (0 not in shape), owned=owned)
+        shape, itemsize = tuple(view.shape), view.itemsize
+        strides = default_strides(shape) if 0 in shape else element_strides(view.strides, itemsize)
+        if base is None:
+            start = layout_start(shape, strides, elem_size=itemsize, length=LIMIT + 1, owned=owned)
+            span = sum(max(length - 1, 0) * abs(stride) for length, stride in zip(shape, strides))
+            return Layout(start, shape, strides, length=span + (0 not in shape), owned=owned)
+        length = _items_of_size(base, itemsize)
+        start = 0 if 0 in shape else _items_before(view, base, itemsize)
+        check_layout(start, shape, strides, elem_size=itemsize, length=length, owned=owned)
+        return Layout(start, shape, strides, length=length, owned=owned)
 
     # ---- What it is
 
@@ -179,7 +190,7 @@ class Layout:
     def reshape(self, shape: Numbers, order: str = "C") -> Layout:
         """The same places in an order along another shape, one length of which may be -1.
 
-        Raises what `reshape` does.
+        Raises what `reshape` does, and `ShapeError` where no one length makes the sizes equal.
 
         >>> Layout.over(6, (2, 3)).reshape((3, -1)).shape
         (3, 2)
@@ -248,7 +259,7 @@ class Layout:
     # ---- Places
 
     def place(self, index: Numbers) -> int:
-        """The place of an index. Raises `IndexError` where it is none of the shape."""
+        """The place of an index. Raises what `place` does."""
         return place(self.start, self.shape, self.strides, index)
 
     def places(self, order: str = "C") -> Lens:
@@ -277,7 +288,13 @@ class Layout:
         >>> Layout.over(6, (2, 3)).first_intersection([0, (1, 0), (..., -1)])
         (0, 2)
         """
-        return first_intersection(self.shape, [basic_key(self.shape, key) for key in keys])
+        return first_intersection(self.shape, [self._elems_at(position, key) for position, key in enumerate(keys)])
+
+    def _elems_at(self, position: int, key: Any) -> Elems:
+        try:
+            return basic_key(self.shape, key)
+        except (LayoutError, TypeError) as error:
+            raise of_one("slice", position, error) from None
 
     def intersects(self, first: Any, second: Any, max_work: Optional[int] = MAX_WORK) -> bool:
         """Whether two slices by NumPy's keys share a place: exact. See `share_element` for `max_work`.
@@ -305,13 +322,21 @@ class Layout:
     def as_array(self, buffer: Any, dtype: Any = None) -> numpy.ndarray[Any, Any]:
         """A NumPy array of this layout over a buffer, whose items it has without a `dtype`.
 
-        Raises `IndexError` where the buffer has fewer than `length` items. A layout that isn't owned gives an array
-        that is only to be read, as `numpy.broadcast_to` does.
+        Place k is the k-th item in memory, from the lowest, also where the buffer is an array in another order.
+        A layout that isn't owned gives an array that is only to be read, as `numpy.broadcast_to` does.
+
+        Raises `ShapeError` for an array with gaps or in no order, as `a[::2]` and `a[::-1]`, whose `base` may have
+        none, and where items have 0 bytes; `TypeError` where items would be read or written as objects that are none,
+        or the other way; `IndexError` where the buffer has fewer than `length` items.
         """
         import numpy
 
+        nbytes = _side_by_side(buffer).nbytes
         kind = numpy.dtype(_dtype(buffer) if dtype is None else dtype)
-        nbytes = memoryview(buffer).nbytes
+        if kind.itemsize == 0:
+            raise _no_bytes(f"items of the dtype {kind}")
+        if dtype is not None:
+            _check_objects(buffer, kind)
         self._check_room(nbytes // kind.itemsize, kind.itemsize)
         byte_strides = tuple([stride * kind.itemsize for stride in self.strides])
         offset = self.start * kind.itemsize
@@ -322,21 +347,35 @@ class Layout:
     def as_memoryview(self, buffer: Any) -> memoryview:
         """A `memoryview` of this layout over the items of a buffer, which has to be contiguous.
 
-        A `memoryview` of several axes has no gaps: other layouts raise `ShapeError` of the kind 'Unsupported'. A
-        layout that isn't owned gives one that is only to be read.
+        A `memoryview` of several axes has no gaps and isn't empty: other layouts raise `ShapeError` of the kind
+        'Unsupported', as a buffer that isn't C-contiguous does. A layout that isn't owned gives one that is only to
+        be read. Raises what `as_array` does.
 
         >>> Layout.over(b"abcdef", 3, -2).as_memoryview(b"abcdef").tobytes()
         b'eca'
         """
-        items = memoryview(buffer)
+        items = _side_by_side(buffer, in_rows=True)
         self._check_room(items.nbytes // items.itemsize, items.itemsize)
-        items = (items if self.owned else items.toreadonly()).cast("B").cast(items.format)
+        try:
+            items = (items if self.owned else items.toreadonly()).cast("B").cast(items.format)
+        except ValueError:
+            raise ShapeError("Unsupported", f"a memoryview can't have items of the format {items.format!r}") from None
         if self.ndim == 1:
-            return _stepped(items, self.start, *self.shape, *self.strides)
-        if not self.is_layout_c or 0 in self.shape:
-            raise ShapeError("Unsupported", f"a memoryview can't have the strides {self.strides}")
+            return items[Row(self.start, *self.strides, *self.shape).as_slice()]
+        self._check_rows()
         run = items[self.start : self.start + self.size]
         return run.cast("B").cast(items.format, self.shape)
+
+    def _check_rows(self) -> None:
+        """Raises `ShapeError` where this is no layout of a `memoryview` of several axes."""
+        if 0 in self.shape:
+            axis = self.shape.index(0)
+            text = f"axis {axis}: a memoryview of several axes can't have the length 0"
+            raise ShapeError("Unsupported", text, axis, {"length": 0})
+        for axis, (stride, wanted) in enumerate(zip(self.strides, default_strides(self.shape))):
+            if self.shape[axis] > 1 and stride != wanted:
+                text = f"axis {axis}: a memoryview of several axes can't have the stride {stride}, but {wanted}"
+                raise ShapeError("Unsupported", text, axis, {"stride": stride, "wanted": wanted})
 
     def _check_room(self, items: int, elem_size: int) -> None:
         if items < self.length:
@@ -349,8 +388,75 @@ def _items(buffer: Any) -> tuple[int, int]:
     """How many items a buffer has, and their size. A number stands for so many items."""
     if isinstance(buffer, Integral):
         return as_int(buffer), 1
-    view = memoryview(buffer)
+    view = _shown(buffer)
+    if view.itemsize == 0:
+        raise _no_bytes("items of the buffer")
     return view.nbytes // view.itemsize, view.itemsize
+
+
+def _shown(buffer: Any) -> memoryview:
+    """A `memoryview` of a buffer. NumPy gives none of an array of dates."""
+    try:
+        return memoryview(buffer)
+    except ValueError as error:
+        raise ShapeError("Unsupported", str(error)) from None
+
+
+def _no_bytes(what: str) -> ShapeError:
+    return ShapeError("Unsupported", f"{what} have 0 bytes", None, {"itemsize": 0})
+
+
+def _side_by_side(buffer: Any, in_rows: bool = False) -> memoryview:
+    """A buffer whose items lie side by side: in the order of rows, where that is asked, else of any axes."""
+    view = _shown(buffer)
+    if view.itemsize == 0:
+        raise _no_bytes("items of the buffer")
+    if not (view.c_contiguous if in_rows else view.contiguous):
+        name = "C-contiguous" if in_rows else "C- or F-contiguous"
+        text = f"the buffer isn't {name}: it has the shape {view.shape} and strides of {view.strides} bytes"
+        raise ShapeError("Unsupported", text)
+    return view
+
+
+def _items_of_size(base: Any, itemsize: int) -> int:
+    """How many items a base has, of the size of an array's."""
+    view = _side_by_side(base)
+    if view.itemsize != itemsize:
+        numbers = {"itemsize": itemsize, "base": view.itemsize}
+        raise ShapeError("Unsupported", f"items of {itemsize} bytes, in a base of {view.itemsize}", None, numbers)
+    return view.nbytes // itemsize
+
+
+def _items_before(array: Any, base: Any, itemsize: int) -> int:
+    """How many items of a base lie in memory before element (0, .., 0) of an array."""
+    start, rest = divmod(_address(array) - _address(base), itemsize)
+    if start < 0:
+        raise OutOfBoundsError(
+            "OutOfBounds", f"the array begins {-start} items below the base", None, {"start": start}
+        )
+    if rest:
+        text = f"the array begins {rest} bytes within an item of the base"
+        raise ShapeError("IncompatibleLayout", text, None, {"bytes": rest})
+    return start
+
+
+def _address(array: Any) -> int:
+    """Where the first element of an array, or of what a `memoryview` shows, lies in memory."""
+    import numpy
+
+    shown = array if hasattr(array, "__array_interface__") else numpy.asarray(memoryview(array))
+    return int(shown.__array_interface__["data"][0])
+
+
+def _check_objects(buffer: Any, kind: numpy.dtype[Any]) -> None:
+    """Raises `TypeError` where bytes would become references to objects, or references bytes."""
+    import numpy
+
+    if not kind.hasobject and "O" not in (memoryview(buffer).format or ""):
+        return
+    own = buffer.dtype if hasattr(buffer, "dtype") else numpy.asarray(memoryview(buffer)).dtype
+    if own != kind and (own.hasobject or kind.hasobject):
+        raise TypeError(f"items of the dtype {own} can't be taken for {kind}: references to objects are no bytes")
 
 
 def _dtype(buffer: Any) -> Any:
@@ -362,14 +468,6 @@ def _axis(axis: SupportsIndex, axes: int) -> int:
     """An axis, counted from the end where it is negative."""
     number = as_int(axis)
     if not -axes <= number < axes:
-        raise OutOfBoundsError("OutOfBounds", f"axis {number}: there are {axes} axes", number, {"axes": axes})
+        numbers = {"axis": number, "axes": axes}
+        raise OutOfBoundsError("OutOfBounds", f"axis {number}: there are {axes} axes", None, numbers)
     return number % axes
-
-
-def _stepped(items: memoryview, start: int, length: int, stride: int) -> memoryview:
-    """A run of items, of any stride but 0 where it has several."""
-    if length > 1 and stride == 0:
-        raise ShapeError("Unsupported", "a memoryview can't have the stride 0")
-    step = stride or 1
-    stop = start + length * step
-    return items[start : None if stop < 0 else stop : step] if length else items[:0]

@@ -6,10 +6,10 @@ from array import array
 from ctypes import c_size_t, c_void_p
 from itertools import repeat
 from math import prod
-from typing import Callable, Iterator, NamedTuple, Optional, SupportsIndex
+from typing import Callable, Iterator, NamedTuple, Optional, Sequence, SupportsIndex
 
 from . import _library as library
-from ._errors import ShapeError
+from ._errors import OutOfMemoryError, ShapeError
 from ._numbers import (
     LIMIT,
     ORDERS,
@@ -20,6 +20,7 @@ from ._numbers import (
     one_number,
     one_stride,
     order_number,
+    said,
     signed,
     size,
     unsigned,
@@ -41,7 +42,7 @@ def layout_start(
     Traceback (most recent call last):
     ndarray_layout.OutOfBoundsError: the layout needs 5 elements of 4
     """
-    start, sizes = one_number(), (size(elem_size, "element size"), size(length, "length"))
+    start, sizes = one_number(), (size(elem_size, "elem_size"), size(length, "length"))
     library.layout_start(*unsigned(shape), *signed(strides), *sizes, bool(owned), start)
     return int(start[0])
 
@@ -62,7 +63,7 @@ def check_layout(
     Traceback (most recent call last):
     ndarray_layout.OutOfBoundsError: the lowest place -1 is below 0
     """
-    first, sizes = size(start, "start"), (size(elem_size, "element size"), size(length, "length"))
+    first, sizes = size(start, "start"), (size(elem_size, "elem_size"), size(length, "length"))
     library.check_layout(first, *unsigned(shape), *signed(strides), *sizes, bool(owned))
 
 
@@ -144,7 +145,7 @@ def order_by(order: str, is_column_major: Callable[[], bool]) -> int:
     if order in ("A", "a"):
         return int(is_column_major())
     if order not in ORDERS:
-        raise ValueError(f"order must be 'C', 'F' or 'A', not {order!r}")
+        raise ShapeError("Unsupported", f"order must be 'C', 'F' or 'A', not {order!r}")
     return ORDERS[order]
 
 
@@ -176,6 +177,8 @@ def _strides_by(call: library.Call, packed: Packed) -> Lens:
 def place(start: SupportsIndex, shape: Numbers, strides: Numbers, index: Numbers) -> int:
     """The place of an index. Raises `IndexError` where it is no index of the shape.
 
+    A negative coordinate is an `OverflowError`, first of all: it never counts from the end.
+
     >>> place(3, (2, 3), (-3, 1), (1, 2))
     2
     >>> place(3, (2, 3), (-3, 1), (1, 3))
@@ -188,7 +191,7 @@ def place(start: SupportsIndex, shape: Numbers, strides: Numbers, index: Numbers
 
 
 def next_index(shape: Numbers, index: Numbers, order: str = "C") -> Optional[Lens]:
-    """The index after this one in an order, or `None` after the last one.
+    """The index after this one in an order, or `None` after the last one. Raises what `place` does of an index.
 
     >>> next_index((2, 3), (0, 2)), next_index((2, 3), (0, 2), order="F"), next_index((2, 3), (1, 2))
     ((1, 0), (1, 2), None)
@@ -223,16 +226,53 @@ def _view_of(start: SupportsIndex, shape: Numbers, strides: Numbers) -> tuple[Pa
 
 def _room_for(count: int) -> tuple[array[int], tuple[c_void_p, c_size_t]]:
     """Room for so many `size_t`, and how a call takes it."""
-    room = array("Q", (0,)) * max(count, 1)
+    try:
+        room = array("Q", (0,)) * max(count, 1)
+    except MemoryError:
+        raise OutOfMemoryError("OutOfMemory", f"no memory for {said(count)} places", None, {"places": count}) from None
     return room, (c_void_p(room.buffer_info()[0]), c_size_t(count))
 
 
 class Row(NamedTuple):
-    """Places along one axis: the first one, the stride to the next, and how many there are."""
+    """Places along one axis: the first one, the stride to the next, and how many there are.
+
+    A `range` of these numbers has no step 0, and a slice up to their end none that ends below 0: so take `places` or
+    `as_slice`.
+
+    >>> for row in rows(5, (2, 3), (-3, -1)):
+    ...     print(list(row.places()), b"abcdef"[row.as_slice()])
+    [5, 4, 3] b'fed'
+    [2, 1, 0] b'cba'
+    """
 
     start: int
     stride: int
     length: int
+
+    def places(self) -> Sequence[int]:
+        """Each place: a `range`, or where the stride is 0 a tuple that has the one place `length` times.
+
+        >>> Row(2, -1, 3).places(), Row(7, 0, 3).places()
+        (range(2, -1, -1), (7, 7, 7))
+        """
+        if self.stride == 0:
+            return (self.start,) * self.length
+        return range(self.start, self.start + self.length * self.stride, self.stride)
+
+    def as_slice(self) -> slice:
+        """Python's slice that takes these places of a buffer: `buffer[row.as_slice()]`.
+
+        Raises `ShapeError` of the kind 'Unsupported' for several places with the stride 0.
+
+        >>> Row(2, -1, 3).as_slice()
+        slice(2, None, -1)
+        """
+        if self.stride == 0 and self.length > 1:
+            text = f"the stride is 0, and a slice takes no place {self.length} times"
+            raise ShapeError("Unsupported", text, None, {"stride": 0, "length": self.length})
+        step = self.stride or 1
+        stop = self.start + self.length * step
+        return slice(self.start, None if stop < 0 else stop, step)
 
 
 def rows(start: SupportsIndex, shape: Numbers, strides: Numbers, order: str = "C") -> Iterator[Row]:

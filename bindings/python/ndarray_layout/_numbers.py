@@ -11,9 +11,9 @@ from operator import index
 from struct import Struct
 from struct import error as StructError
 from sys import byteorder
-from typing import Any, Callable, Iterable, NamedTuple, SupportsIndex, Union
+from typing import Any, Callable, Iterable, NamedTuple, Optional, SupportsIndex, Union
 
-from ._errors import SizeOverflowError
+from ._errors import ShapeError, SizeOverflowError
 
 Numbers = Union[SupportsIndex, Iterable[SupportsIndex]]
 """A list of numbers. One number alone is a list of one, as NumPy takes `5` for the shape `(5,)`."""
@@ -85,7 +85,7 @@ def _packed(typecode: str, numbers: Numbers, name: str) -> Packed:
         pass
     low, high = (0, 2**64) if typecode == "Q" else (-(2**63), 2**63)
     axis = next(axis for axis, number in enumerate(listed) if not low <= number < high)
-    raise _not_64_bits(name, index(listed[axis]), typecode == "Q", axis)
+    raise not_64_bits(name, index(listed[axis]), typecode == "Q", axis)
 
 
 def listing(numbers: Numbers) -> tuple[Any, ...]:
@@ -98,15 +98,24 @@ def listing(numbers: Numbers) -> tuple[Any, ...]:
         raise
 
 
+def integer(number: SupportsIndex, name: str) -> int:
+    """A number of Python. What is none is a `TypeError`, which calls it by `name`."""
+    try:
+        return index(number)
+    except TypeError:
+        raise TypeError(f"{name} is an integer, not {number!r}") from None
+
+
 def size(number: SupportsIndex, name: str) -> ctypes.c_size_t:
     """A number as a call takes it, where it is a `size_t`: ctypes itself would drop its upper bits."""
-    counted = index(number)
+    counted = integer(number, name)
     if 0 <= counted < 2**64:
         return ctypes.c_size_t(counted)
-    raise _not_64_bits(name, counted, True, None)
+    raise not_64_bits(name, counted, True, None)
 
 
-def _not_64_bits(name: str, number: int, is_unsigned: bool, axis: int | None) -> SizeOverflowError:
+def not_64_bits(name: str, number: int, is_unsigned: bool, axis: Optional[int]) -> SizeOverflowError:
+    """The error of a number that is none of C's."""
     what = "negative" if is_unsigned and number < 0 else "past 64 bits"
     where = "" if axis is None else f"axis {axis}: "
     return SizeOverflowError("Overflow", f"{where}{name} {said(number)} is {what}", axis, {name: number})
@@ -145,7 +154,7 @@ ORDERS = {"C": 0, "F": 1, "c": 0, "f": 1}
 def order_number(order: str) -> int:
     """How the exports write an order, where there is no layout that could say what 'A' is."""
     if order not in ORDERS:
-        raise ValueError(f"order must be 'C' or 'F', not {order!r}")
+        raise ShapeError("Unsupported", f"order must be 'C' or 'F', not {order!r}")
     return ORDERS[order]
 
 

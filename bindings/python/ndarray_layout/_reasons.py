@@ -93,7 +93,7 @@ def _of_span(span: int, elem_size: int) -> Optional[Reason]:
         return Reason("Overflow", f"span {said(span)} is above the limit {said(LIMIT)}", None, {"span": span})
     if span * elem_size > LIMIT:
         numbers = {"span": span, "elem_size": elem_size}
-        text = f"span {said(span)} times element size {said(elem_size)} is above the limit {said(LIMIT)}"
+        text = f"span {said(span)} times elem_size {said(elem_size)} is above the limit {said(LIMIT)}"
         return Reason("Overflow", text, None, numbers)
     return None
 
@@ -152,6 +152,43 @@ def of_overlap(shape: Lens, strides: Lens) -> Optional[Reason]:
             text = f"stride {said(stride)} isn't past {said(others)}, the reach of the axes with no greater stride"
             return _of_axis("Unsupported", axis, text, stride=stride, reach=others)
     return None
+
+
+def of_array(shape: Lens, strides: Lens, itemsize: int) -> Optional[Reason]:
+    """Of the bytes of an array."""
+    found = of_layout(shape, strides)
+    if found:
+        return found
+    size = prod(length for length in shape if length) * itemsize
+    if size > LIMIT:
+        text = f"{said(size)} bytes are above the limit {said(LIMIT)}"
+        return Reason("Overflow", text, None, {"size": size, "itemsize": itemsize})
+    return _of_span(sum(_reaches(shape, strides)) + itemsize - 1, 1)
+
+
+def of_lay_over(
+    shape: Lens, strides: Lens, itemsize: int, nbytes: int, offset: Optional[int], owned: bool
+) -> Optional[Reason]:
+    """Of the bytes of an array over a buffer."""
+    return (
+        of_array(shape, strides, itemsize)
+        or _of_bytes(shape, strides, itemsize, nbytes, offset)
+        or (of_overlap((*shape, itemsize), (*strides, 1)) if owned else None)
+    )
+
+
+def _of_bytes(shape: Lens, strides: Lens, itemsize: int, nbytes: int, offset: Optional[int]) -> Optional[Reason]:
+    reaches, item = _reaches(shape, strides), itemsize if 0 not in shape else 0
+    if offset is None:
+        needed = sum(reaches) + item
+        text = f"the array needs {said(needed)} bytes of {said(nbytes)}"
+        return Reason("OutOfBounds", text, None, {"needed": needed, "nbytes": nbytes}) if needed > nbytes else None
+    lowest = offset - sum(reach for reach, stride in zip(reaches, strides) if stride < 0)
+    end = lowest + sum(reaches) + item
+    if lowest >= 0 and end <= nbytes:
+        return None
+    text = f"the array at offset {said(offset)} needs bytes {said(lowest)} to {said(end - 1)} of {said(nbytes)}"
+    return Reason("OutOfBounds", text, None, {"offset": offset, "lowest": lowest, "end": end, "nbytes": nbytes})
 
 
 # ---- Indices
@@ -354,7 +391,9 @@ def _of_joints(shape: Lens, strides: Lens, order: int, new_shape: Lens) -> Optio
         stride, length, step = strides[joint.slow], shape[joint.fast], strides[joint.fast]
         if stride != length * step and size < prod(new_shape) and size not in boundaries:
             text = f"stride {said(stride)} isn't {said(length)} times {said(step)}, the stride of axis {joint.fast}"
-            return _of_axis("IncompatibleLayout", joint.slow, text, stride=stride, fast=joint.fast)
+            sizes = _of_sizes(shape, new_shape)
+            text, numbers = (f"{text}, and {sizes.text}", sizes.numbers) if sizes else (text, {})
+            return _of_axis("IncompatibleLayout", joint.slow, text, stride=stride, fast=joint.fast, **numbers)
     return None
 
 

@@ -54,7 +54,7 @@ def merge_axes(
 ) -> Optional[tuple[Lens, Lens]]:
     """The shape and the strides after axis `take` is merged into axis `into`; `None` where no stride reaches both.
 
-    Raises `IndexError` for a missing axis, then `ShapeError` for one axis twice.
+    Raises `OverflowError` for a negative axis, `IndexError` for a missing one, then `ShapeError` for one axis twice.
 
     >>> merge_axes((2, 3), (3, 1), take=0, into=1)
     ((1, 6), (3, 1))
@@ -94,7 +94,7 @@ def reshaped(lens: Packed, steps: Packed, new_lens: Packed, order: int) -> Lens:
 def permuted_axes(shape: Numbers, strides: Numbers, axes: Numbers) -> tuple[Lens, Lens]:
     """The shape and the strides with the axes in another order: axis k is axis `axes[k]` of the layout.
 
-    Raises `ShapeError` where the list isn't each axis once.
+    Raises `OverflowError` for a negative axis, and `ShapeError` where the list isn't each axis once.
 
     >>> permuted_axes((2, 3, 4), (12, 4, 1), (2, 0, 1))
     ((4, 2, 3), (1, 12, 4))
@@ -145,7 +145,8 @@ def split_at(
 ) -> tuple[View, View]:
     """The parts of a layout along an axis: the coordinates below an index, and those from it on.
 
-    Raises `IndexError` where there is no such axis, or the index is greater than its length.
+    Raises `IndexError` where there is no such axis, or the index is greater than its length, and `OverflowError` where
+    one of them is negative.
 
     >>> split_at(0, (2, 3), (3, 1), axis=1, index=1)
     (View(start=0, shape=(2, 1), strides=(3, 1)), View(start=1, shape=(2, 2), strides=(3, 1)))

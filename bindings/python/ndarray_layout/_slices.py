@@ -9,7 +9,7 @@ from struct import error as StructError
 from typing import Any, Iterable, NamedTuple, Optional, Sequence, SupportsIndex, Union
 
 from . import _library as library
-from ._errors import OutOfBoundsError, SizeOverflowError, error_of_kind
+from ._errors import OutOfBoundsError, ShapeError, SizeOverflowError, error_of_kind
 from ._numbers import (
     COUNTS,
     INDEX,
@@ -71,15 +71,23 @@ def _packed_slowly(fields: Sequence[Any]) -> Packed:
     try:
         return signed(fields)[0], count_of(len(fields) // 4)
     except SizeOverflowError as error:
-        raise _past_64_bits(fields, error.axis or 0) from None
+        axis, name = _named(fields, error.axis or 0)
+        number = fields[error.axis or 0]
+        text = f"axis {axis}: {name} {said(number)} is past 64 bits"
+        raise SizeOverflowError("Overflow", text, axis, {name: number}) from None
+    except TypeError:
+        at, wrong = next((at, field) for at, field in enumerate(fields) if not hasattr(field, "__index__"))
+        axis, name = _named(fields, at)
+        kinds = "integer, `nd.Slice` or `None`, which `basic_key` makes of NumPy's keys"
+        text = f"is no {kinds}" if name == "index" else f"is no {name}"
+        raise TypeError(f"axis {axis}: {wrong!r} {text}") from None
 
 
-def _past_64_bits(fields: Sequence[Any], at: int) -> SizeOverflowError:
+def _named(fields: Sequence[Any], at: int) -> tuple[int, str]:
+    """The axis and the name of a number of a slice."""
     element, field = divmod(at, 4)
     name = "index" if fields[4 * element] == _INDEX else ("kind", "start", "end", "step")[field]
-    axis = sum(head != _NEW_AXIS for head in fields[: 4 * element : 4])
-    text = f"axis {axis}: {name} {said(fields[at])} is past 64 bits"
-    return SizeOverflowError("Overflow", text, axis, {name: fields[at]})
+    return sum(head != _NEW_AXIS for head in fields[: 4 * element : 4]), name
 
 
 def _fields_of(elems: Elems) -> list[Any]:
@@ -173,18 +181,20 @@ def picked(shape: Numbers, elems: Elems, clamp: bool = False) -> int:
 # ---- NumPy's keys
 
 
-def basic_key(shape: Sequence[int], key: Any) -> list[Elem]:
+def basic_key(shape: Numbers, key: Any) -> list[Elem]:
     """A basic slice of NumPy, as `slice_view` takes it: the same coordinates of each axis in the same order.
 
-    A `Slice` among the keys, or alone, stays as it is. Raises `IndexError` and `ValueError` where NumPy does, and
-    `TypeError` for what is no integer, slice, `...` or `None`. NumPy takes booleans, lists and arrays by other rules.
+    A `Slice` among the keys, or alone, stays as it is. Raises `IndexError` and `ValueError` where NumPy does,
+    `TypeError` for what is no integer, slice, `...` or `None`, and `OverflowError` for a negative length. NumPy takes
+    booleans, lists and arrays by other rules.
 
     >>> basic_key((4, 5), (slice(None, None, -2), None))
     [Slice(start=0, end=4, step=-2), None, Slice(start=0, end=5, step=1)]
     >>> basic_key((4, 5), Slice(1, None, -2))
     [Slice(start=1, end=None, step=-2), Slice(start=0, end=5, step=1)]
     """
-    fields = _key_fields(shape, key)
+    packed, count = unsigned(shape)
+    fields = _key_fields(count.unpack_unsigned(packed), key)
     return [_elem_of(*fields[at : at + 4]) for at in range(0, len(fields), 4)]
 
 
@@ -216,18 +226,21 @@ def _key_fields(shape: Sequence[int], key: Any) -> list[int]:
     fields: list[int] = []
     if len(keys) != len(shape):
         return _any_key_fields(shape, key)
-    for length, entry in zip(shape, keys):
-        if type(entry) is slice:
-            start, stop, step = entry.indices(length)
-            if 0 < step <= LIMIT:
-                fields += (SLICE_WITH_END, start, stop, step)
+    try:
+        for length, entry in zip(shape, keys):
+            if type(entry) is slice and entry.step != 0:
+                start, stop, step = entry.indices(length)
+                if 0 < step <= LIMIT:
+                    fields += (SLICE_WITH_END, start, stop, step)
+                    continue
+                if -LIMIT <= step < 0:
+                    fields += (SLICE_WITH_END, stop + 1, start + 1, step)
+                    continue
+            elif type(entry) is int and -length <= entry < length:
+                fields += (_INDEX, entry if entry >= 0 else entry + length, 0, 1)
                 continue
-            if -LIMIT <= step < 0:
-                fields += (SLICE_WITH_END, stop + 1, start + 1, step)
-                continue
-        elif type(entry) is int and -length <= entry < length:
-            fields += (_INDEX, entry if entry >= 0 else entry + length, 0, 1)
-            continue
+            return _any_key_fields(shape, key)
+    except TypeError:  # (of a slice whose bounds are no numbers)
         return _any_key_fields(shape, key)
     return fields
 
@@ -263,7 +276,12 @@ def _one_for_each_axis(shape: Sequence[int], key: Any) -> list[Any]:
 def _basic_fields(axis: int, length: int, entry: Any) -> tuple[int, ...]:
     """One entry of a key, for an axis."""
     if isinstance(entry, slice):
-        start, stop, step = entry.indices(length)
+        if entry.step == 0:
+            raise ShapeError("Unsupported", f"axis {axis}: the step is 0", axis, {"step": 0})
+        try:
+            start, stop, step = entry.indices(length)
+        except TypeError as error:
+            raise TypeError(f"axis {axis}: {error}") from None
         if step > 0:
             return (SLICE_WITH_END, start, stop, min(step, LIMIT))
         return (SLICE_WITH_END, stop + 1, start + 1, max(step, -LIMIT))
