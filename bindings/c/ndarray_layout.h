@@ -395,6 +395,30 @@ int32_t nd_split_at(size_t start, const size_t *shape, size_t shape_len, const p
                     size_t axis, size_t index, size_t *new_starts, size_t new_starts_len, size_t *new_shapes,
                     size_t new_shapes_len, ptrdiff_t *new_strides, size_t new_strides_len);
 
+/*
+ * Writes the length and the stride of the diagonal of a layout, whose start stays: the indices that have the same coordinate
+ * on each axis. The length is the least of the shape's, and 1 without axes; the stride is the sum of all, and 0 where the
+ * length is less than 2.
+ *
+ * ND_INCOMPATIBLE_LAYOUT and ND_OVERFLOW as of nd_has_overlap.
+ *
+ * (2,3), strides (3,1): length 2, stride 4.
+ */
+int32_t nd_diag(const size_t *shape, size_t shape_len, const ptrdiff_t *strides, size_t strides_len, size_t *len,
+                ptrdiff_t *stride);
+
+/*
+ * Writes whether the places of a layout follow one another without a gap in an order (1) or don't (0); where they do, the
+ * first of them and the one after the last as well, both 0 where there is no index. `order`: ND_ROW_MAJOR or
+ * ND_COLUMN_MAJOR.
+ *
+ * Those of nd_place for the layout.
+ *
+ * From 4, (2,3), strides (3,1), row-major: 1, from 4 to 10; column-major: 0.
+ */
+int32_t nd_stretch(size_t start, const size_t *shape, size_t shape_len, const ptrdiff_t *strides, size_t strides_len,
+                   int32_t order, size_t *first, size_t *end, int32_t *found);
+
 /* ---- Statuses -------------------------------------------------------------------------------------------------------- */
 
 /* How many bytes the longest text has, with the 0 that ends it. */

@@ -440,6 +440,33 @@ static void test_no_lists(void) {
     CHECK(nd_status_text(ND_OK, NULL, 0, &number) == ND_BAD_ARGUMENT);
 }
 
+/* Calls over the lists of a layout: its diagonal, and whether its places follow one another. */
+static void test_diagonals_and_stretches(void) {
+    const size_t rows[2] = {2, 3}, cube[3] = {3, 2, 4}, no_rows[2] = {0, 3}, one[1] = {1};
+    const ptrdiff_t by_rows[2] = {3, 1}, back[3] = {-8, 4, 1}, backwards[2] = {-3, 1}, far[1] = {9};
+    size_t len = 77, first = 77, end = 77;
+    ptrdiff_t stride = 77;
+    int32_t found = 77;
+    CHECK(nd_diag(LIST(rows), by_rows, 1, &len, &stride) == ND_INCOMPATIBLE_LAYOUT && len == 77 && stride == 77);
+    CHECK(nd_diag(LIST(rows), LIST(by_rows), &len, &stride) == ND_OK && len == 2 && stride == 4);
+    CHECK(nd_diag(LIST(cube), LIST(back), &len, &stride) == ND_OK && len == 2 && stride == -3);
+    CHECK(nd_diag(LIST(no_rows), LIST(by_rows), &len, &stride) == ND_OK && len == 0 && stride == 0);
+    CHECK(nd_diag(LIST(one), LIST(far), &len, &stride) == ND_OK && len == 1 && stride == 0);
+    CHECK(nd_stretch(4, LIST(rows), by_rows, 1, 2, &first, &end, &found) == ND_BAD_ARGUMENT);
+    CHECK(nd_stretch(4, LIST(rows), by_rows, 1, ND_ROW_MAJOR, &first, &end, &found) == ND_INCOMPATIBLE_LAYOUT);
+    CHECK(nd_stretch(2, LIST(rows), LIST(backwards), ND_ROW_MAJOR, &first, &end, &found) == ND_OUT_OF_BOUNDS);
+    CHECK(first == 77 && end == 77 && found == 77);
+    CHECK(nd_stretch(4, LIST(rows), LIST(by_rows), ND_COLUMN_MAJOR, &first, &end, &found) == ND_OK && found == 0);
+    CHECK(nd_stretch(3, LIST(rows), LIST(backwards), ND_ROW_MAJOR, &first, &end, &found) == ND_OK && found == 0);
+    CHECK(first == 77 && end == 77);
+    CHECK(nd_stretch(4, LIST(rows), LIST(by_rows), ND_ROW_MAJOR, &first, &end, &found) == ND_OK);
+    CHECK(found == 1 && first == 4 && end == 10);
+    CHECK(nd_stretch(4, LIST(one), LIST(far), ND_COLUMN_MAJOR, &first, &end, &found) == ND_OK);
+    CHECK(found == 1 && first == 4 && end == 5);
+    CHECK(nd_stretch(4, LIST(no_rows), LIST(by_rows), ND_ROW_MAJOR, &first, &end, &found) == ND_OK);
+    CHECK(found == 1 && first == 0 && end == 0);
+}
+
 int main(int count, char **arguments) {
     test_versions();
     test_status_message();
@@ -450,6 +477,7 @@ int main(int count, char **arguments) {
     test_no_index();
     test_layouts_of_layouts();
     test_too_many_axes();
+    test_diagonals_and_stretches();
     test_what_is_kept(ND_READ_ONLY);
     test_what_is_kept(ND_OWNED);
     if (count > 1 && strcmp(arguments[1], "--null") == 0) test_no_lists();

@@ -94,6 +94,8 @@ static void test_short_lists(void) {
     REQUESTS(0, nd_permuted_axes(LAYOUT, LIST(axes), written.shape, 2, written.strides, 2));
     REQUESTS(0, nd_windows(LAYOUT, LIST(two), written.shape, 4, written.strides, 4));
     REQUESTS(0, nd_exact_chunks(LAYOUT, LIST(two), written.shape, 4, written.strides, 4));
+    REQUESTS(0, nd_diag(LAYOUT, &written.number, &written.stride));
+    REQUESTS(0, nd_stretch(0, LAYOUT, ND_ROW_MAJOR, &written.number, written.starts, &written.answer));
     REQUESTS(0, nd_split_at(0, LAYOUT, 1, 1, written.starts, 2, written.shape, 4, written.strides, 2));
 }
 
@@ -132,6 +134,8 @@ static void test_long_lists(void) {
     REQUESTS(5, nd_permuted_axes(LONG_LAYOUT, LIST(long_axes), written.shape, 6, written.strides, 6));
     REQUESTS(5, nd_windows(LONG_LAYOUT, LIST(ones), written.shape, 12, written.strides, 12));
     REQUESTS(5, nd_exact_chunks(LONG_LAYOUT, LIST(ones), written.shape, 12, written.strides, 12));
+    REQUESTS(2, nd_diag(LONG_LAYOUT, &written.number, &written.stride));
+    REQUESTS(2, nd_stretch(0, LONG_LAYOUT, ND_ROW_MAJOR, &written.number, written.starts, &written.answer));
     REQUESTS(4, nd_split_at(0, LONG_LAYOUT, 2, 1, written.starts, 2, written.shape, 12, written.strides, 6));
 }
 

@@ -1,4 +1,4 @@
-//! Windows and chunks of a layout, and its two parts.
+//! Windows and chunks of a layout, its two parts, and its diagonal.
 
 use crate::arguments::axis;
 use crate::compare::*;
@@ -57,5 +57,17 @@ fn split_at() {
         let (mut starts, mut shapes, mut new_strides) = rooms.clone();
         let status = nd_split_at(*start, shape, strides, *axis, *index, &mut starts, &mut shapes, &mut new_strides);
         (status, (starts, shapes, new_strides))
+    });
+}
+
+#[test]
+fn diag() {
+    let arguments = |numbers: &mut Numbers| {
+        let (shape, strides) = layout(numbers);
+        (shape, kept(&strides))
+    };
+    compare!("nd_diag", [OK, INCOMPATIBLE_LAYOUT, OVERFLOW], arguments, |(shape, strides)| {
+        let (mut len, mut stride) = (UNWRITTEN, UNWRITTEN as isize);
+        (nd_diag(shape, strides, &mut len, &mut stride), (len, stride))
     });
 }

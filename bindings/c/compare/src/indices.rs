@@ -1,4 +1,4 @@
-//! Indices, and where they lie, and rows of them.
+//! Indices, and where they lie, rows of them, and whether their places follow one another.
 
 use crate::arguments::index;
 use crate::compare::*;
@@ -71,5 +71,27 @@ fn rows() {
         let (mut starts, mut stride, mut len) = (room.clone(), UNWRITTEN as isize, UNWRITTEN);
         let status = nd_rows(*start, shape, strides, *order, &mut starts, &mut stride, &mut len);
         (status, (starts, stride, len))
+    });
+}
+
+#[test]
+fn stretch() {
+    let arguments = |numbers: &mut Numbers| {
+        let view = view(numbers);
+        let mut strides = kept(&view.strides);
+        if numbers.once_in(2) && strides.len() == view.shape.len() {
+            let mut step = 1usize;
+            for (stride, len) in strides.iter_mut().zip(&view.shape).rev() {
+                *stride = step;
+                step = step.wrapping_mul(*len);
+            }
+        }
+        (view.start, view.shape, strides, choice(numbers))
+    };
+    let statuses = [OK, INCOMPATIBLE_LAYOUT, OUT_OF_BOUNDS, OVERFLOW, BAD_ARGUMENT];
+    compare!("nd_stretch", statuses, arguments, |(start, shape, strides, order)| {
+        let (mut first, mut end, mut found) = (UNWRITTEN, UNWRITTEN, NO_ANSWER);
+        let status = nd_stretch(*start, shape, strides, *order, &mut first, &mut end, &mut found);
+        (status, (first, end, found))
     });
 }

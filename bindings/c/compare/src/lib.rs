@@ -30,7 +30,7 @@ include!(concat!(env!("OUT_DIR"), "/exports.rs"));
 mod erased {
     pub use crate::ndarray_layout_c::elements::RawElem;
     pub use crate::ndarray_layout_c::{
-        blocks::*, indices::*, intersections::*, layouts::*, rows::*, shapes::*, slices::*, splits::*, texts::*,
+        blocks::*, diagonals::*, indices::*, intersections::*, layouts::*, rows::*, shapes::*, slices::*, splits::*, stretches::*, texts::*,
         version::*,
     };
 }

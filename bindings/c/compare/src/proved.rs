@@ -65,6 +65,9 @@ exports! {
     nd_exact_chunks(shape: &[usize], strides: &[usize], chunk: &[usize], new_shape: &mut [usize], new_strides: &mut [usize]);
     nd_split_at(start: usize, shape: &[usize], strides: &[usize], axis: usize, index: usize, new_starts: &mut [usize],
         new_shapes: &mut [usize], new_strides: &mut [usize]);
+    nd_diag(shape: &[usize], strides: &[usize], len: &mut usize, stride: &mut isize);
+    nd_stretch(start: usize, shape: &[usize], strides: &[usize], order: i32, first: &mut usize, end: &mut usize,
+        found: &mut i32);
     nd_version(major: &mut i32, minor: &mut i32, patch: &mut i32);
     nd_status_text(status: i32, text: &mut [u8], used: &mut usize);
 }
