@@ -30,8 +30,8 @@ include!(concat!(env!("OUT_DIR"), "/exports.rs"));
 mod erased {
     pub use crate::ndarray_layout_c::elements::RawElem;
     pub use crate::ndarray_layout_c::{
-        blocks::*, diagonals::*, indices::*, intersections::*, layouts::*, rows::*, shapes::*, slices::*, splits::*, stretches::*, texts::*,
-        version::*,
+        blocks::*, diagonals::*, indices::*, intersections::*, layouts::*, rows::*, shapes::*, slices::*, splits::*,
+        stretches::*, texts::*, version::*,
     };
 }
 
