@@ -177,7 +177,7 @@ def show_table(name, head, rows, is_for_page):
     """Shows the table that a script makes: in columns, or as Markdown on the page, between the two comments with the script's name."""
     if is_for_page:
         lines = (head, ["---", *["---:"] * (len(head) - 1)], *rows)
-        write_between(f"<!-- bench/{name} -->", f"<!-- /bench/{name} -->", "\n".join(map(" | ".join, lines)))
+        write_between(f"<!-- bench/{name} -->", f"<!-- /bench/{name} -->", "\n".join(map("|".join, lines)))
         return
     widths = [max(map(len, column)) for column in zip(head, *rows)]
     for cells in (head, *rows):
