@@ -1,4 +1,3 @@
 pub mod ByteStrides
 pub mod Common
-pub mod Cropping
 pub mod Sizes

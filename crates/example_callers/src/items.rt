@@ -9,17 +9,11 @@ ghost use Rattle.nd_owned.specs.Owned.{item_at_place};
 use nd_owned::OwnedArray;
 use ndarray_layout::Lengths;
 
-/// How many pixels of a picture are darker than a bound, by a loop over copies of them. No memory is taken for any.
+/// How many pixels of a picture are darker than a bound, by their copies. No memory is taken for any.
 pub fn count_dark_pixels<D: Lengths>(picture: &OwnedArray<u8, D>, bound: u8) -> usize
     ensures { result ≡ count_by
         (λ pixel. option_map_or (λ value. nat_lt value bound) pixel false)
         (map (item_at_place picture.now.items) (view_places RowMajor picture.now.view)) }
 {
-    let mut count = 0;
-    for pixel in picture.iter() {
-        if pixel < bound {
-            count += 1;
-        }
-    }
-    count
+    picture.iter().filter(|pixel| *pixel < bound).count()
 }

@@ -1,24 +1,19 @@
-//! A loop over the places of a view, for each of which something is counted.
-ghost use Rattle.std.specs.Prelude.{◌≡◌, length, nat_lt, slice_index};
+//! A loop over the pixels of a picture, for each of which something is counted.
+ghost use Rattle.std.specs.Prelude.{◌≡◌, false, map, nat_lt};
 ghost use Rattle.std.specs.List.{count_by};
+ghost use Rattle.std.specs.Option.{option_map_or};
 ghost use Rattle.ndarray_layout.specs.declared.Order.TheVariants.{RowMajor};
-ghost use Rattle.ndarray_layout.specs.Signed.{magnitude};
-ghost use Rattle.ndarray_layout.specs.View.{LiesWithin, view_places};
+ghost use Rattle.ndarray_layout.specs.View.{view_places};
+ghost use Rattle.nd_owned.specs.Owned.{item_at_place};
 
-use ndarray_layout::{Lengths, Order, Strided};
+use nd_owned::ArrayView;
+use ndarray_layout::Lengths;
 
-/// How many pixels of a view are darker than a bound, by a loop over their places. No memory is taken for any of them.
-pub fn count_dark<D: Lengths>(pixels: &[u8], view: &Strided<D>, bound: u8) -> usize
-    requires { LiesWithin (length pixels.now) view.now }
+/// How many pixels of a picture are darker than a bound. No memory is taken for any of them.
+pub fn count_dark<D: Lengths>(picture: &ArrayView<'_, u8, D>, bound: u8) -> usize
     ensures { result ≡ count_by
-        (λ place. nat_lt (slice_index pixels.now (magnitude place)) bound)
-        (view_places RowMajor view.now) }
+        (λ pixel. option_map_or (λ value. nat_lt value bound) pixel false)
+        (map (item_at_place picture.now.items) (view_places RowMajor picture.now.view)) }
 {
-    let mut count = 0;
-    for place in view.iter_places(Order::RowMajor) {
-        if pixels[place] < bound {
-            count += 1;
-        }
-    }
-    count
+    picture.iter().filter(|pixel| **pixel < bound).count()
 }

@@ -1,20 +1,19 @@
 -- Row i is 2 * i before the last row, and column j is column j, by the laws of what a slice picks.
-use Rattle.std.proofs.Common.{◌≡◌, ◌-◌, ◌*◌, ◌<◌, pos, negsuc, None, Result, Ok, Err, List, [], ◌∷◌, ℕ, length, true, false, refl, ap, ◌∙◌}
+use Rattle.std.proofs.Common.{◌≡◌, ◌-◌, ◌*◌, ◌<◌, pos, negsuc, None, List, [], ◌∷◌, ℕ, length, true, false, refl, ap, ◌∙◌}
 use Rattle.std.proofs.Common.{arith}
-use Rattle.std.specs.Prelude.{IfOk, IsTrue, nat_lt, slice_index}
+use Rattle.std.specs.Prelude.{IsTrue, nat_lt, slice_index}
 use Rattle.std.proofs.lemmas.Bool.{and_parts, false≢true, ltb-true}
 use Rattle.ndarray_layout.specs.declared.Fit.TheVariants.{Strict}
-use Rattle.ndarray_layout.specs.declared.LayoutError.{LayoutError}
 use Rattle.ndarray_layout.specs.declared.SliceInfoElem.{SliceInfoElem}
 use Rattle.ndarray_layout.specs.declared.SliceInfoElem.TheVariants as elem
 use Rattle.ndarray_layout.specs.Indices.{is_index}
-use Rattle.ndarray_layout.specs.Descends.{Descends}
 use Rattle.ndarray_layout.specs.Picks.{picks}
 use Rattle.ndarray_layout.specs.SliceBounds.{slice_with}
 use Rattle.ndarray_layout.specs.Selected.{selected}
 use Rattle.ndarray_layout.specs.SlicedLayout.{sliced_shape}
+use Rattle.nd_owned.specs.ArrayView.{ShowsItemsOf}
+use Rattle.nd_owned.specs.Owned.{ArrayValue, item_at}
 use Rattle.ndarray_layout.specs.SlicedView.{slice_of}
-use Rattle.ndarray_layout.specs.View.{View, place_at}
 use Rattle.ndarray_layout.proofs.laws.Between.{pick_down}
 use Rattle.ndarray_layout.proofs.laws.UnitStep.{length-picks_by_one, pick_of_all}
 use Rattle.example_callers.proofs.slices.alternate_rows.Goals as goal
@@ -38,18 +37,17 @@ source (rows ∷ columns ∷ more) i j here =
     let column = pick_of_all Strict columns j in_bounds in
     cc
 
-moved : (view : View) (elems : List SliceInfoElem) (made : Result View LayoutError) → elems ≡ part
-    → IfOk made (λ rows. rows ≡ slice_of Strict elems view) → IfOk made (λ rows. Descends (selected Strict elems view.shape) view rows)
-    → IfOk made (λ rows. (i j : ℕ) → IsTrue (is_index rows.shape (i ∷ j ∷ [])) → place_at rows (i ∷ j ∷ []) ≡ place_at view
-    ((slice_index view.shape 0 - 1 - 2 * i) ∷ j ∷ []))
-moved view elems (Ok rows) are is kept = λ i j here.
-    let of_part = rw (is, are) at here in
-    (kept.places (i ∷ j ∷ []) here).1
-    ∙ ap (λ all. place_at view (selected Strict all view.shape (i ∷ j ∷ []))) are
-    ∙ ap (place_at view) (source view.shape i j of_part)
-moved view elems (Err e) are is kept = tt
+module _ (picture rows : ArrayValue ℕ) (elems : List SliceInfoElem) (are : elems ≡ part) where
+  shown : rows.view ≡ slice_of Strict elems picture.view → ShowsItemsOf (selected Strict elems picture.view.shape) picture rows
+      → (i j : ℕ) → IsTrue (is_index rows.view.shape (i ∷ j ∷ []))
+      → item_at rows (i ∷ j ∷ []) ≡ item_at picture ((slice_index picture.view.shape 0 - 1 - 2 * i) ∷ j ∷ [])
+  shown is shows i j here =
+      let of_part = rw (is, are) at here in
+      (shows.shown (i ∷ j ∷ []) here).1
+      ∙ ap (λ all. item_at picture (selected Strict all picture.view.shape (i ∷ j ∷ []))) are
+      ∙ ap (item_at picture) (source picture.view.shape i j of_part)
 
-pub returns-clause-place : goal.returns-clause-place
-returns-clause-place c =
+pub returns-clause-pixels : goal.returns-clause-pixels
+returns-clause-pixels c =
     let are : (c.into.result ∷ c.into-2.result ∷ []) ≡ part = rw (c.into.ensures, c.into-2.ensures, c.new.ensures) refl in
-    moved c.args.picture.now _ c.slice.result are c.slice.ensures.sliced c.slice.ensures.kept
+    shown c.args.picture.now c.in_ok-rows.rows _ are c.in_ok-rows.ensures.view c.in_ok-rows.ensures.items
