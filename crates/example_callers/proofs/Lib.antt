@@ -1,3 +1,3 @@
 pub mod ByteStrides
 pub mod Common
-pub mod Sizes
+pub mod Laws

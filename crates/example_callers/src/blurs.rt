@@ -32,6 +32,7 @@ fn mean_at(picture: &ArrayView<'_, u8, Ix2>, row: usize, column: usize) -> u8
         (item_at picture.now (crop_source (row ∷ column ∷ []) inner)) 0)
         (indices_in RowMajor (3 ∷ 3 ∷ [])) / 9 }
 {
+    let _lens = picture.dim().into_pattern();
     let (starts, ends) = (new_ix2(row, column), new_ix2(row + 3, column + 3));
     mean_of(&picture.crop(&starts, &ends).unwrap())
 }

@@ -11,7 +11,7 @@ use ndarray_layout::{Dimension, Ix2, all_indices};
 use std::alloc::{AllocError, Global};
 
 /// How many indices of a picture have a pixel of at least this brightness, by a loop over the indices. Two axes need no memory.
-#[tactic(auto, using(crate::proofs::Sizes::size_le_nonzero_size))]
+#[tactic(auto, using(crate::proofs::Laws::size_le_nonzero_size))]
 pub fn count_bright(
     alloc: Global,
     picture: &ArrayView<'_, u8, Ix2>,

@@ -25,7 +25,8 @@ pub fn picture(pixels: &[u8], rows: usize, columns: usize) -> Result<Strided<Ix2
 {
     let (shape, strides) = (new_ix2(rows, columns), new_ix2(columns, 1));
     let mode = CanIndexCheckMode::OwnedMutable;
-    Strided::new(shape, strides, 1, pixels.len(), mode)
+    let view = Strided::new(shape, strides, 1, pixels.len(), mode)?;
+    Ok(view)
 }
 
 /// The pixel at an index of a view, or `None` where it is no index of the shape.

@@ -44,7 +44,8 @@ pub fn grid(
         strides: Strides::C,
     };
     let mode = CanIndexCheckMode::OwnedMutable;
-    Strided::from_shape(alloc, shape, 1, items.len(), mode)
+    let view = Strided::from_shape(alloc, shape, 1, items.len(), mode)?;
+    Ok(view)
 }
 
 /// A list as a view of a shape of any number of axes: each index lies at its flat index in row-major order.
@@ -66,7 +67,8 @@ pub fn in_shape(alloc: Global, items: &[u8], dim: IxDyn) -> Result<Strided<IxDyn
         strides: Strides::C,
     };
     let mode = CanIndexCheckMode::OwnedMutable;
-    Strided::from_shape(alloc, shape, 1, items.len(), mode)
+    let view = Strided::from_shape(alloc, shape, 1, items.len(), mode)?;
+    Ok(view)
 }
 
 /// A view read as rows: row `i` and column `j` are the index of the view with flat index `i * columns + j`.
@@ -91,5 +93,6 @@ pub fn in_rows<D: Lengths>(
         LiesWithin len grid) }
     ensures distinct { IfOk result (λ grid. HasDistinctPlaces view.now → HasDistinctPlaces grid) }
 {
-    view.reshape(alloc, &new_ix2(rows, columns), Order::RowMajor)
+    let grid = view.reshape(alloc, &new_ix2(rows, columns), Order::RowMajor)?;
+    Ok(grid)
 }
