@@ -1,14 +1,11 @@
 //! Parts of a picture by bounds.
-ghost use Rattle.std.specs.Prelude.{◌≡◌, ◌↔◌, ℕ, ◌+◌, ◌-◌, [], ◌∷◌, IfOk, IfSome, IsSome, IsTrue, slice_index};
+ghost use Rattle.std.specs.Prelude.{◌≡◌, ◌↔◌, ℕ, ◌+◌, ◌-◌, [], ◌∷◌, IfSome, IsSome, IsTrue, slice_index};
 ghost use Rattle.ndarray_layout.specs.CroppedView.{RangesFit};
 ghost use Rattle.ndarray_layout.specs.Indices.{is_index};
-ghost use Rattle.ndarray_layout.specs.ShapeFault.{shape_fault};
-ghost use Rattle.ndarray_layout.specs.SplitView.{split_fault};
 ghost use Rattle.nd_owned.specs.Owned.{item_at};
 
 use nd_owned::ArrayView;
-use ndarray_layout::{Axis, Ix2, LayoutError, new_ix2};
-use std::alloc::Global;
+use ndarray_layout::{Dimension, Ix2, new_ix2};
 use std::ops::Range;
 
 /// The part of a picture between some rows and some columns; `None` where they aren't rows and columns of it.
@@ -28,4 +25,22 @@ pub fn crop<'a>(
     let starts = new_ix2(rows.start, columns.start);
     let ends = new_ix2(rows.end, columns.end);
     picture.crop(&starts, &ends)
+}
+
+/// Some rows of a picture, whole; `None` where they aren't rows of it.
+pub fn band<'a>(
+    picture: &ArrayView<'a, u8, Ix2>,
+    rows: Range<usize>,
+) -> Option<ArrayView<'a, u8, Ix2>>
+    ensures found { IsSome result ↔ RangesFit picture.now.view.shape
+        (rows.start ∷ 0 ∷ []) (rows.end ∷ slice_index picture.now.view.shape 1 ∷ []) }
+    ensures shape { IfSome result (λ band. band.view.shape ≡
+        (rows.end - rows.start) ∷ slice_index picture.now.view.shape 1 ∷ []) }
+    ensures pixels { IfSome result (λ band. (i j : ℕ) →
+        IsTrue (is_index band.view.shape (i ∷ j ∷ [])) → item_at band (i ∷ j ∷ []) ≡
+        item_at picture.now ((i + rows.start) ∷ j ∷ [])) }
+{
+    let (_all, columns) = picture.dim().into_pattern();
+    let band = crop(picture, rows, 0..columns)?;
+    Some(band)
 }

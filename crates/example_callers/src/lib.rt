@@ -18,11 +18,10 @@ mod steps;
 mod transposes;
 mod writes;
 
-
+pub use blurs::blur;
 pub use broadcasts::on_common_shape;
 pub use counts::count_bright;
-pub use blurs::blur;
-pub use crops::crop;
+pub use crops::{band, crop};
 pub use foreign::from_bytes;
 pub use items::count_dark_pixels;
 pub use lent::paint;
@@ -33,5 +32,5 @@ pub use rows::{grid, in_rows, in_shape};
 pub use scans::count_dark;
 pub use slices::{alternate_rows, pixels_of};
 pub use steps::{flat_plane, flat_plane_by_steps};
-pub use transposes::transposed_part;
+pub use transposes::{pixel_across, transposed_part};
 pub use writes::{with_two_parts, write_parts};

@@ -27,3 +27,11 @@ pub fn transposed_part<'a>(
     let part = crop(picture, rows, columns)?;
     Some(part.reversed_axes())
 }
+
+/// The pixel in a row and a column of the transpose of a picture, or `None` where the transpose has no such index.
+pub fn pixel_across(picture: ArrayView<'_, u8, Ix2>, row: usize, column: usize) -> Option<u8>
+    ensures pixel { result ≡ item_at picture.entry (column ∷ row ∷ []) }
+{
+    let across = picture.reversed_axes();
+    across.get(&(row, column)).copied()
+}

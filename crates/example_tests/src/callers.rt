@@ -28,7 +28,7 @@ impl Asked for Callers {
             "grid" | "in_shape" => {
                 of_list(alloc, row.call, pixels.as_slice(), &layout, &mut answer)
             }
-            "alternate_rows" | "count_bright" | "band" | "crop" | "cut" => {
+            "alternate_rows" | "count_bright" | "count_dark" | "band" | "crop" => {
                 of_picture(
                     alloc,
                     row.call,
@@ -58,7 +58,12 @@ pixels_of 2,1,2,1,2,1 7,9,-3,9,1,9 13 => 3,4,0,1,10,11,7,8
 pixels_of 10,2,5,10,2,5 -1000,-500,-100,-10,-5,-1 10000 => rows:9999,-100,-1
 alternate_rows 5,2 - 10 => 8,9,4,5,0,1
 alternate_rows 200,100 - 20000 => rows:19900,-200,1
-count_bright 100,100 - 10000 200 => 2000";
+count_bright 2,3 - 7 4 => 2
+count_bright 2,3 - 7 0 => 6
+count_bright 100,100 - 10000 200 => 2000
+count_dark 2,3 - 7 4 => 4
+count_dark 2,0 - 7 4 => 0
+count_dark 100,100 - 10000 200 => 8000";
 
 const VIEWS: &str = "\
 on_common_shape 2,1 1,1 4 3 1 => 2,3 0,0,0,1,1,1 0,1,2,0,1,2
@@ -76,15 +81,12 @@ separate_places 10,10,2,10,10 2000,200,100,10,1 20000 ..,..,0,..,.. ..,..,1,..;-
 /// Views that are made of a picture or of a list: their shapes and places.
 const PARTS: &str = "\
 band 4,3 - 12 1 3 => 2,3 3,4,5,6,7,8
-band 4,3 - 12 4 4 / 4,3 - 12 3 1 => 0,3 -
-band 4,3 - 12 3 5 / 4,3 - 12 0 4294967295 => OutOfBounds
+band 4,3 - 12 4 4 => 0,3 -
+band 4,3 - 12 3 1 / 4,3 - 12 3 5 / 4,3 - 12 0 18446744073709551615 => none
 band 200,100 - 20000 100 200 => 100,100 rows:10000,100,1
 crop 4,3 - 12 1 3 0 2 => 2,2 3,4,6,7
-crop 4,3 - 12 1 3 0 4 => OutOfBounds
+crop 4,3 - 12 1 3 0 4 => none
 crop 200,200 - 40000 50 150 99 199 => 100,100 rows:10099,200,1
-cut 4,3 - 12 1 4 => 1,3 0,1,2 3,3 3,4,5,6,7,8,9,10,11
-cut 4,3 - 12 5 4 => OutOfBounds
-cut 200,100 - 20000 100 200 => 100,100 rows:0,100,1 100,100 rows:10000,100,1
 grid 2,3 - 7 => 2,3 0,1,2,3,4,5
 grid 0,3 - 0 => 0,3 -
 grid 2,3 - 5 => OutOfBounds

@@ -1,11 +1,10 @@
 //! Layouts from foreign code, with strides in bytes, and transposes. A row is the call and what is given to it.
-ghost use Rattle.std.specs.Prelude.{length};
-ghost use Rattle.ndarray_layout.specs.View.{LiesWithin};
-
 use crate::assertions::hold;
 use crate::numbers::{are, pixels};
+use crate::parts::{bounds, is_left};
 use CanIndexCheckMode::OwnedMutable;
 use example_callers::{from_bytes, picture, pixel_across, transposed_part};
+use nd_owned::ArrayView;
 use ndarray_layout::{CanIndexCheckMode, Ix2, IxDyn, LayoutError, Lengths, Order, Strided};
 use std::alloc::Global;
 use test_tables::{Asked, Row, Words, layout_fault_name};
@@ -59,44 +58,24 @@ fn of_picture(
     let (rows, columns) = (given.length()?, given.length()?);
     let pixels = pixels(alloc, rows.checked_mul(columns)?)?;
     let view = picture(pixels.as_slice(), rows, columns).ok()?;
+    let picture = ArrayView::over(view, pixels.as_slice()).ok()?;
     match call {
-        "transposed_part" => is_transposed(alloc, &view, given, answer),
-        _ => is_across(pixels.as_slice(), view, given, answer),
+        "transposed_part" => {
+            let part = transposed_part(&picture, bounds(given)?, bounds(given)?);
+            is_left(alloc, part, answer)
+        }
+        _ => is_across(picture, given, answer),
     }
-}
-
-/// The transpose of a part: `TOP BOTTOM LEFT RIGHT => PLACES`, or the fault.
-fn is_transposed(
-    alloc: Global,
-    view: &Strided<Ix2>,
-    given: &mut Words<'_>,
-    answer: &mut Words<'_>,
-) -> Option<bool> {
-    let (top, bottom) = (bound(given)?, bound(given)?);
-    let (left, right) = (bound(given)?, bound(given)?);
-    has_places(
-        alloc,
-        transposed_part(alloc, view, top..bottom, left..right),
-        answer,
-    )
-}
-
-/// A bound of rows or of columns.
-fn bound(given: &mut Words<'_>) -> Option<u32> {
-    u32::try_from(given.length()?).ok()
 }
 
 /// A pixel of the transpose: `ROW COLUMN => PIXEL`, or `none`.
 fn is_across(
-    pixels: &[u8],
-    view: Strided<Ix2>,
+    picture: ArrayView<'_, u8, Ix2>,
     given: &mut Words<'_>,
     answer: &mut Words<'_>,
-) -> Option<bool>
-    requires { LiesWithin (length pixels.now) view }
-{
+) -> Option<bool> {
     Some(
-        match pixel_across(pixels, view, given.length()?, given.length()?) {
+        match pixel_across(picture, given.length()?, given.length()?) {
             Some(pixel) => answer.is_length(usize::from(pixel)),
             None => answer.is("none"),
         },
@@ -118,11 +97,11 @@ from_bytes 0 8 6 2,3 0,8 => Unsupported
 from_bytes 9999 4 10000 10,2,5,10,2,5 -4000,-2000,-400,-40,-20,-4 => rows:9999,-100,-1";
 
 const ACROSS: &str = "\
-transposed_part 2 3 0 2 0 3 => 0,3,1,4,2,5
-transposed_part 3 4 1 3 2 4 => 6,10,7,11
-transposed_part 3 4 1 4 2 4 => OutOfBounds
-transposed_part 3 4 1 1 2 4 => -
-transposed_part 100 200 0 100 50 150 => rows:50,1,200
+transposed_part 2 3 0 2 0 3 => 3,2 0,3,1,4,2,5
+transposed_part 3 4 1 3 2 4 => 2,2 6,10,7,11
+transposed_part 3 4 1 4 2 4 => none
+transposed_part 3 4 1 1 2 4 => 2,0 -
+transposed_part 100 200 0 100 50 150 => 100,100 rows:50,1,200
 pixel_across 2 3 2 1 => 5
 pixel_across 2 3 0 1 => 3
 pixel_across 2 3 1 2 => none";

@@ -1,7 +1,8 @@
 //! What is asked of the callers that make one view or two: parts of a picture, and lists as rows or along a shape.
 use crate::callers::Layout;
-use crate::numbers::are;
-use example_callers::{band, crop, cut, grid, in_shape};
+use crate::numbers::{are, are_pixels};
+use example_callers::{band, crop, grid, in_shape, pixels_of};
+use nd_owned::ArrayView;
 use ndarray_layout::{Ix2, IxDyn, LayoutError, Lengths, Order, Strided};
 use std::alloc::Global;
 use std::ops::Range;
@@ -29,43 +30,40 @@ pub fn is_made<D: Lengths>(
     }
 }
 
-/// Whether a call made two such views, or failed so.
-fn are_made(
+/// Whether a call left a picture of this shape and these pixels, or none.
+pub fn is_left(
     alloc: Global,
-    made: Result<Vec<Strided<Ix2>>, LayoutError>,
+    left: Option<ArrayView<'_, u8, Ix2>>,
     answer: &mut Words<'_>,
 ) -> Option<bool> {
-    match made {
-        Ok(parts) => match parts.as_slice() {
-            [upper, lower] => {
-                Some(are_places(alloc, upper, answer)? && are_places(alloc, lower, answer)?)
-            }
-            _ => None,
-        },
-        Err(fault) => Some(answer.is(layout_fault_name(&fault))),
-    }
+    let Some(picture) = left else {
+        return Some(answer.is("none"));
+    };
+    let is_shape = answer.is_list(picture.dim().slice());
+    let pixels = pixels_of(alloc, &picture).ok()?;
+    Some(is_shape && are_pixels(alloc, pixels.as_slice(), answer.word()?)?)
 }
 
 /// Two bounds.
-fn bounds(given: &mut Words<'_>) -> Option<Range<u32>> {
-    let start = u32::try_from(given.length()?).ok()?;
-    Some(start..u32::try_from(given.length()?).ok()?)
+pub fn bounds(given: &mut Words<'_>) -> Option<Range<usize>> {
+    let start = given.length()?;
+    Some(start..given.length()?)
 }
 
-/// Whether a call makes such parts of a picture, by bounds.
+/// Whether a call leaves such a part of a picture, by bounds.
 pub fn of_bounds(
     alloc: Global,
     call: &str,
-    picture: &Strided<Ix2>,
+    picture: &ArrayView<'_, u8, Ix2>,
     given: &mut Words<'_>,
     answer: &mut Words<'_>,
 ) -> Option<bool> {
     let rows = bounds(given)?;
-    match call {
-        "band" => is_made(alloc, band(alloc, picture, rows), answer),
-        "crop" => is_made(alloc, crop(alloc, picture, rows, bounds(given)?), answer),
-        _ => are_made(alloc, cut(alloc, picture, rows.start, rows.end), answer),
-    }
+    let left = match call {
+        "band" => band(picture, rows),
+        _ => crop(picture, rows, bounds(given)?),
+    };
+    is_left(alloc, left, answer)
 }
 
 /// Whether a call makes such a view of a list along a shape.

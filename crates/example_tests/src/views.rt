@@ -7,9 +7,10 @@ use crate::callers::Layout;
 use crate::numbers::{are, are_pixels};
 use crate::parts::{is_made, of_bounds};
 use example_callers::{
-    along_shape, alternate_rows, count_bright, in_rows, on_common_shape, picture, pixel, pixels_of,
-    separate_places,
+    along_shape, alternate_rows, count_bright, count_dark, in_rows, on_common_shape, picture,
+    pixel, pixels_of, separate_places,
 };
+use nd_owned::ArrayView;
 use ndarray_layout::{CanIndexCheckMode, Ix2, IxDyn, Lengths, Strided};
 use std::alloc::Global;
 use test_tables::{Words, layout_fault_name, made};
@@ -24,35 +25,37 @@ pub fn of_picture(
     answer: &mut Words<'_>,
 ) -> Option<bool> {
     let (rows, columns) = (layout.shape.at(0), layout.shape.at(1));
-    let view = picture(pixels, rows, columns).ok()?;
+    let picture = ArrayView::over(picture(pixels, rows, columns).ok()?, pixels).ok()?;
     match call {
-        "count_bright" => is_count(alloc, pixels, &view, given, answer),
-        "alternate_rows" => are_alternate(alloc, pixels, &view, answer.word()?),
-        _ => of_bounds(alloc, call, &view, given, answer),
+        "count_bright" | "count_dark" => is_count(alloc, call, &picture, given, answer),
+        "alternate_rows" => are_alternate(alloc, &picture, answer.word()?),
+        _ => of_bounds(alloc, call, &picture, given, answer),
     }
 }
 
-/// Whether so many pixels of a picture are as bright as a word tells.
+/// Whether so many pixels of a picture are as bright as a word tells, or as dark.
 fn is_count(
     alloc: Global,
-    pixels: &[u8],
-    view: &Strided<Ix2>,
+    call: &str,
+    picture: &ArrayView<'_, u8, Ix2>,
     given: &mut Words<'_>,
     answer: &mut Words<'_>,
-) -> Option<bool>
-    requires { LiesWithin (length pixels.now) view.now }
-{
-    let least = u8::try_from(given.length()?).ok()?;
-    let count = count_bright(alloc, pixels, view, least).ok()?;
+) -> Option<bool> {
+    let bound = u8::try_from(given.length()?).ok()?;
+    let count = match call {
+        "count_dark" => count_dark(picture, bound),
+        _ => count_bright(alloc, picture, bound).ok()?,
+    };
     Some(answer.is_length(count))
 }
 
 /// Whether every other row of a picture, from the last one up, has these pixels.
-fn are_alternate(alloc: Global, pixels: &[u8], view: &Strided<Ix2>, answer: &str) -> Option<bool>
-    requires { LiesWithin (length pixels.now) view.now }
-{
-    match alternate_rows(alloc, view) {
-        Ok(rows) => are_seen(alloc, pixels, &rows, answer),
+fn are_alternate(alloc: Global, picture: &ArrayView<'_, u8, Ix2>, answer: &str) -> Option<bool> {
+    match alternate_rows(alloc, picture) {
+        Ok(rows) => {
+            let pixels = pixels_of(alloc, &rows).ok()?;
+            are_pixels(alloc, pixels.as_slice(), answer)
+        }
         Err(_fault) => None,
     }
 }
@@ -114,10 +117,9 @@ fn are_seen<D: Lengths>(
     pixels: &[u8],
     view: &Strided<D>,
     answer: &str,
-) -> Option<bool>
-    requires { LiesWithin (length pixels.now) view.now }
-{
-    let copies = pixels_of(alloc, pixels, view).ok()?;
+) -> Option<bool> {
+    let picture = ArrayView::over(view.duplicate(alloc).ok()?, pixels).ok()?;
+    let copies = pixels_of(alloc, &picture).ok()?;
     are_pixels(alloc, copies.as_slice(), answer)
 }
 

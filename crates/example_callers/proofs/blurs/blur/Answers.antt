@@ -25,8 +25,7 @@ first_window {row} {column} {rest = rest} picture first all =
     let windows = subst (AreWindows picture) first all in
     let here = All-head (λ at. is_index (counts picture) at ≡ true) (row ∷ column ∷ []) rest windows in
     let parts = and_parts (nat_lt row (slice_index picture.shape 0 - 2)) _ here in
-    let across = and_parts (nat_lt column (slice_index picture.shape 1 - 2)) true parts.1 in
-    (
+    let across = and_parts (nat_lt column (slice_index picture.shape 1 - 2)) true parts.1 in (
       omega (arith, ltb-true row (slice_index picture.shape 0 - 2) parts.0),
       omega (arith, ltb-true column (slice_index picture.shape 1 - 2) across.0),
       All-tail (λ at. is_index (counts picture) at ≡ true) (row ∷ column ∷ []) rest windows,
