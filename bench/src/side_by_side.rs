@@ -32,8 +32,9 @@ use bench_by_rustc as _;
 use std::hint::black_box;
 use timing::Row;
 
-// Moves all code that follows by so many bytes: two programs with other numbers are two builds.
-std::arch::global_asm!(".text", concat!(".space ", env!("SHIFT"), ", 0xcc"));
+// Moves all code that follows by so many bytes: two programs with other numbers are two builds. (`R` is for the linker, which
+// leaves out a section that nothing refers to.)
+std::arch::global_asm!(r#".pushsection .text.shift, "axR", @progbits"#, concat!(".space ", env!("SHIFT"), ", 0xcc"), ".popsection");
 
 fn number(words: &[String], place: usize) -> usize {
     words[place].parse().expect("a number")

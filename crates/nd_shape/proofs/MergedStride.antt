@@ -1,12 +1,14 @@
 -- Which stride has the coordinates of two axes, and which have one.
-use Rattle.std.proofs.Common.{◌≡◌, ◌≢◌, ℕ, zero, suc, ◌+◌, ◌*◌, ◌<◌, ◌≤◌, ◌/◌, ◌%◌, ℤ, pos, ◌+ℤ◌, ◌*ℤ◌, List, [], ◌∷◌, length, get_or}
+use Rattle.std.proofs.Common.{◌≡◌, ◌≢◌, ℕ, zero, suc, ◌+◌, ◌-◌, ◌*◌, ◌<◌, ◌≤◌, ◌/◌, ◌%◌, ℤ, pos, ◌+ℤ◌, ◌-ℤ◌, ◌*ℤ◌, List, [], ◌∷◌, length, get_or}
 use Rattle.std.proofs.Common.{inl, inr, refl, sym, ap, ◌∙◌, arith, mul-le-mul_left, pos_of_ne-zero, zero-mul}
 use Rattle.std.proofs.Math.Nat.{div-add-mod, div-eq_of_lt, div-one, div_self, mod-eq_of_lt, mod-one, mod_self, mul_comm}
 use Rattle.std.proofs.lemmas.Bool.{cases_eq}
 use Rattle.std.proofs.lemmas.Int.{ints}
 use Rattle.nd_base.specs.Size.{nonzero_size}
 use Rattle.nd_base.proofs.laws.NonzeroSize.{length_le_nonzero_size, nonzero_size_of_other, nonzero_size_of_zero}
+use Rattle.nd_base.proofs.laws.Span.{reach_le_span}
 use Rattle.nd_base.proofs.laws.Times.{times_sum, times_times}
+use Rattle.nd_base.specs.Span.{reach, span}
 use Rattle.nd_shape.specs.Merge.{IsMergedStride, MergeFits}
 
 -- an axis of length at most 1 adds nothing to the other
@@ -82,3 +84,28 @@ two_lengths_le (len ∷ lens) (suc axis) (suc other) h g ne =
           omega (arith, mul-le-mul_left (nonzero_size lens) (pos_of_ne-zero e)) in
           rw (nonzero_size_of_other len lens e) (omega arith)
     ]
+
+-- two axes reach no further than all do together
+pub two_reaches_le : (shape : List ℕ) (strides : List ℤ) (axis other : ℕ) → (axis < length shape) × (other < length shape)
+    → length shape ≡ length strides → axis ≢ other
+    → reach (get_or shape axis 0) (get_or strides axis (pos 0)) + reach (get_or shape other 0) (get_or strides other (pos 0)) ≤ span shape strides
+two_reaches_le [] strides axis other h e ne = absurd (omega (arith, h.0))
+two_reaches_le (len ∷ shape) [] axis other h e ne = absurd (omega arith)
+two_reaches_le (len ∷ shape) (stride ∷ strides) zero zero h e ne = absurd (ne refl)
+two_reaches_le (len ∷ shape) (stride ∷ strides) zero (suc other) h e ne =
+    omega (arith, reach_le_span shape strides other (omega (arith, h.1)) (omega arith))
+two_reaches_le (len ∷ shape) (stride ∷ strides) (suc axis) zero h e ne =
+    omega (arith, reach_le_span shape strides axis (omega (arith, h.0)) (omega arith))
+two_reaches_le (len ∷ shape) (stride ∷ strides) (suc axis) (suc other) h e ne =
+    omega (arith, two_reaches_le shape strides axis other (omega (arith, h.0), omega (arith, h.1)) (omega arith) (λ same. ne (ap suc same)))
+
+-- a stride is the length of an axis times another one where it is one less than that from this one on
+pub goes_on_from_second : (len : ℕ) (stride other : ℤ) → 0 < len
+    → (stride -ℤ other ≡ pos (len - 1) *ℤ other → stride ≡ pos len *ℤ other)
+    × (stride ≡ pos len *ℤ other → stride -ℤ other ≡ pos (len - 1) *ℤ other)
+goes_on_from_second len stride other some =
+    let count : len - 1 + 1 ≡ len = omega arith in
+    let one : pos 1 *ℤ other ≡ other = omega (arith, ints) in
+    let whole : pos len *ℤ other ≡ (pos (len - 1) *ℤ other) +ℤ other =
+    sym (ap (λ n. pos n *ℤ other) count) ∙ times_sum (len - 1) 1 other ∙ ap (λ z. (pos (len - 1) *ℤ other) +ℤ z) one in
+    (λ e. omega (arith, ints, e, whole), λ e. omega (arith, ints, e, whole))

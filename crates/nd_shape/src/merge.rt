@@ -1,11 +1,25 @@
 //! Two axes as one.
 ghost use Rattle.std.specs.Bool.{OnTrue};
-ghost use Rattle.std.specs.Prelude.{◌≡◌, ◌≢◌, ◌<◌, ◌↔◌, if◌then◌else◌, IsTrue, length, slice_index};
-ghost use Rattle.nd_base.specs.Signed.{signed as signed_reading, all_signed};
+ghost use Rattle.std.specs.Prelude.{◌≡◌, ◌≢◌, ◌+◌, ◌<◌, ◌≤◌, ◌↔◌, pos, ◌*ℤ◌, if◌then◌else◌, IsTrue, length, slice_index};
+ghost use Rattle.nd_base.specs.Signed.{signed as signed_reading, all_signed, magnitude};
+ghost use Rattle.nd_base.specs.Size.{limit};
+ghost use Rattle.nd_base.specs.Span.{reach};
 ghost use Rattle.nd_base.specs.ValidLayout.{IsValidLayout};
 ghost use Rattle.nd_shape.specs.Merge.{IsMergedStride, MergeFits, merged_shape, merged_strides};
 
-use nd_base::{Axis, Lengths, is_multiple};
+use nd_base::{Axis, Lengths, signed, stride_offset};
+
+/// Whether a stride goes on where another axis ends: whether it is that axis' length times that axis' stride.
+#[inline(always)]
+fn goes_on(stride: usize, len: usize, other: usize) -> bool
+    requires long { 1 < len }
+    requires small { len ≤ limit }
+    requires fits { magnitude (signed_reading stride) + reach len (signed_reading other) ≤ limit }
+    ensures { IsTrue result ↔ (signed_reading stride ≡ pos len *ℤ signed_reading other) }
+{
+    // (from the other axis' second coordinate on, since the whole length may pass 64 bits)
+    signed(stride) - signed(other) == stride_offset(len - 1, other)
+}
 
 /// Merges the axis `take` into the axis `into` where one stride serves for the coordinates of both,
 /// and returns whether it did.
@@ -41,15 +55,12 @@ pub fn merge_fitting(shape: &mut [usize], strides: &mut [usize], take: usize, in
 {
     let (take_len, into_len) = (shape[take], shape[into]);
     let (take_stride, into_stride) = (strides[take], strides[into]);
-    // (one test of both lengths, since each is a branch that is hard to foresee)
-    if take_len.min(into_len) <= 1 {
-        strides[into] = if take_len <= 1 {
-            into_stride
-        } else {
-            take_stride
-        };
-    } else if !is_multiple(take_stride, into_len, into_stride) {
-        return false;
+    if take_len > 1 {
+        if into_len <= 1 {
+            strides[into] = take_stride;
+        } else if !goes_on(take_stride, into_len, into_stride) {
+            return false;
+        }
     }
     let merged_len = into_len * take_len;
     shape[into] = merged_len;

@@ -1,4 +1,6 @@
+pub mod Appended
 pub mod Cuts
+pub mod Decimal
 pub mod Digits
 pub mod FirstLine
 pub mod NumberParts

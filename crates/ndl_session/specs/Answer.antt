@@ -1,5 +1,5 @@
 -- What the program writes, and its exit status, for each input.
-use Rattle.std.specs.Prelude.{◌≡◌, ℕ, ◌+◌, Option, Some, None, Result, Ok, Err, List, ◌++◌, map, codes, decimal, string_bytes, refl}
+use Rattle.std.specs.Prelude.{◌≡◌, ℕ, ◌+◌, Option, Some, None, Result, Ok, Err, List, ◌++◌, map, codes, decimal, refl}
 use Rattle.std.proofs.Common.{sym, ◌∙◌, suc-ne-zero}
 use Rattle.std.specs.Fmt.{signed_decimal, digits}
 use Rattle.ndarray_layout.specs.declared.ErrorKind.{ErrorKind}
@@ -72,11 +72,11 @@ answer_of input = reply_to_reading (script_of input)
 
 -- an answer has the text and the status of a reply
 pub record IsReply (answer : Answer) (reply : Reply) : Type 0 where
-  pub text : string_bytes answer.text ≡ reply.text
+  pub text : answer.text.items ≡ reply.text
   pub status : answer.status ≡ reply.status
 
 -- examples
-an_unreadable_line : (answer : Answer) → string_bytes answer.text ≡ codes "line 1: unreadable\n" → answer.status ≡ 2
+an_unreadable_line : (answer : Answer) → answer.text.items ≡ codes "line 1: unreadable\n" → answer.status ≡ 2
     → IsReply answer (unreadable 1)
 unfolding digits
 an_unreadable_line answer text status = record { text = text; status = status }

@@ -6,7 +6,7 @@ ghost use Rattle.ndl_session.specs.Answer.{reply_to_script, reply_to_steps, unre
 ghost use Rattle.ndl_session.specs.script.Script.{script_value};
 
 use crate::script::{ReadError, Script, read_script};
-use crate::text::printing::push_line;
+use crate::text::printing::{push_line, push_places};
 use ndarray_layout::{IxDyn, LayoutError, Order, ShapeError, Step, Strided, run};
 use std::alloc::{AllocError, Global};
 
@@ -14,7 +14,7 @@ use std::alloc::{AllocError, Global};
 #[derive(Drop)]
 pub(crate) struct Answer {
     /// The text.
-    pub(crate) text: String,
+    pub(crate) text: Vec<u8>,
     /// 0 where every step was taken, 1 where the layout or a step returned an error, 2 where a line can't
     /// be read.
     pub(crate) status: u8,
@@ -40,7 +40,7 @@ fn unreadable(alloc: Global, line: usize) -> Result<Answer, AllocError>
     ensures { IfOk result (λ answer. IsReply answer (unreadable_reply line)) }
 {
     Ok(Answer {
-        text: format!(in alloc; "line {line}: unreadable\n")?,
+        text: format!(in alloc; "line {line}: unreadable\n")?.into_bytes(),
         status: 2,
     })
 }
@@ -50,7 +50,7 @@ fn step_failed(alloc: Global, step: usize, fault: &ShapeError) -> Result<Answer,
     ensures { IfOk result (λ answer. IsReply answer (reply_to_fault step fault.now)) }
 {
     Ok(Answer {
-        text: format!(in alloc; "step {step}: {fault}\n")?,
+        text: format!(in alloc; "step {step}: {fault}\n")?.into_bytes(),
         status: 1,
     })
 }
@@ -88,12 +88,11 @@ fn answer_to_steps(
 fn list(alloc: Global, view: &Strided<IxDyn>) -> Result<Answer, AllocError>
     ensures { IfOk result (λ answer. IsReply answer (listing view.now)) }
 {
-    let mut text = String::new(alloc);
+    let mut text = Vec::new(alloc);
     let lens = view.axes().map(|axis| axis.len);
     let strides = view.axes().map(|axis| axis.stride);
     push_line(alloc, &mut text, "shape", ",", lens)?;
     push_line(alloc, &mut text, "strides", ",", strides)?;
-    let places = view.places(alloc, Order::RowMajor)?;
-    push_line(alloc, &mut text, "places", " ", places.iter().copied())?;
+    push_places(&mut text, view.iter_places(Order::RowMajor))?;
     Ok(Answer { text, status: 0 })
 }

@@ -1,4 +1,5 @@
 //! Bytes as text: the lines of a script, their words, the numbers that these spell, and the lines of an answer.
+mod digits;
 pub(crate) mod lines;
 pub(crate) mod numbers;
 pub(crate) mod printing;

@@ -97,7 +97,7 @@ pub fn session<R: io::Read, W: io::Write>(
 {
     let status = match answer_input(alloc, reader) {
         Ok(answer) => {
-            write_whole(writer, answer.text.as_bytes());
+            write_whole(writer, answer.text.as_slice());
             answer.status
         }
         Err(InputError::ReadFailed) => {

@@ -1,8 +1,10 @@
 //! The lines of an answer.
-ghost use Rattle.std.specs.Prelude.{◌≡◌, ℕ, ◌++◌, List, IsSome, OnOk, if◌then◌else◌, is_ok, map, string_bytes};
+ghost use Rattle.std.specs.Fmt.{decimal};
 ghost use Rattle.std.specs.Iterator.{Drains, IsFinite};
+ghost use Rattle.std.specs.Prelude.{◌≡◌, ℕ, ◌++◌, List, IsSome, OnOk, codes, if◌then◌else◌, is_ok, map};
 ghost use Rattle.ndl_session.specs.text.Printing.{line, listed, printed};
 
+use crate::text::digits::{MOST_DIGITS, write_digits};
 use std::alloc::{AllocError, Global};
 use std::fmt::{Display, Write};
 
@@ -10,18 +12,18 @@ use std::fmt::{Display, Write};
 ///
 /// Errors: out of memory; the text is unchanged then.
 fn push_number<T: Display + Copy>(
-    text: &mut String,
+    text: &mut Vec<u8>,
     digits: &mut String,
     number: T,
 ) -> Result<(), AllocError>
     requires { IsSome (T.output number) }
-    ensures bytes { string_bytes text.new ≡ (if is_ok result
-        then string_bytes text.old ++ printed T.output number
-        else string_bytes text.old) }
+    ensures bytes { text.new.items ≡ (if is_ok result
+        then text.old.items ++ printed T.output number
+        else text.old.items) }
 {
     digits.clear();
     write!(digits, "{number}")?;
-    text.push_str(digits.as_str())
+    text.extend_from_slice(digits.as_bytes())
 }
 
 /// Appends the numbers with the separator between each two, or `-` where there are none.
@@ -29,7 +31,7 @@ fn push_number<T: Display + Copy>(
 /// Errors: out of memory; what stood in the text before is still its beginning then.
 fn push_list<T: Display + Copy, I: Iterator<Item = T>>(
     alloc: Global,
-    text: &mut String,
+    text: &mut Vec<u8>,
     separator: &str,
     numbers: I,
 ) -> Result<(), AllocError>
@@ -37,18 +39,18 @@ fn push_list<T: Display + Copy, I: Iterator<Item = T>>(
     requires ends { IsFinite (I.remaining numbers) }
     requires known { (x : T) → IsSome (T.output x) }
     ensures list { OnOk result ((list : List T) × Drains I.next_gives numbers list
-        × (string_bytes text.new
-        ≡ string_bytes text.old ++ listed separator.now (map (printed T.output) list))) }
-    ensures kept { (more : List ℕ) × (string_bytes text.new ≡ string_bytes text.old ++ more) }
+        × (text.new.items
+        ≡ text.old.items ++ listed separator.now (map (printed T.output) list))) }
+    ensures kept { (more : List ℕ) × (text.new.items ≡ text.old.items ++ more) }
 {
     let mut numbers = numbers;
     let mut digits = String::new(alloc);
     let Some(first) = numbers.next() else {
-        return text.push_str("-");
+        return text.extend_from_slice(b"-");
     };
     push_number(text, &mut digits, first)?;
     for number in numbers {
-        text.push_str(separator)?;
+        text.extend_from_slice(separator.as_bytes())?;
         push_number(text, &mut digits, number)?;
     }
     Ok(())
@@ -62,7 +64,7 @@ fn push_list<T: Display + Copy, I: Iterator<Item = T>>(
 /// Errors: out of memory; what stood in the text before is still its beginning then.
 pub(crate) fn push_line<T: Display + Copy, I: Iterator<Item = T>>(
     alloc: Global,
-    text: &mut String,
+    text: &mut Vec<u8>,
     name: &str,
     separator: &str,
     numbers: I,
@@ -71,13 +73,56 @@ pub(crate) fn push_line<T: Display + Copy, I: Iterator<Item = T>>(
     requires ends { IsFinite (I.remaining numbers) }
     requires known { (x : T) → IsSome (T.output x) }
     ensures line { OnOk result ((list : List T) × Drains I.next_gives numbers list
-        × (string_bytes text.new
-        ≡ string_bytes text.old
+        × (text.new.items
+        ≡ text.old.items
         ++ line name.now (listed separator.now (map (printed T.output) list)))) }
-    ensures kept { (more : List ℕ) × (string_bytes text.new ≡ string_bytes text.old ++ more) }
+    ensures kept { (more : List ℕ) × (text.new.items ≡ text.old.items ++ more) }
 {
-    text.push_str(name)?;
-    text.push_str(" ")?;
+    text.extend_from_slice(name.as_bytes())?;
+    text.extend_from_slice(b" ")?;
     push_list(alloc, text, separator, numbers)?;
-    text.push_str("\n")
+    text.extend_from_slice(b"\n")
+}
+
+/// Appends a space and a number.
+///
+/// Errors: out of memory; the text is unchanged then.
+#[inline]
+fn push_place(text: &mut Vec<u8>, place: usize) -> Result<(), AllocError>
+    ensures { text.new.items ≡ (if is_ok result
+        then text.old.items ++ (codes " " ++ decimal place)
+        else text.old.items) }
+{
+    let mut word = [0; 1 + MOST_DIGITS];
+    let start = write_digits(place, &mut word, 1 + MOST_DIGITS);
+    word[start - 1] = b' ';
+    text.extend_from_slice(&word[start - 1..])
+}
+
+/// Appends the line of the places: its name, each place after a space, or ` -` where there are none, and a line feed.
+///
+/// The caller ensures that the places come to an end.
+///
+/// Errors: out of memory; what stood in the text before is still its beginning then.
+pub(crate) fn push_places<I: Iterator<Item = usize>>(
+    text: &mut Vec<u8>,
+    places: I,
+) -> Result<(), AllocError>
+    requires can { I.can_next places }
+    requires ends { IsFinite (I.remaining places) }
+    ensures { OnOk result ((list : List ℕ) × Drains I.next_gives places list
+        × (text.new.items
+        ≡ text.old.items
+        ++ line (codes "places") (listed (codes " ") (map decimal list)))) }
+{
+    let mut places = places;
+    text.extend_from_slice(b"places")?;
+    let Some(first) = places.next() else {
+        return text.extend_from_slice(b" -\n");
+    };
+    push_place(text, first)?;
+    for place in places {
+        push_place(text, place)?;
+    }
+    text.extend_from_slice(b"\n")
 }

@@ -58,7 +58,7 @@ returns-else-write_failed-clause-answered g c not_memory not_failed =
     elim c.match-answer_input.branch [
       | in-Ok w ↦ (let is = w.writer-is in
           rw is (answered _ _ _ w.in-Ok.answer w.in-Ok.ensures.answer
-          w.as_bytes.ensures.value (w.write_whole.ensures.whole (rw is at known)) w.status-is))
+          w.as_slice.ensures.value (w.write_whole.ensures.whole (rw is at known)) w.status-is))
       | in-Err-ReadFailed w ↦ absurd (not_failed w.status-is)
       | in-Err-OutOfMemory w ↦ absurd (not_memory w.status-is)
     ]

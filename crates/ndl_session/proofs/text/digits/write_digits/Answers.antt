@@ -1,0 +1,25 @@
+-- Each step writes the last two digits of what is left.
+use Rattle.std.proofs.Common.{◌≡◌, ◌+◌, ◌-◌, arith, append_assoc}
+use Rattle.ndl_session.proofs.text_lemmas.Decimal.{decimal_pair, length_pair}
+use Rattle.ndl_session.proofs.text.digits.write_digits.Goals as goal
+
+pub overflow_sub-at : goal.overflow_sub-at
+overflow_sub-at c = omega (arith, length_pair c.loop-left.left c.loop-left-test.true c.loop-left.auto.left-fits.fits)
+
+pub write_pair-requires : goal.write_pair-requires
+write_pair-requires c = omega (arith, length_pair c.loop-left.left c.loop-left-test.true c.loop-left.auto.left-fits.fits)
+
+pub overflow_sub-at-in-loop-left : goal.overflow_sub-at-in-loop-left
+overflow_sub-at-in-loop-left c = omega (arith, length_pair c.loop-left.left c.loop-left-test.true c.loop-left.auto.left-fits.fits)
+
+pub loop-left-preserved : goal.loop-left-preserved
+loop-left-preserved c =
+    let l = c.loop-left in
+    let long = length_pair l.left c.loop-left-test.true l.auto.left-fits.fits in
+    let back : l.at - 2 + 2 ≡ l.at = omega arith in (
+      omega arith,
+      omega arith,
+      omega arith,
+      rw (c.write_pair.ensures, back)
+          (rw (decimal_pair l.left c.loop-left-test.true l.auto.left-fits.fits, append_assoc) at l.invariant.3),
+    )

@@ -1,0 +1,12 @@
+-- What is left to write and what is written are the digits of the number.
+use Rattle.std.proofs.Common.{◌≡◌, ◌+◌, ◌≤◌, ◌++◌, length, drop}
+use Rattle.std.specs.Fmt.{decimal}
+use Rattle.ndl_session.proofs.text.digits.write_digits.Given as goal
+
+abbrev pub invariant-loop-left : goal.invariant-loop-left
+invariant-loop-left l =
+    (length (decimal l.left) ≤ l.at) × (l.at ≤ l.end) × (l.at + length (decimal l.number) ≡ l.end + length (decimal l.left))
+    × (decimal l.left ++ drop l.at l.bytes ≡ decimal l.number ++ drop l.end l.fn.bytes)
+
+abbrev pub decreases-loop-left : goal.decreases-loop-left
+decreases-loop-left l = l.left
