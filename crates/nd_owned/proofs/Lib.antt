@@ -3,6 +3,7 @@ pub mod OwnedParts
 pub mod Placed
 pub mod PlacesLeft
 pub mod RowPlaces
+pub mod RowsLent
 pub mod Sets
 pub mod Slices
 pub mod ViewRows
