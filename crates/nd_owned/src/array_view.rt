@@ -17,6 +17,7 @@ ghost use Rattle.ndarray_layout.specs.View.{IsView, LiesWithin, view_of};
 ghost use Rattle.nd_owned.specs.ArrayView.{HasItems};
 ghost use Rattle.nd_owned.specs.Owned.{item_at};
 
+mod folding;
 mod indexing;
 mod iterating;
 mod rows;

@@ -78,6 +78,16 @@ impl<'a, T> LentRow<'a, T> {
         Some(&items[row.start..row.start + row.len])
     }
 
+    /// The item of a coordinate. The caller ensures that it is one of the row.
+    #[inline(always)]
+    pub(crate) fn item(&self, coordinate: usize) -> &'a T
+        requires { coordinate < self.now.row.len }
+        ensures { slice_index_or (row_items self.now) coordinate None ≡ Some result.now }
+    {
+        let (items, row) = (self.items, self.row);
+        &items[place_in_row(row, coordinate)]
+    }
+
     /// The item of a coordinate; `None` where it is past the row.
     ///
     /// Of `[2,2]` over 5 6 7 8, the second row at 0: 7; at 2: `None`. ndarray's `get` of a row.
@@ -86,11 +96,10 @@ impl<'a, T> LentRow<'a, T> {
         ensures found { IsSome result ↔ (coordinate < self.now.row.len) }
         ensures item { option_copied result ≡ slice_index_or (row_items self.now) coordinate None }
     {
-        let (items, row) = (self.items, self.row);
-        if coordinate >= row.len {
+        if coordinate >= self.row.len {
             return None;
         }
-        Some(&items[place_in_row(row, coordinate)])
+        Some(self.item(coordinate))
     }
 }
 
