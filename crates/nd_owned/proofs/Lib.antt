@@ -1,8 +1,10 @@
 pub mod Faults
+pub mod Folding
 pub mod OwnedParts
 pub mod Placed
 pub mod PlacesLeft
 pub mod RowPlaces
+pub mod RowsLent
 pub mod Sets
 pub mod Slices
 pub mod ViewRows

@@ -1,6 +1,8 @@
 pub mod ArrayView
 pub mod ArrayViewMut
 pub mod Lender
+pub mod Lending
+pub mod LentRow
 pub mod MultiSet
 pub mod Owned
 pub mod private

@@ -17,7 +17,10 @@ ghost use Rattle.ndarray_layout.specs.View.{IsView, LiesWithin, view_of};
 ghost use Rattle.nd_owned.specs.ArrayView.{HasItems};
 ghost use Rattle.nd_owned.specs.Owned.{item_at};
 
+mod folding;
+mod indexing;
 mod iterating;
+mod rows;
 mod steps;
 
 use crate::rows::view_size;
@@ -26,6 +29,7 @@ use ndarray_layout::{
     CanIndexCheckMode, ErrorKind, LayoutError, Lengths, NdIndex, ShapeError, StrideShape, Strided,
     from_kind, max_abs_offset_check_overflow, offset_from_low_addr_ptr_to_logical_ptr,
 };
+pub use rows::{LentRow, LentRows};
 use std::alloc::{AllocError, Global};
 use std::marker::Model;
 

@@ -11,7 +11,7 @@ mod owned;
 mod part;
 mod rows;
 
-pub use array_view::{ArrayView, Iter};
+pub use array_view::{ArrayView, Iter, LentRow, LentRows};
 pub use array_view_mut::ArrayViewMut;
 pub use iterating::Items;
 pub use owned::OwnedArray;
