@@ -3,6 +3,7 @@ pub mod OwnedParts
 pub mod Placed
 pub mod PlacesLeft
 pub mod RowPlaces
+pub mod Runs
 pub mod Sets
 pub mod Slices
 pub mod ViewRows

@@ -1,6 +1,7 @@
 pub mod ArrayView
 pub mod ArrayViewMut
 pub mod Lender
+pub mod Mapped
 pub mod MultiSet
 pub mod Owned
 pub mod private
