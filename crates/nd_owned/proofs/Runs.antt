@@ -5,12 +5,15 @@ use Rattle.std.specs.List.{Contains, FoldsTo}
 use Rattle.std.specs.Option.{option_map}
 use Rattle.std.proofs.lemmas.List.{length-map}
 use Rattle.std.proofs.lemmas.Simd.{map-map}
+use Rattle.ndarray_layout.specs.declared.Fit.TheVariants.{Strict}
 use Rattle.ndarray_layout.specs.declared.Order.TheVariants.{RowMajor}
+use Rattle.ndarray_layout.specs.declared.SliceInfoElem.{SliceInfoElem}
 use Rattle.ndarray_layout.specs.Indices.{indices_in}
-use Rattle.ndarray_layout.specs.View.{view_places}
+use Rattle.ndarray_layout.specs.SlicedView.{slice_of}
+use Rattle.ndarray_layout.specs.View.{View, view_places}
 use Rattle.ndarray_layout.proofs.laws.Lists.{map_same}
 use Rattle.nd_owned.specs.ArrayViewMut.{HasItemsOf, KeepsSpare}
-use Rattle.nd_owned.specs.Mapped.{Makes, RunsOver, row_major_items}
+use Rattle.nd_owned.specs.Mapped.{Makes, RunsOver, part_of, row_major_items}
 use Rattle.nd_owned.specs.Owned.{ArrayValue, item_at, item_at_place}
 use Rattle.nd_owned.specs.private.Written.{HasRun}
 use Rattle.nd_owned.proofs.Placed.{other_default, set_other, set_same}
@@ -98,3 +101,30 @@ module _ {T : Type 0} (old : ArrayValue T) (new : List T) {places : List ℤ} (a
               ∙ ap (λ shape. map (λ index. option_map h (item_at source index)) (indices_in RowMajor shape)) (sym same);
           kept = spare run;
         })
+
+-- ---- a part of an array, by the items as they are left
+module _ {F T : Type 0} (call : F → T → T → F → Type 0) {f : F} (slice : List SliceInfoElem) {array entry : ArrayValue T} {part : View}
+    {stored now : List T} (same : array ≡ entry) (sliced : part ≡ slice_of Strict slice array.view) (all : now ≡ stored)
+    (run : HasRun call f (view_places RowMajor part) (map (item_at_place array.items) (view_places RowMajor part)) array.items stored) where
+  are : view_places RowMajor part ≡ view_places RowMajor (part_of slice array).view
+  are = ap (view_places RowMajor) sliced
+
+  pub part_ran : RunsOver call f (row_major_items (part_of slice entry)) (row_major_items (part_of slice (changed array now)))
+  part_ran =
+      subst (λ a. RunsOver call f (row_major_items (part_of slice a)) (row_major_items (part_of slice (changed array now)))) same
+      (subst (λ items. RunsOver call f (row_major_items (part_of slice array)) (row_major_items (part_of slice (changed array items)))) (sym all)
+      (ran_over (part_of slice array) stored are call (part_of slice array) (ap (map (item_at_place array.items)) are) run))
+
+  pub part_spare : KeepsSpare (part_of slice entry) (part_of slice (changed array now))
+  part_spare =
+      subst (λ a. KeepsSpare (part_of slice a) (part_of slice (changed array now))) same
+      (subst (λ items. KeepsSpare (part_of slice array) (part_of slice (changed array items))) (sym all)
+      (spare (part_of slice array) stored are call (part_of slice array) (ap (map (item_at_place array.items)) are) run))
+
+  pub part_mapped : (h : T → T) → ((x : T) (y : T) (f' : F) → call f x y f' → (f' ≡ f) × (y ≡ h x))
+      → HasItemsOf (λ index. option_map h (item_at (part_of slice entry) index)) (part_of slice entry) (part_of slice (changed array now))
+  part_mapped h acts =
+      subst (λ a. HasItemsOf (λ index. option_map h (item_at (part_of slice a) index)) (part_of slice a) (part_of slice (changed array now))) same
+      (subst (λ items. HasItemsOf (λ index. option_map h (item_at (part_of slice array) index)) (part_of slice array)
+      (part_of slice (changed array items))) (sym all)
+      (mapped (part_of slice array) stored are call (part_of slice array) (ap (map (item_at_place array.items)) are) refl run h acts))

@@ -20,6 +20,7 @@ mod writing;
 use crate::array_view::ArrayView;
 use crate::fitted::Fitted;
 use crate::rows::view_size;
+pub(crate) use mapping::map_places;
 use ndarray_layout::{LayoutError, Lengths, NdIndex, StrideShape, Strided};
 use std::alloc::{AllocError, Global};
 use std::mem::replace;

@@ -37,6 +37,8 @@ mod layout;
 #[cfg(test)]
 mod lent;
 #[cfg(test)]
+mod lent_writes;
+#[cfg(test)]
 mod memory;
 #[cfg(test)]
 mod range_rows;
