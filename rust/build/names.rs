@@ -11,6 +11,7 @@ pub const MODULES: &[(&str, &str, &[&str])] = &[
     ("io", "std", &["ErrorKind", "Read", "Write"]),
     ("iter", "core", &["FusedIterator"]),
     ("marker", "core", &["PhantomData"]),
+    ("mem", "core", &["replace"]),
     ("ops", "core", OPERATORS),
     ("slice", "core", &["Iter"]),
     ("str", "core", &["SplitWhitespace"]),

@@ -5,6 +5,7 @@ pub mod Placed
 pub mod PlacesLeft
 pub mod RowPlaces
 pub mod RowsLent
+pub mod Runs
 pub mod Sets
 pub mod Slices
 pub mod ViewRows

@@ -31,7 +31,7 @@ module _ {place : ℕ} {left others : List ℤ} (first : left ≡ pos place ∷ 
       subst Distinct first distinct (suc i) (suc j) d (omega (arith, earlier)) (omega (arith, below))
 
   -- the first place is none of the others
-  alone : Distinct left → Contains others (pos place) → ⊥
+  pub alone : Distinct left → Contains others (pos place) → ⊥
   alone distinct (k, below, same) =
       subst Distinct first distinct 0 (suc k) (pos place) (omega arith) (omega (arith, below)) (sym same)
 
@@ -58,7 +58,7 @@ same_at f g xs {x} same (k, below, is) =
     ∙ get_or-map g xs k x (f x) below
     ∙ ap g is
 
-has_items : {T : Type 0} (given : List ℕ → Option T) {old new : ArrayValue T} → new.view ≡ old.view
+pub has_items : {T : Type 0} (given : List ℕ → Option T) {old new : ArrayValue T} → new.view ≡ old.view
     → HasSet (view_places RowMajor old.view) (map given (indices_in RowMajor old.view.shape)) old.items new.items → HasItemsOf given old new
 has_items given {old} {new} same left = record {
   view = same;
@@ -77,7 +77,7 @@ same_item : {T : Type 0} (item : T) (view : View)
 same_item item view = map-map (λ place. Some item) (place_at view) (indices_in RowMajor view.shape)
 
 -- the items at the places of a view are those of its indices
-items_in_order : {T : Type 0} (array : ArrayValue T)
+pub items_in_order : {T : Type 0} (array : ArrayValue T)
     → map (item_at_place array.items) (view_places RowMajor array.view) ≡ map (item_at array) (indices_in RowMajor array.view.shape)
 items_in_order {T} array =
     let indices = indices_in RowMajor array.view.shape in

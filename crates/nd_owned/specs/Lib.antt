@@ -3,6 +3,7 @@ pub mod ArrayViewMut
 pub mod Lender
 pub mod Lending
 pub mod LentRow
+pub mod Mapped
 pub mod MultiSet
 pub mod Owned
 pub mod private

@@ -1,6 +1,6 @@
 //! Items that are kept elsewhere, lent as an array to be written.
 ghost use Rattle.std.specs.Option.{IsSome};
-ghost use Rattle.std.specs.Prelude.{◌≡◌, ◌↔◌, IsTrue, None, IfOk, IsOk, Some, length, option_copied};
+ghost use Rattle.std.specs.Prelude.{◌≡◌, ◌↔◌, ◌&&◌, IsTrue, None, IfErr, IfOk, IsOk, Some, length, option_copied};
 ghost use Rattle.ndarray_layout.specs.declared.CanIndexCheckMode.TheVariants.{OwnedMutable};
 ghost use Rattle.ndarray_layout.specs.AcceptanceByStrides.{acceptance_by_strides};
 ghost use Rattle.ndarray_layout.specs.Indices.{is_index};
@@ -12,14 +12,18 @@ ghost use Rattle.ndarray_layout.specs.Size.{size};
 ghost use Rattle.ndarray_layout.specs.Span.{low_span};
 ghost use Rattle.ndarray_layout.specs.View.{view_of};
 
+mod axes;
+mod mapping;
 mod steps;
 mod writing;
 
 use crate::array_view::ArrayView;
 use crate::fitted::Fitted;
 use crate::rows::view_size;
+pub(crate) use mapping::map_places;
 use ndarray_layout::{LayoutError, Lengths, NdIndex, StrideShape, Strided};
 use std::alloc::{AllocError, Global};
+use std::mem::replace;
 
 /// Items of any type that are kept elsewhere and lent to be written, with a view by which each index has one of them to
 /// itself. Items at no place of the view are spare ones, which no call writes. ndarray's `ArrayViewMut`.
@@ -43,6 +47,7 @@ impl<T, D: Lengths> Drop for ArrayViewMut<'_, T, D> {
 
 impl<'a, T: Drop, D: Lengths> ArrayViewMut<'a, T, D> {
     ghost use Rattle.nd_owned.specs.Owned.{IsOwned, item_at, with_item};
+    ghost use Rattle.nd_owned.specs.ArrayViewMut.{with_swapped};
     ghost use Rattle.nd_owned.specs.Lender.{array_of};
 
     /// The array of a view over items. The caller ensures that each place of it has an item, and that no two indices alias:
@@ -179,6 +184,53 @@ impl<'a, T: Drop, D: Lengths> ArrayViewMut<'a, T, D> {
                 true
             },
             None => false,
+        }
+    }
+
+    /// Replaces the item of an index by another one, and returns the one that was there; the given one comes back as the error
+    /// where it is no index of the shape, and the array is unchanged. So no item is dropped.
+    ///
+    /// `[2]` with the stride `[-1]` over 7 8 9: 5 at (1) returns 7 and makes it 5 8 9, and 5 at (2) returns `Err(5)`. ndarray's
+    /// `get_mut`, with `std::mem::replace`.
+    #[inline]
+    pub fn replace<I: NdIndex<D>>(&mut self, index: &I, item: T) -> Result<T, T>
+        ensures found { IsOk result ↔
+            IsTrue (is_index (array_of self.old).view.shape (I.index_list index.now)) }
+        ensures returned { IfOk result (λ old.
+            item_at (array_of self.old) (I.index_list index.now) ≡ Some old) }
+        ensures handed_back { IfErr result (λ given. given ≡ item) }
+        ensures written { array_of self.new ≡
+            with_item (array_of self.old) (I.index_list index.now) item }
+        ensures same_reference { self.new.items.ghost_name ≡ self.old.items.ghost_name }
+    {
+        match self.fitted.view().place(index) {
+            Some(place) => {
+                let items = &mut *self.items;
+                Ok(replace(&mut items[place], item))
+            },
+            None => Err(item),
+        }
+    }
+
+    /// Swaps the items of two indices, and returns whether both are indices of the shape; else the array is unchanged.
+    ///
+    /// `[2]` with the stride `[-1]` over 7 8 9: (0) and (1) make it 8 7 9. ndarray's `swap`, which panics where one is no index.
+    #[inline]
+    pub fn swap<I: NdIndex<D>, J: NdIndex<D>>(&mut self, index: &I, other: &J) -> bool
+        ensures are_indices { result ≡
+            (is_index (array_of self.old).view.shape (I.index_list index.now)
+            && is_index (array_of self.old).view.shape (J.index_list other.now)) }
+        ensures swapped { array_of self.new ≡ with_swapped (array_of self.old)
+            (I.index_list index.now) (J.index_list other.now) }
+        ensures same_reference { self.new.items.ghost_name ≡ self.old.items.ghost_name }
+    {
+        let view = self.fitted.view();
+        match (view.place(index), view.place(other)) {
+            (Some(one), Some(other)) => {
+                self.items.swap(one, other);
+                true
+            },
+            _ => false,
         }
     }
 

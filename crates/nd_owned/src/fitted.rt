@@ -1,9 +1,14 @@
 //! A view that has a place for each of its indices among so many items.
-ghost use Rattle.std.specs.Prelude.{◌≡◌, IfOk, IsOk, None, length};
+ghost use Rattle.std.specs.List.{swap};
+ghost use Rattle.std.specs.Prelude.{◌≡◌, IfOk, IsOk, None, OnErr, OnOk, length};
 ghost use Rattle.std.specs.Option.{IsSome};
+ghost use Rattle.std.specs.Result.{result_err};
 ghost use Rattle.ndarray_layout.specs.declared.CanIndexCheckMode.TheVariants.{OwnedMutable};
 ghost use Rattle.ndarray_layout.specs.AcceptanceByStrides.{acceptance_by_strides};
+ghost use Rattle.ndarray_layout.specs.Descends.{Descends};
+ghost use Rattle.ndarray_layout.specs.InvertedView.{invert_fault, inverted_of, invert_source};
 ghost use Rattle.ndarray_layout.specs.Memory.{NeedsNoMemory};
+ghost use Rattle.ndarray_layout.specs.PermutedView.{swap_fault, swapped_of};
 ghost use Rattle.ndarray_layout.specs.ShapeBuilder.{custom_strides, strides_list};
 ghost use Rattle.ndarray_layout.specs.ShapeFault.{shape_fault};
 ghost use Rattle.ndarray_layout.specs.Signed.{all_signed};
@@ -11,7 +16,9 @@ ghost use Rattle.ndarray_layout.specs.Span.{low_span};
 ghost use Rattle.ndarray_layout.specs.View.{view_of};
 ghost use Rattle.nd_owned.specs.Owned.{IsOwned};
 
-use ndarray_layout::{CanIndexCheckMode, LayoutError, Lengths, StrideShape, Strided};
+use ndarray_layout::{
+    Axis, CanIndexCheckMode, LayoutError, Lengths, ShapeError, StrideShape, Strided,
+};
 use std::alloc::Global;
 use std::marker::Model;
 
@@ -78,6 +85,30 @@ impl<D: Lengths> Fitted<D> {
         ensures owned { IsOwned self.now.count self.now.view }
     {
         &self.view
+    }
+
+    /// Reverses an axis of the view. Errors: those of `Strided::invert_axis`.
+    pub(crate) fn invert_axis(&mut self, axis: Axis) -> Result<(), ShapeError>
+        ensures fault { result_err result ≡ invert_fault self.old.view.shape axis.0 }
+        ensures unchanged { OnErr result (self.new ≡ self.old) }
+        ensures count { self.new.count ≡ self.old.count }
+        ensures view { OnOk result (self.new.view ≡ inverted_of axis.0 self.old.view) }
+        ensures kept { OnOk result
+            (Descends (invert_source axis.0 self.old.view.shape) self.old.view self.new.view) }
+    {
+        self.view.invert_axis(axis)
+    }
+
+    /// Swaps two axes of the view. Errors: those of `Strided::swap_axes`.
+    pub(crate) fn swap_axes(&mut self, axis: Axis, other: Axis) -> Result<(), ShapeError>
+        ensures fault { result_err result ≡ swap_fault self.old.view.shape axis.0 other.0 }
+        ensures unchanged { OnErr result (self.new ≡ self.old) }
+        ensures count { self.new.count ≡ self.old.count }
+        ensures view { OnOk result (self.new.view ≡ swapped_of axis.0 other.0 self.old.view) }
+        ensures kept { OnOk result
+            (Descends (λ index. swap index axis.0 other.0) self.old.view self.new.view) }
+    {
+        self.view.swap_axes(axis, other)
     }
 
     /// The view, and how many items there are.

@@ -21,7 +21,10 @@ ghost use Rattle.nd_owned.specs.Owned.{IsOfNone, IsOwned, item_at, item_at_place
 ghost use Rattle.nd_owned.specs.MultiSet.{HaveNoItems, IsFaultOfWrites, IsWritten, KeepsOthers, counts_fault, write_of, write_places};
 ghost use Rattle.nd_owned.specs.private.Written.{HasWritten};
 
+mod mapping;
+
 use crate::array_view::ArrayView;
+use crate::array_view_mut::ArrayViewMut;
 use crate::multi_set::{check_apart, check_counts, part_of_write, parts_of, write_all};
 use crate::part::Part;
 use crate::rows::view_size;
@@ -36,12 +39,12 @@ use std::marker::Model;
 /// indices alias. Items at no place of the layout are spare ones, and no call shows them but `stored`, `stored_mut` and
 /// `into_stored`.
 #[derive(Drop)]
-pub struct OwnedArray<T: Copy, D: Lengths> {
+pub struct OwnedArray<T, D: Lengths> {
     items: Vec<T>,
     view: Strided<D>,
 }
 
-impl<T: Copy, D: Lengths> Model for OwnedArray<T, D> {
+impl<T, D: Lengths> Model for OwnedArray<T, D> {
     ghost use Rattle.std.specs.Prelude.{length};
     ghost use Rattle.nd_owned.specs.Owned.{ArrayValue, IsOwned};
 
@@ -52,8 +55,9 @@ impl<T: Copy, D: Lengths> Model for OwnedArray<T, D> {
     ghost invariant = { λ a. IsOwned (length a.items.items) a.view };
 }
 
-impl<T: Copy, D: Lengths> OwnedArray<T, D> {
+impl<T: Drop, D: Lengths> OwnedArray<T, D> {
     ghost use Rattle.nd_owned.specs.contracts.owned.OwnedArray.{the_row};
+    ghost use Rattle.nd_owned.specs.Lender.{array_of};
 
     /// The array of a shape, by its own strides or by given ones, over a list of items.
     ///
@@ -169,18 +173,6 @@ impl<T: Copy, D: Lengths> OwnedArray<T, D> {
         items
     }
 
-    /// A copy of the item of an index; `None` where it is no index of the shape.
-    ///
-    /// `[2]` with the stride `[-1]` over 7 8 9: (0) is 8, and (2) is `None`. ndarray's `get`.
-    pub fn get<I: NdIndex<D>>(&self, index: &I) -> Option<T>
-        ensures found { IsSome result ↔
-            IsTrue (is_index self.now.view.shape (I.index_list index.now)) }
-        ensures item { result ≡ item_at self.now (I.index_list index.now) }
-    {
-        let place = self.view.place(index)?;
-        Some(self.items[place])
-    }
-
     /// Replaces the item of an index, and returns whether it is an index of the shape; else the array is unchanged.
     ///
     /// `[2]` with the stride `[-1]` over 7 8 9: 5 at (1) makes it 5 8 9. ndarray's `get_mut`, with the write.
@@ -203,14 +195,45 @@ impl<T: Copy, D: Lengths> OwnedArray<T, D> {
     ///
     /// Out of memory; never where the type fixes the count of axes or there are at most 4.
     ///
-    /// `[2]` with the stride `[-1]` over 7 8 9: (0) is 8, (1) is 7, and 9 is spare. ndarray's `view`. To write,
-    /// `ArrayViewMut::new` takes a duplicate of the view and `stored_mut`.
+    /// `[2]` with the stride `[-1]` over 7 8 9: (0) is 8, (1) is 7, and 9 is spare. ndarray's `view`.
     pub fn as_view(&self, alloc: Global) -> Result<ArrayView<'_, T, D>, AllocError>
         ensures array { IfOk result (λ a. a ≡ self.now) }
         ensures memory { NeedsNoMemory D.NDIM (length self.now.view.shape) → IsOk result }
     {
         let view = self.view.duplicate(alloc)?;
         Ok(ArrayView::new(view, self.items.as_slice()))
+    }
+
+    /// The array with its items lent to be written, for the calls of `ArrayViewMut`.
+    ///
+    /// # Errors
+    ///
+    /// Out of memory; never where the type fixes the count of axes or there are at most 4.
+    ///
+    /// No clause says what the array is once the result is gone. A proof that needs it takes a duplicate of `view` first, and then
+    /// makes the same array by `ArrayViewMut::new` over `stored_mut`, in one function.
+    ///
+    /// `[2]` with the stride `[-1]` over 7 8 9: 5 at (1) of the result makes it 5 8 9. ndarray's `view_mut`.
+    pub fn as_view_mut(&mut self, alloc: Global) -> Result<ArrayViewMut<'_, T, D>, AllocError>
+        ensures array { IfOk result (λ a. array_of a ≡ self.old) }
+        ensures memory { NeedsNoMemory D.NDIM (length self.old.view.shape) → IsOk result }
+    {
+        let view = self.view.duplicate(alloc)?;
+        Ok(ArrayViewMut::new(view, self.items.as_mut_slice()))
+    }
+}
+
+impl<T: Copy, D: Lengths> OwnedArray<T, D> {
+    /// A copy of the item of an index; `None` where it is no index of the shape.
+    ///
+    /// `[2]` with the stride `[-1]` over 7 8 9: (0) is 8, and (2) is `None`. ndarray's `get`.
+    pub fn get<I: NdIndex<D>>(&self, index: &I) -> Option<T>
+        ensures found { IsSome result ↔
+            IsTrue (is_index self.now.view.shape (I.index_list index.now)) }
+        ensures item { result ≡ item_at self.now (I.index_list index.now) }
+    {
+        let place = self.view.place(index)?;
+        Some(self.items[place])
     }
 
     /// Copies of the items that a slice picks, in row-major order.

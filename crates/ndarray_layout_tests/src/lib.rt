@@ -39,6 +39,8 @@ mod lent;
 #[cfg(test)]
 mod lent_rows;
 #[cfg(test)]
+mod lent_writes;
+#[cfg(test)]
 mod memory;
 #[cfg(test)]
 mod range_rows;

@@ -6,6 +6,7 @@ use Rattle.std.proofs.Math.Nat.{not-suc-le-zero}
 use Rattle.std.proofs.lemmas.Bool.{both_ways, ltb-true}
 use Rattle.std.specs.List.{All, Contains}
 use Rattle.ndarray_layout.specs.Bounds.{IsInBounds}
+use Rattle.nd_owned.specs.Mapped.{RunsOver}
 use Rattle.nd_owned.specs.Owned.{item_at_place}
 
 -- places lie among so many elements, and are numbers of an `isize`
@@ -21,6 +22,11 @@ pub record HasWritten {T : Type 0} (places : List ℤ) (items old new : List T) 
 -- the same of items as they are read, of which one may be none
 pub record HasSet {T : Type 0} (places : List ℤ) (items : List (Option T)) (old new : List T) : Type 0 where
   pub written : map (item_at_place new) places ≡ items
+  pub kept : (place : ℕ) → (Contains places (pos place) → ⊥) → slice_get new place ≡ slice_get old place
+
+-- the same of items that calls in turn make of others
+pub record HasRun {F X Y : Type 0} (call : F → X → Y → F → Type 0) (f : F) (places : List ℤ) (given : List (Option X)) (old new : List Y) : Type 0 where
+  pub ran : RunsOver call f given (map (item_at_place new) places)
   pub kept : (place : ℕ) → (Contains places (pos place) → ⊥) → slice_get new place ≡ slice_get old place
 
 -- examples

@@ -1,0 +1,130 @@
+-- Calls of a closure at one place after another, where no place is listed twice, and what they leave at the indices of a view.
+use Rattle.std.proofs.Common.{◌≡◌, ℕ, suc, ◌<◌, ℤ, pos, negsuc, Option, Some, None, List, [], ◌∷◌, length, get_or, set, map, refl, sym, ap, subst, ◌∙◌, arith}
+use Rattle.std.specs.Prelude.{zip}
+use Rattle.std.specs.List.{Contains, FoldsTo}
+use Rattle.std.specs.Option.{option_map}
+use Rattle.std.proofs.lemmas.List.{length-map}
+use Rattle.std.proofs.lemmas.Simd.{map-map}
+use Rattle.ndarray_layout.specs.declared.Fit.TheVariants.{Strict}
+use Rattle.ndarray_layout.specs.declared.Order.TheVariants.{RowMajor}
+use Rattle.ndarray_layout.specs.declared.SliceInfoElem.{SliceInfoElem}
+use Rattle.ndarray_layout.specs.Indices.{indices_in}
+use Rattle.ndarray_layout.specs.SlicedView.{slice_of}
+use Rattle.ndarray_layout.specs.View.{View, view_places}
+use Rattle.ndarray_layout.proofs.laws.Lists.{map_same}
+use Rattle.nd_owned.specs.ArrayViewMut.{HasItemsOf, KeepsSpare}
+use Rattle.nd_owned.specs.Mapped.{Makes, RunsOver, part_of, row_major_items}
+use Rattle.nd_owned.specs.Owned.{ArrayValue, item_at, item_at_place}
+use Rattle.nd_owned.specs.private.Written.{HasRun}
+use Rattle.nd_owned.proofs.Placed.{other_default, set_other, set_same}
+use Rattle.nd_owned.proofs.Sets.{Distinct, alone, has_items, items_in_order}
+
+-- ---- one call after another
+pub none_run : {F X Y : Type 0} {call : F → X → Y → F → Type 0} {f : F} {stored : List Y} → HasRun call f [] [] stored stored
+none_run {f = f} = record { ran = record { last = f; calls = refl }; kept = λ place spared. refl }
+
+module _ {place : ℕ} {left others : List ℤ} (first : left ≡ pos place ∷ others) where
+  -- once the calls at the others are made, those at all are
+  pub first_run : {F X Y : Type 0} {call : F → X → Y → F → Type 0} {f next : F} {given : List (Option X)} {old new : List Y} (x : X) (y : Y)
+      → call f x y next → place < length old → Distinct left → HasRun call next others given (set old place y) new
+      → HasRun call f left (Some x ∷ given) old new
+  first_run {call = call} {f} {next} {given} {old} {new} x y called below distinct more =
+      let made : item_at_place new (pos place) ≡ Some y = more.kept place (alone first distinct) ∙ set_same old place below in
+      subst (λ places. HasRun call f places (Some x ∷ given) old new) (sym first) (record {
+        ran = record {
+          last = more.ran.last;
+          calls = (next, subst (λ item. Makes call f (Some x, item) next) (sym made) called, more.ran.calls);
+        };
+        kept = λ other spared.
+            more.kept other (λ here. spared (suc here.0, omega (arith, here.1), here.2))
+            ∙ set_other old place y other (λ same. spared (0, omega arith, ap pos (sym same)));
+      })
+
+  -- the items at the others are as before
+  pub others_same : {Y : Type 0} (old : List Y) (y : Y) → Distinct left
+      → map (item_at_place (set old place y)) others ≡ map (item_at_place old) others
+  others_same old y distinct = map_same (item_at_place (set old place y)) (item_at_place old) others (λ k d below.
+      apart (get_or others k d) (λ same. alone first distinct (k, below, other_default others k (pos place) d below ∙ same)))
+    where
+      apart : (z : ℤ) → (z ≡ pos place → ⊥) → item_at_place (set old place y) z ≡ item_at_place old z
+      apart (pos other) elsewhere = set_other old place y other (λ same. elsewhere (ap pos same))
+      apart (negsuc below) elsewhere = refl
+
+-- ---- what calls make that act as a function does
+acted : {F X Y : Type 0} (call : F → X → Y → F → Type 0) {f : F} (h : X → Y)
+    → ((x : X) (y : Y) (f' : F) → call f x y f' → (f' ≡ f) × (y ≡ h x))
+    → (given : List (Option X)) (made : List (Option Y)) (p last : F) → p ≡ f → length given ≡ length made
+    → FoldsTo (Makes call) p (zip given made) last → made ≡ map (option_map h) given
+acted call h acts [] [] p last same count calls = refl
+acted call h acts [] (y ∷ made) p last same count calls = absurd (omega arith)
+acted call h acts (x ∷ given) [] p last same count calls = absurd (omega arith)
+acted call h acts (None ∷ given) (y ∷ made) p last same count calls = absurd calls.1
+acted call h acts (Some x ∷ given) (None ∷ made) p last same count calls = absurd calls.1
+acted call h acts (Some x ∷ given) (Some y ∷ made) p last same count (next, called, more) =
+    let this = acts x y next (subst (λ q. call q x y next) same called) in
+    let rest = acted call h acts given made next last this.0 (omega arith) more in
+    ap (λ item. item ∷ made) (ap Some this.1) ∙ ap (λ items. Some (h x) ∷ items) rest
+
+-- ---- all places of an array
+abbrev changed : {T : Type 0} → ArrayValue T → List T → ArrayValue T
+changed old new = record { items = new; view = old.view }
+
+module _ {T : Type 0} (old : ArrayValue T) (new : List T) {places : List ℤ} (are : places ≡ view_places RowMajor old.view) where
+  made_in_order : map (item_at_place new) places ≡ row_major_items (changed old new)
+  made_in_order = ap (map (item_at_place new)) are ∙ items_in_order (changed old new)
+
+  module _ {F X : Type 0} (call : F → X → T → F → Type 0) {f : F} (source : ArrayValue X) {given : List (Option X)}
+      (these : given ≡ map (item_at_place source.items) (view_places RowMajor source.view)) where
+    pub ran_over : HasRun call f places given old.items new → RunsOver call f (row_major_items source) (row_major_items (changed old new))
+    ran_over run =
+        subst (λ xs. RunsOver call f xs (row_major_items (changed old new))) (these ∙ items_in_order source)
+        (subst (RunsOver call f given) made_in_order run.ran)
+
+    pub spare : HasRun call f places given old.items new → KeepsSpare old (changed old new)
+    spare run = λ place none. run.kept place (λ here. none (subst (λ zs. Contains zs (pos place)) are here))
+
+    pub mapped : old.view.shape ≡ source.view.shape → HasRun call f places given old.items new
+        → (h : X → T) → ((x : X) (y : T) (f' : F) → call f x y f' → (f' ≡ f) × (y ≡ h x))
+        → HasItemsOf (λ index. option_map h (item_at source index)) old (changed old new)
+    mapped same run h acts =
+        let ran = ran_over run in
+        let count : length (row_major_items source) ≡ length (row_major_items (changed old new)) =
+        length-map (indices_in RowMajor source.view.shape) (item_at source)
+        ∙ ap (λ shape. length (indices_in RowMajor shape)) (sym same)
+        ∙ sym (length-map (indices_in RowMajor old.view.shape) (item_at (changed old new))) in
+        let made = acted call h acts (row_major_items source) (row_major_items (changed old new)) f ran.last refl count ran.calls in
+        has_items (λ index. option_map h (item_at source index)) refl (record {
+          written =
+              items_in_order (changed old new)
+              ∙ made
+              ∙ map-map (option_map h) (item_at source) (indices_in RowMajor source.view.shape)
+              ∙ ap (λ shape. map (λ index. option_map h (item_at source index)) (indices_in RowMajor shape)) (sym same);
+          kept = spare run;
+        })
+
+-- ---- a part of an array, by the items as they are left
+module _ {F T : Type 0} (call : F → T → T → F → Type 0) {f : F} (slice : List SliceInfoElem) {array entry : ArrayValue T} {part : View}
+    {stored now : List T} (same : array ≡ entry) (sliced : part ≡ slice_of Strict slice array.view) (all : now ≡ stored)
+    (run : HasRun call f (view_places RowMajor part) (map (item_at_place array.items) (view_places RowMajor part)) array.items stored) where
+  are : view_places RowMajor part ≡ view_places RowMajor (part_of slice array).view
+  are = ap (view_places RowMajor) sliced
+
+  pub part_ran : RunsOver call f (row_major_items (part_of slice entry)) (row_major_items (part_of slice (changed array now)))
+  part_ran =
+      subst (λ a. RunsOver call f (row_major_items (part_of slice a)) (row_major_items (part_of slice (changed array now)))) same
+      (subst (λ items. RunsOver call f (row_major_items (part_of slice array)) (row_major_items (part_of slice (changed array items)))) (sym all)
+      (ran_over (part_of slice array) stored are call (part_of slice array) (ap (map (item_at_place array.items)) are) run))
+
+  pub part_spare : KeepsSpare (part_of slice entry) (part_of slice (changed array now))
+  part_spare =
+      subst (λ a. KeepsSpare (part_of slice a) (part_of slice (changed array now))) same
+      (subst (λ items. KeepsSpare (part_of slice array) (part_of slice (changed array items))) (sym all)
+      (spare (part_of slice array) stored are call (part_of slice array) (ap (map (item_at_place array.items)) are) run))
+
+  pub part_mapped : (h : T → T) → ((x : T) (y : T) (f' : F) → call f x y f' → (f' ≡ f) × (y ≡ h x))
+      → HasItemsOf (λ index. option_map h (item_at (part_of slice entry) index)) (part_of slice entry) (part_of slice (changed array now))
+  part_mapped h acts =
+      subst (λ a. HasItemsOf (λ index. option_map h (item_at (part_of slice a) index)) (part_of slice a) (part_of slice (changed array now))) same
+      (subst (λ items. HasItemsOf (λ index. option_map h (item_at (part_of slice array) index)) (part_of slice array)
+      (part_of slice (changed array items))) (sym all)
+      (mapped (part_of slice array) stored are call (part_of slice array) (ap (map (item_at_place array.items)) are) refl run h acts))

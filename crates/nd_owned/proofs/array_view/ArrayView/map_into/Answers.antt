@@ -1,0 +1,30 @@
+-- What the calls give is written at each place of the other array, once.
+use Rattle.std.proofs.Common.{rules, ◌≡◌}
+use Rattle.std.specs.Fn.{CalledAt}
+use Rattle.nd_owned.specs.Lender.{array_of}
+use Rattle.nd_owned.proofs.Runs.{mapped, ran_over, spare}
+use Rattle.nd_owned.proofs.Sets.{all_of_owned}
+use Rattle.nd_owned.proofs.array_view.ArrayView.map_into.Goals as goal
+
+pub write_mapped-requires-clause-within : goal.write_mapped-requires-clause-within
+write_mapped-requires-clause-within g c =
+    (all_of_owned _ _ c.view-2.ensures.owned c.args.to.now.fits c.view-2.ensures.view c.iter_places-places.ensures.items).in_bounds
+
+pub returns-clause-ran : goal.returns-clause-ran
+returns-clause-ran g c =
+    let all = all_of_owned _ _ c.view-2.ensures.owned c.args.to.now.fits c.view-2.ensures.view c.iter_places-places.ensures.items in
+    ran_over (array_of c.args.to.now) c.write_mapped.new.stored all.are (λ p x y q. CalledAt g.F.FnMut p x y q) c.args.self.now c.iter.ensures.items
+    (c.write_mapped.ensures all.distinct)
+
+pub returns-clause-mapped : goal.returns-clause-mapped
+returns-clause-mapped g c =
+    let all = all_of_owned _ _ c.view-2.ensures.owned c.args.to.now.fits c.view-2.ensures.view c.iter_places-places.ensures.items in
+    let same : c.args.to.now.fitted.view.shape ≡ c.args.self.now.view.shape = search rules in
+    λ h acts. mapped (array_of c.args.to.now) c.write_mapped.new.stored all.are (λ p x y q. CalledAt g.F.FnMut p x y q) c.args.self.now
+    c.iter.ensures.items same (c.write_mapped.ensures all.distinct) h acts
+
+pub returns-clause-kept : goal.returns-clause-kept
+returns-clause-kept g c =
+    let all = all_of_owned _ _ c.view-2.ensures.owned c.args.to.now.fits c.view-2.ensures.view c.iter_places-places.ensures.items in
+    spare (array_of c.args.to.now) c.write_mapped.new.stored all.are (λ p x y q. CalledAt g.F.FnMut p x y q) c.args.self.now c.iter.ensures.items
+    (c.write_mapped.ensures all.distinct)

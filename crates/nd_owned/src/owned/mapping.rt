@@ -1,0 +1,70 @@
+//! Calls of a closure at items of an array that owns them.
+ghost use Rattle.std.specs.Fn.{CalledAtMut};
+ghost use Rattle.std.specs.Option.{option_map};
+ghost use Rattle.std.specs.Prelude.{◌≡◌, IsOk, None, OnErr, OnOk, length, map};
+ghost use Rattle.ndarray_layout.specs.declared.Fit.TheVariants.{Strict};
+ghost use Rattle.ndarray_layout.specs.declared.Order.TheVariants.{RowMajor};
+ghost use Rattle.ndarray_layout.specs.Memory.{NeedsNoMemory};
+ghost use Rattle.ndarray_layout.specs.ShapeFault.{shape_fault};
+ghost use Rattle.ndarray_layout.specs.SliceFault.{argument_fault, out_count};
+ghost use Rattle.ndarray_layout.specs.View.{view_places};
+ghost use Rattle.nd_owned.specs.ArrayViewMut.{HasItemsOf, KeepsSpare};
+ghost use Rattle.nd_owned.specs.Mapped.{ActsAsAtMut, RunsOver, part_of, row_major_items};
+ghost use Rattle.nd_owned.specs.Owned.{IsOwned, item_at, item_at_place};
+ghost use Rattle.nd_owned.specs.private.Written.{HasRun};
+
+use crate::array_view_mut::map_places;
+use crate::owned::OwnedArray;
+use ndarray_layout::{Fit, IxDyn, LayoutError, Lengths, Order, SliceElems, Strided};
+use std::alloc::Global;
+
+/// Calls a closure at the item of each index of a view, in row-major order.
+fn map_part<T, D: Lengths, F: FnMut(&mut T)>(stored: &mut [T], part: Strided<D>, f: F)
+    requires owned { IsOwned (length stored.old) part }
+    requires callable { F.IsAlwaysCallable f }
+    ensures { HasRun (λ p x y q. CalledAtMut F.FnMut p x tt q y) f (view_places RowMajor part)
+        (map (item_at_place stored.old) (view_places RowMajor part)) stored.old stored.new }
+{
+    map_places(stored, part.iter_places(Order::RowMajor), f);
+}
+
+impl<T: Drop, D: Lengths> OwnedArray<T, D> {
+    /// Calls a closure at each item that a slice picks, in row-major order, to change it in place. All other items are
+    /// unchanged, spare ones too.
+    ///
+    /// Takes for each index of the part the time of its place (`Strided::iter_places`) and of the call.
+    ///
+    /// # Errors
+    ///
+    /// Those of `check_slice` on the shape, then out of memory, never where the slice leaves at most 4 axes. The array is
+    /// unchanged after an error, and the closure isn't called.
+    ///
+    /// `|item| *item = 9` at `1..` of `[3]` over 5 6 7: 5 9 9. ndarray's `slice_mut`, with `map_inplace`.
+    pub fn map_in_place<S: SliceElems, F: FnMut(&mut T)>(
+        &mut self,
+        alloc: Global,
+        slices: &S,
+        f: F,
+    ) -> Result<(), LayoutError>
+        requires { F.IsAlwaysCallable f }
+        ensures fault { shape_fault result ≡
+            argument_fault Strict self.old.view.shape (S.list slices.now) }
+        ensures memory { shape_fault result ≡ None →
+            NeedsNoMemory None (out_count (S.list slices.now)) → IsOk result }
+        ensures unchanged { OnErr result (self.new ≡ self.old) }
+        ensures view { self.new.view ≡ self.old.view }
+        ensures count { length self.new.items ≡ length self.old.items }
+        ensures ran { OnOk result (RunsOver (λ p x y q. CalledAtMut F.FnMut p x tt q y) f
+            (row_major_items (part_of (S.list slices.now) self.old))
+            (row_major_items (part_of (S.list slices.now) self.new))) }
+        ensures mapped { OnOk result ((h : T → T) → ActsAsAtMut F.FnMut f h → HasItemsOf
+            (λ index. option_map h (item_at (part_of (S.list slices.now) self.old) index))
+            (part_of (S.list slices.now) self.old) (part_of (S.list slices.now) self.new)) }
+        ensures kept { OnOk result (KeepsSpare
+            (part_of (S.list slices.now) self.old) (part_of (S.list slices.now) self.new)) }
+    {
+        let part: Strided<IxDyn> = self.view.slice(alloc, slices, Fit::Strict)?;
+        map_part(self.items.as_mut_slice(), part, f);
+        Ok(())
+    }
+}
