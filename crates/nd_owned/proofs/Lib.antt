@@ -1,4 +1,5 @@
 pub mod Faults
+pub mod Lent
 pub mod OwnedParts
 pub mod Placed
 pub mod PlacesLeft

@@ -3,6 +3,7 @@ pub mod ArrayViewMut
 pub mod Lender
 pub mod MultiSet
 pub mod Owned
+pub mod PartMut
 pub mod private
 pub use Rattle.ndarray_layout.specs.AcceptanceByStrides
 pub use Rattle.ndarray_layout.specs.Memory
