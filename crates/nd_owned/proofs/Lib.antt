@@ -6,6 +6,7 @@ pub mod PlacesLeft
 pub mod RowPlaces
 pub mod Sets
 pub mod Slices
+pub mod SplitItems
 pub mod ViewRows
 pub mod Within
 pub mod laws

@@ -4,6 +4,7 @@ pub mod Lender
 pub mod MultiSet
 pub mod Owned
 pub mod PartMut
+pub mod SplitItems
 pub mod private
 pub use Rattle.ndarray_layout.specs.AcceptanceByStrides
 pub use Rattle.ndarray_layout.specs.Memory

@@ -12,6 +12,7 @@ ghost use Rattle.ndarray_layout.specs.Size.{size};
 ghost use Rattle.ndarray_layout.specs.Span.{low_span};
 ghost use Rattle.ndarray_layout.specs.View.{view_of};
 
+mod splitting;
 mod steps;
 mod writing;
 
@@ -19,6 +20,7 @@ use crate::array_view::ArrayView;
 use crate::fitted::Fitted;
 use crate::rows::view_size;
 use ndarray_layout::{LayoutError, Lengths, NdIndex, StrideShape, Strided};
+pub use splitting::SplitViews;
 use std::alloc::{AllocError, Global};
 
 /// Items of any type that are kept elsewhere and lent to be written, with a view by which each index has one of them to

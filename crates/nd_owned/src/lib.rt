@@ -13,7 +13,7 @@ mod parts_mut;
 mod rows;
 
 pub use array_view::{ArrayView, Iter};
-pub use array_view_mut::ArrayViewMut;
+pub use array_view_mut::{ArrayViewMut, SplitViews};
 pub use iterating::Items;
 pub use owned::OwnedArray;
 pub use parts_mut::PartMut;
