@@ -57,6 +57,7 @@ pub const FALLIBLE: &[&str] = &[
     "push_str",
     "repeat",
     "replace",
+    "split_off",
     "to_string",
     "to_vec",
     "with_capacity",

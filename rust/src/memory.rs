@@ -66,6 +66,9 @@ pub trait FallibleVec<T>: Sized {
     fn fallible_extend_from_slice(&mut self, items: &[T]) -> Result<(), AllocError>
     where
         T: Copy;
+
+    /// The items from an index on, which this list has no longer.
+    fn fallible_split_off(&mut self, at: usize) -> Result<Self, AllocError>;
 }
 
 impl<T> FallibleVec<T> for Vec<T> {
@@ -106,6 +109,12 @@ impl<T> FallibleVec<T> for Vec<T> {
         self.try_reserve(items.len())?;
         self.extend_from_slice(items);
         Ok(())
+    }
+
+    fn fallible_split_off(&mut self, at: usize) -> Result<Self, AllocError> {
+        let mut others = Vec::fallible_with_capacity(self.len() - at)?;
+        others.extend(self.drain(at..));
+        Ok(others)
     }
 }
 

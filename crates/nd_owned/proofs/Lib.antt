@@ -1,5 +1,6 @@
 pub mod Faults
 pub mod Folding
+pub mod Lent
 pub mod OwnedParts
 pub mod Placed
 pub mod PlacesLeft
@@ -8,6 +9,7 @@ pub mod RowsLent
 pub mod Runs
 pub mod Sets
 pub mod Slices
+pub mod SplitItems
 pub mod ViewRows
 pub mod Within
 pub mod laws

@@ -6,6 +6,8 @@ pub mod LentRow
 pub mod Mapped
 pub mod MultiSet
 pub mod Owned
+pub mod PartMut
+pub mod SplitItems
 pub mod private
 pub use Rattle.ndarray_layout.specs.AcceptanceByStrides
 pub use Rattle.ndarray_layout.specs.Memory

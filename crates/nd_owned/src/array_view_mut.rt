@@ -14,6 +14,7 @@ ghost use Rattle.ndarray_layout.specs.View.{view_of};
 
 mod axes;
 mod mapping;
+mod splitting;
 mod steps;
 mod writing;
 
@@ -22,6 +23,7 @@ use crate::fitted::Fitted;
 use crate::rows::view_size;
 pub(crate) use mapping::map_places;
 use ndarray_layout::{LayoutError, Lengths, NdIndex, StrideShape, Strided};
+pub use splitting::SplitViews;
 use std::alloc::{AllocError, Global};
 use std::mem::replace;
 

@@ -9,9 +9,11 @@ mod iterating;
 mod multi_set;
 mod owned;
 mod part;
+mod parts_mut;
 mod rows;
 
 pub use array_view::{ArrayView, Iter, LentRow, LentRows};
-pub use array_view_mut::ArrayViewMut;
+pub use array_view_mut::{ArrayViewMut, SplitViews};
 pub use iterating::Items;
 pub use owned::OwnedArray;
+pub use parts_mut::PartMut;
