@@ -210,8 +210,8 @@ impl<T: Drop, D: Lengths> OwnedArray<T, D> {
     ///
     /// Out of memory; never where the type fixes the count of axes or there are at most 4.
     ///
-    /// No clause says what the array is once the result is gone. A proof that needs it takes a duplicate of `view` first, and then
-    /// makes the same array by `ArrayViewMut::new` over `stored_mut`, in one function.
+    /// No clause says what the array is once the result is gone. A proof that needs it duplicates `view` first, and passes the
+    /// duplicate and `stored_mut` to a function that makes the lent array of the two, by `ArrayViewMut::new`.
     ///
     /// `[2]` with the stride `[-1]` over 7 8 9: 5 at (1) of the result makes it 5 8 9. ndarray's `view_mut`.
     pub fn as_view_mut(&mut self, alloc: Global) -> Result<ArrayViewMut<'_, T, D>, AllocError>

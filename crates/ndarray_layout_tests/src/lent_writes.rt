@@ -1,12 +1,13 @@
 //! Writes to items that are lent as arrays, and to those of an array that owns them: what is replaced, swapped and mapped, and
 //! what is done to the axes, of numbers and of lists that own memory.
-ghost use Rattle.std.specs.Prelude.{OnOk, Some};
+ghost use Rattle.std.specs.Prelude.{OnOk, Some, length};
 ghost use Rattle.nd_owned.specs.ArrayViewMut.{HasItemsOf};
+ghost use Rattle.nd_owned.specs.Owned.{IsOwned};
 
 use nd_owned::{ArrayView, ArrayViewMut, OwnedArray};
 use ndarray_layout::{
-    Axis, Ix1, Ix2, LayoutError, Lengths, SliceInfoElem, StrideShape, Strides, new_ix1, new_ix2,
-    new_ix3, unsigned,
+    Axis, Ix1, Ix2, LayoutError, Lengths, SliceInfoElem, StrideShape, Strided, Strides, new_ix1,
+    new_ix2, new_ix3, unsigned,
 };
 use std::alloc::{AllocError, Global};
 
@@ -78,7 +79,8 @@ fn numbers_are_counted(alloc: Global) -> Result<bool, LayoutError> {
         *item = item.wrapping_add(count);
     });
     rows.swap_axes(Axis(0), Axis(1))?;
-    let turned = rows.get(&new_ix2(2, 1)).copied() == Some(63) && rows.get(&new_ix2(1, 2)).is_none();
+    let turned = rows.get(&new_ix2(2, 1)).copied() == Some(63)
+        && rows.get(&new_ix2(1, 2)).is_none();
     drop(rows);
     Ok(failed && turned && numbers == [30, 21, 12, 63, 54, 45, 6])
 }
@@ -145,17 +147,23 @@ fn numbers_are_changed(rt: HostRuntime) {
     );
 }
 
+/// Writes a number at each index of a view over numbers.
+fn fill_stored(view: Strided<Ix2>, numbers: &mut [u8], number: u8)
+    requires { IsOwned (length numbers.old) view }
+    ensures { HasItemsOf (λ index. Some number)
+        (record { items = numbers.old; view = view })
+        (record { items = numbers.new; view = view }) }
+{
+    let mut lent = ArrayViewMut::new(view, numbers);
+    lent.fill(number);
+}
+
 /// Writes a number at each index of an array that owns its items, by an array that they are lent as.
-fn fill_owned(
-    alloc: Global,
-    array: &mut OwnedArray<u8, Ix2>,
-    number: u8,
-) -> Result<(), AllocError>
+fn fill_owned(alloc: Global, array: &mut OwnedArray<u8, Ix2>, number: u8) -> Result<(), AllocError>
     ensures { OnOk result (HasItemsOf (λ index. Some number) array.old array.new) }
 {
     let view = array.view().duplicate(alloc)?;
-    let mut lent = ArrayViewMut::new(view, array.stored_mut());
-    lent.fill(number);
+    fill_stored(view, array.stored_mut(), number);
     Ok(())
 }
 
@@ -210,7 +218,8 @@ fn lists(alloc: Global) -> Option<Vec<Vec<u8>>> {
 fn firsts(alloc: Global, rows: &ArrayView<'_, Vec<u8>, Ix2>) -> Option<[u8; 6]> {
     let mut numbers = [0u8; 6];
     let mut to = ArrayViewMut::from_shape(alloc, two_rows(), &mut numbers).ok()?;
-    rows.map_into(&mut to, |list| list.first().copied().unwrap_or(99)).ok()?;
+    rows.map_into(&mut to, |list| list.first().copied().unwrap_or(99))
+        .ok()?;
     drop(to);
     Some(numbers)
 }
@@ -222,10 +231,8 @@ fn lists_are_changed(alloc: Global) -> Option<bool> {
     let old = rows.replace(&new_ix2(0, 0), owned(alloc, 50)?).ok()?;
     let back = rows.replace(&new_ix2(2, 0), owned(alloc, 51)?).err()?;
     let handed = old.as_slice() == [0].as_slice() && back.as_slice() == [51].as_slice();
-    let swapped = rows.swap(&new_ix2(0, 0), &new_ix2(1, 2)) && !rows.swap(
-        &new_ix2(0, 0),
-        &new_ix2(1, 3),
-    );
+    let swapped = rows.swap(&new_ix2(0, 0), &new_ix2(1, 2))
+        && !rows.swap(&new_ix2(0, 0), &new_ix2(1, 3));
     let seen = firsts(alloc, &rows.as_view(alloc).ok()?)? == [5, 1, 2, 3, 4, 50];
     let mut diagonal = rows.diag();
     diagonal.map_in_place(|list| list.clear());
@@ -237,14 +244,13 @@ fn lists_are_changed(alloc: Global) -> Option<bool> {
 /// Whether an array owns lists, and lends and changes them.
 fn lists_are_owned(alloc: Global) -> Option<bool> {
     let mut rows = OwnedArray::from_shape_vec(alloc, two_rows(), lists(alloc)?).ok()?;
-    let set = rows.set(&new_ix2(0, 1), owned(alloc, 60)?) && !rows.set(
-        &new_ix2(0, 3),
-        owned(alloc, 61)?,
-    );
+    let set = rows.set(&new_ix2(0, 1), owned(alloc, 60)?)
+        && !rows.set(&new_ix2(0, 3), owned(alloc, 61)?);
     let mut lent = rows.as_view_mut(alloc).ok()?;
     let swapped = lent.swap(&new_ix2(0, 1), &new_ix2(1, 1));
     drop(lent);
-    rows.map_in_place(alloc, &[SliceInfoElem::Index(0), REST], |list| list.clear()).ok()?;
+    rows.map_in_place(alloc, &[SliceInfoElem::Index(0), REST], |list| list.clear())
+        .ok()?;
     let seen = firsts(alloc, &rows.as_view(alloc).ok()?)? == [0, 99, 99, 3, 60, 5];
     let stored = rows.len() == 6 && rows.into_stored().get(6)?.as_slice() == [6].as_slice();
     Some(set && swapped && seen && stored)
@@ -263,8 +269,14 @@ fn lists_come_back(alloc: Global) -> Option<bool> {
 #[test]
 fn owned_items_are_changed(rt: HostRuntime) {
     let alloc = rt.alloc();
-    assert!(rt; owned_numbers_are_written(alloc) == Some(true), "as_view_mut");
-    assert!(rt; owned_numbers_are_mapped(alloc) == Some(true), "map_in_place");
+    assert!(rt;
+        owned_numbers_are_written(alloc) == Some(true),
+        "as_view_mut"
+    );
+    assert!(rt;
+        owned_numbers_are_mapped(alloc) == Some(true),
+        "map_in_place"
+    );
 }
 
 #[test]

@@ -141,6 +141,17 @@ fn written_index_axis(
     }
 }
 
+/// That of the same with a new axis.
+fn written_insert_axis(alloc: Global, shape: StrideShape<IxDyn>, axis: Axis) -> Option<Answer> {
+    let mut numbers = [0u8; 99];
+    let array = ArrayViewMut::from_shape(alloc, shape, &mut numbers).ok()?;
+    let made: Result<ArrayViewMut<'_, u8, IxDyn>, LayoutError> = array.insert_axis(alloc, axis);
+    match made {
+        Ok(array) => Answer::of("")?.and_view(array.view()),
+        Err(fault) => failed(&fault),
+    }
+}
+
 /// That of the same to read.
 fn written_as_view(alloc: Global, shape: StrideShape<IxDyn>) -> Option<Answer> {
     let mut numbers = [0u8; 99];
@@ -166,6 +177,7 @@ fn rewritten(
         "ArrayViewMut::reshape" => written_reshape(alloc, shape, to),
         "ArrayViewMut::exact_chunks" => written_exact_chunks(alloc, shape, to),
         "ArrayViewMut::index_axis" => written_index_axis(alloc, shape, axis, index),
+        "ArrayViewMut::insert_axis" => written_insert_axis(alloc, shape, axis),
         "ArrayViewMut::as_view" => written_as_view(alloc, shape),
         _ => None,
     }

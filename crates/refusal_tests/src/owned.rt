@@ -13,6 +13,8 @@ pub fn answer(alloc: Global, call: &Call<'_>) -> Option<Answer> {
     match call.name {
         "OwnedArray::from_shape_vec" => by_columns(alloc, call),
         "OwnedArray::as_view" => viewed(alloc, call),
+        "OwnedArray::as_view_mut" => lent(alloc, call),
+        "OwnedArray::map_in_place" => mapped(alloc, call),
         "OwnedArray::items" => items(alloc, call),
         "OwnedArray::multi_set" => written(alloc, call),
         _ => None,
@@ -63,6 +65,26 @@ fn viewed(alloc: Global, call: &Call<'_>) -> Option<Answer> {
     match array.as_view(alloc) {
         Ok(lent) => Answer::of("")?.and_view(lent.view()),
         Err(_) => memory(),
+    }
+}
+
+/// The layout of the array, its items lent to be written.
+fn lent(alloc: Global, call: &Call<'_>) -> Option<Answer> {
+    let mut array = array(alloc, call)?;
+    match array.as_view_mut(alloc) {
+        Ok(lent) => Answer::of("")?.and_view(lent.view()),
+        Err(_) => memory(),
+    }
+}
+
+/// The items after 50 is added to each, by all axes from the last coordinate back.
+fn mapped(alloc: Global, call: &Call<'_>) -> Option<Answer> {
+    let all = [REVERSED; 6];
+    let slice = all.get(..call.lists.first.as_slice().len())?;
+    let mut array = array(alloc, call)?;
+    match array.map_in_place(alloc, &slice, |item| *item = item.wrapping_add(50)) {
+        Ok(()) => left("Ok", array.stored()),
+        Err(fault) => left(layout_fault_name(&fault), array.stored()),
     }
 }
 

@@ -16,7 +16,8 @@ returns-clause-ran g c =
     let now : take items.len (stored ++ drop (length stored) items.items) ≡ stored =
     take_at stored (drop (length stored) items.items) items.len (c.map_part.auto.stored ∙ c.as_mut_slice.ensures.len) in
     let run = rw (c.as_mut_slice.ensures.value) at c.map_part.ensures in
-    part_ran (λ p x y q. CalledAtMut g.F.FnMut p x tt q y) (g.S.SliceElems.list c.args.slices.now) c.self.view_is c.in_ok-part.ensures.sliced now run
+    part_ran (λ p x y q. CalledAtMut g.F.FnMut p x tt q y) (g.S.SliceElems.list c.args.slices.now)
+    c.self.view_is c.in_ok-part.ensures.sliced now run
 
 pub returns-clause-mapped : goal.returns-clause-mapped
 returns-clause-mapped g c =
@@ -25,7 +26,8 @@ returns-clause-mapped g c =
     let now : take items.len (stored ++ drop (length stored) items.items) ≡ stored =
     take_at stored (drop (length stored) items.items) items.len (c.map_part.auto.stored ∙ c.as_mut_slice.ensures.len) in
     let run = rw (c.as_mut_slice.ensures.value) at c.map_part.ensures in
-    λ h acts. part_mapped (λ p x y q. CalledAtMut g.F.FnMut p x tt q y) (g.S.SliceElems.list c.args.slices.now) c.self.view_is c.in_ok-part.ensures.sliced now run
+    λ h acts. part_mapped (λ p x y q. CalledAtMut g.F.FnMut p x tt q y) (g.S.SliceElems.list c.args.slices.now)
+    c.self.view_is c.in_ok-part.ensures.sliced now run
     h (λ x y f' called. acts x tt f' y called)
 
 pub returns-clause-kept : goal.returns-clause-kept
@@ -35,4 +37,5 @@ returns-clause-kept g c =
     let now : take items.len (stored ++ drop (length stored) items.items) ≡ stored =
     take_at stored (drop (length stored) items.items) items.len (c.map_part.auto.stored ∙ c.as_mut_slice.ensures.len) in
     let run = rw (c.as_mut_slice.ensures.value) at c.map_part.ensures in
-    part_spare (λ p x y q. CalledAtMut g.F.FnMut p x tt q y) (g.S.SliceElems.list c.args.slices.now) c.self.view_is c.in_ok-part.ensures.sliced now run
+    part_spare (λ p x y q. CalledAtMut g.F.FnMut p x tt q y) (g.S.SliceElems.list c.args.slices.now)
+    c.self.view_is c.in_ok-part.ensures.sliced now run
