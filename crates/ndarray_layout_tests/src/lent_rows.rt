@@ -145,13 +145,23 @@ fn digits<D: Lengths>(array: &ArrayView<'_, u8, D>) -> u64 {
     )
 }
 
+/// The same, by a function that is called at each item.
+fn digits_one_by_one<D: Lengths>(array: &ArrayView<'_, u8, D>) -> u64 {
+    let mut digits = 0u64;
+    array.for_each(|item| digits = digits.wrapping_mul(10).wrapping_add(u64::from(*item)));
+    digits
+}
+
 /// What is folded of two rows and of their transpose.
 fn numbers_are_folded(alloc: Global) -> Result<bool, LayoutError> {
     let plane = ArrayView::from_shape(alloc, two_rows(), &NUMBERS)?;
     let by_rows = digits(&plane) == 12_345;
     let row = plane.index_axis(alloc, Axis(0), 1)?;
     let of_a_row = digits(&row) == 345;
-    Ok(by_rows && of_a_row && digits(&plane.reversed_axes()) == 31_425)
+    let one_by_one = digits_one_by_one(&plane) == 12_345 && digits_one_by_one(&row) == 345;
+    let columns = plane.reversed_axes();
+    let by_columns = digits(&columns) == 31_425 && digits_one_by_one(&columns) == 31_425;
+    Ok(by_rows && of_a_row && one_by_one && by_columns)
 }
 
 #[test]
@@ -200,6 +210,8 @@ fn lists_are_lent(alloc: Global) -> Option<bool> {
     }
     let plane = ArrayView::from_shape(alloc, two_rows(), lists.as_slice()).ok()?;
     let count = plane.fold(0usize, |count, list| count.wrapping_add(list.len()));
+    let mut called = 0usize;
+    plane.for_each(|list| called = called.wrapping_add(list.len()));
     let mut rows = plane.rows();
     let second = rows.nth(1)?;
     let whole = second.as_slice()?.len() == 3 && second.len() == 3;
@@ -207,7 +219,7 @@ fn lists_are_lent(alloc: Global) -> Option<bool> {
     let index = new_ix2(1, 1);
     plane.get(&index)?;
     let shown = plane[index].as_slice() == [4].as_slice();
-    Some(count == 6 && whole && last && shown && rows.next().is_none())
+    Some(count == 6 && called == 6 && whole && last && shown && rows.next().is_none())
 }
 
 #[test]
