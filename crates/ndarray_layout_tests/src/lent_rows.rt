@@ -1,6 +1,6 @@
 //! Rows of items that are lent: what each call makes of two rows of three numbers and a spare one, and the same of items that
 //! own memory.
-use nd_owned::{ArrayView, LentRow, LentRows};
+use nd_owned::{ArrayView, ArrayViewMut, LentRow, LentRows};
 use ndarray_layout::{
     Axis, Fit, Ix0, Ix1, Ix2, IxDyn, LayoutError, Lengths, SliceInfoElem, StrideShape, Strides,
     new_ix0, new_ix1, new_ix2, new_ixdyn, unsigned,
@@ -191,10 +191,27 @@ fn numbers_are_indexed(alloc: Global) -> Result<bool, LayoutError> {
 
 #[test]
 fn numbers_are_shown_by_index(rt: HostRuntime) {
+    let alloc = rt.alloc();
     assert!(rt;
-        numbers_are_indexed(rt.alloc()).is_ok_and(|holds| holds),
+        numbers_are_indexed(alloc).is_ok_and(|holds| holds),
         "index"
     );
+    assert!(rt;
+        written_numbers_are_indexed(alloc).is_ok_and(|holds| holds),
+        "index of what is written"
+    );
+}
+
+/// What brackets give of numbers that are lent to be written.
+fn written_numbers_are_indexed(alloc: Global) -> Result<bool, LayoutError> {
+    let mut numbers = NUMBERS;
+    let mut plane = ArrayViewMut::from_shape(alloc, two_rows(), &mut numbers)?;
+    let index = new_ix2(1, 0);
+    let set = plane.set(&index, 30);
+    if plane.get(&index).is_none() {
+        return Ok(false);
+    }
+    Ok(set && plane[index] == 30)
 }
 
 /// A list of one number, in memory of its own.
