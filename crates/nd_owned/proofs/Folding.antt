@@ -1,8 +1,8 @@
 -- A function that is called at items that are lent, one after another.
 use Rattle.std.proofs.Common.{◌≡◌, ℕ, ◌+◌, ◌<◌, Option, Some, None, List, [], ◌∷◌, ◌++◌, length, get_or, map, take, drop, refl, sym, ap}
 use Rattle.std.proofs.Common.{subst, ◌∙◌, Bor, arith}
-use Rattle.std.specs.Fn.{Mut, Takes}
-use Rattle.std.specs.Iterator.{CallableInFold, FoldTurn, FoldsItems, Yields}
+use Rattle.std.specs.Fn.{Called, Mut, Takes}
+use Rattle.std.specs.Iterator.{CallableInFold, CallableInForEach, CallsOnEach, FoldTurn, FoldsItems, Yields}
 use Rattle.std.specs.List.{FoldsTo}
 use Rattle.std.proofs.lemmas.List.{append-nil, drop_more, get_or-map, length-map, map-append, take_more}
 use Rattle.nd_owned.specs.Lending.{lends}
@@ -102,3 +102,26 @@ module _ {F B T : Type 0} {g : Mut F (B × (Bor T × Unit {0})) B} where
   all_folded {h = h} {items = items} done =
       let yields = subst (λ s. Yields lends s done.lent []) (append-nil (shown done.lent) ∙ done.are) (lent_first done.lent []) in
       (done.lent, h, ([], ([], yields, (refl, refl))), done.calls)
+
+-- ---- a function that keeps no total, as one that does: `inside` reads it from the state of the other one
+calls_inside : {F C T : Type 0} (g : Mut F (Bor T × Unit {0}) (Unit {0})) (other : Mut C (Unit {0} × (Bor T × Unit {0})) (Unit {0})) (inside : C → F)
+    → ((s t : C) (x : Bor T) → Called other s (tt, (x, tt)) tt t → Called g (inside s) (x, tt) tt (inside t))
+    → (xs : List (Bor T)) (p q : C × Unit {0}) → FoldsTo {P = C × Unit {0}} (FoldTurn other) p xs q
+    → FoldsTo (λ p x q. Called g p (x, tt) tt q) (inside p.0) xs (inside q.0)
+calls_inside g other inside says [] p q calls = ap (λ p. inside p.0) calls
+calls_inside g other inside says (x ∷ xs) p q calls =
+    (inside calls.0.0, says p.0 calls.0.0 x calls.1, calls_inside g other inside says xs calls.0 q calls.2)
+
+pub callable_inside : {F C T : Type 0} (g : Mut F (Bor T × Unit {0}) (Unit {0})) (other : Mut C (Unit {0} × (Bor T × Unit {0})) (Unit {0}))
+    (inside : C → F) → ((s : C) (x : Bor T) → Takes g (inside s) (x, tt) → Takes other s (tt, (x, tt)))
+    → ((s t : C) (x : Bor T) → Called other s (tt, (x, tt)) tt t → Called g (inside s) (x, tt) tt (inside t)) → {items : List (Option T)} (f : C)
+    → CallableInForEach lends g items (inside f) → CallableInFold lends other items f tt
+callable_inside g other inside asks says f callable = record {
+  at = λ xs t q x u yields calls step. asks q.0 x (callable.at xs t (inside q.0) x u yields (calls_inside g other inside says xs (f, tt) q calls) step);
+}
+
+pub called_inside : {F C T : Type 0} (g : Mut F (Bor T × Unit {0}) (Unit {0})) (other : Mut C (Unit {0} × (Bor T × Unit {0})) (Unit {0}))
+    (inside : C → F) → ((s t : C) (x : Bor T) → Called other s (tt, (x, tt)) tt t → Called g (inside s) (x, tt) tt (inside t))
+    → {items : List (Option T)} (f : C) → FoldsItems lends other items f tt tt → CallsOnEach lends g items (inside f)
+called_inside g other inside says f ran =
+    (ran.0, inside ran.1, ran.2, calls_inside g other inside says ran.0 (f, tt) (ran.1, tt) ran.3)

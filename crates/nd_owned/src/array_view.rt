@@ -18,7 +18,6 @@ ghost use Rattle.nd_owned.specs.ArrayView.{HasItems};
 ghost use Rattle.nd_owned.specs.Owned.{item_at};
 
 mod folding;
-mod indexing;
 mod iterating;
 mod rows;
 mod steps;

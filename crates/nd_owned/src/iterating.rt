@@ -8,8 +8,9 @@ ghost use Rattle.ndarray_layout.specs.Size.{size};
 ghost use Rattle.ndarray_layout.specs.View.{view_places};
 ghost use Rattle.nd_owned.specs.Owned.{IsOwned, item_at_place};
 
+use crate::array_view::Iter;
 use crate::owned::OwnedArray;
-use ndarray_layout::{Lengths, Order, Places};
+use ndarray_layout::{Lengths, Order};
 use std::iter::FusedIterator;
 use std::marker::Model;
 
@@ -17,21 +18,15 @@ use std::marker::Model;
 /// list of them.
 #[derive(Drop)]
 pub struct Items<'a, T: Copy> {
-    stored: &'a [T],
-    places: Places<'a>,
+    lent: Iter<'a, T>,
 }
 
 impl<'a, T: Copy> Model for Items<'a, T> {
-    ghost use Rattle.std.specs.List.{All};
-    ghost use Rattle.std.specs.Prelude.{List, Option, length, map};
-    ghost use Rattle.ndarray_layout.specs.Bounds.{IsInBounds};
-    ghost use Rattle.nd_owned.specs.Owned.{item_at_place};
+    ghost use Rattle.std.specs.Prelude.{List, Option};
 
     ghost Value = { List (Option T) };
 
-    ghost view = { λ items. map (item_at_place items.stored.now) items.places };
-
-    ghost invariant = { λ items. All (IsInBounds (length items.stored.now)) items.places };
+    ghost view = { λ items. items.lent };
 }
 
 impl<T: Copy> Iterator for Items<'_, T> {
@@ -43,8 +38,7 @@ impl<T: Copy> Iterator for Items<'_, T> {
 
     #[inline]
     fn next(&mut self) -> Option<T> {
-        let place = self.places.next()?;
-        Some(self.stored[place])
+        self.lent.next().copied()
     }
 
     fn size_hint(&self) -> (usize, Option<usize>)
@@ -52,13 +46,13 @@ impl<T: Copy> Iterator for Items<'_, T> {
         ensures upper { IfSome result.1 (UpTo (item_count (λ left. left) self.now)) }
         ensures exact { (result.0 ≡ length self.now) × (result.1 ≡ Some (length self.now)) }
     {
-        self.places.size_hint()
+        self.lent.size_hint()
     }
 }
 
 impl<T: Copy> ExactSizeIterator for Items<'_, T> {
     fn len(&self) -> usize {
-        self.places.len()
+        self.lent.len()
     }
 }
 
@@ -80,8 +74,7 @@ impl<T: Copy, D: Lengths> OwnedArray<T, D> {
         ensures owned { IsOwned (length self.now.items) self.now.view }
     {
         Items {
-            stored: self.stored(),
-            places: self.view().iter_places(Order::RowMajor),
+            lent: Iter::new(self.stored(), self.view().iter_places(Order::RowMajor)),
         }
     }
 }

@@ -5,6 +5,7 @@
 mod array_view;
 mod array_view_mut;
 mod fitted;
+mod indexing;
 mod iterating;
 mod multi_set;
 mod owned;

@@ -1,6 +1,6 @@
 //! Rows of items that are lent: what each call makes of two rows of three numbers and a spare one, and the same of items that
 //! own memory.
-use nd_owned::{ArrayView, LentRow, LentRows};
+use nd_owned::{ArrayView, ArrayViewMut, LentRow, LentRows};
 use ndarray_layout::{
     Axis, Fit, Ix0, Ix1, Ix2, IxDyn, LayoutError, Lengths, SliceInfoElem, StrideShape, Strides,
     new_ix0, new_ix1, new_ix2, new_ixdyn, unsigned,
@@ -145,13 +145,23 @@ fn digits<D: Lengths>(array: &ArrayView<'_, u8, D>) -> u64 {
     )
 }
 
+/// The same, by a function that is called at each item.
+fn digits_one_by_one<D: Lengths>(array: &ArrayView<'_, u8, D>) -> u64 {
+    let mut digits = 0u64;
+    array.for_each(|item| digits = digits.wrapping_mul(10).wrapping_add(u64::from(*item)));
+    digits
+}
+
 /// What is folded of two rows and of their transpose.
 fn numbers_are_folded(alloc: Global) -> Result<bool, LayoutError> {
     let plane = ArrayView::from_shape(alloc, two_rows(), &NUMBERS)?;
     let by_rows = digits(&plane) == 12_345;
     let row = plane.index_axis(alloc, Axis(0), 1)?;
     let of_a_row = digits(&row) == 345;
-    Ok(by_rows && of_a_row && digits(&plane.reversed_axes()) == 31_425)
+    let one_by_one = digits_one_by_one(&plane) == 12_345 && digits_one_by_one(&row) == 345;
+    let columns = plane.reversed_axes();
+    let by_columns = digits(&columns) == 31_425 && digits_one_by_one(&columns) == 31_425;
+    Ok(by_rows && of_a_row && one_by_one && by_columns)
 }
 
 #[test]
@@ -181,10 +191,27 @@ fn numbers_are_indexed(alloc: Global) -> Result<bool, LayoutError> {
 
 #[test]
 fn numbers_are_shown_by_index(rt: HostRuntime) {
+    let alloc = rt.alloc();
     assert!(rt;
-        numbers_are_indexed(rt.alloc()).is_ok_and(|holds| holds),
+        numbers_are_indexed(alloc).is_ok_and(|holds| holds),
         "index"
     );
+    assert!(rt;
+        written_numbers_are_indexed(alloc).is_ok_and(|holds| holds),
+        "index of what is written"
+    );
+}
+
+/// What brackets give of numbers that are lent to be written.
+fn written_numbers_are_indexed(alloc: Global) -> Result<bool, LayoutError> {
+    let mut numbers = NUMBERS;
+    let mut plane = ArrayViewMut::from_shape(alloc, two_rows(), &mut numbers)?;
+    let index = new_ix2(1, 0);
+    let set = plane.set(&index, 30);
+    if plane.get(&index).is_none() {
+        return Ok(false);
+    }
+    Ok(set && plane[index] == 30)
 }
 
 /// A list of one number, in memory of its own.
@@ -200,6 +227,8 @@ fn lists_are_lent(alloc: Global) -> Option<bool> {
     }
     let plane = ArrayView::from_shape(alloc, two_rows(), lists.as_slice()).ok()?;
     let count = plane.fold(0usize, |count, list| count.wrapping_add(list.len()));
+    let mut called = 0usize;
+    plane.for_each(|list| called = called.wrapping_add(list.len()));
     let mut rows = plane.rows();
     let second = rows.nth(1)?;
     let whole = second.as_slice()?.len() == 3 && second.len() == 3;
@@ -207,7 +236,7 @@ fn lists_are_lent(alloc: Global) -> Option<bool> {
     let index = new_ix2(1, 1);
     plane.get(&index)?;
     let shown = plane[index].as_slice() == [4].as_slice();
-    Some(count == 6 && whole && last && shown && rows.next().is_none())
+    Some(count == 6 && called == 6 && whole && last && shown && rows.next().is_none())
 }
 
 #[test]

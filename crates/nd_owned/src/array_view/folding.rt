@@ -1,5 +1,5 @@
 //! A function that is called at each item of an array in turn, row by row.
-ghost use Rattle.std.specs.Iterator.{CallableInFold, FoldsItems};
+ghost use Rattle.std.specs.Iterator.{CallableInFold, CallableInForEach, CallsOnEach, FoldsItems};
 ghost use Rattle.std.specs.Prelude.{Some, map};
 ghost use Rattle.ndarray_layout.specs.declared.Order.TheVariants.{RowMajor};
 ghost use Rattle.ndarray_layout.specs.View.{view_places};
@@ -69,5 +69,25 @@ impl<T, D: Lengths> ArrayView<'_, T, D> {
             (total, f) = fold_row(&row, total, f);
         }
         total
+    }
+
+    /// Calls a function at each item in turn, in row-major order.
+    ///
+    /// It is what `iter().for_each(f)` does, and faster, as `fold` is.
+    ///
+    /// `[2]` with the stride `[-1]` over 7 8 9: at 8, then at 7. ndarray's `for_each`.
+    pub fn for_each<F: FnMut(&T)>(&self, mut f: F)
+        requires callable { CallableInForEach lends F.FnMut
+            (map (item_at_place self.now.items) (view_places RowMajor self.now.view)) f }
+        ensures ran { CallsOnEach lends F.FnMut
+            (map (item_at_place self.now.items) (view_places RowMajor self.now.view)) f }
+    {
+        let each = move |(), item: &T|
+            requires { F.pre f item }
+            ensures { F.step f.entry item.entry tt f.exit }
+        {
+            f(item);
+        };
+        self.fold((), each);
     }
 }

@@ -3,8 +3,10 @@ ghost use Rattle.std.specs.Borrow.{Bor};
 ghost use Rattle.std.specs.Iterator.{UpTo, YieldsFirstBy, item_count};
 ghost use Rattle.std.specs.Iterator.Runs.{EveryRun, ItemsMapTo};
 ghost use Rattle.std.specs.Iterator.SizeHint.{IsWithinCount};
+ghost use Rattle.std.specs.List.{All};
 ghost use Rattle.std.specs.Prelude.{◌≡◌, IfSome, List, Option, Some, length, map};
 ghost use Rattle.ndarray_layout.specs.declared.Order.TheVariants.{RowMajor};
+ghost use Rattle.ndarray_layout.specs.Bounds.{IsInBounds};
 ghost use Rattle.ndarray_layout.specs.Size.{size};
 ghost use Rattle.ndarray_layout.specs.View.{view_places};
 ghost use Rattle.nd_owned.specs.Owned.{item_at_place};
@@ -33,6 +35,16 @@ impl<'a, T> Model for Iter<'a, T> {
     ghost view = { λ items. map (item_at_place items.stored.now) items.places };
 
     ghost invariant = { λ items. All (IsInBounds (length items.stored.now)) items.places };
+}
+
+impl<'a, T> Iter<'a, T> {
+    /// The items at places, which the caller ensures to lie among them.
+    pub(crate) fn new(stored: &'a [T], places: Places<'a>) -> Self
+        requires { All (IsInBounds (length stored.now)) places }
+        ensures { result ≡ map (item_at_place stored.now) places.entry }
+    {
+        Iter { stored, places }
+    }
 }
 
 impl<'a, T> Iterator for Iter<'a, T> {
@@ -81,9 +93,6 @@ impl<'a, T, D: Lengths> ArrayView<'a, T, D> {
             (YieldsFirstBy (λ (item : Bor T). Some item.now) (λ (left : List (Option T)). left))
             (λ run. ItemsMapTo run (λ (item : Bor T). Some item.now) run.from) }
     {
-        Iter {
-            stored: self.stored(),
-            places: self.view().iter_places(Order::RowMajor),
-        }
+        Iter::new(self.stored(), self.view().iter_places(Order::RowMajor))
     }
 }

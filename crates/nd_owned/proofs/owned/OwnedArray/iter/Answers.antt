@@ -9,13 +9,14 @@ use Rattle.nd_owned.specs.Owned.{item_at_place}
 use Rattle.nd_owned.proofs.PlacesLeft.{all_places, are_in_bounds}
 use Rattle.nd_owned.proofs.owned.OwnedArray.iter.Goals as goal
 
-pub invariant_of-result : goal.invariant_of-result
-invariant_of-result g c =
+pub new-requires : goal.new-requires
+new-requires g c =
     rw c.stored.ensures.items (are_in_bounds _ c.stored.ensures.owned.within (all_places c.iter_places.ensures.items c.view.ensures.view))
 
 pub returns-clause-count : goal.returns-clause-count
 returns-clause-count g c =
-    length-map c.iter_places.result (item_at_place c.stored.result.now)
+    ap length c.new.ensures
+    ∙ length-map c.iter_places.result (item_at_place c.stored.result.now)
     ∙ ap length (all_places c.iter_places.ensures.items c.view.ensures.view)
     ∙ length-view_places RowMajor c.args.self.now.view
 
