@@ -37,6 +37,8 @@ mod layout;
 #[cfg(test)]
 mod lent;
 #[cfg(test)]
+mod lent_parts;
+#[cfg(test)]
 mod lent_rows;
 #[cfg(test)]
 mod lent_writes;
