@@ -1,5 +1,5 @@
 -- The text of a view from its three lines, and the statuses of replies.
-use Rattle.std.proofs.Common.{◌≡◌, ℕ, ℤ, pos, ◌≤◌, List, [], ◌∷◌, ◌++◌, map, codes, decimal, Option, Some, None, refl, ap, ◌∙◌, sym, arith}
+use Rattle.std.proofs.Common.{◌≡◌, ℕ, pos, ◌≤◌, List, [], ◌∷◌, ◌++◌, map, codes, decimal, Option, Some, None, refl, ap, ◌∙◌, sym, arith}
 use Rattle.std.specs.Fmt.{signed_decimal}
 use Rattle.std.specs.Iterator.{Drains}
 use Rattle.std.proofs.lemmas.Iterator.{YieldsList, items_from_drains}
@@ -35,14 +35,6 @@ pub line_of_all : {S A : Type 0} {steps : S → Option A → S → Type 0} {sour
 line_of_all spelled name separator old all gives (list, (last, (end, taken, none)), e) =
     e ∙ ap (λ items. old ++ line name (listed separator (map spelled items)))
     (sym (map-id list) ∙ items_from_drains list (end, taken, λ _. (last, none)) gives)
-
--- the places that an iterator gives, in the last line
-pub places_of_all : {S : Type 0} {steps : S → Option ℕ → S → Type 0} {source : S} {new : List ℕ} (old : List ℕ) (all : List ℤ)
-    → YieldsList steps pos source all
-    → ((list : List ℕ) × Drains steps source list × (new ≡ old ++ line (codes "places") (listed (codes " ") (map decimal list))))
-    → (places : List ℕ) × (map pos places ≡ all) × (new ≡ old ++ line (codes "places") (listed (codes " ") (map decimal places)))
-places_of_all old all gives (list, (last, (end, taken, none)), e) =
-    (list, items_from_drains list (end, taken, λ _. (last, none)) gives, e)
 
 pub listing_text : {view : View} {t0 t1 t2 t3 : List ℕ} (places : List ℕ) → IsView view → map pos places ≡ view_places RowMajor view
     → t0 ≡ []

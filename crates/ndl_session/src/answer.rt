@@ -93,6 +93,8 @@ fn list(alloc: Global, view: &Strided<IxDyn>) -> Result<Answer, AllocError>
     let strides = view.axes().map(|axis| axis.stride);
     push_line(alloc, &mut text, "shape", ",", lens)?;
     push_line(alloc, &mut text, "strides", ",", strides)?;
-    push_places(&mut text, view.iter_places(Order::RowMajor))?;
+    // (the list is asked for first: where there are too many places for it, nothing is written in vain)
+    let places = view.places(alloc, Order::RowMajor)?;
+    push_places(&mut text, places.iter().copied())?;
     Ok(Answer { text, status: 0 })
 }

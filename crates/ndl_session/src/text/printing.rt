@@ -103,7 +103,7 @@ fn push_place(text: &mut Vec<u8>, place: usize) -> Result<(), AllocError>
 ///
 /// The caller ensures that the places come to an end.
 ///
-/// Errors: out of memory; what stood in the text before is still its beginning then.
+/// Errors: out of memory.
 pub(crate) fn push_places<I: Iterator<Item = usize>>(
     text: &mut Vec<u8>,
     places: I,
