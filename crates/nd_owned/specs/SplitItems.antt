@@ -15,10 +15,11 @@ use Rattle.ndarray_layout.specs.SplitView.{first_part_of, second_part_of, split_
 use Rattle.ndarray_layout.specs.View.{View}
 use Rattle.nd_owned.specs.Owned.{ArrayValue, item_at}
 
--- the lowest place and the highest one of a view with an index
+-- the lowest place of a view with an index
 abbrev pub lowest : View → ℕ
 lowest view = view.start - low_span view.shape view.strides
 
+-- the highest one
 abbrev pub highest : View → ℕ
 highest view = view.start + high_span view.shape view.strides
 

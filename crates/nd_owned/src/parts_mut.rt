@@ -66,7 +66,7 @@ impl<'a, T: Drop> PartMut<'a, T> {
 
     /// Replaces the item of a row and a column, and returns whether there is one; else the part is unchanged.
     ///
-    /// 9 at row 0, column 1 of 1 2 3 over 4 5 6 makes it 1 9 3 over 4 5 6. ndarray's `get_mut`, with the write.
+    /// 9 at (0,1) of 1 2 3 over 4 5 6 makes it 1 9 3 over 4 5 6. ndarray's `get_mut`, with the write.
     #[inline]
     pub fn set(&mut self, row: usize, column: usize, item: T) -> bool
         ensures is_index { IsTrue result
