@@ -48,7 +48,5 @@ struct Readme;
 
 pub use crate::convenience::*;
 pub use crate::memory::AllocError;
-pub use crate::nd_owned::{
-    ArrayView, ArrayViewMut, Items, Iter, LentRow, LentRows, OwnedArray, PartMut, SplitViews,
-};
+pub use crate::nd_owned::{ArrayView, ArrayViewMut, Items, Iter, LentRow, LentRows, OwnedArray, PartMut, SplitViews};
 pub use crate::ndarray_layout::*;

@@ -1,10 +1,10 @@
 //! A line of input, and the call that it says.
 //!
 //! A line is how many small requests are made before all others, the call by its name, what it is made at, and up to four lists.
-//! It is made at a `view`, at one of its axes (`axis`) or at a value of `any` number of axes, at a value of `six`, at a `list`, at an `array`, at numbers that are `lent`, or at the `steps`
-//! of a run.
+//! It is made at a `view`, at one of its axes (`axis`) or at a value of `any` number of axes, at a value of `six`, at a `list`, at an `array`, at numbers that are `lent`,
+//! also in `parts`, or at the `steps` of a run.
 use crate::answer::Answer;
-use crate::{axes, dimensions, lent, lists, owned, runs, views};
+use crate::{axes, dimensions, lent, lent_parts, lists, owned, runs, views};
 use ndarray_layout::IxDyn;
 use std::alloc::Global;
 use test_tables::{Lists, grants};
@@ -57,6 +57,7 @@ fn answer_at(alloc: Global, at: &str, call: &Call<'_>) -> Option<Answer> {
         "list" => lists::answer(alloc, call),
         "array" => owned::answer(alloc, call),
         "lent" => lent::answer(alloc, call),
+        "parts" => lent_parts::answer(alloc, call),
         "steps" => runs::answer(alloc, call),
         _ => None,
     }

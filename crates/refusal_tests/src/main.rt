@@ -6,6 +6,7 @@ mod answer;
 mod axes;
 mod dimensions;
 mod lent;
+mod lent_parts;
 mod line;
 mod lists;
 mod owned;
