@@ -30,14 +30,6 @@ fn two_rows_by_columns() -> StrideShape<Ix2> {
     }
 }
 
-/// Two items, the second before the first.
-fn two_backwards() -> StrideShape<Ix1> {
-    StrideShape {
-        dim: new_ix1(2),
-        strides: Strides::Custom(new_ix1(unsigned(-1))),
-    }
-}
-
 /// The coordinates of an axis from the second one on.
 const REST: SliceInfoElem = SliceInfoElem::Slice {
     start: 1,
