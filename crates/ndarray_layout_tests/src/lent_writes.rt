@@ -6,8 +6,7 @@ ghost use Rattle.nd_owned.specs.Owned.{IsOwned};
 
 use nd_owned::{ArrayView, ArrayViewMut, OwnedArray};
 use ndarray_layout::{
-    Axis, Ix1, Ix2, LayoutError, Lengths, SliceInfoElem, StrideShape, Strided, Strides, new_ix1,
-    new_ix2, new_ix3, unsigned,
+    Axis, Ix2, LayoutError, SliceInfoElem, StrideShape, Strided, Strides, new_ix2, new_ix3,
 };
 use std::alloc::{AllocError, Global};
 
