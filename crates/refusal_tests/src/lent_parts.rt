@@ -36,7 +36,10 @@ fn split_array(
     let mut numbers = NUMBERS;
     let array = ArrayViewMut::from_shape(alloc, shape, &mut numbers).ok()?;
     match array.split_at_mut(alloc, axis, index) {
-        Ok((first, second)) => both(first.view(), second.view()),
+        Ok(parts) => {
+            let (first, second) = parts;
+            both(first.view(), second.view())
+        }
         Err(fault) => failed(&fault),
     }
 }
@@ -98,7 +101,8 @@ fn split_rows(
         return None;
     };
     match part.split_at(alloc, axis, index) {
-        Ok((first, second)) => {
+        Ok(parts) => {
+            let (first, second) = parts;
             let mut answer = and_rows(Answer::of("")?, &first)?;
             answer.write_str(" and ").ok()?;
             and_rows(answer, &second)
