@@ -25,6 +25,7 @@ const TESTS: &[&str] = &[
     "test_tables",
     "nd_shape_tests",
     "nd_slice_tests",
+    "nd_owned_tests",
     "ndarray_layout_tests",
     "ndl_tests",
     "example_callers",

@@ -1,4 +1,4 @@
-//! Tests of `ndarray_layout` and `nd_owned`, by their public calls: rows of views, of reshapes, of runs and of
+//! Tests of `ndarray_layout` and of arrays that own their items, by public calls: rows of views, of reshapes, of runs and of
 //! arrays, all reshapes of small layouts, and that no allocation fails where there is memory.
 #![tactic(auto)]
 
@@ -34,14 +34,6 @@ mod iterated;
 mod iterated_rows;
 #[cfg(test)]
 mod layout;
-#[cfg(test)]
-mod lent;
-#[cfg(test)]
-mod lent_parts;
-#[cfg(test)]
-mod lent_rows;
-#[cfg(test)]
-mod lent_writes;
 #[cfg(test)]
 mod memory;
 #[cfg(test)]

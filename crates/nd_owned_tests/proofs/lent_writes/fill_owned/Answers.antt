@@ -2,7 +2,7 @@
 use Rattle.std.proofs.Common.{◌≡◌, ◌++◌, length, take, drop, Some, ap, subst, sym, ◌∙◌}
 use Rattle.std.proofs.lemmas.List.{take_at}
 use Rattle.nd_owned.specs.ArrayViewMut.{HasItemsOf}
-use Rattle.ndarray_layout_tests.proofs.lent_writes.fill_owned.Goals as goal
+use Rattle.nd_owned_tests.proofs.lent_writes.fill_owned.Goals as goal
 
 pub returns : goal.returns
 returns c =
