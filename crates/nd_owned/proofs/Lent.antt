@@ -72,7 +72,7 @@ no_other_axis rows (suc zero) index first second = absurd (second refl)
 no_other_axis rows (suc (suc axis)) index first second = refl
 
 -- ---- rows whose places lie side by side
-one_step : (stride : ℤ) → is_one stride ≡ true → stride ≡ pos 1
+pub one_step : (stride : ℤ) → is_one stride ≡ true → stride ≡ pos 1
 one_step (pos step) one = ap pos (eqb-true step 1 one)
 one_step (negsuc below) one = let same : false ≡ true = one in cc
 

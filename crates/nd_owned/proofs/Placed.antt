@@ -35,7 +35,7 @@ pairs_first R xs ys pairs = λ i j d earlier below.
     subst (λ x. R x (get_or xs j d)) first
     (subst (R (get_or (xs ++ ys) i d)) (get_or_append_left xs ys d j below) (pairs i j d earlier (omega (arith, length-append xs ys))))
 
-pairs_second : {X : Type 0} (R : X → X → Type 0) (xs ys : List X) → AllPairs R (xs ++ ys) → AllPairs R ys
+pub pairs_second : {X : Type 0} (R : X → X → Type 0) (xs ys : List X) → AllPairs R (xs ++ ys) → AllPairs R ys
 pairs_second R xs ys pairs = λ i j d earlier below.
     let from = length xs in
     subst (λ x. R x (get_or ys j d)) (get_or-append-add xs ys i d)
@@ -43,7 +43,7 @@ pairs_second R xs ys pairs = λ i j d earlier below.
     (omega (arith, length-append xs ys))))
 
 -- where no item is there twice, none of the one part is in the other
-parts_apart : {X : Type 0} (xs ys : List X) → AllPairs (λ one other. one ≢ other) (xs ++ ys) → All (λ x. Contains ys x → ⊥) xs
+pub parts_apart : {X : Type 0} (xs ys : List X) → AllPairs (λ one other. one ≢ other) (xs ++ ys) → All (λ x. Contains ys x → ⊥) xs
 parts_apart xs ys distinct = λ k d below here.
     distinct k (length xs + here.0) d (omega arith) (omega (arith, here.1, length-append xs ys))
     (get_or_append_left xs ys d k below ∙ sym here.2 ∙ other_default ys here.0 (get_or xs k d) d here.1

@@ -41,14 +41,14 @@ none_of_all f (a ∷ xs) x none here =
       | inr more ↦ none_of_all f xs x (All-tail (λ b. Contains (f b) x → ⊥) a xs none) more
     ]
 
-pairs_head : {X : Type 0} (R : X → X → Type 0) (x : X) (xs : List X) → AllPairs R (x ∷ xs) → All (R x) xs
+pub pairs_head : {X : Type 0} (R : X → X → Type 0) (x : X) (xs : List X) → AllPairs R (x ∷ xs) → All (R x) xs
 pairs_head R x xs pairs = λ k d below. pairs 0 (suc k) d (omega arith) (omega arith)
 
 -- what holds of what a function makes of each item
 All-of_map : {A B : Type 0} (f : A → B) (xs : List A) (P : B → Type 0) → All P (map f xs) → All (λ x. P (f x)) xs
 All-of_map f xs P all = λ k d below. subst P (get_or-map f xs k d (f d) below) (all k (f d) (omega (arith, length-map xs f, below)))
 
-pairs_tail : {X : Type 0} (R : X → X → Type 0) (x : X) (xs : List X) → AllPairs R (x ∷ xs) → AllPairs R xs
+pub pairs_tail : {X : Type 0} (R : X → X → Type 0) (x : X) (xs : List X) → AllPairs R (x ∷ xs) → AllPairs R xs
 pairs_tail R x xs pairs = λ i j d earlier below. pairs (suc i) (suc j) d (omega arith) (omega arith)
 
 -- two lists without a number twice, of which none is in both
@@ -100,7 +100,7 @@ each_fits shape (write ∷ writes) none =
     let parts = both_none (argument_fault Strict shape write.slice) (slices_fault shape writes) none in
     All-cons (λ one. argument_fault Strict shape one.slice ≡ None) write writes parts.0 (each_fits shape writes parts.1)
 
-both_true : (first second : Bool) → (first && second) ≡ true → (first ≡ true) × (second ≡ true)
+pub both_true : (first second : Bool) → (first && second) ≡ true → (first ≡ true) × (second ≡ true)
 both_true true second both = (refl, both)
 both_true false second both = absurd (cc)
 

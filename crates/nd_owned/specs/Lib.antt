@@ -5,6 +5,7 @@ pub mod Lending
 pub mod LentRow
 pub mod Mapped
 pub mod MultiSet
+pub mod MultiSlice
 pub mod Owned
 pub mod PartMut
 pub mod SplitItems

@@ -47,9 +47,13 @@ abbrev pub counts_fault : {T : Type 0} → List ℕ → List (Write T) → Optio
 counts_fault shape writes = option_or (slices_fault shape writes) (if list_all (has_count shape) writes then None else Some IncompatibleShape)
 
 -- the error, or none, of slices that fit: Unsupported where two share an index, and none where no two do
+abbrev pub IsSharingFault : List ℕ → List (List SliceInfoElem) → Option ErrorKind → Type 0
+IsSharingFault shape slices None = AllPairs (AreApart Strict shape) slices
+IsSharingFault shape slices (Some kind) = (kind ≡ Unsupported) × SomeIntersect Strict shape slices
+
+-- that of the slices of writes
 abbrev pub IsIntersectionFault : {T : Type 0} → List ℕ → List (Write T) → Option ErrorKind → Type 0
-IsIntersectionFault shape writes None = AllPairs (AreApart Strict shape) (slices_of writes)
-IsIntersectionFault shape writes (Some kind) = (kind ≡ Unsupported) × SomeIntersect Strict shape (slices_of writes)
+IsIntersectionFault shape writes fault = IsSharingFault shape (slices_of writes) fault
 
 -- the error, or none, of a list of writes, in this order: that of the first slice that doesn't fit; IncompatibleShape for a count of items that isn't
 -- its slice's; Unsupported for two slices that share an index

@@ -1,3 +1,4 @@
 pub mod Folded
 pub mod Part
+pub mod Pieces
 pub mod Written

@@ -4,7 +4,9 @@ ghost use Rattle.std.specs.Prelude.{◌≡◌, ◌↔◌, ◌<◌, IfSome, IsTru
 ghost use Rattle.nd_owned.specs.PartMut.{rows_of};
 
 mod cutting;
+mod free_items;
 mod making;
+mod slices;
 
 /// Rows of items that are lent to be written: a part of an array, as a tile of a picture. Other parts of the array are lent
 /// beside it (`split_at`), and each may be written in a thread of its own. In place of ndarray's `ArrayViewMut` of one of the

@@ -1,13 +1,13 @@
-//! Parts of one array that are lent at once: what writes to each leave of two rows of three numbers and a spare one, which cuts are
-//! refused, and the same of items that own memory.
+//! Parts of one array that are lent at once: what writes to each leave of two rows of three numbers and a spare one, which cuts and
+//! which slices are refused, and the same of many numbers over six axes, and of items that own memory.
 ghost use Rattle.std.specs.Prelude.{IfOk};
 ghost use Rattle.ndarray_layout.specs.View.{LiesWithin};
 ghost use Rattle.nd_owned.specs.Owned.{IsOwned};
 
 use nd_owned::{ArrayViewMut, PartMut, SplitViews};
 use ndarray_layout::{
-    Axis, CanIndexCheckMode, ErrorKind, Ix1, Ix2, LayoutError, StrideShape, Strided, Strides,
-    new_ix1, new_ix2, unsigned,
+    Axis, CanIndexCheckMode, ErrorKind, Ix1, Ix2, Ix6, LayoutError, SliceInfoElem, StrideShape,
+    Strided, Strides, new_ix1, new_ix2, new_ix6, unsigned,
 };
 use std::alloc::Global;
 
@@ -29,6 +29,14 @@ fn view_of(rows: usize, columns: usize) -> Result<Strided<Ix2>, LayoutError>
     let strides = new_ix2(rows, columns);
     let mode = CanIndexCheckMode::OwnedMutable;
     Ok(Strided::new(new_ix2(2, 3), strides, 1, 7, mode)?)
+}
+
+/// The view of two rows of three, in which no two indices alias.
+fn owned_view() -> Result<Strided<Ix2>, LayoutError>
+    ensures { IfOk result (IsOwned 7) }
+{
+    let mode = CanIndexCheckMode::OwnedMutable;
+    Ok(Strided::new(new_ix2(2, 3), new_ix2(3, 1), 1, 7, mode)?)
 }
 
 /// The view of three numbers, the last one first.
@@ -148,6 +156,120 @@ fn tiles_are_refused(alloc: Global) -> Result<bool, LayoutError> {
     Ok(turned && past && below && beside)
 }
 
+/// All coordinates of an axis, by a step.
+const fn by(step: isize) -> SliceInfoElem {
+    SliceInfoElem::Slice {
+        start: 0,
+        end: None,
+        step,
+    }
+}
+
+/// What the parts of every second column and of the one between them, upwards, leave of the numbers.
+fn columns_are_written(alloc: Global) -> Result<Option<bool>, LayoutError> {
+    let mut numbers = NUMBERS;
+    let rows = ArrayViewMut::from_shape(alloc, two_rows(), &mut numbers)?;
+    let slices = [[by(1), by(2)], [by(-1), SliceInfoElem::Index(1)]];
+    let mut parts = rows.multi_slice_mut(alloc, &slices)?;
+    let (Some(mut middle), Some(mut outer), None) = (parts.pop(), parts.pop(), parts.pop()) else {
+        return Ok(None);
+    };
+    let counted = outer.nrows() == 4 && middle.nrows() == 2;
+    let got = outer.get(1, 0).copied() == Some(2) && middle.get(0, 0).copied() == Some(4);
+    let set = outer.set(3, 0, 50) && middle.set(0, 0, 40) && outer.set(0, 0, 10);
+    let last = middle.set(1, 0, 11);
+    let missed = middle.set(2, 0, 9) || outer.set(0, 1, 9);
+    drop((middle, outer, parts));
+    let left = numbers == [10, 11, 2, 3, 40, 50, 6];
+    Ok(Some(counted && got && set && last && !missed && left))
+}
+
+/// What the parts of a tile and of the column beside it leave of the numbers.
+fn tile_is_written(alloc: Global) -> Result<Option<bool>, LayoutError> {
+    let mut numbers = NUMBERS;
+    let tile = SliceInfoElem::Slice {
+        start: 1,
+        end: Some(3),
+        step: 1,
+    };
+    let slices = [[by(-1), tile], [by(1), SliceInfoElem::Index(0)]];
+    let mut parts = PartMut::of_slices(alloc, &owned_view()?, &mut numbers, &slices)?;
+    let (Some(column), Some(mut tile), None) = (parts.pop(), parts.pop(), parts.pop()) else {
+        return Ok(None);
+    };
+    let read = tile.row(0) == Some([4, 5].as_slice()) && column.row(1) == Some([3].as_slice());
+    if let Some(row) = tile.row_mut(1) {
+        row.fill(9);
+    }
+    drop((tile, column, parts));
+    Ok(Some(read && numbers == [0, 9, 9, 3, 4, 5, 6]))
+}
+
+/// Which lists of slices are refused, and that a list of none has no part.
+fn slices_are_refused(alloc: Global) -> Result<bool, LayoutError> {
+    let mut numbers = NUMBERS;
+    let first_row = [SliceInfoElem::Index(0), by(1)];
+    let third_row = [SliceInfoElem::Index(2), by(1)];
+    let first_column = [by(1), SliceInfoElem::Index(0)];
+    let rows = ArrayViewMut::from_shape(alloc, two_rows(), &mut numbers)?;
+    let shared = is_fault(
+        rows.multi_slice_mut(alloc, &[first_row, first_column])
+            .err(),
+        ErrorKind::Unsupported,
+    );
+    let rows = ArrayViewMut::from_shape(alloc, two_rows(), &mut numbers)?;
+    let past = is_fault(
+        rows.multi_slice_mut(alloc, &[first_row, first_row, third_row])
+            .err(),
+        ErrorKind::OutOfBounds,
+    );
+    let rows = ArrayViewMut::from_shape(alloc, two_rows(), &mut numbers)?;
+    let no_slice: [[SliceInfoElem; 2]; 0] = [];
+    let none = rows.multi_slice_mut(alloc, &no_slice)?;
+    Ok(shared && past && none.is_empty())
+}
+
+/// The coordinate of an axis, which is kept.
+fn only(coordinate: isize) -> SliceInfoElem {
+    SliceInfoElem::Slice {
+        start: coordinate,
+        end: Some(coordinate.wrapping_add(1)),
+        step: 1,
+    }
+}
+
+/// The slices of a shape of 2,1,5,1,10,100 at each pair of coordinates of its two first axes of several coordinates, the last pair first.
+fn blocks(alloc: Global) -> Result<Vec<[SliceInfoElem; 6]>, LayoutError> {
+    let mut slices = Vec::new(alloc);
+    for block in 0..10isize {
+        let (first, third) = (only(1 - block / 5), only(4 - block % 5));
+        slices.push([first, by(1), third, by(1), by(1), by(1)])?;
+    }
+    Ok(slices)
+}
+
+/// Whether each block of 10,000 numbers over six axes has been filled with its number.
+fn blocks_are_filled(alloc: Global) -> Result<bool, LayoutError> {
+    let mut numbers = [90u8; 10_000];
+    let shape: StrideShape<Ix6> = StrideShape {
+        dim: new_ix6(2, 1, 5, 1, 10, 100),
+        strides: Strides::C,
+    };
+    let array = ArrayViewMut::from_shape(alloc, shape, &mut numbers)?;
+    let mut number = 10u8;
+    for part in array.multi_slice_mut(alloc, &blocks(alloc)?)? {
+        number = number.wrapping_sub(1);
+        for row in part.into_rows() {
+            row.fill(number);
+        }
+    }
+    let mut filled = number == 0;
+    for (place, number) in numbers.iter().enumerate() {
+        filled = filled && place / 1000 == *number as usize;
+    }
+    Ok(filled)
+}
+
 #[test]
 fn parts_of_numbers_are_lent(rt: HostRuntime) {
     let alloc = rt.alloc();
@@ -165,6 +287,24 @@ fn parts_of_numbers_are_lent(rt: HostRuntime) {
         tiles_are_refused(alloc).is_ok_and(|holds| holds),
         "tiles that are refused"
     );
+}
+
+#[test]
+fn slices_of_numbers_are_lent(rt: HostRuntime) {
+    let alloc = rt.alloc();
+    assert!(rt;
+        columns_are_written(alloc).is_ok_and(|holds| holds == Some(true)),
+        "columns"
+    );
+    assert!(rt;
+        tile_is_written(alloc).is_ok_and(|holds| holds == Some(true)),
+        "a tile"
+    );
+    assert!(rt;
+        slices_are_refused(alloc).is_ok_and(|holds| holds),
+        "slices that are refused"
+    );
+    assert!(rt; blocks_are_filled(alloc).is_ok_and(|holds| holds), "blocks");
 }
 
 /// A list of one number, in memory of its own.
@@ -208,9 +348,23 @@ fn lists_are_tiled(alloc: Global) -> Option<bool> {
     Some(set && got && lists.get(5)?.as_slice() == [50].as_slice())
 }
 
+/// Whether lists are replaced in the parts of two slices.
+fn lists_are_sliced(alloc: Global) -> Option<bool> {
+    let mut lists = lists(alloc)?;
+    let rows = ArrayViewMut::from_shape(alloc, two_rows(), lists.as_mut_slice()).ok()?;
+    let slices = [[by(1), by(2)], [by(1), SliceInfoElem::Index(1)]];
+    let mut parts = rows.multi_slice_mut(alloc, &slices).ok()?;
+    let (middle, mut outer) = (parts.pop()?, parts.pop()?);
+    let set = outer.set(3, 0, owned(alloc, 50)?);
+    let got = middle.get(1, 0)?.as_slice() == [4].as_slice();
+    drop((outer, middle, parts));
+    Some(set && got && lists.get(5)?.as_slice() == [50].as_slice())
+}
+
 #[test]
 fn parts_of_lists_are_lent(rt: HostRuntime) {
     let alloc = rt.alloc();
     assert!(rt; lists_are_split(alloc) == Some(true), "lists in rows");
     assert!(rt; lists_are_tiled(alloc) == Some(true), "lists in tiles");
+    assert!(rt; lists_are_sliced(alloc) == Some(true), "lists in slices");
 }

@@ -4,7 +4,10 @@ use crate::answer::{Answer, failed};
 use crate::line::Call;
 use CanIndexCheckMode::OwnedMutable;
 use nd_owned::{ArrayViewMut, PartMut, SplitViews};
-use ndarray_layout::{Axis, CanIndexCheckMode, IxDyn, StrideShape, Strided, Strides};
+use ndarray_layout::{
+    Axis, CanIndexCheckMode, IxDyn, LayoutError, SliceElems, SliceInfoElem, StrideShape, Strided,
+    Strides,
+};
 use std::alloc::Global;
 use std::fmt::Write;
 use test_tables::made;
@@ -111,14 +114,96 @@ fn split_rows(
     }
 }
 
+/// All coordinates of an axis.
+const ALL: SliceInfoElem = SliceInfoElem::Slice {
+    start: 0,
+    end: None,
+    step: 1,
+};
+
+/// The first and the second row of two axes.
+const ROWS: [[SliceInfoElem; 2]; 2] = [
+    [SliceInfoElem::Index(0), ALL],
+    [SliceInfoElem::Index(1), ALL],
+];
+
+/// The first and the second half of six axes, which stay.
+const HALVES: [[SliceInfoElem; 6]; 2] = [
+    [
+        SliceInfoElem::Slice {
+            start: 0,
+            end: Some(1),
+            step: 1,
+        },
+        ALL,
+        ALL,
+        ALL,
+        ALL,
+        ALL,
+    ],
+    [
+        SliceInfoElem::Slice {
+            start: 1,
+            end: None,
+            step: 1,
+        },
+        ALL,
+        ALL,
+        ALL,
+        ALL,
+        ALL,
+    ],
+];
+
+/// The rows of parts, or the error.
+fn parts_of(parts: Result<Vec<PartMut<'_, usize>>, LayoutError>) -> Option<Answer> {
+    match parts {
+        Ok(parts) => {
+            let mut answer = Answer::of("")?;
+            for part in &parts {
+                answer = and_rows(answer, part)?;
+                answer.write_str(";").ok()?;
+            }
+            Some(answer)
+        },
+        Err(fault) => failed(&fault),
+    }
+}
+
+/// The rows of the parts that slices pick of a view.
+fn slice_view<S: SliceElems>(
+    alloc: Global,
+    shape: StrideShape<IxDyn>,
+    slices: &[S],
+) -> Option<Answer> {
+    let mut numbers = NUMBERS;
+    let Ok(view) = Strided::from_shape(alloc, shape, 1, 12, OwnedMutable) else {
+        return None;
+    };
+    parts_of(PartMut::of_slices(alloc, &view, &mut numbers, slices))
+}
+
+/// The rows of the parts that slices pick of an array.
+fn slice_array<S: SliceElems>(
+    alloc: Global,
+    shape: StrideShape<IxDyn>,
+    slices: &[S],
+) -> Option<Answer> {
+    let mut numbers = NUMBERS;
+    let array = ArrayViewMut::from_shape(alloc, shape, &mut numbers).ok()?;
+    parts_of(array.multi_slice_mut(alloc, slices))
+}
+
 /// What a call answers.
 pub fn answer(alloc: Global, call: &Call<'_>) -> Option<Answer> {
     let shape = laid(alloc, call)?;
     let (axis, index) = (Axis(call.lists.third.at(0)), call.lists.third.at(1));
     match call.name {
         "ArrayViewMut::split_at_mut" => split_array(alloc, shape, axis, index),
+        "ArrayViewMut::multi_slice_mut" => slice_array(alloc, shape, &HALVES),
         "SplitViews::new" => split_view(alloc, shape, axis, index),
         "PartMut::new" => rows(alloc, shape),
+        "PartMut::of_slices" => slice_view(alloc, shape, &ROWS),
         "PartMut::split_at" => split_rows(alloc, shape, axis, index),
         _ => None,
     }

@@ -1,18 +1,21 @@
-//! The two parts of an array along an axis, lent at once to be written.
-ghost use Rattle.std.specs.Prelude.{◌≡◌, ◌⊎◌, ◌+◌, ◌-◌, ◌≤◌, false, None, IfOk, IsOk, if◌then◌else◌, length};
+//! The two parts of an array along an axis, and those that slices pick, lent at once to be written.
+ghost use Rattle.std.specs.Prelude.{◌≡◌, ◌⊎◌, ◌+◌, ◌-◌, ◌≤◌, [], map, false, None, IfOk, IsOk, if◌then◌else◌, length};
 ghost use Rattle.ndarray_layout.specs.Memory.{NeedsNoMemory};
 ghost use Rattle.ndarray_layout.specs.ShapeFault.{shape_fault};
 ghost use Rattle.ndarray_layout.specs.Size.{is_empty};
 ghost use Rattle.ndarray_layout.specs.Span.{low_span};
 ghost use Rattle.ndarray_layout.specs.SplitView.{first_part_of, second_part_of, second_source, split_fault};
 ghost use Rattle.ndarray_layout.specs.View.{IsView, LiesWithin};
+ghost use Rattle.nd_owned.specs.MultiSlice.{IsFaultOfSlices, picked_rows};
 ghost use Rattle.nd_owned.specs.Owned.{IsOwned};
+ghost use Rattle.nd_owned.specs.PartMut.{rows_of};
 ghost use Rattle.nd_owned.specs.SplitItems.{IsMemory, IsMoved, ShowsPartOf, highest, lowest, split_items_fault};
 
 use crate::array_view_mut::ArrayViewMut;
+use crate::parts_mut::PartMut;
 use ndarray_layout::{
-    Axis, CanIndexCheckMode, ErrorKind, LayoutError, Lengths, ShapeError, Strided, from_kind,
-    max_abs_offset_check_overflow, offset_from_low_addr_ptr_to_logical_ptr,
+    Axis, CanIndexCheckMode, ErrorKind, LayoutError, Lengths, ShapeError, SliceElems, Strided,
+    from_kind, max_abs_offset_check_overflow, offset_from_low_addr_ptr_to_logical_ptr,
 };
 use std::alloc::Global;
 
@@ -198,5 +201,27 @@ impl<'a, T: Drop, D: Lengths> ArrayViewMut<'a, T, D> {
             ArrayViewMut::new(first, upper),
             ArrayViewMut::new(second, lower),
         ))
+    }
+
+    /// The parts that slices pick, all lent at once: those of `PartMut::of_slices`, with its errors. A thread of its own may
+    /// write each.
+    ///
+    /// `0,..` and `1,..;2` of `[2,3]` over 0 1 2 3 4 5: the row 0 1 2, and the rows 3 and 5. ndarray's `multi_slice_mut`, which
+    /// panics where two slices share an index.
+    pub fn multi_slice_mut<S: SliceElems>(
+        self,
+        alloc: Global,
+        slices: &[S],
+    ) -> Result<Vec<PartMut<'a, T>>, LayoutError>
+        ensures fault { IsFaultOfSlices (array_of self.entry).view.shape
+            (map S.list slices.now) (shape_fault result) }
+        ensures memory { slices.now ≡ [] → IsOk result }
+        ensures rows { IfOk result (λ parts. map rows_of parts.items ≡
+            map (picked_rows (array_of self.entry).items (array_of self.entry).view)
+            (map S.list slices.now)) }
+    {
+        let ArrayViewMut { items, fitted } = self;
+        let (view, _count) = fitted.into_parts();
+        PartMut::of_slices(alloc, &view, items, slices)
     }
 }

@@ -1,5 +1,5 @@
 //! The two parts of rows that are lent, along an axis.
-ghost use Rattle.std.specs.Prelude.{◌≡◌, ◌≤◌, nat_le, IfOk, None, Some, if◌then◌else◌, length, map, take, drop};
+ghost use Rattle.std.specs.Prelude.{◌≡◌, ◌≤◌, nat_le, IfOk, IsOk, None, Some, if◌then◌else◌, length, map, take, drop};
 ghost use Rattle.std.specs.List.{All, list_all};
 ghost use Rattle.ndarray_layout.specs.declared.ErrorKind.TheVariants.{OutOfBounds};
 ghost use Rattle.ndarray_layout.specs.ShapeFault.{shape_fault};
@@ -15,6 +15,7 @@ fn split_list<'a, T: Drop>(
     index: usize,
 ) -> Result<(PartMut<'a, T>, PartMut<'a, T>), AllocError>
     requires { index ≤ length rows.items }
+    ensures memory { index ≡ length rows.entry.items → IsOk result }
     ensures first { IfOk result (λ (first, second).
         rows_of first ≡ take index (map (λ row. row.now) rows.entry.items)) }
     ensures second { IfOk result (λ (first, second).
@@ -32,6 +33,7 @@ fn split_rows<'a, T: Drop>(
     index: usize,
 ) -> Result<(PartMut<'a, T>, PartMut<'a, T>), AllocError>
     requires { All (λ row. index ≤ length row.now) rows.items }
+    ensures memory { length rows.entry.items ≡ 0 → IsOk result }
     ensures first { IfOk result (λ (first, second).
         rows_of first ≡ map (take index) (map (λ row. row.now) rows.entry.items)) }
     ensures second { IfOk result (λ (first, second).
@@ -76,7 +78,7 @@ impl<'a, T: Drop> PartMut<'a, T> {
     /// # Errors
     ///
     /// `OutOfBounds` where there is no such axis, or the index is greater than the count of rows, or than the length of a
-    /// row; then out of memory. The items keep what they are.
+    /// row; then out of memory, never where there is no row. The items keep what they are.
     ///
     /// Takes memory and time for each row: for those from `index` on along axis 0, twice for all along axis 1.
     ///
@@ -90,6 +92,8 @@ impl<'a, T: Drop> PartMut<'a, T> {
         ensures fault { shape_fault result ≡
             (if can_split_rows (rows_of self.entry) axis.0 index
             then None else Some OutOfBounds) }
+        ensures memory { shape_fault result ≡ None → length (rows_of self.entry) ≡ 0 →
+            IsOk result }
         ensures first { IfOk result (λ (first, second).
             rows_of first ≡ rows_before (rows_of self.entry) axis.0 index) }
         ensures second { IfOk result (λ (first, second).

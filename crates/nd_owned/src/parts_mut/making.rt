@@ -1,9 +1,10 @@
 //! The rows of a view over items that are lent.
-ghost use Rattle.std.specs.Prelude.{◌≡◌, ◌&&◌, IfOk, IsTrue, None, Some, if◌then◌else◌, length, map, nat_le, true};
+ghost use Rattle.std.specs.Prelude.{◌≡◌, ◌&&◌, IfOk, IsOk, IsTrue, None, Some, if◌then◌else◌, length, map, nat_le, true};
 ghost use Rattle.ndarray_layout.specs.declared.ErrorKind.TheVariants.{IncompatibleLayout};
 ghost use Rattle.ndarray_layout.specs.declared.Order.TheVariants.{RowMajor};
 ghost use Rattle.ndarray_layout.specs.Rows.{view_rows};
 ghost use Rattle.ndarray_layout.specs.ShapeFault.{shape_fault};
+ghost use Rattle.ndarray_layout.specs.Size.{size};
 ghost use Rattle.ndarray_layout.specs.View.{LiesWithin};
 ghost use Rattle.nd_owned.specs.PartMut.{has_stretches, is_stretch, items_of_row, rows_of};
 
@@ -13,7 +14,7 @@ use std::alloc::{AllocError, Global};
 
 /// Whether the places of a row lie side by side, none below an end.
 #[inline]
-fn is_stretch_from(row: Row, end: usize) -> bool
+pub(crate) fn is_stretch_from(row: Row, end: usize) -> bool
     ensures { result ≡ (nat_le end row.start && is_stretch row) }
 {
     end <= row.start && (row.stride == 1 || row.len == 1)
@@ -42,7 +43,8 @@ fn cut_rows<'a, T: Drop, D: Lengths>(
 ) -> Result<Vec<&'a mut [T]>, AllocError>
     requires within { LiesWithin (length items.old) view.now }
     requires ascend { has_stretches view.now ≡ true }
-    ensures { IfOk result (λ rows. map (λ row. row.now) rows.items ≡
+    ensures memory { size view.now.shape ≡ 0 → IsOk result }
+    ensures rows { IfOk result (λ rows. map (λ row. row.now) rows.items ≡
         map (items_of_row items.old) (view_rows RowMajor view.now)) }
 {
     let mut rows = Vec::new(alloc);
@@ -65,7 +67,7 @@ impl<'a, T: Drop> PartMut<'a, T> {
     /// # Errors
     ///
     /// `IncompatibleLayout` where the items of a row don't lie side by side, or a row begins before the one before it has
-    /// ended; then out of memory.
+    /// ended; then out of memory, never where the view has no index.
     ///
     /// Takes memory and time in proportion to the count of rows.
     ///
@@ -78,6 +80,7 @@ impl<'a, T: Drop> PartMut<'a, T> {
         requires { LiesWithin (length items.old) view.now }
         ensures fault { shape_fault result ≡
             (if has_stretches view.now then None else Some IncompatibleLayout) }
+        ensures memory { size view.now.shape ≡ 0 → IsOk result }
         ensures rows { IfOk result (λ part. rows_of part ≡
             map (items_of_row items.old) (view_rows RowMajor view.now)) }
     {

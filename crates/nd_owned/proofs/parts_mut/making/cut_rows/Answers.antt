@@ -1,14 +1,15 @@
 -- One more row is cut from the items that are left.
-use Rattle.std.proofs.Common.{◌≡◌, ◌+◌, ◌-◌, ◌<◌, ◌≤◌, length, take, drop, refl, sym, ap, subst, ◌∙◌, arith}
+use Rattle.std.proofs.Common.{◌≡◌, ◌+◌, ◌-◌, ◌<◌, ◌≤◌, length, map, take, drop, refl, sym, ap, subst, ◌∙◌, arith}
 use Rattle.std.specs.List.{All}
-use Rattle.std.proofs.lemmas.List.{drop-drop, length-drop}
+use Rattle.std.proofs.lemmas.List.{drop-drop, length-append, length-drop, length-map}
 use Rattle.std.proofs.lemmas.List.Elements.{All-head, All-tail}
 use Rattle.ndarray_layout.specs.declared.Order.TheVariants.{RowMajor}
+use Rattle.ndarray_layout.specs.Rows.{view_rows}
 use Rattle.ndarray_layout.proofs.laws.Rows.{some_in_each_row}
 use Rattle.nd_owned.specs.PartMut.{ascend, items_of_row}
 use Rattle.nd_owned.specs.private.Written.{AreInBounds}
 use Rattle.nd_owned.proofs.Lent.{row_pushed, rows_ascend, rows_begin, stretch_within}
-use Rattle.nd_owned.proofs.ViewRows.{places_of, rows_in_bounds}
+use Rattle.nd_owned.proofs.ViewRows.{no_rows, places_of, rows_in_bounds}
 use Rattle.nd_owned.proofs.parts_mut.making.cut_rows.Goals as goal
 
 pub loop-row-init : goal.loop-row-init
@@ -72,3 +73,18 @@ loop-row-preserved g c =
       rows = row_pushed (λ row. row.now) (items_of_row items) c.loop-row.rows.items c.in_ok-push.ensures.items first
           (c.split_at_mut-these.ensures.front ∙ ap (take row.len) others) c.loop-row.invariant.rows;
     }
+
+pub returns-in_err-push-clause-memory : goal.returns-in_err-push-clause-memory
+returns-in_err-push-clause-memory g c = λ none.
+    let view = c.args.view.now in
+    let row_items = items_of_row c.args.items.now in
+    let cut = map (λ row. row.now) c.loop-row.rows.items in
+    absurd (omega (
+      arith,
+      ap length c.loop-row.invariant.rows,
+      length-append cut (map row_items c.loop-row.row-iterator),
+      length-map c.loop-row.row-iterator row_items,
+      length-map (view_rows RowMajor view) row_items,
+      ap length c.in-Some.ensures.steps,
+      ap length (no_rows view none),
+    ))

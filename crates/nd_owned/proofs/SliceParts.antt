@@ -1,0 +1,126 @@
+-- The rows of neighbours of slices of a view of which no two share an index: they lie among the items, and are apart.
+use Rattle.std.proofs.Common.{◌≡◌, ◌≢◌, ℕ, ◌+◌, ◌<◌, ◌≤◌, ◌^◌, ℤ, true, None, List, [], ◌∷◌, ◌++◌, map, refl, sym, ap, subst, ◌∙◌, arith}
+use Rattle.std.specs.List.{All, AllPairs, flat_map}
+use Rattle.std.proofs.lemmas.Grind.{flat_map-append}
+use Rattle.std.proofs.lemmas.Simd.{map-map}
+use Rattle.std.proofs.lemmas.List.Elements.{All-append, All-cons, All-head, All-nil, All-tail}
+use Rattle.ndarray_layout.specs.declared.Fit.TheVariants.{Strict}
+use Rattle.ndarray_layout.specs.declared.Order.TheVariants.{RowMajor}
+use Rattle.ndarray_layout.specs.declared.Row.{Row}
+use Rattle.ndarray_layout.specs.declared.SliceInfoElem.{SliceInfoElem}
+use Rattle.ndarray_layout.specs.Bounds.{IsInBounds}
+use Rattle.ndarray_layout.specs.Intersections.{AreApart, slices_fault}
+use Rattle.ndarray_layout.specs.Rows.{rows_places}
+use Rattle.ndarray_layout.specs.SliceFault.{argument_fault}
+use Rattle.ndarray_layout.specs.SlicedView.{slice_of}
+use Rattle.ndarray_layout.specs.View.{View, view_places}
+use Rattle.ndarray_layout.proofs.laws.Rows.{All-rows_places, places_fit}
+use Rattle.ndarray_layout.proofs.laws.SlicedView.{Descends-slice_of}
+use Rattle.ndarray_layout.proofs.laws.View.{places_lie_within}
+use Rattle.nd_owned.specs.MultiSet.{Write, slices_of, write_places}
+use Rattle.nd_owned.specs.MultiSlice.{picked_rows, stretches_of}
+use Rattle.nd_owned.specs.Owned.{IsOwned}
+use Rattle.nd_owned.specs.PartMut.{is_stretch, items_of_row}
+use Rattle.nd_owned.specs.private.Pieces.{AreRowsApart}
+use Rattle.nd_owned.proofs.Faults.{both_none}
+use Rattle.nd_owned.proofs.Slices.{all_distinct}
+use Rattle.nd_owned.proofs.Stretches.{AreStretches, rows_apart, rows_within, view_stretches}
+use Rattle.nd_owned.proofs.ViewRows.{places_of}
+
+-- ---- lists of lists
+flat_map-map : {A B X : Type 0} (f : B → List X) (h : A → B) (xs : List A) → flat_map f (map h xs) ≡ flat_map (λ x. f (h x)) xs
+flat_map-map f h [] = refl
+flat_map-map f h (x ∷ xs) = ap (λ ys. f (h x) ++ ys) (flat_map-map f h xs)
+
+-- two that are made of equal lists are equal
+pub flat_same : {A B X : Type 0} (f : A → List X) (g : B → List X) (xs : List A) (ys : List B) → map f xs ≡ map g ys → flat_map f xs ≡ flat_map g ys
+flat_same f g xs ys same =
+    sym (flat_map-map (λ zs. zs) f xs) ∙ ap (flat_map (λ zs. zs)) same ∙ flat_map-map (λ zs. zs) g ys
+
+-- ---- the parts
+-- what is taken of the items by rows that are those of slices are the rows of the slices
+pub rows_taken : {A T : Type 0} (f : A → List Row) (items : List T) (view : View) (parts : List A) (slices : List (List SliceInfoElem))
+    → map f parts ≡ map (λ slice. stretches_of (slice_of Strict slice view)) slices
+    → map (λ part. map (items_of_row items) (f part)) parts ≡ map (picked_rows items view) slices
+rows_taken f items view parts slices same =
+    sym (map-map (map (items_of_row items)) f parts)
+    ∙ ap (map (map (items_of_row items))) same
+    ∙ map-map (map (items_of_row items)) (λ slice. stretches_of (slice_of Strict slice view)) slices
+
+-- ---- slices without items are writes of none
+abbrev bare : List SliceInfoElem → Write (Unit {0})
+bare slice = record { slice = slice; items = [] }
+
+slices_of_bare : (slices : List (List SliceInfoElem)) → slices_of (map bare slices) ≡ slices
+slices_of_bare [] = refl
+slices_of_bare (slice ∷ slices) = ap (λ others. slice ∷ others) (slices_of_bare slices)
+
+-- each slice fits
+pub slices_fit : (shape : List ℕ) (slices : List (List SliceInfoElem)) → slices_fault Strict shape slices ≡ None
+    → All (λ slice. argument_fault Strict shape slice ≡ None) slices
+slices_fit shape [] none = All-nil (λ slice. argument_fault Strict shape slice ≡ None)
+slices_fit shape (slice ∷ slices) none =
+    let parts = both_none (argument_fault Strict shape slice) (slices_fault Strict shape slices) none in
+    All-cons (λ one. argument_fault Strict shape one ≡ None) slice slices parts.0 (slices_fit shape slices parts.1)
+
+-- ---- the rows of all slices
+module _ {count : ℕ} {view : View} (owned : IsOwned count view) where
+  abbrev Fits : List SliceInfoElem → Type 0
+  Fits slice = argument_fault Strict view.shape slice ≡ None
+
+  abbrev rows_of_slice : List SliceInfoElem → List Row
+  rows_of_slice slice = stretches_of (slice_of Strict slice view)
+
+  abbrev places_of_slice : List SliceInfoElem → List ℤ
+  places_of_slice slice = view_places RowMajor (slice_of Strict slice view)
+
+  record AreRows (slices : List (List SliceInfoElem)) : Type 0 where
+    pub stretches : AreStretches (flat_map rows_of_slice slices)
+    pub places : rows_places (flat_map rows_of_slice slices) ≡ flat_map places_of_slice slices
+    pub within : All (IsInBounds count) (flat_map places_of_slice slices)
+    pub fit : All (IsInBounds (2 ^ 63)) (flat_map places_of_slice slices)
+
+  rows_are : (slices : List (List SliceInfoElem)) → All Fits slices → AreRows slices
+  rows_are [] fit = record {
+    stretches = record { stretch = λ k d below. absurd (omega arith); some = λ k d below. absurd (omega arith) };
+    places = refl;
+    within = All-nil (IsInBounds count);
+    fit = All-nil (IsInBounds (2 ^ 63));
+  }
+  rows_are (slice ∷ slices) fit =
+      let part = slice_of Strict slice view in
+      let of_view = Descends-slice_of Strict slice view owned.is_view (All-head Fits slice slices fit) in
+      let has = view_stretches of_view.is_view in
+      let others = rows_are slices (All-tail Fits slice slices fit) in
+      record {
+        stretches = record {
+          stretch = All-append (λ row. is_stretch row ≡ true) (rows_of_slice slice) (flat_map rows_of_slice slices) has.are.stretch others.stretches.stretch;
+          some = All-append (λ row. 0 < row.len) (rows_of_slice slice) (flat_map rows_of_slice slices) has.are.some others.stretches.some;
+        };
+        places = flat_map-append places_of (rows_of_slice slice) (flat_map rows_of_slice slices)
+            ∙ ap (λ places. places ++ rows_places (flat_map rows_of_slice slices)) has.places
+            ∙ ap (λ places. places_of_slice slice ++ places) others.places;
+        within = All-append (IsInBounds count) (places_of_slice slice) (flat_map places_of_slice slices)
+            (places_lie_within count RowMajor part (of_view.in_bounds count owned.within)) others.within;
+        fit = All-append (IsInBounds (2 ^ 63)) (places_of_slice slice) (flat_map places_of_slice slices) (places_fit RowMajor of_view.is_view) others.fit;
+      }
+
+  pub slice_rows_within : (slices : List (List SliceInfoElem)) → slices_fault Strict view.shape slices ≡ None
+      → All (λ row. row.start + row.len ≤ count) (flat_map (λ slice. stretches_of (slice_of Strict slice view)) slices)
+  slice_rows_within slices none =
+      let rows = flat_map rows_of_slice slices in
+      let are = rows_are slices (slices_fit view.shape slices none) in
+      let within = All-rows_places (IsInBounds count) rows (subst (All (IsInBounds count)) (sym are.places) are.within) in
+      let fit = All-rows_places (IsInBounds (2 ^ 63)) rows (subst (All (IsInBounds (2 ^ 63))) (sym are.places) are.fit) in
+      rows_within rows are.stretches (λ k d below. record { within = within k d below; fit = fit k d below })
+
+  pub slice_rows_apart : (slices : List (List SliceInfoElem)) → slices_fault Strict view.shape slices ≡ None
+      → AllPairs (AreApart Strict view.shape) slices
+      → AllPairs AreRowsApart (flat_map (λ slice. stretches_of (slice_of Strict slice view)) slices)
+  slice_rows_apart slices none apart =
+      let are = rows_are slices (slices_fit view.shape slices none) in
+      let all = all_distinct view (map bare slices) owned.is_view owned.distinct
+      (subst (λ those. slices_fault Strict view.shape those ≡ None) (sym (slices_of_bare slices)) none)
+      (subst (AllPairs (AreApart Strict view.shape)) (sym (slices_of_bare slices)) apart) in
+      rows_apart (flat_map rows_of_slice slices) are.stretches
+      (subst (AllPairs (λ one other. one ≢ other)) (flat_map-map (write_places view) bare slices ∙ sym are.places) all)

@@ -1,0 +1,27 @@
+-- The rows of one more slice are listed; only an allocation can fail.
+use Rattle.std.proofs.Common.{◌≡◌, None, map, ap, ◌∙◌}
+use Rattle.ndarray_layout.specs.declared.Fit.TheVariants.{Strict}
+use Rattle.ndarray_layout.specs.SliceFault.{argument_fault}
+use Rattle.ndarray_layout.specs.SlicedView.{slice_of}
+use Rattle.ndarray_layout.specs.View.{View}
+use Rattle.nd_owned.specs.MultiSlice.{stretches_of}
+use Rattle.nd_owned.proofs.Faults.{handed_on, next, of_this}
+use Rattle.nd_owned.proofs.Lent.{row_pushed}
+use Rattle.nd_owned.proofs.SliceParts.{slices_fit}
+use Rattle.nd_owned.proofs.parts_mut.slices.rows_of_slices.Goals as goal
+
+pub returns-in_err-part-clause-fault : goal.returns-in_err-part-clause-fault
+returns-in_err-part-clause-fault g c =
+    let view = c.args.view.now in
+    let slices = c.args.slices.now in
+    let fits = of_this (λ slice. argument_fault Strict view.shape slice ≡ None) g.S.SliceElems.list slices c.loop-slice.slice-index
+    c.loop-slice-test.true c.slice-item.is (slices_fit view.shape (map g.S.SliceElems.list slices) c.requires) in
+    handed_on View c.from_residual.result c.in_err-part.field-0.0 c.from_residual.ensures.1 (c.in_err-part.ensures.fault ∙ fits)
+
+pub loop-slice-preserved : goal.loop-slice-preserved
+loop-slice-preserved g c =
+    let view = c.args.view.now in
+    let slices = c.args.slices.now in
+    row_pushed (λ rows. rows.items) (λ slice. stretches_of (slice_of Strict slice view)) c.loop-slice.parts.items c.in_ok-push.ensures.items
+    (next g.S.SliceElems.list slices c.loop-slice.slice-index c.loop-slice-test.true c.slice-item.is)
+    (c.in_ok-stretches.ensures ∙ ap stretches_of c.in_ok-part.ensures.sliced) c.loop-slice.invariant
