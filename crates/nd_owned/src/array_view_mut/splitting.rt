@@ -206,8 +206,8 @@ impl<'a, T: Drop, D: Lengths> ArrayViewMut<'a, T, D> {
     /// The parts that slices pick, all lent at once: those of `PartMut::of_slices`, with its errors. A thread of its own may
     /// write each.
     ///
-    /// `0,..` and `1,..;2` of `[2,3]` over 0 1 2 3 4 5: the row 0 1 2, and the rows 3 and 5. ndarray's `multi_slice_mut`, which
-    /// panics where two slices share an index.
+    /// `0,..` and `1,..;2` of `[2,3]` over 0 1 2 3 4 5: 0 1 2 in one row; 3 and 5, each in a row of its own. ndarray's
+    /// `multi_slice_mut`, which panics where two slices share an index.
     pub fn multi_slice_mut<S: SliceElems>(
         self,
         alloc: Global,

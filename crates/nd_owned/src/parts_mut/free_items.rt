@@ -48,15 +48,25 @@ fn has_row_at<T>(pieces: &[Piece<'_, T>], row: Row, at: usize) -> bool
     }
 }
 
-/// The first piece that has a row, from one on.
-fn find_from<T>(pieces: &[Piece<'_, T>], row: Row, first: usize) -> Option<usize>
+/// The piece that has a row, of those that lie so many positions from the piece `last`, from the first one, or from the end.
+#[inline]
+fn find_near<T>(pieces: &[Piece<'_, T>], row: Row, last: usize, distance: usize) -> Option<usize>
+    requires { distance < length pieces.now }
     ensures found { IfSome result (CoversAt pieces.now row) }
-    ensures none { IfNone result ((at : ℕ) → first ≤ at → CoversAt pieces.now row at → ⊥) }
+    ensures none { IfNone result (CoversAt pieces.now row distance → ⊥) }
 {
-    for at in first..pieces.len() {
+    let end = pieces.len() - 1;
+    for at in [
+        last.saturating_add(distance),
+        last.saturating_sub(distance),
+        end - distance,
+    ] {
         if has_row_at(pieces, row, at) {
             return Some(at);
         }
+    }
+    if has_row_at(pieces, row, distance) {
+        return Some(distance);
     }
     None
 }
@@ -73,18 +83,19 @@ impl<'a, T: Drop> FreeItems<'a, T> {
         Ok(FreeItems { pieces, last: 0 })
     }
 
-    /// The piece that has a row: looked for from the one on that had the last row, and then from the first one on.
+    /// The piece that has a row: looked for ever farther from the piece that had the last row, from the first one and from the
+    /// end, since rows that a loop gives follow one another there.
     fn find(&self, row: Row) -> usize
         requires { HasRoom self.now.pieces.items row }
         ensures { CoversAt self.now.pieces.items row result }
     {
-        if let Some(at) = find_from(&self.pieces, row, self.last) {
-            return at;
+        let pieces = self.pieces.as_slice();
+        for distance in 0..pieces.len() {
+            if let Some(at) = find_near(pieces, row, self.last, distance) {
+                return at;
+            }
         }
-        match find_from(&self.pieces, row, 0) {
-            Some(at) => at,
-            None => unreachable!(),
-        }
+        unreachable!()
     }
 
     /// The items of a row of neighbours, taken out of the piece that has them. Errors: out of memory.

@@ -100,9 +100,9 @@ impl<'a, T: Drop> PartMut<'a, T> {
     /// That of `check_slice` on the shape for the first slice that doesn't fit; then `Unsupported` where two slices share an
     /// index; then out of memory, never where there is no slice. The items keep what they are.
     ///
-    /// Takes memory for each row, and time for each row and for the comparisons of `first_intersection`. A row is looked for
-    /// among the pieces that are left, from the one on that had the row before it: where the slices are rows, columns or tiles
-    /// in any order that a loop gives it is near, in no order the time grows by the square.
+    /// Takes memory for each row, and time for each row and for the comparisons of `first_intersection`. Where the slices are
+    /// rows, columns or tiles, from the first to the last or from the last to the first, a row is found near the one before it;
+    /// in no order it is looked for in all the pieces that are left.
     ///
     /// `..,..;2` and `..,1` of `[2,3]` over 0 1 2 3 4 5: the rows 0, 2, 3, 5, and the rows 1, 4. The project's own.
     pub fn of_slices<D: Lengths, S: SliceElems>(
