@@ -38,11 +38,11 @@ class Room:
             load = " ".join(file.read().split()[:3])
         print(f"bench: {time.monotonic() - self.began:.0f} s, load {load}: {text}", file=sys.stderr, flush=True)
 
-    def must(self, words, where, log, **how):
+    def must(self, words, where, log, stdin=subprocess.DEVNULL, **how):
         """Runs a command that has to end well, its output in a log."""
         path = f"{self.folder}/{log}"
         with open(path, "a", encoding="utf-8") as file:
-            done = subprocess.run(words, cwd=where, stdin=subprocess.DEVNULL, stdout=file, stderr=subprocess.STDOUT, **how)
+            done = subprocess.run(words, cwd=where, stdin=stdin, stdout=file, stderr=subprocess.STDOUT, **how)
         if done.returncode:
             with open(path, encoding="utf-8", errors="replace") as file:
                 end = "".join(file.readlines()[-20:])
