@@ -162,6 +162,22 @@ impl<T: Drop, D: Lengths> OwnedArray<T, D> {
         self.items.as_mut_slice()
     }
 
+    /// The view, and all items as they are stored, to be written by its places. Their count and the view are unchanged.
+    ///
+    /// No clause says what the array is once the items were written; `stored_mut` has one.
+    ///
+    /// `[2]` with the stride `[-1]` over 7 8 9: the view starts at 1, and 5 at this place of the list makes it 7 5 9. The project's
+    /// own.
+    #[inline]
+    pub fn parts_mut(&mut self) -> (&Strided<D>, &mut [T])
+        ensures view { result.0.now ≡ self.old.view }
+        ensures items { result.1.now ≡ self.old.items }
+        ensures owned { IsOwned (length result.1.now) result.0.now }
+    {
+        let items = self.items.as_mut_slice();
+        (&self.view, items)
+    }
+
     /// The list of all items as they are stored, spare ones too, and no copy of it. It ends the array.
     ///
     /// `[2]` with the stride `[-1]` over 7 8 9: 7 8 9. ndarray's `into_raw_vec_and_offset`, whose offset the view's start is.

@@ -176,6 +176,16 @@ fn owned_numbers_are_written(alloc: Global) -> Option<bool> {
     Some(written && filled)
 }
 
+/// Whether a number is written by its place, beside the view that has it.
+fn owned_number_is_placed(alloc: Global) -> Option<bool> {
+    let mut rows = owned_rows(alloc)?;
+    let (view, numbers) = rows.parts_mut();
+    let place = view.place(&new_ix2(1, 1))?;
+    let number = numbers.get_mut(place)?;
+    *number = 40;
+    Some(rows.stored() == [0, 1, 2, 3, 40, 5, 6].as_slice())
+}
+
 /// Whether the items that a slice picks are mapped, and no others.
 fn owned_numbers_are_mapped(alloc: Global) -> Option<bool> {
     let mut rows = owned_rows(alloc)?;
@@ -247,6 +257,17 @@ fn lists_are_owned(alloc: Global) -> Option<bool> {
     Some(set && swapped && seen && stored)
 }
 
+/// Whether a list is replaced by its place, beside the view that has it.
+fn list_is_placed(alloc: Global) -> Option<bool> {
+    let mut rows = OwnedArray::from_shape_vec(alloc, two_rows(), lists(alloc)?).ok()?;
+    let another = owned(alloc, 40)?;
+    let (view, lists) = rows.parts_mut();
+    let place = view.place(&new_ix2(1, 1))?;
+    let list = lists.get_mut(place)?;
+    *list = another;
+    Some(rows.into_stored().get(4)?.as_slice() == [40].as_slice())
+}
+
 /// Whether a list is handed back where it has too few items.
 fn lists_come_back(alloc: Global) -> Option<bool> {
     let few = StrideShape {
@@ -264,6 +285,7 @@ fn owned_items_are_changed(rt: HostRuntime) {
         owned_numbers_are_written(alloc) == Some(true),
         "as_view_mut"
     );
+    assert!(rt; owned_number_is_placed(alloc) == Some(true), "parts_mut");
     assert!(rt;
         owned_numbers_are_mapped(alloc) == Some(true),
         "map_in_place"
@@ -275,5 +297,6 @@ fn lists_of_numbers_are_changed(rt: HostRuntime) {
     let alloc = rt.alloc();
     assert!(rt; lists_are_changed(alloc) == Some(true), "lent lists");
     assert!(rt; lists_are_owned(alloc) == Some(true), "owned lists");
+    assert!(rt; list_is_placed(alloc) == Some(true), "a list by its place");
     assert!(rt; lists_come_back(alloc) == Some(true), "too few lists");
 }
