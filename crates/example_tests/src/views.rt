@@ -130,9 +130,7 @@ fn are_common(
     one: &Strided<IxDyn>,
     given: &mut Words<'_>,
     answer: &mut Words<'_>,
-) -> Option<bool>
-    requires { LiesWithin (length pixels.now) one.now }
-{
+) -> Option<bool> {
     let (shape, strides) = (given.list()?, given.list()?);
     let other = view(alloc, &Layout { shape, strides }, pixels.len())?;
     have_common(alloc, pixels, one, &other, answer)
@@ -145,10 +143,7 @@ fn have_common(
     one: &Strided<IxDyn>,
     other: &Strided<IxDyn>,
     answer: &mut Words<'_>,
-) -> Option<bool>
-    requires one { LiesWithin (length pixels.now) one.now }
-    requires other { LiesWithin (length pixels.now) other.now }
-{
+) -> Option<bool> {
     match on_common_shape(alloc, one, other) {
         Ok(both) => are_both(alloc, pixels, &both.0, &both.1, answer),
         Err(fault) => Some(answer.is(layout_fault_name(&fault))),
@@ -162,10 +157,7 @@ fn are_both<D: Lengths>(
     one: &Strided<D>,
     other: &Strided<D>,
     answer: &mut Words<'_>,
-) -> Option<bool>
-    requires one { LiesWithin (length pixels.now) one.now }
-    requires other { LiesWithin (length pixels.now) other.now }
-{
+) -> Option<bool> {
     let (shape, first, second) = (answer.word()?, answer.word()?, answer.word()?);
     let is_shape = are(one.dim().slice(), shape)?;
     let is_first = are_seen(alloc, pixels, one, first)?;

@@ -93,7 +93,8 @@ impl<'a, T: Drop> PartMut<'a, T> {
     /// The parts that slices of a view pick of items, all lent at once: a thread of its own may write each.
     ///
     /// Where the items along the last axis of a slice lie side by side, the rows of its part are these, in row-major order;
-    /// else each item is a row of its own. The caller ensures that each index of the view has an item to itself.
+    /// else each item is a row of its own. So where a slice leaves two axes, and its rows lie side by side, row and column of
+    /// `get` and `set` are the coordinates. The caller ensures that each index of the view has an item to itself.
     ///
     /// # Errors
     ///
