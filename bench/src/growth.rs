@@ -7,9 +7,12 @@
 mod ours;
 mod tables;
 
+extern crate ndarray_layout;
+
 // (linked for its exports)
 use bench_by_rustc as _;
 
+use ndarray_layout::{ArrayViewMut, Ix2, LayoutError, SliceInfoElem};
 use std::hint::black_box;
 use std::time::Instant;
 use tables::Lists;
@@ -41,6 +44,18 @@ fn out_of_order(axes: usize) -> Lists {
     lists
 }
 
+/// Lends each of so many rows of 8 items at once, from the first one on by a step.
+fn lend_rows(rows: usize, [first, step]: [isize; 2], passes: usize) -> usize {
+    let mut items = vec![0u8; rows * 8];
+    let all = SliceInfoElem::Slice { start: 0, end: None, step: 1 };
+    let slices: Vec<_> = (0..rows as isize).map(|row| [SliceInfoElem::Index(first + row * step), all]).collect();
+    let mut lend = || {
+        let array = ArrayViewMut::from_shape(Ix2(rows, 8).into(), &mut items)?;
+        Ok::<_, LayoutError>(array.multi_slice_mut(&slices)?.len())
+    };
+    (0..passes).map(|_| lend().unwrap_or(usize::MAX)).sum()
+}
+
 /// The call of that name on arguments of a size, made so many times.
 fn call_of(name: &str, size: usize) -> Box<dyn Fn(usize) -> usize> {
     let of_layout = |call: usize, lists: Lists| move |passes| ours::layouts(call, &lists, passes);
@@ -67,6 +82,8 @@ fn call_of(name: &str, size: usize) -> Box<dyn Fn(usize) -> usize> {
         }),
         "multi_set in order" => Box::new(move |passes| ours::rows(size, 8, [0, 1], passes)),
         "multi_set against it" => Box::new(move |passes| ours::rows(size, 8, [size as isize - 1, -1], passes)),
+        "multi_slice_mut in order" => Box::new(move |passes| lend_rows(size, [0, 1], passes)),
+        "multi_slice_mut against it" => Box::new(move |passes| lend_rows(size, [size as isize - 1, -1], passes)),
         _ => panic!("{name} is no call here"),
     }
 }
