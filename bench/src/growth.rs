@@ -12,7 +12,7 @@ extern crate ndarray_layout;
 // (linked for its exports)
 use bench_by_rustc as _;
 
-use ndarray_layout::{ArrayViewMut, Ix2, LayoutError, SliceInfoElem};
+use ndarray_layout::{ArrayViewMut, Ix2, Ix3, LayoutError, SliceInfoElem};
 use std::hint::black_box;
 use std::time::Instant;
 use tables::Lists;
@@ -56,6 +56,19 @@ fn lend_rows(rows: usize, [first, step]: [isize; 2], passes: usize) -> usize {
     (0..passes).map(|_| lend().unwrap_or(usize::MAX)).sum()
 }
 
+/// Lends the three planes of a picture of so many items in all, whose pixels have the three side by side, in rows of 1000.
+fn lend_planes(items: usize, passes: usize) -> usize {
+    let pixels = items / 3;
+    let mut items = vec![0u8; items];
+    let all = SliceInfoElem::Slice { start: 0, end: None, step: 1 };
+    let planes = [0, 1, 2].map(|plane| [all, all, SliceInfoElem::Index(plane)]);
+    let mut lend = || {
+        let picture = ArrayViewMut::from_shape(Ix3(pixels.div_ceil(1000), pixels.min(1000), 3).into(), &mut items)?;
+        Ok::<_, LayoutError>(picture.multi_slice_mut(&planes)?.len())
+    };
+    (0..passes).map(|_| lend().unwrap_or(usize::MAX)).sum()
+}
+
 /// The call of that name on arguments of a size, made so many times.
 fn call_of(name: &str, size: usize) -> Box<dyn Fn(usize) -> usize> {
     let of_layout = |call: usize, lists: Lists| move |passes| ours::layouts(call, &lists, passes);
@@ -84,6 +97,7 @@ fn call_of(name: &str, size: usize) -> Box<dyn Fn(usize) -> usize> {
         "multi_set against it" => Box::new(move |passes| ours::rows(size, 8, [size as isize - 1, -1], passes)),
         "multi_slice_mut in order" => Box::new(move |passes| lend_rows(size, [0, 1], passes)),
         "multi_slice_mut against it" => Box::new(move |passes| lend_rows(size, [size as isize - 1, -1], passes)),
+        "multi_slice_mut of planes" => Box::new(move |passes| lend_planes(size, passes)),
         _ => panic!("{name} is no call here"),
     }
 }
