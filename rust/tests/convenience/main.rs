@@ -1,5 +1,6 @@
 //! What ndarray's users type, with the values that ndarray 0.17.2 gives.
 
+mod differences;
 mod dimensions;
 mod slices;
 mod values;
