@@ -341,17 +341,6 @@ class Arrays(unittest.TestCase):
         self.assertEqual(layout.as_array(memoryview(objects), object).tolist(), [1, "b", None])
         self.assertEqual(layout.as_array(records, records.dtype)["a"].tolist(), [0, 0, 0])
 
-    def test_items_that_no_memoryview_has(self):
-        dates, names = np.zeros(3, "M8[s]"), np.zeros(3, [("a", np.int64)])
-        for call in (
-            lambda: Layout.over(dates, 3),
-            lambda: Layout.over(3, 3).as_array(dates),
-            lambda: Layout.over(3, 3).as_memoryview(names),
-        ):
-            with self.assertRaises(ShapeError) as caught:
-                call()
-            self.assertEqual(caught.exception.kind, "Unsupported")
-
     def test_items_of_no_bytes(self):
         nothing = np.zeros(3, "V0")
         for call in (

@@ -5,11 +5,21 @@ from __future__ import annotations
 from dataclasses import dataclass
 from functools import cached_property
 from math import prod
-from numbers import Integral
 from operator import index as as_int
 from typing import TYPE_CHECKING, Any, Iterator, Optional, Sequence, SupportsIndex
 
 from ._arrays import element_strides, without_minus_one
+from ._buffers import (
+    array_over,
+    count_items,
+    dtype_as,
+    dtype_of,
+    items_before,
+    items_of_size,
+    no_bytes,
+    shown,
+    side_by_side,
+)
 from ._errors import LayoutError, OutOfBoundsError, ShapeError, of_one
 from ._layouts import (
     Row,
@@ -98,7 +108,7 @@ class Layout:
         >>> Layout.over(6, 6, -1).start
         5
         """
-        length, elem_size = _items(buffer)
+        length, elem_size = count_items(buffer)
         lens = listing(shape)
         if strides is None:
             steps = (default_strides, fortran_strides)[order_number(order)](lens)
@@ -125,7 +135,7 @@ class Layout:
         >>> Layout.of(memoryview(b"abcdef")[::-2])
         Layout(start=4, shape=(3,), strides=(-2,), length=5, owned=False)
         """
-        view = array if hasattr(array, "strides") else _shown(array)
+        view = array if hasattr(array, "strides") else shown(array)
         if getattr(view, "suboffsets", ()):
             raise ShapeError("Unsupported", "a layout has no suboffsets")
         shape, itemsize = tuple(view.shape), view.itemsize
@@ -134,8 +144,8 @@ class Layout:
             start = layout_start(shape, strides, elem_size=itemsize, length=LIMIT + 1, owned=owned)
             span = sum(max(length - 1, 0) * abs(stride) for length, stride in zip(shape, strides))
             return Layout(start, shape, strides, length=span + (0 not in shape), owned=owned)
-        length = _items_of_size(base, itemsize)
-        start = 0 if 0 in shape else _items_before(view, base, itemsize)
+        length = items_of_size(base, itemsize)
+        start = 0 if 0 in shape else items_before(view, base, itemsize)
         check_layout(start, shape, strides, elem_size=itemsize, length=length, owned=owned)
         return Layout(start, shape, strides, length=length, owned=owned)
 
@@ -323,24 +333,21 @@ class Layout:
         """A NumPy array of this layout over a buffer, whose items it has without a `dtype`.
 
         Place k is the k-th item in memory, from the lowest, also where the buffer is an array in another order.
-        A layout that isn't owned gives an array that is only to be read, as `numpy.broadcast_to` does.
+        A layout that isn't owned gives an array that is only to be read, as `numpy.broadcast_to` does. While the array
+        lives the buffer can't be closed or resized: its own methods raise `BufferError`, as after `numpy.frombuffer`.
 
         Raises `ShapeError` for an array with gaps or in no order, as `a[::2]` and `a[::-1]`, whose `base` may have
-        none, and where items have 0 bytes; `TypeError` where items would be read or written as objects that are none,
-        or the other way; `IndexError` where the buffer has fewer than `length` items.
+        none, where items have 0 bytes, and where NumPy has no dtype for them or no array of so many axes or bytes;
+        `TypeError` where items would be read or written as objects that are none, or the other way; `IndexError` where
+        the buffer has fewer than `length` items.
         """
-        import numpy
-
-        nbytes = _side_by_side(buffer).nbytes
-        kind = numpy.dtype(_dtype(buffer) if dtype is None else dtype)
+        items = side_by_side(buffer)
+        kind = dtype_of(buffer, items) if dtype is None else dtype_as(dtype, buffer, items)
         if kind.itemsize == 0:
-            raise _no_bytes(f"items of the dtype {kind}")
-        if dtype is not None:
-            _check_objects(buffer, kind)
-        self._check_room(nbytes // kind.itemsize, kind.itemsize)
+            raise no_bytes(f"items of the dtype {kind}")
+        self._check_room(items.nbytes // kind.itemsize, kind.itemsize)
         byte_strides = tuple([stride * kind.itemsize for stride in self.strides])
-        offset = self.start * kind.itemsize
-        array: numpy.ndarray[Any, Any] = numpy.ndarray(self.shape, kind, buffer, offset, byte_strides)
+        array = array_over(items, kind, self.start * kind.itemsize, self.shape, byte_strides)
         array.flags.writeable = array.flags.writeable and self.owned
         return array
 
@@ -354,7 +361,7 @@ class Layout:
         >>> Layout.over(b"abcdef", 3, -2).as_memoryview(b"abcdef").tobytes()
         b'eca'
         """
-        items = _side_by_side(buffer, in_rows=True)
+        items = side_by_side(buffer, in_rows=True)
         self._check_room(items.nbytes // items.itemsize, items.itemsize)
         try:
             items = (items if self.owned else items.toreadonly()).cast("B").cast(items.format)
@@ -363,8 +370,11 @@ class Layout:
         if self.ndim == 1:
             return items[Row(self.start, *self.strides, *self.shape).as_slice()]
         self._check_rows()
-        run = items[self.start : self.start + self.size]
-        return run.cast("B").cast(items.format, self.shape)
+        run = items[self.start : self.start + self.size].cast("B")
+        try:
+            return run.cast(items.format, self.shape)
+        except ValueError as error:  # (of more axes than a `memoryview` has)
+            raise ShapeError("Unsupported", str(error)) from None
 
     def _check_rows(self) -> None:
         """Raises `ShapeError` where this is no layout of a `memoryview` of several axes."""
@@ -382,86 +392,6 @@ class Layout:
             numbers = {"length": self.length, "items": items}
             raise OutOfBoundsError("OutOfBounds", f"the buffer has {items} items of {self.length}", None, numbers)
         check_layout(self.start, self.shape, self.strides, elem_size=elem_size, length=items)
-
-
-def _items(buffer: Any) -> tuple[int, int]:
-    """How many items a buffer has, and their size. A number stands for so many items."""
-    if isinstance(buffer, Integral):
-        return as_int(buffer), 1
-    view = _shown(buffer)
-    if view.itemsize == 0:
-        raise _no_bytes("items of the buffer")
-    return view.nbytes // view.itemsize, view.itemsize
-
-
-def _shown(buffer: Any) -> memoryview:
-    """A `memoryview` of a buffer. NumPy gives none of an array of dates."""
-    try:
-        return memoryview(buffer)
-    except ValueError as error:
-        raise ShapeError("Unsupported", str(error)) from None
-
-
-def _no_bytes(what: str) -> ShapeError:
-    return ShapeError("Unsupported", f"{what} have 0 bytes", None, {"itemsize": 0})
-
-
-def _side_by_side(buffer: Any, in_rows: bool = False) -> memoryview:
-    """A buffer whose items lie side by side: in the order of rows, where that is asked, else of any axes."""
-    view = _shown(buffer)
-    if view.itemsize == 0:
-        raise _no_bytes("items of the buffer")
-    if not (view.c_contiguous if in_rows else view.contiguous):
-        name = "C-contiguous" if in_rows else "C- or F-contiguous"
-        text = f"the buffer isn't {name}: it has the shape {view.shape} and strides of {view.strides} bytes"
-        raise ShapeError("Unsupported", text)
-    return view
-
-
-def _items_of_size(base: Any, itemsize: int) -> int:
-    """How many items a base has, of the size of an array's."""
-    view = _side_by_side(base)
-    if view.itemsize != itemsize:
-        numbers = {"itemsize": itemsize, "base": view.itemsize}
-        raise ShapeError("Unsupported", f"items of {itemsize} bytes, in a base of {view.itemsize}", None, numbers)
-    return view.nbytes // itemsize
-
-
-def _items_before(array: Any, base: Any, itemsize: int) -> int:
-    """How many items of a base lie in memory before element (0, .., 0) of an array."""
-    start, rest = divmod(_address(array) - _address(base), itemsize)
-    if start < 0:
-        raise OutOfBoundsError(
-            "OutOfBounds", f"the array begins {-start} items below the base", None, {"start": start}
-        )
-    if rest:
-        text = f"the array begins {rest} bytes within an item of the base"
-        raise ShapeError("IncompatibleLayout", text, None, {"bytes": rest})
-    return start
-
-
-def _address(array: Any) -> int:
-    """Where the first element of an array, or of what a `memoryview` shows, lies in memory."""
-    import numpy
-
-    shown = array if hasattr(array, "__array_interface__") else numpy.asarray(memoryview(array))
-    return int(shown.__array_interface__["data"][0])
-
-
-def _check_objects(buffer: Any, kind: numpy.dtype[Any]) -> None:
-    """Raises `TypeError` where bytes would become references to objects, or references bytes."""
-    import numpy
-
-    if not kind.hasobject and "O" not in (memoryview(buffer).format or ""):
-        return
-    own = buffer.dtype if hasattr(buffer, "dtype") else numpy.asarray(memoryview(buffer)).dtype
-    if own != kind and (own.hasobject or kind.hasobject):
-        raise TypeError(f"items of the dtype {own} can't be taken for {kind}: references to objects are no bytes")
-
-
-def _dtype(buffer: Any) -> Any:
-    """The dtype of an array, or the format of another buffer's items, which NumPy reads alike."""
-    return buffer.dtype if hasattr(buffer, "dtype") else memoryview(buffer).format
 
 
 def _axis(axis: SupportsIndex, axes: int) -> int:

@@ -1,0 +1,149 @@
+"""Buffers: their items, what NumPy makes of them, and where they lie in memory."""
+
+from __future__ import annotations
+
+from numbers import Integral
+from operator import index
+from pickle import PickleBuffer
+from types import SimpleNamespace
+from typing import TYPE_CHECKING, Any
+
+from ._errors import OutOfBoundsError, ShapeError
+from ._numbers import Lens
+
+if TYPE_CHECKING:
+    import numpy
+
+
+def shown(buffer: Any, name: str = "buffer") -> memoryview:
+    """A `memoryview` of a buffer. Where NumPy has no format for an array's items, as for dates, they are bytes."""
+    try:
+        return memoryview(buffer)
+    except TypeError as error:
+        raise TypeError(f"{name}: {error}") from None
+    except (BufferError, ValueError) as error:
+        if not hasattr(buffer, "__array_interface__"):
+            raise ShapeError("Unsupported", str(error)) from None
+    return memoryview(_without_format(buffer))
+
+
+def _without_format(array: Any) -> Any:
+    """The items of an array as so many bytes each. (`array.view` makes no bytes of references to objects)"""
+    import numpy
+
+    interface = {**array.__array_interface__, "typestr": f"|V{array.itemsize}"}
+    del interface["descr"]
+    return numpy.asarray(SimpleNamespace(__array_interface__=interface, holds=array))
+
+
+def count_items(buffer: Any) -> tuple[int, int]:
+    """How many items a buffer has, and their size. A number stands for so many items."""
+    if isinstance(buffer, Integral):
+        return index(buffer), 1
+    view = shown(buffer)
+    if view.itemsize == 0:
+        raise no_bytes("items of the buffer")
+    return view.nbytes // view.itemsize, view.itemsize
+
+
+def no_bytes(what: str) -> ShapeError:
+    """The error of items without a byte."""
+    return ShapeError("Unsupported", f"{what} have 0 bytes", None, {"itemsize": 0})
+
+
+def side_by_side(buffer: Any, in_rows: bool = False, name: str = "buffer") -> memoryview:
+    """A buffer whose items lie side by side: in the order of rows, where that is asked, else of any axes."""
+    view = shown(buffer, name)
+    if view.itemsize == 0:
+        raise no_bytes("items of the buffer")
+    if not (view.c_contiguous if in_rows else view.contiguous):
+        order = "C-contiguous" if in_rows else "C- or F-contiguous"
+        text = f"the buffer isn't {order}: it has the shape {view.shape} and strides of {view.strides} bytes"
+        raise ShapeError("Unsupported", text)
+    return view
+
+
+# ---- What NumPy makes of them
+
+
+def array_over(
+    items: memoryview, kind: numpy.dtype[Any], offset: int, shape: Lens, byte_strides: Lens
+) -> numpy.ndarray[Any, Any]:
+    """An array over items that lie side by side, whose buffer is held as long as the array lives.
+
+    `numpy.ndarray` refers to the object that it is given, and leaves it free to move its memory, or to unmap it. So
+    it is given an array which NumPy made of a `memoryview`, and which keeps that.
+    """
+    import numpy
+
+    held = numpy.asarray(PickleBuffer(items).raw())  # (bytes in the order of memory, also of columns)
+    try:
+        return numpy.ndarray(shape, kind, held, offset, byte_strides)
+    except ValueError as error:
+        raise ShapeError("Unsupported", f"NumPy has no such array: {error}") from None
+
+
+def dtype_of(buffer: Any, items: memoryview) -> numpy.dtype[Any]:
+    """The dtype of a buffer's items: its own, or that of their format."""
+    import numpy
+
+    try:
+        return numpy.dtype(buffer.dtype if hasattr(buffer, "dtype") else items.format)
+    except TypeError:  # (of what a letter doesn't name, as records)
+        return _as_numpy(items).dtype
+
+
+def _as_numpy(view: memoryview) -> numpy.ndarray[Any, Any]:
+    import numpy
+
+    try:
+        return numpy.asarray(view)
+    except ValueError:
+        raise ShapeError("Unsupported", f"NumPy has no dtype for the format {view.format!r}") from None
+
+
+def dtype_as(dtype: Any, buffer: Any, items: memoryview) -> numpy.dtype[Any]:
+    """The dtype that items are to have. Raises `TypeError` where bytes would become references, or references bytes."""
+    import numpy
+
+    try:
+        kind = numpy.dtype(dtype)
+    except Exception as error:  # (of many classes)
+        raise TypeError(f"dtype: {error}") from None
+    if not (kind.hasobject or hasattr(buffer, "dtype") or "O" in items.format):
+        return kind
+    own = dtype_of(buffer, items)
+    if own != kind and (own.hasobject or kind.hasobject):
+        raise TypeError(f"items of the dtype {own} can't be taken for {kind}: references to objects are no bytes")
+    return kind
+
+
+# ---- Where they lie
+
+
+def items_of_size(base: Any, itemsize: int) -> int:
+    """How many items a base has, of the size of an array's."""
+    view = side_by_side(base, name="base")
+    if view.itemsize != itemsize:
+        numbers = {"itemsize": itemsize, "base": view.itemsize}
+        raise ShapeError("Unsupported", f"items of {itemsize} bytes, in a base of {view.itemsize}", None, numbers)
+    return view.nbytes // itemsize
+
+
+def items_before(array: Any, base: Any, itemsize: int) -> int:
+    """How many items of a base lie in memory before element (0, .., 0) of an array."""
+    start, rest = divmod(_address(array, "array") - _address(base, "base"), itemsize)
+    if start < 0:
+        raise OutOfBoundsError(
+            "OutOfBounds", f"the array begins {-start} items below the base", None, {"start": start}
+        )
+    if rest:
+        text = f"the array begins {rest} bytes within an item of the base"
+        raise ShapeError("IncompatibleLayout", text, None, {"bytes": rest})
+    return start
+
+
+def _address(buffer: Any, name: str) -> int:
+    """Where the first element of an array, or of what a `memoryview` shows, lies in memory."""
+    array = buffer if hasattr(buffer, "__array_interface__") else _as_numpy(shown(buffer, name))
+    return int(array.__array_interface__["data"][0])

@@ -1,0 +1,212 @@
+"""What `Layout` says of buffers and takes of them: that they are held, and which items they may have.
+
+    python3 test_buffers.py
+"""
+
+import array
+import ctypes
+import mmap
+import os
+import subprocess
+import sys
+import unittest
+import warnings
+from pathlib import Path
+
+import ndarray_layout as nd
+from ndarray_layout import Layout, ShapeError
+
+try:
+    import numpy as np
+except ImportError:
+    np = None
+
+LEFT_OUT = "NumPy is missing: arrays over buffers are not tested"
+
+MAPPED = """
+import mmap
+memory = mmap.mmap(-1, 4096)
+array = Layout.over(4096, 4096).as_array(memory)
+close = memory.close
+"""
+
+SHARED = """
+from multiprocessing.shared_memory import SharedMemory
+memory = SharedMemory(create=True, size=4096)
+memory.unlink()
+array = Layout.over(4096, 4096).as_array(memory.buf)
+close = memory.close
+"""
+
+GROWING = """
+memory = bytearray(64)
+array = Layout.over(64, 64).as_array(memory)
+close = lambda: (memory.extend(bytes(1 << 20)), others.extend(bytes([7]) * 64 for _ in range(1000)))
+others = []
+"""
+
+READ = """
+try:
+    close()
+except BufferError:
+    close = lambda: None
+print(array.any())
+del array
+"""
+
+
+def run(program):
+    """What a program prints: it may end by a fault of memory."""
+    lines = f"from ndarray_layout import Layout\n{program}{READ}"
+    found = {**os.environ, "PYTHONPATH": str(Path(nd.__file__).parent.parent)}
+    return subprocess.run([sys.executable, "-B", "-c", lines], stdout=subprocess.PIPE, text=True, env=found, timeout=60)
+
+
+@unittest.skipIf(np is None, LEFT_OUT)
+class Held(unittest.TestCase):
+    """An array holds its buffer, as `numpy.frombuffer` does: what would move or free it raises `BufferError`."""
+
+    def test_programs(self):
+        """Without the hold the first two end by signal 11, and the third reads what others wrote."""
+        for program in (MAPPED, SHARED, GROWING):
+            with self.subTest(program):
+                ended = run(program)
+                self.assertEqual((ended.returncode, ended.stdout), (0, "False\n"))
+
+    def test_the_hold_ends_with_the_array(self):
+        for view_of in (lambda memory: memory, memoryview, lambda memory: memoryview(memory).cast("i", (4, 4))):
+            memory = mmap.mmap(-1, 64)
+            made = Layout.over(16, 4, owned=True).as_array(view_of(memory))
+            self.assertRaises(BufferError, memory.close)
+            part = made[1:]
+            del made
+            self.assertRaises(BufferError, memory.close)
+            part[0] = 9
+            del part
+            memory.close()
+
+    def test_what_grows(self):
+        numbers, columns = array.array("q", range(6)), array.array("d", range(6))
+        held = Layout.over(numbers, (2, 3)).as_array(numbers)
+        self.assertRaises(BufferError, numbers.append, 6)
+        self.assertEqual(held.tolist(), [[0, 1, 2], [3, 4, 5]])
+        order_f = memoryview(np.asarray(memoryview(columns)).reshape((2, 3), order="F"))
+        held = Layout.over(order_f, (3, 2)).as_array(order_f)
+        del order_f
+        self.assertRaises(BufferError, columns.append, 6)
+        self.assertEqual(held.tolist(), [[0, 1], [2, 3], [4, 5]])
+
+    def test_a_released_view(self):
+        """Other views of the memory may be released."""
+        memory = bytearray(b"abc")
+        view = memoryview(memory)
+        held = Layout.over(view, 3).as_array(view)
+        view.release()
+        self.assertEqual(held.tobytes(), b"abc")
+        self.assertRaises(BufferError, memory.clear)
+        self.assertRaises(ShapeError, Layout.over(3, 3).as_array, view)
+
+    def test_memoryviews(self):
+        for layout in (Layout.over(4, 4)[::-2], Layout.over(4, (2, 2)), Layout.over(4, ())):
+            memory = mmap.mmap(-1, 4)
+            view = layout.as_memoryview(memory)
+            self.assertRaises(BufferError, memory.close)
+            del view
+            memory.close()
+
+
+@unittest.skipIf(np is None, LEFT_OUT)
+class Items(unittest.TestCase):
+    """Items of each dtype, also of those for which the buffer protocol has no format."""
+
+    DTYPES = ("M8[s]", "m8[ns]", [("at", "M8[D]"), ("for", "m8[s]")], [("at", "M8[s]"), ("what", object)])
+
+    def arrays(self):
+        for dtype in self.DTYPES:
+            for order in "CF":
+                items = np.zeros((2, 3), dtype, order)
+                items[1, 2] = np.ones((), dtype)
+                yield items
+
+    def test_dates(self):
+        for items in self.arrays():
+            layout = Layout.over(items, (2, 3), owned=True, order="F" if np.isfortran(items) else "C")
+            made = layout[::-1, 1:].as_array(items)
+            self.assertEqual((made.dtype, made.tolist()), (items.dtype, items[::-1, 1:].tolist()))
+            made[1, 0] = items[1, 2]
+            self.assertEqual(items[0, 1], items[1, 2])
+            self.assertEqual(Layout.of(items[1:], base=items).as_array(items).tolist(), items[1:].tolist())
+
+    def test_dates_are_held(self):
+        memory = bytearray(24)
+        dates = np.frombuffer(memory, "M8[s]")
+        made = Layout.over(dates, 3).as_array(dates)
+        del dates
+        self.assertRaises(BufferError, memory.clear)
+        self.assertEqual(made.astype(int).tolist(), [0, 0, 0])
+        self.assertEqual(Layout.over(3, 3).as_array(memory, "M8[s]").dtype, np.dtype("M8[s]"))
+
+    def test_dates_as_other_items(self):
+        dates = np.array([1, 2, 3], "M8[s]")
+        self.assertEqual(Layout.over(3, 3).as_array(dates, np.int64).tolist(), [1, 2, 3])
+        self.assertEqual(Layout.over(6, 6).as_array(dates, np.int32).tolist(), [1, 0, 2, 0, 3, 0])
+        mixed = np.zeros(3, self.DTYPES[3])
+        for buffer, dtype in ((dates, object), (mixed, np.int64), (mixed, [("a", object), ("b", object)])):
+            self.assertRaises(TypeError, Layout.over(3, 3).as_array, buffer, dtype)
+
+    def test_dates_with_gaps(self):
+        for items in self.arrays():
+            for gaps in (items[::-1], items[:, ::2]):
+                with self.assertRaisesRegex(ShapeError, "isn't C- or F-contiguous: it has the shape"):
+                    Layout.over(2, 2).as_array(gaps)
+
+    def test_items_that_no_memoryview_has(self):
+        for items in (np.zeros(3, "M8[s]"), np.zeros(3, [("a", np.int64)])):
+            with self.assertRaises(ShapeError) as caught:
+                Layout.over(3, 3).as_memoryview(items)
+            self.assertEqual(caught.exception.kind, "Unsupported")
+
+    def test_formats(self):
+        """The dtype of a `memoryview` of an array is the array's."""
+        for dtype in (*"?bhilqBHILQefdgFDGO", "c8", "S3", "U2", ">i4", [("a", "<i4"), ("b", "S3")], [("c", "2f8")]):
+            items = np.zeros((2, 3), dtype)
+            with warnings.catch_warnings():
+                warnings.simplefilter("error")
+                self.assertEqual(Layout.over(items, 6).as_array(memoryview(items)).dtype, items.dtype)
+
+    def test_formats_of_others(self):
+        """The dtype of a buffer without one is that of its format, read as NumPy reads it."""
+        records = np.array([(1, b"ab"), (2, b"c")], [("a", "<i4"), ("b", "S3")])
+        made = Layout.over(2, 2).as_array(memoryview(records))
+        self.assertEqual((made.dtype, made.tolist()), (records.dtype, records.tolist()))
+
+        class Point(ctypes.Structure):
+            _fields_ = [("x", ctypes.c_int32), ("y", ctypes.c_float)]
+
+        points = (Point * 2)(Point(1, 2.5), Point(3, 4.5))
+        self.assertEqual(Layout.over(points, 2).as_array(points).tolist(), [(1, 2.5), (3, 4.5)])
+        longs = (ctypes.c_long * 2)(5, 6)
+        self.assertEqual(Layout.over(longs, 2).as_array(longs).tolist(), [5, 6])
+        pointers = memoryview(bytes(16)).cast("P")
+        self.assertEqual(Layout.over(2, 2).as_array(pointers).tolist(), [0, 0])
+        sizes = memoryview(bytes(16)).cast("n")
+        self.assertEqual(Layout.over(2, 2).as_array(sizes, np.intp).tolist(), [0, 0])
+        with self.assertRaisesRegex(ShapeError, "Unsupported: NumPy has no dtype for the format 'n'"):
+            Layout.over(2, 2).as_array(sizes)
+
+    def test_what_numpy_has_not(self):
+        """NumPy's own refusals, as errors of this package."""
+        for layout in (
+            Layout.over(1, (1,) * 70),
+            Layout.over(1, 1).broadcast(2**62),
+            Layout(0, (0, 2**40), (0, 0), length=0).broadcast((2**20, 0, 2**40)),
+        ):
+            with self.assertRaises(ShapeError) as caught:
+                layout.as_array(np.zeros(1))
+            self.assertEqual(caught.exception.kind, "Unsupported")
+        with self.assertRaises(ShapeError):
+            Layout.over(1, (1,) * 70).as_memoryview(b"a")
+
+
+if __name__ == "__main__":
+    unittest.main()
