@@ -1,4 +1,4 @@
-//! Shapes, signed strides and slices as buffer indices: the layout layer under n-dimensional arrays, proved.
+//! Shapes, signed strides and slices as buffer indices: the layer under n-dimensional arrays, made of proved sources.
 //!
 //! A [`Strided`] view is a shape, a stride for each axis and a start. It is made of an accepted layout, so that each
 //! index lies in the data; slices, broadcasts, permutations and reshapes of it are views of the same data.
