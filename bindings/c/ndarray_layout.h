@@ -7,23 +7,27 @@
  * the place of its index (0, .., 0). Strides and places count elements, and never bytes. The limit is PTRDIFF_MAX.
  *
  * Lists. A list is a pointer and, after it, its count. Every list has a count of its own: counts that don't go together are
- * a status. A list that a call writes (no `const`) is lent by the caller, with exactly the count that is due.
+ * a status. A list that a call writes (no `const`) is lent by the caller, with exactly the count that is due. That may be as
+ * much as the limit even over one byte, as for the rows of (2^61+1,1), strides (0,0), read-only. Allocate such a list by
+ * `calloc(count, sizeof *list)`, which returns null then: the product in `malloc(count * sizeof *list)` wraps to 8 bytes.
  *
  * Statuses. Each call returns one of ND_OK to ND_OUT_OF_MEMORY. After any status but ND_OK nothing has been written.
- * ND_BAD_ARGUMENT is a number that has no meaning (an order, a mode, a fit, a kind of element), or a list to be written of
- * another count than is due. It comes before every other status, ND_OUT_OF_MEMORY too. Only the counts of what nd_places,
- * nd_rows and nd_slice write are tested last. ND_OUT_OF_MEMORY may come where a list that is read has more than four items, or
- * the new layout of nd_windows or nd_exact_chunks more than four axes, in place of every status but a ND_BAD_ARGUMENT that
- * comes first.
+ * ND_BAD_ARGUMENT is a number that has no meaning (an order, a mode, a fit, a kind of element), or a list that is only
+ * written of another count than is due. It comes before every other status, ND_OUT_OF_MEMORY too. Only the counts of what
+ * nd_places, nd_rows and nd_slice write are tested last. Where a list is read as well, another count is ND_OUT_OF_BOUNDS of
+ * nd_next_index, and ND_INCOMPATIBLE_LAYOUT of nd_merge_axes. ND_OUT_OF_MEMORY may come where a list that is read has more than
+ * four items, or the new layout of nd_windows or nd_exact_chunks more than four axes, in place of every status but a
+ * ND_BAD_ARGUMENT that comes first.
  *
  * Accepted layouts. The reach of an axis is its length less 1, times its stride without the sign; 0 where the length is 0. The
  * span is the sum of the reaches. The product of the lengths that are not 0, the span, and the span in bytes are each at most
  * the limit. The lowest place, the start less the reaches of the axes with a negative stride, is at least 0. The highest one,
  * the lowest and the span, is less than the count of the buffer's elements, and at most the limit. A layout without an index
  * is held to the same bounds, but for its highest place, which may be the count: (4,0), strides (1,4), fits 3 elements, and
- * not 2. An owned layout that has an index satisfies the no-alias rule: for each axis of length greater than 1, the reaches of
- * the other axes whose stride, without signs, is at most its own add up to less than its stride. Then no two indices have one
- * place. The rule is not necessary for that: (3,2), strides (2,3), breaks it. The project's docs/RULES.md has examples.
+ * not 2. An owned layout that has an index satisfies the no-alias rule, in which strides have no signs: for each axis of length
+ * greater than 1, the reaches of the other axes whose stride is at most its own add up to less than its stride. Then no two
+ * indices have one place. The rule is not necessary for that: (3,2), strides (2,3), breaks it. The project's docs/RULES.md has
+ * examples.
  *
  * New layouts. Each index of what nd_slice, nd_permuted_axes, nd_reshape, nd_broadcast, nd_windows, nd_exact_chunks or
  * nd_split_at writes has the place of an index of the layout that it was given. So the new layout lies in every buffer in
@@ -55,11 +59,47 @@
 #include <stdint.h>
 #endif
 
-/* The version of this header. Programs load the shared library by its name with the first number, libndarray_layout.so.0. */
+/*
+ * The version of this header. A library serves for each header that has the same first number, or while that is 0 the same
+ * first two, and whose version is not later: nd_version says what a program has loaded. Those numbers end the name by which
+ * programs load the shared library, libndarray_layout.so.0.1, and the names of the calls in both libraries: nd_place_0_1.
+ * So parts of one process may use versions that don't go together, each its own.
+ */
 #define ND_VERSION_MAJOR 0
 #define ND_VERSION_MINOR 1
 #define ND_VERSION_PATCH 0
 #define ND_VERSION "0.1.0"
+
+/* The name that a call has in the libraries, by which `dlsym` and other languages find it. */
+#define ND_NAME(call) call##_0_1
+#define nd_layout_start ND_NAME(nd_layout_start)
+#define nd_check_layout ND_NAME(nd_check_layout)
+#define nd_has_overlap ND_NAME(nd_has_overlap)
+#define nd_default_strides ND_NAME(nd_default_strides)
+#define nd_fortran_strides ND_NAME(nd_fortran_strides)
+#define nd_is_contiguous ND_NAME(nd_is_contiguous)
+#define nd_is_layout_c ND_NAME(nd_is_layout_c)
+#define nd_is_layout_f ND_NAME(nd_is_layout_f)
+#define nd_place ND_NAME(nd_place)
+#define nd_next_index ND_NAME(nd_next_index)
+#define nd_places ND_NAME(nd_places)
+#define nd_rows ND_NAME(nd_rows)
+#define nd_slice ND_NAME(nd_slice)
+#define nd_slices_intersect ND_NAME(nd_slices_intersect)
+#define nd_first_intersection ND_NAME(nd_first_intersection)
+#define nd_picked ND_NAME(nd_picked)
+#define nd_co_broadcast ND_NAME(nd_co_broadcast)
+#define nd_broadcast ND_NAME(nd_broadcast)
+#define nd_merge_axes ND_NAME(nd_merge_axes)
+#define nd_reshape ND_NAME(nd_reshape)
+#define nd_permuted_axes ND_NAME(nd_permuted_axes)
+#define nd_windows ND_NAME(nd_windows)
+#define nd_exact_chunks ND_NAME(nd_exact_chunks)
+#define nd_split_at ND_NAME(nd_split_at)
+#define nd_diag ND_NAME(nd_diag)
+#define nd_stretch ND_NAME(nd_stretch)
+#define nd_status_text ND_NAME(nd_status_text)
+#define nd_version ND_NAME(nd_version)
 
 #if defined(__cplusplus) || (defined(__STDC_VERSION__) && __STDC_VERSION__ >= 199901L)
 #define ND_INLINE static inline
@@ -102,7 +142,8 @@ enum { ND_SLICE = 0, ND_INDEX = 1, ND_NEW_AXIS = 2 };
  * An element of a slice. ND_SLICE keeps an axis: from `start` to before `end`, or to the end of the axis where `has_end` is
  * 0, each `step`-th coordinate, from the last one back where `step` is negative; nothing where `end` isn't after `start`.
  * ND_INDEX takes the coordinate `start` and drops the axis. ND_NEW_AXIS adds an axis of length 1. A `start` or an `end` below
- * 0 counts from the end of the axis. Fields that a kind doesn't name are not looked at.
+ * 0 counts from the end of the axis. As bounds of ND_SLICE both may be the length of the axis: `4..4` of 4 is nothing. Fields
+ * that a kind doesn't name are not looked at.
  */
 typedef struct nd_slice_elem {
     int32_t kind;
@@ -161,15 +202,15 @@ int32_t nd_default_strides(const size_t *shape, size_t shape_len, ptrdiff_t *str
 int32_t nd_fortran_strides(const size_t *shape, size_t shape_len, ptrdiff_t *strides, size_t strides_len);
 
 /*
- * Writes 1 or 0. nd_is_contiguous: whether the indices fill a stretch of the buffer without a gap, whatever their order.
- * Where a length is 0: whether all strides are 0, there is one axis, or each axis has length 1 or a stride that is, without
+ * Writes 1 or 0. nd_is_contiguous: whether no two indices have one place, and all fill a stretch of the buffer without a gap,
+ * whatever their order. Where a length is 0: whether all strides are 0, there is one axis, or each axis has length 1 or a stride that is, without
  * its sign, the product of the lengths of the axes with a lesser one; of two equal strides that of the lower axis is less.
  * nd_is_layout_c: whether the places of all indices in row-major order follow one another without a gap, or there is no
  * index. nd_is_layout_f: the same in column-major order.
  *
  * The statuses of nd_has_overlap.
  *
- * (2,3), strides (-3,1): 1, 0, 0. (0,3), strides (3,1): 1, 1, 1; strides (9,9): 0, 1, 1.
+ * (2,3), strides (-3,1): 1, 0, 0. (2,2), strides (1,1): 0, 0, 0. (0,3), strides (3,1): 1, 1, 1; strides (9,9): 0, 1, 1.
  */
 int32_t nd_is_contiguous(const size_t *shape, size_t shape_len, const ptrdiff_t *strides, size_t strides_len,
                          int32_t *answer);
@@ -183,10 +224,10 @@ int32_t nd_is_layout_f(const size_t *shape, size_t shape_len, const ptrdiff_t *s
 /*
  * Writes the place of an index: the start plus, for each axis, the coordinate times the stride.
  *
- * Those of nd_check_layout for a buffer of bytes at all places up to the limit; then ND_OUT_OF_BOUNDS where the list is no
- * index of the shape: not one coordinate for each axis, or one that is not less than its length.
+ * Those of nd_check_layout, read-only, for a buffer of bytes at all places up to the limit; then ND_OUT_OF_BOUNDS where the
+ * list is no index of the shape: not one coordinate for each axis, or one that is not less than its length.
  *
- * From 3, (2,3), strides (-3,1): (1,2) lies at 2.
+ * From 3, (2,3), strides (-3,1): (1,2) lies at 2. From 0, (2,2), strides (1,1): (0,1) and (1,0) lie at 1.
  */
 int32_t nd_place(size_t start, const size_t *shape, size_t shape_len, const ptrdiff_t *strides, size_t strides_len,
                  const size_t *index, size_t index_len, size_t *place);
@@ -234,7 +275,8 @@ int32_t nd_rows(size_t start, const size_t *shape, size_t shape_len, const ptrdi
  *
  * Those of nd_place for the layout; then ND_INCOMPATIBLE_SHAPE where the elements are for more axes than there are or for
  * fewer; then that of the first element with one: ND_OUT_OF_BOUNDS for an index that is not on its axis, or a bound that is
- * not and is not to be clamped, ND_UNSUPPORTED for a step of 0; then ND_BAD_ARGUMENT for another count of what is written.
+ * neither on it nor its length and is not to be clamped, ND_UNSUPPORTED for a step of 0; then ND_BAD_ARGUMENT for another
+ * count of what is written.
  *
  * From 5, (4), strides (3), by `1..` with a step of -2: from 14, (2), strides (-6); by `2..3`: from 11, (1), strides (0); by
  * `3..1`: from 5, (0), strides (0).
@@ -312,7 +354,8 @@ int32_t nd_broadcast(const size_t *shape, size_t shape_len, const ptrdiff_t *str
  * Merges the axis `take` into the axis `into`, in place, where one stride serves for both, and writes 1; else writes
  * 0 and changes neither list. Then the axis `into` has the coordinates of both, that of `take` moving slowest, and `take`
  * keeps one coordinate, or none where one of the two has none. One stride serves where one of the two has a length of 0 or 1,
- * or the stride of `take` is the length times the stride of `into`.
+ * or the stride of `take` is the length times the stride of `into`. It is that of `into`, or that of `take` where only the
+ * length of `take` is greater than 1. The stride of `take` stays.
  *
  * ND_INCOMPATIBLE_LAYOUT and ND_OVERFLOW as of nd_has_overlap; then ND_OUT_OF_BOUNDS where there is no such axis; then
  * ND_UNSUPPORTED for one axis twice.
@@ -324,7 +367,8 @@ int32_t nd_merge_axes(size_t *shape, size_t shape_len, ptrdiff_t *strides, size_
 
 /*
  * Writes the strides along which the shape `new_shape` has the places of a layout in an order. The start is unchanged.
- * Where there is no index they are 0. `new_strides`: one for each axis of `new_shape`. `order`: ND_ROW_MAJOR or
+ * Where there is no index they are 0. An axis of length 1 has the stride 1, that of an axis of length 1 of the layout, or the
+ * length times the stride of the next faster axis. `new_strides`: one for each axis of `new_shape`. `order`: ND_ROW_MAJOR or
  * ND_COLUMN_MAJOR.
  *
  * ND_INCOMPATIBLE_LAYOUT and ND_OVERFLOW as of nd_has_overlap; then ND_OVERFLOW where `new_shape` is too large; then
@@ -335,7 +379,8 @@ int32_t nd_merge_axes(size_t *shape, size_t shape_len, ptrdiff_t *strides, size_
  * its lengths from its slowest axis to some axis.
  *
  * (2,3), strides (3,1), to (3,2): (2,1) in row-major order, ND_INCOMPATIBLE_LAYOUT in column-major order. Strides (4,1), in
- * row-major order, p is 2: to (5) ND_INCOMPATIBLE_LAYOUT, to (2,4) or (2) ND_INCOMPATIBLE_SHAPE.
+ * row-major order, p is 2: to (5) ND_INCOMPATIBLE_LAYOUT, to (2,4) or (2) ND_INCOMPATIBLE_SHAPE. (4,3), strides (3,1), to
+ * (1,2,1,2,3): (1,6,6,3,1).
  */
 int32_t nd_reshape(const size_t *shape, size_t shape_len, const ptrdiff_t *strides, size_t strides_len,
                    const size_t *new_shape, size_t new_shape_len, int32_t order, ptrdiff_t *new_strides,

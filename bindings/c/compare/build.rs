@@ -21,7 +21,11 @@ fn main() -> Fallible<()> {
     // each export stands in a module that is private there
     fs::write(out.join("exports.rs"), exports.replace("\nmod ", "\npub mod "))?;
 
-    for read in [top.join("rust/build"), top.join("crates"), library.join("libndarray_layout.a")] {
+    let header = fs::read_to_string(here.join("../ndarray_layout.h"))?;
+    let suffix = header.lines().find_map(|line| line.strip_prefix("#define ND_NAME(call) call##"));
+    println!("cargo::rustc-env=ND_SUFFIX={}", suffix.ok_or("the header says no names of the library's")?);
+
+    for read in [here.join("../ndarray_layout.h"), top.join("rust/build"), top.join("crates"), library.join("libndarray_layout.a")] {
         println!("cargo::rerun-if-changed={}", read.display());
     }
     println!("cargo::rerun-if-env-changed=NDARRAY_LAYOUT_LIB_DIR");

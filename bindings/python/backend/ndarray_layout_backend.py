@@ -31,7 +31,7 @@ def build_wheel(
     """Makes the wheel in a folder, and returns its name."""
     library = _library(_is_proved(config_settings))
     files = [(f"ndarray_layout/{path.name}", path.read_bytes()) for path in _modules()]
-    name = f"{LIBRARY}.{version().split('.')[0]}"  # (a file `.so` Python would take for a module)
+    name = next(library.parent.glob(f"{LIBRARY}.*")).name  # (a file `.so` Python would take for a module)
     return _write_wheel(wheel_directory, [*files, (f"ndarray_layout/{name}", library.read_bytes())])
 
 

@@ -10,8 +10,11 @@ from typing import Any, Callable
 from . import _reasons
 from ._errors import LayoutError, error_of_kind
 
-_NAME = "libndarray_layout.so.0"
-"""The library's own name, with the first number of its version. (A file `.so` Python would take for a module.)"""
+_SERIES = "0.1"
+"""The numbers of the version that end the library's own name, and with `_` those of its calls: `ND_VERSION`."""
+
+_NAME = f"libndarray_layout.so.{_SERIES}"
+"""(A file `.so` Python would take for a module.)"""
 
 _KINDS = (
     "IncompatibleShape",
@@ -52,7 +55,7 @@ _library = _load(library_path)
 
 def _prepare(name: str) -> Any:
     try:
-        call = getattr(_library, name)
+        call = getattr(_library, f"{name}_{_SERIES.replace('.', '_')}")
     except AttributeError:
         raise ImportError(f"{library_path} has no {name}: it is of another version") from None
     call.restype = ctypes.c_int32

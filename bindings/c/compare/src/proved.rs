@@ -2,7 +2,7 @@
 
 use crate::erased::RawElem;
 
-/// Functions over lists, each of which calls C's function of its name: a list is a pointer and a count there.
+/// Functions over lists, each of which calls C's function of its name in the library: a list is a pointer and a count there.
 macro_rules! exports {
     (@$name:ident [$($taken:tt)*] [$($declared:tt)*] [$($passed:tt)*] $list:ident: &[$item:ty], $($rest:tt)*) => {
         exports!(@$name [$($taken)* $list: &[$item],] [$($declared)* _: *const $item, _: usize,]
@@ -22,6 +22,7 @@ macro_rules! exports {
         pub fn $name($($taken)*) -> i32 {
             #[link(name = "ndarray_layout", kind = "static")]
             unsafe extern "C" {
+                #[link_name = concat!(stringify!($name), env!("ND_SUFFIX"))]
                 fn $name($($declared)*) -> i32;
             }
             // SAFETY: each list is a slice with its own count; what is written is borrowed for the call alone.
