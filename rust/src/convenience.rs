@@ -16,7 +16,7 @@ mod views;
 pub use dimension_types::{DimAdd, DimMax};
 pub use dimensions::{Dim, DimensionExt, Ix, Ix0, Ix1, Ix2, Ix3, Ix4, Ix5, Ix6, IxDyn, Ixs};
 pub use iterators::IndexCopies;
-pub use slice_arguments::{SliceBuilder, SliceNextDim};
+pub use slice_arguments::{SliceBuilder, SliceNextDim, stepped};
 
 /// What an infallible call says where an allocation fails.
 const OUT_OF_MEMORY: &str = "out of memory";

@@ -15,7 +15,7 @@ use core::ops::{Deref, Range, RangeFrom, RangeFull, RangeInclusive, RangeTo, Ran
 /// - an index: an `isize`, a `usize` or an `i32`. It takes one coordinate and drops the axis.
 /// - a range of such numbers: `a..b`, `a..`, `..b`, `a..=b`, `..=b` or `..`. It keeps the axis.
 /// - a `Slice`, which keeps the axis.
-/// - a range or a `Slice`, then `;` and a step. The step multiplies that of a `Slice`.
+/// - a range or a `Slice`, then `;` and a step, of any type of integers. The step multiplies that of a `Slice`.
 /// - `NewAxis`, which adds an axis of length 1.
 ///
 /// A negative number counts from the end of the axis. A negative step picks from the last coordinate of the range to the
@@ -25,6 +25,11 @@ use core::ops::{Deref, Range, RangeFrom, RangeFull, RangeInclusive, RangeTo, Ran
 ///
 /// None here. The call that takes the slice returns `OutOfBounds` for a bound past its axis and `Unsupported` for a step
 /// of 0, where ndarray panics.
+///
+/// # Panics
+///
+/// Where a step, or its product with that of a `Slice`, is no `isize`: `..;usize::MAX`. ndarray takes that for `..;-1`, and
+/// lets the product wrap.
 ///
 /// Takes no memory, and time in proportion to the count of elements.
 ///
@@ -41,20 +46,38 @@ use core::ops::{Deref, Range, RangeFrom, RangeFull, RangeInclusive, RangeTo, Ran
 /// # }
 /// ```
 ///
-/// An index has no step, so this doesn't compile:
+/// An index has no step, and half a coordinate is none, so these don't compile:
 ///
 /// ```compile_fail,E0277
 /// let slices = ndarray_layout::s![0;2];
 /// ```
+///
+/// ```compile_fail,E0277
+/// let slices = ndarray_layout::s![..;2.5];
+/// ```
 #[macro_export]
 macro_rules! s {
     (@element $slice:expr) => { $slice };
-    (@element $slice:expr; $step:expr) => { $crate::Slice::from($slice).step_by($step as isize) };
+    (@element $slice:expr; $step:expr) => { $crate::stepped($slice, $step) };
     ($($slice:expr $(; $step:expr)?),* $(,)?) => {
         $crate::SliceBuilder::<{ <[&str]>::len(&[$(stringify!($slice)),*]) }>::new()
             $(.and($crate::s!(@element $slice $(; $step)?)))*
             .info()
     };
+}
+
+/// The range before `;` in `s!`, with its step multiplied by the one after.
+#[doc(hidden)]
+#[inline]
+#[must_use]
+#[track_caller]
+pub fn stepped<S>(slice: S, step: impl TryInto<isize>) -> Slice
+where
+    Slice: From<S>,
+{
+    let slice = Slice::from(slice);
+    let step = step.try_into().ok().and_then(|step| slice.step.checked_mul(step));
+    Slice { step: step.expect("the step of a slice is past isize"), ..slice }
 }
 
 /// What an element of `s!` does to the count of axes. ndarray's `SliceNextDim`.
@@ -109,6 +132,7 @@ impl<const N: usize> SliceBuilder<N> {
     /// No element.
     #[allow(clippy::new_without_default)]
     #[inline]
+    #[must_use]
     pub fn new() -> Self {
         SliceBuilder { elems: [SliceInfoElem::NewAxis; N], count: 0, dims: PhantomData }
     }
@@ -117,6 +141,7 @@ impl<const N: usize> SliceBuilder<N> {
 impl<const N: usize, Din, Dout> SliceBuilder<N, Din, Dout> {
     /// One element more, of `N` in all.
     #[inline]
+    #[must_use]
     pub fn and<S>(
         mut self,
         slice: S,
@@ -132,6 +157,7 @@ impl<const N: usize, Din, Dout> SliceBuilder<N, Din, Dout> {
 
     /// The slice argument of all elements.
     #[inline]
+    #[must_use]
     pub fn info(self) -> SliceInfo<[SliceInfoElem; N], Din, Dout>
     where
         Din: FixedCount,

@@ -107,6 +107,45 @@ fn the_macro_takes_numbers_of_each_type_and_slices() {
     assert_eq!(parts(s![axis, ..]), ("NewAxis, ..".to_string(), Some(1), Some(2)));
 }
 
+#[test]
+fn a_step_is_of_any_type_of_integers() {
+    assert_eq!(
+        parts(s![..;2_u8, ..;-2_i16, ..;2_u32, ..;-2_i64, ..;2_u128, ..;2_usize]).0,
+        "..;2, ..;-2, ..;2, ..;-2, ..;2, ..;2"
+    );
+    assert_eq!(parts(s![..;isize::MIN, ..;isize::MAX as u64]).0, format!("..;{}, ..;{}", isize::MIN, isize::MAX));
+    let back = Slice::new(0, None, -1);
+    assert_eq!(parts(s![back;isize::MAX, back;isize::MIN + 1]).0, format!("..;{}, ..;{}", -isize::MAX, isize::MAX));
+    assert_eq!(parts(s![back;0]).0, "..;0");
+}
+
+/// ndarray's cast makes -1 of it, and so picks backwards.
+#[test]
+#[should_panic(expected = "the step of a slice is past isize")]
+fn a_step_past_the_type_is_refused() {
+    let _ = s![..;usize::MAX];
+}
+
+/// ndarray's cast makes 2 of it.
+#[test]
+#[should_panic(expected = "the step of a slice is past isize")]
+fn a_step_whose_last_bits_look_right_is_refused() {
+    let _ = s![..;(1_i128 << 64) + 2];
+}
+
+/// In ndarray the product wraps to the step 2^62.
+#[test]
+#[should_panic(expected = "the step of a slice is past isize")]
+fn a_product_of_steps_past_the_type_is_refused() {
+    let _ = s![Slice::new(0, None, 1 << 62);5];
+}
+
+#[test]
+#[should_panic(expected = "the step of a slice is past isize")]
+fn the_least_step_has_no_opposite() {
+    let _ = s![Slice::new(0, None, isize::MIN);-1];
+}
+
 /// Each expression between the brackets is evaluated once, from the first to the last.
 #[test]
 fn the_macro_evaluates_each_expression_once() {
