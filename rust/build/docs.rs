@@ -1,7 +1,10 @@
-//! What is written before a function once its head is read: its contract, as text in its documentation, and `#[inline]`.
+//! What is written before an item once its head is read: its contract, as text in its documentation, and attributes.
 
 use crate::erase::text_of;
 use crate::tokens::{Token, Tree};
+
+/// What the documentation of a sealed trait says of that.
+const SEALED: &str = "Sealed: no type outside this package implements it.";
 
 /// The clauses of an item, and where in the output it begins: after its documentation, if it has some.
 #[derive(Default)]
@@ -11,8 +14,14 @@ pub struct Contract {
     indent: String,
     requires: Vec<String>,
     ensures: Vec<String>,
+    /// Whether callers can name the item.
+    pub is_public: bool,
     /// Whether the item is a function.
     pub is_function: bool,
+    /// Whether the item is a function whose result has to be used.
+    pub must_use: bool,
+    /// Whether the item is a trait that no caller implements.
+    pub is_sealed: bool,
 }
 
 impl Contract {
@@ -45,21 +54,33 @@ impl Contract {
 
     /// Writes `#[inline]` before a function that says nothing of that.
     pub fn inline(&self, out: &mut String) {
-        let item = &out[self.start..];
-        if self.is_function && !item.contains("#[inline") {
-            let space = &item[..item.len() - item.trim_start().len()];
-            let indent = space.rsplit('\n').next().unwrap_or_default();
-            let attribute = format!("#[inline]\n{indent}");
-            out.insert_str(self.start + space.len(), &attribute);
+        if self.is_function && !out[self.start..].contains("#[inline") {
+            self.attribute("#[inline]", out);
         }
     }
 
-    /// Writes the clauses to the end of the documentation, if there is one.
+    /// Writes `#[must_use]` before a function whose result has to be used.
+    pub fn must_use(&self, out: &mut String) {
+        if self.must_use {
+            self.attribute("#[must_use]", out);
+        }
+    }
+
+    fn attribute(&self, attribute: &str, out: &mut String) {
+        let item = &out[self.start..];
+        let space = &item[..item.len() - item.trim_start().len()];
+        let indent = space.rsplit('\n').next().unwrap_or_default();
+        let line = format!("{attribute}\n{indent}");
+        out.insert_str(self.start + space.len(), &line);
+    }
+
+    /// Writes the clauses to the end of the documentation, if there is one, and that a trait is sealed.
     pub fn write_to(&self, out: &mut String) {
         if self.is_documented {
+            let sealed = if self.is_sealed { self.lines(&["", SEALED]) } else { String::new() };
             let conditions = self.section("Conditions", &self.requires);
             let contract = self.section("Contract", &self.ensures);
-            out.insert_str(self.start, &(conditions + &contract));
+            out.insert_str(self.start, &(sealed + &conditions + &contract));
         }
     }
 
@@ -69,7 +90,10 @@ impl Contract {
         }
         let title = format!("# {title}");
         let lines = ["", &title, "", "```text"].into_iter();
-        let lines = lines.chain(clauses.iter().map(String::as_str)).chain(["```"]);
-        lines.map(|line| format!("\n{}/// {line}", self.indent).trim_end().to_string()).collect()
+        self.lines(&lines.chain(clauses.iter().map(String::as_str)).chain(["```"]).collect::<Vec<_>>())
+    }
+
+    fn lines(&self, lines: &[&str]) -> String {
+        lines.iter().map(|line| format!("\n{}/// {line}", self.indent).trim_end().to_string()).collect()
     }
 }

@@ -4,7 +4,7 @@
 use crate::docs::Contract;
 use crate::errors;
 use crate::library::without_memory;
-use crate::names::{ATTRIBUTES, DERIVES, REFUSED};
+use crate::names::{ATTRIBUTES, DERIVES, OPEN, REFUSED, SEALED};
 use crate::tokens::{Fault, Group, Kind, Token, Tree, fault};
 
 /// Where the names of a source lead in plain Rust.
@@ -21,9 +21,16 @@ pub struct Names<'a> {
     pub inlined: bool,
 }
 
+impl Names<'_> {
+    /// Whether the source is a crate of the package itself, which has callers outside.
+    fn is_packed(&self) -> bool {
+        self.package == "crate"
+    }
+}
+
 /// The trees of a source as plain Rust.
 pub fn erase(trees: &[Tree], names: &Names) -> Result<String, Fault> {
-    let mut eraser = Eraser { names, out: String::new(), contract: Contract::default() };
+    let mut eraser = Eraser { names, out: String::new(), contract: Contract::default(), in_trait: false };
     eraser.all(trees)?;
     Ok(eraser.out)
 }
@@ -31,15 +38,17 @@ pub fn erase(trees: &[Tree], names: &Names) -> Result<String, Fault> {
 pub(crate) struct Eraser<'a> {
     pub(crate) names: &'a Names<'a>,
     pub(crate) out: String,
-    /// The clauses of the function at hand.
+    /// The clauses of the item at hand.
     contract: Contract,
+    /// Whether that is an item of a sealed trait.
+    in_trait: bool,
 }
 
 /// A form: how many trees it takes, where it is the one that comes first.
 type Form<'a> = fn(&mut Eraser<'a>, &[Tree]) -> Result<Option<usize>, Fault>;
 
 impl<'a> Eraser<'a> {
-    const FORMS: [Form<'a>; 19] = [
+    const FORMS: [Form<'a>; 20] = [
         Self::doc,
         Self::clause,
         Self::ghost,
@@ -49,6 +58,7 @@ impl<'a> Eraser<'a> {
         Self::drop_impl,
         Self::export,
         Self::finality,
+        Self::seal,
         Self::drop_bound,
         Self::clone_method,
         Self::formatter,
@@ -65,7 +75,7 @@ impl<'a> Eraser<'a> {
     fn all(&mut self, trees: &[Tree]) -> Result<(), Fault> {
         let mut rest = trees;
         'trees: while let Some(tree) = rest.first() {
-            self.contract.is_function |= tree.is("fn") && rest.get(1).and_then(Tree::word).is_some();
+            self.note(rest);
             for form in Self::FORMS {
                 if let Some(taken) = form(self, rest)? {
                     rest = &rest[taken..];
@@ -76,6 +86,17 @@ impl<'a> Eraser<'a> {
             rest = &rest[1..];
         }
         Ok(())
+    }
+
+    /// Notes of the item at hand what its next token says.
+    fn note(&mut self, trees: &[Tree]) {
+        let is_named = trees.get(1).and_then(Tree::word).is_some();
+        self.contract.is_public |= is_named && trees[0].is("pub");
+        if is_named && trees[0].is("fn") {
+            let is_public = self.contract.is_public || self.in_trait;
+            self.contract.is_function = true;
+            self.contract.must_use = self.names.is_packed() && is_public && is_called_for_its_result(&trees[2..]);
+        }
     }
 
     /// A token that means the same in both languages.
@@ -90,7 +111,8 @@ impl<'a> Eraser<'a> {
         }
         self.put(token.lead, token.text);
         if token.text == ";" {
-            std::mem::take(&mut self.contract).write_to(&mut self.out);
+            self.contract.must_use(&mut self.out);
+            self.contract.write_to(&mut self.out);
             self.contract = Contract::at(self.out.len());
         }
         Ok(())
@@ -217,7 +239,7 @@ impl<'a> Eraser<'a> {
         let is_export =
             matches!(trees, [word, abi, name, ..] if word.is("extern") && abi.first().text == "\"C\"" && name.is("fn"));
         if is_export {
-            self.contract.is_function = true;
+            self.note(&trees[2..]);
             self.put(trees[0].first().lead, "fn");
         }
         Ok(is_export.then_some(3))
@@ -227,10 +249,32 @@ impl<'a> Eraser<'a> {
     fn finality(&mut self, trees: &[Tree]) -> Result<Option<usize>, Fault> {
         let is_final = begins_with(trees, &["final", "fn"]);
         if is_final {
-            self.contract.is_function = true;
+            self.note(&trees[1..]);
             self.put(trees[0].first().lead, "fn");
         }
         Ok(is_final.then_some(2))
+    }
+
+    /// A public trait of the package that callers don't implement gets a parent that they can't name.
+    fn seal(&mut self, trees: &[Tree]) -> Result<Option<usize>, Fault> {
+        let (true, [word, name, rest @ ..]) = (self.names.is_packed() && self.contract.is_public, trees) else {
+            return Ok(None);
+        };
+        let name = name.first();
+        if !word.is("trait") || OPEN.contains(&name.text) {
+            return Ok(None);
+        }
+        if !SEALED.contains(&name.text) {
+            return Err(fault(name, "is a trait, and isn't known to be sealed or open to callers"));
+        }
+        self.contract.is_sealed = true;
+        let head = rest.iter().position(|tree| tree.is("where") || tree.group("{").is_some());
+        let head = 2 + head.ok_or_else(|| fault(name, "is a trait without items"))?;
+        self.put(word.first().lead, "trait");
+        self.all(&trees[1..head])?;
+        let before = if rest.get(length_of_generics(rest)).is_some_and(|tree| tree.is(":")) { " +" } else { ":" };
+        self.put(before, &format!(" {}::sealed::Sealed", self.names.package));
+        Ok(Some(head))
     }
 
     /// `: Drop` and `+ Drop` become `Sized`: any value may be dropped, but not any has a size that is known.
@@ -307,18 +351,20 @@ impl<'a> Eraser<'a> {
         let Tree::Group(group) = &trees[0] else {
             return Ok(None);
         };
-        let is_body = group.open.text == "{";
-        if is_body {
-            let contract = std::mem::take(&mut self.contract);
-            if self.names.inlined {
-                contract.inline(&mut self.out);
-            }
-            contract.write_to(&mut self.out);
+        let kept = without_memory(&group.trees);
+        if group.open.text != "{" {
+            self.brackets(group, &kept)?;
+            return Ok(Some(1));
         }
-        self.brackets(group, &without_memory(&group.trees))?;
-        if is_body {
-            self.contract = Contract::at(self.out.len());
+        self.contract.must_use(&mut self.out);
+        if self.names.inlined {
+            self.contract.inline(&mut self.out);
         }
+        self.contract.write_to(&mut self.out);
+        let outer = std::mem::replace(&mut self.in_trait, self.contract.is_sealed);
+        self.brackets(group, &kept)?;
+        self.in_trait = outer;
+        self.contract = Contract::at(self.out.len());
         Ok(Some(1))
     }
 
@@ -344,6 +390,29 @@ fn body_of_impl(trees: &[Tree], of: &str) -> Option<usize> {
     let body = trees.iter().position(|tree| tree.group("{").is_some())?;
     let is_of = trees[..body].windows(2).any(|pair| pair[0].is(of) && pair[1].is("for"));
     (trees[0].is("impl") && is_of).then_some(body)
+}
+
+/// Whether a function returns something, of which nobody is told where it is dropped. That of a `Result` is told anyway, and a
+/// function may be called for what a closure of its caller does. The trees begin after its name.
+fn is_called_for_its_result(trees: &[Tree]) -> bool {
+    let (generics, rest) = trees.split_at(length_of_generics(trees));
+    let calls_closure = generics.iter().any(|tree| tree.is("FnMut"));
+    matches!(rest, [_, minus, arrow, result, ..] if minus.is("-") && arrow.is(">") && !result.is("Result"))
+        && !calls_closure
+}
+
+/// How many trees come first as generics: `<..>`, or none.
+fn length_of_generics(trees: &[Tree]) -> usize {
+    let mut depth = 0;
+    for (at, tree) in trees.iter().enumerate() {
+        // (the arrow of `F: Fn() -> T` closes nothing)
+        let closes = tree.is(">") && trees[..at].last().is_some_and(|before| !before.is("-"));
+        depth += i32::from(tree.is("<")) - i32::from(closes);
+        if depth == 0 {
+            return at + usize::from(closes);
+        }
+    }
+    trees.len()
 }
 
 /// Whether a body is `let NAME { a: _, b: _ } = self;`.

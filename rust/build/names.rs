@@ -95,6 +95,25 @@ pub const DERIVES: &[&str] = &["Clone", "Copy", "Debug", "Default", "Eq", "Hash"
 /// Attributes that stay.
 pub const ATTRIBUTES: &[&str] = &["cfg", "inline", "repr", "test"];
 
+/// Public traits that no caller implements: the layer goes by what their impls say, and so may lead out of the data.
+pub const SEALED: &[&str] = &[
+    "Arithmetic",
+    "Dimension",
+    "FixedCount",
+    "Lengths",
+    "NdIndex",
+    "RemoveAxis",
+    "Scale",
+    "Sequence",
+    "SequenceMut",
+    "SliceArg",
+    "SliceElems",
+];
+
+/// Public traits that stay open: conversions, whose values are checked as any are, and traits that no caller can name.
+pub const OPEN: &[&str] =
+    &["AreLengths", "Convert", "IntoDimension", "IterOrder", "Numbers", "ShapeArg", "ShapeBuilder"];
+
 /// Words that may not be left: those of contracts, of the kit's memory and runtime, and those whose meaning differs.
 pub const REFUSED: &[&str] = &[
     "Abort",

@@ -13,7 +13,7 @@ fn blur(picture: &ArrayView<'_, u16, Ix2>, soft: &mut [u16]) -> Result<(), Layou
     for row in 0..rows {
         for column in 0..columns {
             let sum: u32 = pixels.by_ref().take(9).map(|pixel| u32::from(*pixel)).sum();
-            soft.set(&Ix2(row, column), (sum / 9) as u16);
+            assert!(soft.set(&Ix2(row, column), (sum / 9) as u16), "a window has a pixel");
         }
     }
     Ok(())

@@ -32,6 +32,7 @@ extern crate std;
 mod convenience;
 pub mod memory;
 mod num_traits;
+mod sealed;
 mod smallvec;
 
 include!(concat!(env!("OUT_DIR"), "/layer.rs"));
@@ -45,6 +46,26 @@ pub mod guide {}
 #[cfg(doctest)]
 #[doc = include_str!("../README.md")]
 struct Readme;
+
+/// What says whether something was written has to be looked at, so this doesn't compile with the lint as an error:
+///
+/// ```compile_fail
+/// #![deny(unused_must_use)]
+/// let mut items = [1, 2];
+/// let mut view = ndarray_layout::ArrayViewMut::from_shape(ndarray_layout::Ix1(2).into(), &mut items).unwrap();
+/// view.set(&2, 7);
+/// ```
+///
+/// and this does:
+///
+/// ```
+/// #![deny(unused_must_use)]
+/// let mut items = [1, 2];
+/// let mut view = ndarray_layout::ArrayViewMut::from_shape(ndarray_layout::Ix1(2).into(), &mut items).unwrap();
+/// assert!(!view.set(&2, 7));
+/// ```
+#[cfg(doctest)]
+struct MustUse;
 
 pub use crate::convenience::*;
 pub use crate::memory::AllocError;

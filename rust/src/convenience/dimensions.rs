@@ -26,6 +26,7 @@ pub type Ixs = isize;
 /// ```
 #[allow(non_snake_case)]
 #[inline]
+#[must_use]
 pub const fn Ix0() -> Ix0 {
     new_ix0()
 }
@@ -39,6 +40,7 @@ pub const fn Ix0() -> Ix0 {
 /// ```
 #[allow(non_snake_case)]
 #[inline]
+#[must_use]
 pub const fn Ix1(i0: Ix) -> Ix1 {
     new_ix1(i0)
 }
@@ -52,6 +54,7 @@ pub const fn Ix1(i0: Ix) -> Ix1 {
 /// ```
 #[allow(non_snake_case)]
 #[inline]
+#[must_use]
 pub const fn Ix2(i0: Ix, i1: Ix) -> Ix2 {
     new_ix2(i0, i1)
 }
@@ -65,6 +68,7 @@ pub const fn Ix2(i0: Ix, i1: Ix) -> Ix2 {
 /// ```
 #[allow(non_snake_case)]
 #[inline]
+#[must_use]
 pub const fn Ix3(i0: Ix, i1: Ix, i2: Ix) -> Ix3 {
     new_ix3(i0, i1, i2)
 }
@@ -78,6 +82,7 @@ pub const fn Ix3(i0: Ix, i1: Ix, i2: Ix) -> Ix3 {
 /// ```
 #[allow(non_snake_case)]
 #[inline]
+#[must_use]
 pub const fn Ix4(i0: Ix, i1: Ix, i2: Ix, i3: Ix) -> Ix4 {
     new_ix4(i0, i1, i2, i3)
 }
@@ -91,6 +96,7 @@ pub const fn Ix4(i0: Ix, i1: Ix, i2: Ix, i3: Ix) -> Ix4 {
 /// ```
 #[allow(non_snake_case)]
 #[inline]
+#[must_use]
 pub const fn Ix5(i0: Ix, i1: Ix, i2: Ix, i3: Ix, i4: Ix) -> Ix5 {
     new_ix5(i0, i1, i2, i3, i4)
 }
@@ -104,6 +110,7 @@ pub const fn Ix5(i0: Ix, i1: Ix, i2: Ix, i3: Ix, i4: Ix) -> Ix5 {
 /// ```
 #[allow(non_snake_case)]
 #[inline]
+#[must_use]
 pub const fn Ix6(i0: Ix, i1: Ix, i2: Ix, i3: Ix, i4: Ix, i5: Ix) -> Ix6 {
     new_ix6(i0, i1, i2, i3, i4, i5)
 }
@@ -123,6 +130,7 @@ pub const fn Ix6(i0: Ix, i1: Ix, i2: Ix, i3: Ix, i4: Ix, i5: Ix) -> Ix6 {
 /// ```
 #[allow(non_snake_case)]
 #[inline]
+#[must_use]
 pub fn IxDyn(lens: &[Ix]) -> IxDyn {
     Dim(lens)
 }
@@ -145,6 +153,7 @@ pub fn IxDyn(lens: &[Ix]) -> IxDyn {
 /// ```
 #[allow(non_snake_case)]
 #[inline]
+#[must_use]
 pub fn Dim<T: IntoDimension>(lens: T) -> T::Dim {
     new_dim(lens).expect(OUT_OF_MEMORY)
 }
@@ -164,6 +173,7 @@ pub trait DimensionExt {
     /// # Panics
     ///
     /// Where there is no such axis.
+    #[must_use]
     fn axis(&self, axis: Axis) -> Ix;
 
     /// Replaces the length of an axis.

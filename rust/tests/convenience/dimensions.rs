@@ -1,10 +1,33 @@
 //! Dimensions by the names of their types, and the types of results.
 
+use ndarray_layout::CanIndexCheckMode::ReadOnly;
 use ndarray_layout::{
-    Axis, Dim, DimAdd, DimMax, Dimension, DimensionExt, ErrorKind, FixedCount, Ix0, Ix1, Ix2, Ix3, Ix4, Ix5, Ix6,
-    IxDyn, IxDynImpl, LayoutError, Lengths, co_broadcast, from_kind,
+    AllocError, Axis, Dim, DimAdd, DimMax, Dimension, DimensionExt, ErrorKind, FixedCount, IntoDimension, Ix0, Ix1,
+    Ix2, Ix3, Ix4, Ix5, Ix6, IxDyn, IxDynImpl, LayoutError, Lengths, StrideShape, Strided, co_broadcast, from_kind,
 };
 use std::any::{TypeId, type_name};
+
+/// A type of a caller that becomes a shape.
+struct Size {
+    width: usize,
+    height: usize,
+}
+
+impl IntoDimension for Size {
+    type Dim = Ix2;
+
+    fn into_dimension(self) -> Result<Ix2, AllocError> {
+        Ok(Ix2(self.height, self.width))
+    }
+}
+
+/// Conversions aren't sealed: what they make is a shape, and a layout of it is checked as any is.
+#[test]
+fn callers_may_implement_conversions() {
+    let shape = StrideShape::from(Size { width: 3, height: 2 });
+    assert_eq!(Strided::from_shape(shape, 1, 6, ReadOnly).map(|view| *view.dim()), Ok(Ix2(2, 3)));
+    assert_eq!(Dim(Size { width: 3, height: 2 }), Ix2(2, 3));
+}
 
 #[test]
 fn functions_have_the_names_of_the_types() {

@@ -2,6 +2,7 @@
 
 mod differences;
 mod dimensions;
+mod lent;
 mod slices;
 mod values;
 
