@@ -209,9 +209,9 @@ impl<'a, T: Drop, D: Lengths> ArrayViewMut<'a, T, D> {
     /// `0,..` and `1,..;2` of `[2,3]` over 0 1 2 3 4 5: 0 1 2 in one row; 3 and 5, each in a row of its own.
     ///
     /// A picture of 2 rows of 3 pixels, with red, green and blue side by side: `[2,3,3]` over 0, 1, .. 17, with the strides
-    /// `[9,3,1]`. Its green plane `..,..,1` isn't 2 rows of 3 items, but 6 rows of one: 1, 4, 7, 10, 13 and 16. Pixel (1,2) is
-    /// row 1 * 3 + 2, so `get(5, 0)` is 16. `get(1, 2)` is `None`, and `set(1, 2, ..)` returns `false` and writes nothing.
-    /// `set(1, 0, ..)` returns `true`, and writes row 1, which is pixel (0,1). Where the planes lie one after another, as in
+    /// `[9,3,1]`. Its green plane `..,..,1` isn't 2 rows of 3 items, but 6 rows of one: 1, 4, 7, 10, 13 and 16. The row of pixel
+    /// (1,2) is 1 * 3 + 2, so `get(5, 0)` is 16. `get(1, 2)` is `None`, and `set(1, 2, ..)` returns `false` and writes nothing.
+    /// `set(1, 0, ..)` returns `true`, and writes pixel (0,1), whose row that is. Where the planes lie one after another, as in
     /// `[3,2,3]`, row and column of `1,..,..` are those of the picture.
     ///
     /// ndarray's `multi_slice_mut`, which panics where two slices share an index.
