@@ -19,17 +19,29 @@ static void expect_ok(int32_t status) {
     exit(EXIT_FAILURE);
 }
 
+/* Ends the program where it has loaded a library that doesn't serve for its header: ndarray_layout.h, of versions. */
+static void expect_library(void) {
+    int32_t major, minor, patch;
+    expect_ok(nd_version(&major, &minor, &patch));
+    if (major == ND_VERSION_MAJOR && minor == ND_VERSION_MINOR && patch >= ND_VERSION_PATCH) return;
+    fprintf(stderr, "the library is of version %d.%d.%d, the header of %s\n", (int)major, (int)minor, (int)patch, ND_VERSION);
+    exit(EXIT_FAILURE);
+}
+
 /* Prints the pixels of a layout of two axes, a row a line. */
 static void print_picture(const nd_layout *picture) {
-    size_t index[2] = {0, 0};
-    int32_t has_next = picture->shape[0] > 0 && picture->shape[1] > 0;
-    while (has_next) {
-        size_t place;
-        expect_ok(nd_layout_place(picture, index, 2, &place));
-        putchar(pixels[place]);
-        if (index[1] + 1 == picture->shape[1]) putchar('\n');
-        expect_ok(nd_next_index(picture->shape, picture->axes, index, 2, ND_ROW_MAJOR, &has_next));
+    const size_t rows = nd_layout_row_count(picture, ND_ROW_MAJOR);
+    size_t *starts, row, column, length;
+    ptrdiff_t stride;
+    if (rows == 0) return;
+    starts = calloc(rows, sizeof *starts); /* (where malloc's product wraps, this is null) */
+    if (starts == NULL) expect_ok(ND_OUT_OF_MEMORY);
+    expect_ok(nd_layout_rows(picture, ND_ROW_MAJOR, starts, rows, &stride, &length));
+    for (row = 0; row < rows; row++) {
+        for (column = 0; column < length; column++) putchar(pixels[(ptrdiff_t)starts[row] + (ptrdiff_t)column * stride]);
+        putchar('\n');
     }
+    free(starts);
 }
 
 int main(void) {
@@ -39,6 +51,7 @@ int main(void) {
     const nd_data data = {1, sizeof pixels - 1};
     nd_layout picture;
 
+    expect_library();
     expect_ok(nd_layout_from_shape(shape, 2, ND_ROW_MAJOR, &picture));
     expect_ok(nd_layout_check(&picture, data, ND_READ_ONLY));
     expect_ok(nd_layout_slice(&picture, crop, 2, ND_STRICT, &picture));
