@@ -203,10 +203,10 @@ int32_t nd_fortran_strides(const size_t *shape, size_t shape_len, ptrdiff_t *str
 
 /*
  * Writes 1 or 0. nd_is_contiguous: whether no two indices have one place, and all fill a stretch of the buffer without a gap,
- * whatever their order. Where a length is 0: whether all strides are 0, there is one axis, or each axis has length 1 or a stride that is, without
- * its sign, the product of the lengths of the axes with a lesser one; of two equal strides that of the lower axis is less.
- * nd_is_layout_c: whether the places of all indices in row-major order follow one another without a gap, or there is no
- * index. nd_is_layout_f: the same in column-major order.
+ * whatever their order. Where a length is 0: whether all strides are 0, there is one axis, or each axis has length 1 or a
+ * stride that is, without its sign, the product of the lengths of the axes with a lesser one; of two equal strides that of the
+ * lower axis is less. nd_is_layout_c: whether the places of all indices in row-major order follow one another without a gap,
+ * or there is no index. nd_is_layout_f: the same in column-major order.
  *
  * The statuses of nd_has_overlap.
  *

@@ -2,7 +2,6 @@
 #include "ndarray_layout.h"
 
 #include <stdio.h>
-#include <stdlib.h>
 #include <string.h>
 
 #define COUNT(list) (sizeof(list) / sizeof *(list))
@@ -135,21 +134,6 @@ static void test_rows(void) {
     CHECK(nd_layout_row_count(&layout, ND_ROW_MAJOR) == 1 && nd_layout_row_count(&layout, ND_COLUMN_MAJOR) == 1);
     CHECK(nd_layout_rows(&layout, ND_ROW_MAJOR, starts, 1, &stride, &len) == ND_OK && stride == 0 && len == 1);
     CHECK(starts[0] == 0);
-}
-
-/* A list of as many items as one byte has rows: what malloc would be asked for is the size of one item. */
-static void test_how_lists_are_allocated(void) {
-    static const size_t wrapping[2] = {(size_t)-1 / sizeof(size_t) + 2, 1};
-    static const nd_data one_byte = {1, 1};
-    nd_layout layout;
-    volatile size_t rows;
-    size_t *starts;
-    CHECK(nd_layout_from_strides(LIST(wrapping), zeros, 2, one_byte, ND_READ_ONLY, &layout) == ND_OK);
-    rows = nd_layout_row_count(&layout, ND_ROW_MAJOR);
-    CHECK(rows == wrapping[0] && rows * sizeof *starts == sizeof *starts);
-    starts = (size_t *)calloc(rows, sizeof *starts);
-    CHECK(starts == NULL);
-    free(starts);
 }
 
 static void test_next_index(void) {
@@ -489,7 +473,6 @@ int main(int count, char **arguments) {
     test_new_layouts();
     test_places();
     test_rows();
-    test_how_lists_are_allocated();
     test_next_index();
     test_no_index();
     test_layouts_of_layouts();

@@ -25,7 +25,12 @@ fn main() -> Fallible<()> {
     let suffix = header.lines().find_map(|line| line.strip_prefix("#define ND_NAME(call) call##"));
     println!("cargo::rustc-env=ND_SUFFIX={}", suffix.ok_or("the header says no names of the library's")?);
 
-    for read in [here.join("../ndarray_layout.h"), top.join("rust/build"), top.join("crates"), library.join("libndarray_layout.a")] {
+    for read in [
+        here.join("../ndarray_layout.h"),
+        top.join("rust/build"),
+        top.join("crates"),
+        library.join("libndarray_layout.a"),
+    ] {
         println!("cargo::rerun-if-changed={}", read.display());
     }
     println!("cargo::rerun-if-env-changed=NDARRAY_LAYOUT_LIB_DIR");
