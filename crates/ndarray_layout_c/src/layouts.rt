@@ -189,7 +189,8 @@ pub extern "C" fn nd_fortran_strides(alloc: Global, shape: &[usize], strides: &m
     write_own_strides(alloc, shape, strides, Order::ColumnMajor)
 }
 
-/// Writes whether the indices of a layout fill a stretch without a gap, by the rule on lengths and strides.
+/// Writes whether no two indices of a layout have one place, and all fill a stretch without a gap. Without an index the rule on
+/// lengths and strides decides.
 #[unsafe(no_mangle)]
 pub extern "C" fn nd_is_contiguous(
     alloc: Global,
