@@ -3,29 +3,34 @@
 from __future__ import annotations
 
 from ctypes import c_size_t
-from math import gcd, prod
-from typing import Any, NamedTuple, Optional, Protocol, Sequence
+from math import gcd
+from typing import Any, NamedTuple, Optional, Protocol, SupportsIndex
 
 from . import _library as library
 from ._errors import LayoutError, OutOfBoundsError, ShapeError, SizeOverflowError, error_of_kind
 from ._layouts import is_layout_c, is_layout_f, layout_start, order_by
 from ._numbers import (
+    FAR,
     LIMIT,
     ORDERS,
     Lens,
     Numbers,
     Packed,
+    flag,
     integer,
-    listing,
+    integers,
     not_64_bits,
     one_answer,
     one_number,
+    product,
     said,
     signed,
     size,
     unsigned,
+    work_limit,
+    written,
 )
-from ._reasons import Reason, of_array
+from ._reasons import Reason, of_array, of_size
 from ._reasons import of_lay_over as reason_of_lay_over
 from ._shapes import reshaped
 from ._sharing import MAX_WORK, share_byte
@@ -45,19 +50,20 @@ def element_strides(byte_strides: Numbers, itemsize: int) -> Lens:
     >>> element_strides((24, -8), 8)
     (3, -1)
     """
-    strides = byte_strides if type(byte_strides) is tuple else listing(byte_strides)
-    if itemsize < 1:
-        raise no_itemsize(itemsize)
-    if gcd(itemsize, *strides) != itemsize:
-        axis = next(axis for axis, stride in enumerate(strides) if stride % itemsize)
-        text = f"axis {axis}: stride {strides[axis]} is no multiple of the item size {itemsize}"
-        raise ShapeError("IncompatibleLayout", text, axis, {"stride": strides[axis], "itemsize": itemsize})
-    return tuple([stride // itemsize for stride in strides])
+    strides, unit = integers(byte_strides, "stride"), _above_0(itemsize)
+    if gcd(unit, *strides) != unit:
+        axis = next(axis for axis, stride in enumerate(strides) if stride % unit)
+        text = f"axis {axis}: stride {said(strides[axis])} is no multiple of the item size {said(unit)}"
+        raise ShapeError("IncompatibleLayout", text, axis, {"stride": strides[axis], "itemsize": unit})
+    return tuple([stride // unit for stride in strides])
 
 
-def no_itemsize(itemsize: int) -> ShapeError:
-    """The error of an item size below 1."""
-    return ShapeError("Unsupported", f"the item size {itemsize} isn't above 0", None, {"itemsize": itemsize})
+def _above_0(itemsize: SupportsIndex) -> int:
+    """An item size, or its error."""
+    unit = integer(itemsize, "itemsize")
+    if unit < 1:
+        raise ShapeError("Unsupported", f"the item size {said(unit)} isn't above 0", None, {"itemsize": unit})
+    return unit
 
 
 class Array(Protocol):
@@ -74,6 +80,15 @@ class Array(Protocol):
     @property
     def itemsize(self) -> int:
         ...
+
+
+def read_array(a: Array) -> tuple[Lens, Lens, int]:
+    """The shape, the strides in bytes and the item size of an array."""
+    try:
+        shape, strides, itemsize = a.shape, a.strides, a.itemsize
+    except AttributeError:
+        raise TypeError(f"an array has a shape, strides and an itemsize, unlike {written(a)}") from None
+    return integers(shape, "length"), integers(strides, "stride"), integer(itemsize, "itemsize")
 
 
 def lay_over(
@@ -102,16 +117,13 @@ def lay_over(
     >>> lay_over(3, 7, itemsize=4, nbytes=20, offset=2, owned=True)    # of 4 bytes in each 7, the last at 16
     2
     """
-    steps = strides if type(strides) is tuple else listing(strides)
-    if itemsize < 1:
-        raise no_itemsize(itemsize)
-    lens = shape if type(shape) is tuple else listing(shape)
-    unsigned(lens), signed(steps)  # (which refuse what has no 64 bits, before it is divided)
-    nbytes = size(nbytes, "nbytes").value
+    lens, steps, itemsize = integers(shape, "length"), integers(strides, "stride"), _above_0(itemsize)
+    unsigned(lens), signed(steps), size(itemsize, "itemsize")  # (which refuse what has no 64 bits, before a division)
+    nbytes, owned = size(nbytes, "nbytes").value, flag(owned, "owned")
     offset = None if offset is None else integer(offset, "offset")
     if offset is not None and not 0 <= offset <= nbytes:
-        numbers = {"offset": offset, "nbytes": nbytes}
-        raise OutOfBoundsError("OutOfBounds", f"offset {offset} lies outside of {nbytes} bytes", None, numbers)
+        text = f"offset {said(offset)} lies outside of {said(nbytes)} bytes"
+        raise OutOfBoundsError("OutOfBounds", text, None, {"offset": offset, "nbytes": nbytes})
     try:
         return _laid_over(lens, steps, itemsize, nbytes, offset, owned)
     except LayoutError as error:
@@ -128,10 +140,10 @@ def _laid_over(lens: Lens, steps: Lens, itemsize: int, nbytes: int, offset: Opti
     packed_lens, packed_steps = unsigned(lens), signed(steps)
     if offset is None:
         start, sizes = one_number(), (c_size_t(unit), c_size_t(nbytes // unit))
-        library.layout_start(*packed_lens, *packed_steps, *sizes, bool(owned), start)
+        library.layout_start(*packed_lens, *packed_steps, *sizes, owned, start)
         return unit * int(start[0])
     sizes = c_size_t(unit), size((nbytes - offset % unit) // unit, "nbytes")
-    library.check_layout(size(offset // unit, "offset"), *packed_lens, *packed_steps, *sizes, bool(owned))
+    library.check_layout(size(offset // unit, "offset"), *packed_lens, *packed_steps, *sizes, owned)
     return offset
 
 
@@ -164,29 +176,32 @@ def share_element(a: Array, first: Any, second: Any, max_work: Optional[int] = M
     Traceback (most recent call last):
     ndarray_layout.ShapeError: Unsupported: elements of shape (4, 3) and strides (8, 8) may overlap
     """
-    shape, answer = a.shape, one_answer()
+    (shape, strides, itemsize), max_work, answer = read_array(a), work_limit(max_work), one_answer()
+    if not 0 <= itemsize < 2**64:
+        raise not_64_bits("itemsize", itemsize, True, None)
+    lens, steps = unsigned((*shape, itemsize)), signed((*strides, 1))
     try:
-        library.has_overlap(*unsigned((*shape, a.itemsize)), *signed((*a.strides, 1)), answer)
+        library.has_overlap(*lens, *steps, answer)
     except LayoutError as error:
-        raise _in_bytes(error, of_array(tuple(shape), tuple(a.strides), a.itemsize)) from None
+        raise _in_bytes(error, of_array(shape, strides, itemsize)) from None
     if answer[0]:
-        return _share_byte(a, first, second, max_work)
+        return _share_byte((shape, strides, itemsize), first, second, max_work)
     keys = *packed_key(shape, first), *packed_key(shape, second)
     library.slices_intersect(*unsigned(shape), *keys, False, answer)
     return bool(answer[0])
 
 
-def _share_byte(a: Array, first: Any, second: Any, max_work: Optional[int]) -> bool:
+def _share_byte(array: tuple[Lens, Lens, int], first: Any, second: Any, max_work: Optional[int]) -> bool:
     """`share_element` of an array whose elements may overlap."""
-    shape, strides = tuple(a.shape), tuple(a.strides)
+    shape, strides, itemsize = array
     start = layout_start(shape, strides, length=LIMIT + 1)
-    refusal = f"elements of shape {shape} and strides {strides} may overlap"
+    refusal = f"elements of shape {written(shape)} and strides {written(strides)} may overlap"
     if max_work == 0:
         raise ShapeError("Unsupported", refusal)
     one, other = (slice_by_key(start, shape, strides, key) for key in (first, second))
-    shared = share_byte(one, other, int(a.itemsize), max_work)
+    shared = share_byte(one, other, itemsize, max_work)
     if shared is None:
-        raise ShapeError("Unsupported", f"{refusal}, and {max_work} steps don't decide whether these do")
+        raise ShapeError("Unsupported", f"{refusal}, and {written(max_work)} steps don't decide whether these do")
     return shared
 
 
@@ -207,24 +222,25 @@ def reshape_without_copy(a: Array, new_shape: Numbers, order: Optional[str] = "C
     >>> reshape_without_copy(Columns, 12, order=None)
     Reshaped(order='F', strides=(8,))
     """
-    shape, wanted = a.shape, new_shape if type(new_shape) is tuple else listing(new_shape)
+    (shape, strides, itemsize), wanted = read_array(a), integers(new_shape, "length")
     if -1 in wanted:
         wanted = without_minus_one(shape, wanted)
-    lens, steps, new_lens = unsigned(shape), signed(a.strides), unsigned(wanted)
+    lens, steps, new_lens = unsigned(shape), signed(strides), unsigned(wanted)
     if order is None:
-        number, strides = _reshaped_by_any(lens, steps, new_lens)
+        number, new_strides = _reshaped_by_any(lens, steps, new_lens)
     else:
-        number = ORDERS[order] if order in ORDERS else _order_of(a, order)
-        strides = reshaped(lens, steps, new_lens, number)
+        is_plain = isinstance(order, str) and order in ORDERS
+        number = ORDERS[order] if is_plain else _order_of(shape, strides, itemsize, order)
+        new_strides = reshaped(lens, steps, new_lens, number)
     if 1 in wanted:  # (an axis of length 1 may be left with stride 1, for one element)
-        pairs = zip(wanted, strides)
-        strides = tuple([a.itemsize if length == stride == 1 else stride for length, stride in pairs])
-    return Reshaped("CF"[number], strides)
+        pairs = zip(wanted, new_strides)
+        new_strides = tuple([itemsize if length == stride == 1 else stride for length, stride in pairs])
+    return Reshaped("CF"[number], new_strides)
 
 
-def _order_of(a: Array, order: str) -> int:
+def _order_of(shape: Lens, strides: Lens, itemsize: int, order: str) -> int:
     """How the exports write the order 'A' of the elements of an array, or the error of another one."""
-    columns, rows = ((a.itemsize, *a.shape), (1, *a.strides)), ((*a.shape, a.itemsize), (*a.strides, 1))
+    columns, rows = ((itemsize, *shape), (1, *strides)), ((*shape, itemsize), (*strides, 1))
     return order_by(order, lambda: is_layout_f(*columns) and not is_layout_c(*rows))
 
 
@@ -240,7 +256,7 @@ def _reshaped_by_any(lens: Packed, steps: Packed, new_lens: Packed) -> tuple[int
         raise refusal from None
 
 
-def without_minus_one(shape: Sequence[int], new_shape: Lens) -> Lens:
+def without_minus_one(shape: Lens, new_shape: Lens) -> Lens:
     """The new shape with the length that NumPy would put in the place of one -1. It alone may be negative."""
     if -1 not in new_shape:
         return new_shape
@@ -250,7 +266,10 @@ def without_minus_one(shape: Sequence[int], new_shape: Lens) -> Lens:
             error = not_64_bits("length", length, True, axis)
             text = f"axis {axis}: length -1 is there twice, and only one may be -1"
             raise SizeOverflowError("Overflow", text, axis, {"length": length}) if length == -1 else error
-    others, size = prod([length for length in new_shape if length != -1]), prod(shape)
+    others, size = product([length for length in new_shape if length != -1]), product(shape)
+    fault = of_size(shape) if size >= FAR else None
+    if fault:
+        raise error_of_kind(*fault)
     if others == 0 or size % others:
         which = "any" if others == size == 0 else "no"
         text = f"axis {missing}: {which} length times {said(others)} is the size {said(size)}"

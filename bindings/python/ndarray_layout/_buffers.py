@@ -3,13 +3,12 @@
 from __future__ import annotations
 
 from numbers import Integral
-from operator import index
 from pickle import PickleBuffer
 from types import SimpleNamespace
 from typing import TYPE_CHECKING, Any
 
 from ._errors import OutOfBoundsError, ShapeError
-from ._numbers import Lens
+from ._numbers import Lens, as_integer
 
 if TYPE_CHECKING:
     import numpy
@@ -38,8 +37,9 @@ def _without_format(array: Any) -> Any:
 
 def count_items(buffer: Any) -> tuple[int, int]:
     """How many items a buffer has, and their size. A number stands for so many items."""
-    if isinstance(buffer, Integral):
-        return index(buffer), 1
+    number = as_integer(buffer) if isinstance(buffer, Integral) else None
+    if number is not None:
+        return number, 1
     view = shown(buffer)
     if view.itemsize == 0:
         raise no_bytes("items of the buffer")
@@ -88,9 +88,10 @@ def dtype_of(buffer: Any, items: memoryview) -> numpy.dtype[Any]:
     import numpy
 
     try:
-        return numpy.dtype(buffer.dtype if hasattr(buffer, "dtype") else items.format)
+        kind: numpy.dtype[Any] = numpy.dtype(buffer.dtype if hasattr(buffer, "dtype") else items.format)
     except TypeError:  # (of what a letter doesn't name, as records)
-        return _as_numpy(items).dtype
+        kind = _as_numpy(items).dtype
+    return kind
 
 
 def _as_numpy(view: memoryview) -> numpy.ndarray[Any, Any]:
@@ -134,9 +135,7 @@ def items_before(array: Any, base: Any, itemsize: int) -> int:
     """How many items of a base lie in memory before element (0, .., 0) of an array."""
     start, rest = divmod(_address(array, "array") - _address(base, "base"), itemsize)
     if start < 0:
-        raise OutOfBoundsError(
-            "OutOfBounds", f"the array begins {-start} items below the base", None, {"start": start}
-        )
+        raise OutOfBoundsError("OutOfBounds", f"the array begins {-start} items below the base", None, {"start": start})
     if rest:
         text = f"the array begins {rest} bytes within an item of the base"
         raise ShapeError("IncompatibleLayout", text, None, {"bytes": rest})

@@ -9,7 +9,8 @@ class LayoutError(Exception):
     """A call of the layer returned an error.
 
     `kind` is its kind, as 'OutOfBounds', and `text` says why. Where one axis is to blame `axis` is its number, and
-    `numbers` has what the text says of it by name, as {'index': 9, 'length': 5}.
+    `numbers` has what the text says of it by name, as {'index': 9, 'length': 5}. The text gives a bound, as 'more than
+    2**16609', for a number past 128 bits. For a size past 2**1024 `numbers` has 2**1024 + 1.
     """
 
     __module__ = "ndarray_layout"

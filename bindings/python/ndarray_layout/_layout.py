@@ -8,7 +8,7 @@ from math import prod
 from operator import index as as_int
 from typing import TYPE_CHECKING, Any, Iterator, Optional, Sequence, SupportsIndex
 
-from ._arrays import element_strides, without_minus_one
+from ._arrays import element_strides, read_array, without_minus_one
 from ._buffers import (
     array_over,
     count_items,
@@ -36,7 +36,20 @@ from ._layouts import (
     places,
     rows,
 )
-from ._numbers import LIMIT, Lens, Numbers, View, listing, order_number
+from ._numbers import (
+    LIMIT,
+    Lens,
+    Numbers,
+    View,
+    entries,
+    integer,
+    integers,
+    listing,
+    order_number,
+    said,
+    work_limit,
+    written,
+)
 from ._shapes import broadcast, exact_chunks, permuted_axes, reshape, split_at, windows
 from ._sharing import MAX_WORK, share_byte
 from ._slices import Elems, Slice, basic_key, first_intersection, slice_by_key, slice_view, slices_intersect
@@ -74,7 +87,7 @@ class Layout:
     def __init__(
         self, start: SupportsIndex, shape: Numbers, strides: Numbers, *, length: SupportsIndex, owned: bool = False
     ) -> None:
-        lens, steps = tuple(map(as_int, listing(shape))), tuple(map(as_int, listing(strides)))
+        lens, steps = integers(shape, "length"), integers(strides, "stride")
         check_layout(start, lens, steps, length=length, owned=owned)
         self.__dict__.update(start=as_int(start), shape=lens, strides=steps)
         self.__dict__.update(length=as_int(length), owned=bool(owned))
@@ -109,11 +122,11 @@ class Layout:
         5
         """
         length, elem_size = count_items(buffer)
-        lens = listing(shape)
+        lens, number = integers(shape, "length"), order_number(order)
         if strides is None:
-            steps = (default_strides, fortran_strides)[order_number(order)](lens)
+            steps = (default_strides, fortran_strides)[number](lens)
         else:
-            steps = listing(strides)
+            steps = integers(strides, "stride")
         if start is None:
             start = layout_start(lens, steps, elem_size=elem_size, length=length, owned=owned)
         else:
@@ -135,11 +148,12 @@ class Layout:
         >>> Layout.of(memoryview(b"abcdef")[::-2])
         Layout(start=4, shape=(3,), strides=(-2,), length=5, owned=False)
         """
-        view = array if hasattr(array, "strides") else shown(array)
+        is_array = not isinstance(array, memoryview) and hasattr(array, "strides")
+        view = array if is_array else shown(array, "array")
         if getattr(view, "suboffsets", ()):
             raise ShapeError("Unsupported", "a layout has no suboffsets")
-        shape, itemsize = tuple(view.shape), view.itemsize
-        strides = default_strides(shape) if 0 in shape else element_strides(view.strides, itemsize)
+        shape, byte_strides, itemsize = read_array(view)
+        strides = default_strides(shape) if 0 in shape else element_strides(byte_strides, itemsize)
         if base is None:
             start = layout_start(shape, strides, elem_size=itemsize, length=LIMIT + 1, owned=owned)
             span = sum(max(length - 1, 0) * abs(stride) for length, stride in zip(shape, strides))
@@ -205,7 +219,7 @@ class Layout:
         >>> Layout.over(6, (2, 3)).reshape((3, -1)).shape
         (3, 2)
         """
-        lens = without_minus_one(self.shape, tuple(map(as_int, listing(shape))))
+        lens = without_minus_one(self.shape, integers(shape, "length"))
         return self._kept(self.start, lens, reshape(self.shape, self.strides, lens, order), self.owned)
 
     def broadcast(self, shape: Numbers) -> Layout:
@@ -214,7 +228,7 @@ class Layout:
         >>> Layout.over(3, 3).broadcast((2, 3))
         Layout(start=0, shape=(2, 3), strides=(0, 1), length=3, owned=False)
         """
-        lens = tuple(map(as_int, listing(shape)))
+        lens = integers(shape, "length")
         return self._kept(self.start, lens, broadcast(self.shape, self.strides, lens), False)
 
     def windows(self, window: Numbers) -> Layout:
@@ -256,8 +270,8 @@ class Layout:
         >>> Layout.over(24, (2, 3, 4)).transpose(-1, 0, 1).shape
         (4, 2, 3)
         """
-        listed = listing(axes[0]) if len(axes) == 1 and axes[0] is not None else axes
-        if listed in ((), (None,)):
+        listed = listing(axes[0], "axis") if len(axes) == 1 and axes[0] is not None else axes
+        if len(listed) == 0 or len(listed) == 1 and listed[0] is None:
             return self.permuted_axes(range(self.ndim)[::-1])
         return self.permuted_axes([_axis(axis, self.ndim) for axis in listed])
 
@@ -298,7 +312,8 @@ class Layout:
         >>> Layout.over(6, (2, 3)).first_intersection([0, (1, 0), (..., -1)])
         (0, 2)
         """
-        return first_intersection(self.shape, [self._elems_at(position, key) for position, key in enumerate(keys)])
+        listed = entries(keys, "keys", "slices")
+        return first_intersection(self.shape, [self._elems_at(position, key) for position, key in enumerate(listed)])
 
     def _elems_at(self, position: int, key: Any) -> Elems:
         try:
@@ -316,11 +331,12 @@ class Layout:
         >>> windows.intersects(0, 2), windows.intersects(0, 3)
         (True, False)
         """
+        max_work = work_limit(max_work)
         if not self.has_overlap:
             return slices_intersect(self.shape, basic_key(self.shape, first), basic_key(self.shape, second))
         shared = share_byte(self._view(first), self._view(second), 1, max_work) if max_work != 0 else None
         if shared is None:
-            text = f"places of {self} may overlap, and {max_work} steps don't decide whether these do"
+            text = f"places of {self} may overlap, and {written(max_work)} steps don't decide whether these do"
             raise ShapeError("Unsupported", text)
         return shared
 
@@ -396,8 +412,8 @@ class Layout:
 
 def _axis(axis: SupportsIndex, axes: int) -> int:
     """An axis, counted from the end where it is negative."""
-    number = as_int(axis)
+    number = integer(axis, "axis")
     if not -axes <= number < axes:
         numbers = {"axis": number, "axes": axes}
-        raise OutOfBoundsError("OutOfBounds", f"axis {number}: there are {axes} axes", None, numbers)
+        raise OutOfBoundsError("OutOfBounds", f"axis {said(number)}: there are {axes} axes", None, numbers)
     return number % axes

@@ -16,6 +16,7 @@ from ._numbers import (
     Lens,
     Numbers,
     Packed,
+    flag,
     one_answer,
     one_number,
     one_stride,
@@ -24,6 +25,8 @@ from ._numbers import (
     signed,
     size,
     unsigned,
+    work_limit,
+    written,
 )
 from ._sharing import MAX_WORK, repeat_a_place
 
@@ -43,7 +46,7 @@ def layout_start(
     ndarray_layout.OutOfBoundsError: the layout needs 5 elements of 4
     """
     start, sizes = one_number(), (size(elem_size, "elem_size"), size(length, "length"))
-    library.layout_start(*unsigned(shape), *signed(strides), *sizes, bool(owned), start)
+    library.layout_start(*unsigned(shape), *signed(strides), *sizes, flag(owned, "owned"), start)
     return int(start[0])
 
 
@@ -64,7 +67,7 @@ def check_layout(
     ndarray_layout.OutOfBoundsError: the lowest place -1 is below 0
     """
     first, sizes = size(start, "start"), (size(elem_size, "elem_size"), size(length, "length"))
-    library.check_layout(first, *unsigned(shape), *signed(strides), *sizes, bool(owned))
+    library.check_layout(first, *unsigned(shape), *signed(strides), *sizes, flag(owned, "owned"))
 
 
 def has_overlap(shape: Numbers, strides: Numbers) -> bool:
@@ -88,13 +91,14 @@ def has_distinct_places(shape: Numbers, strides: Numbers, max_work: Optional[int
     >>> has_distinct_places((4, 3), (2, 3))
     False
     """
-    lens, steps = unsigned(shape), signed(strides)
+    lens, steps, max_work = unsigned(shape), signed(strides), work_limit(max_work)
     if not _answer(library.has_overlap, lens, steps):
         return True
     layout = lens[1].unpack_unsigned(lens[0]), steps[1].unpack_signed(steps[0])
     repeats = repeat_a_place(*layout, max_work) if max_work != 0 else None
     if repeats is None:
-        text = f"shape {layout[0]} and strides {layout[1]} may have one place twice, and {max_work} steps don't decide"
+        shown = f"shape {written(layout[0])} and strides {written(layout[1])}"
+        text = f"{shown} may have one place twice, and {written(max_work)} steps don't decide"
         raise ShapeError("Unsupported", text)
     return not repeats
 
@@ -134,7 +138,7 @@ def _answer(call: library.Call, lens: Packed, steps: Packed) -> bool:
 
 def order_of(order: str, lens: Packed, steps: Packed) -> int:
     """How the exports write an order. 'A' is 'F' for what is column-major and not row-major, else 'C', as in NumPy."""
-    if order in ORDERS:
+    if isinstance(order, str) and order in ORDERS:
         return ORDERS[order]
     is_f, is_c = library.is_layout_f, library.is_layout_c
     return order_by(order, lambda: _answer(is_f, lens, steps) and not _answer(is_c, lens, steps))
@@ -142,11 +146,11 @@ def order_of(order: str, lens: Packed, steps: Packed) -> int:
 
 def order_by(order: str, is_column_major: Callable[[], bool]) -> int:
     """How the exports write an order, where 'A' is decided by a question."""
-    if order in ("A", "a"):
+    if isinstance(order, str) and order in ("A", "a"):
         return int(is_column_major())
-    if order not in ORDERS:
-        raise ShapeError("Unsupported", f"order must be 'C', 'F' or 'A', not {order!r}")
-    return ORDERS[order]
+    if isinstance(order, str) and order in ORDERS:
+        return ORDERS[order]
+    raise ShapeError("Unsupported", f"order must be 'C', 'F' or 'A', not {written(order)}")
 
 
 def default_strides(shape: Numbers) -> Lens:

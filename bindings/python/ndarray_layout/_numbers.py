@@ -7,11 +7,13 @@ from __future__ import annotations
 
 import ctypes
 from array import array
+from collections.abc import Mapping, Set
 from operator import index
+from reprlib import Repr
 from struct import Struct
 from struct import error as StructError
 from sys import byteorder
-from typing import Any, Callable, Iterable, NamedTuple, Optional, SupportsIndex, Union
+from typing import Any, Callable, Iterable, NamedTuple, Optional, Sequence, SupportsIndex, Union
 
 from ._errors import ShapeError, SizeOverflowError
 
@@ -58,57 +60,114 @@ def count_of(number: int) -> Count:
     return COUNTS[number] if number < 65 else Count(number)
 
 
-def unsigned(numbers: Numbers, name: str = "length") -> Packed:
-    """A list of `size_t`. One that is none is a `SizeOverflowError`, which calls it by `name`."""
-    try:
-        count = COUNTS[len(numbers)]  # type: ignore[arg-type]
-        return count.pack_unsigned(*numbers), count  # type: ignore[misc]
-    except (TypeError, StructError, IndexError):
-        return _packed("Q", numbers, name)
+def _packer(typecode: str, usual: str) -> Callable[..., Packed]:
+    """What packs a list. Of a number that is none of C's it raises a `SizeOverflowError`, which calls it by a name."""
+    packs = [Struct(f"{number}{typecode}").pack for number in range(len(COUNTS))]
+
+    def pack(numbers: Numbers, name: str = usual) -> Packed:
+        if (type(numbers) is tuple or type(numbers) is list) and len(numbers) < len(packs):
+            for number in numbers:
+                if type(number) is not int:  # (also a boolean, which `struct` would pack)
+                    break
+            else:
+                try:
+                    return packs[len(numbers)](*numbers), COUNTS[len(numbers)]
+                except StructError:
+                    pass
+        return _packed(typecode, numbers, name)
+
+    return pack
 
 
-def signed(numbers: Numbers, name: str = "stride") -> Packed:
-    """A list of `ptrdiff_t`. One that is none is a `SizeOverflowError`, which calls it by `name`."""
-    try:
-        count = COUNTS[len(numbers)]  # type: ignore[arg-type]
-        return count.pack_signed(*numbers), count  # type: ignore[misc]
-    except (TypeError, StructError, IndexError):
-        return _packed("q", numbers, name)
+unsigned = _packer("Q", "length")
+"""A list of `size_t`, from numbers and what an error calls one of them."""
+
+signed = _packer("q", "stride")
+"""A list of `ptrdiff_t`, likewise."""
 
 
 def _packed(typecode: str, numbers: Numbers, name: str) -> Packed:
     """Any list, or the error of its first number without 64 bits."""
-    listed = listing(numbers)
+    listed = integers(numbers, name)
     try:
         return array(typecode, listed).tobytes(), count_of(len(listed))
     except OverflowError:
         pass
     low, high = (0, 2**64) if typecode == "Q" else (-(2**63), 2**63)
     axis = next(axis for axis, number in enumerate(listed) if not low <= number < high)
-    raise not_64_bits(name, index(listed[axis]), typecode == "Q", axis)
+    raise not_64_bits(name, listed[axis], typecode == "Q", axis)
 
 
-def listing(numbers: Numbers) -> tuple[Any, ...]:
-    """The numbers of a list, each read once."""
+def integers(numbers: Numbers, name: str) -> Lens:
+    """The numbers of a list, as Python's own. Where one is none it is a `TypeError`, which calls it by `name`."""
+    listed = numbers if type(numbers) is tuple else listing(numbers, name)
+    for number in listed:
+        if type(number) is not int:
+            return tuple([integer(number, name, axis) for axis, number in enumerate(listed)])
+    return listed
+
+
+def listing(numbers: Numbers, name: str = "length") -> tuple[Any, ...]:
+    """The numbers of a list, each read once: of one number that alone."""
     try:
-        return tuple(numbers)  # type: ignore[arg-type]
+        return entries(numbers, name, "integers")
     except TypeError:
         if hasattr(numbers, "__index__"):
             return (numbers,)
         raise
 
 
-def integer(number: SupportsIndex, name: str) -> int:
-    """A number of Python. What is none is a `TypeError`, which calls it by `name`."""
+def entries(values: Any, name: str, kind: str) -> tuple[Any, ...]:
+    """The entries of a list, each read once. Sets and dicts, whose order says nothing, are none."""
+    if type(values) is tuple or type(values) is list:
+        return tuple(values)
     try:
-        return index(number)
+        iterator = iter(values)
     except TypeError:
-        raise TypeError(f"{name} is an integer, not {number!r}") from None
+        iterator = None
+    if iterator is None or isinstance(values, (Set, Mapping)):
+        raise TypeError(f"{name}: {written(values)} is no list of {kind}")
+    return tuple(iterator)
+
+
+def integer(number: SupportsIndex, name: str, axis: Optional[int] = None) -> int:
+    """A number of Python, as NumPy reads it. What is none is a `TypeError`, which calls it by `name`."""
+    read = as_integer(number)
+    if read is None:
+        raise TypeError(f"{_of_axis(axis)}{name} is an integer, not {written(number)}")
+    return read
+
+
+def as_integer(value: Any) -> Optional[int]:
+    """The integer that NumPy reads, which takes no boolean for one, or `None`."""
+    if type(value) is int:
+        return value
+    try:
+        return index(value) if type(value).__name__ not in _BOOLEANS else None
+    except TypeError:
+        return None
+
+
+_BOOLEANS = ("bool", "bool_")
+"""The names of the types of Python's booleans and of NumPy's."""
+
+
+def flag(value: Any, name: str) -> bool:
+    """Yes or no, of whatever says one of them: an array of several items doesn't."""
+    try:
+        return bool(value)
+    except ValueError:
+        raise TypeError(f"{name} is true or false, not {written(value)}") from None
+
+
+def work_limit(max_work: Optional[SupportsIndex]) -> Optional[int]:
+    """How many steps a comparison may take, or `None`."""
+    return None if max_work is None else integer(max_work, "max_work")
 
 
 def size(number: SupportsIndex, name: str) -> ctypes.c_size_t:
     """A number as a call takes it, where it is a `size_t`: ctypes itself would drop its upper bits."""
-    counted = integer(number, name)
+    counted = number if type(number) is int else integer(number, name)
     if 0 <= counted < 2**64:
         return ctypes.c_size_t(counted)
     raise not_64_bits(name, counted, True, None)
@@ -117,24 +176,76 @@ def size(number: SupportsIndex, name: str) -> ctypes.c_size_t:
 def not_64_bits(name: str, number: int, is_unsigned: bool, axis: Optional[int]) -> SizeOverflowError:
     """The error of a number that is none of C's."""
     what = "negative" if is_unsigned and number < 0 else "past 64 bits"
-    where = "" if axis is None else f"axis {axis}: "
-    return SizeOverflowError("Overflow", f"{where}{name} {said(number)} is {what}", axis, {name: number})
+    return SizeOverflowError("Overflow", f"{_of_axis(axis)}{name} {said(number)} is {what}", axis, {name: number})
+
+
+def _of_axis(axis: Optional[int]) -> str:
+    return "" if axis is None else f"axis {axis}: "
+
+
+# ---- What the texts of errors say
 
 
 def said(number: int) -> str:
-    """A number in digits, or by its exponent where it is a large power of two or next to one.
+    """A number in digits, by its exponent where it is a large power of two or next to one, or by a bound.
 
-    >>> said(12), said(2**64), said(2**63 - 1)
-    ('12', '2**64', '2**63 - 1')
+    A number of many digits takes long to write, and past 4,300 Python refuses to.
+
+    >>> said(12), said(2**64), said(2**63 - 1), said(10**5000)
+    ('12', '2**64', '2**63 - 1', 'more than 2**16609')
     """
     sign, far = ("-" if number < 0 else ""), abs(number)
     if far < 2**32:
         return str(number)
+    bits = far.bit_length()
     if far & (far - 1) == 0:
-        return f"{sign}2**{far.bit_length() - 1}"
+        return f"{sign}2**{bits - 1}"
     if far & (far + 1) == 0 and not sign:
-        return f"2**{far.bit_length()} - 1"
+        return f"2**{bits} - 1"
+    if bits > 128:
+        return f"{'less' if sign else 'more'} than {sign}2**{bits - 1}"
     return str(number)
+
+
+class _Written(Repr):
+    """`repr` in a few letters, also where Python has none."""
+
+    def __init__(self) -> None:
+        super().__init__()
+        self.maxstring = self.maxother = 80
+        self.maxtuple = self.maxlist = 32
+
+    def repr_int(self, number: int, level: int) -> str:
+        return said(number)
+
+
+_texts = _Written()
+
+
+def written(value: Any) -> str:
+    """Any value, as an error shows it."""
+    try:
+        return _texts.repr(value)
+    except Exception:  # (of a class that has the name of one of Python's)
+        return f"a {type(value).__name__}"
+
+
+FAR = 2**1024 + 1
+"""What stands for a product of lengths that is as large or larger. (found, it would take the square of their count)"""
+
+
+def product(lengths: Sequence[int]) -> int:
+    """The product of lengths, or `FAR`.
+
+    >>> product((2, 3)), product((2**600,) * 3) == FAR, product((2**600, 2**600, 0))
+    (6, True, 0)
+    """
+    found = int(0 not in lengths)
+    for length in lengths:
+        found *= length
+        if found >= FAR:
+            return FAR
+    return found
 
 
 one_number: Callable[[], Any] = ctypes.c_size_t * 1
@@ -153,9 +264,9 @@ ORDERS = {"C": 0, "F": 1, "c": 0, "f": 1}
 
 def order_number(order: str) -> int:
     """How the exports write an order, where there is no layout that could say what 'A' is."""
-    if order not in ORDERS:
-        raise ShapeError("Unsupported", f"order must be 'C' or 'F', not {order!r}")
-    return ORDERS[order]
+    if isinstance(order, str) and order in ORDERS:
+        return ORDERS[order]
+    raise ShapeError("Unsupported", f"order must be 'C' or 'F', not {written(order)}")
 
 
 SLICE, INDEX, NEW_AXIS = 0, 1, 2

@@ -11,7 +11,7 @@ from math import prod
 from operator import mul
 from typing import Any, Callable, Iterator, Mapping, NamedTuple, Optional, Sequence
 
-from ._numbers import INDEX, LIMIT, NEW_AXIS, Lens, count_of, head_parts, said
+from ._numbers import INDEX, LIMIT, NEW_AXIS, Lens, count_of, head_parts, product, said, written
 
 
 class Reason(NamedTuple):
@@ -71,7 +71,7 @@ def _of_axis(kind: str, axis: int, text: str, **numbers: int) -> Reason:
 
 
 def of_size(shape: Lens) -> Optional[Reason]:
-    size = prod(length for length in shape if length)
+    size = product([length for length in shape if length])
     if size <= LIMIT:
         return None
     return Reason("Overflow", f"size {said(size)} is above the limit {said(LIMIT)}", None, {"size": size})
@@ -144,11 +144,11 @@ def of_overlap(shape: Lens, strides: Lens) -> Optional[Reason]:
     if 0 in shape:
         return None
     reaches = _reaches(shape, strides)
-    for axis, (length, stride) in enumerate(zip(shape, strides)):
-        others = sum(
-            reach for k, (reach, other) in enumerate(zip(reaches, strides)) if k != axis and abs(other) <= abs(stride)
-        )
-        if length > 1 and others >= abs(stride):
+    long = [axis for axis, length in enumerate(shape) if length > 1]  # (at most 64, since the size is in the limit)
+    for axis in long:
+        stride = strides[axis]
+        others = sum(reaches[other] for other in long if other != axis and abs(strides[other]) <= abs(stride))
+        if others >= abs(stride):
             text = f"stride {said(stride)} isn't past {said(others)}, the reach of the axes with no greater stride"
             return _of_axis("Unsupported", axis, text, stride=stride, reach=others)
     return None
@@ -312,14 +312,14 @@ def of_merge(shape: Lens, strides: Lens, take: int, into: int) -> Optional[Reaso
 
 
 def of_permuted_axes(shape: Lens, strides: Lens, axes: Lens) -> Optional[Reason]:
-    error = of_layout(shape, strides)
-    if error or sorted(axes) == list(range(len(shape))):
+    error, listed = of_layout(shape, strides), set(axes)
+    missing = next((axis for axis in range(len(shape)) if axis not in listed), None)
+    if error or missing is None and len(axes) == len(shape):
         return error
-    missing = [axis for axis in range(len(shape)) if axis not in axes]
-    if not missing:
+    if missing is None:
         numbers = {"listed": len(axes), "axes": len(shape)}
         return Reason("IncompatibleShape", f"{len(axes)} axes are listed of {len(shape)}", None, numbers)
-    return _of_axis("IncompatibleShape", missing[0], f"it isn't among the axes {axes}")
+    return _of_axis("IncompatibleShape", missing, f"it isn't among the axes {written(axes)}")
 
 
 # ---- Blocks and parts

@@ -5,11 +5,12 @@ from __future__ import annotations
 from array import array
 from ctypes import c_size_t
 from numbers import Integral
+from operator import index
 from struct import error as StructError
 from typing import Any, Iterable, NamedTuple, Optional, Sequence, SupportsIndex, Union
 
 from . import _library as library
-from ._errors import OutOfBoundsError, ShapeError, SizeOverflowError, error_of_kind
+from ._errors import LayoutError, OutOfBoundsError, ShapeError, SizeOverflowError, error_of_kind, of_one
 from ._numbers import (
     COUNTS,
     INDEX,
@@ -21,14 +22,18 @@ from ._numbers import (
     Numbers,
     Packed,
     View,
+    as_integer,
     count_of,
     element_head,
+    entries,
+    flag,
     one_answer,
     one_number,
     said,
     signed,
     size,
     unsigned,
+    written,
 )
 from ._reasons import out_of_axis
 
@@ -69,18 +74,28 @@ def _packed(fields: Sequence[Any]) -> Packed:
 def _packed_slowly(fields: Sequence[Any]) -> Packed:
     """The same list, or the error of its first number without 64 bits."""
     try:
-        return signed(fields)[0], count_of(len(fields) // 4)
-    except SizeOverflowError as error:
-        axis, name = _named(fields, error.axis or 0)
-        number = fields[error.axis or 0]
-        text = f"axis {axis}: {name} {said(number)} is past 64 bits"
-        raise SizeOverflowError("Overflow", text, axis, {name: number}) from None
+        return array("q", fields).tobytes(), count_of(len(fields) // 4)
+    except (OverflowError, TypeError):
+        faults = (_fault_of(fields, at) for at in range(len(fields)))
+        raise next(fault for fault in faults if fault) from None
+
+
+def _fault_of(fields: Sequence[Any], at: int) -> Optional[Exception]:
+    """The error of a number of a slice, where it is none of C's."""
+    try:
+        number = index(fields[at])
     except TypeError:
-        at, wrong = next((at, field) for at, field in enumerate(fields) if not hasattr(field, "__index__"))
-        axis, name = _named(fields, at)
-        kinds = "integer, `nd.Slice` or `None`, which `basic_key` makes of NumPy's keys"
-        text = f"is no {kinds}" if name == "index" else f"is no {name}"
-        raise TypeError(f"axis {axis}: {wrong!r} {text}") from None
+        return _no_element(fields, at)
+    if -(2**63) <= number < 2**63:
+        return None
+    axis, name = _named(fields, at)
+    return SizeOverflowError("Overflow", f"axis {axis}: {name} {said(number)} is past 64 bits", axis, {name: number})
+
+
+def _no_element(fields: Sequence[Any], at: int) -> TypeError:
+    axis, name = _named(fields, at)
+    kinds = "integer, `nd.Slice` or `None`, which `basic_key` makes of NumPy's keys"
+    return TypeError(f"axis {axis}: {written(fields[at])} is no {kinds if name == 'index' else name}")
 
 
 def _named(fields: Sequence[Any], at: int) -> tuple[int, str]:
@@ -93,12 +108,16 @@ def _named(fields: Sequence[Any], at: int) -> tuple[int, str]:
 def _fields_of(elems: Elems) -> list[Any]:
     """The elements of a slice, each of them read once: the head, start, end and step of each."""
     fields: list[Any] = []
-    for elem in (elems,) if isinstance(elems, Slice) else elems:
+    for elem in (elems,) if isinstance(elems, Slice) else entries(elems, "elems", "elements of a slice"):
         if isinstance(elem, Slice):
             start, end, step = elem
             fields += (_SLICE, start, 0, step) if end is None else (SLICE_WITH_END, start, end, step)
+        elif elem is None:
+            fields += (_NEW_AXIS, 0, 0, 1)
         else:
-            fields += (_NEW_AXIS, 0, 0, 1) if elem is None else (_INDEX, elem, 0, 1)
+            fields += (_INDEX, elem, 0, 1)
+            if type(elem) is not int and as_integer(elem) is None:
+                raise _no_element(fields, len(fields) - 3)
     return fields
 
 
@@ -126,8 +145,8 @@ def slice_view(start: SupportsIndex, shape: Numbers, strides: Numbers, elems: El
 def _sliced(start: c_size_t, shape: Packed, strides: Packed, fields: Sequence[Any], clamp: bool) -> View:
     axes = _axes_left(fields)
     new_start, new_shape, new_strides = one_number(), axes.unsigned_room(), axes.signed_room()
-    written = new_start, new_shape, axes, new_strides, axes
-    library.slice_view(start, *shape, *strides, *_packed(fields), bool(clamp), *written)
+    outputs = new_start, new_shape, axes, new_strides, axes
+    library.slice_view(start, *shape, *strides, *_packed(fields), flag(clamp, "clamp"), *outputs)
     return View(new_start[0], axes.unpack_unsigned(new_shape), axes.unpack_signed(new_strides))
 
 
@@ -140,7 +159,7 @@ def slices_intersect(shape: Numbers, first: Elems, second: Elems, clamp: bool = 
     False
     """
     answer, elems = one_answer(), (*_packed(_fields_of(first)), *_packed(_fields_of(second)))
-    library.slices_intersect(*unsigned(shape), *elems, bool(clamp), answer)
+    library.slices_intersect(*unsigned(shape), *elems, flag(clamp, "clamp"), answer)
     return bool(answer[0])
 
 
@@ -154,9 +173,20 @@ def first_intersection(shape: Numbers, slices: Iterable[Elems], clamp: bool = Fa
     (0, 2)
     >>> first_intersection((2, 3), [[0, Slice()], [1, Slice()]])
     """
-    packed = [_packed(_fields_of(elems)) for elems in slices]
+    packed = _packed_each(entries(slices, "slices", "slices"))
     counts = [count.value for _, count in packed]
-    return intersection(unsigned(shape), b"".join([numbers for numbers, _ in packed]), counts, bool(clamp))
+    numbers = b"".join([numbers for numbers, _ in packed])
+    return intersection(unsigned(shape), numbers, counts, flag(clamp, "clamp"))
+
+
+def _packed_each(slices: Sequence[Elems]) -> list[Packed]:
+    packed = []
+    for position, elems in enumerate(slices):
+        try:
+            packed.append(_packed(_fields_of(elems)))
+        except (LayoutError, TypeError) as error:
+            raise of_one("slice", position, error) from None
+    return packed
 
 
 def intersection(shape: Packed, elems: bytes, counts: Sequence[int], clamp: bool) -> Optional[tuple[int, int]]:
@@ -174,7 +204,7 @@ def picked(shape: Numbers, elems: Elems, clamp: bool = False) -> int:
     9
     """
     count = one_number()
-    library.picked(*unsigned(shape), *_packed(_fields_of(elems)), bool(clamp), count)
+    library.picked(*unsigned(shape), *_packed(_fields_of(elems)), flag(clamp, "clamp"), count)
     return int(count[0])
 
 
@@ -228,7 +258,7 @@ def _key_fields(shape: Sequence[int], key: Any) -> list[int]:
         return _any_key_fields(shape, key)
     try:
         for length, entry in zip(shape, keys):
-            if type(entry) is slice and entry.step != 0:
+            if type(entry) is slice:
                 start, stop, step = entry.indices(length)
                 if 0 < step <= LIMIT:
                     fields += (SLICE_WITH_END, start, stop, step)
@@ -240,7 +270,7 @@ def _key_fields(shape: Sequence[int], key: Any) -> list[int]:
                 fields += (_INDEX, entry if entry >= 0 else entry + length, 0, 1)
                 continue
             return _any_key_fields(shape, key)
-    except TypeError:  # (of a slice whose bounds are no numbers)
+    except (TypeError, ValueError):  # (of a slice whose bounds are no numbers, or whose step is 0)
         return _any_key_fields(shape, key)
     return fields
 
@@ -276,20 +306,20 @@ def _one_for_each_axis(shape: Sequence[int], key: Any) -> list[Any]:
 def _basic_fields(axis: int, length: int, entry: Any) -> tuple[int, ...]:
     """One entry of a key, for an axis."""
     if isinstance(entry, slice):
-        if entry.step == 0:
-            raise ShapeError("Unsupported", f"axis {axis}: the step is 0", axis, {"step": 0})
         try:
             start, stop, step = entry.indices(length)
         except TypeError as error:
             raise TypeError(f"axis {axis}: {error}") from None
+        except ValueError:
+            raise ShapeError("Unsupported", f"axis {axis}: the step is 0", axis, {"step": 0}) from None
         if step > 0:
             return (SLICE_WITH_END, start, stop, min(step, LIMIT))
         return (SLICE_WITH_END, stop + 1, start + 1, max(step, -LIMIT))
     if isinstance(entry, Slice):
         return tuple(_fields_of(entry))
     if not isinstance(entry, Integral) or isinstance(entry, bool):
-        raise TypeError(f"axis {axis}: {entry!r} is no basic slice")
-    index = int(entry)
-    if not -length <= index < length:
-        raise error_of_kind(*out_of_axis(axis, index, length))
-    return (_INDEX, index % length, 0, 1)
+        raise TypeError(f"axis {axis}: {written(entry)} is no basic slice")
+    coordinate = int(entry)
+    if not -length <= coordinate < length:
+        raise error_of_kind(*out_of_axis(axis, coordinate, length))
+    return (_INDEX, coordinate % length, 0, 1)
