@@ -21,16 +21,11 @@ const LAYER: &[&str] = &["nd_base", "nd_dim", "nd_shape", "nd_slice", "ndarray_l
 const PROGRAMS: &[&str] = &["ndl_session", "example_tiles_edits"];
 
 /// What crates of tests share, and these crates.
-const TESTS: &[&str] = &[
-    "test_tables",
-    "nd_shape_tests",
-    "nd_slice_tests",
-    "nd_owned_tests",
-    "ndarray_layout_tests",
-    "ndl_tests",
-    "example_callers",
-    "example_tests",
-];
+const TESTS: &[&str] =
+    &["test_tables", "nd_shape_tests", "nd_slice_tests", "nd_owned_tests", "ndarray_layout_tests", "ndl_tests"];
+
+/// The callers of `docs/CALLING.md`.
+const EXAMPLES: &[&str] = &["example_callers"];
 
 /// The exports for C.
 const EXPORTS: &[&str] = &["ndarray_layout_c"];
@@ -90,6 +85,7 @@ fn main() -> Fallible<()> {
     fs::write(out.join("layer.rs"), crates_of(&top, LAYER, &[], "crate")?)?;
     fs::write(out.join("programs.rs"), crates_of(&top, PROGRAMS, &[], "crate")?)?;
     fs::write(out.join("tests.rs"), crates_of(&top, TESTS, TESTS, "::ndarray_layout")?)?;
+    fs::write(out.join("examples.rs"), crates_of(&top, EXAMPLES, EXAMPLES, "::ndarray_layout")?)?;
     fs::write(out.join("exports.rs"), crates_of(&top, EXPORTS, EXPORTS, "::ndarray_layout")?)?;
     Ok(())
 }

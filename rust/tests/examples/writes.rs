@@ -1,0 +1,57 @@
+//! Writes to pictures.
+
+use crate::example_callers::{paint, with_two_parts, write_parts};
+use crate::{Hundreds, Listed, Places, SIX_AXES, pixels, strides};
+use ndarray_layout::{IxDyn, OwnedArray, ShapeBuilder, SliceInfoElem, s};
+
+/// Shape and strides, and over how many pixels they lie.
+type Layout = (&'static [usize], &'static [isize], usize);
+
+/// Part of an array, and the pixels for it.
+type Part = (Vec<SliceInfoElem>, Vec<u8>);
+
+fn array(layout: Layout) -> OwnedArray<u8, IxDyn> {
+    let (shape, by, len) = layout;
+    OwnedArray::from_shape_vec(IxDyn(shape).strides(strides(by)).unwrap(), pixels(len)).unwrap()
+}
+
+/// The two parts are written or not, and these pixels are left, in the list that comes back or in the array.
+fn assert_writes(layout: Layout, parts: &[Part; 2], is_written: bool, left: Places) {
+    let mut written = array(layout);
+    assert_eq!(write_parts(&mut written, parts), Ok(is_written));
+    assert_eq!(written.stored(), left.pixels());
+    let stored = with_two_parts(array(layout), parts);
+    assert_eq!(stored.is_ok(), is_written);
+    assert_eq!(stored.unwrap_or_else(|(_, array)| array.into_stored()), left.pixels());
+}
+
+/// Two rows of three pixels, and a spare one.
+const ROWS: Layout = (&[2, 3], &[3, 1], 7);
+
+#[test]
+fn two_parts_are_written_at_once() {
+    let parts = [(s![0, ..].to_vec(), vec![10, 11, 12]), (s![1, ..;2].to_vec(), vec![20, 21])];
+    assert_writes(ROWS, &parts, true, Listed(&[10, 11, 12, 20, 4, 21, 6]));
+}
+
+#[test]
+fn nothing_is_written_where_parts_share_a_pixel() {
+    let parts = [(s![1, ..].to_vec(), vec![10, 11, 12]), (s![.., 0].to_vec(), vec![20])];
+    assert_writes(ROWS, &parts, false, Listed(&[0, 1, 2, 3, 4, 5, 6]));
+}
+
+#[test]
+fn parts_of_six_axes_are_written() {
+    let back = s![..;-1, ..;-1, ..;-1, ..;-1, ..;-1, ..;-1].to_vec();
+    let parts = [(back, pixels(10_000)), (s![0..0, .., .., .., .., ..].to_vec(), Vec::new())];
+    assert_writes((SIX_AXES, &[1000, 500, 100, 10, 5, 1], 10_000), &parts, true, Hundreds(9999, -100, -1));
+}
+
+#[test]
+fn a_picture_is_painted_and_spare_pixels_are_not() {
+    let mut pixels = pixels(8);
+    assert!(paint(&mut pixels, (2, 3).strides((4, 1)).unwrap(), 9).is_ok());
+    assert_eq!(pixels, [9, 9, 9, 3, 9, 9, 9, 7]);
+    assert!(paint(&mut pixels, (2, 4).strides((5, 1)).unwrap(), 8).is_err());
+    assert_eq!(pixels, [9, 9, 9, 3, 9, 9, 9, 7]);
+}
