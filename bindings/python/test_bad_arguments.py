@@ -92,7 +92,7 @@ NO_ELEMS = [
         [NoText(), 0],
     ),
     *([0] * 20 + ["a"], [0] * 20 + [FAR], [0, 0, 0], [0, 9], [0, Slice(0, 9)], [0, Slice(0, 1, 0)]),
-    *with_numpy(lambda: [[np.True_, 0], np.ones((2, 2), int), np.array([0.5, 0])]),
+    *with_numpy(lambda: [[np.True_, 0], [0, Slice(np.array([1, 2]))], np.ones((2, 2), int), np.array([0.5, 0])]),
 ]
 NO_KEYS = [
     *("a", 2.5, True, [0], {0}, {0: 1}, object(), NoText(), FAR, -FAR, (0, FAR), Fraction(FAR), (0,) * 5, (..., ...)),

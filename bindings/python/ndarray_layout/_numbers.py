@@ -6,8 +6,8 @@ A list is packed by a `struct` that is made once for its count. What doesn't pac
 from __future__ import annotations
 
 import ctypes
-from array import array
 from collections.abc import Mapping, Set
+from math import prod
 from operator import index
 from reprlib import Repr
 from struct import Struct
@@ -86,12 +86,18 @@ signed = _packer("q", "stride")
 """A list of `ptrdiff_t`, likewise."""
 
 
+_INTEGERS = frozenset((int,))
+
+
 def _packed(typecode: str, numbers: Numbers, name: str) -> Packed:
     """Any list, or the error of its first number without 64 bits."""
-    listed = integers(numbers, name)
+    listed = listing(numbers, name)
+    if not _INTEGERS.issuperset({*map(type, listed)}):
+        listed = integers(listed, name)
+    count = count_of(len(listed))
     try:
-        return array(typecode, listed).tobytes(), count_of(len(listed))
-    except OverflowError:
+        return (count.pack_unsigned if typecode == "Q" else count.pack_signed)(*listed), count
+    except StructError:
         pass
     low, high = (0, 2**64) if typecode == "Q" else (-(2**63), 2**63)
     axis = next(axis for axis, number in enumerate(listed) if not low <= number < high)
@@ -241,8 +247,8 @@ def product(lengths: Sequence[int]) -> int:
     (6, True, 0)
     """
     found = int(0 not in lengths)
-    for length in lengths:
-        found *= length
+    for begin in range(0, len(lengths), 64):
+        found *= prod(lengths[begin : begin + 64])
         if found >= FAR:
             return FAR
     return found

@@ -67,15 +67,15 @@ def _packed(fields: Sequence[Any]) -> Packed:
     """A list of elements, each of four numbers."""
     try:
         return COUNTS[len(fields)].pack_signed(*fields), COUNTS[len(fields) // 4]
-    except (StructError, IndexError):
+    except (TypeError, StructError, IndexError):
         return _packed_slowly(fields)
 
 
 def _packed_slowly(fields: Sequence[Any]) -> Packed:
     """The same list, or the error of its first number without 64 bits."""
     try:
-        return array("q", fields).tobytes(), count_of(len(fields) // 4)
-    except (OverflowError, TypeError):
+        return count_of(len(fields)).pack_signed(*fields), count_of(len(fields) // 4)
+    except (TypeError, StructError):
         faults = (_fault_of(fields, at) for at in range(len(fields)))
         raise next(fault for fault in faults if fault) from None
 
