@@ -3,27 +3,37 @@
 from __future__ import annotations
 
 from array import array
-from itertools import product, repeat
+from itertools import accumulate, combinations_with_replacement, count, product, repeat
 from math import gcd, prod
-from typing import Any, Iterable, Optional
+from typing import Any, Callable, Iterable, NamedTuple, Optional, TypeVar
 
+from ._boxes import Intervals, Pair, find_in_groups, first_pair
 from ._errors import LayoutError, ShapeError, error_of_kind, of_one
 from ._layouts import default_strides
-from ._numbers import LIMIT, Lens, Numbers, listing, unsigned
+from ._numbers import LIMIT, Lens, Numbers, Packed, entries, integer, listing, not_64_bits, said, unsigned, written
 from ._reasons import of_block
 from ._slices import SLICE_WITH_END, Elem, Slice, basic_key, intersection, picked, slice_view
 
 MAX_PARTS = 1_000_000
 """How many parts all keys together may have, where no other number is given."""
 
+PIECE = 500
+"""How many parts of two lists are compared in one call, in which Python hears no signal."""
+
+
+_Found = TypeVar("_Found")
 
 _Part = tuple[int, tuple[range, ...]]
 """The position of a key, and along each axis the numbers of its indices, or of some of its chunks: they ascend."""
 
 
 def first_conflict(
-    shape: Numbers, keys: Iterable[Any], chunks: Optional[Numbers] = None, max_parts: int = MAX_PARTS
-) -> Optional[tuple[int, int]]:
+    shape: Numbers,
+    keys: Iterable[Any],
+    chunks: Optional[Numbers] = None,
+    max_parts: int = MAX_PARTS,
+    blocks: Optional[Iterable[Optional[Iterable[Numbers]]]] = None,
+) -> Optional[Pair]:
     """Two of many parts of an array that conflict: the positions of their keys, the less first. `None` if no two do.
 
     Exact. It is any pair that conflicts, not the least one. Without `chunks` two parts conflict where they share an
@@ -36,11 +46,19 @@ def first_conflict(
     axis, and nothing for the whole length of one. Of a Dask array it is `chunksize`, where all chunks but the last of
     an axis have that length: `rechunk` makes them so.
 
-    Takes time for each key, and for each two whose stretches, from the first index to the last, overlap along the axis
-    on which most keys begin apart: for each two of all where columns interleave. The keys `(..., slice(k, None, n))`,
-    for k below n, take seconds for n = 10,000. Along an axis on which a key steps further than a chunk, by no multiple
-    of its length, it touches chunks in up to chunk / gcd(step, chunk) progressions; each counts as a part. Past
-    `max_parts` parts of all keys it raises `ShapeError` of the kind 'Unsupported'.
+    `blocks` has for each key the lengths of the blocks of what is written there, along each axis: of a Dask array its
+    `chunks`. Dask writes each block on its own, so two blocks of one key that have an index in the same chunk conflict
+    too: the pair is its position twice. Without `blocks`, or with `None` for a key, one writer writes the whole part.
+    Raises `ShapeError` where `blocks` isn't as long as `keys`, or the blocks of a key don't make up its part.
+
+    Takes time n log n for each axis, for n parts which an axis sets apart, another each group of them, and so on, as
+    tiles, rows and chunks are. Others take up to n times the logarithm of n, or of a length, to the power of the axes.
+    Only where two steps above 1 along an axis differ, parts whose stretches overlap on each axis may be compared each
+    with each. It can be interrupted.
+
+    On an axis on which a key steps further than a chunk, by no multiple of its length, it touches chunks in up to
+    chunk / gcd(step, chunk) progressions; each counts as a part. Past `max_parts` parts of all keys it raises
+    `ShapeError` of the kind 'Unsupported'.
 
     >>> halves = [slice(0, 3), slice(3, 6)]
     >>> first_conflict((6, 6), halves)
@@ -48,30 +66,31 @@ def first_conflict(
     (0, 1)
     >>> first_conflict((6, 6), [(..., 0), (0, slice(1, 6)), (-1, slice(None, None, 2))])
     (0, 2)
+    >>> first_conflict((6, 6), halves, (3, 6), blocks=[((3,), (6,)), ((2, 1), (6,))])    # rows 3, 4 and row 5
+    (1, 1)
     """
     lens = _lengths(shape, "length")
     default_strides(lens)  # (which refuses a size above the limit)
-    blocks = (1,) * len(lens) if chunks is None else _lengths(_chunk_lengths(chunks), "chunk")
-    fault = of_block(lens, blocks)
+    chunk = (1,) * len(lens) if chunks is None else _lengths(_chunk_lengths(chunks), "chunk")
+    fault = of_block(lens, chunk)
     if fault is not None:
         raise error_of_kind(*fault)
-    parts: list[_Part] = []
-    for position, key in enumerate(keys):
-        touched = [_touched(picks, block) for picks, block in zip(_picks_at(position, lens, key), blocks)]
-        if len(parts) + prod(map(len, touched)) > max_parts:
-            numbers = {"key": position, "max_parts": max_parts}
-            raise ShapeError(
-                "Unsupported", f"the keys up to {position} have more than {max_parts} parts", None, numbers
-            )
-        parts += zip(repeat(position), product(*touched))
-    return _first_conflict(tuple([-(-length // block) for length, block in zip(lens, blocks)]), parts)
+    parts, max_parts = list[_Part](), integer(max_parts, "max_parts")
+    alone: Optional[int] = None
+    for position, (key, lengths) in enumerate(_with_blocks(keys, blocks)):
+        picks = _at(position, _picks, lens, key)
+        parts += _parts_of(position, picks, chunk, len(parts), max_parts)
+        if lengths is not None and _at(position, _blocks_conflict, lens, key, picks, chunk, lengths):
+            alone = position if alone is None else alone
+    pair = _first_conflict(len(lens), parts) if alone is None else (alone, alone)
+    return None if pair is None else (min(pair), max(pair))
 
 
 def _chunk_lengths(chunks: Numbers) -> Lens:
     listed = listing(chunks)
     for axis, length in enumerate(listed):
         if not hasattr(length, "__index__"):
-            text = f"axis {axis}: the length of a chunk is an integer, not {length!r}; Dask's are in `chunksize`"
+            text = f"axis {axis}: the length of a chunk is an integer, not {written(length)}; Dask's are in `chunksize`"
             raise TypeError(text)
     return listed
 
@@ -81,10 +100,22 @@ def _lengths(numbers: Numbers, name: str) -> Lens:
     return count.unpack_unsigned(packed)
 
 
-def _picks_at(position: int, shape: Lens, key: Any) -> list[range]:
-    """The indices that a key takes along each axis."""
+def _with_blocks(keys: Iterable[Any], blocks: Optional[Iterable[Any]]) -> Iterable[tuple[Any, Any]]:
+    """Each key with its blocks, or with `None`."""
+    listed = entries(keys, "keys", "keys")
+    if blocks is None:
+        return zip(listed, repeat(None))
+    of_keys = entries(blocks, "blocks", "blocks")
+    if len(listed) != len(of_keys):
+        numbers = {"keys": len(listed), "blocks": len(of_keys)}
+        raise ShapeError("IncompatibleShape", f"{len(of_keys)} lists of blocks for {len(listed)} keys", None, numbers)
+    return zip(listed, of_keys)
+
+
+def _at(position: int, call: Callable[..., _Found], *arguments: Any) -> _Found:
+    """What a call returns for a key, or its error, which names the key."""
     try:
-        return _picks(shape, key)
+        return call(*arguments)
     except (LayoutError, TypeError) as error:
         raise of_one("key", position, error) from None
 
@@ -98,13 +129,13 @@ def _picks(shape: Lens, key: Any) -> list[range]:
     found = []
     try:
         for length, entry in zip(shape, given):
-            if type(entry) is slice and entry.step != 0:
+            if type(entry) is slice:
                 found.append(range(length)[entry])
             elif type(entry) is int and -length <= entry < length:
                 found.append(range(length)[entry:][:1])
             else:
                 return _picks_of_any(shape, key)
-    except TypeError:  # (of a slice whose bounds are no numbers)
+    except (TypeError, ValueError):  # (of a slice whose bounds are no numbers, or whose step is 0)
         return _picks_of_any(shape, key)
     return [*found, *map(range, shape[len(given) :])]
 
@@ -123,43 +154,180 @@ def _picks_of(length: int, elem: Elem) -> range:
     return range(start, start + count * step, step)
 
 
-def _touched(picks: range, block: int) -> list[range]:
-    """The numbers of the blocks that have one of the indices: each number once."""
-    if not picks:
-        return []
+# ---- The chunks that a key touches
+
+
+def _parts_of(position: int, picks: list[range], chunk: Lens, others: int, max_parts: int) -> Iterable[_Part]:
+    """The parts of a key. Raises `ShapeError` where there are more than `max_parts` with the others."""
+    counts = [_count_runs(*pair) for pair in zip(picks, chunk)]
+    if others + prod(counts) > max_parts:
+        text = f"the keys up to {position} have more than {said(max_parts)} parts"
+        raise ShapeError("Unsupported", text, None, {"key": position, "max_parts": max_parts})
+    return zip(repeat(position), product(*map(_touched, picks, chunk, counts)))
+
+
+def _count_runs(picks: range, chunk: int) -> int:
+    """How many runs the numbers of the chunks make up: `_touched` without a list."""
+    step = abs(picks.step)
+    if chunk == 1 or step <= chunk or not picks:
+        return min(len(picks), 1)
+    return min(len(picks), chunk // gcd(step, chunk))  # (so many steps are a multiple of the chunk)
+
+
+def _touched(picks: range, chunk: int, count: int) -> list[range]:
+    """The numbers of the chunks that have one of the indices: each number once."""
     ascending = picks if picks.step > 0 else picks[::-1]
-    if block == 1:
-        return [ascending]
-    step = ascending.step
-    if step <= block:
-        return [range(ascending[0] // block, ascending[-1] // block + 1)]
-    period = block // gcd(step, block)  # (so many steps are a multiple of the block)
-    return [_numbers(ascending[begin::period], block) for begin in range(min(period, len(ascending)))]
+    if chunk == 1 or not picks:
+        return [ascending][:count]
+    if ascending.step <= chunk:
+        return [range(ascending[0] // chunk, ascending[-1] // chunk + 1)]
+    return [_numbers(ascending[begin::count], chunk) for begin in range(count)]
 
 
-def _numbers(picks: range, block: int) -> range:
-    """The numbers of the blocks of indices whose step is a multiple of the block, or that are one."""
-    return range(picks[0] // block, picks[-1] // block + 1, max(picks.step // block, 1))
+def _numbers(picks: range, chunk: int) -> range:
+    """The numbers of the chunks of indices whose step is a multiple of the chunk, or that are one."""
+    return range(picks[0] // chunk, picks[-1] // chunk + 1, max(picks.step // chunk, 1))
 
 
-def _first_conflict(shape: Lens, parts: list[_Part]) -> Optional[tuple[int, int]]:
-    """The positions of two parts that share a number on each axis of a shape.
+def _blocks_conflict(shape: Lens, key: Any, picks: list[range], chunk: Lens, blocks: Iterable[Numbers]) -> bool:
+    """Whether two blocks of a part have an index in the same chunk."""
+    axes, lengths = _axes_of_part(shape, key), [listing(numbers) for numbers in entries(blocks, "blocks", "axes")]
+    if len(lengths) != len(axes):
+        numbers = {"blocks": len(lengths), "axes": len(axes)}
+        raise ShapeError("IncompatibleShape", f"blocks of {len(lengths)} axes for {len(axes)}", None, numbers)
+    one = range(1), 1
+    along = [one if axis is None else (picks[axis], chunk[axis]) for axis in axes]
+    shared = [_share_a_chunk(at, *pair, numbers) for at, (pair, numbers) in enumerate(zip(along, lengths))]
+    return any(shared) and all(picks)
+
+
+def _axes_of_part(shape: Lens, key: Any) -> list[Optional[int]]:
+    """Which axis of the array each axis of a part is: `None` for a new one."""
+    numbers = count()
+    axes = [(elem, None if elem is None else next(numbers)) for elem in basic_key(shape, key)]
+    return [axis for elem, axis in axes if elem is None or isinstance(elem, Slice)]
+
+
+def _share_a_chunk(axis: int, picks: range, chunk: int, lengths: Iterable[Any]) -> bool:
+    """Whether two blocks along an axis have an index in the same chunk: then two that follow each other have."""
+    ends = tuple(accumulate(_block_length(axis, length) for length in lengths))
+    total = ends[-1] if ends else 0
+    if total != len(picks):
+        text = f"axis {axis}: the blocks have {said(total)} of {said(len(picks))} indices"
+        raise ShapeError("IncompatibleShape", text, axis, {"blocks": total, "length": len(picks)})
+    return any(picks[end - 1] // chunk == picks[end] // chunk for end in ends if 0 < end < total)
+
+
+def _block_length(axis: int, length: Any) -> int:
+    number = integer(length, "the length of a block", axis)
+    if number < 0:
+        raise not_64_bits("block", number, True, axis)
+    return number
+
+
+# ---- Parts that conflict
+
+
+def _first_conflict(dimensions: int, parts: list[_Part]) -> Optional[Pair]:
+    """The positions of two parts that share a number on each axis."""
+    steps = _steps(dimensions, parts)
+    units = [gcd(*along) for along in steps]
+    for axis in filter(units.__getitem__, range(dimensions)):
+        parts = _unwrapped(parts, axis, units[axis])
+    axes = [_stretches(parts, axis) for axis in range(dimensions)]
+    axes += [_remainders(parts, axis, unit) for axis, unit in enumerate(units) if unit]
+    are_boxes = max(map(len, steps), default=0) < 2
+
+    def find(group: list[int]) -> Optional[Pair]:
+        if are_boxes:
+            pair = first_pair(axes, group)
+            return None if pair is None else (parts[pair[0]][0], parts[pair[1]][0])
+        some = [parts[place] for place in group]
+        differ = max(map(len, _steps(dimensions, some))) > 1
+        return _compared(some) if differ else _first_conflict(dimensions, some)
+
+    return find_in_groups(axes, list(range(len(parts))), find)
+
+
+def _steps(dimensions: int, parts: list[_Part]) -> list[set[int]]:
+    """The steps above 1 along each axis."""
+    return [{runs[axis].step for _, runs in parts if len(runs[axis]) > 1} - {1} for axis in range(dimensions)]
+
+
+def _stretches(parts: list[_Part], axis: int) -> Intervals:
+    """From the first number of each part to the last."""
+    return Intervals([runs[axis][0] for _, runs in parts], [runs[axis][-1] for _, runs in parts])
+
+
+# With one step above 1 along an axis, two runs share a number if and only if both their intervals share one and their
+# remainders by the step do. With more steps, all that have a number in common have it by their greatest divisor.
+
+
+def _remainders(parts: list[_Part], axis: int, step: int) -> Intervals:
+    """The remainders of the numbers by a step: all, one, or those of a short run."""
+    runs = [runs[axis] for _, runs in parts]
+    covers = [run.step == 1 and len(run) >= step for run in runs]
+    lows = [0 if all_of_them else run[0] % step for run, all_of_them in zip(runs, covers)]
+    return Intervals(lows, [step - 1 if all_of_them else run[-1] % step for run, all_of_them in zip(runs, covers)])
+
+
+def _unwrapped(parts: list[_Part], axis: int, step: int) -> list[_Part]:
+    """The same parts, with two for each whose remainders along an axis begin again: they have no least one to last."""
+    found: list[_Part] = []
+    for position, runs in parts:
+        run = runs[axis]
+        cut = run[-1] // step * step
+        if run[0] < cut and run.step == 1 and len(run) < step:
+            halves = range(run[0], cut), range(cut, run[-1] + 1)
+            found += [(position, (*runs[:axis], half, *runs[axis + 1 :])) for half in halves]
+        else:
+            found.append((position, runs))
+    return found
+
+
+# With several steps above 1, each part of a group is compared with each by the library.
+
+
+class _Piece(NamedTuple):
+    """Some parts as the library takes them, and the stretch that they cover on the axis of their order."""
+
+    positions: list[int]
+    packed: bytes
+    first: int
+    last: int
+
+
+def _compared(parts: list[_Part]) -> Optional[Pair]:
+    """The positions of two parts that share a number on each axis.
 
     They are compared in their order along the axis that comes first: there the most begin apart.
     """
-    apart = [len({runs[axis].start for _, runs in parts}) for axis in range(len(shape))]
-    axes = sorted(range(len(shape)), key=lambda axis: -apart[axis])
-    if axes:
-        parts.sort(key=lambda part: part[1][axes[0]].start)
+    dimensions = range(len(parts[0][1]))
+    axes = sorted(dimensions, key=lambda axis: -len({runs[axis].start for _, runs in parts}))
+    shape = unsigned([1 + max(runs[axis][-1] for _, runs in parts) for axis in axes])
+    in_order = sorted(parts, key=lambda part: part[1][axes[0]].start)
+    pieces = [_piece(axes, in_order[at : at + PIECE]) for at in range(0, len(parts), PIECE)]
+    pairs = (_pair_of(shape, one, other) for one, other in combinations_with_replacement(pieces, 2))
+    return next((pair for pair in pairs if pair is not None), None)
+
+
+def _piece(axes: list[int], parts: list[_Part]) -> _Piece:
     fields = [field for _, runs in parts for axis in axes for field in _fields(runs[axis])]
-    counts = [len(shape)] * len(parts)
-    pair = intersection(unsigned([shape[axis] for axis in axes]), array("q", fields).tobytes(), counts, False)
-    if pair is None:
-        return None
-    first, second = sorted(parts[place][0] for place in pair)
-    return first, second
+    positions, stretches = [position for position, _ in parts], _stretches(parts, axes[0])
+    return _Piece(positions, array("q", fields).tobytes(), stretches.lows[0], max(stretches.highs))
 
 
 def _fields(run: range) -> tuple[int, int, int, int]:
     """A run as an element of a slice. (a step above the limit leaves one number)"""
     return SLICE_WITH_END, run.start, run[-1] + 1, min(run.step, LIMIT)
+
+
+def _pair_of(shape: Packed, one: _Piece, other: _Piece) -> Optional[Pair]:
+    """The positions of two parts of a piece, or of two, that share a number on each axis."""
+    if other.first > one.last:
+        return None
+    both = (one,) if one is other else (one, other)
+    positions = [position for piece in both for position in piece.positions]
+    elems, counts = b"".join(piece.packed for piece in both), [shape[1].value] * len(positions)
+    pair = intersection(shape, elems, counts, False)
+    return None if pair is None else (positions[pair[0]], positions[pair[1]])
