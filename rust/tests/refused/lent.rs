@@ -1,0 +1,53 @@
+//! Calls of numbers that are lent as an array: the lists are its shape and its strides, and another shape, or the
+//! number of an axis and of a coordinate.
+
+use crate::call::Call;
+use Fit::Strict;
+use Order::RowMajor;
+use ndarray_layout::{ArrayView, ArrayViewMut, Fit, IxDyn, Order, StrideShape, Strides};
+
+/// What a call answers.
+pub fn answer(call: &Call) -> Option<String> {
+    let shape = StrideShape { dim: call.dim(2), strides: Strides::F };
+    let mut numbers = [0; 99];
+    match call.name {
+        "ArrayView::from_shape" => Some(call.told(|| ArrayView::from_shape(shape, &numbers))),
+        "ArrayViewMut::from_shape" => Some(call.told(|| ArrayViewMut::from_shape(shape, &mut numbers))),
+        _ if call.name.starts_with("ArrayView::") => read(call, ArrayView::over(call.view(), &numbers).ok()?),
+        _ => written(call, ArrayViewMut::from_shape(call.laid(), &mut numbers).ok()?),
+    }
+}
+
+fn read(call: &Call, array: ArrayView<'_, usize, IxDyn>) -> Option<String> {
+    let (reversed, back, to) = (call.reversed(), call.back(), call.dim(2));
+    let (axis, index) = call.axis_and_index();
+    Some(match call.name {
+        "ArrayView::slice" => call.told(|| array.slice::<IxDyn, _>(&reversed, Strict)),
+        "ArrayView::permuted_axes" => call.told(|| array.permuted_axes(&back)),
+        "ArrayView::reshape" => call.told(|| array.reshape(&to, RowMajor)),
+        "ArrayView::broadcast" => call.told(|| array.broadcast(&to)),
+        "ArrayView::windows" => call.told(|| array.windows::<IxDyn>(&to)),
+        "ArrayView::exact_chunks" => call.told(|| array.exact_chunks::<IxDyn>(&to)),
+        "ArrayView::index_axis" => call.told(|| array.index_axis(axis, index)),
+        "ArrayView::insert_axis" => call.told(|| array.insert_axis(axis)),
+        "ArrayView::split_at" => call.told(|| array.split_at(axis, index)),
+        "ArrayView::duplicate" => call.told(|| array.duplicate()),
+        _ => return None,
+    })
+}
+
+/// The same of numbers that are lent to be written.
+fn written(call: &Call, array: ArrayViewMut<'_, usize, IxDyn>) -> Option<String> {
+    let (reversed, back, to) = (call.reversed(), call.back(), call.dim(2));
+    let (axis, index) = call.axis_and_index();
+    Some(match call.name {
+        "ArrayViewMut::slice" => call.told(|| array.slice::<IxDyn, _>(&reversed, Strict)),
+        "ArrayViewMut::permuted_axes" => call.told(|| array.permuted_axes(&back)),
+        "ArrayViewMut::reshape" => call.told(|| array.reshape(&to, RowMajor)),
+        "ArrayViewMut::exact_chunks" => call.told(|| array.exact_chunks::<IxDyn>(&to)),
+        "ArrayViewMut::index_axis" => call.told(|| array.index_axis(axis, index)),
+        "ArrayViewMut::insert_axis" => call.told(|| array.insert_axis(axis)),
+        "ArrayViewMut::as_view" => call.told(|| array.as_view()),
+        _ => return None,
+    })
+}
