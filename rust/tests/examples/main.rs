@@ -12,6 +12,9 @@ use ndarray_layout::{ErrorKind, IxDyn, LayoutError, Strided, unsigned};
 
 include!(concat!(env!("OUT_DIR"), "/examples.rs"));
 
+/// Shape, strides, and how many elements they lie over.
+type Layout = (&'static [usize], &'static [isize], usize);
+
 /// A shape of six axes with 10,000 indices, and its strides from the last place back.
 const SIX_AXES: &[usize] = &[10, 2, 5, 10, 2, 5];
 const SIX_BACK: &[isize] = &[-1000, -500, -100, -10, -5, -1];
@@ -54,8 +57,8 @@ fn strides(strides: &[isize]) -> IxDyn {
     IxDyn(&strides.iter().map(|stride| unsigned(*stride)).collect::<Vec<_>>())
 }
 
-/// A view over so many pixels, in which no two indices alias.
-fn view_of(shape: &[usize], by: &[isize], len: usize) -> Strided<IxDyn> {
+/// The view of a layout, in which no two indices alias.
+fn view_of((shape, by, len): Layout) -> Strided<IxDyn> {
     Strided::new(IxDyn(shape), strides(by), 1, len, OwnedMutable).unwrap()
 }
 

@@ -4,12 +4,9 @@ use crate::example_callers::{
     along_shape, flat_plane, flat_plane_by_steps, grid, in_rows, in_shape, on_common_shape, pixel, pixels_of,
     separate_places,
 };
-use crate::{Hundreds, Listed, Places, SIX_AXES, SIX_BACK, kind, pixels, strides, view_of};
+use crate::{Hundreds, Layout, Listed, Places, SIX_AXES, SIX_BACK, kind, pixels, strides, view_of};
 use ndarray_layout::ErrorKind::{self, IncompatibleLayout, IncompatibleShape, OutOfBounds, Overflow};
 use ndarray_layout::{ArrayView, IxDyn, LayoutError, Lengths, Order, Strided, s};
-
-/// Shape, strides, and how many elements they lie in.
-type Layout = (&'static [usize], &'static [isize], usize);
 
 const PIXELS: &[(Layout, &[usize], Option<u8>)] = &[
     ((&[2, 1, 2, 1, 2, 1], &[7, 9, -3, 9, 1, 9], 13), &[1, 0, 1, 0, 1, 0], Some(8)),
@@ -18,8 +15,8 @@ const PIXELS: &[(Layout, &[usize], Option<u8>)] = &[
 
 #[test]
 fn a_pixel_is_found_by_its_index() {
-    for ((shape, strides, len), index, due) in PIXELS {
-        assert_eq!(pixel(&pixels(*len), &view_of(shape, strides, *len), &IxDyn(index)), *due);
+    for &(layout, index, due) in PIXELS {
+        assert_eq!(pixel(&pixels(layout.2), &view_of(layout), &IxDyn(index)), due);
     }
 }
 
@@ -36,8 +33,8 @@ const SEEN: &[(Layout, Places)] = &[
 
 #[test]
 fn pixels_are_copied_row_after_row() {
-    for ((shape, strides, len), due) in SEEN {
-        assert_eq!(seen(&view_of(shape, strides, *len), &pixels(*len)), due.pixels());
+    for &(layout, due) in SEEN {
+        assert_eq!(seen(&view_of(layout), &pixels(layout.2)), due.pixels());
     }
 }
 
@@ -57,9 +54,9 @@ const COMMON: &[Common] = &[
 
 #[test]
 fn two_views_are_read_in_their_common_shape() {
-    for ((shape, by, len), (other_shape, other_by), due) in COMMON {
-        let pixels = pixels(*len);
-        let both = on_common_shape(&view_of(shape, by, *len), &view_of(other_shape, other_by, *len));
+    for &(layout, (shape, strides), due) in COMMON {
+        let pixels = pixels(layout.2);
+        let both = on_common_shape(&view_of(layout), &view_of((shape, strides, layout.2)));
         let seen = both.map(|(one, other)| {
             assert_eq!(one.dim(), other.dim());
             (one.dim().slice().to_vec(), seen(&one, &pixels), seen(&other, &pixels))
@@ -80,24 +77,23 @@ const ALONG: &[Along] = &[
 
 #[test]
 fn another_shape_has_strides_or_takes_a_copy() {
-    for ((shape, by, len), other, due) in ALONG {
-        let view = view_of(shape, by, *len);
+    for &(layout, other, due) in ALONG {
+        let view = view_of(layout);
         let same = along_shape(&view, &IxDyn(other)).unwrap();
         let parts = same.map(|same| (same.start(), same.dim().clone(), same.strides().clone()));
         assert_eq!(parts, due.map(|due| (view.start(), IxDyn(other), strides(due))));
     }
 }
 
-/// A shape of five axes, which two parts of it share no element of.
+const TWO_ROWS: Layout = (&[2, 3], &[3, 1], 6);
 const FIVE_AXES: Layout = (&[10, 10, 2, 10, 10], &[2000, 200, 100, 10, 1], 20_000);
 
 #[test]
 fn parts_of_a_view_are_apart_or_share_an_index() {
-    let rows: Layout = (&[2, 3], &[3, 1], 6);
-    for ((shape, strides, len), first, second, due) in [
-        (rows, s![0, ..].to_vec(), s![1, ..].to_vec(), Ok(Some((Listed(&[0, 1, 2]), Listed(&[3, 4, 5]))))),
-        (rows, s![.., 0].to_vec(), s![0, ..].to_vec(), Ok(None)),
-        (rows, s![..].to_vec(), s![2, ..].to_vec(), Err(IncompatibleShape)),
+    for (layout, first, second, due) in [
+        (TWO_ROWS, s![0, ..].to_vec(), s![1, ..].to_vec(), Ok(Some((Listed(&[0, 1, 2]), Listed(&[3, 4, 5]))))),
+        (TWO_ROWS, s![.., 0].to_vec(), s![0, ..].to_vec(), Ok(None)),
+        (TWO_ROWS, s![..].to_vec(), s![2, ..].to_vec(), Err(IncompatibleShape)),
         (
             FIVE_AXES,
             s![.., .., 0, .., ..].to_vec(),
@@ -105,7 +101,7 @@ fn parts_of_a_view_are_apart_or_share_an_index() {
             Ok(Some((Hundreds(0, 200, 1), Hundreds(199, 200, -1)))),
         ),
     ] {
-        let apart = separate_places(&view_of(shape, strides, len), &first, &second).map_err(kind);
+        let apart = separate_places(&view_of(layout), &first, &second).map_err(kind);
         assert_eq!(apart, due.map(|both| both.map(|(one, other)| (one.list(), other.list()))));
     }
 }
@@ -158,14 +154,14 @@ const IN_ROWS: &[(Layout, usize, usize, Made)] = &[
 
 #[test]
 fn a_view_is_read_in_rows() {
-    for ((shape, strides, len), rows, columns, due) in IN_ROWS {
-        assert_made(in_rows(&view_of(shape, strides, *len), *rows, *columns), due);
+    for (layout, rows, columns, due) in IN_ROWS {
+        assert_made(in_rows(&view_of(*layout), *rows, *columns), due);
     }
 }
 
 /// A stack of two planes of two rows of three pixels.
-fn stack(strides: &[isize]) -> Strided<IxDyn> {
-    view_of(&[2, 2, 3], strides, 15)
+fn stack(strides: &'static [isize]) -> Strided<IxDyn> {
+    view_of((&[2, 2, 3], strides, 15))
 }
 
 #[test]

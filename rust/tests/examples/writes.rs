@@ -1,17 +1,13 @@
 //! Writes to pictures.
 
 use crate::example_callers::{paint, with_two_parts, write_parts};
-use crate::{Hundreds, Listed, Places, SIX_AXES, pixels, strides};
+use crate::{Hundreds, Layout, Listed, Places, SIX_AXES, pixels, strides};
 use ndarray_layout::{IxDyn, OwnedArray, ShapeBuilder, SliceInfoElem, s};
-
-/// Shape and strides, and over how many pixels they lie.
-type Layout = (&'static [usize], &'static [isize], usize);
 
 /// Part of an array, and the pixels for it.
 type Part = (Vec<SliceInfoElem>, Vec<u8>);
 
-fn array(layout: Layout) -> OwnedArray<u8, IxDyn> {
-    let (shape, by, len) = layout;
+fn array((shape, by, len): Layout) -> OwnedArray<u8, IxDyn> {
     OwnedArray::from_shape_vec(IxDyn(shape).strides(strides(by)).unwrap(), pixels(len)).unwrap()
 }
 
