@@ -332,6 +332,12 @@ class Conflicts(unittest.TestCase):
         """Where each region conflicts with the next, it is the first of them."""
         self.assertEqual(nd.first_conflict(3_000, [slice(at, at + 16) for at in range(0, 3_000, 15)]), (0, 1))
 
+    def test_steps_that_differ(self):
+        """Steps of 24 and one of 2, which goes past a multiple of 24."""
+        keys = [*(slice(begin, None, 24) for begin in range(1, 24, 2)), slice(20, 27, 2), slice(0, None, 24)]
+        self.assertEqual(nd.first_conflict(100, keys), (12, 13))
+        self.assertIsNone(nd.first_conflict(100, keys[:-1]))
+
     def test_parts_are_counted(self):
         """A step past the chunk and no multiple of it: more progressions than are allowed."""
         key = slice(0, None, 1_001)
