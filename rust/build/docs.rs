@@ -1,7 +1,6 @@
 //! What is written before an item once its head is read: its contract, as text in its documentation, and attributes.
 
-use crate::erase::text_of;
-use crate::tokens::{Token, Tree};
+use crate::tokens::{Token, Tree, text_of};
 
 /// What the documentation of a sealed trait says of that.
 const SEALED: &str = "Sealed: no type outside this package implements it.";

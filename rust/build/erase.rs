@@ -5,7 +5,8 @@ use crate::docs::Contract;
 use crate::errors;
 use crate::library::without_memory;
 use crate::names::{ATTRIBUTES, DERIVES, OPEN, REFUSED, SEALED};
-use crate::tokens::{Fault, Group, Kind, Token, Tree, fault};
+use crate::proofs;
+use crate::tokens::{Fault, Group, Kind, Token, Tree, begins_with, fault, length_of_generics, text_of};
 
 /// Where the names of a source lead in plain Rust.
 pub struct Names<'a> {
@@ -28,27 +29,58 @@ impl Names<'_> {
     }
 }
 
+/// A source as plain Rust.
+#[derive(Default)]
+pub struct Erased {
+    pub text: String,
+    /// Where its own documentation ends.
+    pub head: usize,
+    /// The modules that are files of their own, each with where its body belongs.
+    pub modules: Vec<(usize, String)>,
+}
+
 /// The trees of a source as plain Rust.
-pub fn erase(trees: &[Tree], names: &Names) -> Result<String, Fault> {
-    let mut eraser = Eraser { names, out: String::new(), contract: Contract::default(), in_trait: false };
+pub fn erase(trees: &[Tree], names: &Names) -> Result<Erased, Fault> {
+    let mut eraser = Eraser {
+        names,
+        out: String::new(),
+        head: 0,
+        modules: Vec::new(),
+        contract: Contract::default(),
+        in_trait: false,
+        bracket: "",
+        takes_ranges: false,
+        endless: String::new(),
+        imported: Vec::new(),
+    };
     eraser.all(trees)?;
-    Ok(eraser.out)
+    Ok(Erased { text: eraser.out, head: eraser.head, modules: eraser.modules })
 }
 
 pub(crate) struct Eraser<'a> {
     pub(crate) names: &'a Names<'a>,
     pub(crate) out: String,
+    head: usize,
+    modules: Vec<(usize, String)>,
     /// The clauses of the item at hand.
     contract: Contract,
     /// Whether that is an item of a sealed trait.
     in_trait: bool,
+    /// The bracket in which the tree at hand stands; none at the top.
+    pub(crate) bracket: &'static str,
+    /// Whether a range with no end may stand in that bracket.
+    pub(crate) takes_ranges: bool,
+    /// The parameter at hand that is a range with no end; empty where none is.
+    pub(crate) endless: String,
+    /// The modules of `std` that are imported.
+    pub(crate) imported: Vec<String>,
 }
 
 /// A form: how many trees it takes, where it is the one that comes first.
 type Form<'a> = fn(&mut Eraser<'a>, &[Tree]) -> Result<Option<usize>, Fault>;
 
 impl<'a> Eraser<'a> {
-    const FORMS: [Form<'a>; 20] = [
+    const FORMS: [Form<'a>; 21] = [
         Self::doc,
         Self::clause,
         Self::ghost,
@@ -63,6 +95,7 @@ impl<'a> Eraser<'a> {
         Self::clone_method,
         Self::formatter,
         Self::import,
+        Self::module,
         Self::allocator,
         Self::difference,
         Self::path,
@@ -131,30 +164,46 @@ impl<'a> Eraser<'a> {
         }
         self.put(token.lead, token.text);
         self.contract = Contract::after(self.out.len(), token);
+        if token.text.starts_with("//!") && self.bracket.is_empty() {
+            self.head = self.out.len();
+        }
         Ok(Some(1))
     }
 
     /// `requires NAME { .. }` and `ensures* NAME { .. }` become documentation.
     fn clause(&mut self, trees: &[Tree]) -> Result<Option<usize>, Fault> {
-        if !trees[0].is("requires") && !trees[0].is("ensures") {
-            return Ok(None);
+        let length = proofs::length_of_clause(trees)?;
+        if let Some(length) = length {
+            self.contract.add(&trees[..length]);
         }
-        let body = trees.iter().take(4).position(|tree| tree.group("{").is_some());
-        let body = body.ok_or_else(|| fault(trees[0].first(), "is a clause without a fact"))?;
-        self.contract.add(&trees[..=body]);
-        Ok(Some(body + 1))
+        Ok(length)
     }
 
     /// `ghost NAME ..`, up to the semicolon or the comma, goes.
     fn ghost(&mut self, trees: &[Tree]) -> Result<Option<usize>, Fault> {
-        if !trees[0].is("ghost") {
+        let length = proofs::length_of_ghost(trees)?;
+        if length.is_some() && self.out.ends_with("pub") {
+            return Err(fault(trees[0].first(), "is public"));
+        }
+        Ok(length)
+    }
+
+    /// `mod NAME;` becomes a module with a body, which the file of that name has.
+    fn module(&mut self, trees: &[Tree]) -> Result<Option<usize>, Fault> {
+        let [word, Tree::Leaf(name), end, ..] = trees else {
+            return Ok(None);
+        };
+        if !word.is("mod") || !end.is(";") {
             return Ok(None);
         }
-        if trees.get(1).and_then(Tree::word).is_none() {
-            return Err(fault(trees[0].first(), "names nothing"));
+        if !self.bracket.is_empty() {
+            return Err(fault(name, "is a file, named inside another module"));
         }
-        let end = trees.iter().position(|tree| tree.is(";") || tree.is(","));
-        Ok(Some(end.map_or(trees.len(), |end| end + 1)))
+        self.put(word.first().lead, word.first().text);
+        self.put(name.lead, name.text);
+        self.modules.push((self.out.len(), name.text.to_string()));
+        self.contract = Contract::at(self.out.len());
+        Ok(Some(3))
     }
 
     /// `#![tactic(..)]` and `#[tactic(..)]` go, `#[unsafe(no_mangle)]`, and `Drop` of a `derive`.
@@ -169,6 +218,9 @@ impl<'a> Eraser<'a> {
         match name {
             "tactic" => {}
             "unsafe" if is_no_mangle(group) => {}
+            "derive" if self.prints_memory(&derived(group), &trees[at + 1..]) => {
+                return Err(fault(&group.open, "opens a derive that prints an allocator"));
+            }
             "derive" => self.derive(trees[0].first(), &derived(group))?,
             _ if ATTRIBUTES.contains(&name) => self.out.push_str(&text_of(&trees[..=at])),
             _ => return Err(fault(&group.open, &format!("opens an attribute that isn't known: {name}"))),
@@ -319,40 +371,17 @@ impl<'a> Eraser<'a> {
         Ok(is_formatter.then_some(formatter.len()))
     }
 
-    /// What both languages take, and mean otherwise, is refused.
-    fn difference(&mut self, trees: &[Tree]) -> Result<Option<usize>, Fault> {
-        // (after a name such brackets are the arguments of a call)
-        let is_value = !self.out.ends_with(|last: char| last.is_alphanumeric() || last == '_' || last == '>');
-        let is_endless = |range: &[Tree]| matches!(range, [_, .., dot, end] if dot.is(".") && end.is("."));
-        let what = match trees {
-            [Tree::Group(range), dot, ..]
-                if is_value && range.open.text == "(" && dot.is(".") && is_endless(&range.trees) =>
-            {
-                "iterates a range with no end"
-            }
-            [dot, end, body, ..] if dot.is(".") && end.is(".") && body.group("{").is_some() => {
-                "iterates a range with no end"
-            }
-            [word, amp, name, ..] if word.is("for") && amp.is("&") && is_parameter(name) => {
-                "is an impl for references to any type"
-            }
-            [dot, second, name, Tree::Group(index), ..]
-                if dot.is(".") && second.is(".") && name.word().is_some() && index.open.text == "[" =>
-            {
-                "takes the other fields from an element"
-            }
-            _ => return Ok(None),
-        };
-        Err(fault(trees[0].first(), what))
-    }
-
     /// What stands in brackets goes without the allocator and the runtime; after a body comes the next item.
     fn group(&mut self, trees: &[Tree]) -> Result<Option<usize>, Fault> {
         let Tree::Group(group) = &trees[0] else {
             return Ok(None);
         };
+        if group.open.text == "[" {
+            self.brackets(group, &group.trees)?;
+            return Ok(Some(1));
+        }
         let kept = without_memory(&group.trees);
-        if group.open.text != "{" {
+        if group.open.text == "(" {
             self.brackets(group, &kept)?;
             return Ok(Some(1));
         }
@@ -371,18 +400,16 @@ impl<'a> Eraser<'a> {
     /// Brackets, and what is left in them, whose items have contracts of their own.
     pub(crate) fn brackets(&mut self, group: &Group, trees: &[Tree]) -> Result<(), Fault> {
         let contract = std::mem::take(&mut self.contract);
+        let takes_ranges = self.takes_ranges(group);
+        let takes_ranges = std::mem::replace(&mut self.takes_ranges, takes_ranges);
+        let bracket = std::mem::replace(&mut self.bracket, opening(group));
         self.put(group.open.lead, group.open.text);
         self.contract = Contract::at(self.out.len());
         self.all(trees)?;
         self.put(group.close.lead, group.close.text);
-        self.contract = contract;
+        (self.contract, self.takes_ranges, self.bracket) = (contract, takes_ranges, bracket);
         Ok(())
     }
-}
-
-/// Whether trees begin with tokens of these texts.
-pub(crate) fn begins_with(trees: &[Tree], texts: &[&str]) -> bool {
-    trees.len() >= texts.len() && trees.iter().zip(texts).all(|(tree, text)| tree.is(text))
 }
 
 /// The body of `impl TRAIT for ..`, where trees begin with one.
@@ -401,18 +428,13 @@ fn is_called_for_its_result(trees: &[Tree]) -> bool {
         && !calls_closure
 }
 
-/// How many trees come first as generics: `<..>`, or none.
-fn length_of_generics(trees: &[Tree]) -> usize {
-    let mut depth = 0;
-    for (at, tree) in trees.iter().enumerate() {
-        // (the arrow of `F: Fn() -> T` closes nothing)
-        let closes = tree.is(">") && trees[..at].last().is_some_and(|before| !before.is("-"));
-        depth += i32::from(tree.is("<")) - i32::from(closes);
-        if depth == 0 {
-            return at + usize::from(closes);
-        }
+/// The bracket that a group opens with.
+fn opening(group: &Group) -> &'static str {
+    match group.open.text {
+        "(" => "(",
+        "[" => "[",
+        _ => "{",
     }
-    trees.len()
 }
 
 /// Whether a body is `let NAME { a: _, b: _ } = self;`.
@@ -430,11 +452,6 @@ fn drops_fields(body: &Group) -> bool {
     }
 }
 
-/// Whether a name is one of a type parameter: a capital letter alone.
-fn is_parameter(name: &Tree) -> bool {
-    name.word().is_some_and(|word| word.len() == 1 && word.starts_with(|letter: char| letter.is_ascii_uppercase()))
-}
-
 /// Whether an attribute is `unsafe(no_mangle)`.
 fn is_no_mangle(attribute: &Group) -> bool {
     matches!(&attribute.trees[..], [_, Tree::Group(name)] if matches!(&name.trees[..], [word] if word.is("no_mangle")))
@@ -446,19 +463,4 @@ fn derived<'a>(attribute: &Group<'a>) -> Vec<&'a str> {
         [derive, Tree::Group(list)] if derive.is("derive") => list.trees.iter().filter_map(Tree::word).collect(),
         _ => Vec::new(),
     }
-}
-
-/// Trees as they stand in the source.
-pub fn text_of(trees: &[Tree]) -> String {
-    let mut text = String::new();
-    for tree in trees {
-        match tree {
-            Tree::Leaf(token) => text.extend([token.lead, token.text]),
-            Tree::Group(group) => {
-                text.extend([group.open.lead, group.open.text, &text_of(&group.trees)]);
-                text.extend([group.close.lead, group.close.text]);
-            }
-        }
-    }
-    text
 }

@@ -1,8 +1,7 @@
 //! The exports of a crate as C calls them: a list is a pointer and a count.
 
-use crate::erase::text_of;
 use crate::library::{items_of, without_memory};
-use crate::tokens::{Fault, Group, Kind, Tree, fault};
+use crate::tokens::{Fault, Group, Kind, Tree, fault, text_of};
 
 /// A module of functions that take what C passes: one for each `extern "C" fn` of a source, in whose module it stands.
 pub fn flat(trees: &[Tree]) -> Result<String, Fault> {

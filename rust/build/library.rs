@@ -1,10 +1,10 @@
 //! The forms that name the kit's library: its modules, its memory and its macros.
 
-use crate::erase::{Eraser, begins_with};
+use crate::erase::Eraser;
 use crate::names::{
     DROPPED, DROPPED_MODULES, FALLIBLE, FALLIBLE_WITH_MEMORY, KIT, MACROS, MODULES, MOVED, UNKNOWN_FALLIBLE,
 };
-use crate::tokens::{Fault, Group, Token, Tree, fault};
+use crate::tokens::{Fault, Group, Token, Tree, begins_with, fault};
 
 impl Eraser<'_> {
     /// `use std::..;` is taken from `core`, from `std`, or from this package. `use thiserror::Error;` goes with the derive.
@@ -18,14 +18,18 @@ impl Eraser<'_> {
         }
         let end = trees.iter().position(|tree| tree.is(";"));
         let end = end.ok_or_else(|| fault(trees[0].first(), "has no end"))?;
-        let lead = trees[0].first().lead;
+        let (word, written) = (trees[0].first(), self.out.len());
         match &trees[4..end] {
             [Tree::Group(modules)] => {
                 for module in items_of(&modules.trees) {
-                    self.import_of(lead, module)?;
+                    self.import_of(word.lead, module)?;
                 }
             }
-            path => self.import_of(lead, path)?,
+            path => self.import_of(word.lead, path)?,
+        }
+        // (`pub` stands before the first alone)
+        if self.out[..written].ends_with(['b', ')']) && self.out[written..].matches(';').count() > 1 {
+            return Err(fault(word, "exports more than one item of std"));
         }
         Ok(Some(end + 1))
     }
@@ -33,12 +37,20 @@ impl Eraser<'_> {
     /// The import of a module of the kit's `std`, or of items of one.
     fn import_of(&mut self, lead: &str, path: &[Tree]) -> Result<(), Fault> {
         let module = path[0].first();
-        let items: Vec<&Token> = match path.get(3) {
-            None => return self.import_module(lead, module),
-            Some(Tree::Group(list)) => items_of(&list.trees).map(|item| item[0].first()).collect(),
-            Some(item) => vec![item.first()],
+        let items: Vec<&[Tree]> = match path {
+            [_] => return self.import_module(lead, module),
+            [_, colon, _, Tree::Group(list)] if colon.is(":") => items_of(&list.trees).collect(),
+            [_, colon, _, item @ ..] if colon.is(":") => vec![item],
+            [_, other, ..] => return Err(fault(other.first(), "follows a module of std in an import")),
+            [] => return Ok(()),
         };
-        for item in items.into_iter().filter(|item| !DROPPED.contains(&item.text)) {
+        for item in items {
+            let [Tree::Leaf(item)] = item else {
+                return Err(fault(item[1].first(), "follows an item of std in an import"));
+            };
+            if DROPPED.contains(&item.text) {
+                continue;
+            }
             if item.text == "self" {
                 self.import_module(lead, module)?;
                 continue;
@@ -56,11 +68,12 @@ impl Eraser<'_> {
         if !DROPPED_MODULES.contains(&module.text) {
             let path = self.path_of(module, None)?;
             self.put(lead, &format!("use {path};"));
+            self.imported.push(module.text.to_string());
         }
         Ok(())
     }
 
-    /// Where a module of the kit's `std` stands in plain Rust, if an item of it may be imported.
+    /// Where a module of the kit's `std` stands in plain Rust, if an item of it may be named.
     fn path_of(&self, module: &Token, item: Option<&Token>) -> Result<String, Fault> {
         let known = MODULES.iter().find(|(name, ..)| *name == module.text);
         let (_, root, items) = known.ok_or_else(|| fault(module, "is a module of std that isn't known"))?;
@@ -76,7 +89,8 @@ impl Eraser<'_> {
     /// `let alloc = rt.alloc();` goes.
     pub(crate) fn allocator(&mut self, trees: &[Tree]) -> Result<Option<usize>, Fault> {
         let call = ["let", "alloc", "=", "rt", ".", "alloc"];
-        Ok(begins_with(trees, &call).then_some(call.len() + 2))
+        let ends = matches!(trees.get(call.len()..), Some([Tree::Group(none), end, ..]) if none.trees.is_empty() && end.is(";"));
+        Ok((begins_with(trees, &call) && ends).then_some(call.len() + 2))
     }
 
     /// A path from `std`, from the root of its crate or from another crate leads there from the package.
@@ -90,9 +104,13 @@ impl Eraser<'_> {
         let path = match root {
             "crate" => format!("crate::{}", self.names.own),
             "std" => {
-                let path = self.path_of(next.first(), None)?;
+                let path = self.path_of(next.first(), item_after(&trees[4..]))?;
                 self.put(first.first().lead, &path);
                 return Ok(Some(4));
+            }
+            _ if self.imported.iter().any(|module| module == root) => {
+                self.path_of(first.first(), item_after(&trees[1..]))?;
+                return Ok(None);
             }
             _ if self.names.beside.contains(&root) => format!("crate::{root}"),
             // (the package itself has all that this crate has for callers)
@@ -114,8 +132,7 @@ impl Eraser<'_> {
         let (Some(word), Some(group)) = (name.word(), arguments.group("(")) else {
             return Ok(None);
         };
-        let is_method = self.out.ends_with('.');
-        let is_std = is_method || self.out.ends_with("Vec::") || self.out.ends_with("String::");
+        let is_std = [".", "Vec::", "String::"].iter().any(|before| self.out.ends_with(before));
         if is_std && UNKNOWN_FALLIBLE.contains(&word) {
             return Err(fault(name.first(), "may fail for memory, and nothing stands for it in plain Rust"));
         }
@@ -161,6 +178,12 @@ pub(crate) fn items_of<'t, 'a>(trees: &'t [Tree<'a>]) -> impl Iterator<Item = &'
     trees.split(|tree| tree.is(",")).filter(|item| !item.is_empty())
 }
 
+/// The item that a path goes on with.
+fn item_after<'t, 'a>(trees: &'t [Tree<'a>]) -> Option<&'t Token<'a>> {
+    let is_path = begins_with(trees, &[":", ":"]);
+    trees.get(2).filter(|tree| is_path && tree.word().is_some()).map(Tree::first)
+}
+
 /// What stands in brackets without the allocator and the runtime: parameters, arguments and fields.
 pub(crate) fn without_memory<'a>(trees: &[Tree<'a>]) -> Vec<Tree<'a>> {
     let is_kept = |item: &&[Tree]| match item {
@@ -171,7 +194,7 @@ pub(crate) fn without_memory<'a>(trees: &[Tree<'a>]) -> Vec<Tree<'a>> {
 }
 
 /// Whether an argument, a parameter or a field is the allocator, or the runtime that it comes from.
-fn is_of_memory(item: &[Tree]) -> bool {
+pub(crate) fn is_of_memory(item: &[Tree]) -> bool {
     const FORMS: &[&[&str]] = &[
         &["alloc"],
         &["_alloc"],

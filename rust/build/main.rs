@@ -1,16 +1,19 @@
 //! Makes plain Rust of the sources in `crates/` before the package is built: one file for the library, and one each for the
 //! libraries of its programs, the tests and the exports for C.
 
+mod differences;
 mod docs;
 mod erase;
 mod errors;
 mod exports;
 mod library;
+mod modules;
 mod names;
+mod proofs;
 mod tokens;
 
-use erase::{Names, erase};
-use std::error::Error;
+use erase::Names;
+use modules::{Fallible, module_of};
 use std::path::{Path, PathBuf};
 use std::{env, fs};
 
@@ -69,8 +72,6 @@ const ALLOWED: &[(&str, &[&str])] = &[
     ),
 ];
 
-type Fallible<T> = Result<T, Box<dyn Error>>;
-
 /// Writes what the package includes. With a crate as argument, one above the layer with exports for C, and the folder of its
 /// sources, prints that crate instead, and its exports as C calls them.
 fn main() -> Fallible<()> {
@@ -117,29 +118,6 @@ fn crates_of(top: &Path, crates: &[&str], beside: &[&str], package: &str) -> Fal
             let body = module_of(&source.join("lib.rt"), &source, &names, false)?;
             let visible = if *own == "ndarray_layout" { "" } else { "pub " };
             text += &format!("#[allow({})]\n{visible}mod {own} {{\n{body}\n}}\n", allowed());
-        }
-    }
-    Ok(text)
-}
-
-/// A file as plain Rust, with the files of its modules in place of their names, and with its exports as C calls them.
-fn module_of(file: &Path, folder: &Path, names: &Names, exported: bool) -> Fallible<String> {
-    let source = fs::read_to_string(file).map_err(|error| format!("{}: {error}", file.display()))?;
-    let erased = tokens::trees_of(&source).and_then(|(trees, rest)| {
-        let exports = if exported { exports::flat(&trees)? } else { String::new() };
-        Ok(erase(&trees, names)? + rest + &exports)
-    });
-    let erased = erased.map_err(|fault| format!("{}:{fault}", file.display()))?;
-    let (docs, items): (Vec<&str>, Vec<&str>) = erased.lines().partition(|line| line.starts_with("//!"));
-    let prelude = format!("use {}::memory::prelude::*;", names.package);
-    let mut text = String::new();
-    for line in docs.into_iter().chain([prelude.as_str()]).chain(items) {
-        match line.strip_suffix(';').map(|line| line.rsplit(' ').collect::<Vec<_>>()).as_deref() {
-            Some([name, "mod", ..]) => {
-                let body = module_of(&folder.join(format!("{name}.rt")), &folder.join(name), names, exported)?;
-                text += &format!("{} {{\n{body}\n}}\n", line.trim_end_matches(';'));
-            }
-            _ => text.extend([line, "\n"]),
         }
     }
     Ok(text)

@@ -1,20 +1,20 @@
 //! The names that the eraser knows: what stands in plain Rust for what the kit's library has, and what may not be left.
 
-/// A module of the kit's `std`, the root under which it stands in plain Rust, and which of its items may be imported.
+/// A module of the kit's `std`, the root under which it stands in plain Rust, and which of its items may be named.
 /// `MEMORY` is this package's own module of that name.
 pub const MODULES: &[(&str, &str, &[&str])] = &[
     ("alloc", "MEMORY", &["AllocError", "AllocFailed"]),
     ("cmp", "core", &["Ordering"]),
     ("error", "core", &["Error"]),
-    ("fmt", "core", &["Debug", "Display", "Write"]),
+    ("fmt", "core", &["Debug", "Display", "Error", "Formatter", "Result", "Write"]),
     ("hash", "core", &["DefaultHasher", "Hash", "Hasher"]),
-    ("io", "std", &["ErrorKind", "Read", "Write"]),
+    ("io", "std", &["Error", "ErrorKind", "Read", "Result", "Write"]),
     ("iter", "core", &["FusedIterator"]),
     ("marker", "core", &["PhantomData"]),
     ("mem", "core", &["replace"]),
     ("ops", "core", OPERATORS),
-    ("slice", "core", &["Iter"]),
-    ("str", "core", &["SplitWhitespace"]),
+    ("slice", "core", &["Iter", "from_ref"]),
+    ("str", "core", &["SplitWhitespace", "from_utf8"]),
 ];
 
 const OPERATORS: &[&str] = &[
@@ -72,19 +72,31 @@ pub const UNKNOWN_FALLIBLE: &[&str] = &[
     "cloned",
     "concat",
     "extend",
+    "extend_with_clones",
+    "insert",
     "insert_str",
     "into_owned",
     "join",
     "make_mut",
+    "push_back",
+    "push_front",
     "replace_range",
     "reserve",
     "reserve_exact",
     "resize",
+    "resize_with",
     "sort",
     "sort_by",
+    "sort_by_cached_key",
     "sort_by_key",
     "to_owned",
 ];
+
+/// Calls that may be handed a range with no end: they don't iterate it.
+pub const TAKES_RANGES: &[&str] = &["from", "get", "get_mut"];
+
+/// Bounds by which a type has a size, as each type of the kit has.
+pub const SIZED: &[&str] = &["Clone", "Copy", "Default", "Drop", "Lengths", "Sized"];
 
 /// Macros that mean the same in both languages.
 pub const MACROS: &[&str] = &["assert", "format", "matches", "panic", "unreachable", "vec", "write"];
@@ -125,8 +137,11 @@ pub const REFUSED: &[&str] = &[
     "Model",
     "TryFromIntError",
     "_alloc",
+    "align_of",
+    "align_of_val",
     "alloc",
     "async",
+    "core",
     "dyn",
     "ensures",
     "final",
@@ -137,6 +152,7 @@ pub const REFUSED: &[&str] = &[
     "rt",
     "size_of",
     "size_of_val",
+    "std",
     "thread",
     "unsafe",
 ];

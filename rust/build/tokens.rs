@@ -106,6 +106,54 @@ pub fn trees_of(source: &str) -> Result<(Vec<Tree<'_>>, &str), Fault> {
     }
 }
 
+/// Trees as they stand in the source.
+pub fn text_of(trees: &[Tree]) -> String {
+    let mut text = String::new();
+    for tree in trees {
+        match tree {
+            Tree::Leaf(token) => text.extend([token.lead, token.text]),
+            Tree::Group(group) => {
+                text.extend([group.open.lead, group.open.text, &text_of(&group.trees)]);
+                text.extend([group.close.lead, group.close.text]);
+            }
+        }
+    }
+    text
+}
+
+/// Whether trees begin with tokens of these texts.
+pub fn begins_with(trees: &[Tree], texts: &[&str]) -> bool {
+    trees.len() >= texts.len() && trees.iter().zip(texts).all(|(tree, text)| tree.is(text))
+}
+
+/// How many trees come first as generics: `<..>`, or none.
+pub fn length_of_generics(trees: &[Tree]) -> usize {
+    let mut nesting = Nesting::default();
+    for (at, tree) in trees.iter().enumerate() {
+        if nesting.after(tree) == 0 {
+            return at + usize::from(tree.is(">"));
+        }
+    }
+    trees.len()
+}
+
+/// How deep in `<..>` the trees lead that were gone over.
+#[derive(Default)]
+pub struct Nesting {
+    depth: i32,
+    is_after_minus: bool,
+}
+
+impl Nesting {
+    /// How deep they lead with one tree more.
+    pub fn after(&mut self, tree: &Tree) -> i32 {
+        // (the arrow of `F: Fn() -> T` closes nothing)
+        self.depth += i32::from(tree.is("<")) - i32::from(tree.is(">") && !self.is_after_minus);
+        self.is_after_minus = tree.is("-");
+        self.depth
+    }
+}
+
 /// A fault at a token.
 pub fn fault(token: &Token, what: &str) -> Fault {
     Fault { line: token.line, what: format!("`{}` {what}", token.text) }
@@ -119,6 +167,9 @@ fn tokens_of(source: &str) -> Result<(Vec<Token<'_>>, &str), Fault> {
         let lead = &source[at..at + length_of_space(&source[at..])];
         line += lead.matches('\n').count();
         at += lead.len();
+        if source[at..].starts_with("/*") {
+            return Err(Fault { line, what: "`/*` begins a comment that isn't known".to_string() });
+        }
         let Some((kind, length)) = next_token(&source[at..]) else {
             return match source[at..].chars().next() {
                 None => Ok((tokens, lead)),
@@ -126,10 +177,18 @@ fn tokens_of(source: &str) -> Result<(Vec<Token<'_>>, &str), Fault> {
             };
         };
         let text = &source[at..at + length];
+        if let Some(prefix) = tokens.last().filter(|_| kind == Kind::Literal && lead.is_empty()).filter(is_prefix) {
+            return Err(fault(prefix, "begins a string that isn't known"));
+        }
         tokens.push(Token { kind, lead, text, line });
         line += text.matches('\n').count();
         at += length;
     }
+}
+
+/// Whether a token right before a string is a part of it: `r` and `#` of raw ones.
+fn is_prefix(token: &&Token) -> bool {
+    token.kind == Kind::Word || token.text == "#"
 }
 
 /// How many bytes of white space and of comments come first.

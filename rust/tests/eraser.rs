@@ -1,6 +1,8 @@
 //! The eraser: what each form becomes, and that what it doesn't know is an error.
 #![allow(dead_code)]
 
+#[path = "../build/differences.rs"]
+mod differences;
 #[path = "../build/docs.rs"]
 mod docs;
 #[path = "../build/erase.rs"]
@@ -11,19 +13,26 @@ mod errors;
 mod exports;
 #[path = "../build/library.rs"]
 mod library;
+#[path = "../build/modules.rs"]
+mod modules;
 #[path = "../build/names.rs"]
 mod names;
+#[path = "../build/proofs.rs"]
+mod proofs;
 #[path = "../build/tokens.rs"]
 mod tokens;
 
 use erase::{Names, erase};
+use modules::module_of;
+use std::fs;
+use std::path::Path;
 use tokens::trees_of;
 
 const NAMES: Names = Names { own: "upper", beside: &["tables"], library: &["lower"], package: "crate", inlined: false };
 
 /// What is left of a source, or what is said of it.
 fn erased(source: &str) -> String {
-    match trees_of(source).and_then(|(trees, rest)| Ok(erase(&trees, &NAMES)? + rest)) {
+    match trees_of(source).and_then(|(trees, rest)| Ok(erase(&trees, &NAMES)?.text + rest)) {
         Ok(text) => text,
         Err(fault) => fault.to_string(),
     }
@@ -43,7 +52,7 @@ fn each_form_becomes_plain_rust() {
         ("trait T { ghost list: { Self → List ℕ }; fn f(&self); }", "trait T { fn f(&self); }"),
         ("fn f(x: u8) -> u8 requires { x ≡ 1 } ensures* same { result ≡ x } { x }", "fn f(x: u8) -> u8 { x }"),
         ("fn f() -> u8 ensures { result ≡ 1 };", "fn f() -> u8;"),
-        ("#![tactic(auto)] mod a;", "mod a;"),
+        ("#![tactic(auto)] struct A;", "struct A;"),
         ("#[tactic(auto, using(a))] #[inline] fn f() {}", "#[inline] fn f() {}"),
         ("#[derive(Debug, Drop)] struct S;", "#[derive(Debug)] struct S;"),
         ("#[derive(Drop)] struct S;", "struct S;"),
@@ -111,7 +120,7 @@ fn a_function_of_the_layer_is_inlined() {
     ];
     for (source, due) in ROWS {
         let names = Names { inlined: true, ..NAMES };
-        let text = trees_of(source).and_then(|(trees, _)| erase(&trees, &names)).expect("known forms");
+        let text = trees_of(source).and_then(|(trees, _)| erase(&trees, &names)).expect("known forms").text;
         assert_eq!(text.split_whitespace().collect::<Vec<_>>().join(" "), *due, "{source}");
     }
 }
@@ -144,7 +153,7 @@ fn a_result_that_nobody_is_told_of_must_be_used() {
     }
     let names = Names { package: "::ndarray_layout", ..NAMES };
     let text = trees_of("pub fn f() -> u8;").and_then(|(trees, _)| erase(&trees, &names));
-    assert_eq!(text.expect("known forms"), "pub fn f() -> u8;");
+    assert_eq!(text.expect("known forms").text, "pub fn f() -> u8;");
 }
 
 #[test]
@@ -206,6 +215,99 @@ fn an_export_takes_what_c_passes() {
 }
 
 #[test]
+fn what_means_something_else_is_an_error_with_its_line() {
+    const ROWS: &[(&str, &str)] = &[
+        ("use std::cmp::Ordering::Less as Below;", "1: `:` follows an item of std in an import"),
+        ("use std::cmp::{Ordering as Order};", "1: `as` follows an item of std in an import"),
+        ("use std::cmp::{Ordering::{self, Less}};", "1: `:` follows an item of std in an import"),
+        ("use std::fmt as f;", "1: `as` follows a module of std in an import"),
+        ("use std::{fmt as f, io};", "1: `as` follows a module of std in an import"),
+        ("pub use std::ops::{Add, RangeFull};", "1: `use` exports more than one item of std"),
+        ("use std as rust;", "1: `std` is no form that can be erased"),
+        ("core::iter::once(1)", "1: `core` is no form that can be erased"),
+        ("std::iter::once(1)", "1: `once` is an item of std that isn't known"),
+        ("use std::iter; iter::empty::<u8>()", "1: `empty` is an item of std that isn't known"),
+        ("(250u8..).take(9)", "1: `.` begins a range with no end, which may be iterated"),
+        ("for x in (250u8..).take(9) {}", "1: `.` begins a range with no end, which may be iterated"),
+        ("for x in 0.. { f(x) }", "1: `.` begins a range with no end, which may be iterated"),
+        ("let r = 250u8..; r.take(9)", "1: `.` begins a range with no end, which may be iterated"),
+        ("a.zip(250u8..)", "1: `.` begins a range with no end, which may be iterated"),
+        ("S { all: f(a).., b }", "1: `.` begins a range with no end, which may be iterated"),
+        ("let all = [250u8..];", "1: `.` begins a range with no end, which may be iterated"),
+        ("RangeFrom { start: 250u8 }.take(9)", "1: `RangeFrom` is a range with no end, which may be iterated"),
+        ("impl<T> W for &T {}", "1: `&` refers to any type, in the head of an impl"),
+        ("impl<T> W<&T> {}", "1: `&` refers to any type, in the head of an impl"),
+        ("impl<'a, Item> W<&'a mut Item> for S {}", "1: `&` refers to any type, in the head of an impl"),
+        ("impl<T: Open> V for W<(u8, &T)> {}", "1: `&` refers to any type, in the head of an impl"),
+        ("S { a: 1, ..v[i] }", "1: `.` takes the other fields from an element"),
+        ("S { a: 1, ..w.v[i] }", "1: `.` takes the other fields from an element"),
+        ("S { ..(w.v)[i].s }", "1: `.` takes the other fields from an element"),
+        ("mod inner { pub mod deep; }", "1: `deep` is a file, named inside another module"),
+        ("v.iter().map(u8::clone)", "1: `clone` may fail for memory, and is named in a way that isn't known"),
+        ("Clone::clone(&a)", "1: `clone` may fail for memory, and is named in a way that isn't known"),
+        (
+            "x.collect::<Vec<u8>>(alloc).iter()",
+            "1: `collect` may fail for memory, and is named in a way that isn't known",
+        ),
+        ("[alloc, alloc].len()", "1: `alloc` is no form that can be erased"),
+        ("#[derive(Debug)] struct S { alloc: Global, n: u8 }", "1: `[` opens a derive that prints an allocator"),
+        ("ghost a: { b } fn f() {} struct S;", "1: `ghost` has more than a fact"),
+        ("let a = r\"\\\"; v.push(1)?; let b = \"\\\"\";", "1: `r` begins a string that isn't known"),
+        ("let s = r#\"a\"#;", "1: `#` begins a string that isn't known"),
+        ("/* ghost */ fn f() {}", "1: `/*` begins a comment that isn't known"),
+        ("#[derive(Error)] pub enum E {\n#[error(\"{b}\")] A { a: u8 } }", "2: `\"{b}\"` names no field: b"),
+    ];
+    for (source, due) in ROWS {
+        assert_eq!(erased(source), *due, "{source}");
+    }
+}
+
+#[test]
+fn what_means_the_same_stays() {
+    const ROWS: &[&str] = &[
+        "use crate::a::Less as Below;",
+        "&v[i..]; v[f(x)..].len(); v.get(skipped..); v.get_mut(1..); Slice::from(5u8..);",
+        "match x { 5.. => 1, _ => 0 }",
+        "[first, rest @ ..]; (.., last); S { a, .. }; f(..); ..=3; a..b;",
+        "impl<D: Lengths> W for Forward<&'a mut D> {}",
+        "impl<T> W<&Dim<T>> for V<T> {}",
+        "S { a: 1, ..*self.s }",
+        "impl From<RangeFrom<u8>> for S {}",
+    ];
+    for source in ROWS {
+        let stays = source.replace("crate::a", "crate::upper::a");
+        assert_eq!(line(source), stays, "{source}");
+    }
+}
+
+/// A folder with a file of this text, `lib.rt`.
+fn file_of(name: &str, text: &str) -> std::path::PathBuf {
+    let folder = Path::new(env!("CARGO_TARGET_TMPDIR")).join(name);
+    fs::create_dir_all(&folder).expect("a folder");
+    fs::write(folder.join("lib.rt"), text).expect("a file");
+    folder
+}
+
+#[test]
+fn a_file_is_a_module() {
+    let folder =
+        file_of("whole", "//! The docs.\n#![tactic(auto)]\n\npub mod a;\nconst S: &str = \"\n//! text\nmod b;\n\";\n");
+    fs::write(folder.join("a.rt"), "fn f() {}\n").expect("a file");
+    let text = module_of(&folder.join("lib.rt"), &folder, &NAMES, false).expect("known forms");
+    let due = "//! The docs.\nuse crate::memory::prelude::*;\n\n\npub mod a {\n\nuse crate::memory::prelude::*;\nfn f() {}\n\n}\nconst S: &str = \"\n//! text\nmod b;\n\";\n";
+    assert_eq!(text, due);
+}
+
+#[test]
+fn a_fault_names_the_file() {
+    let folder = file_of("fault", "mod a;\n");
+    fs::write(folder.join("a.rt"), "\nfn f() { unsafe {} }\n").expect("a file");
+    let fault = module_of(&folder.join("lib.rt"), &folder, &NAMES, false).expect_err("no form");
+    let due = format!("{}:2: `unsafe` is no form that can be erased", folder.join("a.rt").display());
+    assert_eq!(fault.to_string(), due);
+}
+
+#[test]
 fn what_is_not_known_is_an_error_with_its_line() {
     const ROWS: &[(&str, &str)] = &[
         ("fn f() {}\nghost;", "2: `ghost` names nothing"),
@@ -221,7 +323,7 @@ fn what_is_not_known_is_an_error_with_its_line() {
         ("#[unsafe(no_drop)] fn f() {}", "1: `[` opens an attribute that isn't known: unsafe"),
         ("unsafe { f() }", "1: `unsafe` is no form that can be erased"),
         ("fn f(x: &dyn T) {}", "1: `dyn` is no form that can be erased"),
-        ("std::mem::size_of::<u8>()", "1: `size_of` is no form that can be erased"),
+        ("std::mem::size_of::<u8>()", "1: `size_of` is an item of std that isn't known"),
         ("std::thread::yield_now()", "1: `thread` is a module of std that isn't known"),
         ("use std::iter::once;", "1: `once` is an item of std that isn't known"),
         ("use std::sync::Arc;", "1: `sync` is a module of std that isn't known"),
@@ -233,10 +335,6 @@ fn what_is_not_known_is_an_error_with_its_line() {
         ("v.reserve(2)?;", "1: `reserve` may fail for memory, and nothing stands for it in plain Rust"),
         ("fn clone(&self) -> Result<Self, AllocError> { self.copy() }", "1: `clone` does more than to copy"),
         ("impl Model for S { fn f() {} }", "1: `fn` is no ghost member of a model"),
-        ("(250u8..).take(9)", "1: `(` iterates a range with no end"),
-        ("for x in 0.. { f(x) }", "1: `.` iterates a range with no end"),
-        ("impl<T> W for &T {}", "1: `for` is an impl for references to any type"),
-        ("S { a: 1, ..v[i] }", "1: `.` takes the other fields from an element"),
         ("#[derive(Error)] pub enum E { A }", "1: `E` derives Error, and a variant has no text"),
         ("#[derive(Error)] pub enum E { #[source] A }", "1: `[` opens no text of an error that is known"),
         ("#[derive(Error)] pub enum E { #[error(\"{0}{1}\")] A(u8, u8) }", "1: `(` opens more than one field"),
