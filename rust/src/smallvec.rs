@@ -57,6 +57,9 @@ impl<T: Copy + Default> SmallVec<T, 4> {
 
     /// One item, so many times.
     pub(crate) fn from_elem(item: T, len: usize) -> Result<Self, AllocError> {
+        if len <= 4 {
+            return Ok(Self::from_buf_and_len([item; 4], len));
+        }
         let mut items = Vec::fallible_with_capacity(len)?;
         items.resize(len, item);
         Ok(SmallVec(Items::Heap(items)))
@@ -125,5 +128,34 @@ impl<T: Copy + Default> SmallVec<T, 4> {
             }
         }
         Ok(())
+    }
+}
+
+#[cfg(test)]
+mod tests {
+    use super::{Items, SmallVec};
+
+    type List = SmallVec<usize, 4>;
+
+    /// Whether the items lie in memory.
+    fn is_spilled(list: &List) -> bool {
+        matches!(list.0, Items::Heap(_))
+    }
+
+    #[test]
+    fn up_to_four_items_take_no_memory() {
+        for len in 0..6 {
+            let mut grown = List::new();
+            for _ in 0..len {
+                grown.fallible_push(7).expect("room");
+            }
+            let made = List::from_elem(7, len).expect("room");
+            let copied = List::fallible_from_slice(grown.as_slice()).expect("room");
+            let room = List::fallible_with_capacity(len).expect("room");
+            for list in [&made, &copied, &room, &grown] {
+                assert_eq!(is_spilled(list), len > 4, "{len}");
+            }
+            assert_eq!((made.as_slice(), copied.as_slice()), (grown.as_slice(), grown.as_slice()));
+        }
     }
 }
