@@ -1,6 +1,7 @@
 //! Makes plain Rust of the sources in `crates/` before the package is built: one file for the library, and one each for the
 //! libraries of its programs, the tests and the exports for C.
 
+mod code;
 mod differences;
 mod docs;
 mod erase;
@@ -73,9 +74,14 @@ const ALLOWED: &[(&str, &[&str])] = &[
 ];
 
 /// Writes what the package includes. With a crate as argument, one above the layer with exports for C, and the folder of its
-/// sources, prints that crate instead, and its exports as C calls them.
+/// sources, prints that crate instead, and its exports as C calls them. With `--code` and files, prints their lines of code.
 fn main() -> Fallible<()> {
     let arguments: Vec<String> = env::args().skip(1).collect();
+    if let [flag, files @ ..] = &arguments[..]
+        && flag == "--code"
+    {
+        return files.iter().try_for_each(|file| print_code(file));
+    }
     if let [name, folder] = &arguments[..] {
         println!("{}", exporting(name, Path::new(folder))?);
         return Ok(());
@@ -88,6 +94,16 @@ fn main() -> Fallible<()> {
     fs::write(out.join("tests.rs"), crates_of(&top, TESTS, TESTS, "::ndarray_layout")?)?;
     fs::write(out.join("examples.rs"), crates_of(&top, EXAMPLES, EXAMPLES, "::ndarray_layout")?)?;
     fs::write(out.join("exports.rs"), crates_of(&top, EXPORTS, EXPORTS, "::ndarray_layout")?)?;
+    Ok(())
+}
+
+/// Prints the lines of code of a file, each with its place.
+fn print_code(file: &str) -> Fallible<()> {
+    let source = fs::read_to_string(file).map_err(|error| format!("{file}: {error}"))?;
+    let lines = code::lines_of(&source).map_err(|fault| format!("{file}:{fault}"))?;
+    for line in lines {
+        println!("{file}:{}: {}", line.number, line.text);
+    }
     Ok(())
 }
 

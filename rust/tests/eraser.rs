@@ -1,6 +1,8 @@
 //! The eraser: what each form becomes, and that what it doesn't know is an error.
 #![allow(dead_code)]
 
+#[path = "../build/code.rs"]
+mod code;
 #[path = "../build/differences.rs"]
 mod differences;
 #[path = "../build/docs.rs"]
@@ -305,6 +307,25 @@ fn a_fault_names_the_file() {
     let fault = module_of(&folder.join("lib.rt"), &folder, &NAMES, false).expect_err("no form");
     let due = format!("{}:2: `unsafe` is no form that can be erased", folder.join("a.rt").display());
     assert_eq!(fault.to_string(), due);
+}
+
+#[test]
+fn code_is_found_by_tokens() {
+    const ROWS: &[(&str, &str)] = &[
+        ("let c = 'é'; return E; // ensures", "1: let c = 'é'; return E;"),
+        ("{ use a::{b}; pub(super) use c::d; return E; }", "1: { return E; }"),
+        ("use a::b as E;\npub use c::{self as E};", "1: use a::b as E;, 2: pub use c::{self as E};"),
+        ("fn f(x: u8) -> R ensures* a { x ≡ 1 } { E }", "1: fn f(x: u8) -> R { E }"),
+        ("fn f()\n    requires { x ≡\n 1 } { E }", "1: fn f(), 3: { E }"),
+        ("#![tactic(auto)] #[tactic(a)] fn f() {}", "1: fn f() {}"),
+        ("S { ghost a: { b ≡ c }, E }", "1: S { E }"),
+        ("/// Docs.\nlet s = \"ghost //\nuse a;\"; E", "2: let s = \"ghost // use a;\", 3: ; E"),
+    ];
+    for (source, due) in ROWS {
+        let lines = code::lines_of(source).expect("tokens");
+        let lines: Vec<String> = lines.iter().map(|line| format!("{}: {}", line.number, line.text)).collect();
+        assert_eq!(lines.join(", "), *due, "{source}");
+    }
 }
 
 #[test]
