@@ -231,11 +231,11 @@ def _block_length(axis: int, length: Any) -> int:
 def _first_conflict(dimensions: int, parts: list[_Part]) -> Optional[Pair]:
     """The positions of two parts that share a number on each axis."""
     steps = _steps(dimensions, parts)
-    units = [gcd(*along) for along in steps]
-    for axis in filter(units.__getitem__, range(dimensions)):
-        parts = _unwrapped(parts, axis, units[axis])
+    stepped = [(axis, gcd(*along)) for axis, along in enumerate(steps) if gcd(*along) > 1]
+    for axis, unit in stepped:
+        parts = _unwrapped(parts, axis, unit)
     axes = [_stretches(parts, axis) for axis in range(dimensions)]
-    axes += [_remainders(parts, axis, unit) for axis, unit in enumerate(units) if unit]
+    axes += [_remainders(parts, axis, unit) for axis, unit in stepped]
     are_boxes = max(map(len, steps), default=0) < 2
 
     def find(group: list[int]) -> Optional[Pair]:
