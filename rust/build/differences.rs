@@ -76,12 +76,12 @@ impl Eraser<'_> {
         Ok(())
     }
 
-    /// Whether what follows stands in an index, or is handed to a call that doesn't iterate ranges.
+    /// Whether what a bracket opens is an index, or is handed to a call that doesn't iterate ranges.
     pub(crate) fn takes_ranges(&self, group: &Group) -> bool {
-        let called = |name: &&str| self.out.ends_with(&format!(".{name}")) || self.out.ends_with(&format!("::{name}"));
+        let is_called = |name: &&str| [".", "::"].iter().any(|before| self.out.ends_with(&format!("{before}{name}")));
         match group.open.text {
             "[" => ends_value(&self.out),
-            "(" => TAKES_RANGES.iter().any(|name| called(&name)),
+            "(" => TAKES_RANGES.iter().any(is_called),
             _ => false,
         }
     }
@@ -101,7 +101,7 @@ fn holds_memory(trees: &[Tree]) -> bool {
 }
 
 /// Whether text ends with a value, and so an index or a range may follow.
-fn ends_value(text: &str) -> bool {
+pub fn ends_value(text: &str) -> bool {
     const KEYWORDS: &[&str] =
         &["as", "break", "else", "if", "in", "let", "match", "move", "mut", "ref", "return", "while"];
     let word = text.rsplit(|letter: char| !letter.is_alphanumeric() && letter != '_').next().unwrap_or_default();

@@ -1,6 +1,7 @@
 //! What is left of a source with contracts in plain Rust: a list of forms, each with what it becomes. What no form knows is
 //! an error, and never passed through. `rust/ERASURE.md` says why the meaning stays.
 
+use crate::differences::ends_value;
 use crate::docs::Contract;
 use crate::errors;
 use crate::library::without_memory;
@@ -382,6 +383,9 @@ impl<'a> Eraser<'a> {
         }
         let kept = without_memory(&group.trees);
         if group.open.text == "(" {
+            if kept.len() < group.trees.len() && !self.out.ends_with('>') && !ends_value(&self.out) {
+                return Err(fault(&group.open, "opens a tuple with an allocator"));
+            }
             self.brackets(group, &kept)?;
             return Ok(Some(1));
         }

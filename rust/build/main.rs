@@ -37,7 +37,6 @@ const EXPORTS: &[&str] = &["ndarray_layout_c"];
 /// Lints that the sources don't keep to, and why.
 const ALLOWED: &[(&str, &[&str])] = &[
     ("a name that only clauses use, or only the kit's prelude lacks", &["unused_imports", "unused_variables"]),
-    ("a pair of which the allocator was one half", &["unused_parens"]),
     ("proofs name a loop by its label", &["unused_labels"]),
     (
         "a form that is proved with less",

@@ -49,7 +49,6 @@ pub const KIT: &[&str] = &["num_traits", "smallvec"];
 /// Calls of lists, texts, slices and iterators that may fail for memory in the kit, and can't in plain Rust. Each is a
 /// call of this package under the name `fallible_..`.
 pub const FALLIBLE: &[&str] = &[
-    "clone",
     "collect",
     "extend_from_slice",
     "from_slice",
@@ -69,10 +68,12 @@ pub const FALLIBLE_WITH_MEMORY: &[&str] = &["collect", "repeat", "replace", "to_
 /// Calls that may fail for memory, and for which this package has nothing.
 pub const UNKNOWN_FALLIBLE: &[&str] = &[
     "append",
+    "clone",
     "cloned",
     "concat",
     "extend",
     "extend_with_clones",
+    "from_iter",
     "insert",
     "insert_str",
     "into_owned",

@@ -39,8 +39,7 @@ impl<T> From<AllocFailed<T>> for AllocError {
 /// What the erased sources name without an import.
 pub mod prelude {
     pub use super::{
-        FallibleClone, FallibleIterator, FallibleSlice, FallibleStr, FallibleString, FallibleToString, FallibleVec,
-        FallibleWrite,
+        FallibleIterator, FallibleSlice, FallibleStr, FallibleString, FallibleToString, FallibleVec, FallibleWrite,
     };
     pub use alloc::string::String;
     pub use alloc::vec::Vec;
@@ -129,18 +128,6 @@ impl<T: Copy> FallibleSlice<T> for [T] {
         let mut items = Vec::fallible_with_capacity(self.len())?;
         items.extend_from_slice(self);
         Ok(items)
-    }
-}
-
-/// A copy that may need memory.
-pub trait FallibleClone: Clone {
-    /// The same value.
-    fn fallible_clone(&self) -> Result<Self, AllocError>;
-}
-
-impl<T: Clone> FallibleClone for T {
-    fn fallible_clone(&self) -> Result<Self, AllocError> {
-        Ok(self.clone())
     }
 }
 
