@@ -5,8 +5,9 @@
 //! checks and debug assertions, and each row was asked of them at `IxDyn`, with strides read and written as signed
 //! numbers. Left out is what this layer answers otherwise on purpose: strides of `isize::MIN` where the crate takes
 //! their magnitude, axes of length at most 1 with the least stride, and sizes that overflow before a length of 0.
-use crate::assertions::hold;
-use crate::calls::Calls;
+
+use super::calls::answer;
+use crate::table::assert_rows;
 
 const ANSWERS: &str = "\
 size_checked 0 / 5,0,7,1 / 4,3,2,1,0 => 0
@@ -126,6 +127,6 @@ is_layout 9223372036854775807,1 1,-9223372036854775808 => true true
 is_layout 4611686018427387903,2 1,4611686018427387903 => false true";
 
 #[test]
-fn answers_of_ndarray(rt: HostRuntime) {
-    hold(&rt, rt.alloc(), ANSWERS, &Calls);
+fn answers_of_ndarray() {
+    assert_rows(ANSWERS, answer);
 }
