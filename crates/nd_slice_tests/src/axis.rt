@@ -3,11 +3,8 @@ ghost use Rattle.std.specs.Prelude.{◌<◌, ◌≤◌, ◌^◌, IsTrue};
 ghost use Rattle.nd_base.specs.Size.{limit};
 ghost use Rattle.nd_base.specs.Span.{reach};
 
-use nd_base::{new_ix2, signed, unsigned};
-use nd_slice::{
-    Fit, Slice, SliceInfoElem, do_collapse_axis, do_slice, resolve_elem, slice_min_max,
-    to_abs_slice,
-};
+use nd_base::{signed, unsigned};
+use nd_slice::{Fit, Slice, SliceInfoElem, do_slice, slice_min_max, to_abs_slice};
 use test_tables::{Reading, Words, name_of};
 
 /// The slice that the next word spells.
@@ -62,24 +59,4 @@ pub fn ends_hold(row: &mut Reading<'_>, fit: Fit) -> Option<bool> {
         Some(ends) => Some((row.answer.length()?, row.answer.length()?) == ends),
         None => Some(row.answer.is("none")),
     }
-}
-
-/// Whether a row of `resolve_elem` holds.
-pub fn picks_hold(row: &mut Reading<'_>, fit: Fit) -> Option<bool> {
-    let (len, elem) = (row.given.length()?, row.given.elem()?);
-    Some(match resolve_elem(len, elem, fit) {
-        Ok(picks) => {
-            let (start, end) = (row.answer.length()?, row.answer.length()?);
-            let (step, count) = (row.answer.number()?, row.answer.length()?);
-            (start, end, step, count) == (picks.start, picks.end, picks.step, picks.count())
-        }
-        Err(fault) => row.answer.is(name_of(Some(fault.kind()))),
-    })
-}
-
-#[test]
-fn one_coordinate_of_an_axis(rt: HostRuntime) {
-    let (strides, mut lens) = (new_ix2(unsigned(-3), 1), new_ix2(2, 3));
-    let offset = do_collapse_axis(&mut lens, &strides, 0, 1);
-    assert!(rt; lens == new_ix2(1, 3) && offset == -3);
 }

@@ -1,11 +1,12 @@
 //! The calls of rows, by their names.
-use crate::arguments::{OfArguments, arguments_hold, elems_hold};
-use crate::axis::{ends_hold, picks_hold, slice_holds};
+use crate::arguments::{OfArguments, arguments_hold};
+use crate::axis::{ends_hold, slice_holds};
 use crate::equations::{divisor_holds, sequences_hold, solution_holds};
 use Fit::{Clamp, Strict};
 use nd_slice::Fit;
 use std::alloc::Global;
-use test_tables::{Asked, Row, meaning};
+use std::process::Abort;
+use test_tables::{Asked, Row, first_failing, meaning};
 
 /// A call, and what becomes there of bounds that lie outside their axis.
 #[derive(Clone, Copy)]
@@ -14,10 +15,6 @@ enum Call {
     DoSlice(Fit),
     /// `LEN SLICE => LEAST GREATEST`, or `none`.
     SliceMinMax(Fit),
-    /// `LEN ELEMENT => START END STEP COUNT`: what the element picks of an axis.
-    ResolveElem(Fit),
-    /// `SHAPE ARGUMENT => LEN ELEMENT ..`: the elements for the axes.
-    AxisElems,
     /// `TYPE SHAPE ..`: of arguments.
     Arguments(OfArguments),
     /// `A B => GCD X Y`.
@@ -28,14 +25,11 @@ enum Call {
     ArithSeqIntersect,
 }
 
-static CALLS: [(&str, Call); 16] = [
+static CALLS: [(&str, Call); 11] = [
     ("do_slice", Call::DoSlice(Strict)),
     ("do_slice_clamped", Call::DoSlice(Clamp)),
     ("slice_min_max", Call::SliceMinMax(Strict)),
     ("slice_min_max_clamped", Call::SliceMinMax(Clamp)),
-    ("resolve_elem", Call::ResolveElem(Strict)),
-    ("resolve_elem_clamped", Call::ResolveElem(Clamp)),
-    ("axis_elems", Call::AxisElems),
     ("check_slice", Call::Arguments(OfArguments::Check(Strict))),
     (
         "check_slice_clamped",
@@ -48,14 +42,6 @@ static CALLS: [(&str, Call); 16] = [
     (
         "slices_intersect_clamped",
         Call::Arguments(OfArguments::Intersect(Clamp)),
-    ),
-    (
-        "first_intersection",
-        Call::Arguments(OfArguments::First(Strict)),
-    ),
-    (
-        "first_intersection_clamped",
-        Call::Arguments(OfArguments::First(Clamp)),
     ),
     ("extended_gcd", Call::ExtendedGcd),
     ("solve_linear_diophantine_eq", Call::Solve),
@@ -71,12 +57,17 @@ impl Asked for Calls {
         match meaning(&CALLS, row.call)? {
             Call::DoSlice(fit) => slice_holds(reading, fit),
             Call::SliceMinMax(fit) => ends_hold(reading, fit),
-            Call::ResolveElem(fit) => picks_hold(reading, fit),
-            Call::AxisElems => elems_hold(alloc, reading),
             Call::Arguments(asked) => arguments_hold(alloc, reading, asked),
             Call::ExtendedGcd => divisor_holds(reading),
             Call::Solve => solution_holds(reading),
             Call::ArithSeqIntersect => sequences_hold(reading),
         }
+    }
+}
+
+/// All rows of a table hold, and there is one at least. The first that doesn't is named.
+pub fn hold(rt: &impl Abort, alloc: Global, table: &str) {
+    if let Some(line) = first_failing(alloc, table, &Calls) {
+        panic!(rt; "{line}");
     }
 }

@@ -1,6 +1,5 @@
 //! Rows of the calls.
-use crate::assertions::hold;
-use crate::calls::Calls;
+use crate::calls::{Calls, hold};
 use test_tables::row_holds;
 
 #[test]
@@ -11,7 +10,7 @@ do_slice 4 1 5..2 => OutOfBounds 4 1
 do_slice 4 1 0..0;0 => Unsupported 4 1
 do_slice 4 1 9..0;0 => OutOfBounds 4 1
 do_slice 4 1 1..;-2 => 3 2 -2";
-    hold(&rt, rt.alloc(), table, &Calls);
+    hold(&rt, rt.alloc(), table);
 }
 
 /// The first fault of an argument, and of two that of the first one.
@@ -41,25 +40,10 @@ slices_intersect Ix2 4,5 ..;2,NewAxis,.. 1..;3,.. / Ix2 4,5 ..,..;9 ..,3..;6,New
 slices_intersect Ix1 5 ..;-9223372036854775808 4 / Ix0 - - - => intersect
 slices_intersect Ix1 5 5 5 => OutOfBounds";
 
-/// What elements pick, and the elements that are for the axes of a shape.
-const RESOLVED: &str = "\
-resolve_elem 4 1..;-2 => 1 4 -2 2
-resolve_elem 4 3..1 => 3 3 1 0
-resolve_elem 4 -1 => 3 4 1 1
-resolve_elem 4 NewAxis => 0 0 1 0
-resolve_elem 9223372036854775807 ..;-9223372036854775808 => 0 9223372036854775807 -9223372036854775808 1
-resolve_elem 4 4 / 4 5.. => OutOfBounds
-resolve_elem 4 ..;0 => Unsupported
-resolve_elem_clamped 4 3..9 => 3 4 1 1
-axis_elems 4,3 1,NewAxis,-1 => 4 1 3 -1
-axis_elems 2,3,4,5,6,7 NewAxis,..,0,NewAxis,NewAxis,1..;2,..,..,-1,NewAxis => 2 .. 3 0 4 1..;2 5 .. 6 .. 7 -1
-axis_elems 4 1,2 => 4 1
-axis_elems 4,3 -1 => 4 -1";
-
 #[test]
 fn r4_rows(rt: HostRuntime) {
-    for table in [FAULTS, LEAST_AND_GREATEST, INTERSECTING, RESOLVED] {
-        hold(&rt, rt.alloc(), table, &Calls);
+    for table in [FAULTS, LEAST_AND_GREATEST, INTERSECTING] {
+        hold(&rt, rt.alloc(), table);
     }
 }
 
@@ -90,8 +74,8 @@ slices_intersect IxDyn 9223372036854775807,9223372036854775807 92233720368547758
 
 #[test]
 fn r10_rows(rt: HostRuntime) {
-    hold(&rt, rt.alloc(), NUMBERS, &Calls);
-    hold(&rt, rt.alloc(), STEPS, &Calls);
+    hold(&rt, rt.alloc(), NUMBERS);
+    hold(&rt, rt.alloc(), STEPS);
 }
 
 #[test]
@@ -104,7 +88,7 @@ do_slice 1 -9223372036854775808 ..;-1 => 0 1 0
 slice_min_max 18446744073709551615 ..;-9223372036854775808 => 9223372036854775806 18446744073709551614
 check_slice Ix1 18446744073709551615 -9223372036854775808 => fits
 check_slice_clamped Ix1 9223372036854775807 -9223372036854775808 => OutOfBounds";
-    hold(&rt, rt.alloc(), table, &Calls);
+    hold(&rt, rt.alloc(), table);
 }
 
 /// Bounds that are moved to the ends of their axis, and indices, which are not.
@@ -123,33 +107,7 @@ slices_intersect_clamped Ix1 5 9 .. => OutOfBounds";
 
 #[test]
 fn r14_rows(rt: HostRuntime) {
-    hold(&rt, rt.alloc(), CLAMPED, &Calls);
-}
-
-/// Two of many arguments: rows, columns and tiles from the first and from the last, in no order, with new axes, indices and
-/// steps, and faults.
-const FIRST: &str = "\
-first_intersection Ix1 4 / Ix1 4 .. / Ix1 4 ..2 2.. / Ix0 - NewAxis / IxDyn 0 .. .. .. => none
-first_intersection Ix2 4,3 0,.. 1,.. 2,.. 3,.. / Ix2 4,3 3,.. 2,.. 1,.. 0,.. / Ix2 4,3 0,.. 3,.. 1,.. 2,.. => none
-first_intersection Ix2 4,3 ..,0 ..,1 ..,2 / Ix2 4,3 ..,2 ..,1 ..,0 / Ix2 4,3 ..,1 ..,2 ..,0 => none
-first_intersection Ix2 4,4 ..2,..2 ..2,2.. 2..,..2 2..,2.. / Ix2 4,4 2..,2.. 2..,..2 ..2,2.. ..2,..2 => none
-first_intersection Ix2 4,4 ..2,..2 2..,..2 ..2,2.. 2..,2.. / Ix2 4,4 2..,2.. ..2,2.. 2..,..2 ..2,..2 => none
-first_intersection Ix1 9 ..;3 1..;3 2..;3 / Ix1 9 2..;3 ..;3 1..;3 / Ix1 9 ..8;-3 ..7;-3 ..;-3 => none
-first_intersection Ix2 4,9 ..2,.. 3..,.. 1,5 / Ix1 9 ..3 5.. 2 / Ix1 9 0..8;-2 2..3 4..9;3 8.. => 0,2
-first_intersection Ix1 9 3.. 1..2 2..4 / Ix1 9 0 1 -9 / Ix1 9 -1 7 8 / Ix1 9 ..7 7.. 5..6 / Ix1 9 ..;4 1..2 2..;6 => 0,2
-first_intersection Ix2 4,3 3,.. 2,.. 1,.. 0,.. ..1,1 / IxDyn 4,3 2,.. 1,.. NewAxis,3,0 0,.. 0,NewAxis,2 => 3,4
-first_intersection IxDyn 2,2,2,2,2 0,..,..,..,.. 1,..,..,0,.. 1,..,..,1,0 1,0,..;-1,1,1 1,..,NewAxis,0,-1,1 => 3,4
-first_intersection Ix1 9 1..9;5 1.. 0..1 / Ix1 9 ..;2 ..;2 1..;2 / Ix0 - NewAxis - / Ix1 4 1 1 => 0,1
-first_intersection Ix2 2,3 0,.. 0,.. .. / Ix2 2,3 0,..,0 9,.. => IncompatibleShape
-first_intersection Ix2 2,3 0,.. 0,.. 9,.. / Ix2 2,3 0,9 0,.. 0,.. / Ix2 2,3 0,.. 0,.. 2,..;0 => OutOfBounds
-first_intersection Ix1 9 .. .. ..;0 9 / Ix1 9 ..;0 / Ix2 2,3 ..;0,9 9,.. => Unsupported
-first_intersection_clamped Ix1 9 -20..3 3..20 20.. => none
-first_intersection_clamped Ix1 9 ..3 8..30 4..5 -1 => 1,3
-first_intersection_clamped Ix1 9 ..3 9 => OutOfBounds";
-
-#[test]
-fn first_of_many(rt: HostRuntime) {
-    hold(&rt, rt.alloc(), FIRST, &Calls);
+    hold(&rt, rt.alloc(), CLAMPED);
 }
 
 // A line that is no row of a known call, or that can't be read to its end, holds nowhere.
