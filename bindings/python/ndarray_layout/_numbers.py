@@ -138,7 +138,7 @@ def entries(values: Any, name: str, kind: str) -> tuple[Any, ...]:
 
 def integer(number: SupportsIndex, name: str, axis: Optional[int] = None) -> int:
     """A number of Python, as NumPy reads it. What is none is a `TypeError`, which calls it by `name`."""
-    read = as_integer(number)
+    read = number if type(number) is int else as_integer(number)
     if read is None:
         raise TypeError(f"{_of_axis(axis)}{name} is an integer, not {written(number)}")
     return read
@@ -146,8 +146,6 @@ def integer(number: SupportsIndex, name: str, axis: Optional[int] = None) -> int
 
 def as_integer(value: Any) -> Optional[int]:
     """The integer that NumPy reads, which takes no boolean for one, or `None`."""
-    if type(value) is int:
-        return value
     try:
         return index(value) if type(value).__name__ not in _BOOLEANS else None
     except TypeError:
@@ -173,7 +171,7 @@ def work_limit(max_work: Optional[SupportsIndex]) -> Optional[int]:
 
 def size(number: SupportsIndex, name: str) -> ctypes.c_size_t:
     """A number as a call takes it, where it is a `size_t`: ctypes itself would drop its upper bits."""
-    counted = number if type(number) is int else integer(number, name)
+    counted = integer(number, name)
     if 0 <= counted < 2**64:
         return ctypes.c_size_t(counted)
     raise not_64_bits(name, counted, True, None)
