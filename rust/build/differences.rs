@@ -5,8 +5,6 @@ use crate::library::is_of_memory;
 use crate::names::{FALLIBLE, SIZED, TAKES_RANGES, UNKNOWN_FALLIBLE};
 use crate::tokens::{Fault, Group, Kind, Nesting, Token, Tree, begins_with, fault, length_of_generics, text_of};
 
-const ENDLESS: &str = "is a range with no end, which may be iterated";
-
 impl Eraser<'_> {
     /// What both languages take, and mean otherwise, is refused.
     pub(crate) fn difference(&mut self, trees: &[Tree]) -> Result<Option<usize>, Fault> {
@@ -14,7 +12,7 @@ impl Eraser<'_> {
         self.endless_value(trees)?;
         self.other_fields(trees)?;
         self.named_call(trees)?;
-        match reference_to_any(trees).filter(|_| trees[0].is("impl")) {
+        match trees[0].is("impl").then(|| reference_to_any(trees)).flatten() {
             Some(reference) => Err(fault(&reference, "refers to any type, in the head of an impl")),
             None => Ok(None),
         }
@@ -28,10 +26,16 @@ impl Eraser<'_> {
         let in_list = ["Vec::", "String::", "mem::"].iter().any(|before| self.out.ends_with(before));
         let is_other = self.out.ends_with("::") && !(is_called && in_list);
         let has_types = self.out.ends_with('.') && begins_with(&trees[1..], &[":", ":"]);
-        if is_fallible && (is_other || has_types) {
+        let is_written = matches!(word, "write_str" | "write_char") && self.out.ends_with('.') && !self.is_formatter();
+        if is_fallible && (is_other || has_types) || is_written {
             return Err(fault(trees[0].first(), "may fail for memory, and is named in a way that isn't known"));
         }
         Ok(())
+    }
+
+    /// Whether the value before a dot is `f`, the formatter. Another may be a text, with no room for what is written.
+    fn is_formatter(&self) -> bool {
+        self.out.rsplit(|letter: char| !letter.is_alphanumeric() && letter != '_').nth(1) == Some("f")
     }
 
     /// `a..` stands in an index, in a pattern, or in a call that doesn't iterate it.
@@ -39,7 +43,7 @@ impl Eraser<'_> {
         let is_range = begins_with(trees, &[".", "."]) && ends_value(&self.out);
         let is_endless = match trees.get(2) {
             None => true,
-            Some(next) => [",", ";", "|"].iter().any(|end| next.is(end)) || next.group("{").is_some(),
+            Some(next) => [",", ";", "|", "else"].iter().any(|end| next.is(end)) || next.group("{").is_some(),
         };
         if is_range && is_endless && !self.takes_ranges {
             return Err(fault(trees[0].first(), "begins a range with no end, which may be iterated"));
@@ -61,7 +65,7 @@ impl Eraser<'_> {
         let is_type = trees[0].is("RangeFrom") && !is_parameter && !self.out.ends_with("From<");
         let is_taken = begins_with(rest, &[".", "start"]) || self.takes_ranges && rest.is_empty();
         if is_type || trees[0].is(&self.endless) && !is_taken {
-            return Err(fault(first, ENDLESS));
+            return Err(fault(first, "is a range with no end, which may be iterated"));
         }
         Ok(())
     }

@@ -258,6 +258,8 @@ fn what_means_something_else_is_an_error_with_its_line() {
             "Vec::from_iter(alloc, x).iter()",
             "1: `from_iter` may fail for memory, and nothing stands for it in plain Rust",
         ),
+        ("text.write_str(x)", "1: `write_str` may fail for memory, and is named in a way that isn't known"),
+        ("let r = 250u8.. else { return };", "1: `.` begins a range with no end, which may be iterated"),
         ("(alloc, x).1", "1: `(` opens a tuple with an allocator"),
         ("let pair = (1, rt.alloc());", "1: `(` opens a tuple with an allocator"),
         ("[alloc, alloc].len()", "1: `alloc` is no form that can be erased"),
@@ -283,6 +285,7 @@ fn what_means_the_same_stays() {
         "impl<D: Lengths> W for Forward<&'a mut D> {}",
         "impl<T> W<&Dim<T>> for V<T> {}",
         "S { a: 1, ..*self.s }",
+        "f.write_str(x)",
         "impl From<RangeFrom<u8>> for S {}",
     ];
     for source in ROWS {
