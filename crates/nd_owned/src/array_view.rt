@@ -78,7 +78,7 @@ fn reach_above<D: Lengths>(view: &Strided<D>) -> Result<usize, ShapeError>
 }
 
 /// Checks that each place of a view is below a count. Errors: those of `ArrayView::over`.
-fn check_within<D: Lengths>(view: &Strided<D>, len: usize) -> Result<(), ShapeError>
+pub(crate) fn check_within<D: Lengths>(view: &Strided<D>, len: usize) -> Result<(), ShapeError>
     ensures fault { result_err result ≡
         acceptance_from view.now.start 1 len ReadOnly view.now.shape view.now.strides }
     ensures within { OnOk result (LiesWithin len view.now) }

@@ -1,8 +1,10 @@
 //! Items that are kept elsewhere, lent as an array to be written.
 ghost use Rattle.std.specs.Option.{IsSome};
 ghost use Rattle.std.specs.Prelude.{◌≡◌, ◌↔◌, ◌&&◌, IsTrue, None, IfErr, IfOk, IsOk, Some, length, option_copied};
+ghost use Rattle.std.specs.Result.{result_err};
 ghost use Rattle.ndarray_layout.specs.declared.CanIndexCheckMode.TheVariants.{OwnedMutable};
 ghost use Rattle.ndarray_layout.specs.AcceptanceByStrides.{acceptance_by_strides};
+ghost use Rattle.ndarray_layout.specs.AcceptanceFrom.{acceptance_from};
 ghost use Rattle.ndarray_layout.specs.Indices.{is_index};
 ghost use Rattle.ndarray_layout.specs.Memory.{NeedsNoMemory};
 ghost use Rattle.ndarray_layout.specs.ShapeBuilder.{custom_strides, strides_list};
@@ -22,7 +24,7 @@ use crate::array_view::ArrayView;
 use crate::fitted::Fitted;
 use crate::rows::view_size;
 pub(crate) use mapping::map_places;
-use ndarray_layout::{LayoutError, Lengths, NdIndex, StrideShape, Strided};
+use ndarray_layout::{LayoutError, Lengths, NdIndex, ShapeError, StrideShape, Strided};
 pub use splitting::SplitViews;
 use std::alloc::{AllocError, Global};
 use std::mem::replace;
@@ -53,7 +55,8 @@ impl<'a, T: Drop, D: Lengths> ArrayViewMut<'a, T, D> {
     ghost use Rattle.nd_owned.specs.Lender.{array_of};
 
     /// The array of a view over items. The caller ensures that each place of it has an item, and that no two indices alias:
-    /// that is so where `Strided::from_shape`, `new` or `from_parts` accepted it in owned mode over as many elements.
+    /// that is so where `Strided::from_shape`, `new` or `from_parts` accepted it in owned mode over as many elements. `over`
+    /// checks it.
     ///
     /// By this call a proof knows what the items are once the array is gone, as `fill` and the others left them.
     ///
@@ -66,6 +69,32 @@ impl<'a, T: Drop, D: Lengths> ArrayViewMut<'a, T, D> {
     {
         let fitted = Fitted::new(view, items.len());
         ArrayViewMut { items, fitted }
+    }
+
+    /// The array of a view over items, where each index has one of them to itself. The items may be fewer than those that the
+    /// view was made for.
+    ///
+    /// # Errors
+    ///
+    /// Those of `Strided::from_parts` in owned mode, over as many elements of one byte as there are items: `OutOfBounds` where
+    /// an index of the view lies past the items; a view without an index is out of bounds where it reaches, by its span, past
+    /// all of them; then `Unsupported` where two indices may alias. (A proof that needs to know what the items are in the end
+    /// takes `new`.)
+    ///
+    /// Takes no memory, and time by the square of the count of axes at most.
+    ///
+    /// `[2]`, `[-1]` from 1 over 7 8 9: (0) is 8, (1) is 7, and 9 is spare; over 7 alone `OutOfBounds`. `[2,2]`, `[1,1]` from 0
+    /// over 7 8 9: `Unsupported`. The project's own.
+    pub fn over(view: Strided<D>, items: &'a mut [T]) -> Result<Self, ShapeError>
+        ensures fault { result_err result ≡
+            acceptance_from view.start 1 (length items.old) OwnedMutable view.shape view.strides }
+        ensures same_reference { IfOk result (λ a. a.items.ghost_name ≡ items.entry.ghost_name) }
+        ensures stored { IfOk result (λ a. (array_of a).items ≡ items.old) }
+        ensures view { IfOk result (λ a. (array_of a).view ≡ view) }
+        ensures owned { IfOk result (λ a. IsOwned (length (array_of a).items) (array_of a).view) }
+    {
+        let fitted = Fitted::over(view, items.len())?;
+        Ok(ArrayViewMut { items, fitted })
     }
 
     /// The array of a shape, by its own strides or by given ones, over items.

@@ -5,6 +5,7 @@ ghost use Rattle.std.specs.Option.{IsSome};
 ghost use Rattle.std.specs.Result.{result_err};
 ghost use Rattle.ndarray_layout.specs.declared.CanIndexCheckMode.TheVariants.{OwnedMutable};
 ghost use Rattle.ndarray_layout.specs.AcceptanceByStrides.{acceptance_by_strides};
+ghost use Rattle.ndarray_layout.specs.AcceptanceFrom.{acceptance_from};
 ghost use Rattle.ndarray_layout.specs.Descends.{Descends};
 ghost use Rattle.ndarray_layout.specs.InvertedView.{invert_fault, inverted_of, invert_source};
 ghost use Rattle.ndarray_layout.specs.Memory.{NeedsNoMemory};
@@ -16,8 +17,10 @@ ghost use Rattle.ndarray_layout.specs.Span.{low_span};
 ghost use Rattle.ndarray_layout.specs.View.{view_of};
 ghost use Rattle.nd_owned.specs.Owned.{IsOwned};
 
+use crate::array_view::check_within;
 use ndarray_layout::{
-    Axis, CanIndexCheckMode, LayoutError, Lengths, ShapeError, StrideShape, Strided,
+    Axis, CanIndexCheckMode, ErrorKind, LayoutError, Lengths, ShapeError, StrideShape, Strided,
+    dim_stride_overlap, from_kind,
 };
 use std::alloc::Global;
 use std::marker::Model;
@@ -75,6 +78,22 @@ impl<D: Lengths> Fitted<D> {
     {
         let mode = CanIndexCheckMode::OwnedMutable;
         let view = Strided::from_shape(alloc, shape, 1, count, mode)?;
+        Ok(Fitted { view, count })
+    }
+
+    /// The view, where it fits: each index has one of so many items to itself. Errors: those of `Strided::from_parts` in owned
+    /// mode, over elements of one byte.
+    pub(crate) fn over(view: Strided<D>, count: usize) -> Result<Self, ShapeError>
+        ensures fault { result_err result ≡
+            acceptance_from view.start 1 count OwnedMutable view.shape view.strides }
+        ensures count { IfOk result (λ a. a.count ≡ count) }
+        ensures view { IfOk result (λ a. a.view ≡ view) }
+        ensures owned { IfOk result (λ a. IsOwned a.count a.view) }
+    {
+        check_within(&view, count)?;
+        if dim_stride_overlap(view.dim(), view.strides()) {
+            return Err(from_kind(ErrorKind::Unsupported));
+        }
         Ok(Fitted { view, count })
     }
 

@@ -1,7 +1,10 @@
 //! Arrays that write items.
 
 use crate::{NUMBERS, ROWS, items, lists, rows_mut, two_rows};
-use ndarray_layout::{ArrayView, ArrayViewMut, Axis, Fit, Ix1, Ix2, Ix3, Order, ShapeBuilder, s};
+use ndarray_layout::CanIndexCheckMode::ReadOnly;
+use ndarray_layout::ErrorKind::{OutOfBounds, Unsupported};
+use ndarray_layout::{ArrayView, ArrayViewMut, Axis, ErrorKind, Fit, Ix1, Ix2, Ix3, Lengths, Order};
+use ndarray_layout::{ShapeBuilder, Strided, s, unsigned};
 
 #[test]
 fn an_item_is_set_at_an_index_and_at_no_other() {
@@ -11,6 +14,28 @@ fn an_item_is_set_at_an_index_and_at_no_other() {
     assert!(!rows.set(&Ix2(2, 0), 31));
     assert_eq!((rows.get(&Ix2(1, 0)), rows.get(&Ix2(0, 3))), (Some(&30), None));
     assert_eq!(numbers, [0, 1, 2, 30, 4, 5, 6]);
+}
+
+/// The kind of the error of a view over items.
+fn kind_over<D: Lengths>(view: Strided<D>, items: &mut [u8]) -> Option<ErrorKind> {
+    Some(ArrayViewMut::over(view, items).err()?.kind())
+}
+
+#[test]
+fn a_view_is_lent_over_items_that_it_has_to_itself() {
+    let mut numbers = [7, 8, 9];
+    let backwards = || Strided::new(Ix1(2), Ix1(unsigned(-1)), 1, 3, ReadOnly).unwrap();
+    let shared = || Strided::new(Ix2(2, 2), Ix2(1, 1), 1, 3, ReadOnly).unwrap();
+    let none = || Strided::from_parts(2, Ix1(0), Ix1(1), 1, 3, ReadOnly).unwrap();
+    assert_eq!(kind_over(backwards(), &mut numbers[..1]), Some(OutOfBounds));
+    assert_eq!(kind_over(none(), &mut numbers[..1]), Some(OutOfBounds));
+    assert_eq!(kind_over(shared(), &mut numbers[..2]), Some(OutOfBounds));
+    assert_eq!(kind_over(shared(), &mut numbers), Some(Unsupported));
+    assert!(ArrayViewMut::over(none(), &mut numbers[..2]).is_ok());
+    let mut two = ArrayViewMut::over(backwards(), &mut numbers).unwrap();
+    assert!(two.set(&Ix1(1), 5) && !two.set(&Ix1(2), 6));
+    assert_eq!(two.stored(), [5, 8, 9]);
+    assert_eq!(numbers, [5, 8, 9]);
 }
 
 #[test]
