@@ -96,6 +96,7 @@ impl<D: Lengths> SplitViews<D> {
         requires { IsOwned count view }
         ensures fault { (shape_fault result ≡ split_items_fault axis.0 index view)
             ⊎ IsMemory result }
+        ensures in_bounds { IsMemory result → split_fault view.shape axis.0 index ≡ None }
         ensures memory { NeedsNoMemory D.NDIM (length view.shape) → IsMemory result → ⊥ }
         ensures cut { IfOk result (λ parts. parts.cut ≤ count) }
         ensures first { IfOk result (λ parts.
@@ -170,6 +171,8 @@ impl<'a, T: Drop, D: Lengths> ArrayViewMut<'a, T, D> {
     ) -> Result<(Self, Self), LayoutError>
         ensures fault { (shape_fault result ≡
             split_items_fault axis.0 index (array_of self.entry).view) ⊎ IsMemory result }
+        ensures in_bounds { IsMemory result →
+            split_fault (array_of self.entry).view.shape axis.0 index ≡ None }
         ensures memory { NeedsNoMemory D.NDIM (length (array_of self.entry).view.shape) →
             IsMemory result → ⊥ }
         ensures first_shape { IfOk result (λ (first, second). (array_of first).view.shape ≡
