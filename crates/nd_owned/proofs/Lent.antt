@@ -1,5 +1,5 @@
 -- Rows that are lent, as a loop goes over them: those that are cut so far, with those that are left, are all.
-use Rattle.std.proofs.Common.{◌≡◌, ℕ, ◌+◌, ◌<◌, ◌≤◌, ◌≢◌, ℤ, pos, negsuc, ◌&&◌, ◌||◌, Bool, true, false, nat_le, nat_eq, List, [], ◌∷◌, ◌++◌, length}
+use Rattle.std.proofs.Common.{◌≡◌, ℕ, ◌+◌, ◌<◌, ◌≤◌, ◌≢◌, ℤ, pos, negsuc, ◌&&◌, ◌||◌, Bool, true, false, nat_le, nat_lt, nat_eq, List, [], ◌∷◌, ◌++◌, length}
 use Rattle.std.proofs.Common.{get_or, set, map, take}
 use Rattle.std.proofs.Common.{drop, refl, sym, ap, ◌∙◌, append_assoc, arith}
 use Prim.Native.Nat.{zero, suc}
@@ -8,7 +8,7 @@ use Rattle.std.proofs.lemmas.Bool.{eqb-true, leb-true}
 use Rattle.std.proofs.lemmas.List.{get_or-map, map-append, map-set}
 use Rattle.std.proofs.lemmas.List.Elements.{All-cons}
 use Rattle.ndarray_layout.specs.declared.Row.{Row}
-use Rattle.nd_owned.specs.PartMut.{ascend, can_split_rows, is_one, is_stretch, rows_before, rows_from}
+use Rattle.nd_owned.specs.PartMut.{ascend, can_split_rows, have_columns, is_one, is_stretch, rows_before, rows_from}
 use Rattle.nd_owned.specs.private.Written.{AreInBounds}
 use Rattle.nd_owned.proofs.RowPlaces.{begins, copied_within}
 use Rattle.nd_owned.proofs.ViewRows.{places_of}
@@ -52,10 +52,17 @@ columns_below {A} f index (row ∷ rows) all = by (nat_le index (length (f row))
     by false short others =
         let wrong : false ≡ true = sym (ap (λ b. b && list_all (λ row. nat_le index (length row)) (map f rows)) short) ∙ all in cc
 
+as_long : {T : Type 0} (rows : List (List T)) (index : ℕ) → have_columns rows index ≡ true → list_all (λ row. nat_le index (length row)) rows ≡ true
+as_long rows index can = by (list_all (λ row. nat_le index (length row)) rows) refl
+  where
+    by : (all : Bool) → list_all (λ row. nat_le index (length row)) rows ≡ all → all ≡ true
+    by true all = refl
+    by false some = let wrong : false ≡ true = sym (ap (λ b. b && (nat_eq index 0 || nat_lt 0 (length rows))) some) ∙ can in cc
+
 pub columns_of_split : {T : Type 0} (rows : List (List T)) (axis index : ℕ) → axis ≢ 0 → can_split_rows rows axis index ≡ true
     → list_all (λ row. nat_le index (length row)) rows ≡ true
 columns_of_split rows zero index other can = absurd (other refl)
-columns_of_split rows (suc zero) index other can = can
+columns_of_split rows (suc zero) index other can = as_long rows index can
 columns_of_split rows (suc (suc axis)) index other can = let wrong : false ≡ true = can in cc
 
 pub columns_before : {T : Type 0} (rows : List (List T)) (axis index : ℕ) → axis ≢ 0 → map (take index) rows ≡ rows_before rows axis index

@@ -1,6 +1,7 @@
 -- Rows of items that are lent to be written: what a contract sees of them, which views have such rows, and what a part of them is.
 use Prim.Native.Nat.{zero, suc}
-use Rattle.std.specs.Prelude.{◌≡◌, ℕ, ◌+◌, ℤ, pos, negsuc, Bool, true, false, ◌&&◌, ◌||◌, nat_eq, nat_le, List, [], ◌∷◌, length, map, take, drop, refl}
+use Rattle.std.specs.Prelude.{◌≡◌, ℕ, ◌+◌, ℤ, pos, negsuc, Bool, true, false, ◌&&◌, ◌||◌, nat_eq, nat_le, nat_lt, List, [], ◌∷◌, length, map, take, drop, refl}
+use Rattle.std.specs.Borrow.{GName}
 use Rattle.std.specs.List.{list_all}
 use Rattle.ndarray_layout.specs.declared.Row.{Row}
 use Rattle.ndarray_layout.specs.declared.Order.TheVariants.{RowMajor}
@@ -11,6 +12,10 @@ use Rattle.nd_owned.specs.declared.parts_mut.PartMut.{PartMut}
 -- the items of each row
 abbrev pub rows_of : {T : Type 0} → PartMut T → List (List T)
 rows_of part = map (λ row. row.now) part.rows.items
+
+-- the names by which a proof knows the row of each: those of the items that it lends
+abbrev pub names_of : {T : Type 0} → PartMut T → List GName
+names_of part = map (λ row. row.ghost_name) part.rows.items
 
 -- a place is followed by the next one
 abbrev pub is_one : ℤ → Bool
@@ -34,10 +39,14 @@ has_stretches view = ascend 0 (view_rows RowMajor view)
 abbrev pub items_of_row : {T : Type 0} → List T → Row → List T
 items_of_row items row = take row.len (drop row.start items)
 
+-- there are as many columns of each row below an index; where there is no row there is no column
+abbrev pub have_columns : {T : Type 0} → List (List T) → ℕ → Bool
+have_columns rows index = list_all (λ row. nat_le index (length row)) rows && (nat_eq index 0 || nat_lt 0 (length rows))
+
 -- there are as many rows, or columns of each row, below an index
 abbrev pub can_split_rows : {T : Type 0} → List (List T) → ℕ → ℕ → Bool
 can_split_rows rows zero index = nat_le index (length rows)
-can_split_rows rows (suc zero) index = list_all (λ row. nat_le index (length row)) rows
+can_split_rows rows (suc zero) index = have_columns rows index
 can_split_rows rows (suc (suc axis)) index = false
 
 -- the rows, or the columns, below an index
@@ -89,6 +98,12 @@ past_the_columns = refl
 
 after_the_columns : can_split_rows two_rows 1 3 ≡ true
 after_the_columns = refl
+
+no_column_of_no_row : can_split_rows {T = ℕ} [] 1 1 ≡ false
+no_column_of_no_row = refl
+
+before_the_columns_of_no_row : can_split_rows {T = ℕ} [] 1 0 ≡ true
+before_the_columns_of_no_row = refl
 
 no_third_axis : can_split_rows two_rows 2 0 ≡ false
 no_third_axis = refl

@@ -1,7 +1,7 @@
 //! Parts of one array that are lent at once, to be written: each is a list of rows, and no two have an item in common.
 ghost use Rattle.std.specs.Option.{IsSome};
 ghost use Rattle.std.specs.Prelude.{◌≡◌, ◌↔◌, ◌<◌, IfSome, IsTrue, [], length, option_copied, slice_get, slice_index_or, slice_set, Some};
-ghost use Rattle.nd_owned.specs.PartMut.{rows_of};
+ghost use Rattle.nd_owned.specs.PartMut.{names_of, rows_of};
 
 mod cutting;
 mod free_items;
@@ -75,6 +75,7 @@ impl<'a, T: Drop> PartMut<'a, T> {
             ↔ (column < length (slice_index_or (rows_of self.old) row [])) }
         ensures written { rows_of self.new ≡ slice_set (rows_of self.old) row
             (slice_set (slice_index_or (rows_of self.old) row []) column item) }
+        ensures same_references { names_of self.new ≡ names_of self.old }
     {
         if row < self.rows.len() {
             let row = &mut *self.rows[row];

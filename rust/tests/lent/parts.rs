@@ -75,6 +75,15 @@ fn columns_are_no_tiles_and_cuts_past_the_end_are_refused() {
 }
 
 #[test]
+fn a_tile_without_rows_has_no_column() {
+    let mut numbers = NUMBERS;
+    let (none, _rows) = tile(&mut numbers).split_at(Axis(0), 0).unwrap();
+    let (first, second) = none.split_at(Axis(1), 0).unwrap();
+    assert_eq!((first.nrows(), second.nrows()), (0, 0));
+    assert_eq!(kind(first.split_at(Axis(1), 1)), Some(OutOfBounds));
+}
+
+#[test]
 fn lists_are_written_in_rows() {
     let mut lists = lists();
     let (first, mut second) = rows_mut(&mut lists).split_at_mut(Axis(0), 1).unwrap();

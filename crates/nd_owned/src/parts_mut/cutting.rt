@@ -1,9 +1,9 @@
 //! The two parts of rows that are lent, along an axis.
-ghost use Rattle.std.specs.Prelude.{◌≡◌, ◌≤◌, nat_le, IfOk, IsOk, None, Some, if◌then◌else◌, length, map, take, drop};
+ghost use Rattle.std.specs.Prelude.{◌≡◌, ◌≤◌, ◌&&◌, ◌||◌, nat_eq, nat_le, nat_lt, IfOk, IsOk, None, Some, if◌then◌else◌, length, map, take, drop};
 ghost use Rattle.std.specs.List.{All, list_all};
 ghost use Rattle.ndarray_layout.specs.declared.ErrorKind.TheVariants.{OutOfBounds};
 ghost use Rattle.ndarray_layout.specs.ShapeFault.{shape_fault};
-ghost use Rattle.nd_owned.specs.PartMut.{can_split_rows, rows_before, rows_from, rows_of};
+ghost use Rattle.nd_owned.specs.PartMut.{can_split_rows, names_of, rows_before, rows_from, rows_of};
 
 use crate::parts_mut::PartMut;
 use ndarray_layout::{Axis, ErrorKind, LayoutError, from_kind};
@@ -20,6 +20,10 @@ fn split_list<'a, T: Drop>(
         rows_of first ≡ take index (map (λ row. row.now) rows.entry.items)) }
     ensures second { IfOk result (λ (first, second).
         rows_of second ≡ drop index (map (λ row. row.now) rows.entry.items)) }
+    ensures first_names { IfOk result (λ (first, second).
+        names_of first ≡ take index (map (λ row. row.ghost_name) rows.entry.items)) }
+    ensures second_names { IfOk result (λ (first, second).
+        names_of second ≡ drop index (map (λ row. row.ghost_name) rows.entry.items)) }
 {
     let mut rows = rows;
     let others = rows.split_off(index)?;
@@ -49,16 +53,25 @@ fn split_rows<'a, T: Drop>(
     Ok((PartMut { rows: first }, PartMut { rows: second }))
 }
 
-/// Whether each row has as many columns below an index.
-fn have_columns<T>(rows: &[&mut [T]], index: usize) -> bool
-    ensures { result ≡ list_all (λ row. nat_le index (length row.now)) rows.now }
+/// Whether each row is as long.
+fn are_as_long<T>(rows: &[&mut [T]], len: usize) -> bool
+    ensures { result ≡ list_all (λ row. nat_le len (length row.now)) rows.now }
 {
     for row in rows {
-        if row.len() < index {
+        if row.len() < len {
             return false;
         }
     }
     true
+}
+
+/// Whether there are as many columns below an index; where there is no row there is none.
+fn have_columns<T>(rows: &[&mut [T]], index: usize) -> bool
+    ensures { result ≡ (list_all (λ row. nat_le index (length row.now)) rows.now
+        && (nat_eq index 0 || nat_lt 0 (length rows.now))) }
+{
+    let is_column = index == 0 || !rows.is_empty();
+    are_as_long(rows, index) && is_column
 }
 
 impl<'a, T: Drop> PartMut<'a, T> {
@@ -78,7 +91,8 @@ impl<'a, T: Drop> PartMut<'a, T> {
     /// # Errors
     ///
     /// `OutOfBounds` where there is no such axis, or the index is greater than the count of rows, or than the length of a
-    /// row; then out of memory, never where there is no row. The items keep what they are.
+    /// row, or than 0 along axis 1 where there is no row; then out of memory, never where there is no row. After an error the
+    /// items are unchanged, which tests say and no clause.
     ///
     /// Takes memory and time for each row: for those from `index` on along axis 0, twice for all along axis 1.
     ///
@@ -98,6 +112,9 @@ impl<'a, T: Drop> PartMut<'a, T> {
             rows_of first ≡ rows_before (rows_of self.entry) axis.0 index) }
         ensures second { IfOk result (λ (first, second).
             rows_of second ≡ rows_from (rows_of self.entry) axis.0 index) }
+        ensures same_references { IfOk result (λ (first, second). axis.0 ≡ 0 →
+            (names_of first ≡ take index (names_of self.entry))
+            × (names_of second ≡ drop index (names_of self.entry))) }
     {
         if !self.can_split(axis, index) {
             return Err(LayoutError::Shape(from_kind(ErrorKind::OutOfBounds)));

@@ -8,3 +8,11 @@ returns-clause-first g c = ap (map (λ row. row.now)) c.in_ok-others.ensures.ite
 
 pub returns-clause-second : goal.returns-clause-second
 returns-clause-second g c = ap (map (λ row. row.now)) c.in_ok-others.ensures.tail ∙ sym (drop-map (λ row. row.now) c.args.index c.args.rows.items)
+
+pub returns-clause-first_names : goal.returns-clause-first_names
+returns-clause-first_names g c =
+    ap (map (λ row. row.ghost_name)) c.in_ok-others.ensures.items ∙ sym (take-map (λ row. row.ghost_name) c.args.index c.args.rows.items)
+
+pub returns-clause-second_names : goal.returns-clause-second_names
+returns-clause-second_names g c =
+    ap (map (λ row. row.ghost_name)) c.in_ok-others.ensures.tail ∙ sym (drop-map (λ row. row.ghost_name) c.args.index c.args.rows.items)
