@@ -88,6 +88,8 @@ pub(super) fn write_whole<W: io::Write>(writer: &mut Watched<W>, text: &[u8])
     ensures cut { has_failed writer.new ≡ true → AppendsBeginning
         (W.contents (device writer.old)) (W.contents (device writer.new)) text.now }
     ensures late { was_used_late writer.new ≡ was_used_late writer.old }
+    ensures room { lacks_room writer.new ≡ lacks_room writer.old }
+    ensures no_room { was_read_without_room writer.new ≡ was_read_without_room writer.old }
 {
     let mut written = 0;
     while written < text.len() {

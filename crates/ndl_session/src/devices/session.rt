@@ -64,7 +64,9 @@ pub fn session<R: io::Read, W: io::Write>(
         → was_used_late reader.new ≡ was_used_late reader.old }
     ensures writer_late { was_used_late writer.new ≡ was_used_late writer.old }
 
-    // A failed allocation for bytes of the input ends the reading.
+    // A failed allocation for bytes of the input ends the reading, and is nothing of the writer's.
+    ensures writer_room { lacks_room writer.new ≡ lacks_room writer.old }
+    ensures writer_no_room { was_read_without_room writer.new ≡ was_read_without_room writer.old }
     ensures reader_room { lacks_room reader.old ≡ false
         → was_read_without_room reader.new ≡ was_read_without_room reader.old }
     ensures room { result ≡ 3

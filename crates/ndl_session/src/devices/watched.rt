@@ -139,6 +139,7 @@ impl<R: Read> Watched<R> {
 
 impl<W: Write> Watched<W> {
     ghost use Rattle.ndl_session.specs.devices.Watched.{device, has_failed, is_failed_write, was_used_late};
+    ghost use Rattle.ndl_session.specs.devices.Watched.{lacks_room, was_read_without_room};
 
     /// Writes as the device does. The caller ensures that no read or write of it has failed before.
     ///
@@ -151,6 +152,8 @@ impl<W: Write> Watched<W> {
             (W.contents (device self.new)) result buf.now }
         ensures failed { has_failed self.new ≡ is_failed_write result buf.now }
         ensures late { was_used_late self.new ≡ was_used_late self.old }
+        ensures room { lacks_room self.new ≡ lacks_room self.old }
+        ensures no_room { was_read_without_room self.new ≡ was_read_without_room self.old }
     {
         self.write(buf)
     }
@@ -188,7 +191,7 @@ impl<R: Read> Read for Watched<R> {
 
 impl<W: Write> Write for Watched<W> {
     ghost use Rattle.ndl_session.specs.devices.Watched.{device, has_failed, has_ended, was_used_late};
-    ghost use Rattle.ndl_session.specs.devices.Watched.{is_failed_write, is_late_write};
+    ghost use Rattle.ndl_session.specs.devices.Watched.{is_failed_write, is_late_write, lacks_room, was_read_without_room};
 
     ghost contents = { λ w. W.contents (device w) };
 
@@ -200,6 +203,8 @@ impl<W: Write> Write for Watched<W> {
             ≡ (has_failed self.old || is_failed_write result buf.now) }
         ensures ended { has_ended self.new ≡ has_ended self.old }
         ensures late { was_used_late self.new ≡ (was_used_late self.old || is_late_write self.old) }
+        ensures room { lacks_room self.new ≡ lacks_room self.old }
+        ensures no_room { was_read_without_room self.new ≡ was_read_without_room self.old }
     {
         self.used_late = self.used_late || self.failed;
         let outcome = self.inner.write(buf);
@@ -216,6 +221,8 @@ impl<W: Write> Write for Watched<W> {
         ensures failed { has_failed self.new ≡ has_failed self.old }
         ensures ended { has_ended self.new ≡ has_ended self.old }
         ensures late { was_used_late self.new ≡ (was_used_late self.old || is_late_write self.old) }
+        ensures room { lacks_room self.new ≡ lacks_room self.old }
+        ensures no_room { was_read_without_room self.new ≡ was_read_without_room self.old }
     {
         self.used_late = self.used_late || self.failed;
         self.inner.flush()

@@ -10,6 +10,8 @@ loop-written-preserved g c =
     record {
       intact = some_taken _ c.in-Ok.taken _ c.if-taken-gt0.true written.failed;
       on_time = written.late ∙ before.on_time;
+      room = written.room ∙ before.room;
+      with_room = written.no_room ∙ before.with_room;
       within = omega (arith, simp (take_rest, length-drop) at written.bound);
       went_out = Appends-more _ _ _ _ _ _ before.went_out written.bytes;
     }
