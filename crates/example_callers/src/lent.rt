@@ -1,14 +1,15 @@
 //! Pixels that are kept elsewhere, read and written as a picture.
-ghost use Rattle.std.specs.Prelude.{◌≡◌, IfOk, OnErr, OnOk, Some};
+ghost use Rattle.std.specs.Prelude.{◌≡◌, IfOk, OnErr, OnOk, Some, length};
 ghost use Rattle.ndarray_layout.specs.ShapeBuilder.{strides_list};
 ghost use Rattle.ndarray_layout.specs.Signed.{all_signed};
 ghost use Rattle.ndarray_layout.specs.Span.{low_span};
 ghost use Rattle.ndarray_layout.specs.View.{view_of};
 ghost use Rattle.nd_owned.specs.ArrayViewMut.{HasItemsOf};
+ghost use Rattle.nd_owned.specs.Owned.{IsOwned};
 
-use nd_owned::ArrayViewMut;
-use ndarray_layout::{CanIndexCheckMode, LayoutError, Lengths, StrideShape, Strided};
-use std::alloc::Global;
+use nd_owned::{ArrayViewMut, OwnedArray};
+use ndarray_layout::{CanIndexCheckMode, Ix2, LayoutError, Lengths, StrideShape, Strided};
+use std::alloc::{AllocError, Global};
 
 /// Paints each pixel of a picture, whose pixels lie in a list by the strides of its shape. The list's other pixels are
 /// unchanged. Errors: those of `Strided::from_shape`; then all pixels are unchanged.
@@ -31,5 +32,29 @@ pub fn paint<D: Lengths>(
     let view = Strided::from_shape(alloc, shape, 1, pixels.len(), mode)?;
     let mut picture = ArrayViewMut::new(view, pixels);
     picture.fill(pixel);
+    Ok(())
+}
+
+/// Paints each pixel of a view over pixels.
+fn paint_view(view: Strided<Ix2>, pixels: &mut [u8], pixel: u8)
+    requires { IsOwned (length pixels.old) view }
+    ensures { HasItemsOf (λ index. Some pixel)
+        (record { items = pixels.old; view = view })
+        (record { items = pixels.new; view = view }) }
+{
+    let mut picture = ArrayViewMut::new(view, pixels);
+    picture.fill(pixel);
+}
+
+/// Paints each pixel of a picture that owns its pixels; spare ones are unchanged. Errors: out of memory, for a copy of its view.
+pub fn paint_owned(
+    alloc: Global,
+    picture: &mut OwnedArray<u8, Ix2>,
+    pixel: u8,
+) -> Result<(), AllocError>
+    ensures { OnOk result (HasItemsOf (λ index. Some pixel) picture.old picture.new) }
+{
+    let view = picture.view().duplicate(alloc)?;
+    paint_view(view, picture.stored_mut(), pixel);
     Ok(())
 }

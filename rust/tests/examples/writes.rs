@@ -1,6 +1,6 @@
 //! Writes to pictures.
 
-use crate::example_callers::{paint, with_two_parts, write_parts};
+use crate::example_callers::{paint, paint_owned, with_two_parts, write_parts};
 use crate::{Hundreds, Layout, Listed, Places, SIX_AXES, pixels, strides};
 use ndarray_layout::{IxDyn, OwnedArray, ShapeBuilder, SliceInfoElem, s};
 
@@ -50,4 +50,11 @@ fn a_picture_is_painted_and_spare_pixels_are_not() {
     assert_eq!(pixels, [9, 9, 9, 3, 9, 9, 9, 7]);
     assert!(paint(&mut pixels, (2, 4).strides((5, 1)).unwrap(), 8).is_err());
     assert_eq!(pixels, [9, 9, 9, 3, 9, 9, 9, 7]);
+}
+
+#[test]
+fn an_owned_picture_is_painted_and_spare_pixels_are_not() {
+    let mut picture = OwnedArray::from_shape_vec((2, 3).into(), pixels(7)).unwrap();
+    assert_eq!(paint_owned(&mut picture, 8), Ok(()));
+    assert_eq!(picture.stored(), [8, 8, 8, 8, 8, 8, 6]);
 }
