@@ -25,8 +25,7 @@ const LAYER: &[&str] = &["nd_base", "nd_dim", "nd_shape", "nd_slice", "ndarray_l
 const PROGRAMS: &[&str] = &["ndl_session", "example_tiles_edits"];
 
 /// What crates of tests share, and these crates.
-const TESTS: &[&str] =
-    &["test_tables", "nd_shape_tests", "nd_slice_tests", "nd_owned_tests", "ndarray_layout_tests", "ndl_tests"];
+const TESTS: &[&str] = &["test_tables", "nd_shape_tests", "nd_slice_tests", "ndarray_layout_tests", "ndl_tests"];
 
 /// The callers of `docs/CALLING.md`.
 const EXAMPLES: &[&str] = &["example_callers"];
