@@ -1,6 +1,5 @@
 //! What a call answers, as text.
 use ndarray_layout::{LayoutError, Lengths, Strided, signed};
-use std::alloc::AllocError;
 use std::fmt::{self, Write};
 use std::str;
 use test_tables::layout_fault_name;
@@ -84,14 +83,6 @@ pub fn failed(fault: &LayoutError) -> Option<Answer> {
 /// The lack of memory.
 pub fn memory() -> Option<Answer> {
     Answer::of("memory")
-}
-
-/// The list of a value that a call makes.
-pub fn made_list<D: Lengths>(made: Result<D, AllocError>) -> Option<Answer> {
-    match made {
-        Ok(dim) => listed(dim.slice()),
-        Err(_) => memory(),
-    }
 }
 
 /// The view that a call makes.

@@ -1,20 +1,37 @@
 //! A line of input, and the call that it says.
 //!
-//! A line is how many small requests are made before all others, the call by its name, what it is made at, and up to four lists.
-//! It is made at a `view`, at one of its axes (`axis`) or at a value of `any` number of axes, at a value of `six`, at a `list`, at an `array`, at numbers that are `lent`,
-//! also in `parts`, or at the `steps` of a run.
+//! A line is how many small requests are made before all others, the call by its name, what it is made at, which the name says as
+//! well, and up to four lists.
 use crate::answer::Answer;
-use crate::{axes, dimensions, lent, lent_parts, lists, owned, runs, views};
+use crate::lists::{self, Listed};
+use crate::views::{self, Viewed};
+use crate::{arrays, runs};
 use ndarray_layout::IxDyn;
 use std::alloc::Global;
-use test_tables::{Lists, grants};
+use test_tables::{Lists, grants, meaning};
 
-/// A call by its name, and what it is made with.
+/// What a call is made at, and which one it is.
 #[derive(Clone, Copy)]
-pub struct Call<'a> {
-    pub name: &'a str,
-    pub lists: Lists,
+enum Call {
+    View(Viewed),
+    List(Listed),
+    Writes,
+    Run,
 }
+
+/// The calls by their names.
+static CALLS: [(&str, Call); 10] = [
+    ("Strided::slice", Call::View(Viewed::Slice)),
+    ("Strided::reshape", Call::View(Viewed::Reshape)),
+    ("Strided::broadcast", Call::View(Viewed::Broadcast)),
+    ("Strided::places", Call::View(Viewed::Places)),
+    ("reshape_dim", Call::View(Viewed::ReshapeDim)),
+    ("new_ixdyn", Call::List(Listed::New)),
+    ("IxDynImpl::insert", Call::List(Listed::Insert)),
+    ("IxDynImpl::remove", Call::List(Listed::Remove)),
+    ("OwnedArray::multi_set", Call::Writes),
+    ("run", Call::Run),
+];
 
 /// Makes as many small requests for memory as a word says; `None` where it is no number, or one fails.
 pub fn ask(alloc: Global, count: &str) -> Option<()> {
@@ -41,24 +58,18 @@ pub fn granted(alloc: Global) -> usize {
 pub fn answer(alloc: Global, line: &str) -> Option<Answer> {
     let (earlier, line) = line.split_once(" ")?;
     let (name, line) = line.split_once(" ")?;
-    let (at, lists) = line.split_once(" ")?;
-    let lists = Lists::read(lists)?;
+    let (_, lists) = line.split_once(" ")?;
+    let (call, lists) = (meaning(&CALLS, name)?, Lists::read(lists)?);
     ask(alloc, earlier)?;
-    answer_at(alloc, at, &Call { name, lists })
+    made(alloc, call, &lists)
 }
 
-/// What a call answers at what a word says.
-fn answer_at(alloc: Global, at: &str, call: &Call<'_>) -> Option<Answer> {
-    match at {
-        "view" => views::answer::<IxDyn>(alloc, call),
-        "axis" => axes::answer(alloc, call),
-        "any" => dimensions::answer(alloc, call),
-        "six" => dimensions::of_six(alloc, call),
-        "list" => lists::answer(alloc, call),
-        "array" => owned::answer(alloc, call),
-        "lent" => lent::answer(alloc, call),
-        "parts" => lent_parts::answer(alloc, call),
-        "steps" => runs::answer(alloc, call),
-        _ => None,
+/// What a call answers.
+fn made(alloc: Global, call: Call, lists: &Lists) -> Option<Answer> {
+    match call {
+        Call::View(call) => views::answer::<IxDyn>(alloc, call, lists),
+        Call::List(call) => lists::answer(alloc, call, lists),
+        Call::Writes => arrays::answer::<IxDyn>(alloc, lists),
+        Call::Run => runs::answer(alloc, lists),
     }
 }

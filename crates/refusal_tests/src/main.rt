@@ -3,13 +3,9 @@
 #![tactic(auto)]
 
 mod answer;
-mod axes;
-mod dimensions;
-mod lent;
-mod lent_parts;
+mod arrays;
 mod line;
 mod lists;
-mod owned;
 mod runs;
 mod sessions;
 mod views;

@@ -1,7 +1,6 @@
 //! Arrays that own their items as values that are copied, compared, printed and indexed.
 
 use super::OUT_OF_MEMORY;
-use crate::memory::FallibleSlice;
 use crate::nd_base::Lengths;
 use crate::nd_owned::{Items, OwnedArray};
 use crate::nd_shape::{NdIndex, StrideShape, Strides};
@@ -15,8 +14,7 @@ impl<T: Copy, D: Lengths> Clone for OwnedArray<T, D> {
         let dim = self.dim().duplicate().expect(OUT_OF_MEMORY);
         let strides = self.view().strides().duplicate().expect(OUT_OF_MEMORY);
         let shape = StrideShape { dim, strides: Strides::Custom(strides) };
-        let items = self.stored().fallible_to_vec().expect(OUT_OF_MEMORY);
-        let copied = OwnedArray::from_shape_vec(shape, items);
+        let copied = OwnedArray::from_shape_vec(shape, self.stored().to_vec());
         copied.unwrap_or_else(|(fault, _)| unreachable!("the layout of an array is accepted: {fault}"))
     }
 }

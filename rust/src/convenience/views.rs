@@ -1,7 +1,6 @@
 //! Views, their parts and the steps between them as values that are copied, compared and printed.
 
 use super::OUT_OF_MEMORY;
-use crate::memory::FallibleSlice;
 use crate::nd_base::Lengths;
 use crate::nd_dim::{Forward, Reverse};
 use crate::nd_shape::{CanIndexCheckMode, ShapeBuilder, StrideShape};
@@ -28,7 +27,7 @@ impl<D: Lengths> Eq for Strided<D> {}
 impl Clone for Step {
     fn clone(&self) -> Self {
         match self {
-            Step::Slice(elems, fit) => Step::Slice(elems.fallible_to_vec().expect(OUT_OF_MEMORY), *fit),
+            Step::Slice(elems, fit) => Step::Slice(elems.clone(), *fit),
             Step::Collapse(axis, index) => Step::Collapse(*axis, *index),
             Step::Merge(take, into) => Step::Merge(*take, *into),
             Step::Reshape(shape, order) => Step::Reshape(shape.clone(), *order),
