@@ -1,6 +1,8 @@
 -- Calls of a closure at one place after another, where no place is listed twice, and what they leave at the indices of a view.
-use Rattle.std.proofs.Common.{◌≡◌, ℕ, suc, ◌<◌, ℤ, pos, negsuc, Option, Some, None, List, [], ◌∷◌, length, get_or, set, map, refl, sym, ap, subst, ◌∙◌, arith}
+use Rattle.std.proofs.Common.{MutBor, ◌≡◌, ℕ, suc, ◌<◌, ℤ, pos, negsuc, Option, Some, None, List, [], ◌∷◌, length, get_or, set, map, refl, sym, ap, subst, ◌∙◌, arith}
 use Rattle.std.specs.Prelude.{zip}
+use Rattle.std.specs.Fn.{Mut}
+use Rattle.std.specs.Iterator.{CallableAtEachTurn}
 use Rattle.std.specs.List.{Contains, FoldsTo}
 use Rattle.std.specs.Option.{option_map}
 use Rattle.std.proofs.lemmas.List.{length-map}
@@ -13,7 +15,7 @@ use Rattle.ndarray_layout.specs.SlicedView.{slice_of}
 use Rattle.ndarray_layout.specs.View.{View, view_places}
 use Rattle.ndarray_layout.proofs.laws.Lists.{map_same}
 use Rattle.nd_owned.specs.ArrayViewMut.{HasItemsOf, KeepsSpare}
-use Rattle.nd_owned.specs.Mapped.{Makes, RunsOver, part_of, row_major_items}
+use Rattle.nd_owned.specs.Mapped.{CallableOnEachMut, Makes, gives, RunsOver, part_of, row_major_items}
 use Rattle.nd_owned.specs.Owned.{ArrayValue, item_at, item_at_place}
 use Rattle.nd_owned.specs.private.Written.{HasRun}
 use Rattle.nd_owned.proofs.Placed.{other_default, set_other, set_same}
@@ -65,6 +67,19 @@ acted call h acts (Some x ∷ given) (Some y ∷ made) p last same count (next, 
     let rest = acted call h acts given made next last this.0 (omega arith) more in
     ap (λ item. item ∷ made) (ap Some this.1) ∙ ap (λ items. Some (h x) ∷ items) rest
 
+-- ---- a closure that may be called at each item in turn
+module _ {F T : Type 0} {R : F → T → F → Type 0} {Q : F → T → Type 0} {items others : List (Option T)} {f : F} {x : T} (first : items ≡ Some x ∷ others)
+    (callable : CallableAtEachTurn gives R Q items f) where
+  -- may be at the first
+  pub callable_at_first : Q f x
+  callable_at_first = callable.at [] items f x others refl refl first
+
+  -- and after the call at it at each of the others
+  pub callable_at_others : (q : F) → R f x q → CallableAtEachTurn gives R Q others q
+  callable_at_others q called = record {
+    at = λ xs t r y u yields calls step. callable.at (x ∷ xs) t r y u (others, first, yields) (q, called, calls) step;
+  }
+
 -- ---- all places of an array
 abbrev changed : {T : Type 0} → ArrayValue T → List T → ArrayValue T
 changed old new = record { items = new; view = old.view }
@@ -102,7 +117,20 @@ module _ {T : Type 0} (old : ArrayValue T) (new : List T) {places : List ℤ} (a
           kept = spare run;
         })
 
--- ---- a part of an array, by the items as they are left
+-- ---- a part of an array
+-- what may be called at the items of its indices may be at those of its places
+pub part_callable : {F T : Type 0} {g : Mut F (MutBor T × Unit {0}) (Unit {0} × (MutBor T × Unit {0}))} {f : F} (slice : List SliceInfoElem)
+    {array entry : ArrayValue T} {part : View} → array ≡ entry → part ≡ slice_of Strict slice array.view
+    → CallableOnEachMut g (row_major_items (part_of slice entry)) f
+    → CallableOnEachMut g (map (item_at_place array.items) (view_places RowMajor part)) f
+part_callable {g = g} {f} slice {array} same sliced callable =
+    subst (λ items. CallableOnEachMut g items f)
+    (ap (λ a. row_major_items (part_of slice a)) (sym same)
+    ∙ sym (items_in_order (part_of slice array))
+    ∙ ap (λ view. map (item_at_place array.items) (view_places RowMajor view)) (sym sliced))
+    callable
+
+-- by the items as they are left
 module _ {F T : Type 0} (call : F → T → T → F → Type 0) {f : F} (slice : List SliceInfoElem) {array entry : ArrayValue T} {part : View}
     {stored now : List T} (same : array ≡ entry) (sliced : part ≡ slice_of Strict slice array.view) (all : now ≡ stored)
     (run : HasRun call f (view_places RowMajor part) (map (item_at_place array.items) (view_places RowMajor part)) array.items stored) where

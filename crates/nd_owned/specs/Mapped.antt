@@ -3,7 +3,8 @@ use Rattle.std.specs.Prelude.{◌≡◌, ℕ, ◌+◌, pos, Option, Some, None, 
 use Rattle.std.proofs.Common.{eq-eqb}
 use Rattle.std.proofs.lemmas.Bool.{both_ways}
 use Rattle.std.specs.Borrow.{MutBor}
-use Rattle.std.specs.Fn.{CalledAtMut, Mut}
+use Rattle.std.specs.Fn.{CalledAtMut, Mut, Takes}
+use Rattle.std.specs.Iterator.{CallableAtEachTurn, YieldsFirstBy}
 use Rattle.std.specs.List.{FoldsTo}
 use Rattle.ndarray_layout.specs.declared.Fit.TheVariants.{Strict}
 use Rattle.ndarray_layout.specs.declared.Order.TheVariants.{RowMajor}
@@ -31,6 +32,18 @@ row_major_items array = map (item_at array) (indices_in RowMajor array.view.shap
 -- each call of f at a `&mut` leaves there what h gives, and leaves f as it was
 abbrev pub ActsAsAtMut : {F T R : Type 0} → Mut F (MutBor T × Unit {0}) (R × (MutBor T × Unit {0})) → F → (T → T) → Type 0
 ActsAsAtMut {F} {T} {R} g f h = (x : T) (r : R) (f' : F) (x' : T) → CalledAtMut g f x r f' x' → (f' ≡ f) × (x' ≡ h x)
+
+-- of the items that are left the first is given, and the others are left; there is none where none is left
+abbrev pub gives : {T : Type 0} → List (Option T) → Option T → List (Option T) → Type 0
+gives = YieldsFirstBy (λ item. Some item) (λ left. left)
+
+-- f may be called at a `&mut` to x
+abbrev pub TakesAtMut : {F T R : Type 0} → Mut F (MutBor T × Unit {0}) (R × (MutBor T × Unit {0})) → F → T → Type 0
+TakesAtMut {F} {T} g f x = (item : MutBor T) → item.now ≡ x → Takes g f (item, tt)
+
+-- f, which returns nothing, may be called at a `&mut` to each of these items in turn, as the calls before left it
+abbrev pub CallableOnEachMut : {F T : Type 0} → Mut F (MutBor T × Unit {0}) (Unit {0} × (MutBor T × Unit {0})) → List (Option T) → F → Type 0
+CallableOnEachMut {T = T} g items f = CallableAtEachTurn gives (λ p x q. (y : T) × CalledAtMut g p x tt q y) (TakesAtMut g) items f
 
 -- the part of an array that a slice argument picks
 abbrev pub part_of : {T : Type 0} → List SliceInfoElem → ArrayValue T → ArrayValue T

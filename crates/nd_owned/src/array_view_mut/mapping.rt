@@ -1,6 +1,6 @@
 //! Calls of a closure at all items of an array.
 ghost use Rattle.std.specs.Fn.{CalledAt, CalledAtMut};
-ghost use Rattle.std.specs.Iterator.{ActsAsAt};
+ghost use Rattle.std.specs.Iterator.{ActsAsAt, CallableOnAllAt};
 ghost use Rattle.std.specs.List.{All, AllPairs};
 ghost use Rattle.std.specs.Option.{option_map};
 ghost use Rattle.std.specs.Prelude.{◌≡◌, ◌≢◌, ◌↔◌, IsOk, OnErr, OnOk, Some, length, map};
@@ -8,7 +8,7 @@ ghost use Rattle.std.specs.Result.{result_err};
 ghost use Rattle.ndarray_layout.specs.declared.ErrorKind.TheVariants.{IncompatibleShape};
 ghost use Rattle.ndarray_layout.specs.Bounds.{IsInBounds};
 ghost use Rattle.nd_owned.specs.ArrayViewMut.{HasItemsOf, KeepsSpare};
-ghost use Rattle.nd_owned.specs.Mapped.{ActsAsAtMut, RunsOver, row_major_items};
+ghost use Rattle.nd_owned.specs.Mapped.{ActsAsAtMut, CallableOnEachMut, RunsOver, gives, row_major_items};
 ghost use Rattle.nd_owned.specs.Owned.{item_at, item_at_place};
 ghost use Rattle.nd_owned.specs.private.Written.{HasRun};
 
@@ -19,9 +19,9 @@ use ndarray_layout::{ErrorKind, Lengths, Order, Places, ShapeError, from_kind};
 /// Calls a closure at the item of each of these places, one after another.
 pub(crate) fn map_places<T, F: FnMut(&mut T)>(stored: &mut [T], places: Places<'_>, mut f: F)
     requires in_bounds { All (IsInBounds (length stored.old)) places }
-    requires callable { F.IsAlwaysCallable f }
-    ensures { AllPairs (λ one other. one ≢ other) places.entry →
-        HasRun (λ p x y q. CalledAtMut F.FnMut p x tt q y) f places.entry
+    requires distinct { AllPairs (λ one other. one ≢ other) places }
+    requires callable { CallableOnEachMut F.FnMut (map (item_at_place stored.old) places) f }
+    ensures { HasRun (λ p x y q. CalledAtMut F.FnMut p x tt q y) f places.entry
         (map (item_at_place stored.old) places.entry) stored.old stored.new }
 {
     for place in places {
@@ -38,7 +38,7 @@ fn write_mapped<T, U: Drop, F: FnMut(&T) -> U>(
 )
     requires within { All (IsInBounds (length stored.old)) places }
     requires count { length items ≡ length places }
-    requires callable { F.IsAlwaysCallable f }
+    requires callable { CallableOnAllAt gives F.FnMut items f }
     ensures { AllPairs (λ one other. one ≢ other) places.entry →
         HasRun (λ p x y q. CalledAt F.FnMut p x y q) f places.entry
         items.entry stored.old stored.new }
@@ -60,7 +60,7 @@ impl<'a, T: Drop, D: Lengths> ArrayViewMut<'a, T, D> {
     ///
     /// `|item| *item = item.wrapping_mul(2)` at `[2]` with the stride `[-1]` over 7 8 9: 14 16 9. ndarray's `map_inplace`.
     pub fn map_in_place<F: FnMut(&mut T)>(&mut self, f: F)
-        requires { F.IsAlwaysCallable f }
+        requires { CallableOnEachMut F.FnMut (row_major_items (array_of self.old)) f }
         ensures ran { RunsOver (λ p x y q. CalledAtMut F.FnMut p x tt q y) f
             (row_major_items (array_of self.old)) (row_major_items (array_of self.new)) }
         ensures mapped { (h : T → T) → ActsAsAtMut F.FnMut f h → HasItemsOf
@@ -95,7 +95,8 @@ impl<T, D: Lengths> ArrayView<'_, T, D> {
         to: &mut ArrayViewMut<'_, U, D>,
         f: F,
     ) -> Result<(), ShapeError>
-        requires { F.IsAlwaysCallable f }
+        requires { self.now.view.shape ≡ (array_of to.old).view.shape →
+            CallableOnAllAt gives F.FnMut (row_major_items self.now) f }
         ensures fits { IsOk result ↔ (self.now.view.shape ≡ (array_of to.old).view.shape) }
         ensures fault { OnErr result (result_err result ≡ Some IncompatibleShape) }
         ensures unchanged { OnErr result (array_of to.new ≡ array_of to.old) }

@@ -9,7 +9,7 @@ ghost use Rattle.ndarray_layout.specs.ShapeFault.{shape_fault};
 ghost use Rattle.ndarray_layout.specs.SliceFault.{argument_fault, out_count};
 ghost use Rattle.ndarray_layout.specs.View.{view_places};
 ghost use Rattle.nd_owned.specs.ArrayViewMut.{HasItemsOf, KeepsSpare};
-ghost use Rattle.nd_owned.specs.Mapped.{ActsAsAtMut, RunsOver, part_of, row_major_items};
+ghost use Rattle.nd_owned.specs.Mapped.{ActsAsAtMut, CallableOnEachMut, RunsOver, part_of, row_major_items};
 ghost use Rattle.nd_owned.specs.Owned.{IsOwned, item_at, item_at_place};
 ghost use Rattle.nd_owned.specs.private.Written.{HasRun};
 
@@ -21,7 +21,8 @@ use std::alloc::Global;
 /// Calls a closure at the item of each index of a view, in row-major order.
 fn map_part<T, D: Lengths, F: FnMut(&mut T)>(stored: &mut [T], part: Strided<D>, f: F)
     requires owned { IsOwned (length stored.old) part }
-    requires callable { F.IsAlwaysCallable f }
+    requires callable { CallableOnEachMut F.FnMut
+        (map (item_at_place stored.old) (view_places RowMajor part)) f }
     ensures { HasRun (λ p x y q. CalledAtMut F.FnMut p x tt q y) f (view_places RowMajor part)
         (map (item_at_place stored.old) (view_places RowMajor part)) stored.old stored.new }
 {
@@ -46,7 +47,8 @@ impl<T: Drop, D: Lengths> OwnedArray<T, D> {
         slices: &S,
         f: F,
     ) -> Result<(), LayoutError>
-        requires { F.IsAlwaysCallable f }
+        requires { argument_fault Strict self.old.view.shape (S.list slices.now) ≡ None →
+            CallableOnEachMut F.FnMut (row_major_items (part_of (S.list slices.now) self.old)) f }
         ensures fault { shape_fault result ≡
             argument_fault Strict self.old.view.shape (S.list slices.now) }
         ensures memory { shape_fault result ≡ None →

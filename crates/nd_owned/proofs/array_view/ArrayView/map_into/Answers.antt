@@ -1,14 +1,21 @@
 -- What the calls give is written at each place of the other array, once.
-use Rattle.std.proofs.Common.{rules, ◌≡◌}
+use Rattle.std.proofs.Common.{rules, ◌≡◌, subst, sym, ◌∙◌}
 use Rattle.std.specs.Fn.{CalledAt}
+use Rattle.std.specs.Iterator.{CallableOnAllAt}
 use Rattle.nd_owned.specs.Lender.{array_of}
+use Rattle.nd_owned.specs.Mapped.{gives}
 use Rattle.nd_owned.proofs.Runs.{mapped, ran_over, spare}
-use Rattle.nd_owned.proofs.Sets.{all_of_owned}
+use Rattle.nd_owned.proofs.Sets.{all_of_owned, items_in_order}
 use Rattle.nd_owned.proofs.array_view.ArrayView.map_into.Goals as goal
 
 pub write_mapped-requires-clause-within : goal.write_mapped-requires-clause-within
 write_mapped-requires-clause-within g c =
     (all_of_owned _ _ c.view-2.ensures.owned c.args.to.now.fits c.view-2.ensures.view c.iter_places-places.ensures.items).in_bounds
+
+pub write_mapped-requires-clause-callable : goal.write_mapped-requires-clause-callable
+write_mapped-requires-clause-callable g c =
+    let same : c.args.to.now.fitted.view.shape ≡ c.args.self.now.view.shape = search rules in
+    subst (λ items. CallableOnAllAt gives g.F.FnMut items c.args.f) (sym (c.iter.ensures.items ∙ items_in_order c.args.self.now)) (c.requires (sym same))
 
 pub returns-clause-ran : goal.returns-clause-ran
 returns-clause-ran g c =

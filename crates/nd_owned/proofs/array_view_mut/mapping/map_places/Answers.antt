@@ -1,12 +1,13 @@
 -- One more call is made.
-use Rattle.std.proofs.Common.{of_calls, rules, ◌≡◌, ◌<◌, Some, ◌∷◌, length, map, set, refl, ap, subst, sym, ◌∙◌, arith}
+use Rattle.std.proofs.Common.{rules, ◌≡◌, ◌<◌, Some, ◌∷◌, length, map, set, refl, ap, subst, sym, ◌∙◌, arith}
 use Rattle.std.specs.Fn.{CalledAtMut}
 use Rattle.std.specs.List.{All}
 use Rattle.ndarray_layout.specs.Bounds.{IsInBounds}
+use Rattle.nd_owned.specs.Mapped.{CallableOnEachMut}
 use Rattle.nd_owned.specs.Owned.{item_at_place}
 use Rattle.nd_owned.specs.private.Written.{HasRun}
 use Rattle.nd_owned.proofs.PlacesLeft.{first_in_bounds, first_item}
-use Rattle.nd_owned.proofs.Runs.{first_run, none_run, others_same}
+use Rattle.nd_owned.proofs.Runs.{callable_at_first, callable_at_others, first_run, none_run, others_same}
 use Rattle.nd_owned.proofs.Sets.{Distinct, others_distinct}
 use Rattle.nd_owned.proofs.array_view_mut.mapping.map_places.Goals as goal
 
@@ -15,10 +16,10 @@ loop-place-init g c =
     let stored = c.args.stored.now in
     let same = c.into_iter-place-iterator.ensures.into_iter_gives in
     record {
-      callable = c.requires.callable;
+      callable = subst (λ places. CallableOnEachMut g.F.FnMut (map (item_at_place stored) places) c.args.f) (sym same) c.requires.callable;
       in_bounds = subst (All (IsInBounds (length stored))) (sym same) c.requires.in_bounds;
-      distinct = λ distinct. subst Distinct (sym same) distinct;
-      run = λ distinct new run.
+      distinct = subst Distinct (sym same) c.requires.distinct;
+      run = λ new run.
           subst (λ places. HasRun (λ p x y q. CalledAtMut g.F.FnMut p x tt q y) c.args.f places (map (item_at_place stored) places) stored new) same run;
     }
 
@@ -33,6 +34,16 @@ bounds-stored-place g c =
     let under = (first_in_bounds c.in-Some.ensures.steps c.loop-place.invariant.in_bounds).first in
     omega (arith, under, c.loop-place.auto.stored)
 
+pub f-requires : goal.f-requires
+f-requires g c =
+    let stored = c.loop-place.stored in
+    let item = c.index-stored-place in
+    let steps = c.in-Some.ensures.steps in
+    let first = first_in_bounds steps c.loop-place.invariant.in_bounds in
+    let under : c.in-Some.place < length stored = omega (arith, first.first, c.loop-place.auto.stored) in
+    let takes = callable_at_first (first_item stored item.result steps under) c.loop-place.invariant.callable in
+    search (rules, takes)
+
 pub loop-place-preserved : goal.loop-place-preserved
 loop-place-preserved g c =
     let stored = c.loop-place.stored in
@@ -40,27 +51,29 @@ loop-place-preserved g c =
     let left = c.f.new.arg2 in
     let steps = c.in-Some.ensures.steps in
     let first = first_in_bounds steps c.loop-place.invariant.in_bounds in
+    let apart = c.loop-place.invariant.distinct in
     let under : c.in-Some.place < length stored = omega (arith, first.first, c.loop-place.auto.stored) in
     let called : CalledAtMut g.F.FnMut c.loop-place.f item.result tt c.f.new.self left =
     record { shown = _; shows = sym item.is; left = _; called = c.f.ensures; leaves = refl } in
+    let given : map (item_at_place stored) c.loop-place.place-iterator ≡ Some item.result ∷ map (item_at_place stored) c.next.new.self =
+    first_item stored item.result steps under ∙ ap (λ x. Some x ∷ map (item_at_place stored) c.next.new.self) (sym item.is) in
+    let others = others_same steps stored left apart in
     record {
-      callable = search of_calls;
+      callable = subst (λ items. CallableOnEachMut g.F.FnMut items c.f.new.self) (sym others)
+          (callable_at_others given c.loop-place.invariant.callable c.f.new.self (left, called));
       in_bounds = first.left;
-      distinct = λ distinct. others_distinct steps (c.loop-place.invariant.distinct distinct);
-      run = λ distinct new more.
-          let apart = c.loop-place.invariant.distinct distinct in
-          let given : Some item.result ∷ map (item_at_place stored) c.next.new.self ≡ map (item_at_place stored) c.loop-place.place-iterator =
-          ap (λ x. Some x ∷ map (item_at_place stored) c.next.new.self) item.is ∙ sym (first_item stored item.result steps under) in
+      distinct = others_distinct steps apart;
+      run = λ new more.
           let rest = subst (λ items. HasRun (λ p x y q. CalledAtMut g.F.FnMut p x tt q y) c.f.new.self c.next.new.self items
-          (set stored c.in-Some.place left) new) (others_same steps stored left apart) more in
-          c.loop-place.invariant.run distinct new
-          (subst (λ items. HasRun (λ p x y q. CalledAtMut g.F.FnMut p x tt q y) c.loop-place.f c.loop-place.place-iterator items stored new) given
+          (set stored c.in-Some.place left) new) others more in
+          c.loop-place.invariant.run new
+          (subst (λ items. HasRun (λ p x y q. CalledAtMut g.F.FnMut p x tt q y) c.loop-place.f c.loop-place.place-iterator items stored new) (sym given)
           (first_run steps item.result left called under apart rest));
     }
 
 pub returns : goal.returns
 returns g c =
     let stored = c.loop-place.stored in
-    λ distinct. c.loop-place.invariant.run distinct stored
+    c.loop-place.invariant.run stored
     (subst (λ places. HasRun (λ p x y q. CalledAtMut g.F.FnMut p x tt q y) c.loop-place.f places (map (item_at_place stored) places) stored stored)
     (sym c.in-None.ensures.steps.0) none_run)

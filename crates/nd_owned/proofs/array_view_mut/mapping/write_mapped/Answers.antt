@@ -1,12 +1,12 @@
 -- One more call is made, and what it gives is written.
-use Rattle.std.proofs.Common.{of_calls, rules, ◌≡◌, ◌<◌, [], length, refl, ap, subst, sym, ◌∙◌, arith}
+use Rattle.std.proofs.Common.{rules, ◌≡◌, ◌<◌, [], length, refl, ap, subst, sym, ◌∙◌, arith}
 use Rattle.std.proofs.lemmas.List.{nil_from_length}
 use Rattle.std.specs.Fn.{CalledAt}
 use Rattle.std.specs.List.{All}
 use Rattle.ndarray_layout.specs.Bounds.{IsInBounds}
 use Rattle.nd_owned.specs.private.Written.{HasRun}
 use Rattle.nd_owned.proofs.PlacesLeft.{first_in_bounds}
-use Rattle.nd_owned.proofs.Runs.{first_run, none_run}
+use Rattle.nd_owned.proofs.Runs.{callable_at_first, callable_at_others, first_run, none_run}
 use Rattle.nd_owned.proofs.Sets.{Distinct, others_distinct}
 use Rattle.nd_owned.proofs.array_view_mut.mapping.write_mapped.Goals as goal
 
@@ -34,6 +34,11 @@ offset_bounds-stored-place g c =
     (first_in_bounds c.in-Some.ensures.steps c.loop-place.invariant.in_bounds).first in
     search rules
 
+pub f-requires : goal.f-requires
+f-requires g c =
+    let takes = callable_at_first c.in-Some-next.ensures.steps c.loop-place.invariant.callable in
+    search (rules, takes)
+
 pub loop-place-preserved-in-Some-next : goal.loop-place-preserved-in-Some-next
 loop-place-preserved-in-Some-next g c =
     let stored = c.loop-place.stored in
@@ -45,7 +50,7 @@ loop-place-preserved-in-Some-next g c =
     let called : CalledAt g.F.FnMut c.loop-place.f item.now c.f.result c.f.new.self =
     record { shown = _; shows = refl; called = c.f.ensures } in
     record {
-      callable = search of_calls;
+      callable = callable_at_others given c.loop-place.invariant.callable c.f.new.self (c.f.result, called);
       in_bounds = first.left;
       count = omega (arith, ap length steps, ap length given, c.loop-place.invariant.count);
       distinct = λ distinct. others_distinct steps (c.loop-place.invariant.distinct distinct);

@@ -1,15 +1,17 @@
 -- Once the calls at the items that are left are made, those at all items are.
 use Rattle.std.proofs.Common.{◌≡◌, List, length}
 use Rattle.std.specs.Fn.{CalledAt}
+use Rattle.std.specs.Iterator.{CallableOnAllAt}
 use Rattle.std.specs.List.{All}
 use Rattle.ndarray_layout.specs.Bounds.{IsInBounds}
+use Rattle.nd_owned.specs.Mapped.{gives}
 use Rattle.nd_owned.specs.private.Written.{HasRun}
 use Rattle.nd_owned.proofs.Sets.{Distinct}
 use Rattle.nd_owned.proofs.array_view_mut.mapping.write_mapped.Given as goal
 
 abbrev pub invariant-loop-place : goal.invariant-loop-place
 invariant-loop-place g l = record {
-  callable : goal.F-IsAlwaysCallable g l.f;
+  callable : CallableOnAllAt gives g.F.FnMut l.items l.f;
   in_bounds : All (IsInBounds (length l.fn.stored)) l.place-iterator;
   count : length l.items ≡ length l.place-iterator;
   distinct : Distinct l.fn.places → Distinct l.place-iterator;
