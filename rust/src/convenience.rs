@@ -1,7 +1,7 @@
 //! What ndarray's users type: the names, conversions, traits and the macro `s!` that the layer's sources leave out.
 //!
-//! Nothing here is proved: each item calls the layer, and is tested with ndarray's values. A copy that needs memory, as of
-//! an `IxDyn` of more than 4 axes, panics where an allocation fails. The layer's own calls return the error instead.
+//! Each item calls the layer, is tested with ndarray's values, and says that it isn't proved. A copy that needs memory, as
+//! of an `IxDyn` of more than 4 axes, panics where an allocation fails. The layer's own calls return the error instead.
 
 mod arrays;
 mod dimension_types;

@@ -17,8 +17,12 @@
 //!
 //! The sources of the modules [`nd_base`] to [`nd_owned`] have contracts, which are proved; this package is what is left
 //! of them without the contracts, made before it is built. The section `Contract` of an item has its clauses, and
-//! `Conditions` what a caller ensures. Where a condition is broken, a call panics or returns an unspecified number; no
-//! behaviour is undefined, as the package has no `unsafe`.
+//! `Conditions` what a caller ensures. Where a condition is broken, a call panics or returns unspecified values: a loop
+//! over `all_indices(Ix2(1 << 32, 1 << 32))` panics with overflow checks, and ends at once without them. No behaviour is
+//! undefined, as the package has no `unsafe`.
+//!
+//! What the package adds to the sources isn't proved, but tested: [`s!`], `Ix2(..)`, `Clone` and the like. The docs of each
+//! such item say so, or the page of its module, as that of [`memory`].
 #![no_std]
 #![forbid(unsafe_code)]
 
@@ -31,6 +35,8 @@ extern crate std;
 
 mod convenience;
 pub mod memory;
+#[cfg(all(test, feature = "std"))]
+mod not_proved;
 mod num_traits;
 mod sealed;
 mod smallvec;

@@ -1,4 +1,6 @@
 //! Memory that may run out: calls that say so, over Rust's own lists and texts.
+//!
+//! Not proved: the package trusts this module. It stands for what the sources use of the kit's library.
 
 use alloc::collections::TryReserveError;
 use alloc::string::String;

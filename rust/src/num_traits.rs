@@ -1,4 +1,4 @@
-//! What the sources use of the crate `num_traits`.
+//! What the sources use of the kit's crate `num_traits`. The package trusts it.
 
 /// A number, or the bound that it lies beyond.
 #[inline]

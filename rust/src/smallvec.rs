@@ -1,4 +1,5 @@
-//! A list that lies in the value itself up to a count of items: what the sources use of the crate `smallvec`.
+//! A list that lies in the value itself up to a count of items: what the sources use of the kit's crate `smallvec`. The
+//! package trusts it.
 
 use crate::memory::{AllocError, FallibleVec};
 use alloc::vec::Vec;

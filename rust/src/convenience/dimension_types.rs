@@ -4,6 +4,7 @@ use crate::nd_base::{Ix0, Ix1, Ix2, Ix3, Ix4, Ix5, Ix6, IxDyn};
 use crate::nd_dim::Dimension;
 
 /// The dimension type with the axes of two; more than six axes have no type but `IxDyn`. ndarray's `DimAdd`.
+/// Not proved.
 ///
 /// ```
 /// use ndarray_layout::{DimAdd, Ix2, Ix3, Ix5};
@@ -16,7 +17,7 @@ pub trait DimAdd<D: Dimension> {
     type Output: Dimension;
 }
 
-/// The dimension type that shapes of two types broadcast to: that with more axes. ndarray's `DimMax`.
+/// The dimension type that shapes of two types broadcast to: that with more axes. ndarray's `DimMax`. Not proved.
 ///
 /// ```
 /// use ndarray_layout::{DimMax, Ix1, Ix2, LayoutError, co_broadcast};
@@ -38,6 +39,7 @@ macro_rules! outputs {
         outputs!(@each $trait, $left: Ix0 $o0, Ix1 $o1, Ix2 $o2, Ix3 $o3, Ix4 $o4, Ix5 $o5, Ix6 $o6, IxDyn $dynamic);
     };
     (@each $trait:ident, $left:ty: $($right:ident $output:ty),*) => {$(
+        /// Not proved.
         impl $trait<$right> for $left {
             type Output = $output;
         }

@@ -11,13 +11,13 @@ use core::ops::{
     Deref, DerefMut, Index, IndexMut, Range, RangeFrom, RangeFull, RangeInclusive, RangeTo, RangeToInclusive,
 };
 
-/// A length or a coordinate. ndarray's `Ix`.
+/// A length or a coordinate. ndarray's `Ix`. Not proved.
 pub type Ix = usize;
 
-/// A stride, with its sign. ndarray's `Ixs`.
+/// A stride, with its sign. ndarray's `Ixs`. Not proved.
 pub type Ixs = isize;
 
-/// The shape or the index of no axes. ndarray's `Ix0()`.
+/// The shape or the index of no axes. ndarray's `Ix0()`. Not proved.
 ///
 /// ```
 /// use ndarray_layout::{Dimension, Ix0};
@@ -31,7 +31,7 @@ pub const fn Ix0() -> Ix0 {
     new_ix0()
 }
 
-/// A shape or an index of one axis. ndarray's `Ix1(..)`.
+/// A shape or an index of one axis. ndarray's `Ix1(..)`. Not proved.
 ///
 /// ```
 /// use ndarray_layout::Ix1;
@@ -45,7 +45,7 @@ pub const fn Ix1(i0: Ix) -> Ix1 {
     new_ix1(i0)
 }
 
-/// A shape or an index of two axes. ndarray's `Ix2(..)`.
+/// A shape or an index of two axes. ndarray's `Ix2(..)`. Not proved.
 ///
 /// ```
 /// use ndarray_layout::{Dimension, Ix2};
@@ -59,7 +59,7 @@ pub const fn Ix2(i0: Ix, i1: Ix) -> Ix2 {
     new_ix2(i0, i1)
 }
 
-/// A shape or an index of three axes. ndarray's `Ix3(..)`.
+/// A shape or an index of three axes. ndarray's `Ix3(..)`. Not proved.
 ///
 /// ```
 /// use ndarray_layout::{Ix3, default_strides};
@@ -73,7 +73,7 @@ pub const fn Ix3(i0: Ix, i1: Ix, i2: Ix) -> Ix3 {
     new_ix3(i0, i1, i2)
 }
 
-/// A shape or an index of four axes. ndarray's `Ix4(..)`.
+/// A shape or an index of four axes. ndarray's `Ix4(..)`. Not proved.
 ///
 /// ```
 /// use ndarray_layout::{Ix4, Lengths};
@@ -87,7 +87,7 @@ pub const fn Ix4(i0: Ix, i1: Ix, i2: Ix, i3: Ix) -> Ix4 {
     new_ix4(i0, i1, i2, i3)
 }
 
-/// A shape or an index of five axes. ndarray's `Ix5(..)`.
+/// A shape or an index of five axes. ndarray's `Ix5(..)`. Not proved.
 ///
 /// ```
 /// use ndarray_layout::{Ix5, Lengths};
@@ -101,7 +101,7 @@ pub const fn Ix5(i0: Ix, i1: Ix, i2: Ix, i3: Ix, i4: Ix) -> Ix5 {
     new_ix5(i0, i1, i2, i3, i4)
 }
 
-/// A shape or an index of six axes. ndarray's `Ix6(..)`.
+/// A shape or an index of six axes. ndarray's `Ix6(..)`. Not proved.
 ///
 /// ```
 /// use ndarray_layout::{Ix6, Lengths};
@@ -115,7 +115,7 @@ pub const fn Ix6(i0: Ix, i1: Ix, i2: Ix, i3: Ix, i4: Ix, i5: Ix) -> Ix6 {
     new_ix6(i0, i1, i2, i3, i4, i5)
 }
 
-/// A shape or an index of any number of axes. ndarray's `IxDyn(..)`.
+/// A shape or an index of any number of axes. ndarray's `IxDyn(..)`. Not proved.
 ///
 /// Takes time in proportion to the count of axes. `new_ixdyn` returns the error where this panics.
 ///
@@ -135,7 +135,8 @@ pub fn IxDyn(lens: &[Ix]) -> IxDyn {
     Dim(lens)
 }
 
-/// The dimension of a list of lengths: a number, a tuple, an array, a slice, a vector or a dimension. ndarray's `Dim(..)`.
+/// The dimension of a list of lengths: a number, a tuple, an array, a slice, a vector or a dimension. ndarray's
+/// `Dim(..)`. Not proved.
 ///
 /// The type of the list fixes the count of axes, but a slice, a vector and an `IxDynImpl` become an `IxDyn`. Of those
 /// only a slice of more than 4 lengths is copied into new memory. `new_dim` returns the error where this panics.
@@ -158,7 +159,7 @@ pub fn Dim<T: IntoDimension>(lens: T) -> T::Dim {
     new_dim(lens).expect(OUT_OF_MEMORY)
 }
 
-/// The length of an axis by the axis. ndarray's `DimensionExt`.
+/// The length of an axis by the axis. ndarray's `DimensionExt`. Not proved.
 ///
 /// ```
 /// use ndarray_layout::{Axis, DimensionExt, Ix2};
@@ -184,6 +185,7 @@ pub trait DimensionExt {
     fn set_axis(&mut self, axis: Axis, value: Ix);
 }
 
+/// Not proved.
 impl<D: Lengths> DimensionExt for D {
     fn axis(&self, axis: Axis) -> Ix {
         axis_of(self.slice(), axis)
@@ -194,6 +196,7 @@ impl<D: Lengths> DimensionExt for D {
     }
 }
 
+/// Not proved.
 impl DimensionExt for [Ix] {
     fn axis(&self, axis: Axis) -> Ix {
         axis_of(self, axis)
@@ -204,48 +207,49 @@ impl DimensionExt for [Ix] {
     }
 }
 
-/// Whether a dimension has the lengths of an array, or of an `IxDynImpl`.
+/// Whether a dimension has the lengths of an array, or of an `IxDynImpl`. Not proved.
 impl<I: PartialEq> PartialEq<I> for Dim<I> {
     fn eq(&self, other: &I) -> bool {
         self.index == *other
     }
 }
 
-/// One axis of length 0.
+/// One axis of length 0. Not proved.
 impl Default for Dim<IxDynImpl> {
     fn default() -> Self {
         Dim::<IxDynImpl>::new(IxDynImpl::default())
     }
 }
 
-/// One length, 0.
+/// One length, 0. Not proved.
 impl Default for IxDynImpl {
     fn default() -> Self {
         IxDynImpl::from(&[0][..])
     }
 }
 
-/// A copy in memory of its own. Panics where an allocation fails, never for at most 4 lengths.
+/// A copy in memory of its own. Panics where an allocation fails, never for at most 4 lengths. Not proved.
 impl Clone for IxDynImpl {
     fn clone(&self) -> Self {
         IxDynImpl::from(self.as_slice())
     }
 }
 
-/// A copy of the lengths. Panics where an allocation fails, never for at most 4 lengths.
+/// A copy of the lengths. Panics where an allocation fails, never for at most 4 lengths. Not proved.
 impl From<&[Ix]> for IxDynImpl {
     fn from(lens: &[Ix]) -> Self {
         IxDynImpl::copy_from(lens).expect(OUT_OF_MEMORY)
     }
 }
 
-/// The lengths of a vector, in its memory.
+/// The lengths of a vector, in its memory. Not proved.
 impl From<Vec<Ix>> for IxDynImpl {
     fn from(lens: Vec<Ix>) -> Self {
         IxDynImpl::from_vec(lens).expect(OUT_OF_MEMORY)
     }
 }
 
+/// Not proved.
 impl Deref for IxDynImpl {
     type Target = [Ix];
 
@@ -254,6 +258,7 @@ impl Deref for IxDynImpl {
     }
 }
 
+/// Not proved.
 impl DerefMut for IxDynImpl {
     fn deref_mut(&mut self) -> &mut [Ix] {
         self.as_mut_slice()
@@ -263,6 +268,7 @@ impl DerefMut for IxDynImpl {
 /// Indexing by ranges. The layer's sources have that by a number.
 macro_rules! index_by {
     ($($range:ty),*) => {$(
+        /// Not proved.
         impl Index<$range> for IxDynImpl {
             type Output = [Ix];
 
@@ -271,6 +277,7 @@ macro_rules! index_by {
             }
         }
 
+        /// Not proved.
         impl IndexMut<$range> for IxDynImpl {
             fn index_mut(&mut self, range: $range) -> &mut [Ix] {
                 &mut self.as_mut_slice()[range]

@@ -14,30 +14,35 @@ fn print_left(f: &mut fmt::Formatter<'_>, name: &str, left: usize) -> fmt::Resul
     f.debug_struct(name).field("left", &left).finish_non_exhaustive()
 }
 
+/// Not proved.
 impl fmt::Debug for Places<'_> {
     fn fmt(&self, f: &mut fmt::Formatter<'_>) -> fmt::Result {
         print_left(f, "Places", self.len())
     }
 }
 
+/// Not proved.
 impl fmt::Debug for Rows<'_> {
     fn fmt(&self, f: &mut fmt::Formatter<'_>) -> fmt::Result {
         print_left(f, "Rows", self.len())
     }
 }
 
+/// Not proved.
 impl<T: Copy> fmt::Debug for Items<'_, T> {
     fn fmt(&self, f: &mut fmt::Formatter<'_>) -> fmt::Result {
         print_left(f, "Items", self.len())
     }
 }
 
+/// Not proved.
 impl<D: Dimension + Copy> fmt::Debug for IndicesIter<D> {
     fn fmt(&self, f: &mut fmt::Formatter<'_>) -> fmt::Result {
         print_left(f, "IndicesIter", self.len())
     }
 }
 
+/// Not proved.
 impl<D: Dimension + Copy> fmt::Debug for IndicesIterF<D> {
     fn fmt(&self, f: &mut fmt::Formatter<'_>) -> fmt::Result {
         print_left(f, "IndicesIterF", self.len())
@@ -45,7 +50,7 @@ impl<D: Dimension + Copy> fmt::Debug for IndicesIterF<D> {
 }
 
 /// Iterator over copies of the indices that a cursor lends: over those of a shape of any number of axes. In place of
-/// ndarray's `IndicesIter` and `IndicesIterF` over `IxDyn`.
+/// ndarray's `IndicesIter` and `IndicesIterF` over `IxDyn`. Not proved.
 ///
 /// An item takes time in proportion to the count of axes.
 ///
@@ -71,12 +76,14 @@ pub struct IndexCopies<C> {
 /// The traits of a cursor and of the iterator over it.
 macro_rules! copies {
     ($cursor:ident) => {
+        /// Not proved.
         impl fmt::Debug for $cursor {
             fn fmt(&self, f: &mut fmt::Formatter<'_>) -> fmt::Result {
                 print_left(f, stringify!($cursor), self.len())
             }
         }
 
+        /// Not proved.
         impl IntoIterator for $cursor {
             type Item = IxDyn;
 
@@ -87,6 +94,7 @@ macro_rules! copies {
             }
         }
 
+        /// Not proved.
         impl Iterator for IndexCopies<$cursor> {
             type Item = IxDyn;
 
@@ -100,8 +108,10 @@ macro_rules! copies {
             }
         }
 
+        /// Not proved.
         impl ExactSizeIterator for IndexCopies<$cursor> {}
 
+        /// Not proved.
         impl FusedIterator for IndexCopies<$cursor> {}
     };
 }

@@ -21,6 +21,7 @@ fn inclusive(first: isize, last: isize) -> Slice {
 /// Conversions of ranges to a `Slice`, and by it to a `SliceInfoElem`.
 macro_rules! from_ranges {
     ($($range:ty: |$name:ident| $slice:expr;)*) => {$(
+        /// Not proved.
         impl From<$range> for Slice {
             #[inline]
             fn from($name: $range) -> Slice {
@@ -28,6 +29,7 @@ macro_rules! from_ranges {
             }
         }
 
+        /// Not proved.
         impl From<$range> for SliceInfoElem {
             #[inline]
             fn from(range: $range) -> SliceInfoElem {
@@ -47,7 +49,7 @@ from_ranges! {
     RangeToInclusive<isize>: |range| inclusive(0, range.end);
 }
 
-/// One coordinate, counted from the first one.
+/// One coordinate, counted from the first one. Not proved.
 impl From<usize> for SliceInfoElem {
     #[inline]
     fn from(index: usize) -> SliceInfoElem {

@@ -9,6 +9,7 @@ use core::marker::PhantomData;
 use core::ops::{Deref, Range, RangeFrom, RangeFull, RangeInclusive, RangeTo, RangeToInclusive};
 
 /// A `SliceInfo` of the elements between the brackets, with the types of the shapes before and after. ndarray's `s!`.
+/// Not proved.
 ///
 /// Each element, separated by commas, is one of these:
 ///
@@ -66,7 +67,7 @@ macro_rules! s {
     };
 }
 
-/// The range before `;` in `s!`, with its step multiplied by the one after.
+/// The range before `;` in `s!`, with its step multiplied by the one after. Not proved.
 #[doc(hidden)]
 #[inline]
 #[must_use]
@@ -80,7 +81,7 @@ where
     Slice { step: step.expect("the step of a slice is past isize"), ..slice }
 }
 
-/// What an element of `s!` does to the count of axes. ndarray's `SliceNextDim`.
+/// What an element of `s!` does to the count of axes. ndarray's `SliceNextDim`. Not proved.
 ///
 /// ```
 /// use ndarray_layout::{Ix0, Ix1, Ix2, SliceInfo, SliceInfoElem, SliceNextDim, s};
@@ -106,6 +107,7 @@ pub trait SliceNextDim {
 /// The dimension types before and after, for some types of elements.
 macro_rules! next_dims {
     ($in_dim:ident to $out_dim:ident: $(impl $(<$number:ident>)? for $slice:ty),*) => {$(
+        /// Not proved.
         impl $(<$number>)? SliceNextDim for $slice {
             type InDim = $in_dim;
 
@@ -119,7 +121,7 @@ next_dims!(Ix1 to Ix1: impl for Slice, impl for RangeFull, impl<T> for Range<T>,
 next_dims!(Ix1 to Ix1: impl<T> for RangeTo<T>, impl<T> for RangeInclusive<T>, impl<T> for RangeToInclusive<T>);
 next_dims!(Ix0 to Ix1: impl for NewAxis);
 
-/// The first elements of a slice argument of `N`, as `s!` lists them.
+/// The first elements of a slice argument of `N`, as `s!` lists them. Not proved.
 #[doc(hidden)]
 #[derive(Clone, Copy, Debug)]
 pub struct SliceBuilder<const N: usize, Din = Ix0, Dout = Ix0> {
@@ -129,7 +131,7 @@ pub struct SliceBuilder<const N: usize, Din = Ix0, Dout = Ix0> {
 }
 
 impl<const N: usize> SliceBuilder<N> {
-    /// No element.
+    /// No element. Not proved.
     #[allow(clippy::new_without_default)]
     #[inline]
     #[must_use]
@@ -139,7 +141,7 @@ impl<const N: usize> SliceBuilder<N> {
 }
 
 impl<const N: usize, Din, Dout> SliceBuilder<N, Din, Dout> {
-    /// One element more, of `N` in all.
+    /// One element more, of `N` in all. Not proved.
     #[inline]
     #[must_use]
     pub fn and<S>(
@@ -155,7 +157,7 @@ impl<const N: usize, Din, Dout> SliceBuilder<N, Din, Dout> {
         SliceBuilder { elems: self.elems, count: self.count + 1, dims: PhantomData }
     }
 
-    /// The slice argument of all elements.
+    /// The slice argument of all elements. Not proved.
     #[inline]
     #[must_use]
     pub fn info(self) -> SliceInfo<[SliceInfoElem; N], Din, Dout>
@@ -167,6 +169,7 @@ impl<const N: usize, Din, Dout> SliceBuilder<N, Din, Dout> {
     }
 }
 
+/// Not proved.
 impl<T: SliceElems, Din: FixedCount, Dout: FixedCount> Deref for SliceInfo<T, Din, Dout> {
     type Target = T;
 
@@ -175,19 +178,21 @@ impl<T: SliceElems, Din: FixedCount, Dout: FixedCount> Deref for SliceInfo<T, Di
     }
 }
 
+/// Not proved.
 impl<T: SliceElems, Din: FixedCount, Dout: FixedCount> AsRef<[SliceInfoElem]> for SliceInfo<T, Din, Dout> {
     fn as_ref(&self) -> &[SliceInfoElem] {
         self.elems()
     }
 }
 
+/// Not proved.
 impl SliceElems for [SliceInfoElem] {
     fn elems(&self) -> &[SliceInfoElem] {
         self
     }
 }
 
-/// Bare elements, for any number of axes.
+/// Bare elements, for any number of axes. Not proved.
 impl SliceArg<IxDyn> for [SliceInfoElem] {
     type OutDim = IxDyn;
 
@@ -200,7 +205,7 @@ impl SliceArg<IxDyn> for [SliceInfoElem] {
     }
 }
 
-/// Bare elements, for any number of axes.
+/// Bare elements, for any number of axes. Not proved.
 impl SliceArg<IxDyn> for &[SliceInfoElem] {
     type OutDim = IxDyn;
 
@@ -213,12 +218,14 @@ impl SliceArg<IxDyn> for &[SliceInfoElem] {
     }
 }
 
+/// Not proved.
 impl<T: SliceElems> SliceElems for &T {
     fn elems(&self) -> &[SliceInfoElem] {
         T::elems(self)
     }
 }
 
+/// Not proved.
 impl<D: FixedCount, T: SliceArg<D>> SliceArg<D> for &T {
     type OutDim = T::OutDim;
 
@@ -232,7 +239,7 @@ impl<D: FixedCount, T: SliceArg<D>> SliceArg<D> for &T {
 }
 
 impl<D: Lengths> Strided<D> {
-    /// The view of the same data that a slice argument leaves, of the type that the argument says.
+    /// The view of the same data that a slice argument leaves, of the type that the argument says. Not proved.
     ///
     /// Where an index is a bare number, as the 1 of `s![1, ..]`, a call on `dim` of the result may need its type said:
     /// `let row: Strided<Ix1> = view.sliced(s![1, ..])?`. ndarray asks for the same.
