@@ -1,6 +1,5 @@
 //! Rows of reshapes: strides along another shape, or the fault.
-use crate::assertions::hold;
-use crate::calls::Calls;
+use crate::calls::hold;
 
 /// Shapes as they are read by rows.
 const BY_ROWS: &str = "\
@@ -70,7 +69,7 @@ reshape_dim_F 2 -9223372036854775807 1,2 => 1,-9223372036854775807";
 #[test]
 fn r6_rows(rt: HostRuntime) {
     for table in [BY_ROWS, BY_COLUMNS, EITHER_WAY] {
-        hold(&rt, rt.alloc(), table, &Calls);
+        hold(&rt, rt.alloc(), table);
     }
 }
 
@@ -96,6 +95,6 @@ reshape_dim_F 9223372036854775807 -1 188232082384791343,1,49 => -1,-188232082384
 
 #[test]
 fn r11_rows(rt: HostRuntime) {
-    hold(&rt, rt.alloc(), LARGE_BY_ROWS, &Calls);
-    hold(&rt, rt.alloc(), LARGE_BY_COLUMNS, &Calls);
+    hold(&rt, rt.alloc(), LARGE_BY_ROWS);
+    hold(&rt, rt.alloc(), LARGE_BY_COLUMNS);
 }

@@ -3,10 +3,10 @@ use ndarray_layout::{
     IxDyn, Lengths, Order, max_abs_offset_check_overflow, reshape_dim, size_of_shape_checked,
 };
 use std::alloc::Global;
-use test_tables::{Lists, Row, Words, layout_fault_name, made};
+use test_tables::{Reading, layout_fault_name};
 
 /// The strides of a reshape, or the fault as a word.
-pub fn reshaped<D: Lengths, E: Lengths>(
+fn reshaped<D: Lengths, E: Lengths>(
     alloc: Global,
     from: &D,
     strides: &D,
@@ -25,19 +25,13 @@ pub fn reshaped<D: Lengths, E: Lengths>(
     }
 }
 
-/// Whether a row of `reshape_dim` holds at a dimension type.
-fn holds_at<D: Lengths>(alloc: Global, lists: &Lists, answer: &str, order: Order) -> Option<bool> {
-    let from: D = made(alloc, lists.first.as_slice())?;
-    let strides: D = made(alloc, lists.second.as_slice())?;
-    let to: D = made(alloc, lists.third.as_slice())?;
+/// Whether a row of `reshape_dim` holds, at the type of any number of axes.
+pub fn reshape_holds(alloc: Global, row: &mut Reading<'_>, order: Order) -> Option<bool> {
+    let from: IxDyn = row.given.dim(alloc)?;
+    let strides: IxDyn = row.given.dim(alloc)?;
+    let to: IxDyn = row.given.dim(alloc)?;
     match reshaped(alloc, &from, &strides, &to, order) {
-        Ok(others) => Some(Words::of(answer).is_list(others.slice())),
-        Err(fault) => Some(answer == fault),
+        Ok(others) => Some(row.answer.is_list(others.slice())),
+        Err(fault) => Some(row.answer.is(fault)),
     }
-}
-
-/// The same at the type of any number of axes.
-pub fn reshape_holds(alloc: Global, row: &Row<'_>, order: Order) -> Option<bool> {
-    let lists = row.lists()?;
-    holds_at::<IxDyn>(alloc, &lists, row.answer, order)
 }

@@ -1,5 +1,5 @@
 //! Runs of steps from the view of a layout, and where they stop.
-use crate::layout::{Layout, is_left, is_told};
+use crate::views::{is_left, is_told, view};
 use Fit::{Clamp, Strict};
 use Order::{ColumnMajor, RowMajor};
 use ndarray_layout::{Axis, Fit, Order, Step, run};
@@ -57,9 +57,8 @@ fn steps(alloc: Global, words: &mut Words<'_>) -> Option<Vec<Step>> {
 /// Whether a row of `run` holds: `LEN owned|read SHAPE STRIDES STEP .. => VIEW`, or how many steps were taken, the
 /// fault, and the shape, the strides and the start of the view that they left.
 pub fn run_holds(alloc: Global, row: &mut Reading<'_>) -> Option<bool> {
-    let layout = Layout::read(&mut row.given)?;
+    let view = view(alloc, &mut row.given)?.ok()?;
     let steps = steps(alloc, &mut row.given)?;
-    let view = layout.view(alloc)?.ok()?;
     match run(alloc, view, steps.as_slice()) {
         Ok(view) => Some(is_told(alloc, row, Ok(view))),
         Err(stopped) => {

@@ -1,54 +1,79 @@
-//! Views of layouts and of shapes, at the dimension type that a row names, and all that can be asked of one.
-use crate::layout::{Layout, is_told, strides};
-use CanIndexCheckMode::OwnedMutable;
+//! Views of layouts and of shapes, at the dimension type that a row names.
+use CanIndexCheckMode::{OwnedMutable, ReadOnly};
 use Fit::Strict;
-use Order::RowMajor;
-use SliceInfoElem::{Index, Slice};
 use ndarray_layout::{
-    Axis, CanIndexCheckMode, Fit, LayoutError, Lengths, Order, SliceInfoElem, StrideShape, Strided,
-    Strides, is_layout_c, is_layout_f, size_of_shape_checked,
+    CanIndexCheckMode, Fit, LayoutError, Lengths, Order, StrideShape, Strided, Strides,
+    is_layout_c, is_layout_f, size_of_shape_checked,
 };
 use std::alloc::Global;
-use test_tables::{AtType, Reading, at_each_type, at_type, made};
+use test_tables::{AtType, Reading, Words, at_type, layout_fault_name, meaning};
 
 /// What a row about a view tells.
 #[derive(Clone, Copy)]
 pub enum OfView {
     /// `LEN owned|read SHAPE STRIDES => VIEW`, or the fault.
     New,
-    /// `START ELEM_SIZE LEN owned|read SHAPE STRIDES => VIEW`, or the fault.
-    FromParts,
     /// `LEN SHAPE C|F|STRIDES => VIEW`, or the fault, in owned mode.
     FromShape,
     /// `LEN owned|read SHAPE STRIDES ARGUMENT => WAY SHAPE STRIDES`: in which ways the places of a slice lie in order.
     SliceInOrder,
 }
 
-/// The view of a shape in owned mode, over so many elements of one byte.
-pub fn shaped<D: Lengths>(
+static MODES: [(&str, CanIndexCheckMode); 2] = [("owned", OwnedMutable), ("read", ReadOnly)];
+
+/// The view of the next words, `LEN owned|read SHAPE STRIDES`, or the fault.
+pub fn view<D: Lengths>(
     alloc: Global,
+    words: &mut Words<'_>,
+) -> Option<Result<Strided<D>, LayoutError>> {
+    let len = words.length()?;
+    let mode = meaning(&MODES, words.word()?)?;
+    let dim: D = words.dim(alloc)?;
+    let strides: D = words.dim(alloc)?;
+    Some(viewed(dim, strides, len, mode))
+}
+
+/// The view of a shape and strides over so many elements of one byte.
+fn viewed<D: Lengths>(
     dim: D,
-    strides: Strides<D>,
+    strides: D,
     len: usize,
+    mode: CanIndexCheckMode,
 ) -> Result<Strided<D>, LayoutError> {
-    Strided::from_shape(alloc, StrideShape { dim, strides }, 1, len, OwnedMutable)
+    Ok(Strided::new(dim, strides, 1, len, mode)?)
 }
 
-/// Whether a row tells the view of a layout from a start.
-fn is_placed<D: Lengths>(alloc: Global, row: &mut Reading<'_>) -> Option<bool> {
-    let start = row.given.length()?;
-    let elem_size = row.given.length()?;
-    let layout = Layout::read(&mut row.given)?;
-    let view = layout.view_from::<D>(alloc, start, elem_size)?;
-    Some(is_told(alloc, row, view))
+/// The shape of the next words, `SHAPE C|F|STRIDES`.
+pub fn shape<D: Lengths>(alloc: Global, words: &mut Words<'_>) -> Option<StrideShape<D>> {
+    let dim: D = words.dim(alloc)?;
+    let strides = match words.word()? {
+        "C" => Strides::C,
+        "F" => Strides::F,
+        word => Strides::Custom(Words::of(word).dim(alloc)?),
+    };
+    Some(StrideShape { dim, strides })
 }
 
-/// Whether a row tells the view of a shape.
-fn is_shaped<D: Lengths>(alloc: Global, row: &mut Reading<'_>) -> Option<bool> {
-    let len = row.given.length()?;
-    let dim: D = row.given.dim(alloc)?;
-    let strides = strides(alloc, row.given.word()?)?;
-    Some(is_told(alloc, row, shaped(alloc, dim, strides, len)))
+/// Whether the next words of the answer are the shape, the strides and the start of a view.
+pub fn is_left<D: Lengths>(row: &mut Reading<'_>, view: &Strided<D>) -> bool {
+    row.answer.is_list(view.dim().slice())
+        && row.answer.is_list(view.strides().slice())
+        && row.answer.is_length(view.start())
+}
+
+/// Whether the next words of the answer are what a view tells, shape, strides, start and places by rows, or the fault.
+pub fn is_told<D: Lengths>(
+    alloc: Global,
+    row: &mut Reading<'_>,
+    view: Result<Strided<D>, LayoutError>,
+) -> bool {
+    match view {
+        Ok(view) => match view.places(alloc, Order::RowMajor) {
+            Ok(places) => is_left(row, &view) && row.answer.is_list(places.as_slice()),
+            Err(_) => false,
+        },
+        Err(fault) => row.answer.is(layout_fault_name(&fault)),
+    }
 }
 
 /// In which ways the places of a view lie in order, as a word.
@@ -67,9 +92,8 @@ fn ways_of<D: Lengths>(view: &Strided<D>) -> &'static str {
 
 /// Whether a row tells the ways in which the places of a slice lie in order.
 fn is_in_order<D: Lengths>(alloc: Global, row: &mut Reading<'_>) -> Option<bool> {
-    let layout = Layout::read(&mut row.given)?;
+    let view = view::<D>(alloc, &mut row.given)?.ok()?;
     let elems = row.given.elems(alloc)?;
-    let view: Strided<D> = layout.view(alloc)?.ok()?;
     let slice: Strided<D> = view.slice(alloc, &elems, Strict).ok()?;
     let (dim, strides) = (slice.dim().slice(), slice.strides().slice());
     Some(row.answer.is(ways_of(&slice)) && row.answer.is_list(dim) && row.answer.is_list(strides))
@@ -86,11 +110,15 @@ impl AtType for OfRow<'_, '_> {
         let OfRow { row, asked } = self;
         match asked {
             OfView::New => {
-                let layout = Layout::read(&mut row.given)?;
-                Some(is_told::<D>(alloc, row, layout.view(alloc)?))
-            },
-            OfView::FromParts => is_placed::<D>(alloc, row),
-            OfView::FromShape => is_shaped::<D>(alloc, row),
+                let view = view::<D>(alloc, &mut row.given)?;
+                Some(is_told(alloc, row, view))
+            }
+            OfView::FromShape => {
+                let len = row.given.length()?;
+                let shape = shape::<D>(alloc, &mut row.given)?;
+                let view = Strided::from_shape(alloc, shape, 1, len, OwnedMutable);
+                Some(is_told(alloc, row, view))
+            }
             OfView::SliceInOrder => is_in_order::<D>(alloc, row),
         }
     }
@@ -100,58 +128,4 @@ impl AtType for OfRow<'_, '_> {
 pub fn view_holds(alloc: Global, row: &mut Reading<'_>, asked: OfView) -> Option<bool> {
     let ndim = row.given.ndim()?;
     at_type(alloc, ndim, OfRow { row, asked })
-}
-
-// ---- each call of a view
-
-/// A whole axis from the back.
-pub const BACK: SliceInfoElem = Slice {
-    start: 0,
-    end: None,
-    step: -1,
-};
-
-/// Whether a view is copied, sliced, stretched and reshaped to as many axes, and its places are listed.
-pub fn are_made<D: Lengths>(alloc: Global, view: &Strided<D>, elems: &[SliceInfoElem]) -> bool {
-    view.duplicate(alloc).is_ok()
-        && view.slice::<D, _>(alloc, &elems, Strict).is_ok()
-        && view.broadcast(alloc, view.dim()).is_ok()
-        && view.reshape(alloc, view.dim(), RowMajor).is_ok()
-        && view.places(alloc, RowMajor).is_ok()
-}
-
-/// Whether the view of 24 elements along three axes answers what is asked of it in place.
-fn are_answered<D: Lengths>(alloc: Global, view: &Strided<D>) -> Option<bool> {
-    let index: D = made(alloc, &[1, 2, 3])?;
-    let (row, other) = ([BACK, Index(-1), BACK], [Index(1), BACK, Index(0)]);
-    Some(
-        view.place(&index) == Some(23)
-            && view.axes().len() == 3
-            && view.picked(&row, Strict).ok() == Some(8)
-            && view.meets(&row, &other, Strict).ok() == Some(true)
-            && view.first_intersection(&[row, other], Strict).ok() == Some(Some((0, 1))),
-    )
-}
-
-/// Whether a coordinate of the first axis is kept, and the axis is merged into the last but one.
-fn is_joined<D: Lengths>(view: &mut Strided<D>) -> bool {
-    view.collapse(Axis(0), 1).is_ok() && view.merge(Axis(0), Axis(1)).ok() == Some(true)
-}
-
-/// The calls of a view.
-#[derive(Clone, Copy)]
-struct AllCalls;
-
-impl AtType for AllCalls {
-    fn at<D: Lengths>(self, alloc: Global) -> Option<bool> {
-        let dim: D = made(alloc, &[2, 3, 4])?;
-        let mut view = shaped(alloc, dim, Strides::C, 24).ok()?;
-        let is_asked = are_made(alloc, &view, &[BACK; 3]) && are_answered(alloc, &view)?;
-        Some(is_asked && is_joined(&mut view) && view.start() == 12)
-    }
-}
-
-#[test]
-fn each_call_of_a_view(rt: HostRuntime) {
-    assert!(rt; at_each_type(rt.alloc(), 3, AllCalls) == Some(true));
 }

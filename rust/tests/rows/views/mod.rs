@@ -12,3 +12,4 @@ mod ranges;
 mod reshapes;
 mod runs;
 mod sequences;
+mod twin;

@@ -1,6 +1,5 @@
-//! Rows of views: how they are made, what is made of them, and runs of steps.
-use crate::assertions::hold;
-use crate::calls::Calls;
+//! Rows of views: how they are made, what is made of them, and runs of steps; and of arrays that own their items, 0 and so on.
+use crate::calls::hold;
 
 #[test]
 fn r1_rows(rt: HostRuntime) {
@@ -11,7 +10,7 @@ new Ix2 2 owned 1,2 -9223372036854775808,1 => 1,2 -9223372036854775808,1 0 0,1
 run 4 owned 4 1 slice 1..;-2 => 2 -2 3 3,1
 run 4 owned 4 1 slice 2..2 => 0 0 0 -
 run 6 owned 2,3 3,1 slice 1.. => 0 IncompatibleShape 2,3 3,1 0";
-    hold(&rt, rt.alloc(), table, &Calls);
+    hold(&rt, rt.alloc(), table);
 }
 
 #[test]
@@ -24,7 +23,7 @@ new Ix0 1 owned - - => - - 0 0
 new Ix0 0 owned - - => OutOfBounds
 from_shape Ix2 6 2,3 F => 2,3 1,2 0 0,2,4,1,3,5
 from_shape Ix2 5 2,3 F => OutOfBounds";
-    hold(&rt, rt.alloc(), table, &Calls);
+    hold(&rt, rt.alloc(), table);
 }
 
 #[test]
@@ -36,7 +35,7 @@ run 1 owned - - slice - => - - 0 0
 run 6 owned 2,3 3,1 slice ..;-1,.. slice 0,1.. => 2 1 4 4,5
 run 6 owned 2,3 3,1 collapse 0 1 => 1,3 3,1 3 3,4,5
 run 6 owned 2,3 3,1 collapse 0 2 => 0 OutOfBounds 2,3 3,1 0";
-    hold(&rt, rt.alloc(), table, &Calls);
+    hold(&rt, rt.alloc(), table);
 }
 
 /// Merged axes, stretched axes, and slices of five rows of five in order.
@@ -59,7 +58,7 @@ slice_in_order Ix2 25 owned 5,5 5,1 ..;2,.. => neither_way 3,5 10,1";
 
 #[test]
 fn r5_rows(rt: HostRuntime) {
-    hold(&rt, rt.alloc(), JOINED, &Calls);
+    hold(&rt, rt.alloc(), JOINED);
 }
 
 #[test]
@@ -72,7 +71,7 @@ run 0 owned 0,2 0,0 reshape_C 5,0 reshape_C 1 => 1 IncompatibleShape 5,0 0,0 0
 run 6 owned 2,3 3,1 reshape_C 9223372036854775807,2 => 0 Overflow 2,3 3,1 0
 run 6 owned 2,3 3,1 reshape_C 0,6 => 0 IncompatibleShape 2,3 3,1 0
 run 6 owned 2,3 3,1 reshape_C 4 => 0 IncompatibleShape 2,3 3,1 0";
-    hold(&rt, rt.alloc(), table, &Calls);
+    hold(&rt, rt.alloc(), table);
 }
 
 #[test]
@@ -84,7 +83,7 @@ run 6 owned 2,3 3,1 merge 1 0 => 0 IncompatibleLayout 2,3 3,1 0
 run 6 owned 2,3 3,1 collapse 1 3 => 0 OutOfBounds 2,3 3,1 0
 run 24 owned 2,3,4 12,4,1 collapse 1 2 merge 0 1 reshape_C 2,2,2 => 2,2,2 12,2,1 8 8,9,10,11,20,21,22,23
 run 24 owned 2,3,4 12,4,1 collapse 1 2 merge 0 1 reshape_C 8 => 2 IncompatibleLayout 1,2,4 12,12,1 8";
-    hold(&rt, rt.alloc(), table, &Calls);
+    hold(&rt, rt.alloc(), table);
 }
 
 #[test]
@@ -95,21 +94,24 @@ run 4 owned 4 1 slice -9..9;-2 => 0 OutOfBounds 4 1 0
 run 4 owned 4 1 clamp 5..2 => 0 0 0 -
 run 4 owned 4 1 clamp 4 => 0 OutOfBounds 4 1 0
 run 4 owned 4 1 clamp 9..;0 => 0 Unsupported 4 1 0";
-    hold(&rt, rt.alloc(), table, &Calls);
+    hold(&rt, rt.alloc(), table);
 }
 
-/// More than four axes, which take memory of their own.
-const MORE_AXES: &str = "\
-new IxDyn 12 owned 2,1,3,1,2 -6,9,1,9,3 => 2,1,3,1,2 -6,9,1,9,3 6 6,9,7,10,8,11,0,3,1,4,2,5
-from_shape IxDyn 12 2,1,3,1,2 F => 2,1,3,1,2 1,2,2,6,6 0 0,6,2,8,4,10,1,7,3,9,5,11
-from_shape IxDyn 12 2,1,3,1,2 C => 2,1,3,1,2 6,6,2,2,1 0 0,1,2,3,4,5,6,7,8,9,10,11
-run 4 owned 4 1 slice NewAxis,NewAxis,NewAxis,NewAxis,..;-1,NewAxis,NewAxis,NewAxis => \
-1,1,1,1,4,1,1,1 0,0,0,0,-1,0,0,0 3 3,2,1,0
-run 6 owned 2,3 3,1 broadcast 1,1,1,2,2,3 slice ..,0,..,..,..,NewAxis,.. reshape_C 1,1,1,2,2,3,1 => \
-1,1,1,2,2,3,1 0,0,1,0,3,1,1 0 0,1,2,3,4,5,0,1,2,3,4,5
-run 6 owned 2,3 3,1 broadcast 1,1,1,2,2,3 merge 5 4 => 1 IncompatibleLayout 1,1,1,2,2,3 0,0,0,0,3,1 0";
+/// Two rows of three items, with a spare one.
+const TWO_ROWS: &str = "\
+items Ix2 2,3 C 7 ..;-1,1.. => 4,5,1,2
+multi_set Ix2 2,3 C 7 0,.. 10,11,12 1,..;2 20,21 => Ok 10,11,12,20,4,21,6
+multi_set Ix2 2,3 C 7 0,.. 10,11,12 ..,0 20,21 => Unsupported 0,1,2,3,4,5,6
+multi_set Ix2 2,3 C 7 ..,0 10 => IncompatibleShape 0,1,2,3,4,5,6
+multi_set Ix2 2,3 C 7 ..,0 10 9,.. 20,21,22 => OutOfBounds 0,1,2,3,4,5,6
+multi_set Ix2 2,3 C 7 0..0,.. - => Ok 0,1,2,3,4,5,6
+multi_set Ix2 2,3 C 7 ..,2 12,15 ..,1 11,14 ..,0 10,13 => Ok 10,11,12,13,14,15,6
+multi_set Ix2 2,3 C 7 ..,2 12,15 ..,1 11,14 ..,0 10,13 0,..1 9 => Unsupported 0,1,2,3,4,5,6
+set Ix2 2,3 C 7 1,3 9 => false 0,1,2,3,4,5,6
+from_shape_vec Ix2 2,3 C 5 => OutOfBounds 0,1,2,3,4
+items Ix2 2,3 -3,1 6 ..,.. => 3,4,5,0,1,2";
 
 #[test]
-fn more_than_four_axes(rt: HostRuntime) {
-    hold(&rt, rt.alloc(), MORE_AXES, &Calls);
+fn r15_rows(rt: HostRuntime) {
+    hold(&rt, rt.alloc(), TWO_ROWS);
 }
