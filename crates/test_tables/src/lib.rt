@@ -1,5 +1,5 @@
 //! What the tests of several crates share: rows of tables and their words, questions asked at a dimension type that a
-//! row names, the names of errors, which values are equal, what is printed, requests for memory.
+//! row names, the names of errors, hashes, what is printed, requests for memory.
 //!
 //! A table is lines, and each is a row: `CALL ARG ARG .. => ANSWER`. Rows of one call and one answer may stand in one
 //! line: `CALL ARG .. / ARG .. => ANSWER`. Spaces separate words. A word is a name, a number, a list of numbers
@@ -18,7 +18,7 @@ mod tables;
 mod texts;
 mod types;
 
-pub use equality::{are_distinct, hash_of};
+pub use equality::hash_of;
 pub use faults::{fault_of, layout_fault_name, name_of, or_fault};
 pub use lists::{List, Lists, made};
 pub use memory::grants;
