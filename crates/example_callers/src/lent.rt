@@ -1,11 +1,15 @@
 //! Pixels that are kept elsewhere, read and written as a picture.
-ghost use Rattle.std.specs.Prelude.{◌≡◌, IfOk, OnErr, OnOk, Some, length};
+ghost use Rattle.std.specs.List.{All};
+ghost use Rattle.std.specs.Option.{option_map};
+ghost use Rattle.std.specs.Prelude.{◌≡◌, ◌+◌, ◌<◌, IfOk, IfSome, OnErr, OnOk, Some, length};
 ghost use Rattle.ndarray_layout.specs.ShapeBuilder.{strides_list};
 ghost use Rattle.ndarray_layout.specs.Signed.{all_signed};
 ghost use Rattle.ndarray_layout.specs.Span.{low_span};
 ghost use Rattle.ndarray_layout.specs.View.{view_of};
 ghost use Rattle.nd_owned.specs.ArrayViewMut.{HasItemsOf};
-ghost use Rattle.nd_owned.specs.Owned.{IsOwned};
+ghost use Rattle.nd_owned.specs.Lender.{array_of};
+ghost use Rattle.nd_owned.specs.Mapped.{row_major_items};
+ghost use Rattle.nd_owned.specs.Owned.{IsOwned, item_at};
 
 use nd_owned::{ArrayViewMut, OwnedArray};
 use ndarray_layout::{CanIndexCheckMode, Ix2, LayoutError, Lengths, StrideShape, Strided};
@@ -57,4 +61,23 @@ pub fn paint_owned(
     let view = picture.view().duplicate(alloc)?;
     paint_view(view, picture.stored_mut(), pixel);
     Ok(())
+}
+
+/// Makes each pixel of a picture brighter by 1. The caller ensures that none is the brightest one. The picture's other pixels
+/// are unchanged.
+pub fn brighten<D: Lengths>(picture: &mut ArrayViewMut<'_, u8, D>)
+    requires { All (λ item. IfSome item (λ pixel. pixel < 255))
+        (row_major_items (array_of picture.old)) }
+    ensures { HasItemsOf
+        (λ index. option_map (λ pixel. pixel + 1) (item_at (array_of picture.old) index))
+        (array_of picture.old) (array_of picture.new) }
+{
+    picture.map_in_place(
+        |pixel: &mut u8|
+            requires { pixel.old < 255 }
+            ensures { pixel.new ≡ pixel.old + 1 }
+        {
+            *pixel += 1;
+        },
+    );
 }

@@ -24,7 +24,7 @@ pub use counts::count_bright;
 pub use crops::{band, crop};
 pub use foreign::from_bytes;
 pub use items::count_dark_pixels;
-pub use lent::{paint, paint_owned};
+pub use lent::{brighten, paint, paint_owned};
 pub use parts::separate_places;
 pub use places::{picture, pixel};
 pub use reshapes::along_shape;

@@ -1,8 +1,8 @@
 //! Writes to pictures.
 
-use crate::example_callers::{paint, paint_owned, with_two_parts, write_parts};
+use crate::example_callers::{brighten, paint, paint_owned, with_two_parts, write_parts};
 use crate::{Hundreds, Layout, Listed, Places, SIX_AXES, pixels, strides};
-use ndarray_layout::{IxDyn, OwnedArray, ShapeBuilder, SliceInfoElem, s};
+use ndarray_layout::{ArrayViewMut, IxDyn, OwnedArray, ShapeBuilder, SliceInfoElem, s};
 
 /// Part of an array, and the pixels for it.
 type Part = (Vec<SliceInfoElem>, Vec<u8>);
@@ -57,4 +57,12 @@ fn an_owned_picture_is_painted_and_spare_pixels_are_not() {
     let mut picture = OwnedArray::from_shape_vec((2, 3).into(), pixels(7)).unwrap();
     assert_eq!(paint_owned(&mut picture, 8), Ok(()));
     assert_eq!(picture.stored(), [8, 8, 8, 8, 8, 8, 6]);
+}
+
+#[test]
+fn pixels_of_a_picture_are_brightened_and_spare_ones_are_not() {
+    let mut pixels = pixels(8);
+    let mut picture = ArrayViewMut::from_shape((2, 3).strides((4, 1)).unwrap(), &mut pixels).unwrap();
+    brighten(&mut picture);
+    assert_eq!(pixels, [1, 2, 3, 3, 5, 6, 7, 7]);
 }
