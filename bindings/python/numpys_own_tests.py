@@ -4,6 +4,7 @@
 
 The tests are those of the NumPy that is installed: `test_mem_overlap` and `test_stride_tricks`, which need pytest.
 What stands in is listed in `OVERLAP` and `STRIDES`. `LEFT_OUT` names the tests that fail with it, and says why.
+Where NumPy or pytest is missing, or lacks a name, they fail.
 """
 
 import importlib
@@ -13,20 +14,16 @@ from collections import Counter
 from functools import reduce
 from unittest import mock
 
+import numpy as np
+import pytest
+from numpy.core._multiarray_tests import solve_diophantine
+from numpy.lib import stride_tricks
+from numpy.lib.stride_tricks import as_strided
+
 import ndarray_layout as nd
 from ndarray_layout import Layout
 from ndarray_layout._sharing import Part, share_byte
 
-try:
-    import numpy as np
-    import pytest
-    from numpy.core._multiarray_tests import solve_diophantine
-    from numpy.lib import stride_tricks
-    from numpy.lib.stride_tricks import as_strided
-except ImportError:
-    pytest = None
-
-MISSING = "NumPy or pytest is missing: its tests are not run"
 LIMIT = 2**63 - 1
 
 LEFT_OUT = {
@@ -41,11 +38,6 @@ STEPS = 8
 
 calls = Counter()
 """How often each has stood in."""
-
-
-def setUpModule():
-    if pytest is None:
-        print(MISSING)
 
 
 def counted(call):
@@ -165,7 +157,6 @@ STRIDES = {
 }
 
 
-@unittest.skipIf(pytest is None, MISSING)
 class NumpysOwn(unittest.TestCase):
     def run_tests(self, module, places, stand_ins):
         """Runs the tests of a module while calls stand in for names of some places; says how many pass."""
