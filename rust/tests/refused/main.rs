@@ -3,6 +3,7 @@
 mod allocator;
 mod arrays;
 mod call;
+mod copies;
 mod dimensions;
 mod lent;
 mod lists;
