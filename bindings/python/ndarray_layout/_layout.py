@@ -177,7 +177,7 @@ class Layout:
 
     @cached_property
     def is_contiguous(self) -> bool:
-        """Whether the indices fill a stretch of the buffer without a gap, in any order of the axes."""
+        """Whether no two indices have one place, and all fill a stretch of the buffer without a gap, in any order of the axes."""
         return is_contiguous(self.shape, self.strides)
 
     @cached_property

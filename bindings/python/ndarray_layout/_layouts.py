@@ -104,7 +104,7 @@ def has_distinct_places(shape: Numbers, strides: Numbers, max_work: Optional[int
 
 
 def is_contiguous(shape: Numbers, strides: Numbers) -> bool:
-    """Whether the indices fill a stretch of the buffer without a gap, in any order of the axes.
+    """Whether no two indices have one place, and all fill a stretch of the buffer without a gap, in any order of the axes.
 
     >>> is_contiguous((2, 3), (-3, -1)), is_contiguous((5,), (2,))
     (True, False)

@@ -67,7 +67,7 @@ fn is_packed(lens: &[usize], strides: &[usize]) -> bool
     true
 }
 
-/// Whether the indices fill an interval of memory without a gap, by a rule on lengths and strides.
+/// Whether no two indices alias and all fill an interval of memory without a gap, by a rule on lengths and strides.
 /// `Dimension::is_contiguous` says the rule.
 #[inline(always)]
 pub(crate) fn is_contiguous(lens: &[usize], strides: &[usize]) -> bool

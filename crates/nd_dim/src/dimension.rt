@@ -330,8 +330,8 @@ pub trait Dimension: Lengths + Arithmetic + Scale {
         set_last_len(self.slice_mut(), len);
     }
 
-    /// Whether the indices of a shape fill an interval of memory without a gap, by a rule on lengths
-    /// and strides.
+    /// Whether no two indices of a shape alias and all fill an interval of memory without a gap, by a
+    /// rule on lengths and strides.
     ///
     /// It is true where the strides are those in row-major order. With one axis it is also true
     /// where its length is at most 1 or its stride is -1. With another number of axes it is also

@@ -105,7 +105,7 @@ pub fn first_elems_intersection<S: SliceElems>(
 }
 
 /// Two of many slice arguments on a shape that share an index: their positions in the list, the
-/// less first. `None` if and only if no two of them share an index.
+/// less first. Where several pairs do, it is any of them. `None` if and only if no two share one.
 ///
 /// The caller ensures that each length is below 2^63.
 ///

@@ -51,7 +51,7 @@ impl<D: Lengths> Strided<D> {
         slices_intersect(&self.dim, first, second, fit)
     }
     /// Two of many slices of the view that intersect: their positions in the list, the less first.
-    /// `None` if and only if no two of them do.
+    /// Where several pairs do, it is any of them. `None` if and only if no two do.
     ///
     /// Where no two indices of the view alias, `None` is returned if and only if no two of the
     /// slices have a place in common. On any other view, as one that is broadcast, slices that share
