@@ -2,10 +2,11 @@
 
 crates.txt has a line `NAME: LIBRARY ..` for each crate. A library with no line of its own is one of the kit. A `#` begins a comment.
 """
-import pathlib, subprocess
+import os, pathlib, re, subprocess
 
 TOP = str(pathlib.Path(__file__).resolve().parents[1])
 PARTS = ("src", "specs", "proofs")
+MEMORY = 5000  # megabytes: what a proof may take
 
 
 def read(path):
@@ -38,3 +39,9 @@ def sums_of(name, *made):
     """The checksums of crates.txt, of the sources of a crate and of those below it, and of what was made of them."""
     paths = ["crates.txt", *sources(*crates_below(name), parts=PARTS), *made]
     return subprocess.check_output(["sha256sum", *paths], cwd=TOP, text=True)
+
+
+def jobs():
+    """How many proofs this machine can make at once: one a processor, as memory holds."""
+    free = int(re.search(r"MemAvailable: *(\d+)", pathlib.Path("/proc/meminfo").read_text())[1]) * 1024 // 10**6
+    return max(1, min(len(os.sched_getaffinity(0)), free // MEMORY))
