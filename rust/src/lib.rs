@@ -21,6 +21,8 @@
 //! over `all_indices(Ix2(1 << 32, 1 << 32))` panics with overflow checks, and ends at once without them. No behaviour is
 //! undefined, as the package has no `unsafe`.
 //!
+//! The file `proved.txt` of the package has the checksums of the sources that the last whole check proved, and its date.
+//!
 //! What the package adds to the sources isn't proved, but tested: [`s!`], `Ix2(..)`, `Clone` and the like. The docs of each
 //! such item say so, or the page of its module, as that of [`memory`].
 #![no_std]
