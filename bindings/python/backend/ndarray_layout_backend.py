@@ -2,7 +2,7 @@
 
 The wheel holds the package and the shared library that `bindings/c/build` makes by cargo. With NDARRAY_LAYOUT_PROVED=1
 in the environment, or the setting `proved`, it holds the proved library of `bindings/c/proved`, which `build --proved`
-makes where there is none.
+makes where the one that is there isn't of the sources as they are.
 """
 
 from __future__ import annotations
@@ -53,13 +53,12 @@ def _is_proved(settings: Settings) -> bool:
 
 
 def _library(proved: bool) -> Path:
-    """The shared library, made where it isn't there. Cargo's is made anew where its sources have changed."""
+    """The shared library, made where the one that is there isn't of the sources as they are."""
     build = TOP / "bindings" / "c" / "build"
     if not build.exists():
         raise FileNotFoundError(f"no {build}: the wheel is made from a clone, by pip 21.3 or later")
     library = build.parent / "proved" / LIBRARY if proved else build.parent / LIBRARY
-    if not (proved and library.exists()):
-        subprocess.run([build, *(["--proved"] if proved else [])], check=True)
+    subprocess.run([build, *(["--proved"] if proved else [])], check=True)
     return library
 
 
