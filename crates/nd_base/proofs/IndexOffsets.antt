@@ -31,7 +31,8 @@ coordinate_offset coordinate stride = coordinate * magnitude stride
 
 -- a coordinate's offset is that far on one side or the other
 pub coordinate_offset_bounds : (coordinate : ℕ) (stride : ℤ)
-    → (neg_ℤ (pos (coordinate_offset coordinate stride)) ≤ℤ (pos coordinate *ℤ stride)) × ((pos coordinate *ℤ stride) ≤ℤ pos (coordinate_offset coordinate stride))
+    → (neg_ℤ (pos (coordinate_offset coordinate stride)) ≤ℤ (pos coordinate *ℤ stride))
+    × ((pos coordinate *ℤ stride) ≤ℤ pos (coordinate_offset coordinate stride))
 coordinate_offset_bounds coordinate (pos s) = (omega (arith, ints), omega (arith, ints))
 coordinate_offset_bounds coordinate (negsuc s) = (omega (arith, ints), omega (arith, ints))
 

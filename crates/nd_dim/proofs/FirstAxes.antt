@@ -23,7 +23,8 @@ module _ (lens : List ℕ) (strides : List ℤ) where
       (λ axis. cond (nat_lt (stride_position strides (length lens) axis) position) (get_or lens axis 0) 1) 0 (length lens)
 
   first_at : (position axis : ℕ) → axis < length lens
-      → get_or (first_axes lens strides position) axis 0 ≡ cond (nat_lt (stride_position strides (length lens) axis) position) (get_or lens axis 0) 1
+      → get_or (first_axes lens strides position) axis 0
+      ≡ cond (nat_lt (stride_position strides (length lens) axis) position) (get_or lens axis 0) 1
   first_at position axis h = get_or-map-range_with_len
       (λ axis. cond (nat_lt (stride_position strides (length lens) axis) position) (get_or lens axis 0) 1) 0 (length lens) axis axis 0 h
       (omega arith)
@@ -65,7 +66,8 @@ module _ (lens : List ℕ) (strides : List ℤ) where
   first_more position axis h e =
       let longer = set (first_axes lens strides position) axis (get_or lens axis 0) in
       ext_get_or 0 (first_axes lens strides (position + 1)) longer
-      (first_count (position + 1) ∙ sym (length-set (first_axes lens strides position) axis (get_or lens axis 0) ∙ first_count position)) (λ k l.
+      (first_count (position + 1) ∙ sym (length-set (first_axes lens strides position) axis (get_or lens axis 0) ∙ first_count position))
+          (λ k l.
       let in_bounds : k < length lens = omega (arith, first_count (position + 1)) in
       elim (cases_eq k axis) [
         | inl same ↦
@@ -101,7 +103,8 @@ size_before lens strides axis h =
     let n = length lens in
     let chosen = map (λ other. cond (comes_before strides other axis) (get_or lens other 0) 1) (below n) in
     let same : chosen ≡ first_axes lens strides (stride_position strides n axis) =
-    fill_by_all (λ other. cond (nat_lt (stride_position strides n other) (stride_position strides n axis)) (get_or lens other 0) 1) chosen n 0
+    fill_by_all (λ other. cond (nat_lt (stride_position strides n other) (stride_position strides n axis)) (get_or lens other 0) 1)
+        chosen n 0
     (length-map-range_with_len (λ other. cond (comes_before strides other axis) (get_or lens other 0) 1) 0 n) (λ k l.
     get_or-map-range_with_len (λ other. cond (comes_before strides other axis) (get_or lens other 0) 1) 0 n k k 0 l (omega arith)
     ∙ ap (λ b. cond b (get_or lens k 0) 1) (comes_before_by_position strides n k axis l h)) in

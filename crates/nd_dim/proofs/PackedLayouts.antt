@@ -50,7 +50,8 @@ fills_no_axes : (lens : List ℕ) (strides : List ℤ) → Fills (first_axes len
 fills_no_axes lens strides = rw (first_none lens strides) (fills_ones (length lens) strides)
 
 module _ (lens : List ℕ) (strides : List ℤ) (count : length lens ≡ length strides) (some : is_empty lens ≡ false) where
-  fills_from_axis : (position axis : ℕ) → axis < length lens → stride_position strides (length lens) axis ≡ position → IsPackedAt lens strides axis
+  fills_from_axis : (position axis : ℕ) → axis < length lens → stride_position strides (length lens) axis ≡ position
+      → IsPackedAt lens strides axis
       → Fills (first_axes lens strides position) strides → Fills (first_axes lens strides (position + 1)) strides
   fills_from_axis position axis h e packed fills =
       let first = first_axes lens strides position in
@@ -65,7 +66,8 @@ module _ (lens : List ℕ) (strides : List ℤ) (count : length lens ≡ length 
 
   -- one place on, where the axis there is packed
   fills_more : (position : ℕ) → ((axis : ℕ) → axis < length lens → stride_position strides (length lens) axis ≡ position
-      → IsPackedAt lens strides axis) → Fills (first_axes lens strides position) strides → Fills (first_axes lens strides (position + 1)) strides
+      → IsPackedAt lens strides axis) → Fills (first_axes lens strides position) strides
+      → Fills (first_axes lens strides (position + 1)) strides
   fills_more position packed fills = elim (axis_at_position (stride_position strides (length lens)) (length lens) position) [
     | inl found ↦ fills_from_axis position found.0 found.1 found.2 (packed found.0 found.1 found.2) fills
     | inr none ↦ rw (first_same lens strides position none) fills
@@ -135,7 +137,8 @@ module _ {lens : List ℕ} {strides : List ℤ} {position axis : ℕ} (a : IsAtA
       let many : length first ≡ length lens = first_count lens strides position in
       let in_bounds : axis < length first = let l = a.in_bounds in omega arith in
       let grown : size more ≡ size first * get_or lens axis 0 = ap size (first_more lens strides position axis a.in_bounds a.here)
-      ∙ size-set first axis (get_or lens axis 0) in_bounds (first_left lens strides position axis a.in_bounds (let e = a.here in omega arith)) in
+      ∙ size-set first axis (get_or lens axis 0) in_bounds
+      (first_left lens strides position axis a.in_bounds (let e = a.here in omega arith)) in
       let no_more : size more ≤ size lens =
       size_le more lens (sym (first_count lens strides (position + 1))) (λ k l. first_no_longer lens strides (position + 1) k a.some l) in
       let twice : size first * 2 ≤ size first * get_or lens axis 0 = mul-le-mul_left (size first) (let l = a.long in omega arith) in
@@ -180,7 +183,8 @@ module _ {lens : List ℕ} {strides : List ℤ} {position axis : ℕ} (a : IsAtA
 
 module _ (lens : List ℕ) (strides : List ℤ) (count : length lens ≡ length strides) (some : is_empty lens ≡ false) where
   -- so the axis at a place is packed, once those before it are
-  packed_at_position : (position axis : ℕ) → ReachesEach lens strides → Fills (first_axes lens strides position) strides → axis < length lens
+  packed_at_position : (position axis : ℕ) → ReachesEach lens strides → Fills (first_axes lens strides position) strides
+      → axis < length lens
       → stride_position strides (length lens) axis ≡ position → IsPackedAt lens strides axis
   packed_at_position position axis reaches fills in_bounds here = elim (cases_lt 1 (get_or lens axis 0)) [
     | inr short ↦

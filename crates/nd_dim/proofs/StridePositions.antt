@@ -61,7 +61,8 @@ past_all f (suc n) =
     )
 
 -- a number is the place of an axis, or of none
-pub axis_at_position : (f : ℕ → ℕ) (n position : ℕ) → ((axis : ℕ) × (axis < n) × (f axis ≡ position)) ⊎ ((axis : ℕ) → axis < n → f axis ≢ position)
+pub axis_at_position : (f : ℕ → ℕ) (n position : ℕ)
+    → ((axis : ℕ) × (axis < n) × (f axis ≡ position)) ⊎ ((axis : ℕ) → axis < n → f axis ≢ position)
 axis_at_position f zero position = inr (λ axis h. absurd (omega arith))
 axis_at_position f (suc n) position = elim (cases_eq (f n) position) [
   | inl same ↦ inl (n, omega arith, same)

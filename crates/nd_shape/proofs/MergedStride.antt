@@ -1,5 +1,6 @@
 -- Which stride has the coordinates of two axes, and which have one.
-use Rattle.std.proofs.Common.{◌≡◌, ◌≢◌, ℕ, zero, suc, ◌+◌, ◌-◌, ◌*◌, ◌<◌, ◌≤◌, ◌/◌, ◌%◌, ℤ, pos, ◌+ℤ◌, ◌-ℤ◌, ◌*ℤ◌, List, [], ◌∷◌, length, get_or}
+use Rattle.std.proofs.Common.{◌≡◌, ◌≢◌, ℕ, zero, suc, ◌+◌, ◌-◌, ◌*◌, ◌<◌, ◌≤◌, ◌/◌, ◌%◌, ℤ, pos, ◌+ℤ◌, ◌-ℤ◌, ◌*ℤ◌, List, [], ◌∷◌, length}
+use Rattle.std.proofs.Common.{get_or}
 use Rattle.std.proofs.Common.{inl, inr, refl, sym, ap, ◌∙◌, arith, mul-le-mul_left, pos_of_ne-zero, zero-mul}
 use Rattle.std.proofs.Math.Nat.{div-add-mod, div-eq_of_lt, div-one, div_self, mod-eq_of_lt, mod-one, mod_self, mul_comm}
 use Rattle.std.proofs.lemmas.Bool.{cases_eq}
@@ -88,7 +89,8 @@ two_lengths_le (len ∷ lens) (suc axis) (suc other) h g ne =
 -- two axes reach no further than all do together
 pub two_reaches_le : (shape : List ℕ) (strides : List ℤ) (axis other : ℕ) → (axis < length shape) × (other < length shape)
     → length shape ≡ length strides → axis ≢ other
-    → reach (get_or shape axis 0) (get_or strides axis (pos 0)) + reach (get_or shape other 0) (get_or strides other (pos 0)) ≤ span shape strides
+    → reach (get_or shape axis 0) (get_or strides axis (pos 0))
+    + reach (get_or shape other 0) (get_or strides other (pos 0)) ≤ span shape strides
 two_reaches_le [] strides axis other h e ne = absurd (omega (arith, h.0))
 two_reaches_le (len ∷ shape) [] axis other h e ne = absurd (omega arith)
 two_reaches_le (len ∷ shape) (stride ∷ strides) zero zero h e ne = absurd (ne refl)

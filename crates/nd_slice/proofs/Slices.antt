@@ -5,7 +5,8 @@ use Rattle.std.specs.List.{AllPairs}
 use Rattle.std.specs.Prelude.{IfSome, IsSomeAnd, Option, slice_get}
 use Rattle.std.proofs.lemmas.List.{drop_more, drop_all, get_or-map, get_or_default, length-map}
 use Rattle.std.proofs.lemmas.Option.{slice_get-get_or}
-use Rattle.nd_slice.proofs.Definitions.{AreApart, AreInOrder, Fit, Intersect, IntersectAt, IsPast, SliceInfoElem, argument_fault, end_on, position_of}
+use Rattle.nd_slice.proofs.Definitions.{AreApart, AreInOrder, Fit, Intersect, IntersectAt, IsPast, SliceInfoElem, argument_fault, end_on}
+use Rattle.nd_slice.proofs.Definitions.{position_of}
 use Rattle.nd_slice.proofs.Definitions.{slice_at, slices_fault, start_on}
 use Rattle.nd_slice.proofs.laws.Intersect.{intersect_symmetric}
 use Rattle.nd_slice.proofs.laws.SliceFault.{each_fits}
@@ -36,7 +37,8 @@ module _ (fit : Fit) (shape : List ℕ) (slices : List (List SliceInfoElem)) (ba
 
   pub fits_read : (place : ℕ) → slices_fault fit shape slices ≡ None → place < length slices → argument_fault fit shape (at place) ≡ None
   fits_read place none below =
-      each_fits fit shape slices none (position_of backwards (length slices) place) [] (position_below backwards (length slices) place below)
+      each_fits fit shape slices none (position_of backwards (length slices) place) []
+          (position_below backwards (length slices) place below)
 
   -- ---- slices in order, with none of the first count that begins after a number
   pub record SoFar (axis count last : ℕ) : Type 0 where
@@ -91,7 +93,8 @@ module _ (fit : Fit) (shape : List ℕ) (slices : List (List SliceInfoElem)) whe
   -- those at any two positions are apart where each is apart from those that are read after it
   pub all_apart : (backwards : Bool) → ((place later : ℕ) → place < later → later < length slices
       → AreApart fit shape (slice_at slices backwards place) (slice_at slices backwards later)) → AllPairs (AreApart fit shape) slices
-  all_apart backwards apart i j d before below = subst (λ one. AreApart fit shape one (get_or slices j d)) (same i (omega (arith, before, below)))
+  all_apart backwards apart i j d before below =
+      subst (λ one. AreApart fit shape one (get_or slices j d)) (same i (omega (arith, before, below)))
       (subst (AreApart fit shape (get_or slices i [])) (same j below) (by backwards apart))
     where
       same : (k : ℕ) → k < length slices → get_or slices k [] ≡ get_or slices k d

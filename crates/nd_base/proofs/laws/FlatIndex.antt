@@ -1,5 +1,6 @@
 -- Laws of flat indices: the indices of a shape and the numbers below its size stand for one another.
-use Rattle.std.proofs.Common.{◌≡◌, ℕ, zero, suc, ◌+◌, ◌*◌, ◌/◌, ◌%◌, ◌<◌, Some, true, List, [], ◌∷◌, length, get_or, replicate, reverse, refl}
+use Rattle.std.proofs.Common.{◌≡◌, ℕ, zero, suc, ◌+◌, ◌*◌, ◌/◌, ◌%◌, ◌<◌, Some, true, List, [], ◌∷◌, length, get_or, replicate, reverse}
+use Rattle.std.proofs.Common.{refl}
 use Rattle.std.proofs.Common.{sym, ap, ◌∙◌, arith}
 use Rattle.std.specs.List.{slice_get}
 use Rattle.std.specs.Prelude.{nat_lt}
@@ -100,7 +101,8 @@ get_or-indices_in ColumnMajor shape r d h =
 pub slice_get-indices_in : (order : Order) (shape : List ℕ) (r : ℕ) → r < size shape
     → slice_get (indices_in order shape) r ≡ Some (index_of_flat_in order shape r)
 slice_get-indices_in order shape r h =
-    slice_get-get_or (indices_in order shape) r [] (omega (arith, length-indices_in order shape)) ∙ ap Some (get_or-indices_in order shape r [] h)
+    slice_get-get_or (indices_in order shape) r [] (omega (arith, length-indices_in order shape))
+        ∙ ap Some (get_or-indices_in order shape r [] h)
 
 module _ (order : Order) (shape : List ℕ) where
   -- it is an index of the shape

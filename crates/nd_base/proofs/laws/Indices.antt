@@ -64,4 +64,5 @@ AllPairs-indices_in order shape i j d h g e =
 pub indices_more : (i : ℕ) (lens : List ℕ) → indices (suc i ∷ lens) ≡ indices (i ∷ lens) ++ map (λ index. i ∷ index) (indices lens)
 indices_more i lens =
     let row = λ (k : ℕ). map (λ index. k ∷ index) (indices lens) in
-    ap (λ n. flat_map row (below n)) (sym (add-one i)) ∙ ap (flat_map row) (below_more i) ∙ flat_map-append row (below i) (i ∷ []) ∙ rw append-nil refl
+    ap (λ n. flat_map row (below n)) (sym (add-one i)) ∙ ap (flat_map row) (below_more i) ∙ flat_map-append row (below i) (i ∷ [])
+        ∙ rw append-nil refl

@@ -26,11 +26,13 @@ module _ {A : Type 0} (op : A → A → A) (start : A) (turns : (x y z : A) → 
   total (axis ∷ axes) = op (of axis) (total axes)
 
   -- an axis may be taken first
-  total-remove : (axes : List ℕ) (position : ℕ) → position < length axes → total axes ≡ op (of (get_or axes position 0)) (total (remove axes position))
+  total-remove : (axes : List ℕ) (position : ℕ) → position < length axes
+      → total axes ≡ op (of (get_or axes position 0)) (total (remove axes position))
   total-remove [] position in_bounds = absurd (omega arith)
   total-remove (axis ∷ axes) zero in_bounds = refl
   total-remove (axis ∷ axes) (suc position) in_bounds =
-      ap (op (of axis)) (total-remove axes position (omega arith)) ∙ turns (of axis) (of (get_or axes position 0)) (total (remove axes position))
+      ap (op (of axis)) (total-remove axes position (omega arith))
+          ∙ turns (of axis) (of (get_or axes position 0)) (total (remove axes position))
 
   -- a list of other axes than each other, all of which are among as many others, has the total of those
   total_of_members : (xs ys : List ℕ) → AllPairs (λ a b. a ≢ b) xs → length xs ≡ length ys

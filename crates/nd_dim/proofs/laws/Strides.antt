@@ -53,7 +53,8 @@ default_small lens k top h = elim (cases_Bool (is_empty lens)) [
 ]
 
 -- the first axis moves by the size of the others, which have the default strides of their own
-pub default_cons : (len : ℕ) (lens : List ℕ) → is_empty (len ∷ lens) ≡ false → default_strides (len ∷ lens) ≡ size lens ∷ default_strides lens
+pub default_cons : (len : ℕ) (lens : List ℕ) → is_empty (len ∷ lens) ≡ false
+    → default_strides (len ∷ lens) ≡ size lens ∷ default_strides lens
 default_cons len lens some =
     ext_get_or 0 (default_strides (len ∷ lens)) (size lens ∷ default_strides lens)
     (default_count (len ∷ lens) ∙ ap suc (sym (default_count lens))) (λ k h. by k (omega (arith, default_count (len ∷ lens))))

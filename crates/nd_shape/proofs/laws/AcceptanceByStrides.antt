@@ -12,7 +12,8 @@ use Rattle.nd_shape.specs.declared.shape_builder.Strides.{Strides}
 use Rattle.nd_shape.specs.declared.shape_builder.Strides.TheVariants.{C, F, Custom}
 use Rattle.nd_shape.specs.ShapeBuilder.{standard_strides, strides_list}
 use Rattle.nd_shape.specs.NoAlias.{SatisfiesNoAliasRule}
-use Rattle.nd_shape.proofs.laws.StandardStrides.{standard_valid, standard_low_span, standard_in_bounds, standard_distinct, standard_satisfies_rule}
+use Rattle.nd_shape.proofs.laws.StandardStrides.{standard_valid, standard_low_span, standard_in_bounds, standard_distinct}
+use Rattle.nd_shape.proofs.laws.StandardStrides.{standard_satisfies_rule}
 use Rattle.nd_shape.proofs.laws.Acceptance.{accepted_valid, accepted_lies_in_bounds, accepted_distinct}
 
 -- ---- shapes by their own strides

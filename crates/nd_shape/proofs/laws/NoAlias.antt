@@ -23,7 +23,8 @@ reach_up_to_le m len stride =
 
 module _ (shape : List ℕ) (strides : List ℤ) where
   -- an axis that does not stride over the others breaks the rule
-  pub rule_broken : (axis : ℕ) → axis < length shape → strides_over_others shape strides axis ≡ false → satisfies_no_alias_rule shape strides ≡ false
+  pub rule_broken : (axis : ℕ) → axis < length shape → strides_over_others shape strides axis ≡ false
+      → satisfies_no_alias_rule shape strides ≡ false
   rule_broken axis h b =
       false_from_ne_true _ (λ holds. both_ways _ b (passes_below (strides_over_others shape strides) (length shape) holds axis h))
 
@@ -34,7 +35,8 @@ module _ (shape : List ℕ) (strides : List ℤ) where
       grind (arith, nat_tests)
 
   -- the test passes where each axis strides over the others
-  pub rule_satisfied : ((axis : ℕ) → axis < length shape → strides_over_others shape strides axis ≡ true) → satisfies_no_alias_rule shape strides ≡ true
+  pub rule_satisfied : ((axis : ℕ) → axis < length shape → strides_over_others shape strides axis ≡ true)
+      → satisfies_no_alias_rule shape strides ≡ true
   rule_satisfied h = all_below (strides_over_others shape strides) (length shape) h
 
   -- an axis with a stride past what the others reach passes its test
@@ -48,7 +50,8 @@ module _ (shape : List ℕ) (strides : List ℤ) where
 
 -- the test for a shared element, which needs an index and a broken rule, fails exactly where there is no index or the rule holds
 pub no_overlap : (shape : List ℕ) (strides : List ℤ)
-    → (not (is_empty shape) && not (satisfies_no_alias_rule shape strides)) ≡ false ↔ (is_empty shape ≡ true) ⊎ SatisfiesNoAliasRule shape strides
+    → (not (is_empty shape) && not (satisfies_no_alias_rule shape strides)) ≡ false ↔ (is_empty shape ≡ true)
+    ⊎ SatisfiesNoAliasRule shape strides
 no_overlap shape strides =
     let empty = is_empty shape in
     let holds = satisfies_no_alias_rule shape strides in (
@@ -86,7 +89,8 @@ others_back shape strides axis count below =
     (others ∙ ap (λ z. span_up_to (magnitude z) (remove shape axis) (remove strides axis)) stride, ap magnitude stride)
 
 -- where the axes from the back follow the rule, so do the axes
-pub rule_from_back : (shape : List ℕ) (strides : List ℤ) → length shape ≡ length strides → SatisfiesNoAliasRule (reverse shape) (reverse strides)
+pub rule_from_back : (shape : List ℕ) (strides : List ℤ) → length shape ≡ length strides
+    → SatisfiesNoAliasRule (reverse shape) (reverse strides)
     → SatisfiesNoAliasRule shape strides
 rule_from_back shape strides count rule axis below long =
     let same = others_back shape strides axis count below in

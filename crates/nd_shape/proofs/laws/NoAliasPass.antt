@@ -215,7 +215,8 @@ module _ (shape : List ℕ) (strides : List ℤ) (order : List ℕ) where
       (later_short position next pass (omega arith) in_bounds long) in
       rw same (omega (arith, zero_there)) in
       let later = sum_by-le (term_at f shape strides) 0 (drop (position + 1) order) none in
-      omega (arith, pass position l long, others_by_position shape strides order position count p l, mul-zero (length (drop (position + 1) order)))
+      omega (arith, pass position l long, others_by_position shape strides order position count p l,
+          mul-zero (length (drop (position + 1) order)))
 
   -- where a pass along all axes goes through, whatever their order, the rule holds
   pub rule_from_pass : length shape ≡ length strides → IsPermutation (below (length strides)) order → PassHolds 0 shape strides order
@@ -228,12 +229,14 @@ module _ (shape : List ℕ) (strides : List ℤ) (order : List ℕ) where
   pub pass_decides_rule : length shape ≡ length strides → IsStrideOrder strides order
       → holds_in_one_pass shape strides order ≡ satisfies_no_alias_rule shape strides
   pass_decides_rule count h =
-      same_from_decides {P = SatisfiesNoAliasRule shape strides} (holds_in_one_pass shape strides order) (satisfies_no_alias_rule shape strides)
+      same_from_decides {P = SatisfiesNoAliasRule shape strides} (holds_in_one_pass shape strides order)
+          (satisfies_no_alias_rule shape strides)
       (λ pass. rule_from_pass count h.each_once (pass_holds 0 shape strides order pass), pass_from_rule shape strides order count h)
       (rule_holds shape strides, rule_tested shape strides)
 
   -- no pass reaches further than the axes span together
-  pub passed_le_span : (position : ℕ) → length shape ≡ length strides → IsPermutation (below (length strides)) order → position < length order
+  pub passed_le_span : (position : ℕ) → length shape ≡ length strides → IsPermutation (below (length strides)) order
+      → position < length order
       → sum_by (reach_at shape strides) (take position order) + reach_at shape strides (get_or order position 0) ≤ span shape strides
   passed_le_span position count p l =
       let all = sum_in_order reach shape strides order count p in
@@ -244,7 +247,8 @@ module _ (shape : List ℕ) (strides : List ℤ) (order : List ℕ) where
       → 1 < get_or shape (get_or order position 0) 0
       → magnitude_at strides (get_or order position 0) ≤ sum_by (reach_at shape strides) (take position order)
       → ((k : ℕ) → k < position → 1 < get_or shape (get_or order k 0) 0
-      → magnitude_at strides (get_or order k 0) ≤ magnitude_at strides (get_or order position 0)) → satisfies_no_alias_rule shape strides ≡ false
+      → magnitude_at strides (get_or order k 0) ≤ magnitude_at strides (get_or order position 0))
+      → satisfies_no_alias_rule shape strides ≡ false
   pass_stops position count p l long upto rising =
       let axis = get_or order position 0 in
       let in_bounds : axis < length shape = omega (arith, axis_at (length strides) order position p l) in

@@ -91,7 +91,8 @@ intersects_after {one = one} {other = other} {last = last} ahead room at begins 
       let far = magnitude (number -ℤ other.0) in
       let e : number ≡ other.0 +ℤ pos far = far_after other.0 number intersects.2.not_before in
       let below : number ≤ℤ last = at.is_last number intersects.1.not_after intersects.2.not_after in
-      (far, omega (arith, ints, e, below, ends), in_to far e intersects.2, in_to (far + ahead) (omega (arith, ints, e, begins)) intersects.1),
+      (far, omega (arith, ints, e, below, ends), in_to far e intersects.2,
+          in_to (far + ahead) (omega (arith, ints, e, begins)) intersects.1),
 )
 
 -- both ends of what two lists may share, by the code's words
@@ -136,7 +137,8 @@ module _ {one other : ℤ × ℤ × ℤ} {first last : ℤ} {ahead room : ℕ} (
       )
 
 -- where one list ends before the other begins they share none
-pub intersects_none : {one other : ℤ × ℤ × ℤ} {first last : ℤ} → IsShared one other first last → last <ℤ first → SequencesIntersect one other → ⊥
+pub intersects_none : {one other : ℤ × ℤ × ℤ} {first last : ℤ} → IsShared one other first last → last <ℤ first
+    → SequencesIntersect one other → ⊥
 intersects_none at order intersects =
     omega (
       arith,

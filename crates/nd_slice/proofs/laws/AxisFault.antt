@@ -43,7 +43,8 @@ coordinate_is false none = absurd (cc)
 pub index_fits_of_no_fault : (len : ℕ) (index : ℤ) → index_fault len index ≡ None → IndexFits len index
 index_fits_of_no_fault len index none = coordinate_is (is_coordinate len (meaning len index)) none
 
-coordinate_at : (len : ℕ) (coordinate : ℤ) → IsTrue (is_coordinate len coordinate) → (coordinate ≡ pos (magnitude coordinate)) × (magnitude coordinate < len)
+coordinate_at : (len : ℕ) (coordinate : ℤ) → IsTrue (is_coordinate len coordinate)
+    → (coordinate ≡ pos (magnitude coordinate)) × (magnitude coordinate < len)
 coordinate_at len (pos coordinate) is = (refl, ltb-true coordinate len is)
 coordinate_at len (negsuc coordinate) is = absurd (cc)
 

@@ -44,7 +44,8 @@ module _ (k start end : ℕ) where
       let count : length coordinates ≡ end - start = length-range_with_len start (end - start) in
       let at : get_or (between (negsuc k) start end) j 0 ≡ get_or (reverse coordinates) (j * suc k) 0 =
       get-every (suc k) (reverse coordinates) j p in
-      let turned : get_or (reverse coordinates) (j * suc k) 0 ≡ get_or coordinates place 0 = get_or-reverse coordinates (j * suc k) 0 (omega arith) in
+      let turned : get_or (reverse coordinates) (j * suc k) 0 ≡ get_or coordinates place 0 =
+          get_or-reverse coordinates (j * suc k) 0 (omega arith) in
       let item : get_or coordinates place 0 ≡ start + place = get_or-range_with_len start (end - start) place 0 (omega arith) in
       omega arith
 

@@ -53,7 +53,8 @@ to_axes [] (xs ∷ one) (ys ∷ other) (i ∷ index, is, p, q) = absurd (cc)
 to_axes (len ∷ shape) (xs ∷ one) (ys ∷ other) (i ∷ index, is, p, q) =
     ((i, p.0, q.0), to_axes shape one other (index, (and_parts (nat_lt i len) (is_index shape index) is).1, p.1, q.1))
 
-from_axes : (shape : List ℕ) (one other : List (List ℕ)) → AreInBounds shape one → AllZip PicksIntersect one other → ShareIndex shape one other
+from_axes : (shape : List ℕ) (one other : List (List ℕ)) → AreInBounds shape one → AllZip PicksIntersect one other
+    → ShareIndex shape one other
 from_axes [] [] [] within share = ([], refl, tt, tt)
 from_axes (len ∷ shape) [] other within share = absurd within
 from_axes [] (xs ∷ one) other within share = absurd within
@@ -78,7 +79,8 @@ intersect_by_axis fit shape one other none =
     )
 
 -- the order of two arguments does not matter
-pub intersect_symmetric : (fit : Fit) (shape : List ℕ) (one other : List SliceInfoElem) → Intersect fit shape one other → Intersect fit shape other one
+pub intersect_symmetric : (fit : Fit) (shape : List ℕ) (one other : List SliceInfoElem) → Intersect fit shape one other
+    → Intersect fit shape other one
 intersect_symmetric fit shape one other intersect = (intersect.0, intersect.1, intersect.3, intersect.2)
 
 -- with no axes two arguments intersect

@@ -4,7 +4,8 @@ use Rattle.std.proofs.Common.{sym, ◌∙◌, arith, Contains}
 use Rattle.std.specs.List.{AllZip}
 use Rattle.std.proofs.lemmas.List.{length-map}
 use Rattle.nd_base.proofs.laws.Options.{option_or_none}
-use Rattle.nd_slice.proofs.Definitions.{Fit, Intersect, IsPast, SliceInfoElem, argument_fault, axis_elems, axis_picks, elem_fault, elem_on, elem_picks}
+use Rattle.nd_slice.proofs.Definitions.{Fit, Intersect, IsPast, SliceInfoElem, argument_fault, axis_elems, axis_picks, elem_fault, elem_on}
+use Rattle.nd_slice.proofs.Definitions.{elem_picks}
 use Rattle.nd_slice.proofs.Definitions.{end_meaning, end_on, fault_of_each, in_count, magnitude, slice_with, start_meaning, start_on}
 use Rattle.nd_slice.specs.ElemRange.{elem_end, elem_start}
 use Rattle.nd_slice.specs.declared.elem.SliceInfoElem.TheVariants as elem

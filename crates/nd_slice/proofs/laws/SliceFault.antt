@@ -1,5 +1,6 @@
 -- What no fault of a slice argument means: an element for each axis, of which each fits.
-use Rattle.std.proofs.Common.{true, false, refl, ◌≡◌, ℕ, zero, suc, ℤ, Bool, ◌==◌, if◌then◌else◌, Option, Some, None, List, [], ◌∷◌, length, arith}
+use Rattle.std.proofs.Common.{true, false, refl, ◌≡◌, ℕ, zero, suc, ℤ, Bool, ◌==◌, if◌then◌else◌, Option, Some, None, List, [], ◌∷◌, length}
+use Rattle.std.proofs.Common.{arith}
 use Rattle.std.specs.List.{All}
 use Rattle.std.specs.Prelude.{IsSomeAnd, slice_get}
 use Rattle.std.proofs.lemmas.List.Elements.{All-cons}

@@ -15,7 +15,8 @@ returns-then-magnitude_at-size_before c =
     or_from _ _ (ne_eqb (get_or lens k 0) 1 c.if-len-ne1.true)
     (ne_eqb (magnitude_at strides k) (size (lens_before lens strides k))
     (λ e. c.if-magnitude_at-size_before.true (c.magnitude_at.ensures ∙ e ∙ sym c.size_before.ensures))) in
-    sym (false_from_ne_true _ (λ all. both_ways _ fails (passes_below (is_packed_at lens strides) (length lens) all k c.loop-axis-test.true)))
+    sym (false_from_ne_true _
+        (λ all. both_ways _ fails (passes_below (is_packed_at lens strides) (length lens) all k c.loop-axis-test.true)))
 
 pub returns : goal.returns
 returns c =

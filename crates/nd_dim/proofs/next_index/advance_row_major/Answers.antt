@@ -44,5 +44,6 @@ returns-clause-next c =
     let shape = c.args.shape.now in
     let old = c.args.index.now in
     let new = c.advance.new.index.0.now in
-    subst (λ xs. xs ≡ cond c.advance.result (index_of_flat shape (flat_index shape old + 1)) (replicate (length shape) 0)) (sym (search rules))
+    subst (λ xs. xs ≡ cond c.advance.result (index_of_flat shape (flat_index shape old + 1)) (replicate (length shape) 0))
+        (sym (search rules))
     (next-back shape old new c.advance.result c.advance.ensures.next)

@@ -11,7 +11,8 @@ pub returns-clause-valid : goal.returns-clause-valid
 returns-clause-valid g c order = standard_accepted_valid order c.args.len (g.D.Lengths.list c.args.dim.now) (sym (returns-clause-fault g c))
 
 pub returns-clause-in_bounds : goal.returns-clause-in_bounds
-returns-clause-in_bounds g c order = standard_accepted_in_bounds order c.args.len (g.D.Lengths.list c.args.dim.now) (sym (returns-clause-fault g c))
+returns-clause-in_bounds g c order =
+    standard_accepted_in_bounds order c.args.len (g.D.Lengths.list c.args.dim.now) (sym (returns-clause-fault g c))
 
 pub returns-clause-rule : goal.returns-clause-rule
 returns-clause-rule g c some order =

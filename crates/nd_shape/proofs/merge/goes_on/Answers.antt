@@ -1,5 +1,6 @@
 -- Both sides fit, so their bits are equal where they are.
-use Rattle.std.proofs.Common.{rules, ◌≡◌, ℕ, ◌+◌, ◌-◌, ◌*◌, ◌≤◌, ℤ, pos, negsuc, ◌-ℤ◌, FitsSigned, mul-le-mul_right, IsTrue, nat_eq, to_z, of_z, w64, ap, arith, refl, sym, ◌∙◌}
+use Rattle.std.proofs.Common.{rules, ◌≡◌, ℕ, ◌+◌, ◌-◌, ◌*◌, ◌≤◌, ℤ, pos, negsuc, ◌-ℤ◌, FitsSigned, mul-le-mul_right, IsTrue, nat_eq, to_z}
+use Rattle.std.proofs.Common.{of_z, w64, ap, arith, refl, sym, ◌∙◌}
 use Rattle.std.proofs.lemmas.Int.{ints, to_z-of_z}
 use Rattle.nd_base.specs.Signed.{magnitude, signed}
 use Rattle.nd_base.specs.Size.{limit}

@@ -6,7 +6,8 @@ use Rattle.nd_base.specs.Span.{reach}
 use Rattle.nd_base.proofs.laws.NonzeroSize.{length_le_nonzero_size}
 use Rattle.nd_shape.proofs.MergedStride.{short_taken, into_short, steps_on, steps_on_from_fit, two_lengths_le, two_reaches_le}
 use Rattle.nd_shape.proofs.merge.merge_fitting.Goals as goal
-use Rattle.nd_shape.proofs.merge.merge_fitting.Goals.{then-take_len-gt1+then-into_len-le1, then-take_len-gt1+else-into_len-le1+else-not-goes_on, else-take_len-gt1}
+use Rattle.nd_shape.proofs.merge.merge_fitting.Goals.{then-take_len-gt1+then-into_len-le1}
+use Rattle.nd_shape.proofs.merge.merge_fitting.Goals.{then-take_len-gt1+else-into_len-le1+else-not-goes_on, else-take_len-gt1}
 
 pub goes_on-requires-clause-small : goal.goes_on-requires-clause-small
 goes_on-requires-clause-small c =
@@ -21,7 +22,8 @@ goes_on-requires-clause-fits c =
     get_or-map signed strides c.args.take 0 (pos 0) (omega (arith, c.requires.take, count, length-map strides signed)) in
     let kept : get_or (all_signed strides) c.args.into (pos 0) ≡ signed (get_or strides c.args.into 0) =
     get_or-map signed strides c.args.into 0 (pos 0) (omega (arith, c.requires.into, count, length-map strides signed)) in
-    let far : 1 * magnitude (signed (get_or strides c.args.take 0)) ≤ (get_or shape c.args.take 0 - 1) * magnitude (signed (get_or strides c.args.take 0)) =
+    let far : 1 * magnitude (signed (get_or strides c.args.take 0))
+        ≤ (get_or shape c.args.take 0 - 1) * magnitude (signed (get_or strides c.args.take 0)) =
     mul-le-mul_right (magnitude (signed (get_or strides c.args.take 0))) (omega arith) in
     omega (
       arith,
@@ -64,7 +66,8 @@ returns-clause-serves c =
     let lies : c.args.into < length strides = omega (arith, c.requires.valid.same_count, length-map strides signed, c.requires.into) in
     elim c.if-take_len-gt1.branch [
       | then-take_len-gt1+then-into_len-le1 w ↦
-          let written = ap (λ l. get_or l c.args.into 0) w.strides-is ∙ get_or-set_same strides c.args.into (get_or strides c.args.take 0) 0 lies in
+          let written = ap (λ l. get_or l c.args.into 0) w.strides-is
+              ∙ get_or-set_same strides c.args.into (get_or strides c.args.take 0) 0 lies in
           rw written (into_short take_len take_stride into_len into_stride (omega (arith, w.if-into_len-le1.true)))
       | then-take_len-gt1+else-into_len-le1+else-not-goes_on w ↦
           rw w.strides-is (steps_on take_len take_stride into_len into_stride (w.goes_on.ensures.0 w.if-not-goes_on.false))

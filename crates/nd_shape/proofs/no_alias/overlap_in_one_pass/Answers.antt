@@ -18,7 +18,8 @@ use Rattle.nd_shape.proofs.laws.NoAlias.{rule_tested}
 use Rattle.nd_shape.proofs.laws.NoAliasPass.{PassHolds, pass_stops, passed_le_span, reaches, reaches_nowhere, rule_from_pass}
 use Rattle.nd_shape.proofs.no_alias.overlap_in_one_pass.Given.{Over}
 use Rattle.nd_shape.proofs.no_alias.overlap_in_one_pass.Goals as goal
-use Rattle.nd_shape.proofs.no_alias.overlap_in_one_pass.Goals.{After-unsigned_abs-magnitude, then-len-gt1+else-magnitude-reached, else-len-gt1}
+use Rattle.nd_shape.proofs.no_alias.overlap_in_one_pass.Goals.{After-unsigned_abs-magnitude, then-len-gt1+else-magnitude-reached}
+use Rattle.nd_shape.proofs.no_alias.overlap_in_one_pass.Goals.{else-len-gt1}
 
 -- the pass has each axis once
 each_once : (shape strides : List ℕ) → length shape ≡ length strides

@@ -32,4 +32,5 @@ loop-slice-preserved g c =
 pub returns : goal.returns
 returns g c =
     sym (c.loop-slice.invariant
-    ∙ ap (slices_fault c.args.fit c.args.shape.now) (ended g.S.SliceElems.list c.args.slices.now c.loop-slice.slice-index c.loop-slice-test.false))
+    ∙ ap (slices_fault c.args.fit c.args.shape.now)
+    (ended g.S.SliceElems.list c.args.slices.now c.loop-slice.slice-index c.loop-slice-test.false))

@@ -4,4 +4,5 @@ use Rattle.nd_slice.proofs.Definitions.{slices_fault}
 use Rattle.nd_slice.proofs.intersections.check_slices.Given as goal
 
 abbrev pub invariant-loop-slice : goal.invariant-loop-slice
-invariant-loop-slice g l = slices_fault l.fit l.shape (map g.S.SliceElems.list l.slices) ≡ slices_fault l.fit l.shape (drop l.slice-index (map g.S.SliceElems.list l.slices))
+invariant-loop-slice g l = slices_fault l.fit l.shape (map g.S.SliceElems.list l.slices)
+    ≡ slices_fault l.fit l.shape (drop l.slice-index (map g.S.SliceElems.list l.slices))

@@ -12,13 +12,17 @@ use Rattle.nd_slice.proofs.ranges_apart.range_on.Goals.{After-range_of}
 abbrev nothing : SliceInfoElem
 nothing = elem.Slice (pos 0) None (pos 0)
 
-here : (c : After-range_of) → (get_or c.args.shape.now c.args.axis 0, get_or c.args.slice.now c.args.axis nothing) ≡ elem_on c.args.shape.now c.args.axis c.args.slice.now
+here : (c : After-range_of)
+    → (get_or c.args.shape.now c.args.axis 0, get_or c.args.slice.now c.args.axis nothing)
+    ≡ elem_on c.args.shape.now c.args.axis c.args.slice.now
 here c =
     let parts = elements_of_no_fault c.args.fit c.args.shape.now c.args.slice.now c.requires.fits in
-    sym (elem_on-at nothing c.args.shape.now c.args.slice.now c.args.axis (parts.0 ∙ sym c.if-slice-shape.false) c.if-slice-shape.false c.if-axis-shape.false)
+    sym (elem_on-at nothing c.args.shape.now c.args.slice.now c.args.axis
+        (parts.0 ∙ sym c.if-slice-shape.false) c.if-slice-shape.false c.if-axis-shape.false)
 
 pub returns-clause-start : goal.returns-clause-start
-returns-clause-start c = subst (λ one. IfSome c.range_of.result (λ x. x.0 ≡ elem_start c.args.fit one.0 one.1)) (here c) c.range_of.ensures.start
+returns-clause-start c =
+    subst (λ one. IfSome c.range_of.result (λ x. x.0 ≡ elem_start c.args.fit one.0 one.1)) (here c) c.range_of.ensures.start
 
 pub returns-clause-end : goal.returns-clause-end
 returns-clause-end c = subst (λ one. IfSome c.range_of.result (λ x. x.1 ≡ elem_end c.args.fit one.0 one.1)) (here c) c.range_of.ensures.end

@@ -2,7 +2,8 @@ use Rattle.std.proofs.Common.{◌≡◌, ◌%◌, arith, refl}
 use Rattle.nd_slice.proofs.intersect_lemmas.Sequences.{intersects_at_zero, intersects_first, intersects_by_least, intersects_by_none}
 use Rattle.nd_slice.proofs.intersect.sequence.intersects_within.Goals as goal
 use Rattle.nd_slice.proofs.intersect.sequence.intersects_within.Goals.{then-first_step-eq1-via-then-first_step-eq1}
-use Rattle.nd_slice.proofs.intersect.sequence.intersects_within.Goals.{then-first_step-eq1-via-else-first_step-eq1+then-ahead-first_step-eq0}
+use Rattle.nd_slice.proofs.intersect.sequence.intersects_within.Goals.{
+    then-first_step-eq1-via-else-first_step-eq1+then-ahead-first_step-eq0}
 
 pub returns-then-first_step-eq1 : goal.returns-then-first_step-eq1
 returns-then-first_step-eq1 c =
@@ -16,7 +17,8 @@ pub returns-then-room-second_step : goal.returns-then-room-second_step
 returns-then-room-second_step c = (
   λ is. absurd (cc),
   λ intersects.
-      let divides = intersects_at_zero c.args.ahead c.args.first_step c.args.second_step c.args.room c.if-room-second_step.true intersects in
+      let divides = intersects_at_zero c.args.ahead c.args.first_step c.args.second_step c.args.room c.if-room-second_step.true
+          intersects in
       absurd (c.if-ahead-first_step-eq0.false divides),
 )
 
