@@ -67,7 +67,7 @@ module _ (lens : List ℕ) (strides : List ℤ) where
       let longer = set (first_axes lens strides position) axis (get_or lens axis 0) in
       ext_get_or 0 (first_axes lens strides (position + 1)) longer
       (first_count (position + 1) ∙ sym (length-set (first_axes lens strides position) axis (get_or lens axis 0) ∙ first_count position))
-          (λ k l.
+      (λ k l.
       let in_bounds : k < length lens = omega (arith, first_count (position + 1)) in
       elim (cases_eq k axis) [
         | inl same ↦
@@ -104,7 +104,7 @@ size_before lens strides axis h =
     let chosen = map (λ other. cond (comes_before strides other axis) (get_or lens other 0) 1) (below n) in
     let same : chosen ≡ first_axes lens strides (stride_position strides n axis) =
     fill_by_all (λ other. cond (nat_lt (stride_position strides n other) (stride_position strides n axis)) (get_or lens other 0) 1)
-        chosen n 0
+    chosen n 0
     (length-map-range_with_len (λ other. cond (comes_before strides other axis) (get_or lens other 0) 1) 0 n) (λ k l.
     get_or-map-range_with_len (λ other. cond (comes_before strides other axis) (get_or lens other 0) 1) 0 n k k 0 l (omega arith)
     ∙ ap (λ b. cond b (get_or lens k 0) 1) (comes_before_by_position strides n k axis l h)) in

@@ -38,7 +38,7 @@ module _ (fit : Fit) (shape : List ℕ) (slices : List (List SliceInfoElem)) (ba
   pub fits_read : (place : ℕ) → slices_fault fit shape slices ≡ None → place < length slices → argument_fault fit shape (at place) ≡ None
   fits_read place none below =
       each_fits fit shape slices none (position_of backwards (length slices) place) []
-          (position_below backwards (length slices) place below)
+      (position_below backwards (length slices) place below)
 
   -- ---- slices in order, with none of the first count that begins after a number
   pub record SoFar (axis count last : ℕ) : Type 0 where

@@ -50,7 +50,8 @@ new_axis_for_none = refl
 
 other_coordinates : Intersect Strict (2 ∷ []) (elem.Index (pos 0) ∷ []) (elem.Index (pos 1) ∷ []) → ⊥
 other_coordinates ([], is, one, other) = one
-other_coordinates (i ∷ index, is, ((zero, below, at), one), ((zero, under, same), other)) = both_ways (nat_eq 0 1) refl (eq-eqb 0 1 (at ∙ sym same))
+other_coordinates (i ∷ index, is, ((zero, below, at), one), ((zero, under, same), other)) =
+    both_ways (nat_eq 0 1) refl (eq-eqb 0 1 (at ∙ sym same))
 other_coordinates (i ∷ index, is, ((zero, below, at), one), ((suc k, under, same), other)) = not-suc-le-zero (le_of_suc-le-suc under)
 other_coordinates (i ∷ index, is, ((suc k, below, at), one), other) = not-suc-le-zero (le_of_suc-le-suc below)
 

@@ -25,7 +25,8 @@ AreApart fit shape one other = Intersect fit shape one other → ⊥
 
 -- the arguments at two positions of a list, i before j, share an index
 abbrev pub IntersectAt : Fit → List ℕ → List (List SliceInfoElem) → ℕ → ℕ → Type 0
-IntersectAt fit shape slices i j = (i < j) × IsSomeAnd (slice_get slices i) (λ one. IsSomeAnd (slice_get slices j) (Intersect fit shape one))
+IntersectAt fit shape slices i j = (i < j)
+    × IsSomeAnd (slice_get slices i) (λ one. IsSomeAnd (slice_get slices j) (Intersect fit shape one))
 
 -- some two of a list do
 abbrev pub SomeIntersect : Fit → List ℕ → List (List SliceInfoElem) → Type 0
@@ -46,7 +47,8 @@ second = elem.NewAxis ∷ elem.Index (pos 1) ∷ []
 abbrev whole : List SliceInfoElem
 whole = elem.Slice (pos 0) None (pos 1) ∷ []
 
-first_fault : slices_fault Strict (2 ∷ []) (first ∷ (elem.Index (pos 2) ∷ []) ∷ (elem.Slice (pos 0) None (pos 0) ∷ []) ∷ []) ≡ Some OutOfBounds
+first_fault : slices_fault Strict (2 ∷ []) (first ∷ (elem.Index (pos 2) ∷ []) ∷ (elem.Slice (pos 0) None (pos 0) ∷ []) ∷ [])
+    ≡ Some OutOfBounds
 first_fault = refl
 
 no_fault : slices_fault Strict (2 ∷ []) (first ∷ second ∷ []) ≡ None

@@ -55,6 +55,7 @@ clamped_offset = refl
 row_with_new_axis : sliced_shape Strict (elem.Index (pos 1) ∷ elem.NewAxis ∷ elem.Slice (pos 0) None (pos 1) ∷ []) (2 ∷ 3 ∷ []) ≡ 1 ∷ 3 ∷ []
 row_with_new_axis = refl
 
-row_with_new_axis_strides : sliced_strides Strict (elem.Index (pos 1) ∷ elem.NewAxis ∷ elem.Slice (pos 0) None (pos 1) ∷ []) (2 ∷ 3 ∷ []) (pos 3 ∷ pos 1 ∷ [])
+row_with_new_axis_strides : sliced_strides Strict (elem.Index (pos 1) ∷ elem.NewAxis ∷ elem.Slice (pos 0) None (pos 1) ∷ []) (2 ∷ 3 ∷ [])
+    (pos 3 ∷ pos 1 ∷ [])
     ≡ pos 0 ∷ pos 1 ∷ []
 row_with_new_axis_strides = refl

@@ -102,7 +102,7 @@ pub slice_get-indices_in : (order : Order) (shape : List ℕ) (r : ℕ) → r < 
     → slice_get (indices_in order shape) r ≡ Some (index_of_flat_in order shape r)
 slice_get-indices_in order shape r h =
     slice_get-get_or (indices_in order shape) r [] (omega (arith, length-indices_in order shape))
-        ∙ ap Some (get_or-indices_in order shape r [] h)
+    ∙ ap Some (get_or-indices_in order shape r [] h)
 
 module _ (order : Order) (shape : List ℕ) where
   -- it is an index of the shape

@@ -95,7 +95,7 @@ is_index-last (len ∷ shape) h =
     let parts = or_parts (eqb len 0) (is_empty shape) h in
     let some : 0 < len = pos_of_ne-zero (eqb-false len 0 parts.0) in
     and_from (nat_lt (len - 1) len) (is_index shape (last_coordinates shape)) (lt-ltb (len - 1) len (omega arith))
-        (is_index-last shape parts.1)
+    (is_index-last shape parts.1)
 
 module _ (shape : List ℕ) (strides : List ℤ) where
   -- where an index lies so far whatever the signs, the turned one lies as far above the least offset

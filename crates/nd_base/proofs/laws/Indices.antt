@@ -65,4 +65,4 @@ pub indices_more : (i : ℕ) (lens : List ℕ) → indices (suc i ∷ lens) ≡ 
 indices_more i lens =
     let row = λ (k : ℕ). map (λ index. k ∷ index) (indices lens) in
     ap (λ n. flat_map row (below n)) (sym (add-one i)) ∙ ap (flat_map row) (below_more i) ∙ flat_map-append row (below i) (i ∷ [])
-        ∙ rw append-nil refl
+    ∙ rw append-nil refl

@@ -32,7 +32,7 @@ module _ {A : Type 0} (op : A → A → A) (start : A) (turns : (x y z : A) → 
   total-remove (axis ∷ axes) zero in_bounds = refl
   total-remove (axis ∷ axes) (suc position) in_bounds =
       ap (op (of axis)) (total-remove axes position (omega arith))
-          ∙ turns (of axis) (of (get_or axes position 0)) (total (remove axes position))
+      ∙ turns (of axis) (of (get_or axes position 0)) (total (remove axes position))
 
   -- a list of other axes than each other, all of which are among as many others, has the total of those
   total_of_members : (xs ys : List ℕ) → AllPairs (λ a b. a ≢ b) xs → length xs ≡ length ys

@@ -23,7 +23,7 @@ module _ (m : ℕ) (strides : List ℤ) (index other : List ℕ) where
   rest_differs axis h e f d k l ne = elim (cases_lt k axis) [
     | inl before ↦ rw (get_or-remove_below strides axis (pos 0) k before h) (d k (omega arith) (λ same.
         ne (get_or-remove_below index axis 0 k before (omega arith) ∙ same
-            ∙ sym (get_or-remove_below other axis 0 k before (omega arith)))))
+        ∙ sym (get_or-remove_below other axis 0 k before (omega arith)))))
     | inr after ↦ rw (get_or-remove_above strides axis (pos 0) k after h) (d (k + 1) (omega (arith, length-remove strides axis h)) (λ same.
         ne (get_or-remove_above index axis 0 k after (omega arith) ∙ same ∙ sym (get_or-remove_above other axis 0 k after (omega arith)))))
   ]
@@ -178,7 +178,7 @@ module _ (shape : List ℕ) (strides : List ℤ) where
       let up : here ≤ℤ (there +ℤ pos n) = offsets_apart m rest moves one two first second short in
       let down : there ≤ℤ (here +ℤ pos n) = offsets_apart m rest moves two one second first (λ k l ne. short k l (λ e. ne (sym e))) in
       let sums : (pos i *ℤ stride) +ℤ here ≡ (pos j *ℤ stride) +ℤ there = sym (offset_and_others strides index axis exists coordinates)
-          ∙ same
+      ∙ same
       ∙ offset_and_others strides other axis exists others in
       elim (cases_order i j) [
         | inl equal ↦ found.differs equal

@@ -215,8 +215,12 @@ module _ (shape : List ℕ) (strides : List ℤ) (order : List ℕ) where
       (later_short position next pass (omega arith) in_bounds long) in
       rw same (omega (arith, zero_there)) in
       let later = sum_by-le (term_at f shape strides) 0 (drop (position + 1) order) none in
-      omega (arith, pass position l long, others_by_position shape strides order position count p l,
-          mul-zero (length (drop (position + 1) order)))
+      omega (
+        arith,
+        pass position l long,
+        others_by_position shape strides order position count p l,
+        mul-zero (length (drop (position + 1) order)),
+      )
 
   -- where a pass along all axes goes through, whatever their order, the rule holds
   pub rule_from_pass : length shape ≡ length strides → IsPermutation (below (length strides)) order → PassHolds 0 shape strides order
@@ -230,7 +234,7 @@ module _ (shape : List ℕ) (strides : List ℤ) (order : List ℕ) where
       → holds_in_one_pass shape strides order ≡ satisfies_no_alias_rule shape strides
   pass_decides_rule count h =
       same_from_decides {P = SatisfiesNoAliasRule shape strides} (holds_in_one_pass shape strides order)
-          (satisfies_no_alias_rule shape strides)
+      (satisfies_no_alias_rule shape strides)
       (λ pass. rule_from_pass count h.each_once (pass_holds 0 shape strides order pass), pass_from_rule shape strides order count h)
       (rule_holds shape strides, rule_tested shape strides)
 

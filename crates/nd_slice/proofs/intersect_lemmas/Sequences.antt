@@ -90,9 +90,12 @@ intersects_after {one = one} {other = other} {last = last} ahead room at begins 
       let number = intersects.0 in
       let far = magnitude (number -ℤ other.0) in
       let e : number ≡ other.0 +ℤ pos far = far_after other.0 number intersects.2.not_before in
-      let below : number ≤ℤ last = at.is_last number intersects.1.not_after intersects.2.not_after in
-      (far, omega (arith, ints, e, below, ends), in_to far e intersects.2,
-          in_to (far + ahead) (omega (arith, ints, e, begins)) intersects.1),
+      let below : number ≤ℤ last = at.is_last number intersects.1.not_after intersects.2.not_after in (
+        far,
+        omega (arith, ints, e, below, ends),
+        in_to far e intersects.2,
+        in_to (far + ahead) (omega (arith, ints, e, begins)) intersects.1,
+      ),
 )
 
 -- both ends of what two lists may share, by the code's words

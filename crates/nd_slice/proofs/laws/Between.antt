@@ -45,7 +45,7 @@ module _ (k start end : ℕ) where
       let at : get_or (between (negsuc k) start end) j 0 ≡ get_or (reverse coordinates) (j * suc k) 0 =
       get-every (suc k) (reverse coordinates) j p in
       let turned : get_or (reverse coordinates) (j * suc k) 0 ≡ get_or coordinates place 0 =
-          get_or-reverse coordinates (j * suc k) 0 (omega arith) in
+      get_or-reverse coordinates (j * suc k) 0 (omega arith) in
       let item : get_or coordinates place 0 ≡ start + place = get_or-range_with_len start (end - start) place 0 (omega arith) in
       omega arith
 

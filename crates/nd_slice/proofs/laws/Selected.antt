@@ -50,7 +50,7 @@ module _ (fit : Fit) where
       let fits = index_of_no_fault fit len shape i elems none in
       let coordinate = magnitude (meaning len i) in
       and_from (nat_lt coordinate len) (is_index shape (selected fit elems shape index))
-          (lt-ltb coordinate len (coordinate_below len i fits.0).1)
+      (lt-ltb coordinate len (coordinate_below len i fits.0).1)
       (coordinates elems shape index (omega arith) fits.1 here)
 
   -- an index of the slice stands for an index of the old shape

@@ -16,7 +16,7 @@ returns-then-magnitude_at-size_before c =
     (ne_eqb (magnitude_at strides k) (size (lens_before lens strides k))
     (λ e. c.if-magnitude_at-size_before.true (c.magnitude_at.ensures ∙ e ∙ sym c.size_before.ensures))) in
     sym (false_from_ne_true _
-        (λ all. both_ways _ fails (passes_below (is_packed_at lens strides) (length lens) all k c.loop-axis-test.true)))
+    (λ all. both_ways _ fails (passes_below (is_packed_at lens strides) (length lens) all k c.loop-axis-test.true)))
 
 pub returns : goal.returns
 returns c =

@@ -45,5 +45,5 @@ returns-clause-next c =
     let old = c.args.index.now in
     let new = c.advance.new.index.0.now in
     subst (λ xs. xs ≡ cond c.advance.result (index_of_flat shape (flat_index shape old + 1)) (replicate (length shape) 0))
-        (sym (search rules))
+    (sym (search rules))
     (next-back shape old new c.advance.result c.advance.ensures.next)

@@ -23,7 +23,7 @@ goes_on-requires-clause-fits c =
     let kept : get_or (all_signed strides) c.args.into (pos 0) ≡ signed (get_or strides c.args.into 0) =
     get_or-map signed strides c.args.into 0 (pos 0) (omega (arith, c.requires.into, count, length-map strides signed)) in
     let far : 1 * magnitude (signed (get_or strides c.args.take 0))
-        ≤ (get_or shape c.args.take 0 - 1) * magnitude (signed (get_or strides c.args.take 0)) =
+    ≤ (get_or shape c.args.take 0 - 1) * magnitude (signed (get_or strides c.args.take 0)) =
     mul-le-mul_right (magnitude (signed (get_or strides c.args.take 0))) (omega arith) in
     omega (
       arith,
@@ -67,7 +67,7 @@ returns-clause-serves c =
     elim c.if-take_len-gt1.branch [
       | then-take_len-gt1+then-into_len-le1 w ↦
           let written = ap (λ l. get_or l c.args.into 0) w.strides-is
-              ∙ get_or-set_same strides c.args.into (get_or strides c.args.take 0) 0 lies in
+          ∙ get_or-set_same strides c.args.into (get_or strides c.args.take 0) 0 lies in
           rw written (into_short take_len take_stride into_len into_stride (omega (arith, w.if-into_len-le1.true)))
       | then-take_len-gt1+else-into_len-le1+else-not-goes_on w ↦
           rw w.strides-is (steps_on take_len take_stride into_len into_stride (w.goes_on.ensures.0 w.if-not-goes_on.false))

@@ -17,7 +17,7 @@ returns-then-overlaps_others c =
     let shape = c.args.shape.now in
     let strides = all_signed c.args.strides.now in
     let broken = not-true (strides_over_others shape strides c.loop-axis.axis)
-        (sym c.overlaps_others.ensures ∙ c.if-overlaps_others.true) in
+    (sym c.overlaps_others.ensures ∙ c.if-overlaps_others.true) in
     let rule = rule_broken shape strides c.loop-axis.axis (omega arith) broken in
     sym (not_from_false (satisfies_no_alias_rule shape strides) rule)
 

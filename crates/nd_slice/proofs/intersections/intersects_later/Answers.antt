@@ -21,7 +21,7 @@ returns-then-begins_past-clause-none g c = λ k after below.
       | inl before ↦ c.loop-later.invariant k before after
       | inr from ↦ subst (λ slice. AreApart fit shape slice at) c.elems_at-slice.ensures.slice
           (apart_in_order fit shape slices backwards c.args.in_order c.end_in_order-end.result c.elems_at-slice.result.now
-              c.loop-later.later k
+          c.loop-later.later k
           (record { order = c.requires.in_order; end_on_axis = c.end_in_order-end.ensures; past = past })
           (record { fits = c.elems_at-slice.ensures.fits fit shape c.requires.fit; none = c.requires.fit; after = from; below = long }))
     ]

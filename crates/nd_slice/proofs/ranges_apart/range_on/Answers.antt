@@ -18,7 +18,7 @@ here : (c : After-range_of)
 here c =
     let parts = elements_of_no_fault c.args.fit c.args.shape.now c.args.slice.now c.requires.fits in
     sym (elem_on-at nothing c.args.shape.now c.args.slice.now c.args.axis
-        (parts.0 ∙ sym c.if-slice-shape.false) c.if-slice-shape.false c.if-axis-shape.false)
+    (parts.0 ∙ sym c.if-slice-shape.false) c.if-slice-shape.false c.if-axis-shape.false)
 
 pub returns-clause-start : goal.returns-clause-start
 returns-clause-start c =

@@ -3,7 +3,8 @@ use Rattle.nd_slice.proofs.intersect_lemmas.Sequences.{intersects_at_zero, inter
 use Rattle.nd_slice.proofs.intersect.sequence.intersects_within.Goals as goal
 use Rattle.nd_slice.proofs.intersect.sequence.intersects_within.Goals.{then-first_step-eq1-via-then-first_step-eq1}
 use Rattle.nd_slice.proofs.intersect.sequence.intersects_within.Goals.{
-    then-first_step-eq1-via-else-first_step-eq1+then-ahead-first_step-eq0}
+  then-first_step-eq1-via-else-first_step-eq1+then-ahead-first_step-eq0,
+}
 
 pub returns-then-first_step-eq1 : goal.returns-then-first_step-eq1
 returns-then-first_step-eq1 c =
@@ -18,7 +19,7 @@ returns-then-room-second_step c = (
   λ is. absurd (cc),
   λ intersects.
       let divides = intersects_at_zero c.args.ahead c.args.first_step c.args.second_step c.args.room c.if-room-second_step.true
-          intersects in
+      intersects in
       absurd (c.if-ahead-first_step-eq0.false divides),
 )
 

@@ -13,7 +13,7 @@ distance c = c.unsigned_abs-step.ensures.value ∙ ap magnitude (to_z-of_z w64 c
 pub returns-then-step-eq1 : goal.returns-then-step-eq1
 returns-then-step-eq1 c =
     let unit : magnitude c.args.self.step ≡ 1 = sym (distance ((goal.at.returns-then-step-eq1 c).After-unsigned_abs-step))
-        ∙ c.if-step-eq1.true in
+    ∙ c.if-step-eq1.true in
     sym (length-between_unit c.args.self.step c.args.self.start c.args.self.end unit)
 
 pub returns-else-step-eq1 : goal.returns-else-step-eq1
