@@ -25,7 +25,7 @@ pub struct Names<'a> {
 
 impl Names<'_> {
     /// Whether the source is a crate of the package itself, which has callers outside.
-    fn is_packed(&self) -> bool {
+    pub(crate) fn is_packed(&self) -> bool {
         self.package == "crate"
     }
 }
@@ -64,7 +64,7 @@ pub(crate) struct Eraser<'a> {
     head: usize,
     modules: Vec<(usize, String)>,
     /// The clauses of the item at hand.
-    contract: Contract,
+    pub(crate) contract: Contract,
     /// Whether that is an item of a sealed trait.
     in_trait: bool,
     /// The bracket in which the tree at hand stands; none at the top.
@@ -81,7 +81,7 @@ pub(crate) struct Eraser<'a> {
 type Form<'a> = fn(&mut Eraser<'a>, &[Tree]) -> Result<Option<usize>, Fault>;
 
 impl<'a> Eraser<'a> {
-    const FORMS: [Form<'a>; 21] = [
+    const FORMS: [Form<'a>; 24] = [
         Self::doc,
         Self::clause,
         Self::ghost,
@@ -95,6 +95,9 @@ impl<'a> Eraser<'a> {
         Self::drop_bound,
         Self::clone_method,
         Self::formatter,
+        Self::opened,
+        Self::folded,
+        Self::index_method,
         Self::import,
         Self::module,
         Self::allocator,
@@ -106,7 +109,7 @@ impl<'a> Eraser<'a> {
     ];
 
     /// Erases trees that stand side by side.
-    fn all(&mut self, trees: &[Tree]) -> Result<(), Fault> {
+    pub(crate) fn all(&mut self, trees: &[Tree]) -> Result<(), Fault> {
         let mut rest = trees;
         'trees: while let Some(tree) = rest.first() {
             self.note(rest);

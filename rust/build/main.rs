@@ -10,6 +10,7 @@ mod exports;
 mod library;
 mod modules;
 mod names;
+mod opened;
 mod proofs;
 mod tokens;
 

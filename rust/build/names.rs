@@ -157,3 +157,10 @@ pub const REFUSED: &[&str] = &[
     "thread",
     "unsafe",
 ];
+
+/// Structs that files of `rust/src` make and take apart: all of the package sees their fields.
+pub const OPENED: &[&str] =
+    &["ArrayView", "ArrayViewMut", "Fastest", "Items", "Iter", "LentRow", "OwnedArray", "Places", "Rows", "Strided"];
+
+/// Iterators whose `fold` is more than calls of the `next` that is proved, each with the macro of `rust/src/arrays` that adds it.
+pub const FOLDED: &[(&str, &str)] = &[("Items", "fold_items"), ("Iter", "fold_iter"), ("Places", "fold_places")];

@@ -19,4 +19,4 @@ pub use iterators::IndexCopies;
 pub use slice_arguments::{SliceBuilder, SliceNextDim, stepped};
 
 /// What an infallible call says where an allocation fails.
-const OUT_OF_MEMORY: &str = "out of memory";
+pub(crate) const OUT_OF_MEMORY: &str = "out of memory";

@@ -35,6 +35,7 @@ extern crate alloc;
 #[cfg(feature = "std")]
 extern crate std;
 
+mod arrays;
 mod convenience;
 pub mod memory;
 #[cfg(all(test, feature = "std"))]
@@ -75,6 +76,7 @@ struct Readme;
 #[cfg(doctest)]
 struct MustUse;
 
+pub use crate::arrays::{AxisIter, AxisIterMut, IndexedIter, IndexedIterMut, IntoRows, IterMut, RowsMut, ViewIter};
 pub use crate::convenience::*;
 pub use crate::memory::AllocError;
 pub use crate::nd_owned::{ArrayView, ArrayViewMut, Items, Iter, LentRow, LentRows, OwnedArray, PartMut, SplitViews};

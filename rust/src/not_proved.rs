@@ -9,7 +9,17 @@ use std::path::Path;
 const SOURCES: &str = concat!(env!("CARGO_MANIFEST_DIR"), "/rust/src");
 
 /// Private modules of which nothing is re-exported.
-const PRIVATE: &[&str] = &["not_proved", "num_traits", "sealed", "smallvec"];
+const PRIVATE: &[&str] = &[
+    "arrays/layout",
+    "arrays/line",
+    "arrays/line_mut",
+    "arrays/pairs",
+    "arrays/pieces",
+    "not_proved",
+    "num_traits",
+    "sealed",
+    "smallvec",
+];
 
 /// Public modules whose page says it for all that they have.
 const SAID_BY_PAGE: &[&str] = &["memory"];
@@ -71,6 +81,10 @@ fn is_impl_of_trait(lines: &[&str]) -> bool {
 fn each_item_says_that_it_is_not_proved() {
     assert_eq!(items_without_note(Path::new(SOURCES)), [""; 0]);
     let root = include_str!("lib.rs");
+    for module in PRIVATE.iter().filter_map(|module| module.strip_prefix("arrays/")) {
+        let arrays = include_str!("arrays.rs");
+        assert!(!arrays.contains(&format!("\npub use {module}::")) && !arrays.contains("pub mod"), "{module}");
+    }
     for module in PRIVATE {
         assert!(!root.contains(&format!("pub mod {module};")) && !root.contains(&format!("{module}::")), "{module}");
     }

@@ -19,6 +19,8 @@ mod library;
 mod modules;
 #[path = "../build/names.rs"]
 mod names;
+#[path = "../build/opened.rs"]
+mod opened;
 #[path = "../build/proofs.rs"]
 mod proofs;
 #[path = "../build/tokens.rs"]
@@ -90,6 +92,37 @@ fn each_form_becomes_plain_rust() {
         ("assert!(rt; x == 1, \"x\");", "assert!( x == 1, \"x\");"),
         ("matches!(x, Some(_))", "matches!(x, Some(_))"),
         ("let c = 'a'; let s = \"ghost { requires\"; // ghost", "let c = 'a'; let s = \"ghost { requires\"; // ghost"),
+    ];
+    for (source, due) in ROWS {
+        assert_eq!(line(source), *due, "{source}");
+    }
+}
+
+#[test]
+fn what_the_package_adds_is_made_of_a_source() {
+    const ROWS: &[(&str, &str)] = &[
+        (
+            "pub struct Iter<'a, T> where T: Eq { /// A.\n a: &'a [T], b: Rest<'a, T>, pub c: u8, ghost d: { 1 }, }",
+            "pub struct Iter<'a, T> where T: Eq { /// A. pub(crate) a: &'a [T], pub(crate) b: Rest<'a, T>, pub c: u8, }",
+        ),
+        ("struct Fastest { len: usize }", "pub(crate) struct Fastest { pub(crate) len: usize }"),
+        ("pub(crate) struct Rows {}", "pub(crate) struct Rows {}"),
+        ("struct Other { len: usize }", "struct Other { len: usize }"),
+        (
+            "impl<T> Iterator for Iter<'_, T> { fn next(&mut self) {} } fn f();",
+            "impl<T> Iterator for Iter<'_, T> { fn next(&mut self) {} crate::arrays::fold_iter!(); } fn f();",
+        ),
+        ("impl Iterator for Other { fn next() {} }", "impl Iterator for Other { fn next() {} }"),
+        ("impl ExactSizeIterator for Iter<'_> {}", "impl ExactSizeIterator for Iter<'_> {}"),
+        (
+            "fn index(&self, index: I) -> &T { self.get(&index).unwrap() } fn f();",
+            "#[track_caller] fn index(&self, index: I) -> &T { match self.get(&index) \
+             { Some(item) => item, None => crate::arrays::no_such_index(&index, self.dim()) } } fn f();",
+        ),
+        (
+            "fn index(&self, at: usize) -> &T { &self.items[at] }",
+            "fn index(&self, at: usize) -> &T { &self.items[at] }",
+        ),
     ];
     for (source, due) in ROWS {
         assert_eq!(line(source), *due, "{source}");

@@ -1,6 +1,7 @@
 //! Arrays that own their items as values that are copied, compared, printed and indexed.
 
 use super::OUT_OF_MEMORY;
+use crate::arrays::{no_such_index, same_items};
 use crate::memory::FallibleSlice;
 use crate::nd_base::Lengths;
 use crate::nd_owned::{Items, OwnedArray};
@@ -22,14 +23,14 @@ impl<T: Copy, D: Lengths> Clone for OwnedArray<T, D> {
 }
 
 /// Whether both have one shape and, at each index, equal items. Layouts and spare items don't count. Not proved.
-impl<T: Copy + PartialEq<U>, U: Copy, D: Lengths> PartialEq<OwnedArray<U, D>> for OwnedArray<T, D> {
+impl<T: PartialEq<U>, U, D: Lengths> PartialEq<OwnedArray<U, D>> for OwnedArray<T, D> {
     fn eq(&self, other: &OwnedArray<U, D>) -> bool {
-        self.dim().equal(other.dim()) && self.iter().zip(other.iter()).all(|(own, other)| own == other)
+        same_items((self.view(), self.stored()), (other.view(), other.stored()))
     }
 }
 
 /// Not proved.
-impl<T: Copy + Eq, D: Lengths> Eq for OwnedArray<T, D> {}
+impl<T: Eq, D: Lengths> Eq for OwnedArray<T, D> {}
 
 /// Hashes the shape and the items, in row-major order. Not proved.
 impl<T: Copy + Hash, D: Lengths> Hash for OwnedArray<T, D> {
@@ -69,25 +70,29 @@ impl<'a, T: Copy, D: Lengths> IntoIterator for &'a OwnedArray<T, D> {
     }
 }
 
-/// What indexing says where there is no such index.
-const OUT_OF_BOUNDS: &str = "the index is out of bounds";
-
-/// The item of an index. Panics where it is no index of the shape; `get` returns `None`. Not proved.
-impl<T: Copy, D: Lengths, I: NdIndex<D>> Index<I> for OwnedArray<T, D> {
+/// The item of an index. Panics where it is no index of the shape, with both; `get` returns `None`. Not proved.
+impl<T, D: Lengths, I: NdIndex<D>> Index<I> for OwnedArray<T, D> {
     type Output = T;
 
+    #[inline]
     #[track_caller]
     fn index(&self, index: I) -> &T {
-        let place = self.view().place(&index).expect(OUT_OF_BOUNDS);
-        &self.stored()[place]
+        match self.view().place(&index) {
+            Some(place) => &self.stored()[place],
+            None => no_such_index(&index, self.dim()),
+        }
     }
 }
 
-/// The item of an index, to be written. Panics where it is no index of the shape; `set` returns `false`. Not proved.
-impl<T: Copy, D: Lengths, I: NdIndex<D>> IndexMut<I> for OwnedArray<T, D> {
+/// The item of an index, to be written. Panics where it is no index of the shape, with both; `get_mut` returns `None`.
+/// Not proved.
+impl<T, D: Lengths, I: NdIndex<D>> IndexMut<I> for OwnedArray<T, D> {
+    #[inline]
     #[track_caller]
     fn index_mut(&mut self, index: I) -> &mut T {
-        let place = self.view().place(&index).expect(OUT_OF_BOUNDS);
-        &mut self.stored_mut()[place]
+        match self.view().place(&index) {
+            Some(place) => &mut self.stored_mut()[place],
+            None => no_such_index(&index, self.dim()),
+        }
     }
 }

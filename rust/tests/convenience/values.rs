@@ -116,14 +116,14 @@ fn arrays_are_indexed_and_iterated_over() -> Result<(), LayoutError> {
 }
 
 #[test]
-#[should_panic(expected = "the index is out of bounds")]
+#[should_panic(expected = "is out of bounds of the shape")]
 fn an_index_out_of_bounds_panics() {
     let array = counted(Ix2(2, 3)).expect("an array of six items");
     let _ = array[[1, 3]];
 }
 
 #[test]
-#[should_panic(expected = "the index is out of bounds")]
+#[should_panic(expected = "is out of bounds of the shape")]
 fn a_write_out_of_bounds_panics() {
     let mut array = counted(Ix2(2, 3)).expect("an array of six items");
     array[[2, 0]] = 1;

@@ -1,0 +1,92 @@
+//! What the package's own files add to a source: they see fields, fold by rows, and say which index is none.
+
+use crate::docs::Contract;
+use crate::erase::Eraser;
+use crate::names::{FOLDED, OPENED};
+use crate::tokens::{Fault, Group, Kind, Nesting, Token, Tree, begins_with, text_of};
+
+/// The body of an `index` that panics where there is no such item.
+const UNWRAPPED: &str = "self.get(&index).unwrap()";
+
+impl Eraser<'_> {
+    /// A struct of the list `OPENED` has fields that all of the package sees.
+    pub(crate) fn opened(&mut self, trees: &[Tree]) -> Result<Option<usize>, Fault> {
+        let [word, name, ..] = trees else {
+            return Ok(None);
+        };
+        if !word.is("struct") || !self.names.is_packed() || !OPENED.contains(&name.first().text) {
+            return Ok(None);
+        }
+        let Some((at, body)) = body_of(trees) else {
+            return Ok(None);
+        };
+        let is_seen = ["pub", "pub(crate)"].iter().any(|word| self.out.trim_end().ends_with(word));
+        self.put(word.first().lead, if is_seen { "struct" } else { "pub(crate) struct" });
+        self.all(&trees[1..at])?;
+        let fields = Group { open: body.open, trees: seen(&body.trees), close: body.close };
+        self.all(&[Tree::Group(fields)])?;
+        Ok(Some(at + 1))
+    }
+
+    /// `impl Iterator for NAME { .. }` of the list `FOLDED` gets a `fold` of its own.
+    pub(crate) fn folded(&mut self, trees: &[Tree]) -> Result<Option<usize>, Fault> {
+        let (true, true, Some((at, _))) = (self.names.is_packed(), trees[0].is("impl"), body_of(trees)) else {
+            return Ok(None);
+        };
+        let is_for = |three: &[Tree], name| three[0].is("Iterator") && three[1].is("for") && three[2].is(name);
+        let added = FOLDED.iter().find(|(name, _)| trees[..at].windows(3).any(|three| is_for(three, name)));
+        let Some((_, name)) = added else {
+            return Ok(None);
+        };
+        self.difference(trees)?;
+        self.put(trees[0].first().lead, "impl");
+        self.all(&trees[1..=at])?;
+        let end = self.out.rfind('}').unwrap_or_default();
+        self.out.insert_str(end, &format!("\n    {}::arrays::{name}!();\n", self.names.package));
+        Ok(Some(at + 1))
+    }
+
+    /// `fn index` that unwraps what `get` returns names the index and the shape where it panics.
+    pub(crate) fn index_method(&mut self, trees: &[Tree]) -> Result<Option<usize>, Fault> {
+        let (true, Some((at, body))) = (begins_with(trees, &["fn", "index"]), body_of(trees)) else {
+            return Ok(None);
+        };
+        if !self.names.is_packed() || text_of(&body.trees).trim() != UNWRAPPED {
+            return Ok(None);
+        }
+        self.put(trees[0].first().lead, "#[track_caller]\n    fn");
+        self.all(&trees[1..at])?;
+        let none = format!("None => {}::arrays::no_such_index(&index, self.dim())", self.names.package);
+        self.put(" ", &format!("{{\n        match self.get(&index) {{ Some(item) => item, {none} }}\n    }}"));
+        self.contract = Contract::at(self.out.len());
+        Ok(Some(at + 1))
+    }
+}
+
+/// The first body in braces, and where it stands.
+fn body_of<'t, 'a>(trees: &'t [Tree<'a>]) -> Option<(usize, &'t Group<'a>)> {
+    trees.iter().enumerate().find_map(|(at, tree)| Some((at, tree.group("{")?)))
+}
+
+/// Fields with `pub(crate)` before each that has a name and isn't `pub` yet.
+fn seen<'a>(fields: &[Tree<'a>]) -> Vec<Tree<'a>> {
+    let mut nesting = Nesting::default();
+    let mut seen = Vec::new();
+    let mut is_first = true;
+    for (at, tree) in fields.iter().enumerate() {
+        let is_nested = nesting.after(tree) > 0;
+        let is_doc = tree.first().kind == Kind::Doc;
+        if is_first && !is_doc {
+            let Token { lead, line, .. } = *tree.first();
+            if fields.get(at + 1).is_some_and(|next| next.is(":")) {
+                seen.push(Tree::Leaf(Token { kind: Kind::Word, lead, text: "pub(crate) ", line }));
+                seen.push(Tree::Leaf(Token { lead: "", ..*tree.first() }));
+                is_first = false;
+                continue;
+            }
+        }
+        seen.push(tree.clone());
+        is_first = is_doc && is_first || tree.is(",") && !is_nested;
+    }
+    seen
+}

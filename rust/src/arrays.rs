@@ -1,0 +1,34 @@
+//! What ndarray's users expect of arrays: they are lent again, read and written by index, by row, along an axis and item by
+//! item, and copied.
+//!
+//! Each item is tested, beside a plain model on random layouts too, and says that it isn't proved. The sources have what is
+//! proved: the views, `fill`, `assign`, `map_in_place` and what lends parts to threads.
+
+mod axes;
+mod axes_mut;
+mod axis_iter;
+mod copying;
+mod dimensionality;
+mod folding;
+mod indexed;
+mod indexing;
+mod iter;
+mod iter_mut;
+mod layout;
+mod line;
+mod line_mut;
+mod pairs;
+mod pieces;
+mod reading;
+mod rows;
+mod writing;
+
+pub use axis_iter::{AxisIter, AxisIterMut};
+pub(crate) use folding::{ColumnsLeft, fold_items, fold_iter, fold_places};
+pub use indexed::{IndexedIter, IndexedIterMut};
+pub(crate) use indexing::no_such_index;
+pub use iter::ViewIter;
+pub use iter_mut::IterMut;
+pub(crate) use line::fold_column;
+pub(crate) use pairs::same_items;
+pub use rows::{IntoRows, RowsMut};

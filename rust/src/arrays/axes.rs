@@ -1,0 +1,182 @@
+//! The arrays along an axis, and the rows and columns of a matrix.
+
+use super::axis_iter::made_of_first_axis;
+use super::{AxisIter, IntoRows};
+use crate::nd_base::{Axis, Ix1, Ix2, LayoutError};
+use crate::nd_owned::{ArrayView, ArrayViewMut, OwnedArray};
+use crate::ndarray_layout::{RemoveAxis, Strided};
+
+/// The row or the column of a matrix: the view at a coordinate of an axis. Errors: those of `Strided::index_axis`.
+pub(crate) fn line_of(view: &Strided<Ix2>, axis: usize, index: usize) -> Result<Strided<Ix1>, LayoutError> {
+    view.index_axis(Axis(axis), index)
+}
+
+/// The reads of one of the types of arrays along an axis: as `reads!`, with the type of the dimension.
+macro_rules! axes {
+    ([$($axis_head:tt)*] [$($matrix_head:tt)*] $lent:lifetime $setup:expr) => {
+        $($axis_head)* {
+            /// An iterator over the arrays at the coordinates of an axis, without the axis. ndarray's `axis_iter`. Not proved.
+            ///
+            /// # Errors
+            ///
+            /// `OutOfBounds` where there is no such axis; then out of memory, never for at most 4 axes.
+            ///
+            /// ```
+            /// use ndarray_layout::*;
+            ///
+            #[doc = $setup]
+            /// let firsts: Vec<_> = array.axis_iter(Axis(1))?.filter_map(|column| column.first()).collect();
+            /// assert_eq!(firsts, [&1, &2, &3]);
+            /// # Ok::<(), LayoutError>(())
+            /// ```
+            pub fn axis_iter(&self, axis: Axis) -> Result<AxisIter<$lent, T, D::Smaller>, LayoutError> {
+                AxisIter::new(self.stored(), self.view(), axis)
+            }
+
+            /// An iterator over the arrays at the coordinates of the first axis. ndarray's `outer_iter`. Not proved.
+            ///
+            /// # Panics
+            ///
+            /// Where there is no axis, as only an `IxDyn` may have; where an allocation fails, never for at most 4 axes.
+            ///
+            /// ```
+            /// use ndarray_layout::*;
+            ///
+            #[doc = $setup]
+            /// let lasts: Vec<_> = array.outer_iter().filter_map(|row| row.last()).collect();
+            /// assert_eq!(lasts, [&3, &6]);
+            /// # Ok::<(), LayoutError>(())
+            /// ```
+            #[track_caller]
+            #[must_use]
+            pub fn outer_iter(&self) -> AxisIter<$lent, T, D::Smaller> {
+                made_of_first_axis(self.axis_iter(Axis(0)))
+            }
+        }
+
+        $($matrix_head)* {
+            /// How many rows there are: the length of the first axis. ndarray's `nrows`. Not proved.
+            ///
+            /// ```
+            /// use ndarray_layout::*;
+            ///
+            #[doc = $setup]
+            /// assert_eq!(array.nrows(), 2);
+            /// # Ok::<(), LayoutError>(())
+            /// ```
+            #[inline]
+            #[must_use]
+            pub fn nrows(&self) -> usize {
+                self.dim()[0]
+            }
+
+            /// How many columns there are: the length of the second axis. ndarray's `ncols`. Not proved.
+            ///
+            /// ```
+            /// use ndarray_layout::*;
+            ///
+            #[doc = $setup]
+            /// assert_eq!(array.ncols(), 3);
+            /// # Ok::<(), LayoutError>(())
+            /// ```
+            #[inline]
+            #[must_use]
+            pub fn ncols(&self) -> usize {
+                self.dim()[1]
+            }
+
+            /// Whether there are as many rows as columns. ndarray's `is_square`. Not proved.
+            ///
+            /// ```
+            /// use ndarray_layout::*;
+            ///
+            #[doc = $setup]
+            /// assert!(!array.is_square());
+            /// # Ok::<(), LayoutError>(())
+            /// ```
+            #[inline]
+            #[must_use]
+            pub fn is_square(&self) -> bool {
+                self.nrows() == self.ncols()
+            }
+
+            /// The row of a number. ndarray's `row`. Not proved.
+            ///
+            /// # Errors
+            ///
+            /// `OutOfBounds` where there is no such row.
+            ///
+            /// ```
+            /// use ndarray_layout::*;
+            ///
+            #[doc = $setup]
+            /// assert_eq!(array.row(1)?.as_slice(), Some(&[4, 5, 6][..]));
+            /// assert!(array.row(2).is_err());
+            /// # Ok::<(), LayoutError>(())
+            /// ```
+            #[inline]
+            pub fn row(&self, index: usize) -> Result<ArrayView<$lent, T, Ix1>, LayoutError> {
+                Ok(ArrayView { items: self.stored(), view: line_of(self.view(), 0, index)? })
+            }
+
+            /// The column of a number. ndarray's `column`. Not proved.
+            ///
+            /// # Errors
+            ///
+            /// `OutOfBounds` where there is no such column.
+            ///
+            /// ```
+            /// use ndarray_layout::*;
+            ///
+            #[doc = $setup]
+            /// assert_eq!(array.column(1)?.get(&1), Some(&5));
+            /// assert!(array.column(3).is_err());
+            /// # Ok::<(), LayoutError>(())
+            /// ```
+            #[inline]
+            pub fn column(&self, index: usize) -> Result<ArrayView<$lent, T, Ix1>, LayoutError> {
+                Ok(ArrayView { items: self.stored(), view: line_of(self.view(), 1, index)? })
+            }
+
+            /// An iterator over the columns. ndarray's `columns`. Not proved.
+            ///
+            /// ```
+            /// use ndarray_layout::*;
+            ///
+            #[doc = $setup]
+            /// assert_eq!(array.columns().map(|column| column.into_iter().sum::<i32>()).max(), Some(9));
+            /// # Ok::<(), LayoutError>(())
+            /// ```
+            #[must_use]
+            pub fn columns(&self) -> IntoRows<$lent, T, Ix2> {
+                IntoRows::new(self.stored(), self.t().view)
+            }
+        }
+    };
+}
+
+axes!([impl<'a, T, D: RemoveAxis> ArrayView<'a, T, D>] [impl<'a, T> ArrayView<'a, T, Ix2>] 'a
+    "let array = ArrayView::from_shape(Ix2(2, 3).into(), &[1, 2, 3, 4, 5, 6])?;");
+axes!([impl<T, D: RemoveAxis> ArrayViewMut<'_, T, D>] [impl<T> ArrayViewMut<'_, T, Ix2>] '_
+    "let mut items = [1, 2, 3, 4, 5, 6];\nlet array = ArrayViewMut::from_shape(Ix2(2, 3).into(), &mut items)?;");
+axes!([impl<T, D: RemoveAxis> OwnedArray<T, D>] [impl<T> OwnedArray<T, Ix2>] '_
+    "let array = OwnedArray::from_shape_vec(Ix2(2, 3).into(), vec![1, 2, 3, 4, 5, 6])?;");
+
+impl<T, D: RemoveAxis> OwnedArray<T, D> {
+    /// The items at one coordinate of an axis, without the axis, to be read. ndarray's `index_axis`. Not proved.
+    ///
+    /// # Errors
+    ///
+    /// Those of `Strided::index_axis`.
+    ///
+    /// ```
+    /// use ndarray_layout::*;
+    ///
+    /// let array = OwnedArray::from_shape_vec(Ix2(2, 3).into(), vec![1, 2, 3, 4, 5, 6])?;
+    /// assert_eq!(array.index_axis(Axis(1), 2)?.last(), Some(&6));
+    /// # Ok::<(), LayoutError>(())
+    /// ```
+    pub fn index_axis(&self, axis: Axis, index: usize) -> Result<ArrayView<'_, T, D::Smaller>, LayoutError> {
+        Ok(ArrayView { items: self.stored(), view: self.view().index_axis(axis, index)? })
+    }
+}

@@ -1,0 +1,144 @@
+//! The arrays along an axis, and the rows and columns of a matrix, to be written.
+
+use super::AxisIterMut;
+use super::axes::line_of;
+use crate::nd_base::{Axis, Ix1, Ix2, LayoutError};
+use crate::nd_owned::{ArrayViewMut, OwnedArray};
+use crate::ndarray_layout::RemoveAxis;
+
+/// The writes of one of the types of arrays along an axis: as `writes!`, with the type of the dimension.
+macro_rules! axes_mut {
+    ([$($axis_head:tt)*] [$($matrix_head:tt)*] $setup:expr, $end:expr) => {
+        $($axis_head)* {
+            /// The items at one coordinate of an axis, without the axis, lent to be written for as long as this array isn't used.
+            /// ndarray's `index_axis_mut`. Not proved.
+            ///
+            /// # Errors
+            ///
+            /// Those of `Strided::index_axis`.
+            ///
+            /// ```
+            /// use ndarray_layout::*;
+            ///
+            #[doc = $setup]
+            /// array.index_axis_mut(Axis(1), 2)?.fill(7);
+            #[doc = $end]
+            /// assert_eq!(items, [1, 2, 7, 4, 5, 7]);
+            /// # Ok::<(), LayoutError>(())
+            /// ```
+            pub fn index_axis_mut(
+                &mut self,
+                axis: Axis,
+                index: usize,
+            ) -> Result<ArrayViewMut<'_, T, D::Smaller>, LayoutError> {
+                let view = self.view().index_axis(axis, index)?;
+                Ok(ArrayViewMut::new(view, self.stored_mut()))
+            }
+
+            /// An iterator over the arrays at the coordinates of an axis, without the axis, each lent to be written. ndarray's
+            /// `axis_iter_mut`. Not proved.
+            ///
+            /// # Errors
+            ///
+            /// `OutOfBounds` where there is no such axis; out of memory, never for at most 4 axes; `IncompatibleLayout` where the
+            /// places at two coordinates interleave, as those of the columns of a matrix do.
+            ///
+            /// ```
+            /// use ndarray_layout::*;
+            ///
+            #[doc = $setup]
+            /// assert!(array.axis_iter_mut(Axis(1)).is_err());
+            /// for mut row in array.axis_iter_mut(Axis(0))?.rev() {
+            ///     row[0] = 0;
+            /// }
+            #[doc = $end]
+            /// assert_eq!(items, [0, 2, 3, 0, 5, 6]);
+            /// # Ok::<(), LayoutError>(())
+            /// ```
+            pub fn axis_iter_mut(&mut self, axis: Axis) -> Result<AxisIterMut<'_, T, D::Smaller>, LayoutError> {
+                AxisIterMut::new(self.view_mut(), axis)
+            }
+
+            /// An iterator over the arrays at the coordinates of the first axis, each lent to be written. ndarray's
+            /// `outer_iter_mut`. Not proved.
+            ///
+            /// # Errors
+            ///
+            /// `IncompatibleLayout` where the places at two coordinates interleave; out of memory, never for at most 4 axes.
+            ///
+            /// # Panics
+            ///
+            /// Where there is no axis, as only an `IxDyn` may have.
+            ///
+            /// ```
+            /// use ndarray_layout::*;
+            ///
+            #[doc = $setup]
+            /// for (mut row, number) in array.outer_iter_mut()?.zip(1..) {
+            ///     row.fill(number);
+            /// }
+            #[doc = $end]
+            /// assert_eq!(items, [1, 1, 1, 2, 2, 2]);
+            /// # Ok::<(), LayoutError>(())
+            /// ```
+            #[track_caller]
+            pub fn outer_iter_mut(&mut self) -> Result<AxisIterMut<'_, T, D::Smaller>, LayoutError> {
+                assert!(self.ndim() > 0, "an array without axes has no outer arrays");
+                self.axis_iter_mut(Axis(0))
+            }
+        }
+
+        $($matrix_head)* {
+            /// The row of a number, lent to be written for as long as this array isn't used. ndarray's `row_mut`. Not proved.
+            ///
+            /// # Errors
+            ///
+            /// `OutOfBounds` where there is no such row.
+            ///
+            /// ```
+            /// use ndarray_layout::*;
+            ///
+            #[doc = $setup]
+            /// array.row_mut(1)?.iter_mut().for_each(|item| *item *= 2);
+            /// assert!(array.row_mut(2).is_err());
+            #[doc = $end]
+            /// assert_eq!(items, [1, 2, 3, 8, 10, 12]);
+            /// # Ok::<(), LayoutError>(())
+            /// ```
+            #[inline]
+            pub fn row_mut(&mut self, index: usize) -> Result<ArrayViewMut<'_, T, Ix1>, LayoutError> {
+                let view = line_of(self.view(), 0, index)?;
+                Ok(ArrayViewMut::new(view, self.stored_mut()))
+            }
+
+            /// The column of a number, lent to be written for as long as this array isn't used. ndarray's `column_mut`.
+            /// Not proved.
+            ///
+            /// # Errors
+            ///
+            /// `OutOfBounds` where there is no such column.
+            ///
+            /// ```
+            /// use ndarray_layout::*;
+            ///
+            #[doc = $setup]
+            /// array.column_mut(1)?.iter_mut().for_each(|item| *item = 0);
+            /// assert!(array.column_mut(3).is_err());
+            #[doc = $end]
+            /// assert_eq!(items, [1, 0, 3, 4, 0, 6]);
+            /// # Ok::<(), LayoutError>(())
+            /// ```
+            #[inline]
+            pub fn column_mut(&mut self, index: usize) -> Result<ArrayViewMut<'_, T, Ix1>, LayoutError> {
+                let view = line_of(self.view(), 1, index)?;
+                Ok(ArrayViewMut::new(view, self.stored_mut()))
+            }
+        }
+    };
+}
+
+axes_mut!([impl<T, D: RemoveAxis> ArrayViewMut<'_, T, D>] [impl<T> ArrayViewMut<'_, T, Ix2>]
+    "let mut items = [1, 2, 3, 4, 5, 6];\nlet mut array = ArrayViewMut::from_shape(Ix2(2, 3).into(), &mut items)?;", "");
+axes_mut!([impl<T, D: RemoveAxis> OwnedArray<T, D>] [impl<T> OwnedArray<T, Ix2>]
+    "let mut array = OwnedArray::from_shape_vec(Ix2(2, 3).into(), vec![1, 2, 3, 4, 5, 6])?;",
+    "let items = array.into_stored();");

@@ -1,0 +1,110 @@
+//! New lists and arrays that are made of the items of an array.
+
+use super::layout::Runs;
+use crate::memory::{AllocError, FallibleVec};
+use crate::nd_base::{LayoutError, Lengths};
+use crate::nd_dim::product;
+use crate::nd_owned::{ArrayView, ArrayViewMut, OwnedArray};
+use crate::nd_shape::{StrideShape, Strides};
+use crate::ndarray_layout::Strided;
+use alloc::vec::Vec;
+
+/// What a closure makes of the items of a view, in row-major order. Errors: out of memory.
+fn made<T, U, D: Lengths>(view: &Strided<D>, items: &[T], mut f: impl FnMut(&T) -> U) -> Result<Vec<U>, AllocError> {
+    let mut made = Vec::fallible_with_capacity(product(view.dim().slice()))?;
+    for run in Runs::longest(view) {
+        match run.is_stretch() {
+            true => made.extend(items[run.start..][..run.len].iter().map(&mut f)),
+            false => {
+                let place =
+                    |coordinate: usize| run.start.wrapping_add_signed((coordinate as isize).wrapping_mul(run.stride));
+                made.extend((0..run.len).map(|coordinate| f(&items[place(coordinate)])));
+            }
+        }
+    }
+    Ok(made)
+}
+
+/// The row-major array of a view's shape over a list of as many items. Errors: out of memory.
+fn array_of<T, D: Lengths>(view: &Strided<D>, items: Vec<T>) -> Result<OwnedArray<T, D>, AllocError> {
+    let shape = StrideShape { dim: view.dim().duplicate()?, strides: Strides::C };
+    match OwnedArray::from_shape_vec(shape, items) {
+        Ok(array) => Ok(array),
+        Err((LayoutError::Memory(error), _)) => Err(error),
+        Err((LayoutError::Shape(fault), _)) => unreachable!("the shape of a view is accepted: {fault}"),
+    }
+}
+
+/// The copies of one of the types of arrays: the head of the impl, and what makes `array` in examples, which is 1 2 3 over 4 5 6.
+macro_rules! copies {
+    ([$($head:tt)*] $setup:expr) => {
+        $($head)* {
+            /// What a closure makes of each item, in row-major order, as a new array in that order. ndarray's `map`, whose result
+            /// may have another order of its axes in memory. Not proved.
+            ///
+            /// # Errors
+            ///
+            /// Out of memory.
+            ///
+            /// ```
+            /// use ndarray_layout::*;
+            ///
+            #[doc = $setup]
+            /// let texts = array.t().map(|item| item.to_string())?;
+            /// assert_eq!((texts.shape(), texts.stored().concat()), (&[3, 2][..], "142536".to_string()));
+            /// # Ok::<(), LayoutError>(())
+            /// ```
+            pub fn map<U, F: FnMut(&T) -> U>(&self, f: F) -> Result<OwnedArray<U, D>, AllocError> {
+                array_of(self.view(), made(self.view(), self.stored(), f)?)
+            }
+
+            /// Clones of the items in row-major order. ndarray's `to_vec`, for any count of axes. Not proved.
+            ///
+            /// # Errors
+            ///
+            /// Out of memory.
+            ///
+            /// ```
+            /// use ndarray_layout::*;
+            ///
+            #[doc = $setup]
+            /// assert_eq!(array.t().to_vec()?, [1, 4, 2, 5, 3, 6]);
+            /// # Ok::<(), LayoutError>(())
+            /// ```
+            pub fn to_vec(&self) -> Result<Vec<T>, AllocError>
+            where
+                T: Clone,
+            {
+                made(self.view(), self.stored(), T::clone)
+            }
+
+            /// An array of clones of the items, in row-major order, without spare ones. ndarray's `to_owned`. Not proved.
+            ///
+            /// # Errors
+            ///
+            /// Out of memory.
+            ///
+            /// ```
+            /// use ndarray_layout::*;
+            ///
+            #[doc = $setup]
+            /// assert_eq!(array.t().to_array()?.into_stored(), [1, 4, 2, 5, 3, 6]);
+            /// # Ok::<(), LayoutError>(())
+            /// ```
+            #[doc(alias = "to_owned")]
+            pub fn to_array(&self) -> Result<OwnedArray<T, D>, AllocError>
+            where
+                T: Clone,
+            {
+                array_of(self.view(), self.to_vec()?)
+            }
+        }
+    };
+}
+
+copies!([impl<T, D: Lengths> ArrayView<'_, T, D>]
+    "let array = ArrayView::from_shape(Ix2(2, 3).into(), &[1, 2, 3, 4, 5, 6])?;");
+copies!([impl<T, D: Lengths> ArrayViewMut<'_, T, D>]
+    "let mut items = [1, 2, 3, 4, 5, 6];\nlet array = ArrayViewMut::from_shape(Ix2(2, 3).into(), &mut items)?;");
+copies!([impl<T, D: Lengths> OwnedArray<T, D>]
+    "let array = OwnedArray::from_shape_vec(Ix2(2, 3).into(), vec![1, 2, 3, 4, 5, 6])?;");

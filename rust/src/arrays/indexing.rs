@@ -1,0 +1,49 @@
+//! Items by an index in brackets, and what a wrong one is told.
+
+use crate::nd_base::Lengths;
+use crate::nd_owned::ArrayViewMut;
+use crate::nd_shape::NdIndex;
+use core::fmt;
+use core::ops::IndexMut;
+
+/// Panics with an index, and the shape that it is no index of.
+#[cold]
+#[inline(never)]
+#[track_caller]
+pub(crate) fn no_such_index<D: Lengths>(index: &dyn fmt::Debug, dim: &D) -> ! {
+    panic!("index {index:?} is out of bounds of the shape {:?}", dim.slice())
+}
+
+/// The item of an index, to be written. Not proved.
+///
+/// # Panics
+///
+/// Where it is no index of the shape, with both: `get_mut` returns `None`.
+///
+/// ```
+/// use ndarray_layout::*;
+///
+/// let mut items = [1, 2, 3, 4, 5, 6];
+/// let mut rows = ArrayViewMut::from_shape(Ix2(2, 3).into(), &mut items)?;
+/// rows[(1, 0)] += 30;
+/// assert_eq!(items, [1, 2, 3, 34, 5, 6]);
+/// # Ok::<(), LayoutError>(())
+/// ```
+///
+/// ```should_panic
+/// use ndarray_layout::*;
+///
+/// let mut items = [1, 2, 3, 4, 5, 6];
+/// let mut rows = ArrayViewMut::from_shape(Ix2(2, 3).into(), &mut items).unwrap();
+/// rows[(2, 0)] = 7; // index (2, 0) is out of bounds of the shape [2, 3]
+/// ```
+impl<T, D: Lengths, I: NdIndex<D>> IndexMut<I> for ArrayViewMut<'_, T, D> {
+    #[inline]
+    #[track_caller]
+    fn index_mut(&mut self, index: I) -> &mut T {
+        match self.fitted.view().place(&index) {
+            Some(place) => &mut self.items[place],
+            None => no_such_index(&index, self.dim()),
+        }
+    }
+}

@@ -1,0 +1,44 @@
+//! Items at the places of columns of runs.
+
+use super::layout::{Column, Run};
+
+/// The place that is so many steps farther.
+#[inline]
+pub(crate) fn moved(place: usize, steps: usize, step: isize) -> usize {
+    place.wrapping_add_signed((steps as isize).wrapping_mul(step))
+}
+
+/// Folds the items of a column of runs.
+#[inline]
+pub(crate) fn fold_column<'a, T, B>(items: &'a [T], column: Column, init: B, f: &mut impl FnMut(B, &'a T) -> B) -> B {
+    let Column { first: Run { start, stride, len }, count, stride: step } = column;
+    let (mut total, mut row) = (init, start);
+    for _ in 0..count {
+        if column.first.is_stretch() {
+            for item in &items[row..row + len] {
+                total = f(total, item);
+            }
+        } else {
+            let mut place = row;
+            for _ in 0..len {
+                total = f(total, &items[place]);
+                place = place.wrapping_add_signed(stride);
+            }
+        }
+        row = row.wrapping_add_signed(step);
+    }
+    total
+}
+
+/// Folds the items of a run from the last one on.
+#[inline]
+pub(crate) fn rfold_run<'a, T, B>(items: &'a [T], run: Run, init: B, f: &mut impl FnMut(B, &'a T) -> B) -> B {
+    if run.len > 0 && run.is_stretch() {
+        return items[run.start..run.start + run.len].iter().rfold(init, f);
+    }
+    let mut total = init;
+    for coordinate in (0..run.len).rev() {
+        total = f(total, &items[run.place(coordinate)]);
+    }
+    total
+}

@@ -1,0 +1,133 @@
+//! The rows of an array one after another, lent for as long as the data is, or to be written.
+
+use super::layout::Runs;
+use super::pieces::Pieces;
+use crate::nd_base::{Ix1, LayoutError, Lengths};
+use crate::nd_owned::{ArrayViewMut, LentRow};
+use crate::ndarray_layout::{Row, Strided};
+use core::fmt;
+use core::iter::FusedIterator;
+
+/// The rows of an array that are still to come, in row-major order, from both ends, each lent for as long as the data is.
+/// ndarray's `Lanes`. Not proved.
+///
+/// ```
+/// use ndarray_layout::*;
+///
+/// fn ends<'a>(data: &'a [u8]) -> Result<Vec<&'a u8>, LayoutError> {
+///     let rows = ArrayView::from_shape(Ix2(2, 3).into(), data)?;
+///     Ok(rows.into_rows().filter_map(|row| row.get(2)).collect())
+/// }
+///
+/// assert_eq!(ends(&[1, 2, 3, 4, 5, 6])?, [&3, &6]);
+/// # Ok::<(), LayoutError>(())
+/// ```
+pub struct IntoRows<'a, T, D: Lengths> {
+    items: &'a [T],
+    runs: Runs<Strided<D>>,
+}
+
+impl<'a, T, D: Lengths> IntoRows<'a, T, D> {
+    pub(crate) fn new(items: &'a [T], view: Strided<D>) -> Self {
+        IntoRows { items, runs: Runs::rows(view) }
+    }
+}
+
+/// The rows of an array that are still to come, in row-major order, from both ends, each lent to be written. ndarray's
+/// `LanesMut`. Not proved.
+///
+/// ```
+/// use ndarray_layout::*;
+///
+/// let mut items = [1, 2, 3, 4, 5, 6];
+/// let mut rows = ArrayViewMut::from_shape(Ix2(2, 3).into(), &mut items)?;
+/// for mut row in rows.rows_mut()? {
+///     row[0] = row.iter().sum();
+/// }
+/// assert_eq!(items, [6, 2, 3, 15, 5, 6]);
+/// # Ok::<(), LayoutError>(())
+/// ```
+pub struct RowsMut<'a, T, D: Lengths> {
+    pieces: Pieces<'a, T, D>,
+}
+
+impl<'a, T, D: Lengths> RowsMut<'a, T, D> {
+    /// The rows of an array. Errors: those of `ArrayViewMut::rows_mut`.
+    pub(crate) fn new(array: ArrayViewMut<'a, T, D>) -> Result<Self, LayoutError> {
+        Ok(RowsMut { pieces: Pieces::rows(array)? })
+    }
+}
+
+/// What both have: the iterator inside, and what an item of it becomes.
+macro_rules! rows {
+    ($name:ident, $row:ty, $inner:ident, |$rows:ident, $from:ident| $made:expr) => {
+        /// Not proved.
+        impl<'a, T, D: Lengths> Iterator for $name<'a, T, D> {
+            type Item = $row;
+
+            #[inline]
+            fn next(&mut self) -> Option<$row> {
+                let $from = self.$inner.next()?;
+                let $rows = self;
+                Some($made)
+            }
+
+            #[inline]
+            fn size_hint(&self) -> (usize, Option<usize>) {
+                self.$inner.size_hint()
+            }
+        }
+
+        /// Not proved.
+        impl<'a, T, D: Lengths> DoubleEndedIterator for $name<'a, T, D> {
+            #[inline]
+            fn next_back(&mut self) -> Option<$row> {
+                let $from = self.$inner.next_back()?;
+                let $rows = self;
+                Some($made)
+            }
+        }
+
+        /// Not proved.
+        impl<T, D: Lengths> ExactSizeIterator for $name<'_, T, D> {}
+
+        /// Not proved.
+        impl<T, D: Lengths> FusedIterator for $name<'_, T, D> {}
+
+        /// Prints how many rows are left. Not proved.
+        impl<T, D: Lengths> fmt::Debug for $name<'_, T, D> {
+            fn fmt(&self, f: &mut fmt::Formatter<'_>) -> fmt::Result {
+                f.debug_struct(stringify!($name)).field("left", &self.len()).finish_non_exhaustive()
+            }
+        }
+    };
+}
+
+rows!(IntoRows, LentRow<'a, T>, runs, |rows, run| LentRow {
+    items: rows.items,
+    row: Row { start: run.start, stride: run.stride, len: run.len },
+});
+rows!(RowsMut, ArrayViewMut<'a, T, Ix1>, pieces, |_rows, piece| piece.into_array());
+
+/// Its items are lent for as long as the data is, from both ends. Not proved.
+///
+/// ```
+/// use ndarray_layout::*;
+///
+/// let columns = ArrayView::from_shape(Ix2(2, 2).f()?.into(), &[1, 2, 3, 4])?;
+/// let sums: Vec<i32> = columns.rows().map(|row| row.into_iter().sum()).collect();
+/// assert_eq!(sums, [4, 6]);
+/// # Ok::<(), LayoutError>(())
+/// ```
+impl<'a, T> IntoIterator for LentRow<'a, T> {
+    type Item = &'a T;
+
+    type IntoIter = super::ViewIter<'a, T, Ix1>;
+
+    #[inline]
+    fn into_iter(self) -> Self::IntoIter {
+        let LentRow { items, row } = self;
+        let (dim, strides) = (crate::nd_base::new_ix1(row.len), crate::nd_base::new_ix1(crate::unsigned(row.stride)));
+        super::ViewIter::new(items, Strided { start: row.start, dim, strides })
+    }
+}

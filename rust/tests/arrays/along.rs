@@ -1,0 +1,105 @@
+//! Arrays at the coordinates of an axis, to be read and to be written.
+
+use crate::layouts::{Layout, interleave, rounds};
+use crate::{NUMBERS, kind, owned, rows, rows_mut, texts};
+use ndarray_layout::ErrorKind::{IncompatibleLayout, OutOfBounds};
+use ndarray_layout::{ArrayView, Axis, IxDyn};
+
+#[test]
+fn arrays_of_an_axis_are_read() {
+    let (mut numbers, texts) = (NUMBERS, texts());
+    let array = rows(&texts);
+    let columns: Vec<String> =
+        array.axis_iter(Axis(1)).unwrap().map(|column| column.to_vec().unwrap().concat()).collect();
+    assert_eq!(
+        (columns, kind(array.axis_iter(Axis(2)))),
+        (vec!["03".into(), "14".into(), "25".into()], Some(OutOfBounds))
+    );
+    assert_eq!(array.outer_iter().rev().filter_map(|row| row.first()).collect::<Vec<_>>(), ["3", "0"]);
+    assert_eq!(format!("{:?}", array.outer_iter()), "AxisIter { left: 2, .. }");
+    assert_eq!(owned(texts.clone()).outer_iter().nth(1).and_then(|row| row.last().cloned()), Some("5".to_string()));
+    assert_eq!(owned(NUMBERS.to_vec()).index_axis(Axis(1), 2).unwrap().to_vec().unwrap(), [2, 5]);
+    assert_eq!(rows_mut(&mut numbers).axis_iter(Axis(0)).unwrap().len(), 2);
+}
+
+#[test]
+#[should_panic = "an array without axes has no outer arrays"]
+fn an_array_without_axes_has_no_outer_arrays() {
+    let _ = ArrayView::from_shape(IxDyn(&[]).into(), &NUMBERS).unwrap().outer_iter();
+}
+
+#[test]
+fn arrays_of_an_axis_are_written() {
+    let mut texts = texts();
+    let mut array = rows_mut(&mut texts);
+    assert_eq!(kind(array.axis_iter_mut(Axis(1))), Some(IncompatibleLayout));
+    assert_eq!(kind(array.axis_iter_mut(Axis(2))), Some(OutOfBounds));
+    for (mut row, letter) in array.outer_iter_mut().unwrap().zip(["a", "b"]) {
+        row.iter_mut().for_each(|text| text.push_str(letter));
+    }
+    assert_eq!(format!("{:?}", array.axis_iter_mut(Axis(0)).unwrap()), "AxisIterMut { left: 2, .. }");
+    array.index_axis_mut(Axis(1), 0).unwrap().iter_mut().for_each(String::clear);
+    assert_eq!(texts, ["", "1a", "2a", "", "4b", "5b", "6"]);
+    let mut array = owned(NUMBERS.to_vec());
+    array.outer_iter_mut().unwrap().rev().zip(7..).for_each(|(mut row, number)| row.fill(number));
+    array.index_axis_mut(Axis(1), 1).unwrap().fill(0);
+    assert_eq!(array.into_stored(), [8, 0, 8, 7, 0, 7, 6]);
+}
+
+#[test]
+fn arrays_of_an_axis_are_the_models() {
+    rounds(10_000, 15, |numbers| {
+        let layout = if numbers.once_in(2) { Layout::random(numbers) } else { Layout::shared(numbers) };
+        let Some(axis) = numbers.below(layout.shape.len() + 1).checked_sub(1) else {
+            return;
+        };
+        let numbered: Vec<usize> = (0..layout.count).collect();
+        let array = layout.array(&numbered);
+        let due: Vec<Vec<usize>> = (0..layout.shape[axis]).map(|at| layout.at(axis, at).places()).collect();
+        let mut left = array.axis_iter(Axis(axis)).unwrap();
+        assert_eq!(left.len(), due.len(), "{layout:?} along {axis}");
+        let skipped = numbers.below(due.len() + 1);
+        let mut last: Option<Vec<usize>> = None;
+        if numbers.once_in(2) {
+            last = left.next_back().map(|part| part.to_vec().unwrap());
+        }
+        let found: Option<Vec<usize>> = left.nth(skipped).map(|part| part.to_vec().unwrap());
+        assert!(last.is_none() || last.as_ref() == due.last(), "{layout:?} along {axis}");
+        let end = due.len() - usize::from(last.is_some());
+        assert_eq!(found.as_ref(), due[..end].get(skipped), "{layout:?} along {axis}");
+        let parts: Vec<_> = array.axis_iter(Axis(axis)).unwrap().map(|part| part.to_vec().unwrap()).collect();
+        assert_eq!(parts, due, "{layout:?} along {axis}");
+    });
+}
+
+#[test]
+fn arrays_of_an_axis_are_written_as_the_models() {
+    rounds(10_000, 16, |numbers| {
+        let layout = Layout::random(numbers);
+        let Some(axis) = numbers.below(layout.shape.len() + 1).checked_sub(1) else {
+            return;
+        };
+        let mut numbered: Vec<usize> = (0..layout.count).collect();
+        let parts: Vec<Layout> = (0..layout.shape[axis]).map(|at| layout.at(axis, at)).collect();
+        let mut array = layout.array_mut(&mut numbered);
+        let made = array.axis_iter_mut(Axis(axis));
+        assert_eq!(made.is_err(), interleave(&parts), "{layout:?} along {axis}");
+        let Ok(mut left) = made else {
+            return;
+        };
+        let mut due: Vec<Vec<usize>> = parts.iter().map(Layout::places).collect();
+        while !due.is_empty() {
+            let (part, places) = match numbers.once_in(2) {
+                true => (left.next(), due.remove(0)),
+                false => (left.next_back(), due.pop().unwrap()),
+            };
+            let mut part = part.unwrap();
+            assert_eq!(part.to_vec().unwrap(), places, "{layout:?} along {axis}");
+            part.iter_mut().for_each(|item| *item += 1000);
+        }
+        assert!(left.next().is_none() && left.next_back().is_none());
+        let written = layout.places();
+        let due = |place| if written.contains(&place) { place + 1000 } else { place };
+        assert_eq!(numbered, (0..layout.count).map(due).collect::<Vec<_>>(), "{layout:?} along {axis}");
+    });
+}

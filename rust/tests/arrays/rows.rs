@@ -1,0 +1,121 @@
+//! Rows, columns and the lanes of any axis, to be read and to be written.
+
+use crate::layouts::{Layout, interleave, rounds};
+use crate::{NUMBERS, kind, owned, rows, rows_mut, texts};
+use ndarray_layout::ErrorKind::{IncompatibleLayout, OutOfBounds};
+use ndarray_layout::{Axis, LentRow};
+
+#[test]
+fn a_row_and_a_column_are_lent() {
+    let (mut numbers, texts) = (NUMBERS, texts());
+    let array = rows(&texts);
+    assert_eq!((array.row(1).unwrap().as_slice(), kind(array.row(2))), (Some(&texts[3..6]), Some(OutOfBounds)));
+    assert_eq!(
+        (array.column(2).unwrap().to_vec().unwrap().concat(), kind(array.column(3))),
+        ("25".into(), Some(OutOfBounds))
+    );
+    let mut array = rows_mut(&mut numbers);
+    array.row_mut(0).unwrap().fill(9);
+    array.column_mut(1).unwrap()[1] = 8;
+    assert_eq!((kind(array.row_mut(2)), kind(array.column_mut(3))), (Some(OutOfBounds), Some(OutOfBounds)));
+    assert_eq!((array.row(0).unwrap().len(), array.column(1).unwrap().last()), (3, Some(&8)));
+    let mut array = owned(numbers.to_vec());
+    array.row_mut(1).unwrap()[2] = 7;
+    array.column_mut(0).unwrap().fill(6);
+    assert_eq!((array.row(1).unwrap().last(), array.column(0).unwrap().first()), (Some(&7), Some(&6)));
+    assert_eq!(array.into_stored(), [6, 9, 9, 6, 8, 7, 6]);
+}
+
+/// The items of a row.
+fn items<T: Clone>(row: LentRow<'_, T>) -> Vec<T> {
+    row.into_iter().cloned().collect()
+}
+
+#[test]
+fn rows_are_iterated_from_both_ends() {
+    let (mut numbers, texts) = (NUMBERS, texts());
+    let mut left = rows(&texts).into_rows();
+    assert_eq!((left.len(), format!("{left:?}")), (2, "IntoRows { left: 2, .. }".into()));
+    assert_eq!(
+        (left.next_back().map(items), left.next().map(items)),
+        (Some(texts[3..6].into()), Some(texts[..3].into()))
+    );
+    assert!(left.next().is_none());
+    assert_eq!(rows(&NUMBERS).columns().map(items).collect::<Vec<_>>(), [[0, 3], [1, 4], [2, 5]]);
+    assert_eq!(owned(NUMBERS.to_vec()).rows().map(items).next_back(), Some(vec![3, 4, 5]));
+    let mut array = rows_mut(&mut numbers);
+    assert_eq!(array.rows().map(items).next(), Some(vec![0, 1, 2]));
+    for (mut row, number) in array.rows_mut().unwrap().rev().zip(7..) {
+        row[0] = number;
+    }
+    assert_eq!(format!("{:?}", array.rows_mut().unwrap()), "RowsMut { left: 2, .. }");
+    assert_eq!(numbers, [8, 1, 2, 7, 4, 5, 6]);
+}
+
+#[test]
+fn rows_that_interleave_are_refused() {
+    let mut texts = texts();
+    let mut array = rows_mut(&mut texts);
+    assert_eq!(kind(array.lanes_mut(Axis(0))), Some(IncompatibleLayout));
+    assert_eq!((kind(array.lanes_mut(Axis(2))), kind(array.lanes(Axis(2)))), (Some(OutOfBounds), Some(OutOfBounds)));
+    array.invert_axis(Axis(0)).unwrap();
+    for (mut row, letter) in array.rows_mut().unwrap().zip(["a", "b"]) {
+        row.iter_mut().for_each(|text| text.push_str(letter));
+    }
+    assert_eq!(texts, ["0b", "1b", "2b", "3a", "4a", "5a", "6"]);
+}
+
+#[test]
+fn lanes_are_the_models() {
+    rounds(10_000, 13, |numbers| {
+        let layout = if numbers.once_in(2) { Layout::random(numbers) } else { Layout::shared(numbers) };
+        let Some(axis) = numbers.below(layout.shape.len() + 1).checked_sub(1) else {
+            return;
+        };
+        let numbered: Vec<usize> = (0..layout.count).collect();
+        let lanes = layout.lanes(axis);
+        let due: Vec<Vec<usize>> = lanes.iter().map(Layout::places).collect();
+        let array = layout.array(&numbered);
+        let found = array.lanes(Axis(axis)).unwrap();
+        assert_eq!(found.len(), due.len(), "{layout:?} along {axis}");
+        assert_eq!(found.map(items).collect::<Vec<_>>(), due, "{layout:?} along {axis}");
+        let backwards: Vec<_> = array.lanes(Axis(axis)).unwrap().rev().map(items).collect();
+        assert!(backwards.iter().rev().eq(due.iter()), "{layout:?} along {axis}");
+        if axis + 1 == layout.shape.len() {
+            assert_eq!(array.into_rows().map(items).collect::<Vec<_>>(), due, "{layout:?}");
+        }
+    });
+}
+
+#[test]
+fn lanes_to_be_written_are_the_models() {
+    rounds(10_000, 14, |numbers| {
+        let layout = Layout::random(numbers);
+        let Some(axis) = numbers.below(layout.shape.len() + 1).checked_sub(1) else {
+            return;
+        };
+        let mut numbered: Vec<usize> = (0..layout.count).collect();
+        let lanes = layout.lanes(axis);
+        let mut array = layout.array_mut(&mut numbered);
+        let made = array.lanes_mut(Axis(axis));
+        assert_eq!(made.is_err(), interleave(&lanes), "{layout:?} along {axis}");
+        let Ok(mut left) = made else {
+            return;
+        };
+        let mut due: Vec<Vec<usize>> = lanes.iter().map(Layout::places).collect();
+        assert_eq!(left.len(), due.len(), "{layout:?} along {axis}");
+        while !due.is_empty() {
+            let (row, places) = match numbers.once_in(2) {
+                true => (left.next(), due.remove(0)),
+                false => (left.next_back(), due.pop().unwrap()),
+            };
+            let mut row = row.unwrap();
+            assert_eq!(row.to_vec().unwrap(), places, "{layout:?} along {axis}");
+            row.iter_mut().for_each(|item| *item += 1000);
+        }
+        assert!(left.next().is_none() && left.next_back().is_none());
+        let written = layout.places();
+        let due = |place| if written.contains(&place) { place + 1000 } else { place };
+        assert_eq!(numbered, (0..layout.count).map(due).collect::<Vec<_>>(), "{layout:?} along {axis}");
+    });
+}

@@ -1,0 +1,94 @@
+//! Arrays that are lent again, and written by slices and beside others.
+
+use crate::layouts::{Layout, rounds};
+use crate::{NUMBERS, kind, owned, rows, rows_mut, texts};
+use ndarray_layout::ErrorKind::IncompatibleShape;
+use ndarray_layout::{ArrayView, Axis, Ix1, Ix2, LayoutError};
+
+#[test]
+fn an_array_is_lent_again_in_a_loop() -> Result<(), LayoutError> {
+    let mut numbers = NUMBERS;
+    let mut array = rows_mut(&mut numbers);
+    for column in 0..3 {
+        array.view_mut().index_axis(Axis(1), column)?.fill(column as u8);
+        array.index_axis_mut(Axis(1), column)?.iter_mut().for_each(|item| *item += 10);
+    }
+    assert_eq!(array.borrowed().reversed_axes().to_vec()?, [10, 10, 11, 11, 12, 12]);
+    let mut array = owned(texts());
+    for row in 0..2 {
+        array.view_mut().index_axis(Axis(0), row)?.map_in_place(|text| text.push('a'));
+    }
+    assert_eq!(array.borrowed().last().map(String::as_str), Some("5a"));
+    assert_eq!(array.into_stored().concat(), "0a1a2a3a4a5a6");
+    Ok(())
+}
+
+#[test]
+fn slices_of_an_array_are_written() {
+    let mut list = texts();
+    let mut array = rows_mut(&mut list);
+    array.as_slice_mut().unwrap().swap(0, 1);
+    array.first_mut().unwrap().push('a');
+    array.last_mut().unwrap().push('b');
+    array.stored_mut()[6].push('c');
+    assert!(array.view_mut().reversed_axes().as_slice_mut().is_none());
+    array.view_mut().reversed_axes().as_slice_memory_order_mut().unwrap()[2].push('d');
+    let (view, stored) = array.parts_mut();
+    stored[view.place(&(1, 0)).unwrap()].push('e');
+    assert_eq!(array.into_slice().map(|slice| slice.len()), Some(6));
+    assert_eq!(list, ["1a", "0", "2d", "3e", "4", "5b", "6c"]);
+    let mut array = owned(NUMBERS.to_vec());
+    array.as_slice_mut().unwrap().reverse();
+    *array.first_mut().unwrap() = 50;
+    assert_eq!(array.into_stored(), [50, 4, 3, 2, 1, 0, 6]);
+}
+
+#[test]
+fn an_array_without_items_has_no_first_one() {
+    let mut none = [0_u8; 0];
+    let mut array = ndarray_layout::ArrayViewMut::from_shape(Ix2(0, 3).into(), &mut none).unwrap();
+    assert!(array.first_mut().is_none() && array.last_mut().is_none());
+    assert_eq!(array.as_slice_mut().map(|slice| slice.len()), Some(0));
+    assert!(array.first().is_none() && array.last().is_none() && array.iter_mut().next().is_none());
+    assert_eq!(array.rows_mut().unwrap().len(), 0);
+    assert_eq!(array.as_slice_memory_order(), Some(&[][..]));
+}
+
+#[test]
+fn two_arrays_are_gone_over_side_by_side() {
+    let (mut list, numbers) = (texts(), NUMBERS);
+    let mut array = rows_mut(&mut list);
+    array.zip_mut_with(&rows(&numbers), |text, number| text.push_str(&number.to_string())).unwrap();
+    let row = ArrayView::from_shape(Ix1(3).into(), &["a", "b", "c"]).unwrap();
+    let row = row.broadcast(&Ix2(2, 3)).unwrap();
+    array.zip_mut_with(&row, |text, other| text.push_str(other)).unwrap();
+    let turned = rows(&numbers).reversed_axes();
+    assert_eq!(kind(array.zip_mut_with(&turned, |_, _| panic!("called"))), Some(IncompatibleShape));
+    assert_eq!(list, ["00a", "11b", "22c", "33a", "44b", "55c", "6"]);
+}
+
+#[test]
+fn pairs_of_items_are_the_models() {
+    rounds(20_000, 12, |numbers| {
+        let layout = Layout::random(numbers);
+        let mut other = if numbers.once_in(2) { Layout::random(numbers) } else { layout.clone() };
+        other.shape.clone_from(&layout.shape);
+        other.strides = layout.shape.iter().map(|_| numbers.between(0, 3)).collect();
+        (other.start, other.count) = (0, 1 + 4 * 3 * layout.shape.iter().sum::<usize>());
+        let mut items: Vec<usize> = (0..layout.count).collect();
+        let mut due = items.clone();
+        let mut pairs = Vec::new();
+        for (place, other) in layout.places().into_iter().zip(other.places()) {
+            pairs.push((place, other));
+            due[place] = 1000 + other;
+        }
+        let others: Vec<usize> = (0..other.count).collect();
+        let mut found = Vec::new();
+        let write = |item: &mut usize, other: &usize| {
+            found.push((*item, *other));
+            *item = 1000 + other;
+        };
+        layout.array_mut(&mut items).zip_mut_with(&other.array(&others), write).unwrap();
+        assert_eq!((found, items), (pairs, due), "{layout:?} beside {other:?}");
+    });
+}
