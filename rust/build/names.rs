@@ -162,5 +162,6 @@ pub const REFUSED: &[&str] = &[
 pub const OPENED: &[&str] =
     &["ArrayView", "ArrayViewMut", "Fastest", "Items", "Iter", "LentRow", "OwnedArray", "Places", "Rows", "Strided"];
 
-/// Iterators whose `fold` is more than calls of the `next` that is proved, each with the macro of `rust/src/arrays` that adds it.
+/// Iterators whose `fold` and `nth` are more than calls of the `next` that is proved, each with the macro of `rust/src/arrays` that
+/// adds them.
 pub const FOLDED: &[(&str, &str)] = &[("Items", "fold_items"), ("Iter", "fold_iter"), ("Places", "fold_places")];

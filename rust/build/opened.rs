@@ -28,7 +28,7 @@ impl Eraser<'_> {
         Ok(Some(at + 1))
     }
 
-    /// `impl Iterator for NAME { .. }` of the list `FOLDED` gets a `fold` of its own.
+    /// `impl Iterator for NAME { .. }` of the list `FOLDED` gets a `fold` and an `nth` of its own.
     pub(crate) fn folded(&mut self, trees: &[Tree]) -> Result<Option<usize>, Fault> {
         let (true, true, Some((at, _))) = (self.names.is_packed(), trees[0].is("impl"), body_of(trees)) else {
             return Ok(None);

@@ -24,7 +24,7 @@ mod rows;
 mod writing;
 
 pub use axis_iter::{AxisIter, AxisIterMut};
-pub(crate) use folding::{ColumnsLeft, fold_items, fold_iter, fold_places};
+pub(crate) use folding::{ColumnsLeft, fold_items, fold_iter, fold_places, nth_place};
 pub use indexed::{IndexedIter, IndexedIterMut};
 pub(crate) use indexing::no_such_index;
 pub use iter::ViewIter;

@@ -2,13 +2,36 @@
 
 use super::axis_iter::made_of_first_axis;
 use super::{AxisIter, IntoRows};
-use crate::nd_base::{Axis, Ix1, Ix2, LayoutError};
+use crate::memory::FallibleVec;
+use crate::nd_base::{Axis, Ix1, Ix2, LayoutError, Lengths, new_ix1};
+use crate::nd_dim::product;
 use crate::nd_owned::{ArrayView, ArrayViewMut, OwnedArray};
+use crate::nd_shape::{StrideShape, Strides};
 use crate::ndarray_layout::{RemoveAxis, Strided};
+use alloc::vec::Vec;
 
 /// The row or the column of a matrix: the view at a coordinate of an axis. Errors: those of `Strided::index_axis`.
 pub(crate) fn line_of(view: &Strided<Ix2>, axis: usize, index: usize) -> Result<Strided<Ix1>, LayoutError> {
     view.index_axis(Axis(axis), index)
+}
+
+/// An array of one axis that has no items.
+fn without_items<'a, T>() -> ArrayView<'a, T, Ix1> {
+    ArrayView { items: &[], view: Strided { start: 0, dim: new_ix1(0), strides: new_ix1(0) } }
+}
+
+/// The array of a shape of what a closure makes of rows, one for each index. Errors: those of `ArrayView::map_axis`.
+fn mapped_rows<'a, T, U, D: Lengths, S: Lengths>(
+    rows: IntoRows<'a, T, D>,
+    dim: S,
+    mut f: impl FnMut(ArrayView<'a, T, Ix1>) -> U,
+) -> Result<OwnedArray<U, S>, LayoutError> {
+    let (size, count) = (product(dim.slice()), rows.len());
+    let mut items = Vec::fallible_with_capacity(size)?;
+    items.extend(rows.map(|row| f(row.into_array())));
+    // rows without items aren't among them
+    items.extend((count..size).map(|_| f(without_items())));
+    Ok(OwnedArray::from_shape_vec(StrideShape { dim, strides: Strides::C }, items)?)
 }
 
 /// The reads of one of the types of arrays along an axis: as `reads!`, with the type of the dimension.
@@ -51,6 +74,31 @@ macro_rules! axes {
             #[must_use]
             pub fn outer_iter(&self) -> AxisIter<$lent, T, D::Smaller> {
                 made_of_first_axis(self.axis_iter(Axis(0)))
+            }
+        }
+
+        $($axis_head)* {
+            /// What a closure makes of each row along an axis, as a new array without the axis, in row-major order. ndarray's
+            /// `map_axis`. Not proved.
+            ///
+            /// # Errors
+            ///
+            /// `OutOfBounds` where there is no such axis; then out of memory.
+            ///
+            /// ```
+            /// use ndarray_layout::*;
+            ///
+            #[doc = $setup]
+            /// let sums = array.map_axis(Axis(0), |column| column.into_iter().sum::<i32>())?;
+            /// assert_eq!(sums.into_stored(), [5, 7, 9]);
+            /// # Ok::<(), LayoutError>(())
+            /// ```
+            pub fn map_axis<U, F>(&self, axis: Axis, f: F) -> Result<OwnedArray<U, D::Smaller>, LayoutError>
+            where
+                F: FnMut(ArrayView<$lent, T, Ix1>) -> U,
+            {
+                let rows = self.lanes(axis)?;
+                mapped_rows(rows, self.dim().try_remove_axis(axis)?, f)
             }
         }
 

@@ -1,13 +1,14 @@
 //! New lists and arrays that are made of the items of an array.
 
 use super::layout::Runs;
+use crate::convenience::OUT_OF_MEMORY;
 use crate::memory::{AllocError, FallibleVec};
-use crate::nd_base::{LayoutError, Lengths};
+use crate::nd_base::{LayoutError, Lengths, Order};
 use crate::nd_dim::product;
 use crate::nd_owned::{ArrayView, ArrayViewMut, OwnedArray};
 use crate::nd_shape::{StrideShape, Strides};
 use crate::ndarray_layout::Strided;
-use alloc::vec::Vec;
+use alloc::vec::{self, Vec};
 
 /// What a closure makes of the items of a view, in row-major order. Errors: out of memory.
 fn made<T, U, D: Lengths>(view: &Strided<D>, items: &[T], mut f: impl FnMut(&T) -> U) -> Result<Vec<U>, AllocError> {
@@ -108,3 +109,40 @@ copies!([impl<T, D: Lengths> ArrayViewMut<'_, T, D>]
     "let mut items = [1, 2, 3, 4, 5, 6];\nlet array = ArrayViewMut::from_shape(Ix2(2, 3).into(), &mut items)?;");
 copies!([impl<T, D: Lengths> OwnedArray<T, D>]
     "let array = OwnedArray::from_shape_vec(Ix2(2, 3).into(), vec![1, 2, 3, 4, 5, 6])?;");
+
+/// The items of a view in row-major order, out of the list of those that are stored. Errors: out of memory.
+fn picked<T, D: Lengths>(view: &Strided<D>, items: Vec<T>) -> Result<Vec<T>, AllocError> {
+    let mut items = items;
+    if let Some(places) = view.stretch(Order::RowMajor) {
+        items.truncate(places.end);
+        items.drain(..places.start);
+        return Ok(items);
+    }
+    let mut left = Vec::fallible_with_capacity(items.len())?;
+    left.extend(items.into_iter().map(Some));
+    let mut picked = Vec::fallible_with_capacity(product(view.dim().slice()))?;
+    picked.extend(view.iter_places(Order::RowMajor).filter_map(|place| left.get_mut(place)?.take()));
+    Ok(picked)
+}
+
+/// Hands out the items in row-major order; spare ones are dropped. Where they aren't stored in this order, they are moved to another
+/// list first. Panics where an allocation fails. Not proved.
+///
+/// ```
+/// use ndarray_layout::*;
+///
+/// let texts = ["a", "b", "c", "d"].map(String::from).to_vec();
+/// let array = OwnedArray::from_shape_vec(Ix2(2, 2).f()?.into(), texts)?;
+/// assert_eq!(array.into_iter().collect::<Vec<String>>().concat(), "acbd");
+/// # Ok::<(), LayoutError>(())
+/// ```
+impl<T, D: Lengths> IntoIterator for OwnedArray<T, D> {
+    type Item = T;
+
+    type IntoIter = vec::IntoIter<T>;
+
+    fn into_iter(self) -> vec::IntoIter<T> {
+        let OwnedArray { items, view } = self;
+        picked(&view, items).expect(OUT_OF_MEMORY).into_iter()
+    }
+}

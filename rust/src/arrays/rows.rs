@@ -2,8 +2,8 @@
 
 use super::layout::Runs;
 use super::pieces::Pieces;
-use crate::nd_base::{Ix1, LayoutError, Lengths};
-use crate::nd_owned::{ArrayViewMut, LentRow};
+use crate::nd_base::{Ix1, LayoutError, Lengths, new_ix1, unsigned};
+use crate::nd_owned::{ArrayView, ArrayViewMut, LentRow};
 use crate::ndarray_layout::{Row, Strided};
 use core::fmt;
 use core::iter::FusedIterator;
@@ -109,6 +109,26 @@ rows!(IntoRows, LentRow<'a, T>, runs, |rows, run| LentRow {
 });
 rows!(RowsMut, ArrayViewMut<'a, T, Ix1>, pieces, |_rows, piece| piece.into_array());
 
+impl<'a, T> LentRow<'a, T> {
+    /// The row as an array of one axis. Not proved.
+    ///
+    /// ```
+    /// use ndarray_layout::*;
+    ///
+    /// let rows = ArrayView::from_shape(Ix2(2, 3).into(), &[1, 2, 3, 4, 5, 6])?;
+    /// let last = rows.into_rows().last().map(|row| row.into_array()[1]);
+    /// assert_eq!(last, Some(5));
+    /// # Ok::<(), LayoutError>(())
+    /// ```
+    #[inline]
+    #[must_use]
+    pub fn into_array(self) -> ArrayView<'a, T, Ix1> {
+        let LentRow { items, row } = self;
+        let (dim, strides) = (new_ix1(row.len), new_ix1(unsigned(row.stride)));
+        ArrayView { items, view: Strided { start: row.start, dim, strides } }
+    }
+}
+
 /// Its items are lent for as long as the data is, from both ends. Not proved.
 ///
 /// ```
@@ -126,8 +146,6 @@ impl<'a, T> IntoIterator for LentRow<'a, T> {
 
     #[inline]
     fn into_iter(self) -> Self::IntoIter {
-        let LentRow { items, row } = self;
-        let (dim, strides) = (crate::nd_base::new_ix1(row.len), crate::nd_base::new_ix1(crate::unsigned(row.stride)));
-        super::ViewIter::new(items, Strided { start: row.start, dim, strides })
+        self.into_array().into_iter()
     }
 }

@@ -23,6 +23,19 @@ fn arrays_of_an_axis_are_read() {
 }
 
 #[test]
+fn rows_of_an_axis_are_mapped() {
+    let (mut numbers, texts) = (NUMBERS, texts());
+    let joined = rows(&texts).map_axis(Axis(0), |column| column.to_vec().unwrap().concat()).unwrap();
+    assert_eq!(joined.into_stored(), ["03", "14", "25"]);
+    let array = rows_mut(&mut numbers);
+    assert_eq!(array.map_axis(Axis(1), |row| row.into_iter().sum::<u8>()).unwrap().into_stored(), [3, 12]);
+    assert_eq!(kind(array.map_axis(Axis(2), |_| ())), Some(OutOfBounds));
+    let none = ArrayView::from_shape(ndarray_layout::Ix2(0, 3).into(), &NUMBERS).unwrap();
+    assert_eq!(none.map_axis(Axis(0), |column| column.len()).unwrap().into_stored(), [0; 3]);
+    assert!(none.map_axis(Axis(1), |_| ()).unwrap().is_empty());
+}
+
+#[test]
 #[should_panic = "an array without axes has no outer arrays"]
 fn an_array_without_axes_has_no_outer_arrays() {
     let _ = ArrayView::from_shape(IxDyn(&[]).into(), &NUMBERS).unwrap().outer_iter();

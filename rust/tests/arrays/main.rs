@@ -1,11 +1,14 @@
 //! What ndarray's users expect of arrays: rows at numbers and at texts, and random layouts beside a plain model.
 
+#[path = "../refused/allocator.rs"]
+mod allocator;
 mod along;
 mod folded;
 mod indexing;
 mod iterated;
 mod iterated_mut;
 mod layouts;
+mod memory;
 #[allow(dead_code)]
 #[path = "../random/numbers.rs"]
 mod numbers;

@@ -3,7 +3,7 @@
 use crate::layouts::{Layout, rounds};
 use crate::{NUMBERS, kind, owned, rows, rows_mut, texts};
 use ndarray_layout::ErrorKind::IncompatibleShape;
-use ndarray_layout::{ArrayView, Axis, Ix1, Ix2, LayoutError};
+use ndarray_layout::{ArrayView, Axis, Ix1, Ix2, IxDyn, LayoutError, OwnedArray, StrideShape, Strides};
 
 #[test]
 fn an_array_is_lent_again_in_a_loop() -> Result<(), LayoutError> {
@@ -41,6 +41,33 @@ fn slices_of_an_array_are_written() {
     array.as_slice_mut().unwrap().reverse();
     *array.first_mut().unwrap() = 50;
     assert_eq!(array.into_stored(), [50, 4, 3, 2, 1, 0, 6]);
+}
+
+#[test]
+fn an_array_that_owns_its_items_is_filled_assigned_and_taken_apart() {
+    let mut array = owned(NUMBERS.to_vec());
+    assert!(array.swap(&(0, 0), &(1, 2)) && !array.swap(&(0, 0), &(2, 0)));
+    assert_eq!(array.stored(), [5, 1, 2, 3, 4, 0, 6]);
+    assert_eq!(kind(array.assign(&rows(&NUMBERS).reversed_axes())), Some(IncompatibleShape));
+    array.assign(&rows(&[9, 8, 7, 6, 5, 4])).unwrap();
+    assert_eq!(array.stored(), [9, 8, 7, 6, 5, 4, 6]);
+    array.fill(1);
+    assert_eq!(array.into_iter().collect::<Vec<_>>(), [1; 6]);
+    assert!(owned(texts()).into_iter().eq(["0", "1", "2", "3", "4", "5"]));
+}
+
+#[test]
+fn items_that_are_handed_out_are_the_models() {
+    rounds(2_000, 17, |numbers| {
+        let shape: Vec<usize> = (0..numbers.below(4)).map(|_| numbers.below(5)).collect();
+        let strides = if numbers.once_in(2) { Strides::C } else { Strides::F };
+        let spare = numbers.below(3);
+        let items: Vec<String> = (0..shape.iter().product::<usize>() + spare).map(|place| place.to_string()).collect();
+        let array = OwnedArray::from_shape_vec(StrideShape { dim: IxDyn(&shape), strides }, items);
+        let array = array.unwrap_or_else(|_| panic!("as many items"));
+        let due = array.to_vec().unwrap();
+        assert!(array.into_iter().eq(due), "{shape:?}");
+    });
 }
 
 #[test]
