@@ -5,9 +5,9 @@ use super::{AxisIter, IntoRows};
 use crate::memory::FallibleVec;
 use crate::nd_base::{Axis, Ix1, Ix2, LayoutError, Lengths, new_ix1};
 use crate::nd_dim::product;
-use crate::nd_owned::{ArrayView, ArrayViewMut, OwnedArray};
 use crate::nd_shape::{StrideShape, Strides};
 use crate::ndarray_layout::{RemoveAxis, Strided};
+use crate::{ArrayView, ArrayViewMut, OwnedArray};
 use alloc::vec::Vec;
 
 /// The row or the column of a matrix: the view at a coordinate of an axis. Errors: those of `Strided::index_axis`.

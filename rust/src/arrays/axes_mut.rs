@@ -3,8 +3,8 @@
 use super::AxisIterMut;
 use super::axes::line_of;
 use crate::nd_base::{Axis, Ix1, Ix2, LayoutError};
-use crate::nd_owned::{ArrayViewMut, OwnedArray};
 use crate::ndarray_layout::RemoveAxis;
+use crate::{ArrayViewMut, OwnedArray};
 
 /// The writes of one of the types of arrays along an axis: as `writes!`, with the type of the dimension.
 macro_rules! axes_mut {

@@ -1,12 +1,12 @@
 //! The arrays at the coordinates of an axis one after another.
 
-use super::pieces::Left;
+use super::pieces::{Left, into_parts};
 use crate::convenience::OUT_OF_MEMORY;
 use crate::nd_base::{Axis, ErrorKind, LayoutError, Lengths, from_kind, signed};
 use crate::nd_dim::product;
-use crate::nd_owned::{ArrayView, ArrayViewMut};
 use crate::nd_shape::{max_abs_offset_check_overflow, offset_from_low_addr_ptr_to_logical_ptr};
 use crate::ndarray_layout::{RemoveAxis, Strided};
+use crate::{ArrayView, ArrayViewMut};
 use core::fmt;
 use core::iter::FusedIterator;
 use core::ops::Range;
@@ -112,8 +112,8 @@ impl<'a, T, D: Lengths> AxisIterMut<'a, T, D> {
     where
         L: RemoveAxis<Smaller = D>,
     {
-        let ArrayViewMut { items, fitted } = array;
-        let blocks = Blocks::new(fitted.view(), axis)?;
+        let (view, items) = into_parts(array);
+        let blocks = Blocks::new(&view, axis)?;
         let (below, width) = blocks.reach()?;
         if blocks.left.len() > 1 && blocks.stride.unsigned_abs() < width {
             return Err(LayoutError::Shape(from_kind(ErrorKind::IncompatibleLayout)));

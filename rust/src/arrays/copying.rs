@@ -5,9 +5,9 @@ use crate::convenience::OUT_OF_MEMORY;
 use crate::memory::{AllocError, FallibleVec};
 use crate::nd_base::{LayoutError, Lengths, Order};
 use crate::nd_dim::product;
-use crate::nd_owned::{ArrayView, ArrayViewMut, OwnedArray};
 use crate::nd_shape::{StrideShape, Strides};
 use crate::ndarray_layout::Strided;
+use crate::{ArrayView, ArrayViewMut, OwnedArray};
 use alloc::vec::{self, Vec};
 
 /// What a closure makes of the items of a view, in row-major order. Errors: out of memory.

@@ -2,8 +2,8 @@
 
 use crate::convenience::OUT_OF_MEMORY;
 use crate::nd_base::{ErrorKind, IxDyn, LayoutError, Lengths, from_kind};
-use crate::nd_owned::{ArrayView, ArrayViewMut, OwnedArray};
 use crate::ndarray_layout::Strided;
+use crate::{ArrayView, ArrayViewMut, OwnedArray};
 
 /// The view with another type of the dimension. Errors: `IncompatibleShape` where it fixes another count of axes; out of memory.
 fn converted<D: Lengths, E: Lengths>(view: &Strided<D>) -> Result<Strided<E>, LayoutError> {

@@ -1,6 +1,7 @@
 //! The items of an array with their indices.
 
 use super::{IterMut, ViewIter};
+use crate::ArrayViewMut;
 use crate::convenience::OUT_OF_MEMORY;
 use crate::nd_dim::Dimension;
 use crate::ndarray_layout::Strided;
@@ -78,7 +79,7 @@ impl<'a, T, D: Dimension> IndexedIter<'a, T, D> {
 }
 
 impl<'a, T, D: Dimension> IndexedIterMut<'a, T, D> {
-    pub(crate) fn new(array: crate::ArrayViewMut<'a, T, D>) -> Self {
+    pub(crate) fn new(array: ArrayViewMut<'a, T, D>) -> Self {
         IndexedIterMut { odometer: Odometer::new(array.view()), items: IterMut::new(array) }
     }
 }

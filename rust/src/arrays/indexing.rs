@@ -1,7 +1,7 @@
 //! Items by an index in brackets, and what a wrong one is told.
 
+use crate::ArrayViewMut;
 use crate::nd_base::Lengths;
-use crate::nd_owned::ArrayViewMut;
 use crate::nd_shape::NdIndex;
 use core::fmt;
 use core::ops::IndexMut;
@@ -41,7 +41,7 @@ impl<T, D: Lengths, I: NdIndex<D>> IndexMut<I> for ArrayViewMut<'_, T, D> {
     #[inline]
     #[track_caller]
     fn index_mut(&mut self, index: I) -> &mut T {
-        match self.fitted.view().place(&index) {
+        match self.view().place(&index) {
             Some(place) => &mut self.items[place],
             None => no_such_index(&index, self.dim()),
         }

@@ -2,10 +2,11 @@
 
 use super::line_mut::{LineMut, take};
 use super::pieces::{Band, Cut, Cutting, Lines, nearest_lines};
+use crate::ArrayViewMut;
 use crate::convenience::OUT_OF_MEMORY;
 use crate::memory::FallibleVec;
 use crate::nd_base::{LayoutError, Lengths};
-use crate::nd_owned::ArrayViewMut;
+use crate::ndarray_layout::Strided;
 use alloc::vec::Vec;
 use core::fmt;
 use core::iter::FusedIterator;
@@ -199,8 +200,8 @@ struct Position {
 
 impl<'a, T> Woven<'a, T> {
     /// The items of an array, of which each index has an item to itself. Errors: out of memory.
-    fn new<D: Lengths>(array: ArrayViewMut<'a, T, D>) -> Result<Self, LayoutError> {
-        let Lines { lines: pieces, stride, len, beside } = nearest_lines(array)?;
+    fn new<D: Lengths>(view: Strided<D>, items: &'a mut [T]) -> Result<Self, LayoutError> {
+        let Lines { lines: pieces, stride, len, beside } = nearest_lines(view, items)?;
         let front = Position { group: 0, line: 0, item: 0 };
         let back = Position { group: pieces.len(), ..front };
         let mut lines = Vec::fallible_with_capacity(pieces.len())?;
@@ -279,8 +280,8 @@ impl<'a, T, D: Lengths> IterMut<'a, T, D> {
                 Err(front) => Left::new(front, None),
             },
             Cutting::Cut(cut) => Left::new(LineMut::empty(), Some(cut)),
-            Cutting::Otherwise(array) => {
-                let others = Others::Woven(Woven::new(array).expect(OUT_OF_MEMORY)).list();
+            Cutting::Otherwise(view, items) => {
+                let others = Others::Woven(Woven::new(view, items).expect(OUT_OF_MEMORY)).list();
                 return IterMut { stretch: [].iter_mut(), others };
             }
         };

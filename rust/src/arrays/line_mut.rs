@@ -1,7 +1,7 @@
 //! Items that lie evenly, one after another from both ends: lent to be written.
 
+use crate::ArrayViewMut;
 use crate::nd_base::{Ix1, new_ix1, unsigned};
-use crate::nd_owned::ArrayViewMut;
 use crate::ndarray_layout::Strided;
 use core::slice;
 

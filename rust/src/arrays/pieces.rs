@@ -2,9 +2,9 @@
 
 use super::layout::{Column, Inner, Layout, Run, Runs};
 use super::line_mut::{LineMut, Piece};
+use crate::ArrayViewMut;
 use crate::memory::FallibleVec;
 use crate::nd_base::{Axis, ErrorKind, LayoutError, Lengths, from_kind, signed};
-use crate::nd_owned::ArrayViewMut;
 use crate::ndarray_layout::{Order, Strided};
 use alloc::vec::{self, Vec};
 use core::slice;
@@ -50,6 +50,13 @@ impl<'a, T> Left<'a, T> {
     }
 }
 
+/// The view of an array, and its items.
+#[inline]
+pub(crate) fn into_parts<'a, T, D: Lengths>(array: ArrayViewMut<'a, T, D>) -> (Strided<D>, &'a mut [T]) {
+    let ArrayViewMut { items, fitted } = array;
+    (fitted.into_parts().0, items)
+}
+
 /// How many items are from the lowest place of a run to its highest one.
 #[inline]
 fn width(run: Run) -> usize {
@@ -80,8 +87,7 @@ fn nearest_axis(view: &impl Layout) -> Option<usize> {
 impl<'a, T, D: Lengths> Pieces<'a, T, D> {
     /// The rows along the last axis. Errors: `IncompatibleLayout` where rows interleave; out of memory where they don't ascend.
     pub fn rows(array: ArrayViewMut<'a, T, D>) -> Result<Self, LayoutError> {
-        let ArrayViewMut { items, fitted } = array;
-        let view = fitted.into_parts().0;
+        let (view, items) = into_parts(array);
         let inner = Inner::of_last(view.lens(), view.steps());
         if view.lens().contains(&0) || ascend(view.lens(), view.steps(), inner) {
             return Ok(Pieces::Cut(Cut { left: Left { items, first: 0 }, runs: Runs::rows(view) }));
@@ -98,23 +104,22 @@ pub(crate) enum Cutting<'a, T, D: Lengths> {
     /// Each run is above the one before.
     Cut(Cut<'a, T, D>),
     /// They aren't.
-    Otherwise(ArrayViewMut<'a, T, D>),
+    Otherwise(Strided<D>, &'a mut [T]),
 }
 
 impl<'a, T, D: Lengths> Cutting<'a, T, D> {
     #[inline]
     pub fn new(array: ArrayViewMut<'a, T, D>) -> Self {
-        let view = array.fitted.view();
+        let (view, items) = into_parts(array);
         let inner = Inner::of_most(view.lens(), view.steps());
-        if let Some(run) = Run::whole(view, inner) {
-            let items = array.items.get_mut(run.low()..).and_then(|items| items.get_mut(..width(run)));
+        if let Some(run) = Run::whole(&view, inner) {
+            let items = items.get_mut(run.low()..).and_then(|items| items.get_mut(..width(run)));
             return Cutting::Whole(Piece { items: items.unwrap_or_default(), stride: run.stride, len: run.len });
         }
         if !ascend(view.lens(), view.steps(), inner) {
-            return Cutting::Otherwise(array);
+            return Cutting::Otherwise(view, items);
         }
-        let ArrayViewMut { items, fitted } = array;
-        Cutting::Cut(Cut { left: Left { items, first: 0 }, runs: Runs::of(fitted.into_parts().0, inner) })
+        Cutting::Cut(Cut { left: Left { items, first: 0 }, runs: Runs::of(view, inner) })
     }
 }
 
@@ -214,9 +219,10 @@ pub(crate) struct Lines<'a, T> {
 }
 
 /// The lines of an array, of which each index has an item to itself. Errors: out of memory.
-pub(crate) fn nearest_lines<'a, T, D: Lengths>(array: ArrayViewMut<'a, T, D>) -> Result<Lines<'a, T>, LayoutError> {
-    let ArrayViewMut { items, fitted } = array;
-    let view = fitted.into_parts().0;
+pub(crate) fn nearest_lines<'a, T, D: Lengths>(
+    view: Strided<D>,
+    items: &'a mut [T],
+) -> Result<Lines<'a, T>, LayoutError> {
     let Some(axis) = nearest_axis(&view) else {
         return Ok(Lines { lines: Vec::new(), stride: 0, len: 0, beside: 0 });
     };

@@ -3,9 +3,9 @@
 use super::{IndexedIter, IntoRows, ViewIter};
 use crate::nd_base::{Axis, ErrorKind, Lengths, Order, ShapeError, from_kind, signed};
 use crate::nd_dim::{Dimension, product};
-use crate::nd_owned::{ArrayView, ArrayViewMut, OwnedArray};
 use crate::nd_shape::{is_layout_c, offset_from_low_addr_ptr_to_logical_ptr};
 use crate::ndarray_layout::Strided;
+use crate::{ArrayView, ArrayViewMut, OwnedArray};
 use core::ops::Range;
 
 /// The places of a view from the lowest one on, where they follow one another in some order.

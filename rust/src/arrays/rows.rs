@@ -3,8 +3,8 @@
 use super::layout::Runs;
 use super::pieces::Pieces;
 use crate::nd_base::{Ix1, LayoutError, Lengths, new_ix1, unsigned};
-use crate::nd_owned::{ArrayView, ArrayViewMut, LentRow};
 use crate::ndarray_layout::{Row, Strided};
+use crate::{ArrayView, ArrayViewMut, LentRow};
 use core::fmt;
 use core::iter::FusedIterator;
 

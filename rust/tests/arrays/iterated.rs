@@ -2,7 +2,7 @@
 
 use crate::layouts::{Layout, rounds};
 use crate::numbers::Numbers;
-use crate::{NUMBERS, of_count, rows, texts};
+use crate::{NUMBERS, of_count, rows, rows_mut, texts};
 use ndarray_layout::{ArrayView, Dimension, Ix1, Ix2, Lengths, ViewIter};
 use std::collections::VecDeque;
 use std::fmt::Debug;
@@ -48,6 +48,23 @@ fn an_iterator_says_how_many_are_left() {
     assert_eq!((left.clone().last(), left.clone().count(), left.max()), (Some(&4), 5, Some(&4)));
     let mut none = ArrayView::from_shape(Ix1(0).into(), &NUMBERS).unwrap().into_iter();
     assert_eq!((none.next(), none.next_back(), none.len()), (None, None, 0));
+}
+
+#[test]
+fn items_come_with_their_indices() {
+    let (list, mut written) = (texts(), texts());
+    let array = rows(&list);
+    let found =
+        array.t().indexed_iter().filter(|(index, _)| index.1 == 1).map(|(_, text)| text.as_str()).collect::<String>();
+    assert_eq!((found, array.indexed_iter().nth(4)), ("345".to_string(), Some(((1, 1), &list[4]))));
+    let mut turned = rows_mut(&mut written).reversed_axes();
+    let lens = turned.indexed_iter_mut().map(|((row, _), text)| {
+        text.push_str(&row.to_string());
+        text.len()
+    });
+    assert_eq!(lens.sum::<usize>(), 12);
+    assert_eq!(written.concat(), "0011223041526");
+    assert_eq!(format!("{:?}", array.indexed_iter()), "IndexedIter { left: 6, .. }");
 }
 
 /// Takes one item, or some, at an end of an iterator and of the model; whether both are the same.

@@ -53,6 +53,16 @@ fn rows_are_iterated_from_both_ends() {
 }
 
 #[test]
+fn columns_of_texts_are_lent() {
+    let texts = texts();
+    let array = rows(&texts);
+    let joined: Vec<String> = array.lanes(Axis(0)).unwrap().map(|column| items(column).concat()).collect();
+    assert_eq!(joined, ["03", "14", "25"]);
+    assert!(array.columns().rev().filter_map(|column| column.into_array().get(&0)).eq(["2", "1", "0"]));
+    assert!(owned(texts.clone()).lanes(Axis(1)).unwrap().map(|row| items(row).concat()).eq(["012", "345"]));
+}
+
+#[test]
 fn rows_that_interleave_are_refused() {
     let mut texts = texts();
     let mut array = rows_mut(&mut texts);
