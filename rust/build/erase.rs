@@ -5,7 +5,7 @@ use crate::differences::ends_value;
 use crate::docs::Contract;
 use crate::errors;
 use crate::library::without_memory;
-use crate::names::{ATTRIBUTES, DERIVES, OPEN, REFUSED, SEALED};
+use crate::names::{ATTRIBUTES, DERIVES, OPEN, PRINTED, REFUSED, SEALED};
 use crate::proofs;
 use crate::tokens::{Fault, Group, Kind, Token, Tree, begins_with, fault, length_of_generics, text_of};
 
@@ -225,7 +225,7 @@ impl<'a> Eraser<'a> {
             "derive" if self.prints_memory(&derived(group), &trees[at + 1..]) => {
                 return Err(fault(&group.open, "opens a derive that prints an allocator"));
             }
-            "derive" => self.derive(trees[0].first(), &derived(group))?,
+            "derive" => self.derive(trees[0].first(), &without_printed(derived(group), &trees[at + 1..]))?,
             _ if ATTRIBUTES.contains(&name) => self.out.push_str(&text_of(&trees[..=at])),
             _ => return Err(fault(&group.open, &format!("opens an attribute that isn't known: {name}"))),
         }
@@ -470,4 +470,10 @@ fn derived<'a>(attribute: &Group<'a>) -> Vec<&'a str> {
         [derive, Tree::Group(list)] if derive.is("derive") => list.trees.iter().filter_map(Tree::word).collect(),
         _ => Vec::new(),
     }
+}
+
+/// The names in a derive without `Debug` for a type of the list `PRINTED`.
+fn without_printed<'a>(names: Vec<&'a str>, item: &[Tree]) -> Vec<&'a str> {
+    let is_printed = matches!(item, [_, word, name, ..] if word.is("struct") && PRINTED.contains(&name.first().text));
+    names.into_iter().filter(|name| !is_printed || *name != "Debug").collect()
 }

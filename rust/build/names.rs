@@ -159,9 +159,23 @@ pub const REFUSED: &[&str] = &[
 ];
 
 /// Structs that files of `rust/src` make and take apart: all of the package sees their fields.
-pub const OPENED: &[&str] =
-    &["ArrayView", "ArrayViewMut", "Fastest", "Items", "Iter", "LentRow", "OwnedArray", "Places", "Rows", "Strided"];
+pub const OPENED: &[&str] = &[
+    "ArrayView",
+    "ArrayViewMut",
+    "Fastest",
+    "Indices",
+    "Items",
+    "Iter",
+    "LentRow",
+    "OwnedArray",
+    "Places",
+    "Rows",
+    "Strided",
+];
 
 /// Iterators whose `fold` and `nth` are more than calls of the `next` that is proved, each with the macro of `rust/src/arrays` that
 /// adds them.
 pub const FOLDED: &[(&str, &str)] = &[("Items", "fold_items"), ("Iter", "fold_iter"), ("Places", "fold_places")];
+
+/// Structs whose `Debug` files of `rust/src` have, for what is derived prints strides without their signs.
+pub const PRINTED: &[&str] = &["Strided"];

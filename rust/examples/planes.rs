@@ -1,34 +1,53 @@
-//! The red, green and blue planes of a picture whose pixels have the three side by side, each written by a thread of its own: no two
-//! planes share an item, and there is no `unsafe`.
+//! A picture of 640x480 pixels that have red, green and blue side by side: each of the three planes is written by a thread of its
+//! own, by the coordinates of the picture, and there is no `unsafe`.
+//!
+//! The cost: no two items of a plane lie side by side, so each is lent by a reference of its own, of 16 bytes: 15 MB for these
+//! 0.9 MB, made in about 10 ns an item. A loop over pixels writes them in a tenth of a nanosecond or two: lend planes where what
+//! is done to each item takes longer. Planes that lie one after another (`[3, 480, 640]`) are lent by a reference for each row.
 
-use ndarray_layout::{ArrayViewMut, Ix3, LayoutError, PartMut, s};
+use ndarray_layout::{ArrayViewMut, Ix2, Ix3, LayoutError, LentPart, s};
 use std::thread;
+use std::time::Instant;
 
-/// Adds to each item of a plane, up to white.
-fn brighten(plane: PartMut<'_, u8>, by: u8) {
-    for row in plane.into_rows() {
-        for item in row {
-            *item = item.saturating_add(by);
+const ROWS: usize = 480;
+const COLUMNS: usize = 640;
+
+/// Paints a plane from 0 at its first row to 255 at its last one.
+fn paint_downwards(mut plane: LentPart<'_, u8, Ix2>) {
+    for row in 0..ROWS {
+        for column in 0..COLUMNS {
+            plane[(row, column)] = (row * 255 / (ROWS - 1)) as u8;
+        }
+    }
+}
+
+/// Paints a plane from 0 at its first column to 255 at its last one.
+fn paint_across(mut plane: LentPart<'_, u8, Ix2>) {
+    for row in 0..ROWS {
+        for column in 0..COLUMNS {
+            plane[(row, column)] = (column * 255 / (COLUMNS - 1)) as u8;
         }
     }
 }
 
 fn main() -> Result<(), LayoutError> {
-    // 2 rows of 2 pixels of 3 items
-    let mut items = [10, 20, 30, 11, 21, 31, 12, 22, 32, 250, 250, 250];
-    let picture = ArrayViewMut::from_shape(Ix3(2, 2, 3).into(), &mut items)?;
-    let planes = picture.multi_slice_mut(&[s![.., .., 0], s![.., .., 1], s![.., .., 2]])?;
+    let mut items = vec![0; ROWS * COLUMNS * 3];
+    let mut picture = ArrayViewMut::from_shape(Ix3(ROWS, COLUMNS, 3).into(), &mut items)?;
+
+    let start = Instant::now();
+    let (red, green, mut blue) = picture.multi_sliced_mut((s![.., .., 0], s![.., .., 1], s![.., .., 2]))?;
+    let lent = start.elapsed();
     thread::scope(|scope| {
-        for (plane, by) in planes.into_iter().zip([1, 2, 3]) {
-            scope.spawn(move || brighten(plane, by));
-        }
+        scope.spawn(|| paint_downwards(red));
+        scope.spawn(|| paint_across(green));
+        scope.spawn(|| blue.fill(128));
     });
-    assert_eq!(items, [11, 22, 33, 12, 23, 34, 13, 24, 35, 251, 252, 253]);
-    println!("{items:?}");
+    println!("lent in {lent:?}, painted after {:?}", start.elapsed());
 
     // the first row and the first column share a pixel
-    let picture = ArrayViewMut::from_shape(Ix3(2, 2, 3).into(), &mut items)?;
-    let error = picture.multi_slice_mut(&[s![0, .., ..], s![.., 0, ..]]).err();
-    println!("{error:?}");
+    let error = picture.multi_sliced_mut((s![0, .., ..], s![.., 0, ..])).err();
+    assert!(error.is_some());
+    assert_eq!(picture.sliced(s![0, 0, ..])?.to_vec()?, [0, 0, 128]);
+    assert_eq!(picture.sliced(s![-1, -1, ..])?.to_vec()?, [255, 255, 128]);
     Ok(())
 }

@@ -3,12 +3,16 @@
 //! Each item calls the layer, is tested with ndarray's values, and says that it isn't proved. A copy that needs memory, as
 //! of an `IxDyn` of more than 4 axes, panics where an allocation fails. The layer's own calls return the error instead.
 
+mod any_axes;
+mod array_slices;
 mod arrays;
+mod comparing;
 mod dimension_types;
 mod dimensions;
 mod errors;
 mod iterators;
 pub mod prelude;
+mod printing;
 mod ranges;
 mod slice_arguments;
 mod views;
@@ -16,6 +20,7 @@ mod views;
 pub use dimension_types::{DimAdd, DimMax};
 pub use dimensions::{Dim, DimensionExt, Ix, Ix0, Ix1, Ix2, Ix3, Ix4, Ix5, Ix6, IxDyn, Ixs};
 pub use iterators::IndexCopies;
+pub(crate) use printing::print_nested;
 pub use slice_arguments::{SliceBuilder, SliceNextDim, stepped};
 
 /// What an infallible call says where an allocation fails.

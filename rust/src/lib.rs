@@ -41,6 +41,7 @@ pub mod memory;
 #[cfg(all(test, feature = "std"))]
 mod not_proved;
 mod num_traits;
+mod parts;
 mod sealed;
 mod smallvec;
 
@@ -81,3 +82,4 @@ pub use crate::convenience::*;
 pub use crate::memory::AllocError;
 pub use crate::nd_owned::{ArrayView, ArrayViewMut, Items, Iter, LentRow, LentRows, OwnedArray, PartMut, SplitViews};
 pub use crate::ndarray_layout::*;
+pub use crate::parts::{LentPart, MultiSliceArg};

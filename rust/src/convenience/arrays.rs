@@ -1,63 +1,104 @@
-//! Arrays that own their items as values that are copied, compared, printed and indexed.
+//! Arrays as values that are copied, made by default, iterated over and indexed.
 
 use super::OUT_OF_MEMORY;
-use crate::arrays::{no_such_index, same_items};
-use crate::memory::FallibleSlice;
-use crate::nd_base::Lengths;
-use crate::nd_owned::{Items, OwnedArray};
+use crate::arrays::no_such_index;
+use crate::memory::FallibleVec;
+use crate::nd_base::{Dim, Lengths};
+use crate::nd_dim::product;
 use crate::nd_shape::{NdIndex, StrideShape, Strides};
-use core::fmt;
-use core::hash::{Hash, Hasher};
+use crate::{ArrayView, Items, LentRow, OwnedArray};
+use alloc::vec::Vec;
 use core::ops::{Index, IndexMut};
 
-/// A copy with the same layout and items, spare ones too. Panics where an allocation fails. Not proved.
-impl<T: Copy, D: Lengths> Clone for OwnedArray<T, D> {
+/// The array of a layout that is known to fit the items.
+fn array_of<T, D: Lengths>(shape: StrideShape<D>, items: Vec<T>) -> OwnedArray<T, D> {
+    match OwnedArray::from_shape_vec(shape, items) {
+        Ok(array) => array,
+        Err((fault, _)) => panic!("the array is not made: {fault}"),
+    }
+}
+
+/// A copy with the same layout and items, spare ones too. Not proved.
+///
+/// # Panics
+///
+/// Where an allocation fails.
+///
+/// ```
+/// use ndarray_layout::{Ix1, LayoutError, OwnedArray};
+///
+/// # fn main() -> Result<(), LayoutError> {
+/// let words = OwnedArray::from_shape_vec(Ix1(2).into(), vec!["a".to_string(), "b".to_string()])?;
+/// assert_eq!(words.clone(), words);
+/// # Ok(())
+/// # }
+/// ```
+impl<T: Clone, D: Lengths> Clone for OwnedArray<T, D> {
     fn clone(&self) -> Self {
         let dim = self.dim().duplicate().expect(OUT_OF_MEMORY);
         let strides = self.view().strides().duplicate().expect(OUT_OF_MEMORY);
-        let shape = StrideShape { dim, strides: Strides::Custom(strides) };
-        let items = self.stored().fallible_to_vec().expect(OUT_OF_MEMORY);
-        let copied = OwnedArray::from_shape_vec(shape, items);
-        copied.unwrap_or_else(|(fault, _)| unreachable!("the layout of an array is accepted: {fault}"))
+        let mut items = Vec::fallible_with_capacity(self.stored().len()).expect(OUT_OF_MEMORY);
+        items.extend_from_slice(self.stored());
+        array_of(StrideShape { dim, strides: Strides::Custom(strides) }, items)
     }
 }
 
-/// Whether both have one shape and, at each index, equal items. Layouts and spare items don't count. Not proved.
-impl<T: PartialEq<U>, U, D: Lengths> PartialEq<OwnedArray<U, D>> for OwnedArray<T, D> {
-    fn eq(&self, other: &OwnedArray<U, D>) -> bool {
-        same_items((self.view(), self.stored()), (other.view(), other.stored()))
+/// The array of the default shape: no item where there is an axis, and else one. ndarray's `Default`. Not proved.
+///
+/// # Panics
+///
+/// Where an allocation fails; never for an array without items.
+///
+/// ```
+/// use ndarray_layout::{Ix0, Ix2, OwnedArray};
+///
+/// assert_eq!(OwnedArray::<u8, Ix2>::default().len(), 0);
+/// assert_eq!(OwnedArray::<u8, Ix0>::default()[()], 0);
+/// ```
+impl<T: Default, D: Lengths + Default> Default for OwnedArray<T, D> {
+    fn default() -> Self {
+        let dim = D::default();
+        let count = product(dim.slice());
+        let mut items = Vec::fallible_with_capacity(count).expect(OUT_OF_MEMORY);
+        items.resize_with(count, T::default);
+        array_of(StrideShape { dim, strides: Strides::C }, items)
+    }
+}
+
+/// The array over the same items. Not proved.
+///
+/// # Panics
+///
+/// Where an allocation fails; never for at most 4 axes.
+///
+/// ```
+/// use ndarray_layout::{ArrayView, Ix2, LayoutError};
+///
+/// # fn main() -> Result<(), LayoutError> {
+/// let square = ArrayView::from_shape(Ix2(2, 2).into(), &[1, 2, 3, 4])?;
+/// let turned = square.reversed_axes(); // `square` is copied
+/// assert_eq!((square[(0, 1)], turned[(0, 1)]), (2, 3));
+/// # Ok(())
+/// # }
+/// ```
+impl<T, D: Lengths> Clone for ArrayView<'_, T, D> {
+    fn clone(&self) -> Self {
+        self.duplicate().expect(OUT_OF_MEMORY)
     }
 }
 
 /// Not proved.
-impl<T: Eq, D: Lengths> Eq for OwnedArray<T, D> {}
-
-/// Hashes the shape and the items, in row-major order. Not proved.
-impl<T: Copy + Hash, D: Lengths> Hash for OwnedArray<T, D> {
-    fn hash<H: Hasher>(&self, state: &mut H) {
-        self.dim().slice().hash(state);
-        for item in self {
-            item.hash(state);
-        }
-    }
-}
-
-/// Prints the view, then the items in row-major order. Not proved.
-impl<T: Copy + fmt::Debug, D: Lengths> fmt::Debug for OwnedArray<T, D> {
-    fn fmt(&self, f: &mut fmt::Formatter<'_>) -> fmt::Result {
-        f.debug_struct("OwnedArray").field("view", self.view()).field("items", &InOrder(self)).finish()
-    }
-}
-
-/// The items of an array, to be printed as a list.
-struct InOrder<'a, T: Copy, D: Lengths>(&'a OwnedArray<T, D>);
+impl<T, const N: usize> Copy for ArrayView<'_, T, Dim<[usize; N]>> {}
 
 /// Not proved.
-impl<T: Copy + fmt::Debug, D: Lengths> fmt::Debug for InOrder<'_, T, D> {
-    fn fmt(&self, f: &mut fmt::Formatter<'_>) -> fmt::Result {
-        f.debug_list().entries(self.0).finish()
+impl<T> Clone for LentRow<'_, T> {
+    fn clone(&self) -> Self {
+        *self
     }
 }
+
+/// Not proved.
+impl<T> Copy for LentRow<'_, T> {}
 
 /// Iterates over copies of the items of all indices, in row-major order. Not proved.
 impl<'a, T: Copy, D: Lengths> IntoIterator for &'a OwnedArray<T, D> {
@@ -70,7 +111,11 @@ impl<'a, T: Copy, D: Lengths> IntoIterator for &'a OwnedArray<T, D> {
     }
 }
 
-/// The item of an index. Panics where it is no index of the shape, with both; `get` returns `None`. Not proved.
+/// The item of an index. Not proved.
+///
+/// # Panics
+///
+/// Where it is no index of the shape, with both: `get` returns `None`.
 impl<T, D: Lengths, I: NdIndex<D>> Index<I> for OwnedArray<T, D> {
     type Output = T;
 
@@ -84,8 +129,11 @@ impl<T, D: Lengths, I: NdIndex<D>> Index<I> for OwnedArray<T, D> {
     }
 }
 
-/// The item of an index, to be written. Panics where it is no index of the shape, with both; `get_mut` returns `None`.
-/// Not proved.
+/// The item of an index, to be written. Not proved.
+///
+/// # Panics
+///
+/// Where it is no index of the shape, with both: `get_mut` returns `None`.
 impl<T, D: Lengths, I: NdIndex<D>> IndexMut<I> for OwnedArray<T, D> {
     #[inline]
     #[track_caller]

@@ -3,9 +3,9 @@
 use super::OUT_OF_MEMORY;
 use crate::nd_base::{IxDyn, new_ixdyn};
 use crate::nd_dim::Dimension;
-use crate::nd_owned::Items;
 use crate::nd_shape::{IndexCursor, IndexCursorF, IndicesIter, IndicesIterF};
 use crate::ndarray_layout::{Places, Rows};
+use crate::{Items, Iter, LentRows};
 use core::fmt;
 use core::iter::FusedIterator;
 
@@ -32,6 +32,20 @@ impl fmt::Debug for Rows<'_> {
 impl<T: Copy> fmt::Debug for Items<'_, T> {
     fn fmt(&self, f: &mut fmt::Formatter<'_>) -> fmt::Result {
         print_left(f, "Items", self.len())
+    }
+}
+
+/// Not proved.
+impl<T> fmt::Debug for Iter<'_, T> {
+    fn fmt(&self, f: &mut fmt::Formatter<'_>) -> fmt::Result {
+        print_left(f, "Iter", self.len())
+    }
+}
+
+/// Not proved.
+impl<T> fmt::Debug for LentRows<'_, T> {
+    fn fmt(&self, f: &mut fmt::Formatter<'_>) -> fmt::Result {
+        print_left(f, "LentRows", self.len())
     }
 }
 

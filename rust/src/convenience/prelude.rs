@@ -11,9 +11,9 @@
 //! # }
 //! ```
 
+pub use crate::OwnedArray;
 pub use crate::nd_base::{Axis, LayoutError, Lengths, Order, ShapeError};
 pub use crate::nd_dim::Dimension;
-pub use crate::nd_owned::OwnedArray;
 pub use crate::nd_shape::{CanIndexCheckMode, ShapeBuilder};
 pub use crate::nd_slice::{Fit, NewAxis, Slice, SliceInfoElem};
 pub use crate::ndarray_layout::Strided;

@@ -1,8 +1,9 @@
 //! Views, their parts and the steps between them as values that are copied, compared and printed.
 
 use super::OUT_OF_MEMORY;
+use super::printing::Signed;
 use crate::memory::FallibleSlice;
-use crate::nd_base::Lengths;
+use crate::nd_base::{Dim, Lengths};
 use crate::nd_dim::{Forward, Reverse};
 use crate::nd_shape::{CanIndexCheckMode, ShapeBuilder, StrideShape};
 use crate::ndarray_layout::{Step, Stopped, Strided};
@@ -12,6 +13,39 @@ use core::fmt;
 impl<D: Lengths> Clone for Strided<D> {
     fn clone(&self) -> Self {
         self.duplicate().expect(OUT_OF_MEMORY)
+    }
+}
+
+/// A view of a fixed count of axes is a handful of numbers. Not proved.
+///
+/// ```
+/// use ndarray_layout::{CanIndexCheckMode, Ix2, LayoutError, Strided};
+///
+/// # fn main() -> Result<(), LayoutError> {
+/// let view = Strided::new(Ix2(2, 3), Ix2(3, 1), 1, 6, CanIndexCheckMode::ReadOnly)?;
+/// let turned = view.reversed_axes(); // `view` is copied
+/// assert_eq!((view.dim(), turned.dim()), (&Ix2(2, 3), &Ix2(3, 2)));
+/// # Ok(())
+/// # }
+/// ```
+impl<const N: usize> Copy for Strided<Dim<[usize; N]>> {}
+
+/// Prints the start, the shape, and the strides with their signs. Not proved.
+///
+/// ```
+/// use ndarray_layout::{CanIndexCheckMode, Ix1, LayoutError, Strided, unsigned};
+///
+/// # fn main() -> Result<(), LayoutError> {
+/// let view = Strided::new(Ix1(3), Ix1(unsigned(-2)), 1, 5, CanIndexCheckMode::ReadOnly)?;
+/// assert_eq!(format!("{view:?}"), "Strided { start: 4, dim: [3], strides: [-2] }");
+/// # Ok(())
+/// # }
+/// ```
+impl<D: Lengths> fmt::Debug for Strided<D> {
+    fn fmt(&self, f: &mut fmt::Formatter<'_>) -> fmt::Result {
+        let mut view = f.debug_struct("Strided");
+        view.field("start", &self.start()).field("dim", &self.dim().slice());
+        view.field("strides", &Signed(self.strides().slice())).finish()
     }
 }
 

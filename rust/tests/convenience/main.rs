@@ -1,8 +1,18 @@
 //! What ndarray's users type, with the values that ndarray 0.17.2 gives.
 
+mod array_slices;
+mod compared;
 mod differences;
 mod dimensions;
 mod lent;
+#[allow(dead_code)]
+#[path = "../parts/model.rs"]
+mod model;
+#[allow(dead_code)]
+#[path = "../random/numbers.rs"]
+mod numbers;
+mod printed;
+mod random;
 mod slices;
 mod values;
 

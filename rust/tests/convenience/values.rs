@@ -4,14 +4,14 @@ use super::{counted, view_of};
 use ndarray_layout::CanIndexCheckMode::ReadOnly;
 use ndarray_layout::{
     Axis, CanIndexCheckMode, ErrorKind, Fit, Forward, IndexCursor, IndexCursorF, Ix1, Ix2, Ix3, Ix6, IxDyn, IxDynImpl,
-    LayoutError, Lengths, Order, OwnedArray, Reverse, Shape, ShapeBuilder, SliceInfo, SliceInfoElem, Step, Stopped,
-    StrideShape, Strided, Strides, all_indices, from_kind, indices_iter_f, memory, run, s, signed, unsigned,
+    LayoutError, Lengths, LentPart, Order, OwnedArray, Reverse, Shape, ShapeBuilder, SliceInfo, SliceInfoElem, Step,
+    Stopped, StrideShape, Strided, Strides, all_indices, from_kind, indices_iter_f, memory, run, s, signed, unsigned,
 };
 use std::collections::HashSet;
 use std::error::Error;
 use std::hash::{DefaultHasher, Hash, Hasher};
 
-fn hash_of(value: &impl Hash) -> u64 {
+pub fn hash_of(value: &impl Hash) -> u64 {
     let mut hasher = DefaultHasher::new();
     value.hash(&mut hasher);
     hasher.finish()
@@ -116,14 +116,14 @@ fn arrays_are_indexed_and_iterated_over() -> Result<(), LayoutError> {
 }
 
 #[test]
-#[should_panic(expected = "is out of bounds of the shape")]
+#[should_panic(expected = "index [1, 3] is out of bounds of the shape [2, 3]")]
 fn an_index_out_of_bounds_panics() {
     let array = counted(Ix2(2, 3)).expect("an array of six items");
     let _ = array[[1, 3]];
 }
 
 #[test]
-#[should_panic(expected = "is out of bounds of the shape")]
+#[should_panic(expected = "index [2, 0] is out of bounds of the shape [2, 3]")]
 fn a_write_out_of_bounds_panics() {
     let mut array = counted(Ix2(2, 3)).expect("an array of six items");
     array[[2, 0]] = 1;
@@ -207,7 +207,7 @@ fn every_type_prints() -> Result<(), LayoutError> {
     assert_eq!(format!("{:?}", view.iter_places(Order::C)), "Places { left: 2, .. }");
     assert_eq!(format!("{:?}", view.rows(Order::F)), "Rows { left: 1, .. }");
     let [array, _] = equal_arrays()?;
-    assert_eq!(format!("{array:?}"), format!("OwnedArray {{ view: {:?}, items: [8, 7] }}", array.view()));
+    assert_eq!(format!("{array:?}"), "[8, 7], shape=[2], strides=[-1], layout=Custom (0x0), const ndim=1");
     assert_eq!(format!("{:?}", array.iter()), "Items { left: 2, .. }");
     assert_eq!(format!("{:?}", all_indices(Ix2(2, 3))?.into_iter()), "IndicesIter { left: 6, .. }");
     assert_eq!(format!("{:?}", indices_iter_f(Ix2(2, 3))?), "IndicesIterF { left: 6, .. }");
@@ -228,6 +228,7 @@ fn types_are_send_and_sync() {
     is_send_and_sync::<IxDyn>();
     is_send_and_sync::<Strided<IxDyn>>();
     is_send_and_sync::<OwnedArray<u8, Ix6>>();
+    is_send_and_sync::<LentPart<'_, u8, Ix6>>();
     is_send_and_sync::<SliceInfo<Vec<SliceInfoElem>, Ix2, IxDyn>>();
     is_send_and_sync::<LayoutError>();
     is_send_and_sync::<Stopped>();
