@@ -1,0 +1,127 @@
+//! Calls of arrays beside loops over slices, as one writes them by hand and as rustc compiles them. The items, 160 KB, lie in the
+//! second cache.
+//!
+//! usage: arrays time ROUNDS ROUND_MS [WORD]   the nanoseconds of each side, where a name has WORD
+
+#[path = "arrays/by_hand.rs"]
+mod by_hand;
+#[path = "arrays/by_package.rs"]
+mod by_package;
+mod timing;
+
+extern crate ndarray_layout;
+
+use std::hint::black_box;
+use timing::{Row, row};
+
+// Moves all code that follows by so many bytes: two programs with other numbers are two builds. (`R` is for the linker, which
+// leaves out a section that nothing refers to.)
+std::arch::global_asm!(r#".pushsection .text.shift, "axR", @progbits"#, concat!(".space ", env!("SHIFT"), ", 0xcc"), ".popsection");
+
+/// How many rows and columns an array has, and how many items of a row are read where rows are padded.
+pub const SIDE: usize = 200;
+pub const PADDED: usize = 190;
+
+/// How long the side of a picture of tiles is, and that of a tile.
+pub const PICTURE: usize = 100;
+pub const TILE: usize = 10;
+
+/// How an array of the items lies: all of them row by row; without the last items of each row; column by column.
+#[derive(Clone, Copy)]
+pub enum Form {
+    Whole,
+    Padded,
+    Turned,
+}
+
+impl Form {
+    const ALL: [(Form, &'static str); 3] = [(Form::Whole, "whole"), (Form::Padded, "padded rows"), (Form::Turned, "columns")];
+
+    /// How many items the array has.
+    fn count(self) -> usize {
+        if let Form::Padded = self { SIDE * PADDED } else { SIDE * SIDE }
+    }
+}
+
+/// The items of an array.
+pub fn items() -> Vec<u32> {
+    (0..(SIDE * SIDE) as u32).map(|number| number.wrapping_mul(2_654_435_761) >> 8).collect()
+}
+
+/// A sum that says what the items are.
+pub fn told(items: &[u32]) -> usize {
+    items.iter().enumerate().map(|(place, item)| (place + 1).wrapping_mul(*item as usize)).fold(0, usize::wrapping_add)
+}
+
+/// A call of both sides on items that each pass may change; the sum over what is left.
+fn writing(name: String, form: Form, theirs: fn(Form, &mut [u32]), ours: fn(Form, &mut [u32])) -> Row {
+    let side = |call: fn(Form, &mut [u32])| {
+        move |passes| {
+            let mut items = items();
+            (0..passes).for_each(|_| call(black_box(form), black_box(&mut items)));
+            told(&items)
+        }
+    };
+    row(name, form.count(), side(theirs), side(ours))
+}
+
+/// A call of both sides that reads the items; the sum over its results.
+fn reading(name: String, form: Form, theirs: fn(Form, &[u32]) -> usize, ours: fn(Form, &[u32]) -> usize) -> Row {
+    let side = |call: fn(Form, &[u32]) -> usize| {
+        move |passes| {
+            let items = items();
+            (0..passes).map(|_| call(black_box(form), black_box(&items))).fold(0, usize::wrapping_add)
+        }
+    };
+    row(name, form.count(), side(theirs), side(ours))
+}
+
+/// A call of both sides that lends the tiles of a picture; the sum over what is left.
+fn lending(name: &str, items: usize, theirs: fn(&mut [u8]), ours: fn(&mut [u8])) -> Row {
+    let side = |call: fn(&mut [u8])| {
+        move |passes| {
+            let mut picture = vec![0; PICTURE * PICTURE * 3];
+            (0..passes).for_each(|_| call(black_box(&mut picture)));
+            picture.iter().enumerate().map(|(place, item)| (place + 1) * usize::from(*item)).sum()
+        }
+    };
+    row(name, items, side(theirs), side(ours))
+}
+
+fn rows() -> Vec<Row> {
+    let mut rows = vec![];
+    for (form, name) in Form::ALL {
+        let named = |call: &str| format!("{call}, {name}");
+        rows.push(writing(named("fill"), form, by_hand::fill, by_package::fill));
+        rows.push(writing(named("assign"), form, by_hand::assign, by_package::assign));
+        rows.push(writing(named("map_in_place"), form, by_hand::map_in_place, by_package::map_in_place));
+        rows.push(reading(named("=="), form, by_hand::equal, by_package::equal));
+        rows.push(reading(named("iter().sum()"), form, by_hand::sum, by_package::sum));
+        rows.push(reading(named("iter().copied().collect()"), form, by_hand::collect, by_package::collect));
+        rows.push(reading(named("fold"), form, by_hand::sum, by_package::fold));
+        rows.push(reading(named("a[(i, j)]"), form, by_hand::index, by_package::index));
+    }
+    let (tiles, planes) = (PICTURE * PICTURE, PICTURE * PICTURE * 3);
+    rows.push(lending("100 tiles of 10x10, lent and filled, beside a loop", tiles, by_hand::fill_tiles, by_package::fill_tiles));
+    rows.push(lending("100 tiles of 10x10, lent and filled, beside lists of rows", tiles, by_hand::lend_tiles, by_package::fill_tiles));
+    rows.push(lending("the same by multi_slice_mut, beside lists of rows", tiles, by_hand::lend_tiles, by_package::fill_part_muts));
+    rows.push(lending("three planes, lent and filled, beside a loop", planes, by_hand::fill_planes, by_package::fill_planes));
+    rows.push(lending("three planes, lent and filled, beside lists of items", planes, by_hand::lend_planes, by_package::fill_planes));
+    rows
+}
+
+fn main() {
+    let words: Vec<String> = std::env::args().skip(1).collect();
+    let number = |place: usize| -> usize { words[place].parse().expect("a number") };
+    let word = words.get(3).map_or("", String::as_str);
+    let mut rows = rows();
+    rows.retain(|row| row.name.contains(word));
+    for row in &rows {
+        let sums: Vec<usize> = row.sides.iter().map(|call| call(3)).collect();
+        assert_eq!(sums[0], sums[1], "{}: the sides return different results", row.name);
+    }
+    let times = timing::times(&rows, number(1), number(2) as f64 * 1e6);
+    for (row, times) in rows.iter().zip(times) {
+        println!("{}\t{}\t{}", row.name, times[0], times[1]);
+    }
+}
