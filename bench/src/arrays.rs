@@ -16,7 +16,11 @@ use timing::{Row, row};
 
 // Moves all code that follows by so many bytes: two programs with other numbers are two builds. (`R` is for the linker, which
 // leaves out a section that nothing refers to.)
-std::arch::global_asm!(r#".pushsection .text.shift, "axR", @progbits"#, concat!(".space ", env!("SHIFT"), ", 0xcc"), ".popsection");
+std::arch::global_asm!(
+    r#".pushsection .text.shift, "axR", @progbits"#,
+    concat!(".space ", env!("SHIFT"), ", 0xcc"),
+    ".popsection"
+);
 
 /// How many rows and columns an array has, and how many items of a row are read where rows are padded.
 pub const SIDE: usize = 200;
@@ -35,7 +39,8 @@ pub enum Form {
 }
 
 impl Form {
-    const ALL: [(Form, &'static str); 3] = [(Form::Whole, "whole"), (Form::Padded, "padded rows"), (Form::Turned, "columns")];
+    const ALL: [(Form, &'static str); 3] =
+        [(Form::Whole, "whole"), (Form::Padded, "padded rows"), (Form::Turned, "columns")];
 
     /// How many items the array has.
     fn count(self) -> usize {
@@ -102,11 +107,36 @@ fn rows() -> Vec<Row> {
         rows.push(reading(named("a[(i, j)]"), form, by_hand::index, by_package::index));
     }
     let (tiles, planes) = (PICTURE * PICTURE, PICTURE * PICTURE * 3);
-    rows.push(lending("100 tiles of 10x10, lent and filled, beside a loop", tiles, by_hand::fill_tiles, by_package::fill_tiles));
-    rows.push(lending("100 tiles of 10x10, lent and filled, beside lists of rows", tiles, by_hand::lend_tiles, by_package::fill_tiles));
-    rows.push(lending("the same by multi_slice_mut, beside lists of rows", tiles, by_hand::lend_tiles, by_package::fill_part_muts));
-    rows.push(lending("three planes, lent and filled, beside a loop", planes, by_hand::fill_planes, by_package::fill_planes));
-    rows.push(lending("three planes, lent and filled, beside lists of items", planes, by_hand::lend_planes, by_package::fill_planes));
+    rows.push(lending(
+        "100 tiles of 10x10, lent and filled, beside a loop",
+        tiles,
+        by_hand::fill_tiles,
+        by_package::fill_tiles,
+    ));
+    rows.push(lending(
+        "100 tiles of 10x10, lent and filled, beside lists of rows",
+        tiles,
+        by_hand::lend_tiles,
+        by_package::fill_tiles,
+    ));
+    rows.push(lending(
+        "the same by multi_slice_mut, beside lists of rows",
+        tiles,
+        by_hand::lend_tiles,
+        by_package::fill_part_muts,
+    ));
+    rows.push(lending(
+        "three planes, lent and filled, beside a loop",
+        planes,
+        by_hand::fill_planes,
+        by_package::fill_planes,
+    ));
+    rows.push(lending(
+        "three planes, lent and filled, beside lists of items",
+        planes,
+        by_hand::lend_planes,
+        by_package::fill_planes,
+    ));
     rows
 }
 

@@ -12,7 +12,7 @@ extern crate ndarray_layout;
 // (linked for its exports)
 use bench_by_rustc as _;
 
-use ndarray_layout::{ArrayViewMut, Ix2, Ix3, LayoutError, SliceInfoElem};
+use ndarray_layout::{ArrayViewMut, Ix2, Ix3, LayoutError, SliceInfoElem, s};
 use std::hint::black_box;
 use std::time::Instant;
 use tables::Lists;
@@ -69,6 +69,28 @@ fn lend_planes(items: usize, passes: usize) -> usize {
     (0..passes).map(|_| lend().unwrap_or(usize::MAX)).sum()
 }
 
+/// Lends each of so many rows of 8 items at once, as a part with a shape, from the first one on by a step.
+fn lend_row_parts(rows: usize, [first, step]: [isize; 2], passes: usize) -> usize {
+    let mut items = vec![0u8; rows * 8];
+    let slices: Vec<_> = (0..rows as isize).map(|row| s![first + row * step, ..]).collect();
+    let mut lend = || {
+        let mut array = ArrayViewMut::from_shape(Ix2(rows, 8).into(), &mut items)?;
+        Ok::<_, LayoutError>(array.multi_sliced_mut(&slices[..])?.len())
+    };
+    (0..passes).map(|_| lend().unwrap_or(usize::MAX)).sum()
+}
+
+/// Lends the three planes of such a picture as parts with shapes.
+fn lend_plane_parts(items: usize, passes: usize) -> usize {
+    let pixels = items / 3;
+    let mut items = vec![0u8; items];
+    let mut lend = || {
+        let mut picture = ArrayViewMut::from_shape(Ix3(pixels.div_ceil(1000), pixels.min(1000), 3).into(), &mut items)?;
+        Ok::<_, LayoutError>(picture.multi_sliced_mut([0, 1, 2].map(|plane| s![.., .., plane]))?.len())
+    };
+    (0..passes).map(|_| lend().unwrap_or(usize::MAX)).sum()
+}
+
 /// The call of that name on arguments of a size, made so many times.
 fn call_of(name: &str, size: usize) -> Box<dyn Fn(usize) -> usize> {
     let of_layout = |call: usize, lists: Lists| move |passes| ours::layouts(call, &lists, passes);
@@ -98,6 +120,9 @@ fn call_of(name: &str, size: usize) -> Box<dyn Fn(usize) -> usize> {
         "multi_slice_mut in order" => Box::new(move |passes| lend_rows(size, [0, 1], passes)),
         "multi_slice_mut against it" => Box::new(move |passes| lend_rows(size, [size as isize - 1, -1], passes)),
         "multi_slice_mut of planes" => Box::new(move |passes| lend_planes(size, passes)),
+        "multi_sliced_mut in order" => Box::new(move |passes| lend_row_parts(size, [0, 1], passes)),
+        "multi_sliced_mut against it" => Box::new(move |passes| lend_row_parts(size, [size as isize - 1, -1], passes)),
+        "multi_sliced_mut of planes" => Box::new(move |passes| lend_plane_parts(size, passes)),
         _ => panic!("{name} is no call here"),
     }
 }

@@ -2,7 +2,7 @@
 //! own, by the coordinates of the picture, and there is no `unsafe`.
 //!
 //! The cost: no two items of a plane lie side by side, so each is lent by a reference of its own, of 16 bytes: 15 MB for these
-//! 0.9 MB, made in about 10 ns an item. A loop over pixels writes them in a tenth of a nanosecond or two: lend planes where what
+//! 0.9 MB, made in 10 to 30 ns an item. A loop over pixels writes them in a tenth of a nanosecond or two: lend planes where what
 //! is done to each item takes longer. Planes that lie one after another (`[3, 480, 640]`) are lent by a reference for each row.
 
 use ndarray_layout::{ArrayViewMut, Ix2, Ix3, LayoutError, LentPart, s};

@@ -237,9 +237,9 @@ impl<'a, T, D: Lengths> ArrayViewMut<'a, T, D> {
     /// That of `Strided::slice` for the first slice that doesn't fit; then `Unsupported` where two slices share an index; then
     /// out of memory, which may come before both. The items are unchanged.
     ///
-    /// Takes memory and time for each row of items that lie side by side along an axis, and else for each item: 16 bytes that
-    /// the part keeps, and some 30 bytes until the parts are made. The rows are put in order by their places, in time that grows
-    /// with their count alone, but for many that begin close together.
+    /// Takes memory and time for each row of items that lie side by side along an axis, and else for each item: 16 bytes. Rows of
+    /// parts that take turns, as tiles of a band and planes do, are cut in turn; others come by a heap, in time that grows
+    /// with the logarithm of the count of parts too.
     ///
     /// ```
     /// use ndarray_layout::{ArrayViewMut, Ix2, LayoutError, s};
