@@ -43,6 +43,8 @@ mod prelude {
         assert_eq!(part.iter_places(Order::RowMajor).len(), part.dim().size());
         let array = OwnedArray::from_shape_vec(Dim((2, 2)).f()?.into(), vec![1, 2, 3, 4])?;
         assert_eq!((array[[0, 1]], array[(1, 0)]), (3, 2));
+        let columns: ArrayView<'_, i32, Ix2> = array.sliced(s![.., ..1])?;
+        assert_eq!(columns.iter().sum::<i32>(), 3);
         Ok(())
     }
 }

@@ -4,7 +4,7 @@ use crate::model::{Picked, Plain, index_of};
 use crate::numbers::Numbers;
 use crate::values::hash_of;
 use ndarray_layout::{
-    ArrayView, ArrayViewMut, CanIndexCheckMode, IxDyn, Lengths, OwnedArray, SliceInfoElem, StrideShape, Strided,
+    ArrayView, ArrayViewMut, CanIndexCheckMode, Ix3, IxDyn, Lengths, OwnedArray, SliceInfoElem, StrideShape, Strided,
     Strides, all_indices, unsigned,
 };
 use std::fmt::Debug;
@@ -142,6 +142,8 @@ fn crops_and_indices_of_any_count_of_axes_are_the_models() {
         let fits = (0..starts.len()).all(|axis| starts[axis] <= ends[axis] && ends[axis] <= plain.shape[axis]);
         assert_eq!(part.is_some(), fits);
         let Some(part) = part else { continue };
+        let fixed = part.clone().into_dimensionality::<Ix3>().map(Strided::into_dyn);
+        assert_eq!(fixed.ok(), (starts.len() == 3).then(|| part.clone()));
         let elem = |(start, end): (&usize, &usize)| SliceInfoElem::from(*start..*end);
         let picked = plain.picked(&starts.iter().zip(&ends).map(elem).collect::<Vec<_>>()).expect("a part");
         let by_index = all_indices(part.dim().clone()).expect("memory").into_iter().map(|index| part.place(&index));
