@@ -1,6 +1,6 @@
 -- Runs of lists of steps from runs of their parts.
 use Rattle.std.proofs.Common.{◌≡◌, ℕ, ◌+◌, ◌<◌, suc, Option, Some, None, Err, List, [], ◌∷◌, ◌++◌, length, get_or, take, drop, refl, sym}
-use Rattle.std.proofs.Common.{ap, subst, ◌∙◌, arith, false, nat_lt, IsOk}
+use Rattle.std.proofs.Common.{ap, subst, ◌∙◌, arith, false, IsOk}
 use Rattle.std.specs.List.{slice_get}
 use Rattle.std.proofs.Math.Seq.{take-suc, drop-cons}
 use Rattle.std.proofs.lemmas.List.{length-take-le, take-append-drop}
@@ -8,32 +8,28 @@ use Rattle.std.proofs.lemmas.Option.{get_or_from_slice_get, slice_get_within}
 use Rattle.nd_base.specs.declared.error.ErrorKind.{ErrorKind}
 use Rattle.nd_base.specs.declared.lengths.TheConstants.{INLINE_AXES}
 use Rattle.std.proofs.lemmas.Bool.{both_ways, lt-ltb, ltb-true, true_from_ne_false}
-use Rattle.nd_slice.specs.SliceFault.{out_count}
 use Rattle.ndarray_layout.specs.Descends.{IsViewOf}
 use Rattle.ndarray_layout.specs.DistinctPlaces.{HasDistinctPlaces}
-use Rattle.ndarray_layout.specs.Step.{StepValue, SliceBy, CollapseTo, MergeInto, ReshapeTo, BroadcastTo, may_want_memory, step_fault}
-use Rattle.ndarray_layout.specs.Step.{view_after}
-use Rattle.ndarray_layout.specs.StepFits.{MayLackMemory}
-use Rattle.ndarray_layout.proofs.laws.Step.{IsViewOf-view_after}
-use Rattle.ndarray_layout.proofs.laws.StepFits.{fits_of_no_fault_of_step, no_fault_of_fitting_step}
+use Rattle.ndarray_layout.specs.Step.{StepValue, rule_of}
+use Rattle.ndarray_layout.specs.StepRule.{StepRule, IsStepError, MayLackMemory, may_want_memory}
+use Rattle.ndarray_layout.proofs.laws.Step.{IsLawful, lawful}
 use Rattle.nd_base.specs.declared.error.LayoutError.{LayoutError}
 use Rattle.nd_base.specs.declared.error.LayoutError.TheVariants.{Shape, Memory}
-use Rattle.nd_base.specs.declared.order.Order.{Order}
-use Rattle.nd_base.proofs.laws.Definitions.{NeedsNoMemory, shape_fault}
-use Rattle.ndarray_layout.specs.ReshapedView.{IsReshapeError}
-use Rattle.ndarray_layout.specs.Run.{AllFit, IsStepError, Leave, NeedNoMemory, StopsAt, run_of}
+use Rattle.nd_base.proofs.laws.Definitions.{shape_fault}
+use Rattle.ndarray_layout.specs.Run.{AllFit, Leave, NeedNoMemory, StopsAt, run_of}
 use Rattle.ndarray_layout.proofs.laws.Run.{first_then, in_turn, joined, run_of_append, run_of_fault, run_of_fitting, run_sound, stayed}
 use Rattle.ndarray_layout.specs.View.{View, IsView}
 
 -- where a run has no fault, each step fits
 pub all_fit : (steps : List StepValue) (view : View) → IsView view → (run_of steps view).fault ≡ None → AllFit steps view
 all_fit [] view v none = tt
-all_fit (step ∷ steps) view v none = by (step_fault view step) refl (all_fit steps (view_after view step)) none
+all_fit (step ∷ steps) view v none = by ((rule_of step).fault view) refl (all_fit steps ((rule_of step).view view)) none
   where
-    by : (fault : Option ErrorKind) → step_fault view step ≡ fault
-        → (IsView (view_after view step) → (run_of steps (view_after view step)).fault ≡ None → AllFit steps (view_after view step))
-        → (first_then fault view step (run_of steps (view_after view step))).fault ≡ None → AllFit (step ∷ steps) view
-    by None e rest none = (fits_of_no_fault_of_step step v e, rest (IsViewOf-view_after step v e).is_view none)
+    by : (fault : Option ErrorKind) → (rule_of step).fault view ≡ fault
+        → (IsView ((rule_of step).view view)
+        → (run_of steps ((rule_of step).view view)).fault ≡ None → AllFit steps ((rule_of step).view view))
+        → (first_then fault view step (run_of steps ((rule_of step).view view))).fault ≡ None → AllFit (step ∷ steps) view
+    by None e rest none = ((lawful step v).decides.0 e, rest ((lawful step v).kept e).is_view none)
     by (Some kind) e rest none = absurd (cc)
 
 -- and the view that it leaves is one of the first one's data
@@ -52,82 +48,41 @@ left_by {steps} {start} v none same =
 -- as many steps were taken as there are where none has a fault
 taken_of_no_fault : (steps : List StepValue) (view : View) → (run_of steps view).fault ≡ None → (run_of steps view).taken ≡ length steps
 taken_of_no_fault [] view none = refl
-taken_of_no_fault (step ∷ steps) view none = by (step_fault view step) (taken_of_no_fault steps (view_after view step)) none
+taken_of_no_fault (step ∷ steps) view none = by ((rule_of step).fault view) (taken_of_no_fault steps ((rule_of step).view view)) none
   where
     by : (fault : Option ErrorKind)
-        → ((run_of steps (view_after view step)).fault ≡ None → (run_of steps (view_after view step)).taken ≡ length steps)
-        → (first_then fault view step (run_of steps (view_after view step))).fault ≡ None
-        → (first_then fault view step (run_of steps (view_after view step))).taken ≡ suc (length steps)
+        → ((run_of steps ((rule_of step).view view)).fault ≡ None → (run_of steps ((rule_of step).view view)).taken ≡ length steps)
+        → (first_then fault view step (run_of steps ((rule_of step).view view))).fault ≡ None
+        → (first_then fault view step (run_of steps ((rule_of step).view view))).taken ≡ suc (length steps)
     by None rest none = omega (arith, rest none)
     by (Some kind) rest none = absurd (cc)
 
--- a kind of step whose allocation fails only where it fits
-abbrev pub WantsMemoryLast : StepValue → Type 0
-WantsMemoryLast (SliceBy elems fit) = Unit {0}
-WantsMemoryLast (CollapseTo axis index) = Unit {0}
-WantsMemoryLast (MergeInto take into) = Unit {0}
-WantsMemoryLast (ReshapeTo shape order) = ⊥
-WantsMemoryLast (BroadcastTo shape) = Unit {0}
-
--- what is known of a step that is not taken, where memory comes after the fault of a shape
-pub error_of : (X : Type 0) {view : View} (step : StepValue) (fault : LayoutError) → IsView view → WantsMemoryLast step
-    → shape_fault {X = X} (Err fault) ≡ step_fault view step
-    → (step_fault view step ≡ None → may_want_memory step ≡ false → IsOk {T = X} {E = LayoutError} (Err fault))
-    → IsStepError view fault step
-error_of X step (Shape kind) v last failed memory = (
-  sym failed,
+-- a step with a fault doesn't fit
+pub error_of_fault : {rule : StepRule} {view : View} {kind : ErrorKind} → IsLawful rule view → rule.fault view ≡ Some kind
+    → IsStepError rule view (Shape kind)
+error_of_fault {rule} {view} {kind} law fault = (
+  fault,
   λ fits.
-      let none = no_fault_of_fitting_step step v fits in
-      let e : Some kind ≡ None = failed ∙ none in
+      let e : Some kind ≡ None = sym fault ∙ law.decides.1 fits in
       cc,
 )
-error_of X {view} step (Memory e) v last failed memory = wanted view step v last (sym failed) (λ few.
-    let ok = memory (sym failed) few in
-    cc)
-  where
-    wanted : (view : View) (step : StepValue) → IsView view → WantsMemoryLast step → step_fault view step ≡ None
-        → (may_want_memory step ≡ false → ⊥) → MayLackMemory view step
-    wanted view (SliceBy elems fit) v last none wants = (
-      fits_of_no_fault_of_step (SliceBy elems fit) v none,
-      ltb-true INLINE_AXES
-          (out_count elems) (true_from_ne_false (nat_lt INLINE_AXES (out_count elems)) wants),
-    )
-    wanted view (CollapseTo axis index) v last none wants = wants refl
-    wanted view (MergeInto take into) v last none wants = wants refl
-    wanted view (ReshapeTo shape order) v last none wants = absurd last
-    wanted view (BroadcastTo shape) v last none wants = (
-      fits_of_no_fault_of_step (BroadcastTo shape) v none,
-      ltb-true INLINE_AXES
-          (length shape) (true_from_ne_false (nat_lt INLINE_AXES (length shape)) wants),
-    )
 
--- a count that wants memory is above four
-past_inline : (n : ℕ) → ¬ NeedsNoMemory None n → INLINE_AXES < n
-past_inline n many = omega arith
-
--- and of a reshape, where it may come before it
-pub reshape_error_of : {view : View} (shape : List ℕ) (order : Order) (fault : LayoutError) → IsView view
-    → IsReshapeError None order shape view fault → IsStepError view fault (ReshapeTo shape order)
-reshape_error_of shape order (Shape kind) v failed = (
-  failed,
-  λ fits.
-      let none = no_fault_of_fitting_step (ReshapeTo shape order) v fits in
-      let e : Some kind ≡ None = sym failed ∙ none in
-      cc,
+-- what is known of a step that is not taken, where it asks for memory only if it fits
+pub error_of : (X : Type 0) {rule : StepRule} {view : View} (error : LayoutError) → IsLawful rule view → (rule.fits view → rule.asks view)
+    → shape_fault {X = X} (Err error) ≡ rule.fault view
+    → (rule.fault view ≡ None → may_want_memory rule ≡ false → IsOk {T = X} {E = LayoutError} (Err error))
+    → IsStepError rule view error
+error_of X (Shape kind) law asks fault memory = error_of_fault law (sym fault)
+error_of X {rule} (Memory e) law asks fault memory = (
+  asks (law.decides.0 (sym fault)),
+  ltb-true INLINE_AXES rule.listed (true_from_ne_false (may_want_memory rule) (λ few.
+      let ok = memory (sym fault) few in
+      cc)),
 )
-reshape_error_of shape order (Memory e) v failed = (failed.0, past_inline (length shape) failed.1)
 
--- a count above `INLINE_AXES` is not at most that
-above_inline : (n : ℕ) → INLINE_AXES < n → nat_lt INLINE_AXES n ≡ false → ⊥
-above_inline n above few = both_ways (nat_lt INLINE_AXES n) few (lt-ltb INLINE_AXES n above)
-
--- no allocation fails of a step that makes none
-not_at_fault : (view : View) (step : StepValue) → MayLackMemory view step → may_want_memory step ≡ false → ⊥
-not_at_fault view (SliceBy elems fit) failed few = above_inline (out_count elems) failed.1 few
-not_at_fault view (CollapseTo axis index) failed few = failed
-not_at_fault view (MergeInto take into) failed few = failed
-not_at_fault view (ReshapeTo shape order) failed few = above_inline (length shape) failed.1 few
-not_at_fault view (BroadcastTo shape) failed few = above_inline (length shape) failed.1 few
+-- no allocation fails of a step that makes no list of more than four lengths
+not_lacking : (rule : StepRule) (view : View) → MayLackMemory rule view → may_want_memory rule ≡ false → ⊥
+not_lacking rule view lacks few = both_ways (may_want_memory rule) few (lt-ltb INLINE_AXES rule.listed lacks.1)
 
 -- ---- a run that has come to one of its steps
 module _ (steps : List StepValue) (at : ℕ) (step : StepValue) (start left : View) (there : slice_get steps at ≡ Some step)
@@ -146,14 +101,15 @@ module _ (steps : List StepValue) (at : ℕ) (step : StepValue) (start left : Vi
       ap (λ part. run_of part start) cut ∙ run_of_append (take at steps) (step ∷ []) start
 
   -- a step that fits leaves what it makes of the view so far
-  pub one_more : IsView start → step_fault left step ≡ None → Leave (take (at + 1) steps) start (view_after left step)
+  pub one_more : IsView start → (rule_of step).fault left ≡ None → Leave (take (at + 1) steps) start ((rule_of step).view left)
   one_more v fits =
-      let now : ((run_of (take (at + 1) steps) start).fault ≡ None) × ((run_of (take (at + 1) steps) start).view ≡ view_after left step) =
+      let run = run_of (take (at + 1) steps) start in
+      let now : (run.fault ≡ None) × (run.view ≡ (rule_of step).view left) =
       rw (run_of_next, before.fits, before.left, run_of_fitting step [] left fits) (refl, refl) in
       left_by v now.0 now.1
 
   -- one that doesn't fit ends the run of them all
-  run_of_ended : (kind : ErrorKind) → step_fault left step ≡ Some kind
+  run_of_ended : (kind : ErrorKind) → (rule_of step).fault left ≡ Some kind
       → run_of steps start ≡ joined None (run_of (take at steps) start) (stayed (Some kind) left)
   run_of_ended kind fault =
       let rest = drop-cons steps at step within ∙ ap (λ s. s ∷ drop (suc at) steps) item in
@@ -163,21 +119,22 @@ module _ (steps : List StepValue) (at : ℕ) (step : StepValue) (start left : Vi
       ∙ run_of_append (take at steps) (step ∷ drop (suc at) steps) start
       ∙ rw (before.fits, before.left, ended) refl
 
-  pub stopped : (fault : LayoutError) → IsStepError left fault step → StopsAt steps start at fault left
+  pub stopped : (fault : LayoutError) → IsStepError (rule_of step) left fault → StopsAt steps start at fault left
   stopped fault failed = record {
     before = before;
     within = within;
     failed = rw there failed;
     ended = λ kind is.
-        let known : IsStepError left (Shape kind) step = subst (λ f. IsStepError left f step) is failed in
+        let known : IsStepError (rule_of step) left (Shape kind) = subst (λ f. IsStepError (rule_of step) left f) is failed in
         let count = taken_of_no_fault (take at steps) start before.fits ∙ length-take-le at steps (omega (arith, within)) in
         rw (run_of_ended kind known.0) (refl, omega (arith, count), refl);
   }
 
   -- and a run without fault whose steps want no memory is not stopped
-  pub not_stopped : (fault : LayoutError) → IsStepError left fault step → (run_of steps start).fault ≡ None → NeedNoMemory steps → ⊥
+  pub not_stopped : (fault : LayoutError) → IsStepError (rule_of step) left fault
+      → (run_of steps start).fault ≡ None → NeedNoMemory steps → ⊥
   not_stopped (Shape kind) failed none few =
       let e : Some kind ≡ None = rw (run_of_ended kind failed.0) at none in
       cc
   not_stopped (Memory e) failed none few =
-      not_at_fault left step failed (subst (λ one. may_want_memory one ≡ false) item (few at step within))
+      not_lacking (rule_of step) left failed (subst (λ one. may_want_memory (rule_of one) ≡ false) item (few at step within))

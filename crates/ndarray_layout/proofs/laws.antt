@@ -1,4 +1,5 @@
 pub mod AcceptanceFrom
+pub mod ArgumentFits
 pub mod BlocksView
 pub mod BroadcastView
 pub mod ChunksView
@@ -21,7 +22,6 @@ pub mod SharePlace
 pub mod SlicedView
 pub mod SplitView
 pub mod Step
-pub mod StepFits
 pub mod Stretch
 pub mod View
 pub mod WindowsView

@@ -1,4 +1,5 @@
 pub mod AcceptanceFrom
+pub mod ArgumentFits
 pub mod BlocksView
 pub mod BroadcastView
 pub mod ChunksView
@@ -23,7 +24,7 @@ pub mod SlicedView
 pub mod SlicesSharePlace
 pub mod SplitView
 pub mod Step
-pub mod StepFits
+pub mod StepRule
 pub mod Stretch
 pub mod View
 pub mod WindowsView

@@ -1,5 +1,6 @@
 -- What a list of steps makes of a view: what its steps make of it, one after another.
-use Rattle.std.specs.Prelude.{◌≡◌, ℕ, ◌+◌, ◌<◌, pos, true, false, Option, Some, None, Err, IsSomeAnd, List, [], ◌∷◌, length, take, slice_get, nat_eq, refl}
+use Rattle.std.specs.Prelude.{◌≡◌, ℕ, ◌+◌, ◌<◌, pos, true, false, Option, Some, None, Err, IsSomeAnd}
+use Rattle.std.specs.Prelude.{List, [], ◌∷◌, length, take, slice_get, nat_eq, refl}
 use Rattle.std.specs.List.{All}
 use Rattle.std.proofs.Common.{ap, eq-eqb}
 use Rattle.std.proofs.Math.Dec.{lit<, lt→ltb}
@@ -7,12 +8,12 @@ use Rattle.std.proofs.lemmas.Bool.{both_ways}
 use Rattle.nd_base.specs.declared.error.ErrorKind.{ErrorKind}
 use Rattle.nd_base.specs.declared.error.ErrorKind.TheVariants.{OutOfBounds}
 use Rattle.nd_base.specs.declared.error.LayoutError.{LayoutError}
-use Rattle.nd_base.specs.declared.error.LayoutError.TheVariants.{Shape, Memory}
+use Rattle.nd_base.specs.declared.error.LayoutError.TheVariants.{Shape}
 use Rattle.nd_base.specs.ShapeFault.{shape_fault}
 use Rattle.ndarray_layout.specs.Descends.{IsViewOf}
 use Rattle.ndarray_layout.specs.DistinctPlaces.{HasDistinctPlaces}
-use Rattle.ndarray_layout.specs.Step.{StepValue, CollapseTo, MergeInto, BroadcastTo, step_fault, view_after, source_index, may_want_memory, is_broadcast}
-use Rattle.ndarray_layout.specs.StepFits.{StepFits, MayLackMemory}
+use Rattle.ndarray_layout.specs.Step.{StepValue, CollapseTo, MergeInto, BroadcastTo, rule_of}
+use Rattle.ndarray_layout.specs.StepRule.{IsStepError, may_want_memory}
 use Rattle.ndarray_layout.specs.View.{View}
 
 -- what became of a view: how many steps were taken, the view that they left, which index of the first view an index of
@@ -27,30 +28,30 @@ pub record Outcome : Type 0 where
 -- else the other steps follow from the view that it leaves
 abbrev pub run_of : List StepValue → View → Outcome
 run_of [] view = record { taken = 0; view = view; source = λ index. index; fault = None }
-run_of (step ∷ steps) view = elim (step_fault view step) [
+run_of (step ∷ steps) view = elim ((rule_of step).fault view) [
   | Some kind ↦ record { taken = 0; view = view; source = λ index. index; fault = Some kind }
   | None ↦
-      let rest = run_of steps (view_after view step) in
-      record { taken = 1 + rest.taken; view = rest.view; source = λ index. source_index view step (rest.source index); fault = rest.fault }
+      let rest = run_of steps ((rule_of step).view view) in
+      record {
+        taken = 1 + rest.taken;
+        view = rest.view;
+        source = λ index. (rule_of step).source view (rest.source index);
+        fault = rest.fault;
+      }
 ]
 
 -- no step is a broadcast
 abbrev pub HasNoBroadcast : List StepValue → Type 0
-HasNoBroadcast steps = All (λ step. is_broadcast step ≡ false) steps
+HasNoBroadcast steps = All (λ step. (rule_of step).is_broadcast ≡ false) steps
 
 -- each step fits the view that those before it leave
 abbrev pub AllFit : List StepValue → View → Type 0
 AllFit [] view = Unit {0}
-AllFit (step ∷ steps) view = StepFits view step × AllFit steps (view_after view step)
+AllFit (step ∷ steps) view = (rule_of step).fits view × AllFit steps ((rule_of step).view view)
 
 -- no step leaves more than four axes
 abbrev pub NeedNoMemory : List StepValue → Type 0
-NeedNoMemory steps = All (λ step. may_want_memory step ≡ false) steps
-
--- why a step is not taken: it doesn't fit, for this fault, or memory is lacking to a step that may want it
-abbrev pub IsStepError : View → LayoutError → StepValue → Type 0
-IsStepError view (Shape kind) step = (step_fault view step ≡ Some kind) × ¬ StepFits view step
-IsStepError view (Memory e) step = MayLackMemory view step
+NeedNoMemory steps = All (λ step. may_want_memory (rule_of step) ≡ false) steps
 
 -- each of the steps fits the view that those before it leave, and the last one leaves this view: one of the same data, whose indices
 -- lie where their sources do; without a broadcast its places are distinct where those of the first view are
@@ -65,7 +66,7 @@ pub record Leave (steps : List StepValue) (start view : View) : Type 0 where
 pub record StopsAt (steps : List StepValue) (start : View) (at : ℕ) (fault : LayoutError) (view : View) : Type 0 where
   pub before : Leave (take at steps) start view
   pub within : at < length steps
-  pub failed : IsSomeAnd (slice_get steps at) (IsStepError view fault)
+  pub failed : IsSomeAnd (slice_get steps at) (λ step. IsStepError (rule_of step) view fault)
   pub ended : (kind : ErrorKind) → fault ≡ Shape kind →
       let run = run_of steps start in (run.fault ≡ Some kind) × (run.taken ≡ at) × (run.view ≡ view)
 
@@ -76,7 +77,8 @@ two_by_three = record { start = 0; shape = 2 ∷ 3 ∷ []; strides = pos 3 ∷ p
 abbrev row_three_columns_wide : List StepValue
 row_three_columns_wide = CollapseTo 0 1 ∷ MergeInto 0 1 ∷ BroadcastTo (2 ∷ 2 ∷ 3 ∷ []) ∷ []
 
-all_taken : (run_of row_three_columns_wide two_by_three).view ≡ record { start = 3; shape = 2 ∷ 2 ∷ 3 ∷ []; strides = pos 0 ∷ pos 0 ∷ pos 1 ∷ [] }
+all_taken : (run_of row_three_columns_wide two_by_three).view
+    ≡ record { start = 3; shape = 2 ∷ 2 ∷ 3 ∷ []; strides = pos 0 ∷ pos 0 ∷ pos 1 ∷ [] }
 all_taken = refl
 
 source_of_all : (run_of row_three_columns_wide two_by_three).source (1 ∷ 1 ∷ 2 ∷ []) ≡ 1 ∷ 2 ∷ []
@@ -102,13 +104,14 @@ five_axes_may_need_memory none = both_ways true (none 1 (CollapseTo 0 0) (lit< t
 abbrev second_row : View
 second_row = record { start = 3; shape = 1 ∷ 3 ∷ []; strides = pos 3 ∷ pos 1 ∷ [] }
 
-error_of_a_second_coordinate : IsStepError second_row (Shape OutOfBounds) (CollapseTo 0 1)
+error_of_a_second_coordinate : IsStepError (rule_of (CollapseTo 0 1)) second_row (Shape OutOfBounds)
 error_of_a_second_coordinate = (refl, λ fits. lt→ltb 1 1 fits.1)
 
-no_error_of_a_coordinate : IsStepError two_by_three (Shape OutOfBounds) (CollapseTo 0 1) → ⊥
+no_error_of_a_coordinate : IsStepError (rule_of (CollapseTo 0 1)) two_by_three (Shape OutOfBounds) → ⊥
 no_error_of_a_coordinate failed = failed.1 (lit< tt, lit< tt)
 
-stops_at_the_second : Leave (CollapseTo 0 1 ∷ []) two_by_three second_row → StopsAt (CollapseTo 0 1 ∷ CollapseTo 0 1 ∷ []) two_by_three 1 (Shape OutOfBounds) second_row
+stops_at_the_second : Leave (CollapseTo 0 1 ∷ []) two_by_three second_row
+    → StopsAt (CollapseTo 0 1 ∷ CollapseTo 0 1 ∷ []) two_by_three 1 (Shape OutOfBounds) second_row
 stops_at_the_second leave = record {
   before = leave;
   within = lit< tt;

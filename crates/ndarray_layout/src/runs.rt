@@ -2,8 +2,9 @@
 ghost use Rattle.std.specs.Prelude.{◌≡◌, None, map, IfOk, IfErr, IsOk, OnErr, OnOk, false};
 ghost use Rattle.std.specs.Result.{result_err};
 ghost use Rattle.ndarray_layout.specs.MergedView.{merge_fault, merge_of};
-ghost use Rattle.ndarray_layout.specs.Run.{run_of, Leave, StopsAt, IsStepError, NeedNoMemory};
-ghost use Rattle.ndarray_layout.specs.Step.{may_want_memory, step_fault, step_value, view_after};
+ghost use Rattle.ndarray_layout.specs.Run.{run_of, Leave, StopsAt, NeedNoMemory};
+ghost use Rattle.ndarray_layout.specs.Step.{rule_of, step_value};
+ghost use Rattle.ndarray_layout.specs.StepRule.{IsStepError, may_want_memory};
 ghost use Rattle.ndarray_layout.specs.View.{IsView};
 
 use crate::strided::Strided;
@@ -66,30 +67,32 @@ fn step_to(view: &mut Strided<IxDyn>, next: Strided<IxDyn>)
 /// caller ensures that the view is one.
 fn take_step(alloc: Global, view: &mut Strided<IxDyn>, step: &Step) -> Result<(), LayoutError>
     requires { IsView view.old }
-    ensures fits { OnOk result (step_fault view.old (step_value step.now) ≡ None) }
-    ensures fault { IfErr result (λ e. IsStepError view.old e (step_value step.now)) }
+    ensures fits { OnOk result ((rule_of (step_value step.now)).fault view.old ≡ None) }
+    ensures fault { IfErr result (λ e. IsStepError (rule_of (step_value step.now)) view.old e) }
     ensures unchanged { OnErr result (view.new ≡ view.old) }
-    ensures taken { OnOk result (view.new ≡ view_after view.old (step_value step.now)) }
-    ensures memory { step_fault view.old (step_value step.now) ≡ None →
-        may_want_memory (step_value step.now) ≡ false → IsOk result }
+    ensures taken { OnOk result (view.new ≡ (rule_of (step_value step.now)).view view.old) }
+    ensures memory { (rule_of (step_value step.now)).fault view.old ≡ None →
+        may_want_memory (rule_of (step_value step.now)) ≡ false → IsOk result }
 {
     match step {
         Step::Slice(elems, fit) => {
             let sliced = view.slice(alloc, elems, *fit)?;
             step_to(view, sliced);
+            Ok(())
         },
-        Step::Collapse(axis, index) => view.collapse(*axis, *index)?,
-        Step::Merge(take, into) => merge_axes_of(view, *take, *into)?,
+        Step::Collapse(axis, index) => Ok(view.collapse(*axis, *index)?),
+        Step::Merge(take, into) => Ok(merge_axes_of(view, *take, *into)?),
         Step::Reshape(dim, order) => {
             let reshaped = view.reshape(alloc, dim, *order)?;
             step_to(view, reshaped);
+            Ok(())
         },
         Step::Broadcast(dim) => {
             let stretched = view.broadcast(alloc, dim)?;
             step_to(view, stretched);
+            Ok(())
         },
     }
-    Ok(())
 }
 
 /// The view that steps leave, each taken from the view that the one before it left.

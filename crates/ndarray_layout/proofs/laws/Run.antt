@@ -6,10 +6,10 @@ use Rattle.nd_base.specs.declared.error.ErrorKind.{ErrorKind}
 use Rattle.ndarray_layout.specs.Descends.{IsViewOf}
 use Rattle.ndarray_layout.specs.DistinctPlaces.{HasDistinctPlaces}
 use Rattle.ndarray_layout.specs.Run.{Outcome, run_of, HasNoBroadcast}
-use Rattle.ndarray_layout.specs.Step.{StepValue, step_fault, view_after, source_index, is_broadcast}
+use Rattle.ndarray_layout.specs.Step.{StepValue, rule_of}
 use Rattle.ndarray_layout.specs.View.{View, IsView}
 use Rattle.ndarray_layout.proofs.laws.KeepsPlaces.{IsViewOf-in_turn, IsViewOf-stayed}
-use Rattle.ndarray_layout.proofs.laws.Step.{Descends-view_after, IsViewOf-view_after}
+use Rattle.ndarray_layout.proofs.laws.Step.{lawful}
 
 -- ---- outcomes in turn
 -- what became of a view of which no step was taken
@@ -18,7 +18,7 @@ stayed fault view = record { taken = 0; view = view; source = λ index. index; f
 
 -- what became of a view of which one step was taken
 abbrev pub stepped : View → StepValue → Outcome
-stepped view step = record { taken = 1; view = view_after view step; source = source_index view step; fault = None }
+stepped view step = record { taken = 1; view = (rule_of step).view view; source = (rule_of step).source view; fault = None }
 
 -- two outcomes, of which the second began with the view that the first left; a fault ends both
 abbrev pub joined : Option ErrorKind → Outcome → Outcome → Outcome
@@ -41,13 +41,13 @@ abbrev pub first_then : Option ErrorKind → View → StepValue → Outcome → 
 first_then fault view step rest = elim fault [ Some kind ↦ stayed (Some kind) view | None ↦ joined None (stepped view step) rest ]
 
 -- a first step that fits goes before the others, and one that doesn't ends the run
-pub run_of_fitting : (step : StepValue) (steps : List StepValue) (view : View) → step_fault view step ≡ None
-    → run_of (step ∷ steps) view ≡ joined None (stepped view step) (run_of steps (view_after view step))
-run_of_fitting step steps view none = ap (λ fault. first_then fault view step (run_of steps (view_after view step))) none
+pub run_of_fitting : (step : StepValue) (steps : List StepValue) (view : View) → (rule_of step).fault view ≡ None
+    → run_of (step ∷ steps) view ≡ joined None (stepped view step) (run_of steps ((rule_of step).view view))
+run_of_fitting step steps view none = ap (λ fault. first_then fault view step (run_of steps ((rule_of step).view view))) none
 
-pub run_of_fault : (step : StepValue) (steps : List StepValue) (view : View) {kind : ErrorKind} → step_fault view step ≡ Some kind
+pub run_of_fault : (step : StepValue) (steps : List StepValue) (view : View) {kind : ErrorKind} → (rule_of step).fault view ≡ Some kind
     → run_of (step ∷ steps) view ≡ stayed (Some kind) view
-run_of_fault step steps view fault = ap (λ fault. first_then fault view step (run_of steps (view_after view step))) fault
+run_of_fault step steps view fault = ap (λ fault. first_then fault view step (run_of steps ((rule_of step).view view))) fault
 
 -- a run after no steps
 after_none : {second : Outcome} (view : View) → second ≡ joined None (stayed None view) second
@@ -66,16 +66,16 @@ joined_in_turn a b c (Some kind) g fault also = rw (fault) refl
 -- two lists of steps in turn are one list
 pub run_of_append : (steps more : List StepValue) (view : View) → run_of (steps ++ more) view ≡ in_turn (run_of steps) (run_of more) view
 run_of_append [] more view = after_none view
-run_of_append (step ∷ steps) more view = by (step_fault view step) (run_of_append steps more (view_after view step))
+run_of_append (step ∷ steps) more view = by ((rule_of step).fault view) (run_of_append steps more ((rule_of step).view view))
   where
     by : (fault : Option ErrorKind)
-        → run_of (steps ++ more) (view_after view step) ≡ in_turn (run_of steps) (run_of more) (view_after view step)
-        → first_then fault view step (run_of (steps ++ more) (view_after view step))
-        ≡ joined (first_then fault view step (run_of steps (view_after view step))).fault
-        (first_then fault view step (run_of steps (view_after view step)))
-        (run_of more (first_then fault view step (run_of steps (view_after view step))).view)
+        → run_of (steps ++ more) ((rule_of step).view view) ≡ in_turn (run_of steps) (run_of more) ((rule_of step).view view)
+        → first_then fault view step (run_of (steps ++ more) ((rule_of step).view view))
+        ≡ joined (first_then fault view step (run_of steps ((rule_of step).view view))).fault
+        (first_then fault view step (run_of steps ((rule_of step).view view)))
+        (run_of more (first_then fault view step (run_of steps ((rule_of step).view view))).view)
     by None rest =
-        let after = view_after view step in
+        let after = (rule_of step).view view in
         ap (joined None (stepped view step)) rest ∙ joined_in_turn (stepped view step) (run_of steps after)
         (run_of more (run_of steps after).view) None (run_of steps after).fault refl refl
     by (Some kind) rest = refl
@@ -91,19 +91,21 @@ stayed_sound fault v = record { kept = IsViewOf-stayed v; distinct = λ none dis
 
 pub run_sound : (steps : List StepValue) (view : View) → IsView view → IsSound view (HasNoBroadcast steps) (run_of steps view)
 run_sound [] view v = stayed_sound None v
-run_sound (step ∷ steps) view v = by (step_fault view step) refl (run_sound steps (view_after view step))
+run_sound (step ∷ steps) view v = by ((rule_of step).fault view) refl (run_sound steps ((rule_of step).view view))
   where
-    by : (fault : Option ErrorKind) → step_fault view step ≡ fault
-        → (IsView (view_after view step) → IsSound (view_after view step) (HasNoBroadcast steps) (run_of steps (view_after view step)))
-        → IsSound view (HasNoBroadcast (step ∷ steps)) (first_then fault view step (run_of steps (view_after view step)))
+    by : (fault : Option ErrorKind) → (rule_of step).fault view ≡ fault
+        → (IsView ((rule_of step).view view)
+        → IsSound ((rule_of step).view view) (HasNoBroadcast steps) (run_of steps ((rule_of step).view view)))
+        → IsSound view (HasNoBroadcast (step ∷ steps)) (first_then fault view step (run_of steps ((rule_of step).view view)))
     by (Some kind) e rest = stayed_sound (Some kind) v
     by None e rest =
-        let after = IsViewOf-view_after step v e in
+        let law = lawful step v in
+        let after = law.kept e in
         let sound = rest after.is_view in
-        let apart = λ (one : StepValue). is_broadcast one ≡ false in
+        let apart = λ (one : StepValue). (rule_of one).is_broadcast ≡ false in
         record {
           kept = IsViewOf-in_turn after sound.kept;
           distinct = λ none distinct.
-              let here = Descends-view_after step v e (All-head apart step steps none) in
-              sound.distinct (All-tail apart step steps none) (here.distinct distinct);
+              let here = law.distinct e (All-head apart step steps none) distinct in
+              sound.distinct (All-tail apart step steps none) here;
         }

@@ -2,6 +2,7 @@
 use Rattle.std.proofs.Common.{◌≡◌, ◌≢◌, ℕ, ◌+◌, ◌-◌, ◌<◌, true, ltb, Some, Ok, Bool, List, [], ◌∷◌, ◌++◌, length, get_or, map, codes, refl, ap}
 use Rattle.std.proofs.Common.{◌∙◌, append_assoc, arith}
 use Rattle.std.specs.List.{All, AllByRecursion, enumerate_from, filter, flat_map, list_all}
+use Rattle.std.specs.Option.{option_map}
 use Rattle.std.specs.Str.Lines.{strip_carriage_return}
 use Rattle.std.proofs.lemmas.Bool.{lt-ltb, ne_eqb}
 use Rattle.std.proofs.lemmas.List.Elements.{All-cons, All-from_recursion, All-get_or, All-head, All-map, All-tail, All-weaker}
@@ -16,23 +17,24 @@ use Rattle.ndl_session.specs.text.Bytes.{line_feed, space}
 use Rattle.ndl_session.specs.text.Lines.{lines_from, lines_of, parts, words_of}
 use Rattle.ndl_session.specs.text.Printing.{listed}
 use Rattle.ndl_session.specs.script.DataLine.{DataLayoutValue, IsLayout, layout_of, layout_words, mode_of, mode_text}
+use Rattle.ndl_session.specs.script.Elements.{elements_of, elements_text}
 use Rattle.ndl_session.specs.script.Lists.{lengths_text, strides_text}
 use Rattle.ndl_session.specs.script.Script.{IsScript, ScriptValue, line_text, script_of, script_text, steps_of_lines}
-use Rattle.ndl_session.specs.script.StepLine.{IsStep, order_text, slice_keyword, step_of, step_words}
+use Rattle.ndl_session.specs.script.StepLine.{order_of_word, order_text, slice_keyword, step_of, text_of}
 use Rattle.ndl_session.proofs.laws.PrintedLists.{IsWord, elements_items, lengths_items, strides_items, item_word, list_of-listed, list_word}
 use Rattle.ndl_session.proofs.laws.PrintedNumbers.{number_of-decimal}
 use Rattle.ndl_session.proofs.text_lemmas.Cuts.{IsAfter, Lacks, lacks, listed_bytes, listed_parts, part_at, spelled}
 use Rattle.ndl_session.proofs.text_lemmas.FirstLine.{ended_line}
 
 -- ---- the words of a line
-pub step_of-step_words : (step : StepValue) → IsStep step → step_of (step_words step) ≡ Some step
-step_of-step_words (SliceBy elems Strict) fits = rw (list_of-listed elements_items elems fits) refl
-step_of-step_words (SliceBy elems Clamp) fits = rw (list_of-listed elements_items elems fits) refl
-step_of-step_words (CollapseTo axis index) fits = rw (number_of-decimal axis fits.0, number_of-decimal index fits.1) refl
-step_of-step_words (MergeInto take into) fits = rw (number_of-decimal take fits.0, number_of-decimal into fits.1) refl
-step_of-step_words (ReshapeTo shape RowMajor) fits = rw (list_of-listed lengths_items shape fits) refl
-step_of-step_words (ReshapeTo shape ColumnMajor) fits = rw (list_of-listed lengths_items shape fits) refl
-step_of-step_words (BroadcastTo shape) fits = rw (list_of-listed lengths_items shape fits) refl
+slice_of_keyword : (fit : Fit) (word : List ℕ)
+    → step_of (slice_keyword fit ∷ word ∷ []) ≡ option_map (λ elems. SliceBy elems fit) (elements_of word)
+slice_of_keyword Strict word = refl
+slice_of_keyword Clamp word = refl
+
+order_of-order_text : (order : Order) → order_of_word (order_text order) ≡ Some order
+order_of-order_text RowMajor = refl
+order_of-order_text ColumnMajor = refl
 
 mode_of-mode_text : (mode : CanIndexCheckMode) → mode_of (mode_text mode) ≡ Some mode
 mode_of-mode_text OwnedMutable = refl
@@ -70,20 +72,38 @@ mode_word : (mode : CanIndexCheckMode) → IsWord (mode_text mode)
 mode_word OwnedMutable = name (codes "owned") (omega arith) refl
 mode_word ReadOnly = name (codes "read") (omega arith) refl
 
-step_line : (step : StepValue) → IsStep step → IsLine (step_words step)
-step_line (SliceBy elems fit) fits = (omega arith, (keyword_word fit, (list_word elements_items elems fits, tt)))
-step_line (CollapseTo axis index) fits = (
-  omega arith,
-  (name (codes "collapse") (omega arith) refl, (item_word lengths_items axis fits.0, (item_word lengths_items index fits.1, tt))),
-)
-step_line (MergeInto take into) fits = (
-  omega arith,
-  (name (codes "merge") (omega arith) refl, (item_word lengths_items take fits.0, (item_word lengths_items into fits.1, tt))),
-)
-step_line (ReshapeTo shape order) fits =
-    (omega arith, (name (codes "reshape") (omega arith) refl, (order_word order, (list_word lengths_items shape fits, tt))))
-step_line (BroadcastTo shape) fits =
-    (omega arith, (name (codes "broadcast") (omega arith) refl, (list_word lengths_items shape fits, tt)))
+-- the words of a step are those of a line, which is read as the step
+record IsReadBack (step : StepValue) : Type 0 where
+  line : IsLine (text_of step).words
+  read : step_of (text_of step).words ≡ Some step
+
+read_back : (step : StepValue) → (text_of step).fits → IsReadBack step
+read_back (SliceBy elems fit) fits = record {
+  line = (omega arith, (keyword_word fit, (list_word elements_items elems fits, tt)));
+  read = slice_of_keyword fit (elements_text elems) ∙ ap (option_map (λ e. SliceBy e fit)) (list_of-listed elements_items elems fits);
+}
+read_back (CollapseTo axis index) fits = record {
+  line = (
+    omega arith,
+    (name (codes "collapse") (omega arith) refl, (item_word lengths_items axis fits.0, (item_word lengths_items index fits.1, tt))),
+  );
+  read = rw (number_of-decimal axis fits.0, number_of-decimal index fits.1) refl;
+}
+read_back (MergeInto take into) fits = record {
+  line = (
+    omega arith,
+    (name (codes "merge") (omega arith) refl, (item_word lengths_items take fits.0, (item_word lengths_items into fits.1, tt))),
+  );
+  read = rw (number_of-decimal take fits.0, number_of-decimal into fits.1) refl;
+}
+read_back (ReshapeTo shape order) fits = record {
+  line = (omega arith, (name (codes "reshape") (omega arith) refl, (order_word order, (list_word lengths_items shape fits, tt))));
+  read = rw (order_of-order_text order, list_of-listed lengths_items shape fits) refl;
+}
+read_back (BroadcastTo shape) fits = record {
+  line = (omega arith, (name (codes "broadcast") (omega arith) refl, (list_word lengths_items shape fits, tt)));
+  read = rw (list_of-listed lengths_items shape fits) refl;
+}
 
 layout_line : (layout : DataLayoutValue) → IsLayout layout → IsLine (layout_words layout)
 layout_line layout fits =
@@ -152,17 +172,21 @@ lines_from-lines : (number : ℕ) (lines : List (List (List ℕ))) → All IsLin
 lines_from-lines number lines all = rw (lines_of-lines lines all, words_of-lines lines all) (not_blank number lines all)
 
 -- ---- the script
-steps_of-steps : (number : ℕ) (steps : List StepValue) → All IsStep steps
-    → steps_of_lines (enumerate_from number (map step_words steps)) ≡ Ok steps
+abbrev Fits : StepValue → Type 0
+Fits step = (text_of step).fits
+
+abbrev words : StepValue → List (List ℕ)
+words step = (text_of step).words
+
+steps_of-steps : (number : ℕ) (steps : List StepValue) → All Fits steps → steps_of_lines (enumerate_from number (map words steps)) ≡ Ok steps
 steps_of-steps number [] all = refl
 steps_of-steps number (step ∷ steps) all =
-    rw (step_of-step_words step (All-head IsStep step steps all), steps_of-steps (number + 1) steps (All-tail IsStep step steps all)) refl
+    rw ((read_back step (All-head Fits step steps all)).read, steps_of-steps (number + 1) steps (All-tail Fits step steps all)) refl
 
 pub script_of-script_text : (script : ScriptValue) → IsScript script → script_of (script_text script) ≡ Ok script
 script_of-script_text script fits =
-    let lines = layout_words script.layout ∷ map step_words script.steps in
+    let lines = layout_words script.layout ∷ map words script.steps in
     let all : All IsLine lines =
     All-cons IsLine (layout_words script.layout) _ (layout_line script.layout fits.layout)
-    (All-map IsLine step_words script.steps
-    (All-weaker IsStep (λ s. IsLine (step_words s)) step_line script.steps fits.steps)) in
+    (All-map IsLine words script.steps (All-weaker Fits (λ s. IsLine (words s)) (λ s f. (read_back s f).line) script.steps fits.steps)) in
     rw (lines_from-lines 1 lines all, layout_of-layout_words script.layout fits.layout, steps_of-steps 2 script.steps fits.steps) refl

@@ -16,7 +16,7 @@ use Rattle.ndl_session.specs.script.Reading.{both}
 use Rattle.ndl_session.specs.text.Lines.{NumberedLine, lines_from}
 use Rattle.ndl_session.specs.text.Printing.{listed}
 use Rattle.ndl_session.specs.script.DataLine.{IsLayout, DataLayoutValue, layout_value, layout_of, layout_words}
-use Rattle.ndl_session.specs.script.StepLine.{IsStep, step_of, step_words}
+use Rattle.ndl_session.specs.script.StepLine.{step_of, text_of}
 
 -- what a script says: a layout, and the steps to take from it, in order
 pub record ScriptValue : Type 0 where
@@ -59,7 +59,7 @@ script_of input = script_of_lines (lines_from 1 input)
 -- a script that a program can have: its numbers are ones of the program
 pub record IsScript (script : ScriptValue) : Type 0 where
   pub layout : IsLayout script.layout
-  pub steps : All IsStep script.steps
+  pub steps : All (λ step. (text_of step).fits) script.steps
 
 -- the line of words: a space between each two of them, and a line feed
 abbrev pub line_text : List (List ℕ) → List ℕ
@@ -67,7 +67,7 @@ line_text words = listed (codes " ") words ++ codes "\n"
 
 -- the text of a script: the line of its layout, and one for each step
 abbrev pub script_text : ScriptValue → List ℕ
-script_text script = flat_map line_text (layout_words script.layout ∷ map step_words script.steps)
+script_text script = flat_map line_text (layout_words script.layout ∷ map (λ step. (text_of step).words) script.steps)
 
 -- examples
 abbrev four : DataLayoutValue

@@ -34,14 +34,6 @@ step_of (keyword ∷ first ∷ second ∷ []) =
     else None
 step_of _ = None
 
--- a step that a program can have: its numbers are ones of the program
-abbrev pub IsStep : StepValue → Type 0
-IsStep (SliceBy elems fit) = All IsElement elems
-IsStep (CollapseTo axis index) = IsUsize axis × IsUsize index
-IsStep (MergeInto take into) = IsUsize take × IsUsize into
-IsStep (ReshapeTo shape order) = All IsUsize shape
-IsStep (BroadcastTo shape) = All IsUsize shape
-
 -- the keyword of a slice, by what becomes of a bound past its axis
 abbrev pub slice_keyword : Fit → List ℕ
 slice_keyword Strict = codes "slice"
@@ -52,13 +44,27 @@ abbrev pub order_text : Order → List ℕ
 order_text RowMajor = codes "C"
 order_text ColumnMajor = codes "F"
 
--- the words of a step's line
-abbrev pub step_words : StepValue → List (List ℕ)
-step_words (SliceBy elems fit) = slice_keyword fit ∷ elements_text elems ∷ []
-step_words (CollapseTo axis index) = codes "collapse" ∷ decimal axis ∷ decimal index ∷ []
-step_words (MergeInto take into) = codes "merge" ∷ decimal take ∷ decimal into ∷ []
-step_words (ReshapeTo shape order) = codes "reshape" ∷ order_text order ∷ lengths_text shape ∷ []
-step_words (BroadcastTo shape) = codes "broadcast" ∷ lengths_text shape ∷ []
+-- a step in words: those of its line, and that a program can have it, since its numbers are ones of the program
+pub record StepText : Type 1 where
+  pub words : List (List ℕ)
+  pub fits : Type 0
+
+-- each step in words
+abbrev pub text_of : StepValue → StepText
+text_of (SliceBy elems fit) = record { words = slice_keyword fit ∷ elements_text elems ∷ []; fits = All IsElement elems }
+text_of (CollapseTo axis index) = record {
+  words = codes "collapse" ∷ decimal axis ∷ decimal index ∷ [];
+  fits = IsUsize axis × IsUsize index;
+}
+text_of (MergeInto take into) = record {
+  words = codes "merge" ∷ decimal take ∷ decimal into ∷ [];
+  fits = IsUsize take × IsUsize into;
+}
+text_of (ReshapeTo shape order) = record {
+  words = codes "reshape" ∷ order_text order ∷ lengths_text shape ∷ [];
+  fits = All IsUsize shape;
+}
+text_of (BroadcastTo shape) = record { words = codes "broadcast" ∷ lengths_text shape ∷ []; fits = All IsUsize shape }
 
 -- examples
 a_slice : step_of (words_of (codes "slice 1..")) ≡ Some (SliceBy (elem.Slice (pos 1) None (pos 1) ∷ []) Strict)
@@ -121,13 +127,13 @@ a_list_for_an_axis = refl
 misspelled : step_of (words_of (codes "slise ..")) ≡ None
 misspelled = refl
 
-words_of_a_clamp : step_words (SliceBy (elem.NewAxis ∷ []) Clamp) ≡ words_of (codes "clamp NewAxis")
+words_of_a_clamp : (text_of (SliceBy (elem.NewAxis ∷ []) Clamp)).words ≡ words_of (codes "clamp NewAxis")
 words_of_a_clamp = refl
 
-words_of_a_reshape : step_words (ReshapeTo (3 ∷ 2 ∷ []) ColumnMajor) ≡ words_of (codes "reshape F 3,2")
+words_of_a_reshape : (text_of (ReshapeTo (3 ∷ 2 ∷ []) ColumnMajor)).words ≡ words_of (codes "reshape F 3,2")
 unfolding digits
 words_of_a_reshape = refl
 
-words_of_a_merge : step_words (MergeInto 1 0) ≡ words_of (codes "merge 1 0")
+words_of_a_merge : (text_of (MergeInto 1 0)).words ≡ words_of (codes "merge 1 0")
 unfolding digits
 words_of_a_merge = refl
