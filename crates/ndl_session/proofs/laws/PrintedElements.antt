@@ -46,7 +46,8 @@ end_of_number (b ∷ bs) z some = ap (option_map Some) some
 
 start_of-start_text : (start : ℤ) → IsIsize start → start_of (start_text start) ≡ Some start
 start_of-start_text (pos zero) fits = refl
-start_of-start_text (pos (suc n)) fits = start_of_number (signed_decimal (pos (suc n))) _ (signed_number_of-signed_decimal (pos (suc n)) fits)
+start_of-start_text (pos (suc n)) fits =
+    start_of_number (signed_decimal (pos (suc n))) _ (signed_number_of-signed_decimal (pos (suc n)) fits)
 start_of-start_text (negsuc n) fits = start_of_number (signed_decimal (negsuc n)) _ (signed_number_of-signed_decimal (negsuc n) fits)
 
 end_of-end_text : (end : Option ℤ) → IfSome end IsIsize → end_of (end_text end) ≡ Some end
@@ -86,7 +87,8 @@ module _ (start : ℤ) (end : Option ℤ) (s : IsIsize start) (e : IfSome end Is
   bounds_no_semicolon = bounds_all (λ b. eqb b semicolon ≡ false) refl (λ b r. ne_eqb b semicolon (no_semicolon b r))
 
   -- the step after them, if it is written
-  with_step : (step : ℤ) → IsIsize step → range_of (bounds_text start end ++ semicolon ∷ signed_decimal step) ≡ Some (elem.Slice start end step)
+  with_step : (step : ℤ) → IsIsize step
+      → range_of (bounds_text start end ++ semicolon ∷ signed_decimal step) ≡ Some (elem.Slice start end step)
   with_step step t =
       rw (
         part_at semicolon (bounds_text start end) (signed_decimal step) bounds_no_semicolon,

@@ -1,6 +1,6 @@
 -- Laws of lines and scripts: the text of one is read as it.
-use Rattle.std.proofs.Common.{◌≡◌, ◌≢◌, ℕ, ◌+◌, ◌-◌, ◌<◌, true, ltb, Some, Ok, Bool, List, [], ◌∷◌, ◌++◌, length, get_or, map, codes, refl, ap}
-use Rattle.std.proofs.Common.{◌∙◌, append_assoc, arith}
+use Rattle.std.proofs.Common.{◌≡◌, ◌≢◌, ℕ, ◌+◌, ◌-◌, ◌<◌, true, ltb, Some, Ok, Bool, List, [], ◌∷◌, ◌++◌}
+use Rattle.std.proofs.Common.{length, get_or, map, codes, refl, ap, ◌∙◌, append_assoc, arith}
 use Rattle.std.specs.List.{All, AllByRecursion, enumerate_from, filter, flat_map, list_all}
 use Rattle.std.specs.Option.{option_map}
 use Rattle.std.specs.Str.Lines.{strip_carriage_return}
@@ -121,12 +121,12 @@ filter_all p (x ∷ xs) all = rw (All-head (λ y. p y ≡ true) x xs all, filter
 words_of-line : (words : List (List ℕ)) → IsLine words → words_of (listed (codes " ") words) ≡ words
 words_of-line [] line = absurd (omega (arith, line.0))
 words_of-line (word ∷ words) line =
+    let each = words_of_line (word ∷ words) line in
     let apart =
-    All-weaker IsWord (Lacks space) (λ w h. lacks (IsAfter space) space (λ b r e. omega (arith, r)) w h.bytes) (word ∷ words)
-    (words_of_line (word ∷ words) line) in
+    All-weaker IsWord (Lacks space) (λ w h. lacks (IsAfter space) space (λ b r e. omega (arith, r)) w h.bytes) (word ∷ words) each in
     rw (listed_parts space word words apart)
     (filter_all (λ w. ltb 0 (length w)) (word ∷ words)
-    (All-weaker IsWord (λ w. ltb 0 (length w) ≡ true) (λ w h. lt-ltb 0 (length w) h.nonempty) (word ∷ words) (words_of_line (word ∷ words) line)))
+    (All-weaker IsWord (λ w. ltb 0 (length w) ≡ true) (λ w h. lt-ltb 0 (length w) h.nonempty) (word ∷ words) each))
 
 -- ---- the lines of a text are read as they are
 line_bytes : (words : List (List ℕ)) → IsLine words → All (IsAfter 31) (listed (codes " ") words)
@@ -178,7 +178,8 @@ Fits step = (text_of step).fits
 abbrev words : StepValue → List (List ℕ)
 words step = (text_of step).words
 
-steps_of-steps : (number : ℕ) (steps : List StepValue) → All Fits steps → steps_of_lines (enumerate_from number (map words steps)) ≡ Ok steps
+steps_of-steps : (number : ℕ) (steps : List StepValue) → All Fits steps
+    → steps_of_lines (enumerate_from number (map words steps)) ≡ Ok steps
 steps_of-steps number [] all = refl
 steps_of-steps number (step ∷ steps) all =
     rw ((read_back step (All-head Fits step steps all)).read, steps_of-steps (number + 1) steps (All-tail Fits step steps all)) refl

@@ -36,13 +36,19 @@ number_bytes text n some = digit_bytes text (and_parts _ _ (and_parts _ _ (cond_
 -- ---- with a sign
 abbrev with_sign : Bool → List ℕ → List ℕ → Option ℤ
 with_sign minus word digits =
-    cond minus (option_and_then (λ n. isize_of (neg_ℤ (pos n))) (number_of digits)) (option_and_then (λ n. isize_of (pos n)) (number_of word))
+    cond minus
+    (option_and_then (λ n. isize_of (neg_ℤ (pos n))) (number_of digits))
+    (option_and_then (λ n. isize_of (pos n)) (number_of word))
 
 fits : (minus : Bool) (word digits : List ℕ) (z : ℤ) → with_sign minus word digits ≡ Some z → IsIsize z
 fits true word digits z some =
-    option_and_then_some _ (number_of digits) z some (λ n is read. let both = isize_fits (neg_ℤ (pos n)) z read in subst IsIsize both.1 both.0)
+    option_and_then_some _ (number_of digits) z some (λ n is read.
+    let both = isize_fits (neg_ℤ (pos n)) z read in
+    subst IsIsize both.1 both.0)
 fits false word digits z some =
-    option_and_then_some _ (number_of word) z some (λ n is read. let both = isize_fits (pos n) z read in subst IsIsize both.1 both.0)
+    option_and_then_some _ (number_of word) z some (λ n is read.
+    let both = isize_fits (pos n) z read in
+    subst IsIsize both.1 both.0)
 
 pub signed_number_fits : (text : List ℕ) (z : ℤ) → signed_number_of text ≡ Some z → IsIsize z
 signed_number_fits text z some = fits (starts_with_minus text) text (drop 1 text) z some
@@ -57,7 +63,8 @@ signed_number_bytes (b ∷ bs) z some = elim (cases_eq b 45) [
 
 pub number_part : (separator : ℕ) → ((byte : ℕ) → IsSignOrDigit byte → byte ≢ separator) → (text : List ℕ) (z : ℤ)
     → signed_number_of text ≡ Some z → parts separator text ≡ text ∷ []
-number_part separator other text z some = one_part separator text (lacks IsSignOrDigit separator other text (signed_number_bytes text z some))
+number_part separator other text z some =
+    one_part separator text (lacks IsSignOrDigit separator other text (signed_number_bytes text z some))
 
 pub after_comma : (text : List ℕ) → All IsSignOrDigit text → All (IsAfter comma) text
 after_comma text all = All-weaker IsSignOrDigit (IsAfter comma) (λ b r. omega (arith, r.0)) text all

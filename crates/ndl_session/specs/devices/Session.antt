@@ -1,9 +1,9 @@
 -- What a session writes.
-use Rattle.std.specs.Prelude.{◌≡◌, ◌≢◌, ℕ, zero, suc, ◌++◌, List, [], ◌∷◌, ◌⊎◌, codes, length, slice_index_or, take}
-use Rattle.std.specs.Prelude.{Option, Some, None, Result, Ok, Err, IfSome, refl}
+use Rattle.std.specs.Prelude.{◌≡◌, ◌≢◌, ℕ, zero, suc, ◌++◌, Bool, true, false, List, [], ◌∷◌, ◌⊎◌, codes, length}
+use Rattle.std.specs.Prelude.{Option, Some, None, Result, Ok, Err, IfSome, slice_index_or, take, refl}
 use Rattle.std.specs.Fmt.{digits}
 use Rattle.std.specs.Io.KnownBytes.{Appends}
-use Rattle.std.proofs.Common.{ap, arith, inl, inr, lit<, suc-ne-zero, sym}
+use Rattle.std.proofs.Common.{ap, arith, inl, inr, lit<, suc-ne-zero, sym, true≢false}
 use Rattle.ndarray_layout.specs.declared.ErrorKind.{ErrorKind}
 use Rattle.ndarray_layout.specs.Acceptance.{acceptance}
 use Rattle.ndarray_layout.specs.Run.{Outcome}
@@ -34,6 +34,20 @@ AppendsAnswer old new known_input status =
 abbrev pub AppendsAnswerBeginning : Option (List ℕ) → Option (List ℕ) → Option (List ℕ) → Type 0
 AppendsAnswerBeginning old new known_input = AppendsBeginning old new out_of_memory_text
     ⊎ ((input : List ℕ) × IsInput known_input input × AppendsBeginning old new (answer_of input).text)
+
+-- what a session writes to a writer, by which bytes its reader has unread and which the writer has before it and after it, each where
+-- it is known, and by its status and whether its reader and its writer have failed
+pub record WritesText (unread before after : Option (List ℕ)) (status : ℕ) (reader_failed writer_failed : Bool) : Type 0 where
+  -- where nothing fails
+  pub answered : status ≢ 3 → status ≢ 4 → AppendsAnswer before after unread status
+  -- where an allocation fails, and no read or write does
+  pub memory : status ≡ 3 → Appends before after out_of_memory_text
+  -- where a read fails, and no write does
+  pub input : reader_failed ≡ true → writer_failed ≡ false → Appends before after input_failed_text
+  -- where a write fails, and no read does
+  pub cut : reader_failed ≡ false → writer_failed ≡ true → AppendsAnswerBeginning before after unread
+  -- where both fail
+  pub input_cut : reader_failed ≡ true → writer_failed ≡ true → AppendsBeginning before after input_failed_text
 
 -- examples
 failed_read_ends_its_line : input_failed_text ≡ codes "input failed" ++ line_feed ∷ []
@@ -91,3 +105,15 @@ bytes_of_neither_text known_input (inl (n, small, same)) =
     let other : 111 ≡ 105 = first_of_beginning n out_of_memory_text same in absurd (omega (arith, other))
 bytes_of_neither_text known_input (inr (input, is_input, (n, small, same))) =
     first_of_reading (script_of input) (first_of_beginning n (answer_of input).text same)
+
+a_failed_read : WritesText None (Some []) (Some input_failed_text) 4 true false
+a_failed_read = record {
+  answered = λ not_memory not_failed. absurd (not_failed refl);
+  memory = λ is. absurd (suc-ne-zero 0 (omega arith));
+  input = λ read written. refl;
+  cut = λ read written. absurd (true≢false read);
+  input_cut = λ read written. absurd (true≢false (sym written));
+}
+
+nothing_after_a_failed_read : WritesText None (Some []) (Some []) 4 true false → ⊥
+nothing_after_a_failed_read writes = suc-ne-zero 12 (sym (ap length (writes.input refl refl)))

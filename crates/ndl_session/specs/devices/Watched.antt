@@ -1,6 +1,9 @@
 -- What a clause reads of a watched device, which writes fail, which reads find the end, which calls come late, and whether what
 -- it gave has found no room.
-use Rattle.std.specs.Prelude.{◌≡◌, ℕ, Bool, true, false, not, ◌==◌, ◌&&◌, ◌||◌, List, [], length, Ok, Err, Result, codes, refl}
+use Rattle.std.specs.Prelude.{◌≡◌, ℕ, Bool, true, false, not, ◌==◌, ◌&&◌, ◌||◌, Option, Some, Ok, Err, Result}
+use Rattle.std.specs.Prelude.{List, [], length, codes, refl}
+use Rattle.std.specs.Io.KnownBytes.{IsAtEnd}
+use Rattle.std.proofs.lemmas.Bool.{true≢false, false≢true}
 use Rattle.ndl_session.specs.declared.devices.watched.Watched.{Watched}
 
 -- the device that is watched
@@ -44,6 +47,22 @@ is_end (Err e) buffer = false
 abbrev pub is_failed_write : {E : Type 0} → Result ℕ E → List ℕ → Bool
 is_failed_write (Ok taken) piece = (taken == 0) && not (length piece == 0)
 is_failed_write (Err e) piece = true
+
+-- a reader is read in time: no read comes late unless one had found the end before, nor without room unless room was lacking before
+pub record IsReadInTime {T : Type 0} (old new : Watched T) : Type 0 where
+  pub late : has_ended old ≡ false → was_used_late new ≡ was_used_late old
+  pub room : lacks_room old ≡ false → was_read_without_room new ≡ was_read_without_room old
+
+-- a writer is written in time: no write comes late, and it is told of no room
+pub record IsWrittenInTime {T : Type 0} (old new : Watched T) : Type 0 where
+  pub late : was_used_late new ≡ was_used_late old
+  pub room : lacks_room new ≡ lacks_room old
+  pub no_room : was_read_without_room new ≡ was_read_without_room old
+
+-- a reader is read to its end: nothing remains unread, where it is known what does
+pub record IsReadToEnd {T : Type 0} (unread : Option (List ℕ)) (reader : Watched T) : Type 0 where
+  pub nothing : IsAtEnd unread
+  pub ended : has_ended reader ≡ true
 
 -- examples, where a number stands for a device and for an error
 abbrev after_failure : Watched ℕ
@@ -109,3 +128,24 @@ no_byte_of_none = refl
 
 error_at_no_byte : is_failed_write {E = ℕ} (Err 5) [] ≡ true
 error_at_no_byte = refl
+
+abbrev used_late : Watched ℕ
+used_late = record after_end { used_late = true }
+
+late_for_good : IsReadInTime used_late used_late
+late_for_good = record { late = λ unended. refl; room = λ room. refl }
+
+read_again_after_the_end : IsReadInTime after_end used_late
+read_again_after_the_end = record { late = λ unended. absurd (true≢false unended); room = λ room. refl }
+
+read_after_a_failure : IsReadInTime after_failure (record after_failure { used_late = true }) → ⊥
+read_after_a_failure in_time = true≢false (in_time.late refl)
+
+written_after_a_failure : IsWrittenInTime after_failure (record after_failure { used_late = true }) → ⊥
+written_after_a_failure in_time = true≢false in_time.late
+
+nothing_unread : IsReadToEnd (Some []) after_end
+nothing_unread = record { nothing = refl; ended = refl }
+
+end_not_found : IsReadToEnd (Some []) after_failure → ⊥
+end_not_found read = false≢true read.ended

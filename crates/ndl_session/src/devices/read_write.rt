@@ -3,10 +3,10 @@
 //! `Read` and `Write` are not in scope here: each read and each write goes through `read_on` and
 //! `write_on`, which require that no call before it failed.
 ghost use Rattle.std.specs.Prelude.{◌≡◌, ◌↔◌, true, false, Err, IfOk, IfSome, IsTrue, OnOk};
-ghost use Rattle.std.specs.Io.KnownBytes.{Appends, IsAtEnd};
+ghost use Rattle.std.specs.Io.KnownBytes.{Appends};
 ghost use Rattle.ndl_session.specs.devices.ReadWrite.{AppendsBeginning};
-ghost use Rattle.ndl_session.specs.devices.Watched.{device, has_ended, has_failed, was_used_late};
-ghost use Rattle.ndl_session.specs.devices.Watched.{lacks_room, was_read_without_room};
+ghost use Rattle.ndl_session.specs.devices.Watched.{device, has_failed, lacks_room};
+ghost use Rattle.ndl_session.specs.devices.Watched.{IsReadInTime, IsReadToEnd, IsWrittenInTime};
 ghost use Rattle.ndl_session.specs.declared.devices.read_write.InputError.TheVariants.{ReadFailed, OutOfMemory};
 
 use crate::devices::watched::Watched;
@@ -54,16 +54,12 @@ pub(super) fn read_whole<R: io::Read>(
     requires { has_failed reader.old ≡ false }
     ensures bytes { IfOk result (λ bytes. IfSome (R.remaining (device reader.old))
         (λ all. bytes.items ≡ all)) }
-    ensures end { OnOk result (IsAtEnd (R.remaining (device reader.new))) }
+    ensures end { OnOk result (IsReadToEnd (R.remaining (device reader.new)) reader.new) }
     ensures failed { IsTrue (has_failed reader.new) ↔ (result ≡ Err InputError.ReadFailed) }
-    ensures ended { OnOk result (has_ended reader.new ≡ true) }
-    ensures late { has_ended reader.old ≡ false
-        → was_used_late reader.new ≡ was_used_late reader.old }
+    ensures in_time { IsReadInTime reader.old reader.new }
     ensures room { result ≡ Err InputError.OutOfMemory → lacks_room reader.new ≡ true }
     ensures memory { lacks_room reader.old ≡ false → lacks_room reader.new ≡ true
         → result ≡ Err InputError.OutOfMemory }
-    ensures no_room { lacks_room reader.old ≡ false
-        → was_read_without_room reader.new ≡ was_read_without_room reader.old }
 {
     let mut bytes = Vec::new(alloc);
     let mut piece = [0u8; PIECE_LEN];
@@ -87,9 +83,7 @@ pub(super) fn write_whole<W: io::Write>(writer: &mut Watched<W>, text: &[u8])
         (W.contents (device writer.new)) text.now }
     ensures cut { has_failed writer.new ≡ true → AppendsBeginning
         (W.contents (device writer.old)) (W.contents (device writer.new)) text.now }
-    ensures late { was_used_late writer.new ≡ was_used_late writer.old }
-    ensures room { lacks_room writer.new ≡ lacks_room writer.old }
-    ensures no_room { was_read_without_room writer.new ≡ was_read_without_room writer.old }
+    ensures in_time { IsWrittenInTime writer.old writer.new }
 {
     let mut written = 0;
     while written < text.len() {

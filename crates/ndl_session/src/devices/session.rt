@@ -3,13 +3,10 @@
 //! `Read` and `Write` are not in scope here: devices are read and written by `read_whole` and
 //! `write_whole` alone, which require that no call before them failed.
 ghost use Rattle.std.specs.Prelude.{◌≡◌, ◌≢◌, ◌≤◌, ◌↔◌, ◌⊎◌, ℕ, List, true, false, Err, IfOk, IsTrue, OnOk};
-ghost use Rattle.std.specs.Io.KnownBytes.{Appends, IsAtEnd};
 ghost use Rattle.ndl_session.specs.Answer.{answer_of, IsReply};
-ghost use Rattle.ndl_session.specs.devices.ReadWrite.{AppendsBeginning};
-ghost use Rattle.ndl_session.specs.devices.Session.{AppendsAnswer, AppendsAnswerBeginning, IsInput};
-ghost use Rattle.ndl_session.specs.devices.Session.{input_failed_text, out_of_memory_text};
-ghost use Rattle.ndl_session.specs.devices.Watched.{device, has_ended, has_failed, was_used_late};
-ghost use Rattle.ndl_session.specs.devices.Watched.{lacks_room, was_read_without_room};
+ghost use Rattle.ndl_session.specs.devices.Session.{IsInput, WritesText};
+ghost use Rattle.ndl_session.specs.devices.Watched.{device, has_ended, has_failed, lacks_room};
+ghost use Rattle.ndl_session.specs.devices.Watched.{IsReadInTime, IsReadToEnd, IsWrittenInTime};
 
 use crate::answer::{Answer, answer_to};
 use crate::devices::read_write::{InputError, read_whole, write_whole};
@@ -54,48 +51,25 @@ pub fn session<R: io::Read, W: io::Write>(
     requires reader { has_failed reader.old ≡ false }
     requires writer { has_failed writer.old ≡ false }
 
-    // The status.
+    // The status, and what goes out.
     ensures status { result ≤ 4 }
     ensures failed { (result ≡ 4)
         ↔ (IsTrue (has_failed reader.new) ⊎ IsTrue (has_failed writer.new)) }
+    ensures text { WritesText (R.remaining (device reader.old))
+        (W.contents (device writer.old)) (W.contents (device writer.new))
+        result (has_failed reader.new) (has_failed writer.new) }
 
-    // Neither device is used late.
-    ensures reader_late { has_ended reader.old ≡ false
-        → was_used_late reader.new ≡ was_used_late reader.old }
-    ensures writer_late { was_used_late writer.new ≡ was_used_late writer.old }
-
-    // A failed allocation for bytes of the input ends the reading, and is nothing of the writer's.
-    ensures writer_room { lacks_room writer.new ≡ lacks_room writer.old }
-    ensures writer_no_room { was_read_without_room writer.new ≡ was_read_without_room writer.old }
-    ensures reader_room { lacks_room reader.old ≡ false
-        → was_read_without_room reader.new ≡ was_read_without_room reader.old }
+    // The input is read to its end, unless something fails; a failed allocation for bytes of it ends the reading.
+    ensures end { result ≢ 3 → result ≢ 4
+        → IsReadToEnd (R.remaining (device reader.new)) reader.new }
     ensures room { result ≡ 3
         → (IsTrue (has_ended reader.new) ⊎ IsTrue (lacks_room reader.new)) }
     ensures no_room { lacks_room reader.old ≡ false → lacks_room reader.new ≡ true
         → has_failed writer.new ≡ false → result ≡ 3 }
 
-    // Where nothing fails.
-    ensures answered { result ≢ 3 → result ≢ 4
-        → AppendsAnswer (W.contents (device writer.old)) (W.contents (device writer.new))
-        (R.remaining (device reader.old)) result }
-    ensures read { result ≢ 3 → result ≢ 4
-        → IsAtEnd (R.remaining (device reader.new)) }
-    ensures ended { result ≢ 3 → result ≢ 4 → has_ended reader.new ≡ true }
-
-    // Where an allocation or a read fails, and no write does.
-    ensures memory { result ≡ 3 → Appends (W.contents (device writer.old))
-        (W.contents (device writer.new)) out_of_memory_text }
-    ensures input { has_failed reader.new ≡ true → has_failed writer.new ≡ false
-        → Appends (W.contents (device writer.old)) (W.contents (device writer.new))
-        input_failed_text }
-
-    // Where a write fails.
-    ensures cut { has_failed reader.new ≡ false → has_failed writer.new ≡ true
-        → AppendsAnswerBeginning (W.contents (device writer.old))
-        (W.contents (device writer.new)) (R.remaining (device reader.old)) }
-    ensures input_cut { has_failed reader.new ≡ true → has_failed writer.new ≡ true
-        → AppendsBeginning (W.contents (device writer.old)) (W.contents (device writer.new))
-        input_failed_text }
+    // Neither device is used late, and what finds no room is nothing of the writer's.
+    ensures reader { IsReadInTime reader.old reader.new }
+    ensures writer { IsWrittenInTime writer.old writer.new }
 {
     let status = match answer_input(alloc, reader) {
         Ok(answer) => {
@@ -121,13 +95,9 @@ fn answer_input<R: io::Read>(alloc: Global, reader: &mut Watched<R>) -> Result<A
     ensures answer { IfOk result (λ answer. (input : List ℕ)
         × IsInput (R.remaining (device reader.old)) input × IsReply answer (answer_of input)) }
     ensures small { IfOk result (λ answer. answer.status ≤ 2) }
-    ensures end { OnOk result (IsAtEnd (R.remaining (device reader.new))) }
+    ensures end { OnOk result (IsReadToEnd (R.remaining (device reader.new)) reader.new) }
     ensures failed { IsTrue (has_failed reader.new) ↔ (result ≡ Err InputError.ReadFailed) }
-    ensures ended { OnOk result (has_ended reader.new ≡ true) }
-    ensures late { has_ended reader.old ≡ false
-        → was_used_late reader.new ≡ was_used_late reader.old }
-    ensures reader_room { lacks_room reader.old ≡ false
-        → was_read_without_room reader.new ≡ was_read_without_room reader.old }
+    ensures in_time { IsReadInTime reader.old reader.new }
     ensures room { result ≡ Err InputError.OutOfMemory
         → (IsTrue (has_ended reader.new) ⊎ IsTrue (lacks_room reader.new)) }
     ensures no_room { lacks_room reader.old ≡ false → lacks_room reader.new ≡ true

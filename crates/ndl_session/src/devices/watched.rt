@@ -114,8 +114,7 @@ impl<T> Watched<T> {
 }
 
 impl<R: Read> Watched<R> {
-    ghost use Rattle.ndl_session.specs.devices.Watched.{device, has_failed, has_ended, is_end, was_used_late};
-    ghost use Rattle.ndl_session.specs.devices.Watched.{lacks_room, was_read_without_room};
+    ghost use Rattle.ndl_session.specs.devices.Watched.{device, has_failed, has_ended, is_end, lacks_room, IsReadInTime};
 
     /// Reads as the device does. The caller ensures that no read or write of it has failed before.
     ///
@@ -127,19 +126,15 @@ impl<R: Read> Watched<R> {
             (R.remaining (device self.new)) result buf.new }
         ensures failed { has_failed self.new ≡ is_err result }
         ensures ended { has_ended self.new ≡ (has_ended self.old || is_end result buf.new) }
-        ensures late { has_ended self.old ≡ false → was_used_late self.new ≡
-            was_used_late self.old }
+        ensures in_time { IsReadInTime self.old self.new }
         ensures room { lacks_room self.new ≡ lacks_room self.old }
-        ensures no_room { lacks_room self.old ≡ false →
-            was_read_without_room self.new ≡ was_read_without_room self.old }
     {
         self.read(buf)
     }
 }
 
 impl<W: Write> Watched<W> {
-    ghost use Rattle.ndl_session.specs.devices.Watched.{device, has_failed, is_failed_write, was_used_late};
-    ghost use Rattle.ndl_session.specs.devices.Watched.{lacks_room, was_read_without_room};
+    ghost use Rattle.ndl_session.specs.devices.Watched.{device, has_failed, is_failed_write, IsWrittenInTime};
 
     /// Writes as the device does. The caller ensures that no read or write of it has failed before.
     ///
@@ -151,9 +146,7 @@ impl<W: Write> Watched<W> {
         ensures bytes { WriteAppends (W.contents (device self.old))
             (W.contents (device self.new)) result buf.now }
         ensures failed { has_failed self.new ≡ is_failed_write result buf.now }
-        ensures late { was_used_late self.new ≡ was_used_late self.old }
-        ensures room { lacks_room self.new ≡ lacks_room self.old }
-        ensures no_room { was_read_without_room self.new ≡ was_read_without_room self.old }
+        ensures in_time { IsWrittenInTime self.old self.new }
     {
         self.write(buf)
     }

@@ -2,16 +2,15 @@
 -- read stands in `bytes`, whose length grows.
 use Rattle.std.proofs.Common.{◌≡◌, ◌-◌, ◌^◌, false, vec_len}
 use Rattle.std.specs.Io.KnownBytes.{Consumes}
-use Rattle.ndl_session.specs.devices.Watched.{device, has_ended, has_failed, was_used_late, lacks_room, was_read_without_room}
+use Rattle.ndl_session.specs.devices.Watched.{device, has_ended, has_failed, lacks_room, IsReadInTime}
 use Rattle.ndl_session.proofs.devices.read_write.read_whole.Given as goal
 
 abbrev pub invariant-loop-bytes : goal.invariant-loop-bytes
 invariant-loop-bytes g l = record {
   intact : has_failed l.reader ≡ false;
   unended : has_ended l.initial.reader ≡ false → has_ended l.reader ≡ false;
-  on_time : has_ended l.initial.reader ≡ false → was_used_late l.reader ≡ was_used_late l.initial.reader;
+  in_time : IsReadInTime l.initial.reader l.reader;
   room : lacks_room l.initial.reader ≡ false → lacks_room l.reader ≡ false;
-  with_room : lacks_room l.initial.reader ≡ false → was_read_without_room l.reader ≡ was_read_without_room l.initial.reader;
   read : Consumes (g.R.Read.remaining (device l.initial.reader)) (g.R.Read.remaining (device l.reader)) l.bytes.items;
 }
 

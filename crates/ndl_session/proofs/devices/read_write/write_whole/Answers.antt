@@ -9,9 +9,11 @@ loop-written-preserved g c =
     let written = c.in-Ok.ensures in
     record {
       intact = some_taken _ c.in-Ok.taken _ c.if-taken-gt0.true written.failed;
-      on_time = written.late ∙ before.on_time;
-      room = written.room ∙ before.room;
-      with_room = written.no_room ∙ before.with_room;
+      in_time = record {
+        late = written.in_time.late ∙ before.in_time.late;
+        room = written.in_time.room ∙ before.in_time.room;
+        no_room = written.in_time.no_room ∙ before.in_time.no_room;
+      };
       within = omega (arith, simp (take_rest, length-drop) at written.bound);
       went_out = Appends-more _ _ _ _ _ _ before.went_out written.bytes;
     }

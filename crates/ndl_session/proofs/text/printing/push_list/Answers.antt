@@ -6,7 +6,8 @@ use Rattle.ndl_session.proofs.text.printing.push_list.Goals as goal
 
 pub returns-in_default-clause-list : goal.returns-in_default-clause-list
 returns-in_default-clause-list g c =
-    where_appended c.extend_from_slice.result c.extend_from_slice.new.self.items c.args.text.now.items (codes "-") c.extend_from_slice.ensures.items
+    where_appended c.extend_from_slice.result c.extend_from_slice.new.self.items c.args.text.now.items (codes "-")
+    c.extend_from_slice.ensures.items
     (λ e. ([], (c.next.new.self, (c.args.numbers, refl, c.in_default.ensures.steps)), e))
 
 pub returns-clause-list : goal.returns-clause-list

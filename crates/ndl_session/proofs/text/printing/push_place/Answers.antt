@@ -1,11 +1,13 @@
 -- The space stands before the first digit.
-use Rattle.std.proofs.Common.{◌≡◌, ◌+◌, ◌-◌, ◌∷◌, ◌++◌, decimal, drop, set, take, if◌then◌else◌, is_ok, ap, arith, append-nil, take_all, ◌∙◌}
+use Rattle.std.proofs.Common.{◌≡◌, ◌+◌, ◌-◌, ◌∷◌, ◌++◌, decimal, drop, set, take, if◌then◌else◌, is_ok}
+use Rattle.std.proofs.Common.{ap, arith, append-nil, take_all, ◌∙◌}
 use Rattle.std.proofs.lemmas.Fmt.{length-decimal-le}
 use Rattle.std.proofs.lemmas.List.{drop-set}
 use Rattle.ndl_session.proofs.text.printing.push_place.Goals as goal
 
 pub write_digits-start-requires : goal.write_digits-start-requires
-write_digits-start-requires c = (omega (arith, length-decimal-le 20 c.args.place (omega arith) (omega arith) c.ranges.place.fits), omega arith)
+write_digits-start-requires c =
+    (omega (arith, length-decimal-le 20 c.args.place (omega arith) (omega arith) c.ranges.place.fits), omega arith)
 
 pub overflow_sub-word : goal.overflow_sub-word
 overflow_sub-word c = omega (arith, length-decimal-le 20 c.args.place (omega arith) (omega arith) c.ranges.place.fits)

@@ -12,7 +12,8 @@ returns-in_default g c =
     (λ e. (
       [],
       (c.next.new.self, (c.args.places, refl, c.in_default.ensures.steps)),
-      e ∙ ap (λ t. t ++ codes " -\n") c.in_ok-extend_from_slice.ensures.items ∙ append_assoc c.args.text.now.items (codes "places") (codes " -\n"),
+      e ∙ ap (λ t. t ++ codes " -\n") c.in_ok-extend_from_slice.ensures.items
+          ∙ append_assoc c.args.text.now.items (codes "places") (codes " -\n"),
     ))
 
 pub returns : goal.returns
