@@ -18,7 +18,8 @@ counted_more at None = refl
 counted_more at (Some m) = ap (λ n. Some (record { number = n; edit = m.edit; extent = m.extent })) (omega arith)
 
 -- where the first of those left fits, the first misfit is among the others
-pub one_fits : {edit : Edit} {left rest : List Edit} {after : Extent} (extent : Extent) (at : ℕ) → left ≡ edit ∷ rest → fits extent edit ≡ true
+pub one_fits : {edit : Edit} {left rest : List Edit} {after : Extent} (extent : Extent) (at : ℕ)
+    → left ≡ edit ∷ rest → fits extent edit ≡ true
     → after ≡ extent_after extent edit → from_first (at + 1) (first_misfit rest after) ≡ from_first at (first_misfit left extent)
 one_fits {edit} {left} {rest} {after} extent at split fit is =
     let here : first_misfit (edit ∷ rest) extent ≡ option_map one_later (first_misfit rest (extent_after extent edit)) = rw fit refl in

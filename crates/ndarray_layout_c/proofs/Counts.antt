@@ -37,9 +37,11 @@ pub strides_of_view : (v w : View) → v ≡ w → v.strides ≡ w.strides
 strides_of_view v w same = ap View.strides same
 
 -- a view with its axes in another order has as many axes
-pub length_permuted : (axes : List ℕ) (view : View) → permute_fault view.shape axes ≡ None → length (permuted_of axes view).shape ≡ length view.shape
+pub length_permuted : (axes : List ℕ) (view : View) → permute_fault view.shape axes ≡ None
+    → length (permuted_of axes view).shape ≡ length view.shape
 length_permuted axes view none =
-    length-map axes (λ axis. slice_index_or view.shape axis 0) ∙ length_of_order (length view.shape) axes (order_of (is_axis_order (length view.shape) axes) none)
+    length-map axes (λ axis. slice_index_or view.shape axis 0)
+    ∙ length_of_order (length view.shape) axes (order_of (is_axis_order (length view.shape) axes) none)
   where
     order_of : (fits : Bool) → cond fits None (Some IncompatibleShape) ≡ None → fits ≡ true
     order_of true none = refl
@@ -50,7 +52,8 @@ length-with_counts : (count : ℕ → ℕ → ℕ) (shape block others : List �
     → length (elementwise count shape block ++ others) ≡ length shape + length others
 length-with_counts count [] block others same = omega arith
 length-with_counts count (len ∷ shape) [] others same = absurd (omega arith)
-length-with_counts count (len ∷ shape) (first ∷ block) others same = omega (arith, length-with_counts count shape block others (omega arith))
+length-with_counts count (len ∷ shape) (first ∷ block) others same =
+    omega (arith, length-with_counts count shape block others (omega arith))
 
 length-blocks : (count : ℕ → ℕ → ℕ) (shape block : List ℕ) → length block ≡ length shape
     → length (elementwise count shape block ++ block) ≡ length shape + length shape

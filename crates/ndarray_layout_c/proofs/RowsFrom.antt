@@ -12,9 +12,11 @@ use Rattle.ndarray_layout.specs.View.{View, view_places}
 use Rattle.ndarray_layout_c.specs.RowsFrom.{rows_from}
 
 -- the stride of the axis that moves fastest
-pub fastest_signed : (order : Order) (strides : List ℕ) → signed (fastest_item order strides 0) ≡ fastest_item order (all_signed strides) (pos 0)
+pub fastest_signed : (order : Order) (strides : List ℕ)
+    → signed (fastest_item order strides 0) ≡ fastest_item order (all_signed strides) (pos 0)
 fastest_signed RowMajor strides =
-    sym (get_or-map signed strides (length strides - 1) 0) ∙ ap (λ n. get_or (all_signed strides) (n - 1) (pos 0)) (sym (length-map strides signed))
+    sym (get_or-map signed strides (length strides - 1) 0)
+    ∙ ap (λ n. get_or (all_signed strides) (n - 1) (pos 0)) (sym (length-map strides signed))
 fastest_signed ColumnMajor strides = sym (get_or-map signed strides 0 0)
 
 module _ (order : Order) (view : View) where
@@ -29,7 +31,8 @@ module _ (order : Order) (view : View) where
   pub from_starts : from (map (λ row. row.start) (view_rows order view)) ≡ view_rows order view
   from_starts = by (nat_eq (size view.shape) 0)
     where
-      by : (none : Bool) → from (map (λ row. row.start) (cond none [] (map (row_at order view) (view_places order (slower_view order view)))))
+      by : (none : Bool)
+          → from (map (λ row. row.start) (cond none [] (map (row_at order view) (view_places order (slower_view order view)))))
           ≡ cond none [] (map (row_at order view) (view_places order (slower_view order view)))
       by true = refl
       by false = from_each (view_places order (slower_view order view))

@@ -33,10 +33,12 @@ abbrev pub sliced_view : ℤ → List RawElem → ℕ → List ℕ → List ℕ 
 sliced_view fit raws start shape strides = slice_of (fit_named fit) (elems_named raws) (view_of start shape strides)
 
 -- examples
-range_to_the_end : elem_named (record { kind = pos 0; has_end = pos 0; start = pos 1; end = pos 9; step = negsuc 1 }) ≡ Slice (pos 1) None (negsuc 1)
+range_to_the_end : elem_named (record { kind = pos 0; has_end = pos 0; start = pos 1; end = pos 9; step = negsuc 1 })
+    ≡ Slice (pos 1) None (negsuc 1)
 range_to_the_end = refl
 
-range_with_an_end : elem_named (record { kind = pos 0; has_end = pos 1; start = pos 1; end = pos 9; step = pos 1 }) ≡ Slice (pos 1) (Some (pos 9)) (pos 1)
+range_with_an_end : elem_named (record { kind = pos 0; has_end = pos 1; start = pos 1; end = pos 9; step = pos 1 })
+    ≡ Slice (pos 1) (Some (pos 9)) (pos 1)
 range_with_an_end = refl
 
 one_coordinate : elem_named (record { kind = pos 1; has_end = pos 0; start = negsuc 0; end = pos 0; step = pos 0 }) ≡ Index (negsuc 0)

@@ -12,7 +12,8 @@ has_index_after order shape index = nat_lt (flat_index_in order shape index + 1)
 -- the index after one; after the last one comes the first one
 abbrev pub index_after : Order → List ℕ → List ℕ → List ℕ
 index_after order shape index =
-    if has_index_after order shape index then index_of_flat_in order shape (flat_index_in order shape index + 1) else replicate (length shape) 0
+    if has_index_after order shape index then index_of_flat_in order shape (flat_index_in order shape index + 1)
+    else replicate (length shape) 0
 
 -- examples
 next_row : index_after RowMajor (2 ∷ 3 ∷ []) (0 ∷ 2 ∷ []) ≡ 1 ∷ 0 ∷ []

@@ -7,7 +7,8 @@ abbrev pub rows_from : ℤ → ℕ → List ℕ → List Row
 rows_from stride len starts = map (λ start. record { start = start; stride = stride; len = len }) starts
 
 -- examples
-two_rows : rows_from (pos 1) 3 (3 ∷ 0 ∷ []) ≡ record { start = 3; stride = pos 1; len = 3 } ∷ record { start = 0; stride = pos 1; len = 3 } ∷ []
+two_rows : rows_from (pos 1) 3 (3 ∷ 0 ∷ [])
+    ≡ record { start = 3; stride = pos 1; len = 3 } ∷ record { start = 0; stride = pos 1; len = 3 } ∷ []
 two_rows = refl
 
 no_row : rows_from (pos 1) 3 [] ≡ []

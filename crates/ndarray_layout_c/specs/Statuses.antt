@@ -1,7 +1,8 @@
 -- The status of a call: 0, the number of a fault's kind, or that of a bad argument or of an allocation that failed.
 use Rattle.std.specs.Prelude.{◌≡◌, ℤ, pos, Bool, true, false, Option, Some, None, if◌then◌else◌, refl}
 use Rattle.ndarray_layout.specs.declared.ErrorKind.{ErrorKind}
-use Rattle.ndarray_layout.specs.declared.ErrorKind.TheVariants.{IncompatibleShape, IncompatibleLayout, RangeLimited, OutOfBounds, Unsupported, Overflow}
+use Rattle.ndarray_layout.specs.declared.ErrorKind.TheVariants.{IncompatibleShape, IncompatibleLayout, RangeLimited}
+use Rattle.ndarray_layout.specs.declared.ErrorKind.TheVariants.{OutOfBounds, Unsupported, Overflow}
 
 -- the status of success
 abbrev pub ok : ℤ

@@ -1,5 +1,6 @@
 //! Layouts: which are accepted, and what they are like.
-ghost use Rattle.std.specs.Prelude.{◌≡◌, ◌≢◌, ◌↔◌, ◌==◌, IsTrue, true, false, not, ◌&&◌, pos, None, Some, length, if◌then◌else◌, IfOk, IsOk, OnOk};
+ghost use Rattle.std.specs.Prelude.{◌≡◌, ◌≢◌, ◌↔◌, ◌==◌, IsTrue, true, false, not, ◌&&◌, pos};
+ghost use Rattle.std.specs.Prelude.{None, Some, length, if◌then◌else◌, IfOk, IsOk, OnOk};
 ghost use Rattle.ndarray_layout.specs.declared.Order.TheVariants.{ColumnMajor, RowMajor};
 ghost use Rattle.ndarray_layout.specs.declared.ErrorKind.{ErrorKind};
 ghost use Rattle.ndarray_layout.specs.Acceptance.{acceptance, size_fault};

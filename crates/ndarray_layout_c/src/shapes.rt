@@ -1,5 +1,6 @@
 //! Shapes in common, axes merged, and layouts along other shapes.
-ghost use Rattle.std.specs.Prelude.{◌≡◌, ◌≢◌, ◌≤◌, ◌==◌, ◌↔◌, ◌&&◌, not, false, max, take, length, pos, None, Some, if◌then◌else◌, IfOk, IsOk, OnOk, slice_index, true};
+ghost use Rattle.std.specs.Prelude.{◌≡◌, ◌≢◌, ◌≤◌, ◌==◌, ◌↔◌, ◌&&◌, not, false, max, take, length, pos};
+ghost use Rattle.std.specs.Prelude.{None, Some, if◌then◌else◌, IfOk, IsOk, OnOk, slice_index, true};
 ghost use Rattle.std.specs.Option.{option_or};
 ghost use Rattle.ndarray_layout.specs.declared.ErrorKind.{ErrorKind};
 ghost use Rattle.ndarray_layout.specs.Acceptance.{size_fault};

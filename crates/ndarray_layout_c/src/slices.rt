@@ -1,6 +1,7 @@
 //! Slices of a layout, and of a shape.
 ghost use Rattle.std.specs.Option.{option_or};
-ghost use Rattle.std.specs.Prelude.{◌≡◌, ◌≢◌, ◌≤◌, ◌↔◌, ◌==◌, ◌&&◌, ◌||◌, not, true, false, pos, None, Some, length, if◌then◌else◌, IfOk, IsOk, IsTrue, OnOk};
+ghost use Rattle.std.specs.Prelude.{◌≡◌, ◌≢◌, ◌≤◌, ◌↔◌, ◌==◌, ◌&&◌, ◌||◌, not, true, false, pos};
+ghost use Rattle.std.specs.Prelude.{None, Some, length, if◌then◌else◌, IfOk, IsOk, IsTrue, OnOk};
 ghost use Rattle.ndarray_layout.specs.declared.ErrorKind.{ErrorKind};
 ghost use Rattle.ndarray_layout.specs.SliceFault.{argument_fault, out_count};
 ghost use Rattle.ndarray_layout.specs.Descends.{Descends};

@@ -1,6 +1,7 @@
 //! The two parts of a layout that is split along an axis.
 ghost use Rattle.std.specs.Option.{option_or};
-ghost use Rattle.std.specs.Prelude.{◌≡◌, ◌≢◌, ◌==◌, ◌+◌, ◌++◌, ◌&&◌, not, false, None, Some, [], ◌∷◌, length, slice_index, take, drop, IfOk, IsOk, OnOk};
+ghost use Rattle.std.specs.Prelude.{◌≡◌, ◌≢◌, ◌==◌, ◌+◌, ◌++◌, ◌&&◌, not, false, None, Some, []};
+ghost use Rattle.std.specs.Prelude.{◌∷◌, length, slice_index, take, drop, IfOk, IsOk, OnOk};
 ghost use Rattle.ndarray_layout.specs.declared.ErrorKind.{ErrorKind};
 ghost use Rattle.ndarray_layout.specs.Descends.{Descends};
 ghost use Rattle.ndarray_layout.specs.Memory.{NeedsNoMemory};

@@ -32,8 +32,8 @@ first_window {row} {column} {rest = rest} picture first all =
     )
 
 -- one more mean is that of the first of them
-one_more : (mean : List ℕ → ℕ) (means : List ℕ) (m : ℕ) {at : List ℕ} {more all : List ℕ} {left rest : List (List ℕ)} → more ≡ means ++ m ∷ []
-    → m ≡ mean at → left ≡ at ∷ rest → means ++ map mean left ≡ all → more ++ map mean rest ≡ all
+one_more : (mean : List ℕ → ℕ) (means : List ℕ) (m : ℕ) {at : List ℕ} {more all : List ℕ} {left rest : List (List ℕ)}
+    → more ≡ means ++ m ∷ [] → m ≡ mean at → left ≡ at ∷ rest → means ++ map mean left ≡ all → more ++ map mean rest ≡ all
 one_more mean means m {rest = rest} pushed is first before =
     ap (λ more. more ++ map mean rest) pushed
     ∙ append_assoc means (m ∷ []) (map mean rest)

@@ -10,6 +10,7 @@ use Rattle.example_callers.proofs.blurs.mean_of.Given as goal
 abbrev pub invariant-loop-pixel : goal.invariant-loop-pixel
 invariant-loop-pixel l = record {
   added : l.sum + sum_by (λ pixel. option_map_or (λ value. value) pixel 0) l.pixel-iterator
-      ≡ sum_by (λ pixel. option_map_or (λ value. value) pixel 0) (map (item_at_place l.fn.window.items) (view_places RowMajor l.fn.window.view));
+      ≡ sum_by (λ pixel. option_map_or (λ value. value) pixel 0)
+      (map (item_at_place l.fn.window.items) (view_places RowMajor l.fn.window.view));
   small : l.sum + 255 * length l.pixel-iterator ≤ 255 * 9;
 }
