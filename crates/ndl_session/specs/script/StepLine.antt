@@ -52,18 +52,9 @@ pub record StepText : Type 1 where
 -- each step in words
 abbrev pub text_of : StepValue → StepText
 text_of (SliceBy elems fit) = record { words = slice_keyword fit ∷ elements_text elems ∷ []; fits = All IsElement elems }
-text_of (CollapseTo axis index) = record {
-  words = codes "collapse" ∷ decimal axis ∷ decimal index ∷ [];
-  fits = IsUsize axis × IsUsize index;
-}
-text_of (MergeInto take into) = record {
-  words = codes "merge" ∷ decimal take ∷ decimal into ∷ [];
-  fits = IsUsize take × IsUsize into;
-}
-text_of (ReshapeTo shape order) = record {
-  words = codes "reshape" ∷ order_text order ∷ lengths_text shape ∷ [];
-  fits = All IsUsize shape;
-}
+text_of (CollapseTo axis at) = record { words = codes "collapse" ∷ decimal axis ∷ decimal at ∷ []; fits = IsUsize axis × IsUsize at }
+text_of (MergeInto take into) = record { words = codes "merge" ∷ decimal take ∷ decimal into ∷ []; fits = IsUsize take × IsUsize into }
+text_of (ReshapeTo shape order) = record { words = codes "reshape" ∷ order_text order ∷ lengths_text shape ∷ []; fits = All IsUsize shape }
 text_of (BroadcastTo shape) = record { words = codes "broadcast" ∷ lengths_text shape ∷ []; fits = All IsUsize shape }
 
 -- examples
