@@ -1,13 +1,11 @@
--- A range of coordinates on each axis of a layout: what they reach, and where their sources lie.
-use Rattle.std.proofs.Common.{◌≡◌, ◌⊎◌, ℕ, zero, suc, ◌+◌, ◌-◌, ◌*◌, ◌<◌, ◌≤◌, ℤ, pos, negsuc, ◌+ℤ◌, ◌*ℤ◌, ◌≤ℤ◌, true, cond, List, [], ◌∷◌}
-use Rattle.std.proofs.Common.{length, nat_lt, refl, sym, subst, ap, ◌∙◌, drop, get_or, inl, inr, arith, Some}
+-- A range of coordinates on each axis of a layout: a part of the layout, that begins where the slice by the same ranges does.
+use Rattle.std.proofs.Common.{◌≡◌, ℕ, suc, ◌+◌, ◌-◌, ◌<◌, ℤ, pos, ◌*ℤ◌, true, List, [], ◌∷◌, nat_lt, refl, sym, ap, ◌∙◌, inl, inr}
+use Rattle.std.proofs.Common.{arith, Some, length}
 use Rattle.std.proofs.Math.IntN.{zero-*ℤ}
 use Rattle.std.specs.List.{range_with_len}
-use Rattle.std.proofs.Math.Nat.{mul-le-mul_right}
-use Rattle.std.proofs.lemmas.Bool.{and_parts, and_from, cases_lt, cond-true, cond-false, le-ltb, ltb-true, lt-ltb}
-use Rattle.std.proofs.lemmas.Int.{ints}
-use Rattle.nd_base.proofs.laws.Definitions.{is_index, offset_of, nonzero_size, high_span, low_span, reach, reach_down, reach_up, span}
-use Rattle.nd_base.proofs.laws.Definitions.{farthest_offset, magnitude}
+use Rattle.std.specs.Prelude.{max}
+use Rattle.std.proofs.lemmas.Bool.{and_from, and_parts, lt-ltb, ltb-true}
+use Rattle.nd_base.proofs.laws.Definitions.{is_index, offset_of}
 use Rattle.nd_base.specs.Elementwise.{differences, sums, DifferencesFit}
 use Rattle.ndarray_layout.specs.CroppedView.{RangesFit, moved_starts}
 use Rattle.nd_slice.specs.declared.fit.Fit.TheVariants.{Strict}
@@ -16,57 +14,9 @@ use Rattle.nd_slice.specs.Picks.{picks}
 use Rattle.nd_slice.specs.SliceBounds.{slice_with}
 use Rattle.nd_slice.specs.SlicedLayout.{sliced_offset}
 use Rattle.nd_slice.proofs.laws.UnitStep.{between_one, ranges_between}
-use Rattle.ndarray_layout.proofs.ChangedAxis.{coordinates_add}
-use Rattle.ndarray_layout.proofs.KeptCoordinates.{none_down, none_up, range_kept}
-use Rattle.ndarray_layout.proofs.Slices.{nonzero_more}
+use Rattle.ndarray_layout.proofs.AxisByAxis.{along-own, no_axes, range_cases, range_of, range_start}
+use Rattle.ndarray_layout.proofs.laws.Sources.{HasOwnSources, at_least}
 
--- ---- one axis
-abbrev moved : ℕ → ℕ → ℕ
-moved start end = cond (nat_lt start end) start 0
-
--- the start moves where the range has a coordinate
-moved_cases : (start end : ℕ) → ((start < end) × (moved start end ≡ start)) ⊎ ((end - start ≡ 0) × (moved start end ≡ 0))
-moved_cases start end = elim (cases_lt start end) [
-  | inl some ↦ inl (some, cond-true {A = ℕ} (nat_lt start end) start 0 (lt-ltb start end some))
-  | inr none ↦ inr (omega arith, cond-false {A = ℕ} (nat_lt start end) start 0 (le-ltb start end none))
-]
-
--- so many coordinates, from one on or where the axis begins, reach no further than the axis
-record AxisKept (len from count : ℕ) (stride : ℤ) : Type 0 where
-  low : pos (reach_down count stride) ≤ℤ (pos (reach_down len stride) +ℤ (pos from *ℤ stride))
-  high : ((pos from *ℤ stride) +ℤ pos (reach_up count stride)) ≤ℤ pos (reach_up len stride)
-  far : from * magnitude stride ≤ reach len stride
-
-first_low : (len : ℕ) (stride : ℤ) → pos 0 ≤ℤ (pos (reach_down len stride) +ℤ (pos 0 *ℤ stride))
-first_low len (pos s) = omega (arith, ints)
-first_low len (negsuc s) = omega (arith, ints)
-
-first_high : (len : ℕ) (stride : ℤ) → ((pos 0 *ℤ stride) +ℤ pos 0) ≤ℤ pos (reach_up len stride)
-first_high len (pos s) = omega (arith, ints)
-first_high len (negsuc s) = omega (arith, ints)
-
-none_kept : (len : ℕ) (stride : ℤ) → AxisKept len 0 0 stride
-none_kept len stride = record {
-  low = rw (none_down stride) (first_low len stride);
-  high = rw (none_up stride) (first_high len stride);
-  far = omega arith;
-}
-
-some_kept : (len start end : ℕ) (stride : ℤ) → start < end → end ≤ len → AxisKept len start (end - start) stride
-some_kept len start end stride some within =
-    let kept = range_kept len start (end - start) stride (omega arith) (omega arith) in
-    let before : start ≤ len - 1 = omega arith in
-    record { low = kept.low; high = kept.high; far = mul-le-mul_right (magnitude stride) before }
-
-axis_kept : (len start end : ℕ) (stride : ℤ) → start ≤ end → end ≤ len → AxisKept len (moved start end) (end - start) stride
-axis_kept len start end stride ordered within = elim (moved_cases start end) [
-  | inl some ↦ subst (λ from. AxisKept len from (end - start) stride) (sym some.1) (some_kept len start end stride some.0 within)
-  | inr none ↦
-      subst (λ from. AxisKept len from (end - start) stride) (sym none.1)
-      (subst (λ count. AxisKept len 0 count stride) (sym none.0) (none_kept len stride))
-]
-
--- ---- all axes
 -- a start and an end for each axis, with no start past its end and no end past its axis
 pub record Ranges (shape starts ends : List ℕ) (strides : List ℤ) : Type 0 where
   pub counts : length shape ≡ length strides
@@ -77,45 +27,67 @@ rest : {len start end : ℕ} {stride : ℤ} {shape starts ends : List ℕ} {stri
     → Ranges (len ∷ shape) (start ∷ starts) (end ∷ ends) (stride ∷ strides) → Ranges shape starts ends strides
 rest r = let counts = r.counts in record { counts = omega arith; in_order = r.in_order.1; within = r.within.1 }
 
-pub record CropKept (shape starts ends : List ℕ) (strides : List ℤ) : Type 0 where
-  pub counts : length (differences ends starts) ≡ length strides
-  pub size : nonzero_size (differences ends starts) ≤ nonzero_size shape
-  pub low : pos (low_span (differences ends starts) strides) ≤ℤ
-      (pos (low_span shape strides) +ℤ offset_of strides (moved_starts starts ends))
-  pub high : (offset_of strides (moved_starts starts ends) +ℤ pos (high_span (differences ends starts) strides)) ≤ℤ
-      pos (high_span shape strides)
-  pub far : farthest_offset strides (moved_starts starts ends) ≤ span shape strides
+-- a part of the layout: each coordinate lies as far on as the start, where that moves
+pub cropped_sources : (shape starts ends : List ℕ) (strides : List ℤ) → Ranges shape starts ends strides
+    → HasOwnSources (sums (moved_starts starts ends)) shape strides (offset_of strides (moved_starts starts ends)) (differences ends starts) strides
+cropped_sources [] [] [] [] r = no_axes refl
+cropped_sources [] starts ends (stride ∷ strides) r = let counts = r.counts in absurd (omega arith)
+cropped_sources [] starts (end ∷ ends) [] r = absurd r.within
+cropped_sources [] (start ∷ starts) [] [] r = absurd r.in_order
+cropped_sources (len ∷ shape) starts ends [] r = let counts = r.counts in absurd (omega arith)
+cropped_sources (len ∷ shape) starts [] (stride ∷ strides) r = absurd r.within
+cropped_sources (len ∷ shape) [] (end ∷ ends) (stride ∷ strides) r = absurd r.in_order
+cropped_sources (len ∷ shape) (start ∷ starts) (end ∷ ends) (stride ∷ strides) r =
+    along-own (range_of len start end stride r.in_order.0 r.within.0) (λ i j below also same. omega arith)
+    (cropped_sources shape starts ends strides (rest r)) refl (λ i index. refl)
 
-pub crop_kept : (shape starts ends : List ℕ) (strides : List ℤ) → Ranges shape starts ends strides → CropKept shape starts ends strides
-crop_kept [] [] [] [] r =
-    record { counts = refl; size = omega arith; low = omega (arith, ints); high = omega (arith, ints); far = omega arith }
-crop_kept [] starts ends (stride ∷ strides) r = let counts = r.counts in absurd (omega arith)
-crop_kept [] starts (end ∷ ends) [] r = absurd r.within
-crop_kept [] (start ∷ starts) [] [] r = absurd r.in_order
-crop_kept (len ∷ shape) starts ends [] r = let counts = r.counts in absurd (omega arith)
-crop_kept (len ∷ shape) starts [] (stride ∷ strides) r = absurd r.within
-crop_kept (len ∷ shape) [] (end ∷ ends) (stride ∷ strides) r = absurd r.in_order
-crop_kept (len ∷ shape) (start ∷ starts) (end ∷ ends) (stride ∷ strides) r =
-    let axis = axis_kept len start end stride r.in_order.0 r.within.0 in
-    let others = crop_kept shape starts ends strides (rest r) in
-    let few = r.within.0 in
-    record {
-      counts = omega (arith, others.counts);
-      size = nonzero_more (end - start) len (nonzero_size (differences ends starts)) (nonzero_size shape) (omega arith) others.size;
-      low = omega (arith, ints, axis.low, others.low);
-      high = omega (arith, ints, axis.high, others.high);
-      far = omega (arith, axis.far, others.far);
-    }
+-- where there is an index, each start moves
+pub all_moved : (starts ends coordinates : List ℕ) → DifferencesFit ends starts → is_index (differences ends starts) coordinates ≡ true
+    → sums (moved_starts starts ends) coordinates ≡ sums coordinates starts
+all_moved [] [] [] fit here = refl
+all_moved [] [] (i ∷ coordinates) fit here = absurd (cc)
+all_moved [] (end ∷ ends) coordinates fit here = absurd fit
+all_moved (start ∷ starts) [] coordinates fit here = absurd fit
+all_moved (start ∷ starts) (end ∷ ends) [] fit here = absurd (cc)
+all_moved (start ∷ starts) (end ∷ ends) (i ∷ coordinates) fit here =
+    let parts = and_parts (nat_lt i (end - start)) (is_index (differences ends starts) coordinates) here in
+    let below = ltb-true i (end - start) parts.0 in
+    let first : range_start start end + i ≡ i + start = elim (range_cases start end) [
+      | inl some ↦ omega (arith, some.1)
+      | inr none ↦ absurd (omega (arith, none.0))
+    ] in
+    let others = all_moved starts ends coordinates fit.1 parts.1 in
+    cc
+
+-- the starts that move are an index where lengths of 0 count as 1
+pub moved_starts_within : (shape starts ends : List ℕ) → RangesFit shape starts ends
+    → is_index (at_least 1 shape) (moved_starts starts ends) ≡ true
+moved_starts_within [] [] [] fit = refl
+moved_starts_within [] [] (end ∷ ends) fit = absurd fit.within
+moved_starts_within [] (start ∷ starts) [] fit = absurd fit.in_order
+moved_starts_within [] (start ∷ starts) (end ∷ ends) fit = absurd fit.within
+moved_starts_within (len ∷ shape) starts [] fit = absurd fit.within
+moved_starts_within (len ∷ shape) [] (end ∷ ends) fit = absurd fit.in_order
+moved_starts_within (len ∷ shape) (start ∷ starts) (end ∷ ends) fit =
+    let within = fit.within.0 in
+    let first : range_start start end < max 1 len = elim (range_cases start end) [
+      | inl some ↦ omega (arith, some.0, some.1)
+      | inr none ↦ omega (arith, none.1)
+    ] in
+    and_from (nat_lt (range_start start end) (max 1 len)) (is_index (at_least 1 shape) (moved_starts starts ends))
+    (lt-ltb (range_start start end) (max 1 len) first)
+    (moved_starts_within shape starts ends (record { in_order = fit.in_order.1; within = fit.within.1 }))
 
 -- the starts that move lie where the slice by these ranges begins
 first_between : (len start end : ℕ) (stride : ℤ)
-    → first_offset (picks Strict len (slice_with (pos start) (Some (pos end)) (pos 1))) stride ≡ pos (moved start end) *ℤ stride
-first_between len start end stride = ap (λ picked. first_offset picked stride) (between_one start end) ∙ elim (moved_cases start end) [
+    → first_offset (picks Strict len (slice_with (pos start) (Some (pos end)) (pos 1))) stride ≡ pos (range_start start end) *ℤ stride
+first_between len start end stride = ap (λ picked. first_offset picked stride) (between_one start end) ∙ elim (range_cases start end) [
   | inl some ↦
       let more : end - start ≡ suc (end - start - 1) = omega (arith, some.0) in
       ap (λ n. first_offset (range_with_len start n) stride) more ∙ ap (λ from. pos from *ℤ stride) (sym some.1)
   | inr none ↦
-      ap (λ n. first_offset (range_with_len start n) stride) none.0
+      let empty : end - start ≡ 0 = omega (arith, none.0) in
+      ap (λ n. first_offset (range_with_len start n) stride) empty
       ∙ sym (zero-*ℤ stride)
       ∙ ap (λ from. pos from *ℤ stride) (sym none.1)
 ]
@@ -132,61 +104,4 @@ offset_as_sliced (len ∷ shape) [] (end ∷ ends) (stride ∷ strides) r = absu
 offset_as_sliced (len ∷ shape) (start ∷ starts) (end ∷ ends) (stride ∷ strides) r =
     let first = first_between len start end stride in
     let others = offset_as_sliced shape starts ends strides (rest r) in
-    cc
-
--- no start that moves is past its axis
-pub moved_le : (shape starts ends : List ℕ) → RangesFit shape starts ends → (k d : ℕ)
-    → k < length (moved_starts starts ends) → get_or (moved_starts starts ends) k d ≤ get_or shape k 0
-moved_le shape [] ends fit k d h = absurd (omega arith)
-moved_le shape (start ∷ starts) [] fit k d h = absurd (omega arith)
-moved_le [] (start ∷ starts) (end ∷ ends) fit k d h = absurd fit.within
-moved_le (len ∷ shape) (start ∷ starts) (end ∷ ends) fit zero d h =
-    let ordered = fit.in_order.0 in
-    let within = fit.within.0 in
-    elim (moved_cases start end) [
-      | inl some ↦ omega (arith, some.1)
-      | inr none ↦ omega (arith, none.1)
-    ]
-moved_le (len ∷ shape) (start ∷ starts) (end ∷ ends) fit (suc k) d h =
-    moved_le shape starts ends (record { in_order = fit.in_order.1; within = fit.within.1 }) k d (omega arith)
-
--- an index that is kept, and its source
-pub record SourceKept (shape starts ends : List ℕ) (strides : List ℤ) (coordinates : List ℕ) : Type 0 where
-  pub within : is_index shape (sums coordinates starts) ≡ true
-  pub offset : offset_of strides (sums coordinates starts) ≡ offset_of strides (moved_starts starts ends) +ℤ offset_of strides coordinates
-
-pub source_kept : (shape starts ends : List ℕ) (strides : List ℤ) (coordinates : List ℕ) → Ranges shape starts ends strides
-    → is_index (differences ends starts) coordinates ≡ true → SourceKept shape starts ends strides coordinates
-source_kept [] [] [] [] [] r here = record { within = refl; offset = refl }
-source_kept [] [] [] [] (c ∷ coordinates) r here = absurd (cc)
-source_kept [] starts ends (stride ∷ strides) coordinates r here = let counts = r.counts in absurd (omega arith)
-source_kept [] starts (end ∷ ends) [] coordinates r here = absurd r.within
-source_kept [] (start ∷ starts) [] [] coordinates r here = absurd r.in_order
-source_kept (len ∷ shape) starts ends [] coordinates r here = let counts = r.counts in absurd (omega arith)
-source_kept (len ∷ shape) starts [] (stride ∷ strides) coordinates r here = absurd r.within
-source_kept (len ∷ shape) [] (end ∷ ends) (stride ∷ strides) coordinates r here = absurd r.in_order
-source_kept (len ∷ shape) (start ∷ starts) (end ∷ ends) (stride ∷ strides) [] r here = absurd (cc)
-source_kept (len ∷ shape) (start ∷ starts) (end ∷ ends) (stride ∷ strides) (c ∷ coordinates) r here =
-    let parts = and_parts (nat_lt c (end - start)) (is_index (differences ends starts) coordinates) here in
-    let below = ltb-true c (end - start) parts.0 in
-    let others = source_kept shape starts ends strides coordinates (rest r) parts.1 in
-    let within = r.within.0 in
-    let add = coordinates_add c start stride in
-    let begins : moved start end ≡ start = cond-true {A = ℕ} (nat_lt start end) start 0 (lt-ltb start end (omega arith)) in
-    record {
-      within = and_from (nat_lt (c + start) len) (is_index shape (sums coordinates starts)) (lt-ltb (c + start) len (omega arith)) others.within;
-      offset = rw begins (omega (arith, ints, others.offset, add));
-    }
-
--- indices of one source are one
-pub sums_injective : (xs ys starts : List ℕ) → length xs ≡ length starts → length ys ≡ length starts → sums xs starts ≡ sums ys starts
-    → xs ≡ ys
-sums_injective [] [] starts e f same = refl
-sums_injective [] (y ∷ ys) starts e f same = absurd (omega arith)
-sums_injective (x ∷ xs) [] starts e f same = absurd (omega arith)
-sums_injective (x ∷ xs) (y ∷ ys) [] e f same = absurd (omega arith)
-sums_injective (x ∷ xs) (y ∷ ys) (start ∷ starts) e f same =
-    let heads : x + start ≡ y + start = ap (λ zs. get_or zs 0 0) same in
-    let first : x ≡ y = omega arith in
-    let others = sums_injective xs ys starts (omega arith) (omega arith) (ap (drop 1) same) in
     cc

@@ -1,14 +1,12 @@
 -- Slicing axis by axis: what is left by the elements so far, and the slice of the rest.
-use Rattle.std.proofs.Common.{◌≡◌, ℕ, ◌+◌, ◌*◌, ◌<◌, ◌≤◌, ℤ, pos, ◌+ℤ◌, ◌*ℤ◌, ◌≤ℤ◌, List, [], ◌∷◌, ◌++◌, length, get_or, take}
-use Rattle.std.proofs.Common.{drop, set, None, Some, arith, refl, ap, sym, ◌∙◌, append_assoc, to_z, of_z, cond, eqb, Bool, true}
-use Rattle.std.proofs.Common.{false, pos_of_ne-zero}
-use Rattle.std.specs.Prelude.{FitsSigned}
+use Rattle.std.proofs.Common.{◌≡◌, ℕ, ◌+◌, ◌<◌, ◌≤◌, ℤ, pos, ◌+ℤ◌, ◌*ℤ◌, ◌≤ℤ◌, List, [], ◌∷◌, ◌++◌, length, get_or, take}
+use Rattle.std.proofs.Common.{drop, set, None, Some, arith, refl, ap, sym, ◌∙◌, append_assoc, to_z, of_z}
+use Rattle.std.specs.Prelude.{FitsSigned, max, neg_ℤ}
+use Rattle.std.proofs.Math.IntN.{zero-*ℤ}
 use Rattle.std.specs.Int.{w64}
 use Rattle.std.specs.Option.{option_or}
 use Rattle.std.proofs.lemmas.Int.{ints, to_z-of_z}
-use Rattle.std.proofs.lemmas.Bool.{eqb-true, eqb-false}
 use Rattle.std.proofs.Math.ListN.{get_or-map}
-use Rattle.std.proofs.Math.Nat.{mul-le-mul_left, mul-le-mul_right}
 use Rattle.std.proofs.lemmas.List.{map-append, length-map, length-set, length-drop, append-nil, drop_all, drop_more, take_all}
 use Rattle.std.proofs.lemmas.List.{take_more_set}
 use Rattle.nd_base.specs.declared.error.ErrorKind.{ErrorKind}
@@ -24,10 +22,11 @@ use Rattle.nd_slice.specs.AxisFault.{slice_fault, index_fault}
 use Rattle.nd_slice.specs.SliceFault.{in_count, out_count, first_fault}
 use Rattle.nd_slice.specs.SlicedAxis.{picked_stride, first_offset}
 use Rattle.nd_slice.specs.SlicedLayout.{sliced_shape, sliced_strides, sliced_offset}
-use Rattle.ndarray_layout.proofs.OneAxis.{Within, axis_within}
-use Rattle.ndarray_layout.proofs.Picked.{slice_kept}
-use Rattle.ndarray_layout.proofs.PicksFit.{picks_fit}
-use Rattle.ndarray_layout.proofs.Slices.{index_coordinate}
+use Rattle.nd_slice.proofs.laws.AxisFault.{coordinate_below, fits_of_no_fault, index_fits_of_no_fault}
+use Rattle.nd_base.proofs.laws.Offset.{coordinate_bounds}
+use Rattle.ndarray_layout.proofs.AxisByAxis.{AxisHasSources, lone_coordinate}
+use Rattle.ndarray_layout.proofs.Slices.{picked_axis}
+use Rattle.ndarray_layout.proofs.laws.Sources.{down-at_least, up-at_least}
 use Rattle.nd_base.proofs.laws.Span.{low_high_span, reach_parts}
 use Rattle.nd_base.proofs.laws.NonzeroSize.{length_le_nonzero_size}
 use Rattle.nd_base.proofs.laws.Span.{reach_le_span}
@@ -158,6 +157,15 @@ wrote_stride new v {z} nt out h s e =
     ∙ append_assoc (all_signed (take new nt)) (signed v ∷ []) out
     ∙ ap (λ x. all_signed (take new nt) ++ (x ∷ out)) s ∙ e
 
+-- an axis of another one begins between the reaches of that
+first_within : {source : ℕ → ℕ} {len new : ℕ} {stride moved new_stride : ℤ} → AxisHasSources source len stride moved new new_stride
+    → (neg_ℤ (pos (reach_down len stride)) ≤ℤ moved) × (moved ≤ℤ pos (reach_up len stride))
+first_within {source} {len} {stride = stride} {new_stride = new_stride} axis =
+    let bounds = coordinate_bounds (max 1 len) stride (source 0) (axis.within 1 0 (omega arith) (omega arith)) in
+    let first = axis.offset 0 (omega arith) in
+    let start = zero-*ℤ new_stride in
+    (omega (arith, ints, bounds.0, first, start, down-at_least len stride), omega (arith, ints, bounds.1, first, start, up-at_least len stride))
+
 -- ---- the steps
 module _ {fit : Fit} {elems : List SliceInfoElem} {shape : List ℕ} {strides : List ℤ} {rest : List SliceInfoElem} {lens : List ℕ}
     {steps : List ℤ} {new : ℕ} {ns nt : List ℕ} {offset : ℤ} where
@@ -167,7 +175,7 @@ module _ {fit : Fit} {elems : List SliceInfoElem} {shape : List ℕ} {strides : 
       → SlicedSoFar fit elems shape strides (elem.Slice slice.start slice.end slice.step ∷ rest) (len ∷ lens) (stride ∷ steps) new ns nt
       offset → SlicedSoFar fit elems shape strides rest lens steps (new + 1) (set ns new count) (set nt new kept) (offset +ℤ moved)
   slice_step {slice} {len} {stride} {count} kept n t m none s =
-      let axis = slice_kept stride (picks fit len slice) (picks_fit fit slice none) in
+      let axis = first_within (picked_axis fit len slice (fits_of_no_fault fit len slice none) stride) in
       let shape_is : take new ns ++ (count ∷ sliced_shape fit rest lens) ≡ sliced_shape fit elems shape = rw n s.shape_is in
       let strides_is = s.strides_is in
       record {
@@ -179,17 +187,16 @@ module _ {fit : Fit} {elems : List SliceInfoElem} {shape : List ℕ} {strides : 
         shape_is = wrote_len new count ns (sliced_shape fit rest lens) (omega (arith, s.room)) shape_is;
         strides_is = wrote_stride new kept nt (sliced_strides fit rest lens steps) (omega (arith, s.room, s.same_room)) t strides_is;
         offset_is = rw m (omega (arith, ints, s.offset_is));
-        low = rw m (omega (arith, ints, s.low, axis.low));
-        high = rw m (omega (arith, ints, s.high, axis.high));
+        low = rw m (omega (arith, ints, s.low, axis.0));
+        high = rw m (omega (arith, ints, s.high, axis.1));
       }
 
   pub index_step : (index : ℤ) {len : ℕ} {stride moved : ℤ} → moved ≡ meaning len index *ℤ stride → index_fault len index ≡ None
       → SlicedSoFar fit elems shape strides (elem.Index index ∷ rest) (len ∷ lens) (stride ∷ steps) new ns nt offset
       → SlicedSoFar fit elems shape strides rest lens steps new ns nt (offset +ℤ moved)
   index_step index {len} {stride} m none s =
-      let coordinate = index_coordinate len index none in
-      let axis : Within (reach_down len stride) (reach_up len stride) (meaning len index *ℤ stride) = rw coordinate.0
-      (axis_within len (magnitude (meaning len index)) stride coordinate.1) in
+      let coordinate = coordinate_below len index (index_fits_of_no_fault len index none) in
+      let axis = first_within (lone_coordinate len (magnitude (meaning len index)) stride coordinate.1) in
       record {
         same_count = omega (arith, s.same_count);
         counts = omega (arith, s.counts);
@@ -199,8 +206,8 @@ module _ {fit : Fit} {elems : List SliceInfoElem} {shape : List ℕ} {strides : 
         shape_is = s.shape_is;
         strides_is = s.strides_is;
         offset_is = rw m (omega (arith, ints, s.offset_is));
-        low = rw m (omega (arith, ints, s.low, axis.above));
-        high = rw m (omega (arith, ints, s.high, axis.below));
+        low = rw (m, coordinate.0) (omega (arith, ints, s.low, axis.0));
+        high = rw (m, coordinate.0) (omega (arith, ints, s.high, axis.1));
       }
 
   pub new_axis_step : SlicedSoFar fit elems shape strides (elem.NewAxis ∷ rest) lens steps new ns nt offset
@@ -234,23 +241,6 @@ pub offset_fits : {fit : Fit} {elems : List SliceInfoElem} {shape : List ℕ} {s
     {steps : List ℤ} {new : ℕ} {ns nt : List ℕ} {offset : ℤ} → IsValidLayout shape strides → SlicedSoFar fit elems shape strides rest lens
     steps new ns nt offset → FitsSigned w64 offset
 offset_fits {shape} {strides} valid s = omega (arith, ints, s.low, s.high, low_high_span shape strides, valid.span_fits)
-
--- a length is at most the product of those that are not 0
-len_of_product : (len rest : ℕ) → 1 ≤ rest → len ≤ cond (eqb len 0) rest (len * rest)
-len_of_product len rest h = by (eqb len 0) refl
-  where
-    by : (t : Bool) → eqb len 0 ≡ t → len ≤ cond t rest (len * rest)
-    by true e = omega (arith, eqb-true len 0 e)
-    by false e = omega (arith, mul-le-mul_left len h)
-
-rest_of_product : (len rest : ℕ) → rest ≤ cond (eqb len 0) rest (len * rest)
-rest_of_product len rest = by (eqb len 0) refl
-  where
-    by : (t : Bool) → eqb len 0 ≡ t → rest ≤ cond t rest (len * rest)
-    by true e = omega arith
-    by false e =
-        let some : 1 ≤ len = pos_of_ne-zero (eqb-false len 0 e) in
-        omega (arith, mul-le-mul_right rest some)
 
 -- ---- the arms of the loop
 -- the state after an element, and that the new offset fits
@@ -295,7 +285,7 @@ pub index_within : {fit : Fit} {elems : List SliceInfoElem} {shape strides : Lis
 index_within {shape} {strides} {index} {axis} at none =
     let len = get_or shape axis 0 in
     let stride = signed (get_or strides axis 0) in
-    let coordinate = index_coordinate len index none in
+    let coordinate = coordinate_below len index (index_fits_of_no_fault len index none) in
     let fits = at.len_fits in
     let reaches = at.reach_fits in
     record {
@@ -303,6 +293,6 @@ index_within {shape} {strides} {index} {axis} at none =
       small = λ n e. omega (arith, ints, coordinate.0, coordinate.1, e);
       offset_fits = λ n e.
           let below : n < len = omega (arith, ints, coordinate.0, coordinate.1, e) in
-          let axis = axis_within len n stride below in
-          omega (arith, ints, axis.above, axis.below, reach_parts len stride);
+          let axis = coordinate_bounds len stride n below in
+          omega (arith, ints, axis.0, axis.1, reach_parts len stride);
     }

@@ -20,6 +20,7 @@ pub mod Rows
 pub mod Run
 pub mod SharePlace
 pub mod SlicedView
+pub mod Sources
 pub mod SplitView
 pub mod Step
 pub mod Stretch

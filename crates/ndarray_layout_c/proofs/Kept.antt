@@ -24,7 +24,7 @@ use Rattle.ndarray_layout.proofs.laws.BroadcastView.{IsViewOf-broadcast_of}
 use Rattle.ndarray_layout.proofs.laws.ChunksView.{Descends-chunks_of}
 use Rattle.ndarray_layout.proofs.laws.MergedView.{Descends-merge_of, merge_fault_of_answer}
 use Rattle.ndarray_layout.proofs.laws.Options.{option_or_none}
-use Rattle.ndarray_layout.proofs.laws.PermutedView.{Descends-same_axes, permuted_axes}
+use Rattle.ndarray_layout.proofs.laws.PermutedView.{Descends-permuted_of}
 use Rattle.ndarray_layout.proofs.laws.ReshapedView.{Descends-reshape_of}
 use Rattle.ndarray_layout.proofs.laws.WindowsView.{IsViewOf-windows_of}
 use Rattle.ndarray_layout_c.specs.Kept.{DescendsInPlace, IsLayoutOf}
@@ -90,8 +90,7 @@ module _ {shape : List ℕ} (strides new_strides : List ℕ) where
   permuted_kept {new_shape} axes none same along start v =
       let view = view_of start shape strides in
       subst (Descends (permute_source axes) view) (as_written (permuted_of axes view) new_shape new_strides same along)
-      (Descends-same_axes (permute_source axes) view (permuted_of axes view)
-      (permuted_axes axes view v.valid.same_count (option_or_none _ none).1) v)
+      (Descends-permuted_of axes view v (option_or_none _ none).1)
 
   pub broadcast_kept : (target : List ℕ) → option_or (layout_fault shape (all_signed strides)) (broadcast_fault target shape) ≡ None
       → all_signed new_strides ≡ broadcast_strides target shape (all_signed strides)
@@ -107,7 +106,7 @@ module _ {shape : List ℕ} (strides new_strides : List ℕ) where
   reshape_kept order target none along start v =
       let view = view_of start shape strides in
       subst (λ strides. Descends (reshape_source order shape target) view (record { start = start; shape = target; strides = strides }))
-      (sym along)
+          (sym along)
       (Descends-reshape_of order target v none)
 
   pub merge_kept : {new_shape : List ℕ} (take into : ℕ) → axes_fault shape take into ≡ None

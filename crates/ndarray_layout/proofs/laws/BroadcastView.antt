@@ -1,6 +1,6 @@
 -- Laws of views that are read as views of a shape with more or longer axes.
 use Rattle.std.proofs.Common.{◌≡◌, ◌≢◌, ℕ, ◌+◌, ◌-◌, ◌<◌, ◌≤◌, Bool, true, false, not, cond, ltb, Option, Some, None, List, length, get_or}
-use Rattle.std.proofs.Common.{inl, inr, refl, ap, arith}
+use Rattle.std.proofs.Common.{drop, inl, inr, refl, ap, sym, arith}
 use Rattle.std.proofs.lemmas.Bool.{false_from_ne_true, ltb-false, le-ltb}
 use Rattle.std.proofs.lemmas.Int.{ints}
 use Rattle.std.specs.Bool.{Decides}
@@ -9,14 +9,15 @@ use Rattle.std.specs.Option.{option_map_or}
 use Rattle.std.specs.Prelude.{nat_eq}
 use Rattle.nd_base.specs.declared.error.ErrorKind.TheVariants.{IncompatibleShape, Overflow}
 use Rattle.nd_base.specs.Size.{nonzero_size, limit}
+use Rattle.nd_base.proofs.laws.IsIndex.{length_of_index}
 use Rattle.nd_shape.specs.CommonShape.{common_shape}
 use Rattle.nd_shape.proofs.laws.Stretches.{StretchesTo, common_from_stretches, stretches_to_common}
-use Rattle.ndarray_layout.specs.BroadcastView.{takes_in, broadcast_fault, broadcast_of, broadcast_source}
+use Rattle.ndarray_layout.specs.BroadcastView.{takes_in, broadcast_fault, broadcast_of, broadcast_source, coordinates_within}
 use Rattle.ndarray_layout.specs.Descends.{IsViewOf}
 use Rattle.ndarray_layout.specs.View.{View, IsView}
-use Rattle.ndarray_layout.proofs.laws.KeepsPlaces.{IsViewOf-kept}
-use Rattle.ndarray_layout.proofs.laws.View.{IsView-within}
-use Rattle.ndarray_layout.proofs.Broadcasts.{Stretches, broadcast_kept, broadcast_source_kept}
+use Rattle.ndarray_layout.proofs.Broadcasts.{broadcast_sources}
+use Rattle.ndarray_layout.proofs.laws.KeepsPlaces.{IsViewOf-told}
+use Rattle.ndarray_layout.proofs.laws.Sources.{IsViewOf-sources}
 
 -- the test says where a shape is the common one of itself and another
 pub takes_in-Decides : (shape other : List ℕ) → Decides (takes_in shape other) (common_shape other shape ≡ Some shape)
@@ -75,11 +76,6 @@ pub no_fault_where_it_can : (shape view_shape : List ℕ) → CanBroadcast shape
 no_fault_where_it_can shape view_shape can =
     rw ((takes_in-Decides shape view_shape).1 can.common, le-ltb limit (nonzero_size shape) can.size_fits) refl
 
-stretched : {shape : List ℕ} {view : View} → IsView view → broadcast_fault shape view.shape ≡ None → Stretches shape view.shape view.strides
-stretched {shape} {view} v none =
-    let parts = stretches_to_common shape view.shape (can_broadcast none).common in
-    record { counts = v.valid.same_count; fewer = parts.0; stretches = parts.1 }
-
 -- it has no fewer axes
 pub no_fewer_axes : (shape view_shape : List ℕ) → broadcast_fault shape view_shape ≡ None → length view_shape ≤ length shape
 no_fewer_axes shape view_shape none = (stretches_to_common shape view_shape (can_broadcast none).common).0
@@ -87,15 +83,9 @@ no_fewer_axes shape view_shape none = (stretches_to_common shape view_shape (can
 -- the view is one of the same data, whose indices lie where their sources do
 pub IsViewOf-broadcast_of : (shape : List ℕ) {view : View} → IsView view → broadcast_fault shape view.shape ≡ None
     → IsViewOf (broadcast_source view.shape) view (broadcast_of shape view)
-IsViewOf-broadcast_of shape {view} v none = IsViewOf-kept whole (λ coordinates here.
-    let stays = broadcast_source_kept coordinates stretches here in
-    (stays.within, omega (arith, ints, stays.offset)))
-  where
-    stretches : Stretches shape view.shape view.strides
-    stretches = stretched v none
-
-    whole : IsView (broadcast_of shape view)
-    whole =
-        let part = broadcast_kept stretches in
-        IsView-within v part.counts (can_broadcast {shape = shape} none).size_fits
-        (omega (arith, part.low)) (omega (arith, part.high))
+IsViewOf-broadcast_of shape {view} v none =
+    let can = can_broadcast {shape = shape} none in
+    let stretches = stretches_to_common shape view.shape can.common in
+    IsViewOf-told (IsViewOf-sources v (broadcast_sources v.valid.same_count stretches.0 stretches.1) (omega (arith, ints)) can.size_fits)
+    (λ coordinates here. ap (λ m. coordinates_within view.shape (drop (m - length view.shape) coordinates))
+    (sym (length_of_index shape coordinates here)))

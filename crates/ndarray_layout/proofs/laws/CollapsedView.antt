@@ -1,8 +1,8 @@
 -- Laws of views of which one coordinate of an axis was taken.
-use Rattle.std.proofs.Common.{◌≡◌, ℕ, ◌+◌, ◌<◌, ℤ, pos, negsuc, ◌+ℤ◌, ◌*ℤ◌, ◌≤ℤ◌, Bool, true, false, cond, None, Some, List, length, get_or}
+use Rattle.std.proofs.Common.{◌≡◌, ℕ, ◌+◌, ◌<◌, ℤ, pos, ◌+ℤ◌, ◌*ℤ◌, ◌≤ℤ◌, Bool, true, false, cond, None, Some, List, length, get_or}
 use Rattle.std.proofs.Common.{set, map, nat_lt, refl, sym, ap, ◌∙◌, arith}
 use Rattle.std.proofs.lemmas.Bool.{and_parts, ltb-true}
-use Rattle.std.proofs.lemmas.Int.{ints}
+use Rattle.std.proofs.lemmas.List.{set-get_or}
 use Rattle.std.proofs.lemmas.List.Folds.{flat_map-map}
 use Rattle.nd_base.specs.declared.error.ErrorKind.TheVariants.{OutOfBounds}
 use Rattle.nd_base.specs.declared.order.Order.TheVariants.{RowMajor}
@@ -11,9 +11,9 @@ use Rattle.ndarray_layout.specs.CollapsedView.{collapse_fault, collapsed_start, 
 use Rattle.ndarray_layout.specs.Descends.{Descends}
 use Rattle.ndarray_layout.specs.View.{View, IsView, view_places}
 use Rattle.ndarray_layout.proofs.ByRows.{by_rows, places_from, row_from}
-use Rattle.ndarray_layout.proofs.Collapses.{CollapseKept, HasCoordinate, collapse_kept, source_kept, source_injective}
-use Rattle.ndarray_layout.proofs.laws.KeepsPlaces.{Descends-kept}
-use Rattle.ndarray_layout.proofs.laws.View.{IsView-within}
+use Rattle.ndarray_layout.proofs.AxisByAxis.{lone_coordinate}
+use Rattle.ndarray_layout.proofs.OneAxis.{first_coordinate, set_axis}
+use Rattle.ndarray_layout.proofs.laws.Sources.{Descends-own_sources, HasOwnSources, start_within}
 use Rattle.std.specs.List.{flat_map}
 use Rattle.std.specs.Prelude.{◌&&◌}
 use Rattle.nd_base.proofs.laws.Signed.{magnitude_from}
@@ -32,40 +32,24 @@ coordinate_of_no_fault shape axis index none =
 
 -- a coordinate of a view that can be taken
 module _ (axis index : ℕ) (view : View) (v : IsView view) (none : collapse_fault view.shape axis index ≡ None) where
-  coordinate : HasCoordinate view.shape view.strides axis index
-  coordinate =
+  own : HasOwnSources (collapse_source axis index) view.shape view.strides (pos index *ℤ get_or view.strides axis (pos 0))
+      (set view.shape axis 1) view.strides
+  own =
       let at = coordinate_of_no_fault view.shape axis index none in
-      record { counts = v.valid.same_count; there = at.0; below = at.1 }
-
-  kept : CollapseKept view.shape view.strides axis index
-  kept = collapse_kept axis coordinate
+      rw (set-get_or view.strides axis (pos 0)) at (set_axis view.shape view.strides axis
+      (record { counts = v.valid.same_count; there = at.0 })
+      (lone_coordinate (get_or view.shape axis 0) index (get_or view.strides axis (pos 0)) at.1) (λ i j below also same. omega arith))
 
   -- what is left begins at a place
   pub collapsed_start_within : (pos 0 ≤ℤ collapsed_start axis index view) × (collapsed_start axis index view ≤ℤ pos limit)
-  collapsed_start_within =
-      let part = kept in
-      (omega (arith, ints, part.low, v.low), omega (arith, ints, part.high, v.high))
+  collapsed_start_within = start_within v own.sources
 
   pub start-collapse_of : pos (collapse_of axis index view).start ≡ collapsed_start axis index view
   start-collapse_of = magnitude_from (collapsed_start axis index view) collapsed_start_within.0
 
-  is_view : IsView (collapse_of axis index view)
-  is_view =
-      let part = kept in
-      let start = start-collapse_of in
-      IsView-within v part.counts (omega (arith, part.size, v.valid.size_fits))
-      (omega (arith, ints, part.low, start)) (omega (arith, ints, part.high, start))
-
   -- it is a view of the same data, whose indices lie where their sources do
   pub Descends-collapse_of : Descends (collapse_source axis index) view (collapse_of axis index view)
-  Descends-collapse_of = Descends-kept is_view (λ coordinates here.
-      let stays = source_kept axis coordinates coordinate here in
-      (stays.within, omega (arith, ints, start-collapse_of, stays.offset)))
-      (λ coordinates others. source_injective axis coordinates others coordinate)
-
-first_coordinate : {start : ℕ} (stride : ℤ) → pos start +ℤ (pos 0 *ℤ stride) ≡ pos start
-first_coordinate (pos s) = omega (arith, ints)
-first_coordinate (negsuc s) = omega (arith, ints)
+  Descends-collapse_of = Descends-own_sources v own start-collapse_of
 
 -- where the last axis has its first coordinate alone, the places left begin the rows that it makes: the places of the view are those of
 -- the rows, in order
@@ -77,7 +61,7 @@ pub places-collapse_of_last : (view : View) (last : ℕ) (starts : List ℕ) →
 places-collapse_of_last view last starts long also same =
     let stride = get_or view.strides last (pos 0) in
     let row = λ (start : ℤ). row_from start stride (get_or view.shape last 0) in
-    let begins : magnitude (collapsed_start last 0 view) ≡ view.start = ap magnitude (first_coordinate stride) in
+    let begins : magnitude (collapsed_start last 0 view) ≡ view.start = ap magnitude (first_coordinate view.start stride) in
     by_rows (pos view.start) view.shape view.strides last long also
     ∙ ap (λ n. flat_map row (places_from (pos n) view.strides (indices (set view.shape last 1)))) (sym begins)
     ∙ ap (flat_map row) (sym same)

@@ -1,22 +1,21 @@
 -- Laws of views of a range of coordinates on each axis.
-use Rattle.std.proofs.Common.{◌≡◌, ℕ, suc, ◌<◌, ◌≤◌, pos, ◌+ℤ◌, ◌≤ℤ◌, true, List, [], ◌∷◌, length, get_or, refl, ap, sym, ◌∙◌, arith}
+use Rattle.std.proofs.Common.{◌≡◌, ℕ, suc, ◌<◌, ◌≤◌, pos, ◌+ℤ◌, ◌≤ℤ◌, List, [], ◌∷◌, length, get_or, refl, ap, sym, ◌∙◌, arith}
 use Rattle.std.specs.List.{All}
-use Rattle.std.proofs.lemmas.Int.{ints}
 use Rattle.std.proofs.lemmas.List.Elements.{length_all_zip}
-use Rattle.nd_base.proofs.laws.Definitions.{farthest_offset, is_index, limit, magnitude}
-use Rattle.nd_base.proofs.laws.IsIndex.{length_of_index}
-use Rattle.nd_base.proofs.laws.NonzeroSize.{length_le_nonzero_size}
+use Rattle.nd_base.proofs.laws.Definitions.{farthest_offset, limit, magnitude, offset_of}
+use Rattle.nd_base.proofs.laws.FarthestOffset.{farthest_offset_le}
+use Rattle.nd_base.proofs.laws.NonzeroSize.{coordinate_le_nonzero_size}
 use Rattle.nd_base.proofs.laws.Signed.{magnitude_from}
-use Rattle.nd_base.specs.Elementwise.{differences, DifferencesFit}
+use Rattle.nd_base.specs.Elementwise.{differences, sums, DifferencesFit}
 use Rattle.nd_slice.specs.declared.fit.Fit.TheVariants.{Strict}
 use Rattle.nd_slice.proofs.laws.UnitStep.{ranges_between, shape_between}
 use Rattle.ndarray_layout.specs.CroppedView.{RangesFit, moved_starts, cropped_start, cropped_of, crop_source}
 use Rattle.ndarray_layout.specs.Descends.{Descends}
 use Rattle.ndarray_layout.specs.SlicedView.{slice_of}
 use Rattle.ndarray_layout.specs.View.{View, IsView}
-use Rattle.ndarray_layout.proofs.CroppedAxes.{CropKept, Ranges, crop_kept, moved_le, offset_as_sliced, source_kept, sums_injective}
-use Rattle.ndarray_layout.proofs.laws.KeepsPlaces.{Descends-kept}
-use Rattle.ndarray_layout.proofs.laws.View.{IsView-within}
+use Rattle.ndarray_layout.proofs.CroppedAxes.{Ranges, all_moved, cropped_sources, moved_starts_within, offset_as_sliced}
+use Rattle.ndarray_layout.proofs.laws.KeepsPlaces.{Descends-told}
+use Rattle.ndarray_layout.proofs.laws.Sources.{Descends-own_sources, HasOwnSources, at_least, filled-IsView, start_within}
 
 -- ---- ranges that a shape has
 -- lists of as many numbers, none of one less than the number of the other
@@ -46,51 +45,36 @@ module _ (starts ends : List ℕ) (view : View) (v : IsView view) (fit : RangesF
   ranges : Ranges view.shape starts ends view.strides
   ranges = record { counts = v.valid.same_count; in_order = fit.in_order; within = fit.within }
 
-  kept : CropKept view.shape starts ends view.strides
-  kept = crop_kept view.shape starts ends view.strides ranges
+  own : HasOwnSources (sums (moved_starts starts ends)) view.shape view.strides (offset_of view.strides (moved_starts starts ends))
+      (differences ends starts) view.strides
+  own = cropped_sources view.shape starts ends view.strides ranges
 
   -- the starts that move add up
   pub moved_small : All (λ coordinate. coordinate ≤ limit) (moved_starts starts ends)
-  moved_small = λ k d h.
-      omega (arith, moved_le view.shape starts ends fit k d h, length_le_nonzero_size view.shape k, v.valid.size_fits)
+  moved_small = λ k d h. omega (
+    arith,
+    coordinate_le_nonzero_size (at_least 1 view.shape) (moved_starts starts ends) (moved_starts_within view.shape starts ends fit) k d h,
+    (filled-IsView v).valid.size_fits,
+  )
 
   pub moved_far : farthest_offset view.strides (moved_starts starts ends) ≤ limit
-  moved_far = omega (arith, kept.far, v.valid.span_fits)
+  moved_far = omega (
+    arith,
+    farthest_offset_le (at_least 1 view.shape) view.strides (moved_starts starts ends) (moved_starts_within view.shape starts ends fit),
+    (filled-IsView v).valid.span_fits,
+  )
 
   -- what is kept begins at a place
   pub cropped_start_within : (pos 0 ≤ℤ cropped_start starts ends view) × (cropped_start starts ends view ≤ℤ pos limit)
-  cropped_start_within =
-      let part = kept in
-      (omega (arith, ints, part.low, v.low), omega (arith, ints, part.high, v.high))
+  cropped_start_within = start_within v own.sources
 
   pub start-cropped_of : pos (cropped_of starts ends view).start ≡ cropped_start starts ends view
   start-cropped_of = magnitude_from (cropped_start starts ends view) cropped_start_within.0
 
-  is_view : IsView (cropped_of starts ends view)
-  is_view =
-      let part = kept in
-      let start = start-cropped_of in
-      IsView-within v part.counts (omega (arith, part.size, v.valid.size_fits))
-      (omega (arith, ints, part.low, start)) (omega (arith, ints, part.high, start))
-
-  long : (coordinates : List ℕ) → is_index (differences ends starts) coordinates ≡ true → length coordinates ≡ length starts
-  long coordinates here =
-      let count = length_of_index (differences ends starts) coordinates here in
-      omega (
-        arith,
-        count,
-        kept.counts,
-        v.valid.same_count,
-        length_all_zip (λ x y. y ≤ x) ends starts fit.in_order,
-        length_all_zip (λ x y. y ≤ x) view.shape ends fit.within,
-      )
-
   -- it is a view of the same data, whose indices lie where their sources do
   pub Descends-cropped_of : Descends (crop_source starts) view (cropped_of starts ends view)
-  Descends-cropped_of = Descends-kept is_view (λ coordinates here.
-      let stays = source_kept view.shape starts ends view.strides coordinates ranges here in
-      (stays.within, omega (arith, ints, start-cropped_of, stays.offset)))
-      (λ coordinates others here also same. sym (sums_injective others coordinates starts (long others also) (long coordinates here) (sym same)))
+  Descends-cropped_of = Descends-told (Descends-own_sources v own start-cropped_of) (λ coordinates here.
+      all_moved starts ends coordinates fit.in_order here)
 
   -- it has the shape and the start of the slice by the same ranges, also where no index is kept
   pub shape_of_slice : (slice_of Strict (ranges_between starts ends) view).shape ≡ (cropped_of starts ends view).shape

@@ -1,22 +1,20 @@
 -- Laws of the diagonal of a view: where its indices lie, and that the transpose has the same one.
-use Rattle.std.proofs.Common.{◌≡◌, ◌⊎◌, ℕ, zero, suc, ◌-◌, ◌*◌, ◌<◌, ◌≤◌, ℤ, pos, ◌+ℤ◌, ◌*ℤ◌, Bool, true, false, cond, eqb, List, []}
-use Rattle.std.proofs.Common.{◌∷◌, length, fold, get_or, min, replicate, reverse, nat_lt, inl, inr, refl, sym, ap, subst, ◌∙◌, arith}
+use Rattle.std.proofs.Common.{◌≡◌, ◌⊎◌, ℕ, zero, suc, ◌-◌, ◌<◌, ◌≤◌, ℤ, pos, ◌+ℤ◌, ◌*ℤ◌, true, false, cond, List, []}
+use Rattle.std.proofs.Common.{◌∷◌, length, fold, get_or, min, replicate, reverse, nat_lt, inl, inr, refl, sym, ap, ◌∙◌, arith}
 use Rattle.std.proofs.Math.IntN.{suc_ℤ-*ℤ, zero-*ℤ}
 use Rattle.std.proofs.Math.Nat.{min-le_left, min-le_right}
-use Rattle.std.proofs.lemmas.Bool.{and_parts, cases_lt, le-ltb, lt-ltb, ltb-true, ne_eqb}
+use Rattle.std.proofs.lemmas.Bool.{and_parts, cases_lt, le-ltb, ltb-true}
 use Rattle.std.proofs.lemmas.Int.{ints}
-use Rattle.std.proofs.lemmas.List.{get_or-replicate, length-replicate, length-reverse, reverse-reverse}
-use Rattle.nd_base.proofs.laws.Definitions.{is_empty, is_index, limit, nonzero_size, offset_of}
+use Rattle.std.proofs.lemmas.List.{get_or-map, get_or-replicate, length-map, length-replicate, length-reverse, reverse-reverse}
+use Rattle.std.specs.Prelude.{max}
+use Rattle.nd_base.proofs.laws.Definitions.{is_index, offset_of}
 use Rattle.nd_base.proofs.laws.IsIndex.{is_index_from_coordinates}
 use Rattle.nd_base.proofs.laws.Lists.{fold-reverse, get_or-from_back}
-use Rattle.nd_base.proofs.laws.NonzeroSize.{length_le_nonzero_size, nonzero_size_pos}
 use Rattle.ndarray_layout.specs.Descends.{Descends}
 use Rattle.ndarray_layout.specs.DiagonalView.{diagonal_len, diagonal_of, diagonal_source, diagonal_stride}
-use Rattle.ndarray_layout.specs.KeepsPlaces.{KeepsPlaces}
 use Rattle.ndarray_layout.specs.PermutedView.{reversed_of}
 use Rattle.ndarray_layout.specs.View.{View, IsView}
-use Rattle.ndarray_layout.proofs.FromPlaces.{IsView-along_zeros, IsView-from_places}
-use Rattle.ndarray_layout.proofs.laws.KeepsPlaces.{AreApart, Descends-kept}
+use Rattle.ndarray_layout.proofs.laws.Sources.{Descends-from_start, at_least}
 
 -- ---- the least length
 -- it is no greater than any
@@ -116,25 +114,6 @@ diagonal_of-reversed_of view =
       strides = cond (nat_lt (diagonal_len view.shape) 2) (pos 0) sum ∷ [];
     }) (sum_of-reverse view.strides)
 
-diagonal_len_fits : (shape : List ℕ) → diagonal_len shape ≤ nonzero_size shape
-diagonal_len_fits [] = omega arith
-diagonal_len_fits (len ∷ lens) = omega (arith, fold_least len lens, length_le_nonzero_size (len ∷ lens) 0)
-
-size_of_one : (len most : ℕ) → len ≤ most → 0 < most → nonzero_size (len ∷ []) ≤ most
-size_of_one len most fits some = by (eqb len 0)
-  where
-    by : (none : Bool) → cond none 1 (len * 1) ≤ most
-    by true = omega arith
-    by false = omega arith
-
-not_empty : (len : ℕ) → 0 < len → is_empty (len ∷ []) ≡ false
-not_empty len some = rw (ne_eqb len 0 (λ e. omega arith)) refl
-
-same_coordinate : (shape : List ℕ) (i j : ℕ) → i < diagonal_len shape → j < diagonal_len shape
-    → replicate (length shape) i ≡ replicate (length shape) j → i ≡ j
-same_coordinate [] i j here there same = omega arith
-same_coordinate (len ∷ lens) i j here there same = cc
-
 module _ {view : View} (v : IsView view) where
   abbrev n : ℕ
   n = length view.shape
@@ -142,58 +121,61 @@ module _ {view : View} (v : IsView view) where
   abbrev len : ℕ
   len = diagonal_len view.shape
 
-  within : (i : ℕ) → i < len → is_index view.shape (replicate n i) ≡ true
-  within i h = is_index_from_coordinates view.shape (replicate n i) (length-replicate {A = ℕ} n i) (λ axis below.
-      omega (arith, h, get_or-replicate n axis i 0 below, diagonal_len_below view.shape axis below))
+  abbrev strides : List ℤ
+  strides = diagonal_stride len view.strides ∷ []
 
-  offset : (i : ℕ) → i < len → pos i *ℤ diagonal_stride len view.strides ≡ offset_of view.strides (replicate n i)
-  offset i h =
+  -- an index of the diagonal has one coordinate
+  one : (least : ℕ) (index : List ℕ) → is_index (at_least least (len ∷ [])) index ≡ true
+      → (get_or index 0 0 < max least len) × (index ≡ get_or index 0 0 ∷ [])
+  one least [] here = absurd (cc)
+  one least (i ∷ []) here = (ltb-true i (max least len) (and_parts (nat_lt i (max least len)) true here).0, refl)
+  one least (i ∷ j ∷ index) here = let more = (and_parts (nat_lt i (max least len)) false here).1 in absurd (cc)
+
+  within : (least : ℕ) (index : List ℕ) → least ≤ 1 → is_index (at_least least (len ∷ [])) index ≡ true
+      → is_index (at_least least view.shape) (diagonal_source n index) ≡ true
+  within least index few here =
+      let i = get_or index 0 0 in
+      let count = length-map view.shape (max least) in
+      let below = (one least index here).0 in
+      is_index_from_coordinates (at_least least view.shape) (replicate n i) (length-replicate {A = ℕ} n i ∙ sym count) (λ axis h.
+      omega (
+        arith,
+        count,
+        get_or-replicate n axis i 0 (omega (arith, count)),
+        get_or-map (max least) view.shape axis 0 0 (omega (arith, count)),
+        diagonal_len_below view.shape axis (omega (arith, count)),
+      ))
+
+  offset : (index : List ℕ) → is_index (at_least 1 (len ∷ [])) index ≡ true
+      → offset_of view.strides (diagonal_source n index) ≡ pos 0 +ℤ offset_of strides index
+  offset index here =
+      let i = get_or index 0 0 in
+      let below = (one 1 index here).0 in
       let whole : offset_of view.strides (replicate n i) ≡ pos i *ℤ sum_of view.strides =
       ap (λ m. offset_of view.strides (replicate m i)) v.valid.same_count ∙ offset_of-same view.strides i in
-      elim (cases_lt len 2) [
+      let along : pos i *ℤ sum_of view.strides ≡ pos i *ℤ diagonal_stride len view.strides = elim (cases_lt len 2) [
         | inl few ↦
             let first : i ≡ 0 = omega arith in
-            let none : pos i *ℤ diagonal_stride len view.strides ≡ pos 0 = rw first (zero-*ℤ (diagonal_stride len view.strides)) in
-            let all : pos i *ℤ sum_of view.strides ≡ pos 0 = rw first (zero-*ℤ (sum_of view.strides)) in
-            none ∙ sym (whole ∙ all)
-        | inr more ↦ ap (λ small. pos i *ℤ cond small (pos 0) (sum_of view.strides)) (le-ltb len 2 more) ∙ sym whole
-      ]
+            rw (first, zero-*ℤ (sum_of view.strides), zero-*ℤ (diagonal_stride len view.strides)) refl
+        | inr more ↦ ap (λ small. pos i *ℤ cond small (pos 0) (sum_of view.strides)) (sym (le-ltb len 2 more))
+      ] in
+      omega (arith, ints, whole, along, ap (offset_of strides) (one 1 index here).1)
 
-  -- each index of the diagonal has the place of the index that it stands for
-  pub KeepsPlaces-diagonal_of : KeepsPlaces (diagonal_source n) view (diagonal_of view)
-  KeepsPlaces-diagonal_of [] here = absurd (cc)
-  KeepsPlaces-diagonal_of (i ∷ []) here =
-      let below = ltb-true i len (and_parts (nat_lt i len) true here).0 in
-      (within i below, omega (arith, ints, offset i below))
-  KeepsPlaces-diagonal_of (i ∷ j ∷ index) here = let more = (and_parts (nat_lt i len) false here).1 in absurd (cc)
+  same_coordinate : (i j : ℕ) → i < max 1 len → j < max 1 len → replicate n i ≡ replicate n j → i ≡ j
+  same_coordinate i j here there same = of view.shape here there same
+    where
+      of : (shape : List ℕ) → i < max 1 (diagonal_len shape) → j < max 1 (diagonal_len shape)
+          → replicate (length shape) i ≡ replicate (length shape) j → i ≡ j
+      of [] here there same = omega arith
+      of (size ∷ shape) here there same = cc
 
-  size_fits : nonzero_size (len ∷ []) ≤ limit
-  size_fits = omega (
-    arith,
-    size_of_one len (nonzero_size view.shape) (diagonal_len_fits view.shape) (nonzero_size_pos view.shape),
-    v.valid.size_fits,
-  )
-
-  pub IsView-diagonal_of : IsView (diagonal_of view)
-  IsView-diagonal_of = elim (cases_lt 0 len) [
-    | inl some ↦ IsView-from_places (diagonal_source n) v refl size_fits (not_empty len some) KeepsPlaces-diagonal_of
-    | inr none ↦
-        let few : len < 2 = omega arith in
-        subst (λ stride. IsView (record { start = view.start; shape = len ∷ []; strides = stride ∷ [] }))
-        (sym (ap (λ small. cond small (pos 0) (sum_of view.strides)) (lt-ltb len 2 few)))
-        (IsView-along_zeros (len ∷ []) v size_fits)
-  ]
-
-  apart : AreApart (diagonal_source n) (diagonal_of view)
-  apart [] other here there same = absurd (cc)
-  apart (i ∷ []) [] here there same = absurd (cc)
-  apart (i ∷ []) (j ∷ []) here there same =
-      let first = ltb-true i len (and_parts (nat_lt i len) true here).0 in
-      let second = ltb-true j len (and_parts (nat_lt j len) true there).0 in
-      ap (λ k. k ∷ []) (same_coordinate view.shape i j first second same)
-  apart (i ∷ []) (j ∷ k ∷ other) here there same = let more = (and_parts (nat_lt j len) false there).1 in absurd (cc)
-  apart (i ∷ k ∷ index) other here there same = let more = (and_parts (nat_lt i len) false here).1 in absurd (cc)
-
-  -- so the diagonal is a view of the same data, and no two of its indices alias where none of the view do
+  -- the diagonal is a view of the same data, whose indices lie where those that they stand for do, and no two of its indices alias
+  -- where none of the view do
   pub Descends-diagonal_of : Descends (diagonal_source n) view (diagonal_of view)
-  Descends-diagonal_of = Descends-kept IsView-diagonal_of KeepsPlaces-diagonal_of apart
+  Descends-diagonal_of = Descends-from_start v (record {
+    sources = record { counts = refl; within = within; offset = offset };
+    apart = λ index other here there same.
+        let first = one 1 index here in
+        let second = one 1 other there in
+        first.1 ∙ ap (λ i. i ∷ []) (same_coordinate (get_or index 0 0) (get_or other 0 0) first.0 second.0 same) ∙ sym second.1;
+  })

@@ -40,6 +40,22 @@ Descends-kept {source} {old} {new} v keeps apart = record {
       apart index other here there (distinct (source index) (source other) first.0 second.0 (sym first.1 ∙ same ∙ second.1));
 }
 
+-- a source may be told otherwise
+pub KeepsPlaces-told : {source other : List ℕ → List ℕ} (old new : View) → KeepsPlaces source old new
+    → ((index : List ℕ) → is_index new.shape index ≡ true → source index ≡ other index) → KeepsPlaces other old new
+KeepsPlaces-told old new keeps same index here =
+    subst (λ at. (is_index old.shape at ≡ true) × (place_at new index ≡ place_at old at)) (same index here) (keeps index here)
+
+pub IsViewOf-told : {source other : List ℕ → List ℕ} {old new : View} → IsViewOf source old new
+    → ((index : List ℕ) → is_index new.shape index ≡ true → source index ≡ other index) → IsViewOf other old new
+IsViewOf-told {old = old} {new} d same =
+    record { is_view = d.is_view; places = KeepsPlaces-told old new d.places same; in_bounds = d.in_bounds }
+
+pub Descends-told : {source other : List ℕ → List ℕ} {old new : View} → Descends source old new
+    → ((index : List ℕ) → is_index new.shape index ≡ true → source index ≡ other index) → Descends other old new
+Descends-told {old = old} {new} d same =
+    record { is_view = d.is_view; places = KeepsPlaces-told old new d.places same; in_bounds = d.in_bounds; distinct = d.distinct }
+
 pub IsViewOf-Descends : {source : List ℕ → List ℕ} {old new : View} → Descends source old new → IsViewOf source old new
 IsViewOf-Descends d = record { is_view = d.is_view; places = d.places; in_bounds = d.in_bounds }
 

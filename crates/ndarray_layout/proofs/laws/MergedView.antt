@@ -1,9 +1,8 @@
 -- Laws of views in which an axis was merged into another.
 use Rattle.std.proofs.Common.{◌≡◌, ◌↔◌, ◌≢◌, ℕ, ◌<◌, ℤ, pos, Bool, true, false, not, cond, eqb, ltb, leb, Option, Some, None, List, length}
-use Rattle.std.proofs.Common.{get_or, nat_lt, refl, arith}
+use Rattle.std.proofs.Common.{get_or, nat_lt, refl}
 use Rattle.std.proofs.lemmas.Bool.{and_parts, ltb-true, eqb-false}
 use Rattle.std.proofs.lemmas.Bool.Decides.{same_from_decides}
-use Rattle.std.proofs.lemmas.Int.{ints}
 use Rattle.std.specs.Bool.{Decides}
 use Rattle.std.specs.Option.{option_or}
 use Rattle.std.specs.Prelude.{◌&&◌}
@@ -15,9 +14,8 @@ use Rattle.ndarray_layout.specs.Descends.{Descends}
 use Rattle.ndarray_layout.specs.MergedView.{axes_fault, HasMergedStride, has_merged_stride, merge_fault, lasting_axis, merge_of}
 use Rattle.ndarray_layout.specs.MergedView.{merge_source}
 use Rattle.ndarray_layout.specs.View.{View, IsView}
-use Rattle.ndarray_layout.proofs.laws.KeepsPlaces.{Descends-kept}
-use Rattle.ndarray_layout.proofs.laws.View.{IsView-within}
-use Rattle.ndarray_layout.proofs.Merged.{TwoAxes, merge_kept, merge_source_kept, merge_source_injective}
+use Rattle.ndarray_layout.proofs.Merged.{TwoAxes, merged_sources}
+use Rattle.ndarray_layout.proofs.laws.Sources.{Descends-from_start}
 
 -- the test says where some stride has the coordinates of both axes
 pub has_merged_stride-Decides : (take into : ℕ) (view : View) → Decides (has_merged_stride take into view) (HasMergedStride take into view)
@@ -93,22 +91,10 @@ module _ (take into : ℕ) (view : View) (v : IsView view) (none : merge_fault t
   can : CanMerge take into view
   can = can_merge take into view none
 
-  two : TwoAxes view.shape view.strides take into
-  two = two_axes v can.axes
-
   serves : IsMergedStride (get_or view.shape take 0) (get_or view.strides take (pos 0)) (get_or view.shape into 0)
       (get_or view.strides into (pos 0)) (get_or view.strides (lasting_axis take into view.shape) (pos 0))
   serves = rw (lasting take into view) (merged_stride_serves _ _ _ _ can.stride)
 
-  is_view : IsView (merge_of take into view)
-  is_view =
-      let part = merge_kept two can.stride (lasting take into view) in
-      IsView-within v part.counts (omega (arith, part.size, v.valid.size_fits))
-      (omega (arith, part.low)) (omega (arith, part.high))
-
   -- the view is one of the same data, whose indices lie where their sources do
   pub Descends-merge_of : Descends (merge_source take into view.shape) view (merge_of take into view)
-  Descends-merge_of = Descends-kept is_view (λ coordinates here.
-      let stays = merge_source_kept coordinates two serves here in
-      (stays.within, omega (arith, ints, stays.offset)))
-      (λ coordinates others. merge_source_injective coordinates others two)
+  Descends-merge_of = Descends-from_start v (merged_sources view.shape view.strides take into _ (two_axes v can.axes) serves)

@@ -1,10 +1,9 @@
 -- Laws of views whose axes stand in another order: they have the places of the view, and each index has its source.
-use Rattle.std.proofs.Common.{◌≡◌, ◌⊎◌, ℕ, ◌+◌, ◌*◌, ◌<◌, ℤ, pos, ◌+ℤ◌, ◌*ℤ◌, Bool, true, false, cond, None, Some, List}
+use Rattle.std.proofs.Common.{◌≡◌, ◌⊎◌, ℕ, ◌<◌, ℤ, pos, ◌+ℤ◌, ◌*ℤ◌, Bool, true, false, cond, None, Some, List}
 use Rattle.std.proofs.Common.{[], ◌∷◌, length, map, reverse, get_or, set, refl, sym, ap, subst, ◌∙◌, inl, inr, arith}
-use Rattle.std.specs.Prelude.{◌&&◌, ◌==◌, nat_lt}
+use Rattle.std.specs.Prelude.{◌&&◌, max, nat_lt}
 use Rattle.std.specs.List.{All, swap}
 use Rattle.std.proofs.Math.ListN.{get_or-map as get_or-map_same}
-use Rattle.std.proofs.Math.Nat.{mul_left_comm}
 use Rattle.std.proofs.lemmas.Int.{ints}
 use Rattle.std.proofs.lemmas.Bool.{and_from, and_parts, cases_order, lt-ltb, ltb-true}
 use Rattle.std.proofs.lemmas.List.{ext_get_or, get_or-map, length-map, length-reverse, map-set, reverse-reverse}
@@ -18,74 +17,44 @@ use Rattle.nd_base.specs.declared.order.Order.TheVariants.{RowMajor, ColumnMajor
 use Rattle.nd_base.specs.Indices.{below, indices, is_index}
 use Rattle.nd_base.specs.Offset.{offset_of}
 use Rattle.nd_base.specs.Signed.{signed, all_signed}
-use Rattle.nd_base.specs.Size.{nonzero_size}
-use Rattle.nd_base.specs.Span.{sum_over_axes, reach, reach_down, reach_up}
 use Rattle.nd_base.proofs.laws.IsIndex.{is_index-reverse, length_of_index}
 use Rattle.nd_base.proofs.laws.Indices.{All-indices_in}
-use Rattle.nd_base.proofs.laws.Lists.{map_same}
-use Rattle.nd_base.proofs.laws.NonzeroSize.{nonzero_size-reverse}
+use Rattle.nd_base.proofs.laws.Lists.{map-reverse, map_same}
 use Rattle.nd_base.proofs.laws.Offset.{offset_of-reverse}
-use Rattle.nd_base.proofs.laws.Span.{sum_over_axes-reverse}
 use Rattle.nd_dim.specs.AxesInOrder.{reordered, is_axis_order, inverse_order}
 use Rattle.nd_dim.proofs.laws.AxesInOrder.{in_own_order, length-inverse_order, length_of_order, order_of_permutation, total}
 use Rattle.nd_dim.proofs.laws.AxesInOrder.{total_in_order, undone_by_inverse, undone_by_order}
 use Rattle.ndarray_layout.specs.Descends.{Descends}
 use Rattle.ndarray_layout.specs.PermutedView.{permute_fault, permuted_of, permute_source, reversed_of, swap_fault, swapped_of}
 use Rattle.ndarray_layout.specs.View.{View, IsView, place_at, view_places}
-use Rattle.ndarray_layout.proofs.laws.KeepsPlaces.{Descends-kept}
-
--- ---- what any order of the axes keeps
--- a view has the axes of another, each index of it those items of its source
-pub record HasAxesOf (source : List ℕ → List ℕ) (view result : View) : Type 0 where
-  pub start : result.start ≡ view.start
-  pub count : length result.shape ≡ length result.strides
-  pub sizes : nonzero_size result.shape ≡ nonzero_size view.shape
-  pub sums : (f : ℕ → ℤ → ℕ) → sum_over_axes f result.shape result.strides ≡ sum_over_axes f view.shape view.strides
-  pub within : (index : List ℕ) → is_index result.shape index ≡ true → is_index view.shape (source index) ≡ true
-  pub offset : (index : List ℕ) → is_index result.shape index ≡ true
-      → offset_of result.strides index ≡ offset_of view.strides (source index)
-  pub apart : (index other : List ℕ) → is_index result.shape index ≡ true → is_index result.shape other ≡ true
-      → source index ≡ source other → index ≡ other
-
-module _ (source : List ℕ → List ℕ) (view result : View) (same : HasAxesOf source view result) where
-  pub IsView-same_axes : IsView view → IsView result
-  IsView-same_axes v = record {
-    valid = record {
-      same_count = same.count;
-      size_fits = omega (arith, same.sizes, v.valid.size_fits);
-      span_fits = omega (arith, same.sums reach, v.valid.span_fits);
-    };
-    low = omega (arith, same.sums reach_down, same.start, v.low);
-    high = omega (arith, same.sums reach_up, same.start, v.high);
-  }
-
-  pub Descends-same_axes : IsView view → Descends source view result
-  Descends-same_axes v =
-      Descends-kept (IsView-same_axes v)
-      (λ index here. (
-        same.within index here,
-        ap (λ start. pos start +ℤ offset_of result.strides index) same.start
-            ∙ ap (λ offset. pos view.start +ℤ offset) (same.offset index here),
-      ))
-      same.apart
+use Rattle.ndarray_layout.proofs.laws.Sources.{Descends-from_start, at_least}
 
 -- ---- the transpose
-pub reversed_axes : (view : View) → length view.shape ≡ length view.strides → HasAxesOf reverse view (reversed_of view)
-reversed_axes view count = record {
-  start = refl;
-  count = length-reverse view.shape ∙ count ∙ sym (length-reverse view.strides);
-  sizes = nonzero_size-reverse view.shape;
-  sums = λ f. sum_over_axes-reverse f view.shape view.strides count;
-  within = λ index here. turned index here;
-  offset = λ index here. let n = length_of_index (reverse view.shape) index here in
-      sym (ap (offset_of (reverse view.strides)) (reverse-reverse index))
-      ∙ offset_of-reverse view.strides (reverse index) (omega (arith, count, n, length-reverse view.shape, length-reverse index));
+offset_reversed : (strides : List ℤ) (index : List ℕ) → length strides ≡ length index
+    → offset_of (reverse strides) index ≡ offset_of strides (reverse index)
+offset_reversed strides index e =
+    sym (ap (offset_of (reverse strides)) (reverse-reverse index))
+    ∙ offset_of-reverse strides (reverse index) (omega (arith, length-reverse index))
+
+pub Descends-reversed_of : (view : View) → IsView view → Descends reverse view (reversed_of view)
+Descends-reversed_of view v = Descends-from_start v (record {
+  sources = record {
+    counts = length-reverse view.shape ∙ v.valid.same_count ∙ sym (length-reverse view.strides);
+    within = λ least index few here.
+        sym (is_index-reverse (at_least least view.shape) (reverse index))
+        ∙ ap (is_index (reverse (at_least least view.shape))) (reverse-reverse index)
+        ∙ rw (map-reverse (max least) view.shape) at here;
+    offset = λ index here.
+        let long = length_of_index (at_least 1 (reverse view.shape)) index here in
+        let count = length-map (reverse view.shape) (max 1) in
+        omega (
+          arith,
+          ints,
+          offset_reversed view.strides index (omega (arith, long, count, length-reverse view.shape, v.valid.same_count)),
+        );
+  };
   apart = λ index other here there same. sym (reverse-reverse index) ∙ ap reverse same ∙ reverse-reverse other;
-}
-  where
-    turned : (index : List ℕ) → is_index (reverse view.shape) index ≡ true → is_index view.shape (reverse index) ≡ true
-    turned index here = sym (is_index-reverse view.shape (reverse index)) ∙ ap (is_index (reverse view.shape)) (reverse-reverse index)
-        ∙ here
+})
 
 -- transposed twice it is the view
 pub reversed_twice : (view : View) → reversed_of (reversed_of view) ≡ view
@@ -101,41 +70,14 @@ places_of_transpose view count =
     let same : All (λ index. place_at (reversed_of view) index ≡ place_at view (reverse index)) turned =
     All-weaker (λ index. is_index (reverse view.shape) index ≡ true)
     (λ index. place_at (reversed_of view) index ≡ place_at view (reverse index))
-    (λ index here. ap (λ offset. pos view.start +ℤ offset) ((reversed_axes view count).offset index here)) turned
+    (λ index here. ap (λ offset. pos view.start +ℤ offset) (offset_reversed view.strides index
+    (sym count ∙ sym (length-reverse view.shape) ∙ sym (length_of_index (reverse view.shape) index here)))) turned
     (All-indices_in RowMajor (reverse view.shape)) in
     map_same (place_at (reversed_of view)) (λ index. place_at view (reverse index)) turned same
     ∙ sym (map-map (place_at view) reverse turned)
 
 -- ---- all axes in an order
 -- what folds over the axes of lists in an order
-abbrev factor : ℕ → ℕ
-factor len = cond (len == 0) 1 len
-
-factor_times : (zero_length : Bool) (len rest : ℕ) → cond zero_length 1 len * rest ≡ cond zero_length rest (len * rest)
-factor_times true len rest = omega arith
-factor_times false len rest = refl
-
-abbrev sizes_total : List ℕ → List ℕ → ℕ
-sizes_total shape = total {A = ℕ} (λ x y. x * y) 1 mul_left_comm (λ axis. factor (get_or shape axis 0))
-
-sizes_in_order : (shape axes : List ℕ) → nonzero_size (reordered 0 axes shape) ≡ sizes_total shape axes
-sizes_in_order shape [] = refl
-sizes_in_order shape (axis ∷ axes) =
-    ap (λ rest. cond (get_or shape axis 0 == 0) rest (get_or shape axis 0 * rest)) (sizes_in_order shape axes)
-    ∙ sym (factor_times (get_or shape axis 0 == 0) (get_or shape axis 0) (sizes_total shape axes))
-
-add_turns : (x y z : ℕ) → x + (y + z) ≡ y + (x + z)
-add_turns x y z = omega arith
-
-abbrev sums_total : (ℕ → ℤ → ℕ) → List ℕ → List ℤ → List ℕ → ℕ
-sums_total f shape strides = total {A = ℕ} (λ x y. x + y) 0 add_turns (λ axis. f (get_or shape axis 0) (get_or strides axis (pos 0)))
-
-sums_in_order : (f : ℕ → ℤ → ℕ) (shape : List ℕ) (strides : List ℤ) (axes : List ℕ)
-    → sum_over_axes f (reordered 0 axes shape) (reordered (pos 0) axes strides) ≡ sums_total f shape strides axes
-sums_in_order f shape strides [] = refl
-sums_in_order f shape strides (axis ∷ axes) =
-    ap (λ rest. f (get_or shape axis 0) (get_or strides axis (pos 0)) + rest) (sums_in_order f shape strides axes)
-
 offset_turns : (x y z : ℤ) → x +ℤ (y +ℤ z) ≡ y +ℤ (x +ℤ z)
 offset_turns x y z = omega (arith, ints)
 
@@ -154,13 +96,15 @@ and_turns true y z = refl
 and_turns false true z = refl
 and_turns false false z = refl
 
-abbrev tests_total : List ℕ → List ℕ → List ℕ → Bool
-tests_total shape index = total {A = Bool} (λ x y. x && y) true and_turns (λ axis. nat_lt (get_or index axis 0) (get_or shape axis 0))
+abbrev tests_total : ℕ → List ℕ → List ℕ → List ℕ → Bool
+tests_total otherwise shape index =
+    total {A = Bool} (λ x y. x && y) true and_turns (λ axis. nat_lt (get_or index axis 0) (get_or shape axis otherwise))
 
-tests_in_order : (shape index axes : List ℕ) → is_index (reordered 0 axes shape) (reordered 0 axes index) ≡ tests_total shape index axes
-tests_in_order shape index [] = refl
-tests_in_order shape index (axis ∷ axes) =
-    ap (λ rest. nat_lt (get_or index axis 0) (get_or shape axis 0) && rest) (tests_in_order shape index axes)
+tests_in_order : (otherwise : ℕ) (shape index axes : List ℕ)
+    → is_index (reordered otherwise axes shape) (reordered 0 axes index) ≡ tests_total otherwise shape index axes
+tests_in_order otherwise shape index [] = refl
+tests_in_order otherwise shape index (axis ∷ axes) =
+    ap (λ rest. nat_lt (get_or index axis 0) (get_or shape axis otherwise) && rest) (tests_in_order otherwise shape index axes)
 
 own : {X : Type 0} (otherwise : X) (n : ℕ) (items : List X) → length items ≡ n → reordered otherwise (below n) items ≡ items
 own otherwise n items count = subst (λ m. reordered otherwise (below m) items ≡ items) count (in_own_order otherwise items)
@@ -169,57 +113,71 @@ own otherwise n items count = subst (λ m. reordered otherwise (below m) items �
 abbrev pub TakenBack : ℕ → List ℕ → (List ℕ → List ℕ) → Type 0
 TakenBack n axes source = (index : List ℕ) → length index ≡ n → (length (source index) ≡ n) × (reordered 0 axes (source index) ≡ index)
 
-module _ (axes : List ℕ) (view : View) (count : length view.shape ≡ length view.strides)
-    (order : is_axis_order (length view.shape) axes ≡ true) (source : List ℕ → List ℕ)
-    (back : TakenBack (length view.shape) axes source) where
+-- a function of each item may come first
+map-in_order : {X Y : Type 0} (f : X → Y) (otherwise : X) (axes : List ℕ) (items : List X)
+    → map f (reordered otherwise axes items) ≡ reordered (f otherwise) axes (map f items)
+map-in_order f otherwise [] items = refl
+map-in_order f otherwise (axis ∷ axes) items =
+    ap (λ item. item ∷ map f (reordered otherwise axes items)) (sym (get_or-map_same f items axis otherwise))
+    ∙ ap (λ rest. get_or (map f items) axis (f otherwise) ∷ rest) (map-in_order f otherwise axes items)
+
+-- strides that are kept as the `usize` of the same bits stand in an order as they are kept
+pub signed_in_order : (axes strides : List ℕ) → all_signed (reordered 0 axes strides) ≡ reordered (pos 0) axes (all_signed strides)
+signed_in_order axes strides = map-in_order signed 0 axes strides
+
+module _ (n : ℕ) (axes : List ℕ) (order : is_axis_order n axes ≡ true) (source : List ℕ → List ℕ) (back : TakenBack n axes source) where
+  test_of_source : (otherwise : ℕ) (shape index : List ℕ) → length shape ≡ n → length index ≡ n
+      → is_index (reordered otherwise axes shape) index ≡ is_index shape (source index)
+  test_of_source otherwise shape index count long =
+      let taken = back index long in
+      sym (ap (is_index (reordered otherwise axes shape)) taken.1)
+      ∙ tests_in_order otherwise shape (source index) axes
+      ∙ sym (total_in_order n axes order (λ x y. x && y) true and_turns
+      (λ axis. nat_lt (get_or (source index) axis 0) (get_or shape axis otherwise)))
+      ∙ sym (tests_in_order otherwise shape (source index) (below n))
+      ∙ ap (λ lens. is_index lens (reordered 0 (below n) (source index))) (own otherwise n shape count)
+      ∙ ap (is_index shape) (own 0 n (source index) taken.0)
+
+  offset_of_source : (strides : List ℤ) (index : List ℕ) → length strides ≡ n → length index ≡ n
+      → offset_of (reordered (pos 0) axes strides) index ≡ offset_of strides (source index)
+  offset_of_source strides index count long =
+      let taken = back index long in
+      sym (ap (offset_of (reordered (pos 0) axes strides)) taken.1)
+      ∙ offsets_in_order strides (source index) axes
+      ∙ sym (total_in_order n axes order (λ x y. x +ℤ y) (pos 0) offset_turns
+      (λ axis. pos (get_or (source index) axis 0) *ℤ get_or strides axis (pos 0)))
+      ∙ sym (offsets_in_order strides (source index) (below n))
+      ∙ ap (λ all. offset_of all (reordered 0 (below n) (source index))) (own (pos 0) n strides count)
+      ∙ ap (offset_of strides) (own 0 n (source index) taken.0)
+
+-- a view with its axes in an order, whatever tells the sources of its indices
+module _ (axes : List ℕ) (view : View) (v : IsView view) (order : is_axis_order (length view.shape) axes ≡ true)
+    (source : List ℕ → List ℕ) (back : TakenBack (length view.shape) axes source) where
   abbrev n : ℕ
   n = length view.shape
 
-  test_of_source : (index : List ℕ) → length index ≡ n → is_index (reordered 0 axes view.shape) index ≡ is_index view.shape (source index)
-  test_of_source index long =
-      let taken = back index long in
-      sym (ap (is_index (reordered 0 axes view.shape)) taken.1)
-      ∙ tests_in_order view.shape (source index) axes
-      ∙ sym (total_in_order n axes order (λ x y. x && y) true and_turns
-      (λ axis. nat_lt (get_or (source index) axis 0) (get_or view.shape axis 0)))
-      ∙ sym (tests_in_order view.shape (source index) (below n))
-      ∙ ap (λ shape. is_index shape (reordered 0 (below n) (source index))) (own 0 n view.shape refl)
-      ∙ ap (is_index view.shape) (own 0 n (source index) taken.0)
+  long_index : (least : ℕ) (index : List ℕ) → is_index (at_least least (reordered 0 axes view.shape)) index ≡ true → length index ≡ n
+  long_index least index here =
+      length_of_index (at_least least (reordered 0 axes view.shape)) index here ∙ length-map (reordered 0 axes view.shape) (max least)
+      ∙ length-map axes (λ axis. get_or view.shape axis 0) ∙ length_of_order n axes order
 
-  offset_of_source : (index : List ℕ) → length index ≡ n
-      → offset_of (reordered (pos 0) axes view.strides) index ≡ offset_of view.strides (source index)
-  offset_of_source index long =
-      let taken = back index long in
-      sym (ap (offset_of (reordered (pos 0) axes view.strides)) taken.1)
-      ∙ offsets_in_order view.strides (source index) axes
-      ∙ sym (total_in_order n axes order (λ x y. x +ℤ y) (pos 0) offset_turns
-      (λ axis. pos (get_or (source index) axis 0) *ℤ get_or view.strides axis (pos 0)))
-      ∙ sym (offsets_in_order view.strides (source index) (below n))
-      ∙ ap (λ strides. offset_of strides (reordered 0 (below n) (source index))) (own (pos 0) n view.strides (sym count))
-      ∙ ap (offset_of view.strides) (own 0 n (source index) taken.0)
-
-  long_index : (index : List ℕ) → is_index (reordered 0 axes view.shape) index ≡ true → length index ≡ n
-  long_index index here = length_of_index (reordered 0 axes view.shape) index here ∙ length-map axes (λ axis. get_or view.shape axis 0)
-      ∙ length_of_order n axes order
-
-  pub axes_in_order : HasAxesOf source view (permuted_of axes view)
-  axes_in_order = record {
-    start = refl;
-    count = length-map axes (λ axis. get_or view.shape axis 0) ∙ sym (length-map axes (λ axis. get_or view.strides axis (pos 0)));
-    sizes = sizes_in_order view.shape axes
-        ∙ sym (total_in_order n axes order (λ x y. x * y) 1 mul_left_comm (λ axis. factor (get_or view.shape axis 0)))
-        ∙ sym (sizes_in_order view.shape (below n)) ∙ ap nonzero_size (own 0 n view.shape refl);
-    sums = λ f. sums_in_order f view.shape view.strides axes
-        ∙ sym (total_in_order n axes order (λ x y. x + y) 0 add_turns
-        (λ axis. f (get_or view.shape axis 0) (get_or view.strides axis (pos 0))))
-        ∙ sym (sums_in_order f view.shape view.strides (below n))
-        ∙ ap (λ shape. sum_over_axes f shape (reordered (pos 0) (below n) view.strides)) (own 0 n view.shape refl)
-        ∙ ap (sum_over_axes f view.shape) (own (pos 0) n view.strides (sym count));
-    within = λ index here. sym (test_of_source index (long_index index here)) ∙ here;
-    offset = λ index here. offset_of_source index (long_index index here);
+  Descends-in_order : Descends source view (permuted_of axes view)
+  Descends-in_order = Descends-from_start v (record {
+    sources = record {
+      counts = length-map axes (λ axis. get_or view.shape axis 0) ∙ sym (length-map axes (λ axis. get_or view.strides axis (pos 0)));
+      within = λ least index few here.
+          sym (test_of_source n axes order source back (max least 0) (at_least least view.shape) index (length-map view.shape (max least))
+          (long_index least index here))
+          ∙ rw (map-in_order (max least) 0 axes view.shape) at here;
+      offset = λ index here. omega (
+        arith,
+        ints,
+        offset_of_source n axes order source back view.strides index (sym v.valid.same_count) (long_index 1 index here),
+      );
+    };
     apart = λ index other here there same.
-        sym (back index (long_index index here)).1 ∙ ap (reordered 0 axes) same ∙ (back other (long_index other there)).1;
-  }
+        sym (back index (long_index 1 index here)).1 ∙ ap (reordered 0 axes) same ∙ (back other (long_index 1 other there)).1;
+  })
 
 pub order_of_no_fault : (shape axes : List ℕ) → permute_fault shape axes ≡ None → is_axis_order (length shape) axes ≡ true
 order_of_no_fault shape axes none = accepted (is_axis_order (length shape) axes) none
@@ -231,20 +189,13 @@ order_of_no_fault shape axes none = accepted (is_axis_order (length shape) axes)
 pub no_fault_of_order : (shape axes : List ℕ) → is_axis_order (length shape) axes ≡ true → permute_fault shape axes ≡ None
 no_fault_of_order shape axes order = ap (λ fits. cond fits None (Some IncompatibleShape)) order
 
--- strides that are kept as the `usize` of the same bits stand in an order as they are kept
-pub signed_in_order : (axes strides : List ℕ) → all_signed (reordered 0 axes strides) ≡ reordered (pos 0) axes (all_signed strides)
-signed_in_order [] strides = refl
-signed_in_order (axis ∷ axes) strides =
-    ap (λ stride. stride ∷ all_signed (reordered 0 axes strides)) (sym (get_or-map_same signed strides axis 0))
-    ∙ ap (λ rest. get_or (all_signed strides) axis (pos 0) ∷ rest) (signed_in_order axes strides)
-
 -- a view with its axes in an order
-pub permuted_axes : (axes : List ℕ) (view : View) → length view.shape ≡ length view.strides → permute_fault view.shape axes ≡ None
-    → HasAxesOf (permute_source axes) view (permuted_of axes view)
-permuted_axes axes view count none =
+pub Descends-permuted_of : (axes : List ℕ) (view : View) → IsView view → permute_fault view.shape axes ≡ None
+    → Descends (permute_source axes) view (permuted_of axes view)
+Descends-permuted_of axes view v none =
     let order = order_of_no_fault view.shape axes none in
     let n = length view.shape in
-    axes_in_order axes view count order (permute_source axes) (λ index long. (
+    Descends-in_order axes view v order (permute_source axes) (λ index long. (
       length-map (inverse_order axes) (λ axis. get_or index axis 0)
           ∙ length-inverse_order n axes order,
       undone_by_order n axes order 0 index long,
@@ -334,19 +285,16 @@ module _ (n axis other : ℕ) (first : axis < n) (second : other < n) where
       map-swap (λ a. get_or items a otherwise) 0 (below n) axis other (in_range axis first) (in_range other second)
       ∙ ap (λ xs. swap xs axis other) (own otherwise n items count)
 
-pub swapped_axes : (axis other : ℕ) (view : View) → length view.shape ≡ length view.strides → swap_fault view.shape axis other ≡ None
-    → HasAxesOf (λ index. swap index axis other) view (swapped_of axis other view)
-swapped_axes axis other view count none =
+pub Descends-swapped_of : (axis other : ℕ) (view : View) → IsView view → swap_fault view.shape axis other ≡ None
+    → Descends (λ index. swap index axis other) view (swapped_of axis other view)
+Descends-swapped_of axis other view v none =
     let n = length view.shape in
     let there = axes_of_no_fault view.shape axis other none in
     let axes = exchanged n axis other there.0 there.1 in
-    let same : permuted_of axes view ≡ swapped_of axis other view =
-    ap (λ shape. record { start = view.start; shape = shape; strides = reordered (pos 0) axes view.strides })
-    (reordered-exchanged n axis other there.0 there.1 0 view.shape refl)
-    ∙ ap (λ strides. record { start = view.start; shape = swap view.shape axis other; strides = strides })
-    (reordered-exchanged n axis other there.0 there.1 (pos 0) view.strides (sym count)) in
-    subst (HasAxesOf (λ index. swap index axis other) view) same
-    (axes_in_order axes view count (exchanged_order n axis other there.0 there.1) (λ index. swap index axis other) (λ index long. (
+    rw (
+      reordered-exchanged n axis other there.0 there.1 0 view.shape refl,
+      reordered-exchanged n axis other there.0 there.1 (pos 0) view.strides (sym v.valid.same_count),
+    ) at (Descends-in_order axes view v (exchanged_order n axis other there.0 there.1) (λ index. swap index axis other) (λ index long. (
       length-swap index axis other ∙ long,
       reordered-exchanged n axis other there.0 there.1 0 (swap index axis other) (length-swap index axis other ∙ long)
           ∙ swap_twice 0 index axis other (omega (arith, there.0)) (omega (arith, there.1)),

@@ -1,7 +1,6 @@
 -- Laws of slices of views: a slice is a view of the same data, whose indices lie where those that they stand for do.
-use Rattle.std.proofs.Common.{◌≡◌, ℕ, pos, ◌≤ℤ◌, Option, Some, None, Bool, true, false, cond, eqb, List, length, refl, ◌∙◌, arith}
+use Rattle.std.proofs.Common.{◌≡◌, ℕ, pos, ◌≤ℤ◌, Option, Some, None, Bool, true, false, cond, eqb, List, length, refl, ◌∙◌}
 use Rattle.std.proofs.lemmas.Bool.{cond-true, eq-eqb, eqb-true}
-use Rattle.std.proofs.lemmas.Int.{ints}
 use Rattle.nd_base.specs.declared.error.ErrorKind.{ErrorKind}
 use Rattle.nd_base.specs.declared.error.ErrorKind.TheVariants.{IncompatibleShape}
 use Rattle.nd_base.proofs.laws.Definitions.{IsCount, limit}
@@ -10,14 +9,13 @@ use Rattle.nd_slice.specs.declared.elem.SliceInfoElem.{SliceInfoElem}
 use Rattle.nd_slice.specs.SliceFault.{in_count, out_count, first_fault, argument_fault}
 use Rattle.nd_slice.specs.AxisCounts.{HasCounts}
 use Rattle.nd_slice.specs.Selected.{selected}
-use Rattle.nd_slice.proofs.laws.Selected.{selected_injective}
+use Rattle.nd_slice.specs.SlicedLayout.{sliced_offset, sliced_shape, sliced_strides}
 use Rattle.nd_slice.proofs.laws.SliceFault.{elements_of_no_fault}
 use Rattle.ndarray_layout.specs.Descends.{Descends}
 use Rattle.ndarray_layout.specs.SlicedView.{slice_of, sliced_start, view_slice_fault}
 use Rattle.ndarray_layout.specs.View.{View, IsView}
-use Rattle.ndarray_layout.proofs.laws.KeepsPlaces.{Descends-kept}
-use Rattle.ndarray_layout.proofs.laws.View.{IsView-within}
-use Rattle.ndarray_layout.proofs.Slices.{SliceKept, slices_kept, places_kept}
+use Rattle.ndarray_layout.proofs.laws.Sources.{Descends-own_sources, HasOwnSources, start_within}
+use Rattle.ndarray_layout.proofs.Slices.{sliced_sources}
 use Rattle.nd_base.proofs.laws.Signed.{magnitude_from}
 
 -- an argument without a fault fits the shape
@@ -62,31 +60,19 @@ view_fault_of_other_counts fit (Some count) shape elems other =
 
 -- an argument that fits a view
 module _ (fit : Fit) (elems : List SliceInfoElem) (view : View) (v : IsView view) (none : argument_fault fit view.shape elems ≡ None) where
-  fits : (in_count elems ≡ length view.shape) × (first_fault fit view.shape elems ≡ None)
-  fits = elements_of_no_fault fit view.shape elems none
-
-  kept : SliceKept fit elems view.shape view.strides
-  kept = slices_kept fit elems view.shape view.strides v.valid.same_count fits
+  own : HasOwnSources (selected fit elems view.shape) view.shape view.strides (sliced_offset fit elems view.shape view.strides)
+      (sliced_shape fit elems view.shape) (sliced_strides fit elems view.shape view.strides)
+  own =
+      let fits = elements_of_no_fault fit view.shape elems none in
+      sliced_sources fit elems view.shape view.strides v.valid.same_count fits.0 fits.1
 
   -- the slice begins at a place
   pub sliced_start_within : (pos 0 ≤ℤ sliced_start fit elems view) × (sliced_start fit elems view ≤ℤ pos limit)
-  sliced_start_within =
-      let part = kept in
-      (omega (arith, ints, part.low, v.low), omega (arith, ints, part.high, v.high))
+  sliced_start_within = start_within v own.sources
 
   pub start-slice_of : pos (slice_of fit elems view).start ≡ sliced_start fit elems view
   start-slice_of = magnitude_from (sliced_start fit elems view) sliced_start_within.0
 
-  is_view : IsView (slice_of fit elems view)
-  is_view =
-      let part = kept in
-      let start = start-slice_of in
-      IsView-within v part.counts (omega (arith, part.size, v.valid.size_fits))
-      (omega (arith, ints, part.low, start)) (omega (arith, ints, part.high, start))
-
   -- a slice of a view is a view of the same data, whose indices lie where those that they stand for do
   pub Descends-slice_of : Descends (selected fit elems view.shape) view (slice_of fit elems view)
-  Descends-slice_of = Descends-kept is_view (λ index here.
-      let stays = places_kept fit elems view.shape view.strides index v.valid.same_count fits here in
-      (stays.within, omega (arith, ints, start-slice_of, stays.offset)))
-      (selected_injective fit elems view.shape)
+  Descends-slice_of = Descends-own_sources v own start-slice_of

@@ -15,9 +15,9 @@ use Rattle.nd_base.proofs.laws.Definitions.{limit, nonzero_size, size, high_span
 use Rattle.nd_base.proofs.laws.Indices.{length-indices_in, All-indices_in, indices_in_of_empty}
 use Rattle.nd_base.proofs.laws.NonzeroSize.{length_le_nonzero_size, size_le_nonzero_size}
 use Rattle.nd_base.proofs.laws.FlatIndex.{slice_get-indices_in}
+use Rattle.nd_base.proofs.laws.Offset.{offset_bounds}
 use Rattle.nd_base.proofs.laws.Span.{low_high_span}
 use Rattle.ndarray_layout.specs.View.{View, IsView, LiesWithin, place_at, view_places}
-use Rattle.ndarray_layout.proofs.Offsets.{offset_within}
 
 -- a layout from its lowest element on
 pub lowest_view : {shape : List ℕ} {strides : List ℤ} → IsValidLayout shape strides
@@ -52,11 +52,8 @@ pub record HasPlace (view : View) (index : List ℕ) : Type 0 where
 
 pub view_place : {view : View} (index : List ℕ) → IsView view → is_index view.shape index ≡ true → HasPlace view index
 view_place {view} index v h =
-    let offset = offset_within view.shape view.strides index v.valid.same_count h in
-    record {
-      low = omega (arith, ints, offset.above, v.low);
-      high = omega (arith, ints, offset.below, v.high);
-    }
+    let offset = offset_bounds view.shape view.strides index h v.valid.same_count in
+    record { low = omega (arith, ints, offset.0, v.low); high = omega (arith, ints, offset.1, v.high) }
 
 -- an offset that is given is that of an index
 pub some_offset : (shape : List ℕ) (strides : List ℤ) (index : List ℕ) {offset : ℤ} → Some offset ≡ checked_offset shape strides index

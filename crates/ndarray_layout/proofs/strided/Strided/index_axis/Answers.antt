@@ -5,8 +5,8 @@ use Rattle.ndarray_layout.specs.CollapsedView.{collapse_fault}
 use Rattle.ndarray_layout.specs.Descends.{Descends}
 use Rattle.ndarray_layout.specs.IndexedView.{indexed_of, index_source}
 use Rattle.ndarray_layout.specs.View.{View, view_of}
-use Rattle.ndarray_layout.proofs.ChangedAxis.{stride_read}
-use Rattle.ndarray_layout.proofs.RemovedAxis.{map-remove}
+use Rattle.ndarray_layout.proofs.OneAxis.{stride_read}
+use Rattle.ndarray_layout.proofs.OneAxis.{map-remove}
 use Rattle.ndarray_layout.proofs.laws.CollapsedView.{collapsed_start_within}
 use Rattle.ndarray_layout.proofs.laws.IndexedView.{Descends-indexed_of, index_small}
 use Rattle.ndarray_layout.proofs.strided.Strided.index_axis.Given.{Over}

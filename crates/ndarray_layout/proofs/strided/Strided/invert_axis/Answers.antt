@@ -6,7 +6,7 @@ use Rattle.nd_base.proofs.laws.NonzeroSize.{length_le_nonzero_size}
 use Rattle.ndarray_layout.specs.Descends.{Descends}
 use Rattle.ndarray_layout.specs.InvertedView.{inverted_of, invert_source, opposite_stride}
 use Rattle.ndarray_layout.specs.View.{View, view_of}
-use Rattle.ndarray_layout.proofs.ChangedAxis.{length_read, stride_read}
+use Rattle.ndarray_layout.proofs.OneAxis.{length_read, stride_read}
 use Rattle.ndarray_layout.proofs.laws.InvertedView.{inverted_start_within, Descends-inverted_of}
 use Rattle.ndarray_layout.proofs.strided.Strided.invert_axis.Given.{Over}
 use Rattle.ndarray_layout.proofs.strided.Strided.invert_axis.Goals as goal

@@ -5,8 +5,7 @@ use Rattle.nd_dim.specs.AxesInOrder.{reordered as in_order}
 use Rattle.ndarray_layout.specs.Descends.{Descends}
 use Rattle.ndarray_layout.specs.PermutedView.{permuted_of, permute_source}
 use Rattle.ndarray_layout.specs.View.{View, view_of}
-use Rattle.ndarray_layout.proofs.laws.PermutedView.{no_fault_of_order, order_of_no_fault, permuted_axes, signed_in_order}
-use Rattle.ndarray_layout.proofs.laws.PermutedView.{Descends-same_axes}
+use Rattle.ndarray_layout.proofs.laws.PermutedView.{no_fault_of_order, order_of_no_fault, signed_in_order, Descends-permuted_of}
 use Rattle.ndarray_layout.proofs.strided.Strided.permuted_axes.Given.{Over}
 use Rattle.ndarray_layout.proofs.strided.Strided.permuted_axes.Goals as goal
 use Rattle.ndarray_layout.proofs.strided.Strided.permuted_axes.Goals.{In_ok-reordered}
@@ -44,8 +43,7 @@ kept : (g : Over) (c : In_ok-reordered g) → Descends (permute_source (axis_num
 kept g c =
     let axes = axis_numbers c.args.axes.now in
     let view = here g c in
-    rw (made g c) (Descends-same_axes (permute_source axes) view (permuted_of axes view)
-    (permuted_axes axes view c.self.invariant.valid.same_count (no_fault_of_order view.shape axes (order g c))) c.self.invariant)
+    rw (made g c) (Descends-permuted_of axes view c.self.invariant (no_fault_of_order view.shape axes (order g c)))
 
 pub invariant_of-result : goal.invariant_of-result
 invariant_of-result g c = (kept g c).is_view

@@ -5,7 +5,7 @@ use Rattle.nd_base.proofs.laws.Lists.{map-reverse}
 use Rattle.ndarray_layout.specs.Descends.{Descends}
 use Rattle.ndarray_layout.specs.PermutedView.{reversed_of}
 use Rattle.ndarray_layout.specs.View.{IsView, view_of}
-use Rattle.ndarray_layout.proofs.laws.PermutedView.{reversed_axes, Descends-same_axes}
+use Rattle.ndarray_layout.proofs.laws.PermutedView.{Descends-reversed_of}
 use Rattle.ndarray_layout.proofs.strided.Strided.reversed_axes.Given.{Over}
 use Rattle.ndarray_layout.proofs.strided.Strided.reversed_axes.Goals as goal
 use Rattle.ndarray_layout.proofs.strided.Strided.reversed_axes.Goals.{After-reverse-2}
@@ -28,8 +28,7 @@ whole : (g : Over) (c : After-reverse-2 g) → IsView c.args.self
 whole g c = subst IsView c.view.view_is c.view.invariant
 
 kept : (g : Over) (c : After-reverse-2 g) → Descends reverse c.args.self (reversed_of c.args.self)
-kept g c =
-    Descends-same_axes reverse c.args.self (reversed_of c.args.self) (reversed_axes c.args.self (whole g c).valid.same_count) (whole g c)
+kept g c = Descends-reversed_of c.args.self (whole g c)
 
 pub invariant_of-view : goal.invariant_of-view
 invariant_of-view g c = subst IsView (sym (made g c.before)) (kept g c.before).is_view

@@ -6,7 +6,7 @@ use Rattle.nd_base.proofs.laws.NonzeroSize.{length_le_nonzero_size}
 use Rattle.ndarray_layout.specs.Descends.{Descends}
 use Rattle.ndarray_layout.specs.SplitView.{split_fault, first_part_of, second_part_of, second_source, second_start}
 use Rattle.ndarray_layout.specs.View.{View, view_of}
-use Rattle.ndarray_layout.proofs.ChangedAxis.{length_read, stride_read}
+use Rattle.ndarray_layout.proofs.OneAxis.{length_read, stride_read}
 use Rattle.ndarray_layout.proofs.laws.SplitView.{cut_of_no_fault, second_start_within, Descends-first_part_of, Descends-second_part_of}
 use Rattle.ndarray_layout.proofs.strided.Strided.split_at.Given.{Over}
 use Rattle.ndarray_layout.proofs.strided.Strided.split_at.Goals as goal

@@ -6,7 +6,7 @@ use Rattle.nd_base.specs.Signed.{signed}
 use Rattle.ndarray_layout.specs.Descends.{Descends}
 use Rattle.ndarray_layout.specs.PermutedView.{swapped_of}
 use Rattle.ndarray_layout.specs.View.{View, view_of}
-use Rattle.ndarray_layout.proofs.laws.PermutedView.{map-swap, no_fault_of_axes, swapped_axes, Descends-same_axes}
+use Rattle.ndarray_layout.proofs.laws.PermutedView.{map-swap, no_fault_of_axes, Descends-swapped_of}
 use Rattle.ndarray_layout.proofs.strided.Strided.swap_axes.Given.{Over}
 use Rattle.ndarray_layout.proofs.strided.Strided.swap_axes.Goals as goal
 use Rattle.ndarray_layout.proofs.strided.Strided.swap_axes.Goals.{After-swap-2}
@@ -47,8 +47,7 @@ kept : (g : Over) (c : After-swap-2 g) → Descends (λ index. swap index c.args
 kept g c =
     let view = here g c in
     let fits = no_fault_of_axes view.shape c.args.axis.0 c.args.other.0 (first g c) (second g c) in
-    rw (made g c) (Descends-same_axes (λ index. swap index c.args.axis.0 c.args.other.0) view (swapped_of c.args.axis.0 c.args.other.0 view)
-    (swapped_axes c.args.axis.0 c.args.other.0 view c.self.invariant.valid.same_count fits) c.self.invariant)
+    rw (made g c) (Descends-swapped_of c.args.axis.0 c.args.other.0 view c.self.invariant fits)
 
 pub invariant_of-self : goal.invariant_of-self
 invariant_of-self g c = (kept g c.before).is_view
