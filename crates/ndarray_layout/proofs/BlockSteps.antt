@@ -1,18 +1,20 @@
 -- Blocks of a layout that lie at steps: each index in a block lies where its source does, and with steps of a block's length no two do.
-use Rattle.std.proofs.Common.{◌≡◌, ℕ, suc, ◌+◌, ◌-◌, ◌*◌, ◌<◌, ◌≤◌, ℤ, pos, ◌+ℤ◌, ◌*ℤ◌, Bool, true, false, cond, List, [], ◌∷◌, ◌++◌, length, map, subst}
+use Rattle.std.proofs.Common.{◌≡◌, ℕ, suc, ◌+◌, ◌-◌, ◌*◌, ◌<◌, ◌≤◌, ℤ, pos, ◌+ℤ◌, ◌*ℤ◌, true, cond, List, [], ◌∷◌, ◌++◌, length, map}
 use Rattle.std.proofs.Common.{take, drop, replicate, nat_lt, refl, sym, ap, ◌∙◌, arith, inl, inr}
 use Rattle.std.proofs.Math.Nat.{mul-le-mul_right}
 use Rattle.std.proofs.lemmas.Bool.{and_from, and_parts, cases_lt, lt-ltb, ltb-true}
 use Rattle.std.proofs.lemmas.Int.{ints}
-use Rattle.std.proofs.lemmas.List.{length-append}
+use Rattle.std.proofs.lemmas.List.{length-append, length-map}
 use Rattle.nd_base.specs.Elementwise.{elementwise, products, sums}
-use Rattle.nd_base.proofs.laws.Definitions.{is_empty, is_index, limit, nonzero_size, offset_of}
+use Rattle.nd_base.proofs.laws.Definitions.{is_index, limit, nonzero_size, offset_of}
 use Rattle.nd_base.proofs.laws.IsIndex.{length_of_index, nonempty_from_index}
 use Rattle.nd_base.proofs.laws.Times.{times_sum, times_times}
-use Rattle.ndarray_layout.specs.BlocksView.{blocks_of, strides_along, strides_of_blocks}
+use Rattle.ndarray_layout.specs.BlocksView.{block_source, blocks_of, strides_along, strides_of_blocks}
+use Rattle.ndarray_layout.specs.Descends.{IsViewOf}
 use Rattle.ndarray_layout.specs.KeepsPlaces.{KeepsPlaces}
 use Rattle.ndarray_layout.specs.View.{View, IsView}
-use Rattle.ndarray_layout.proofs.FromPlaces.{IsView-along_zeros, IsView-from_places}
+use Rattle.ndarray_layout.proofs.laws.KeepsPlaces.{IsViewOf-kept}
+use Rattle.ndarray_layout.proofs.laws.Sources.{IsView-where_some}
 
 -- ---- two lists of axes, one after the other
 pub is_index-append : (front back index : List ℕ) → is_index (front ++ back) index ≡ true
@@ -130,46 +132,44 @@ module _ (count : ℕ → ℕ → ℕ) (step : ℕ → ℕ) (along : ℕ → ℕ
     strides = strides_along along view.shape block view.strides
 
     abbrev n : ℕ
-    n = length view.shape
+    n = length (map step block)
+
+    n_is : n ≡ length view.shape
+    n_is = length-map block step ∙ same
 
     counts_count : length counts ≡ n
-    counts_count = length-elementwise count view.shape block (sym same)
+    counts_count = length-elementwise count view.shape block (sym same) ∙ sym n_is
 
     each_axis : IsForEachAxis view.shape block view.strides
     each_axis = record { block_count = sym same; stride_count = v.valid.same_count }
 
     strides_count : length strides ≡ n
-    strides_count = length-strides_along along view.shape block view.strides each_axis
+    strides_count = length-strides_along along view.shape block view.strides each_axis ∙ sym n_is
 
-    pub blocks_keep : KeepsPlaces (λ index. sums (products (take n index) (map step block)) (drop n index)) view
-        (blocks_of counts strides block view)
-    blocks_keep index here =
-        let parts = is_index-append counts block index here in
+    keeps : KeepsPlaces (block_source (map step block)) view (blocks_of counts strides block view)
+    keeps index here =
+        let parts = rw counts_count at (is_index-append counts block index here) in
         let long = length_of_index (counts ++ block) index here in
-        let whole : length (counts ++ block) ≡ length counts + length block = length-append counts block in
-        let outer : is_index counts (take n index) ≡ true = ap (λ m. is_index counts (take m index)) (sym counts_count) ∙ parts.0 in
-        let inside : is_index block (drop n index) ≡ true = ap (λ m. is_index block (drop m index)) (sym counts_count) ∙ parts.1 in
-        let kept = source_kept view.shape block view.strides (take n index) (drop n index) each_axis (outer, inside) in
+        let kept = source_kept view.shape block view.strides (take n index) (drop n index) each_axis parts in
         let some : strides_of_blocks (counts ++ block) (strides ++ view.strides) ≡ strides ++ view.strides =
         ap (λ empty. cond empty (replicate (length (counts ++ block)) (pos 0)) (strides ++ view.strides))
         (nonempty_from_index (counts ++ block) index here) in
-        let split : offset_of (strides ++ view.strides) index ≡ offset_of strides (take n index) +ℤ offset_of view.strides (drop n index) =
-        offset_of-append strides view.strides index (omega (arith, strides_count, counts_count))
-        ∙ ap (λ m. offset_of strides (take m index) +ℤ offset_of view.strides (drop m index)) strides_count in
+        let split = rw strides_count at (offset_of-append strides view.strides index
+        (omega (arith, strides_count, counts_count, length-append counts block))) in
         (kept.within, ap (λ z. pos view.start +ℤ z) (ap (λ s. offset_of s index) some ∙ split ∙ kept.offset))
 
-    pub blocks_are_view : nonzero_size (counts ++ block) ≤ limit → IsView (blocks_of counts strides block view)
-    blocks_are_view fits = by (is_empty (counts ++ block)) refl
-      where
-        by : (empty : Bool) → is_empty (counts ++ block) ≡ empty → IsView (blocks_of counts strides block view)
-        by true none = subst (λ s. IsView (record { start = view.start; shape = counts ++ block; strides = s }))
-            (sym (ap (λ empty. cond empty (replicate (length (counts ++ block)) (pos 0)) (strides ++ view.strides)) none))
-            (IsView-along_zeros (counts ++ block) v fits)
-        by false some =
-            let along_all : strides_of_blocks (counts ++ block) (strides ++ view.strides) ≡ strides ++ view.strides =
-            ap (λ empty. cond empty (replicate (length (counts ++ block)) (pos 0)) (strides ++ view.strides)) some in
-            let count_all : length (counts ++ block) ≡ length (strides_of_blocks (counts ++ block) (strides ++ view.strides)) =
-            length-append counts block
-            ∙ omega (arith, counts_count, strides_count, v.valid.same_count, length-append strides view.strides)
-            ∙ ap length (sym along_all) in
-            IsView-from_places (λ index. sums (products (take n index) (map step block)) (drop n index)) v count_all fits some blocks_keep
+    -- it is a view of the same data, where its size fits
+    pub IsViewOf-blocks : nonzero_size (counts ++ block) ≤ limit
+        → IsViewOf (block_source (map step block)) view (blocks_of counts strides block view)
+    IsViewOf-blocks fits =
+        let counts_all : length (counts ++ block) ≡ length (strides ++ view.strides) = omega (
+          arith,
+          length-append counts block,
+          length-append strides view.strides,
+          counts_count,
+          strides_count,
+          same,
+          v.valid.same_count,
+        ) in
+        IsViewOf-kept (IsView-where_some (block_source (map step block)) (counts ++ block) (strides ++ view.strides) v
+        (λ some. counts_all) fits keeps) keeps

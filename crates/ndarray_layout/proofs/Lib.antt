@@ -6,7 +6,6 @@ pub mod Broadcasts
 pub mod ByRows
 pub mod CroppedAxes
 pub mod Fastest
-pub mod FromPlaces
 pub mod FromStart
 pub mod MarkedAxes
 pub mod Merged

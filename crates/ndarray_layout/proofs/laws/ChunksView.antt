@@ -1,6 +1,6 @@
 -- Laws of the chunks of a view: where each of their indices lies, and that each index in a chunk is in no other.
 use Rattle.std.proofs.Common.{◌≡◌, ℕ, ◌+◌, ◌-◌, ◌*◌, ◌<◌, ◌≤◌, pos, ◌*ℤ◌, true, false, cond, Option, None, List, [], ◌∷◌, ◌++◌}
-use Rattle.std.proofs.Common.{length, map, take, drop, nat_lt, refl, sym, ap, ◌∙◌, arith, pos_of_ne-zero}
+use Rattle.std.proofs.Common.{length, take, drop, nat_lt, refl, sym, ap, ◌∙◌, arith, pos_of_ne-zero}
 use Rattle.std.specs.Prelude.{◌/◌, ◌%◌, ◌==◌}
 use Rattle.std.proofs.Math.Nat.{div-mul-le_self}
 use Rattle.std.proofs.lemmas.Bool.{and_from, and_parts, eqb-false, le-ltb, lt-ltb, ltb-true, or_parts}
@@ -10,10 +10,9 @@ use Rattle.nd_base.specs.Elementwise.{elementwise, products, sums}
 use Rattle.nd_base.proofs.laws.Definitions.{is_empty, is_index}
 use Rattle.nd_base.proofs.laws.IsIndex.{length_of_index}
 use Rattle.ndarray_layout.specs.ChunksView.{chunk_count, chunk_counts, chunk_source, chunk_stride, chunks_fault, chunks_of}
-use Rattle.ndarray_layout.specs.Descends.{Descends}
-use Rattle.ndarray_layout.specs.KeepsPlaces.{KeepsPlaces}
+use Rattle.ndarray_layout.specs.Descends.{Descends, IsViewOf}
 use Rattle.ndarray_layout.specs.View.{View, IsView, place_at}
-use Rattle.ndarray_layout.proofs.BlockSteps.{AreBlocks, blocks_are_view, blocks_keep, is_index-append, is_index-joined}
+use Rattle.ndarray_layout.proofs.BlockSteps.{AreBlocks, IsViewOf-blocks, is_index-append, is_index-joined}
 use Rattle.ndarray_layout.proofs.BlockSteps.{length-elementwise}
 use Rattle.ndarray_layout.proofs.laws.BlocksView.{CanTakeBlocks, can_take_blocks}
 use Rattle.ndarray_layout.proofs.laws.KeepsPlaces.{AreApart, Descends-kept}
@@ -113,17 +112,10 @@ module _ (fixed : Option ℕ) (chunk : List ℕ) {view : View} (v : IsView view)
   count : length (chunk_counts view.shape chunk) ≡ length chunk
   count = length-elementwise chunk_count view.shape chunk (sym can.same_count) ∙ sym can.same_count
 
-  -- each index in a chunk has the place of the index that it stands for
-  pub KeepsPlaces-chunks_of : KeepsPlaces (chunk_source chunk) view (chunks_of chunk view)
-  KeepsPlaces-chunks_of index here =
-      let kept = blocks_keep chunk_count whole chunk_stride are_blocks view v chunk can.same_count index here in
-      let same : chunk_source chunk index ≡ sums (products (take (length view.shape) index) (map whole chunk)) (drop (length view.shape) index) =
-      ap (λ n. sums (products (take n index) chunk) (drop n index)) can.same_count
-      ∙ ap (λ steps. sums (products (take (length view.shape) index) steps) (drop (length view.shape) index)) (sym (map-id chunk)) in
-      (ap (is_index view.shape) same ∙ kept.0, kept.1 ∙ ap (place_at view) (sym same))
-
-  pub IsView-chunks_of : IsView (chunks_of chunk view)
-  IsView-chunks_of = blocks_are_view chunk_count whole chunk_stride are_blocks view v chunk can.same_count can.size_fits
+  -- the chunks are a view of the same data, where each index has the place of the index that it stands for
+  IsViewOf-chunks_of : IsViewOf (chunk_source chunk) view (chunks_of chunk view)
+  IsViewOf-chunks_of =
+      rw (map-id chunk) at (IsViewOf-blocks chunk_count whole chunk_stride are_blocks view v chunk can.same_count can.size_fits)
 
   -- the parts of an index in a chunk
   record Parts (index : List ℕ) : Type 0 where
@@ -154,9 +146,9 @@ module _ (fixed : Option ℕ) (chunk : List ℕ) {view : View} (v : IsView view)
       sym (take-append-drop n index) ∙ ap (λ front. front ++ drop n index) both.0 ∙ ap (λ back. take n other ++ back) both.1
       ∙ take-append-drop n other
 
-  -- so the chunks are a view of the same data, and no two of their indices alias where none of the view do
+  -- and no two of their indices alias where none of the view do
   pub Descends-chunks_of : Descends (chunk_source chunk) view (chunks_of chunk view)
-  Descends-chunks_of = Descends-kept IsView-chunks_of KeepsPlaces-chunks_of apart
+  Descends-chunks_of = Descends-kept IsViewOf-chunks_of.is_view IsViewOf-chunks_of.places apart
 
   -- index `inner` in chunk `at` is index `at * chunk + inner` of the view
   pub place_in_chunk : (at inner : List ℕ) → is_index (chunk_counts view.shape chunk) at ≡ true → is_index chunk inner ≡ true
@@ -164,7 +156,7 @@ module _ (fixed : Option ℕ) (chunk : List ℕ) {view : View} (v : IsView view)
       × (place_at (chunks_of chunk view) (at ++ inner) ≡ place_at view (sums (products at chunk) inner))
   place_in_chunk at inner here inside =
       let n = length chunk in
-      let kept = KeepsPlaces-chunks_of (at ++ inner) (is_index-joined (chunk_counts view.shape chunk) chunk at inner here inside) in
+      let kept = IsViewOf-chunks_of.places (at ++ inner) (is_index-joined (chunk_counts view.shape chunk) chunk at inner here inside) in
       let long : length at ≡ n = length_of_index (chunk_counts view.shape chunk) at here ∙ count in
       let same : chunk_source chunk (at ++ inner) ≡ sums (products at chunk) inner =
       ap (λ front. sums (products front chunk) (drop n (at ++ inner))) (take_at at inner n long)

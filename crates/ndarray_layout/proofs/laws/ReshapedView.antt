@@ -1,5 +1,5 @@
 -- Laws of views whose places are read along another shape.
-use Rattle.std.proofs.Common.{◌≡◌, ◌↔◌, ℕ, ◌<◌, ◌≤◌, ℤ, pos, ◌+ℤ◌, Bool, true, false, cond, ltb, Option, Some, None, List, [], ◌∷◌}
+use Rattle.std.proofs.Common.{◌≡◌, ◌↔◌, ℕ, ◌<◌, ℤ, pos, ◌+ℤ◌, Bool, true, false, cond, ltb, Option, Some, None, List, [], ◌∷◌}
 use Rattle.std.proofs.Common.{length, map, replicate, refl, sym, ap, ◌∙◌, arith}
 use Rattle.std.specs.Prelude.{◌&&◌, ◌||◌}
 use Rattle.std.proofs.lemmas.Bool.{le-ltb, ltb-false}
@@ -9,14 +9,12 @@ use Rattle.nd_base.specs.declared.error.ErrorKind.{ErrorKind}
 use Rattle.nd_base.specs.declared.error.ErrorKind.TheVariants.{IncompatibleShape, Overflow}
 use Rattle.nd_base.specs.declared.order.Order.{Order}
 use Rattle.nd_base.proofs.laws.Definitions.{indices_in, is_index, offset_of, place, flat_index_in, is_empty, limit, nonzero_size}
-use Rattle.nd_base.proofs.laws.Definitions.{size, high_span, low_span}
+use Rattle.nd_base.proofs.laws.Definitions.{size}
 use Rattle.nd_base.proofs.laws.Indices.{indices_in_of_empty}
-use Rattle.nd_base.proofs.laws.Offset.{offset_bounds}
 use Rattle.nd_base.proofs.laws.FlatIndex.{index_of_flat_in-flat_index_in, is_index-index_of_flat_in, flat_index_in-index_of_flat_in}
 use Rattle.nd_base.proofs.laws.FlatIndex.{flat_index_in-lt-size}
 use Rattle.nd_base.proofs.laws.FlatIndex.{same_from_flat_index_in}
 use Rattle.nd_base.proofs.laws.Size.{size_of_empty, size_of_nonempty}
-use Rattle.nd_base.proofs.laws.Flipped.{least_offset, greatest_offset}
 use Rattle.ndarray_layout.specs.reshape.ForcedStrides.{forced_strides}
 use Rattle.ndarray_layout.specs.reshape.SamePlaces.{Keeps}
 use Rattle.ndarray_layout.specs.reshape.ReshapeFault.{reshape_fault}
@@ -24,9 +22,10 @@ use Rattle.nd_base.proofs.laws.AsRead.{size-as_read}
 use Rattle.ndarray_layout.proofs.laws.Keeps.{alike-of-keeps, fault-exactly, forced-keeps, keeps-exactly, offset-as_read, size-of-keeps}
 use Rattle.ndarray_layout.proofs.matching.HasIndex.{has_index-of-valid}
 use Rattle.ndarray_layout.specs.Descends.{Descends}
+use Rattle.ndarray_layout.specs.KeepsPlaces.{KeepsPlaces}
 use Rattle.ndarray_layout.specs.View.{View, IsView, view_places}
 use Rattle.ndarray_layout.proofs.laws.KeepsPlaces.{Descends-kept}
-use Rattle.ndarray_layout.proofs.laws.View.{IsView-within}
+use Rattle.ndarray_layout.proofs.laws.Sources.{IsView-where_some}
 use Rattle.ndarray_layout.specs.ReshapedView.{ReshapeFits, reshape_of, reshape_source, reshaped_strides, view_reshape_fault}
 
 -- ---- the index of equal flat index
@@ -58,33 +57,6 @@ source_apart {order} {from} {to = to} index other k here there same =
     flat_index_in-index_of_flat_in order from (flat_index_in order to other)
     (omega (arith, flat_index_in-lt-size order to other there)) in
     same_from_flat_index_in order to index other here there (sym first ∙ ap (flat_index_in order from) same ∙ second)
-
--- ---- how far the layouts reach
-module _ {order : Order} {from : List ℕ} {strides : List ℤ} {to : List ℕ} {others : List ℤ} where
-  low_le : length from ≡ length strides → Keeps order from strides to others → is_empty to ≡ false
-      → low_span to others ≤ low_span from strides
-  low_le e k some =
-      let least = least_offset to others k.same_count some in
-      let moved = offset_of_source least.0 e k least.1 in
-      let bounds = offset_bounds from strides (reshape_source order from to least.0) moved.0 e in
-      omega (arith, ints, least.2, moved.1, bounds.0)
-
-  high_le : length from ≡ length strides → Keeps order from strides to others → is_empty to ≡ false
-      → high_span to others ≤ high_span from strides
-  high_le e k some =
-      let greatest = greatest_offset to others k.same_count some in
-      let moved = offset_of_source greatest.0 e k greatest.1 in
-      let bounds = offset_bounds from strides (reshape_source order from to greatest.0) moved.0 e in
-      omega (arith, ints, greatest.2, moved.1, bounds.1)
-
--- along strides of 0 nothing does
-low_of_zeros : (shape : List ℕ) → low_span shape (replicate (length shape) (pos 0)) ≡ 0
-low_of_zeros [] = refl
-low_of_zeros (len ∷ shape) = omega (arith, low_of_zeros shape)
-
-high_of_zeros : (shape : List ℕ) → high_span shape (replicate (length shape) (pos 0)) ≡ 0
-high_of_zeros [] = refl
-high_of_zeros (len ∷ shape) = omega (arith, high_of_zeros shape)
 
 -- ---- the fault
 -- what a view without a fault has
@@ -162,35 +134,23 @@ pub view_reshape_fault-ReshapeFits : (order : Order) (shape : List ℕ) {view : 
 view_reshape_fault-ReshapeFits order shape v = (reshape_fits_of_no_fault order shape v, no_fault_of_reshape_fits order shape v)
 
 -- ---- the view that is read as one of a shape
-spans_kept : (order : Order) (shape : List ℕ) {view : View} → IsView view → view_reshape_fault order shape view ≡ None
-    → (low_span shape (reshaped_strides order shape view) ≤ low_span view.shape view.strides)
-    × (high_span shape (reshaped_strides order shape view) ≤ high_span view.shape view.strides)
-spans_kept order shape {view} v none = by (is_empty shape) refl (reshaped_keeps order shape v none)
-  where
-    along : Bool → List ℤ
-    along e = cond e (replicate (length shape) (pos 0)) (forced_strides order view.shape view.strides shape)
-
-    by : (e : Bool) → is_empty shape ≡ e → Keeps order view.shape view.strides shape (along e)
-        → (low_span shape (along e) ≤ low_span view.shape view.strides) × (high_span shape (along e) ≤ high_span view.shape view.strides)
-    by true e k = (omega (arith, low_of_zeros shape), omega (arith, high_of_zeros shape))
-    by false e k = (low_le v.valid.same_count k e, high_le v.valid.same_count k e)
-
 -- it is a view of the same data, where each index lies where the index of equal flat index did
 pub Descends-reshape_of : (order : Order) (shape : List ℕ) {view : View} → IsView view → view_reshape_fault order shape view ≡ None
     → Descends (reshape_source order view.shape shape) view (reshape_of order shape view)
-Descends-reshape_of order shape {view} v none = Descends-kept whole (λ index here.
-    let moved = offset_of_source index v.valid.same_count kept here in
-    (moved.0, ap (λ z. pos view.start +ℤ z) moved.1))
-    (λ index other. source_apart index other kept)
+Descends-reshape_of order shape {view} v none = Descends-kept whole keeps (λ index other. source_apart index other kept)
   where
     kept : Keeps order view.shape view.strides shape (reshaped_strides order shape view)
     kept = reshaped_keeps order shape v none
 
+    keeps : KeepsPlaces (reshape_source order view.shape shape) view (reshape_of order shape view)
+    keeps index here =
+        let moved = offset_of_source index v.valid.same_count kept here in
+        (moved.0, ap (λ z. pos view.start +ℤ z) moved.1)
+
     whole : IsView (reshape_of order shape view)
-    whole =
-        let spans = spans_kept order shape v none in
-        IsView-within v kept.same_count (reshape_fits_of_no_fault order shape v none).0
-        (omega (arith, spans.0)) (omega (arith, spans.1))
+    whole = IsView-where_some (reshape_source order view.shape shape) shape (forced_strides order view.shape view.strides shape) v
+        (λ some. rw some at kept.same_count)
+        (reshape_fits_of_no_fault order shape v none).0 keeps
 
 -- places from a start are those from 0, moved by it
 map_moved : (start : ℕ) (strides : List ℤ) (xs : List (List ℕ))

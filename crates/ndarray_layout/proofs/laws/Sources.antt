@@ -1,29 +1,31 @@
 -- Laws of layouts whose indices lie where indices of another layout do, their sources: what each step from view to view proves of
 -- itself, and what follows. The reach is read off the indices. So that an empty shape has some too, a length of 0 counts as 1 there,
 -- as in spans.
-use Rattle.std.proofs.Common.{◌≡◌, ℕ, suc, ◌-◌, ◌*◌, ◌<◌, ◌≤◌, ℤ, pos, negsuc, ◌+ℤ◌, ◌≤ℤ◌, true, false, List, [], ◌∷◌, length, map}
-use Rattle.std.proofs.Common.{get_or, replicate, refl, sym, ap, subst, ◌∙◌, arith, inl, inr}
+use Rattle.std.proofs.Common.{◌≡◌, ℕ, zero, suc, ◌+◌, ◌-◌, ◌*◌, ◌<◌, ◌≤◌, ℤ, pos, negsuc, ◌+ℤ◌, ◌≤ℤ◌, true, false, List, [], ◌∷◌, length, map}
+use Rattle.std.proofs.Common.{Bool, cond, get_or, replicate, refl, sym, ap, subst, ◌∙◌, arith, inl, inr}
 use Rattle.std.specs.Prelude.{max}
 use Rattle.std.specs.Cmp.Lexicographic.{bytes_decides}
 use Rattle.std.specs.List.{All, Contains}
 use Rattle.std.proofs.lemmas.Bool.{cases_eq, ne_eqb, or_from}
 use Rattle.std.proofs.lemmas.Cmp.{nat_list_eq_equiv}
 use Rattle.std.proofs.lemmas.Int.{ints}
-use Rattle.std.proofs.lemmas.List.{get_or-map, length-map}
+use Rattle.std.proofs.lemmas.List.{get_or-map, length-map, length-replicate}
 use Rattle.std.proofs.lemmas.List.Elements.{All-contains}
 use Rattle.std.proofs.lemmas.Map.Made.{IsDistinct-from_AllPairs, is_member-Decides, length-le_from_is_member}
 use Rattle.nd_base.specs.declared.order.Order.TheVariants.{RowMajor}
 use Rattle.nd_base.proofs.laws.Coordinates.{is_index_of_larger}
 use Rattle.nd_base.proofs.laws.Definitions.{indices_in, is_empty, is_index, limit, nonzero_size, offset_of, reach_down}
-use Rattle.nd_base.proofs.laws.Definitions.{reach_up, size, sum_over_axes}
+use Rattle.nd_base.proofs.laws.Definitions.{high_span, low_span, reach_up, size, sum_over_axes}
 use Rattle.nd_base.proofs.laws.Indices.{All-indices_in, AllPairs-indices_in, Contains-indices_in, length-indices_in}
 use Rattle.nd_base.proofs.laws.IsIndex.{is_index-zeros}
 use Rattle.nd_base.proofs.laws.NonzeroSize.{nonzero_size_of_nonempty, nonzero_size_of_other, nonzero_size_of_zero}
 use Rattle.nd_base.proofs.laws.Offset.{offset_of-zeros}
+use Rattle.nd_base.proofs.laws.Flipped.{greatest_offset, least_offset}
+use Rattle.nd_base.proofs.laws.Span.{low_high_span}
+use Rattle.ndarray_layout.specs.BlocksView.{strides_of_blocks}
 use Rattle.ndarray_layout.specs.Descends.{Descends, IsViewOf}
 use Rattle.ndarray_layout.specs.KeepsPlaces.{KeepsPlaces}
 use Rattle.ndarray_layout.specs.View.{View, IsView}
-use Rattle.ndarray_layout.proofs.FromPlaces.{IsView-from_places}
 use Rattle.ndarray_layout.proofs.laws.KeepsPlaces.{Descends-kept, IsViewOf-kept}
 use Rattle.ndarray_layout.proofs.laws.View.{IsView-within, view_place}
 
@@ -95,6 +97,56 @@ IsView-filled {view} v =
     IsView-within v (sym (length-map view.shape (max 1)) ∙ v.valid.same_count) (omega (arith, size-at_least view.shape, v.valid.size_fits))
     (omega (arith, sum-at_least reach_down down-at_least view.shape view.strides))
     (omega (arith, sum-at_least reach_up up-at_least view.shape view.strides))
+
+-- a layout with an index, whose indices lie where indices of a view do, is a view: so do the lowest and the highest
+IsView-from_places : (source : List ℕ → List ℕ) {view new : View} → IsView view → length new.shape ≡ length new.strides
+    → nonzero_size new.shape ≤ limit → is_empty new.shape ≡ false → KeepsPlaces source view new → IsView new
+IsView-from_places source {view} {new} v counts fits some keeps =
+    let least = least_offset new.shape new.strides counts some in
+    let greatest = greatest_offset new.shape new.strides counts some in
+    let first = keeps least.0 least.1 in
+    let last = keeps greatest.0 greatest.1 in
+    let lowest = view_place (source least.0) v first.0 in
+    let highest = view_place (source greatest.0) v last.0 in
+    let low : low_span new.shape new.strides ≤ new.start = omega (arith, ints, first.1, least.2, lowest.low) in
+    let high : new.start + high_span new.shape new.strides ≤ limit = omega (arith, ints, last.1, greatest.2, highest.high) in
+    record {
+      valid = record { same_count = counts; size_fits = fits; span_fits = omega (arith, low_high_span new.shape new.strides, low, high) };
+      low = low;
+      high = high;
+    }
+
+-- along strides of 0 all indices lie where the first does
+offset_along_zeros : (n : ℕ) (index : List ℕ) → offset_of (replicate n (pos 0)) index ≡ pos 0
+offset_along_zeros n [] = refl
+offset_along_zeros zero (i ∷ index) = refl
+offset_along_zeros (suc n) (i ∷ index) = omega (arith, ints, offset_along_zeros n index)
+
+IsView-along_zeros : {view : View} (shape : List ℕ) → IsView view → nonzero_size shape ≤ limit
+    → IsView (record { start = view.start; shape = shape; strides = replicate (length shape) (pos 0) })
+IsView-along_zeros {view} shape v fits =
+    let old = at_least 1 view.shape in
+    let zeros : List ℕ = replicate (length old) 0 in
+    IsView-filled (IsView-from_places (λ index. zeros) (filled-IsView v)
+    (length-map shape (max 1) ∙ sym (length-replicate {A = ℤ} (length shape) (pos 0))) (omega (arith, size-at_least shape)) (some-at_least shape)
+    (λ index here. (
+      is_index-zeros old (some-at_least view.shape),
+      omega (arith, ints, offset_along_zeros (length shape) index, offset_of-zeros view.strides (length old)),
+    )))
+
+-- so is one whose strides are 0 where it has no index
+pub IsView-where_some : (source : List ℕ → List ℕ) {view : View} (shape : List ℕ) (strides : List ℤ) → IsView view
+    → (is_empty shape ≡ false → length shape ≡ length strides) → nonzero_size shape ≤ limit
+    → KeepsPlaces source view (record { start = view.start; shape = shape; strides = strides_of_blocks shape strides })
+    → IsView (record { start = view.start; shape = shape; strides = strides_of_blocks shape strides })
+IsView-where_some source {view} shape strides v counts fits = by (is_empty shape) refl
+  where
+    of : Bool → View
+    of none = record { start = view.start; shape = shape; strides = cond none (replicate (length shape) (pos 0)) strides }
+
+    by : (none : Bool) → is_empty shape ≡ none → KeepsPlaces source view (of none) → IsView (of none)
+    by true e keeps = IsView-along_zeros shape v fits
+    by false e keeps = IsView-from_places source v (counts e) fits e keeps
 
 -- ---- sources in another layout
 -- each index of a layout lies where an index of an older one does, its source, where the first indices are so far apart; also where

@@ -1,8 +1,8 @@
 -- Laws of the windows of a view: where each of their indices lies.
 use Rattle.std.proofs.Common.{◌≡◌, ℕ, ◌*◌, ℤ, pos, negsuc, ◌*ℤ◌, true, Option, None, List, [], ◌∷◌, ◌++◌, length, map}
-use Rattle.std.proofs.Common.{take, drop, refl, sym, ap, subst, ◌∙◌, arith, mul-one}
+use Rattle.std.proofs.Common.{take, drop, refl, sym, ap, ◌∙◌, arith, mul-one}
 use Rattle.std.proofs.lemmas.Int.{ints}
-use Rattle.std.proofs.lemmas.List.{drop_at, length-append, length-take-le, take_at}
+use Rattle.std.proofs.lemmas.List.{drop_at, length-append, length-map, length-take-le, take_at}
 use Rattle.std.proofs.lemmas.List.Elements.{All-weaker}
 use Rattle.nd_base.specs.Elementwise.{products, sums}
 use Rattle.nd_base.specs.declared.order.Order.TheVariants.{RowMajor}
@@ -10,14 +10,14 @@ use Rattle.nd_base.proofs.laws.Definitions.{flat_index_in, indices_in, is_index,
 use Rattle.nd_base.proofs.laws.Indices.{All-indices_in}
 use Rattle.nd_base.proofs.laws.Lists.{map_same}
 use Rattle.nd_base.proofs.laws.IsIndex.{length_of_index}
-use Rattle.ndarray_layout.specs.BlocksView.{blocks_of, strides_along}
+use Rattle.ndarray_layout.specs.BlocksView.{strides_along}
 use Rattle.ndarray_layout.specs.Descends.{IsViewOf}
 use Rattle.ndarray_layout.specs.KeepsPlaces.{KeepsPlaces}
 use Rattle.ndarray_layout.specs.View.{View, IsView, place_at, view_places}
 use Rattle.ndarray_layout.specs.WindowsView.{window_count, window_counts, window_source, windows_fault, windows_of}
-use Rattle.ndarray_layout.proofs.BlockSteps.{AreBlocks, blocks_are_view, blocks_keep, is_index-joined, length-elementwise}
+use Rattle.ndarray_layout.proofs.BlockSteps.{AreBlocks, IsViewOf-blocks, is_index-joined, length-elementwise}
 use Rattle.ndarray_layout.proofs.laws.BlocksView.{CanTakeBlocks, can_take_blocks}
-use Rattle.ndarray_layout.proofs.laws.KeepsPlaces.{IsViewOf-kept}
+use Rattle.ndarray_layout.proofs.laws.KeepsPlaces.{IsViewOf-told}
 use Rattle.ndarray_layout.proofs.laws.RowMajor.{places-joined}
 
 -- ---- windows are blocks at steps of 1
@@ -63,43 +63,25 @@ module _ (fixed : Option ℕ) (window : List ℕ) {view : View} (v : IsView view
   can : CanTakeBlocks fixed view.shape (window_counts view.shape window) window
   can = can_take_blocks fixed view.shape (window_counts view.shape window) window none
 
-  as_blocks : windows_of window view
-      ≡ blocks_of (window_counts view.shape window) (strides_along own view.shape window view.strides) window view
-  as_blocks = ap (λ along. blocks_of (window_counts view.shape window) along window view)
-      (sym (own_strides view.shape window view.strides can.same_count v.valid.same_count))
-
-  -- each index in a window has the place of the index that it stands for
-  pub KeepsPlaces-windows_of : KeepsPlaces (window_source (length view.shape)) view (windows_of window view)
-  KeepsPlaces-windows_of index here =
-      let n = length view.shape in
-      let kept = subst (KeepsPlaces (λ index. sums (products (take n index) (map one window)) (drop n index)) view) (sym as_blocks)
-      (blocks_keep window_count one own are_blocks view v window can.same_count) index here in
-      let long = length_of_index (window_counts view.shape window ++ window) index here in
-      let count = length-elementwise window_count view.shape window (sym can.same_count) in
-      let outer : length (take n index) ≡ length window = length-take-le n index (omega (
-        arith,
-        long,
-        count,
-        length-append (window_counts view.shape window) window,
-      )) ∙ sym can.same_count in
-      let same : window_source n index ≡ sums (products (take n index) (map one window)) (drop n index) =
-      ap (λ at. sums at (drop n index)) (sym (steps_of_one (take n index) window outer)) in
-      (ap (is_index view.shape) same ∙ kept.0, kept.1 ∙ ap (place_at view) (sym same))
-
-  pub IsView-windows_of : IsView (windows_of window view)
-  IsView-windows_of = subst IsView (sym as_blocks)
-      (blocks_are_view window_count one own are_blocks view v window can.same_count can.size_fits)
-
-  -- so the windows are a view of the same data
+  -- the windows are a view of the same data, where each index has the place of the index that it stands for
   pub IsViewOf-windows_of : IsViewOf (window_source (length view.shape)) view (windows_of window view)
-  IsViewOf-windows_of = IsViewOf-kept IsView-windows_of KeepsPlaces-windows_of
+  IsViewOf-windows_of =
+      let blocks = IsViewOf-blocks window_count one own are_blocks view v window can.same_count can.size_fits in
+      IsViewOf-told (rw (own_strides view.shape window view.strides can.same_count v.valid.same_count) at blocks) (λ index here.
+      let count = length-map window one in
+      let long = length_of_index (window_counts view.shape window ++ window) index here in
+      let same = length-elementwise window_count view.shape window (sym can.same_count) in
+      let outer : length (take (length view.shape) index) ≡ length window =
+      length-take-le (length view.shape) index (omega (arith, long, same, length-append (window_counts view.shape window) window))
+      ∙ sym can.same_count in
+      rw (count, can.same_count, steps_of_one (take (length view.shape) index) window outer) refl)
 
   -- index `inner` in the window at index `at` is index `at + inner` of the view
   pub place_in_window : (at inner : List ℕ) → is_index (window_counts view.shape window) at ≡ true → is_index window inner ≡ true
       → (is_index view.shape (sums at inner) ≡ true) × (place_at (windows_of window view) (at ++ inner) ≡ place_at view (sums at inner))
   place_in_window at inner here inside =
       let n = length view.shape in
-      let kept = KeepsPlaces-windows_of (at ++ inner) (is_index-joined (window_counts view.shape window) window at inner here inside) in
+      let kept = IsViewOf-windows_of.places (at ++ inner) (is_index-joined (window_counts view.shape window) window at inner here inside) in
       let long : length at ≡ n = length_of_index (window_counts view.shape window) at here
       ∙ length-elementwise window_count view.shape window (sym can.same_count) in
       let same = source_joined at inner n long in
