@@ -1,5 +1,5 @@
 -- From one row of a view to the next: along a column, and to the first row of the next one.
-use Rattle.std.proofs.Common.{◌≡◌, ℕ, zero, suc, ◌+◌, ◌*◌, ◌-◌, ◌/◌, ◌%◌, ◌<◌, ◌≤◌, ℤ, pos, ◌+ℤ◌, ◌*ℤ◌, ◌≤ℤ◌, Bool, true, false}
+use Rattle.std.proofs.Common.{◌≡◌, ℕ, zero, suc, ◌+◌, ◌*◌, ◌-◌, ◌/◌, ◌%◌, ◌<◌, ◌≤◌, ℤ, pos, ◌+ℤ◌, ◌*ℤ◌, Bool, true, false}
 use Rattle.std.proofs.Common.{inl, inr, List, [], ◌∷◌, replicate, length, length-append, length-drop, map, drop, refl, sym, ap, ◌∙◌, arith, add-one, drop-cons}
 use Rattle.std.proofs.Math.Nat.{mul-le-mul_left, mul-le-mul_right}
 use Rattle.std.proofs.lemmas.Bool.{cases_lt}
@@ -17,13 +17,13 @@ use Rattle.nd_base.proofs.laws.Size.{size_of_empty}
 use Rattle.ndarray_layout.specs.declared.strided.rows.Fastest.{Fastest}
 use Rattle.ndarray_layout.specs.declared.strided.rows.Row.{Row}
 use Rattle.ndarray_layout.specs.Rows.{row_places, rows_places}
-use Rattle.ndarray_layout.specs.View.{View, IsView, place_at, view_of, view_places}
+use Rattle.ndarray_layout.specs.View.{View, IsPlace, IsView, place_at, view_of, view_places}
 use Rattle.ndarray_layout.specs.RowsLeft.{AreRowsLeft, axis_view, count_of_rows, moved_to, row_place, rows_left}
 use Rattle.ndarray_layout.specs.private.Fastest.{EndsIn, IsColumn}
 use Rattle.ndarray_layout.proofs.Fastest.{EndsIn-map, IsView-others, len_le_nonzero_size, offset_of-flat_index}
 use Rattle.ndarray_layout.proofs.Fastest.{size-others, some_coordinate}
 use Rattle.ndarray_layout.proofs.laws.Rows.{length-row_places, no_step, one_more_step}
-use Rattle.ndarray_layout.proofs.laws.View.{HasPlace, length-view_places, view_place}
+use Rattle.ndarray_layout.proofs.laws.View.{length-view_places, view_place}
 use Rattle.ndarray_layout.proofs.RowsLeft.{IsView-slower, ends, factor_of_some, size-axis_view, steps}
 
 -- ---- flat indices
@@ -89,7 +89,8 @@ module _ {order : Order} {shape lens : List ℕ} {strides others : List ℤ} {le
       (on_axis before (omega arith), omega (arith, ints, on_axis o below, no_step (offset_of others (index_of_flat_in order lens flat)) stride))
 
 -- each flat index has a place
-pub flat_within : (order : Order) {view : View} → IsView view → (r : ℕ) → r < size view.shape → HasPlace view (index_of_flat_in order view.shape r)
+pub flat_within : (order : Order) {view : View} → IsView view → (r : ℕ) → r < size view.shape
+    → IsPlace (place_at view (index_of_flat_in order view.shape r))
 flat_within order {view} v r below = view_place (index_of_flat_in order view.shape r) v (is_index-index_of_flat_in order view.shape r below)
 
 below_factor : (n len count more : ℕ) → n * len + more ≡ len * count → 0 < more → n < count
@@ -143,7 +144,7 @@ module _ {order : Order} {start : ℕ} {lens strides : List ℕ} {left : ℕ} (a
         ≡ offset_of (all_signed axis.strides.now) (index_of_flat_in order axis.lens.now flat))
     back = after_axis both.0 (EndsIn-map signed both.1) a.view.valid.same_count o others_later.some a.below
 
-    pub back_within : HasPlace (view_of start axis.lens.now axis.strides.now) (index_of_flat_in order axis.lens.now (flat - 1))
+    pub back_within : IsPlace (place_at (view_of start axis.lens.now axis.strides.now) (index_of_flat_in order axis.lens.now (flat - 1)))
     back_within = flat_within order others_later.view (flat - 1) (omega (arith, others_later.below))
 
 -- the first index lies at the start
@@ -180,7 +181,7 @@ module _ {order : Order} {start : ℕ} {column : Fastest} {number : ℕ} (b : Is
   first_below : number * column.len < size (axis_view order start column).shape
   first_below = omega (arith, size-axis_view order start column, mul-add-lt number column.len 0 (size column.lens.now) b.below b.some)
 
-  pub first_within : HasPlace (axis_view order start column) (index_of_flat_in order (axis_view order start column).shape (number * column.len))
+  pub first_within : IsPlace (row_place order start column (number * column.len))
   first_within = flat_within order b.is_view (number * column.len) first_below
 
   pub first_row : number ≡ 0 → pos start ≡ row_place order start column (number * column.len)
@@ -201,10 +202,10 @@ module _ {order : Order} {start : ℕ} {column : Fastest} {number : ℕ} (b : Is
           b.is_view.valid.size_fits,
         )
 
-    pub last_within : HasPlace (axis_view order start column) (index_of_flat_in order (axis_view order start column).shape (number * column.len - 1))
+    pub last_within : IsPlace (row_place order start column (number * column.len - 1))
     last_within = flat_within order b.is_view (number * column.len - 1) (omega (arith, first_below))
 
-    pub slower_within : HasPlace (view_of start column.lens.now column.strides.now) (index_of_flat_in order column.lens.now (number - 1))
+    pub slower_within : IsPlace (place_at (view_of start column.lens.now column.strides.now) (index_of_flat_in order column.lens.now (number - 1)))
     slower_within = flat_within order (IsView-slower order start column b.is_view) (number - 1) (omega (arith, b.below))
 
     pub offsets : (row_place order start column (number * column.len - 1)
@@ -251,7 +252,7 @@ module _ {order : Order} {start : ℕ} {column : Fastest} {row : Row} {in_column
       omega (arith, whole, l.begun, count, begun, ap (λ n. n * column.len) (number ∙ l.number some), size-axis_view order start column) in
       record {
         is_view = l.is_view;
-        here = omega (arith, ints, e, (flat_within order l.is_view given given_below).high);
+        here = omega (arith, ints, e, (flat_within order l.is_view given given_below).1);
         fits = omega (arith, l.fits, mul-le-mul_right row.len less);
         within = omega (arith, l.within, less);
         number = λ _. number ∙ l.number some;
@@ -279,10 +280,10 @@ module _ {order : Order} {start : ℕ} {column : Fastest} {row : Row} {in_column
         is_next : {n : ℕ} → 0 < n → n ≡ n - 1 + 1
         is_next one = omega arith
 
-    pub next_within : (pos 0 ≤ℤ (pos row.start +ℤ signed column.stride)) × ((pos row.start +ℤ signed column.stride) ≤ℤ pos limit)
+    pub next_within : IsPlace (pos row.start +ℤ signed column.stride)
     next_within =
         let here = flat_within order l.is_view given given_below in
-        (omega (arith, ints, here.low, next_in_column), omega (arith, ints, here.high, next_in_column))
+        (omega (arith, ints, here.0, next_in_column), omega (arith, ints, here.1, next_in_column))
 
 -- ---- how many
 pub count_fits : {order : Order} {start : ℕ} {column : Fastest} {row : Row} {in_column columns columns_left : ℕ}

@@ -1,5 +1,5 @@
 -- What is left of rows of places, from one place to the next.
-use Rattle.std.proofs.Common.{◌≡◌, ℕ, zero, suc, ◌+◌, ◌-◌, ◌<◌, ◌≤◌, ◌^◌, ℤ, pos, negsuc, ◌+ℤ◌, ◌*ℤ◌, ◌≤ℤ◌, List, [], ◌∷◌, ◌++◌}
+use Rattle.std.proofs.Common.{◌≡◌, ℕ, zero, suc, ◌+◌, ◌-◌, ◌<◌, ◌≤◌, ◌^◌, ℤ, pos, negsuc, ◌+ℤ◌, ◌*ℤ◌, List, [], ◌∷◌, ◌++◌}
 use Rattle.std.proofs.Common.{add-one, append_assoc, drop, length, map, refl, sym, ap, subst, ◌∙◌, arith, length-append, length-drop}
 use Rattle.std.specs.List.{All, range_with_len}
 use Rattle.std.proofs.lemmas.Int.{ints}
@@ -9,6 +9,7 @@ use Rattle.ndarray_layout.specs.declared.strided.rows.Row.{Row}
 use Rattle.ndarray_layout.specs.Rows.{row_places, rows_places}
 use Rattle.ndarray_layout.specs.PlacesLeft.{ArePlacesLeft, places_after}
 use Rattle.ndarray_layout.proofs.ByRows.{row_from}
+use Rattle.ndarray_layout.specs.View.{IsPlace}
 use Rattle.ndarray_layout.proofs.laws.Rows.{All-first_row, get_or-row_places, length-row_places, no_step, one_more_step}
 
 -- ---- a row
@@ -36,13 +37,13 @@ pub appended : (old : List ℤ) {now new : List ℤ} (row : List ℤ) (place : �
     → more ≡ row ++ place ∷ [] → new ≡ old ++ more
 appended old row place e f g = e ∙ ap (λ xs. xs ++ place ∷ []) f ∙ append_assoc old row (place ∷ []) ∙ ap (λ xs. old ++ xs) (sym g)
 
-pub bounds_of_place : (z : ℤ) → IsInBounds (2 ^ 63) z → (pos 0 ≤ℤ z) × (z ≤ℤ pos limit)
+pub bounds_of_place : (z : ℤ) → IsInBounds (2 ^ 63) z → IsPlace z
 bounds_of_place (pos n) in_bounds = (omega (arith, ints), omega (arith, ints))
 bounds_of_place (negsuc n) in_bounds = absurd in_bounds
 
 -- each place of a row is a number of an `isize`, and so is the first one
 pub place_bounds : (start : ℕ) (stride : ℤ) (len i : ℕ) → All (IsInBounds (2 ^ 63)) (row_places start stride len) → i < len
-    → (pos 0 ≤ℤ (pos start +ℤ (pos i *ℤ stride))) × ((pos start +ℤ (pos i *ℤ stride)) ≤ℤ pos limit)
+    → IsPlace (pos start +ℤ (pos i *ℤ stride))
 place_bounds start stride len i in_bounds below =
     bounds_of_place (pos start +ℤ (pos i *ℤ stride))
     (subst (IsInBounds (2 ^ 63)) (get_or-row_places start stride len i (pos 0) below)

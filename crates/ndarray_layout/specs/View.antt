@@ -1,5 +1,5 @@
 -- A view: a shape with strides and a start, as a function from indices to places in the data.
-use Rattle.std.specs.Prelude.{◌≡◌, ℕ, ◌+◌, ◌≤◌, ℤ, pos, negsuc, Option, Some, None, if◌then◌else◌, List, [], ◌∷◌, nat_eq, refl}
+use Rattle.std.specs.Prelude.{◌≡◌, ℕ, ◌+◌, ◌≤◌, ℤ, ◌≤ℤ◌, pos, negsuc, Option, Some, None, if◌then◌else◌, List, [], ◌∷◌, nat_eq, refl}
 use Rattle.std.proofs.Common.{eq-eqb}
 use Rattle.std.proofs.Math.Arith.{le→nltb}
 use Rattle.std.proofs.lemmas.Bool.{both_ways}
@@ -22,6 +22,10 @@ pub record View : Type 0 where
 -- the view of strides that are kept as the `usize` of the same bits
 abbrev pub view_of : ℕ → List ℕ → List ℕ → View
 view_of start shape strides = record { start = start; shape = shape; strides = all_signed strides }
+
+-- a place that a view may have, from 0 to the limit
+abbrev pub IsPlace : ℤ → Type 0
+IsPlace place = (pos 0 ≤ℤ place) × (place ≤ℤ pos limit)
 
 -- every sum and product fits, and the places of all indices lie from 0 to the limit
 pub record IsView (view : View) : Type 0 where
@@ -65,6 +69,9 @@ outside = refl
 
 place_below_the_data : LiesWithin 4 (record { start = 0; shape = 2 ∷ []; strides = negsuc 0 ∷ [] }) → ⊥
 place_below_the_data within = within (1 ∷ []) refl
+
+before_the_data : IsPlace (negsuc 0) → ⊥
+before_the_data is = is.0.le
 
 start_too_low : IsView (record { start = 1; shape = 3 ∷ []; strides = negsuc 0 ∷ [] }) → ⊥
 start_too_low view = le→nltb 1 2 view.low

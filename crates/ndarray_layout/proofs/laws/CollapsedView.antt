@@ -1,15 +1,15 @@
 -- Laws of views of which one coordinate of an axis was taken.
-use Rattle.std.proofs.Common.{◌≡◌, ℕ, ◌+◌, ◌<◌, ℤ, pos, ◌+ℤ◌, ◌*ℤ◌, ◌≤ℤ◌, Bool, true, false, cond, None, Some, List, length, get_or}
+use Rattle.std.proofs.Common.{◌≡◌, ℕ, ◌+◌, ◌<◌, ℤ, pos, ◌+ℤ◌, ◌*ℤ◌, Bool, true, false, cond, None, Some, List, length, get_or}
 use Rattle.std.proofs.Common.{set, map, nat_lt, refl, sym, ap, ◌∙◌, arith}
 use Rattle.std.proofs.lemmas.Bool.{and_parts, ltb-true}
 use Rattle.std.proofs.lemmas.List.{set-get_or}
 use Rattle.std.proofs.lemmas.List.Folds.{flat_map-map}
 use Rattle.nd_base.specs.declared.error.ErrorKind.TheVariants.{OutOfBounds}
 use Rattle.nd_base.specs.declared.order.Order.TheVariants.{RowMajor}
-use Rattle.nd_base.proofs.laws.Definitions.{below, indices, magnitude, limit}
+use Rattle.nd_base.proofs.laws.Definitions.{below, indices, magnitude}
 use Rattle.ndarray_layout.specs.CollapsedView.{collapse_fault, collapsed_start, collapse_of, collapse_source}
 use Rattle.ndarray_layout.specs.Descends.{Descends}
-use Rattle.ndarray_layout.specs.View.{View, IsView, view_places}
+use Rattle.ndarray_layout.specs.View.{View, IsPlace, IsView, view_places}
 use Rattle.ndarray_layout.proofs.ByRows.{by_rows, places_from, row_from}
 use Rattle.ndarray_layout.proofs.AxisByAxis.{lone_coordinate}
 use Rattle.ndarray_layout.proofs.OneAxis.{first_coordinate, set_axis}
@@ -41,7 +41,7 @@ module _ (axis index : ℕ) (view : View) (v : IsView view) (none : collapse_fau
       (lone_coordinate (get_or view.shape axis 0) index (get_or view.strides axis (pos 0)) at.1) (λ i j below also same. omega arith))
 
   -- what is left begins at a place
-  pub collapsed_start_within : (pos 0 ≤ℤ collapsed_start axis index view) × (collapsed_start axis index view ≤ℤ pos limit)
+  pub collapsed_start_within : IsPlace (collapsed_start axis index view)
   collapsed_start_within = start_within v own.sources
 
   pub start-collapse_of : pos (collapse_of axis index view).start ≡ collapsed_start axis index view

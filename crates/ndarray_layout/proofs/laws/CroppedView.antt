@@ -1,5 +1,5 @@
 -- Laws of views of a range of coordinates on each axis.
-use Rattle.std.proofs.Common.{◌≡◌, ℕ, suc, ◌<◌, ◌≤◌, pos, ◌+ℤ◌, ◌≤ℤ◌, List, [], ◌∷◌, length, get_or, refl, ap, sym, ◌∙◌, arith}
+use Rattle.std.proofs.Common.{◌≡◌, ℕ, suc, ◌<◌, ◌≤◌, pos, ◌+ℤ◌, List, [], ◌∷◌, length, get_or, refl, ap, sym, ◌∙◌, arith}
 use Rattle.std.specs.List.{All}
 use Rattle.std.proofs.lemmas.List.Elements.{length_all_zip}
 use Rattle.nd_base.proofs.laws.Definitions.{farthest_offset, limit, magnitude, offset_of}
@@ -12,7 +12,7 @@ use Rattle.nd_slice.proofs.laws.UnitStep.{ranges_between, shape_between}
 use Rattle.ndarray_layout.specs.CroppedView.{RangesFit, moved_starts, cropped_start, cropped_of, crop_source}
 use Rattle.ndarray_layout.specs.Descends.{Descends}
 use Rattle.ndarray_layout.specs.SlicedView.{slice_of}
-use Rattle.ndarray_layout.specs.View.{View, IsView}
+use Rattle.ndarray_layout.specs.View.{View, IsPlace, IsView}
 use Rattle.ndarray_layout.proofs.CroppedAxes.{Ranges, all_moved, cropped_sources, moved_starts_within, offset_as_sliced}
 use Rattle.ndarray_layout.proofs.laws.KeepsPlaces.{Descends-told}
 use Rattle.ndarray_layout.proofs.laws.Sources.{Descends-own_sources, HasOwnSources, at_least, filled-IsView, start_within}
@@ -65,7 +65,7 @@ module _ (starts ends : List ℕ) (view : View) (v : IsView view) (fit : RangesF
   )
 
   -- what is kept begins at a place
-  pub cropped_start_within : (pos 0 ≤ℤ cropped_start starts ends view) × (cropped_start starts ends view ≤ℤ pos limit)
+  pub cropped_start_within : IsPlace (cropped_start starts ends view)
   cropped_start_within = start_within v own.sources
 
   pub start-cropped_of : pos (cropped_of starts ends view).start ≡ cropped_start starts ends view

@@ -1,5 +1,5 @@
 -- Laws of views with an axis backwards.
-use Rattle.std.proofs.Common.{◌≡◌, ◌≢◌, ◌⊎◌, ℕ, ◌+◌, ◌-◌, ◌*◌, ◌<◌, ◌≤◌, ℤ, pos, negsuc, zero, suc, neg_ℤ, ◌+ℤ◌, ◌*ℤ◌, ◌≤ℤ◌, Bool, true, false, cond}
+use Rattle.std.proofs.Common.{◌≡◌, ◌≢◌, ◌⊎◌, ℕ, ◌+◌, ◌-◌, ◌*◌, ◌<◌, ◌≤◌, ℤ, pos, negsuc, zero, suc, neg_ℤ, ◌+ℤ◌, ◌*ℤ◌, Bool, true, false, cond}
 use Rattle.std.proofs.Common.{None, Some, List, length, get_or, set, refl, sym, ap, ◌∙◌, inl, inr, arith}
 use Rattle.std.specs.Ordering.{int_eq}
 use Rattle.std.specs.Prelude.{nat_lt}
@@ -14,7 +14,7 @@ use Rattle.nd_base.proofs.laws.Span.{reach_le_span}
 use Rattle.nd_base.proofs.laws.Times.{times_sum}
 use Rattle.ndarray_layout.specs.Descends.{Descends}
 use Rattle.ndarray_layout.specs.InvertedView.{invert_fault, opposite_stride, inverted_start, inverted_of, invert_source}
-use Rattle.ndarray_layout.specs.View.{View, IsView}
+use Rattle.ndarray_layout.specs.View.{View, IsPlace, IsView}
 use Rattle.ndarray_layout.proofs.AxisByAxis.{AxisHasSources}
 use Rattle.ndarray_layout.proofs.OneAxis.{set_axis}
 use Rattle.ndarray_layout.proofs.laws.Sources.{Descends-own_sources, HasOwnSources, start_within}
@@ -98,7 +98,7 @@ module _ (axis : ℕ) (view : View) (v : IsView view) (there : axis < length vie
       (record { counts = v.valid.same_count; there = there }) backwards (λ i j below also same. omega arith))
 
   -- the last coordinate has a place
-  pub inverted_start_within : (pos 0 ≤ℤ inverted_start axis view) × (inverted_start axis view ≤ℤ pos limit)
+  pub inverted_start_within : IsPlace (inverted_start axis view)
   inverted_start_within = start_within v own.sources
 
   pub start-inverted_of : pos (inverted_of axis view).start ≡ inverted_start axis view

@@ -69,13 +69,13 @@ pub places_from_0 : (order : Order) {view : View} → IsView view → All (λ pl
 places_from_0 order {view} v =
     let indices = indices_in order view.shape in
     All-map (λ place. pos 0 ≤ℤ place) (place view.start view.strides) indices
-    (All-weaker (λ index. is_index view.shape index ≡ true) (λ index. pos 0 ≤ℤ place_at view index) (λ index h. (view_place index v h).low)
+    (All-weaker (λ index. is_index view.shape index ≡ true) (λ index. pos 0 ≤ℤ place_at view index) (λ index h. (view_place index v h).0)
     indices (All-indices_in order view.shape))
 
 pub places_fit : (order : Order) {view : View} → IsView view → All (IsInBounds (2 ^ 63)) (view_places order view)
 places_fit order {view} v = places_lie_within (2 ^ 63) order view (λ index is.
     let here = view_place index v is in
-    in_bounds_from (2 ^ 63) (place_at view index) here.low (omega (arith, ints, here.high)))
+    in_bounds_from (2 ^ 63) (place_at view index) here.0 (omega (arith, ints, here.1)))
 
 -- ---- the rows of a view
 -- those from places on

@@ -1,9 +1,9 @@
 -- Laws of slices of views: a slice is a view of the same data, whose indices lie where those that they stand for do.
-use Rattle.std.proofs.Common.{◌≡◌, ℕ, pos, ◌≤ℤ◌, Option, Some, None, Bool, true, false, cond, eqb, List, length, refl, ◌∙◌}
+use Rattle.std.proofs.Common.{◌≡◌, ℕ, pos, Option, Some, None, Bool, true, false, cond, eqb, List, length, refl, ◌∙◌}
 use Rattle.std.proofs.lemmas.Bool.{cond-true, eq-eqb, eqb-true}
 use Rattle.nd_base.specs.declared.error.ErrorKind.{ErrorKind}
 use Rattle.nd_base.specs.declared.error.ErrorKind.TheVariants.{IncompatibleShape}
-use Rattle.nd_base.proofs.laws.Definitions.{IsCount, limit}
+use Rattle.nd_base.proofs.laws.Definitions.{IsCount}
 use Rattle.nd_slice.specs.declared.fit.Fit.{Fit}
 use Rattle.nd_slice.specs.declared.elem.SliceInfoElem.{SliceInfoElem}
 use Rattle.nd_slice.specs.SliceFault.{in_count, out_count, first_fault, argument_fault}
@@ -13,7 +13,7 @@ use Rattle.nd_slice.specs.SlicedLayout.{sliced_offset, sliced_shape, sliced_stri
 use Rattle.nd_slice.proofs.laws.SliceFault.{elements_of_no_fault}
 use Rattle.ndarray_layout.specs.Descends.{Descends}
 use Rattle.ndarray_layout.specs.SlicedView.{slice_of, sliced_start, view_slice_fault}
-use Rattle.ndarray_layout.specs.View.{View, IsView}
+use Rattle.ndarray_layout.specs.View.{View, IsPlace, IsView}
 use Rattle.ndarray_layout.proofs.laws.Sources.{Descends-own_sources, HasOwnSources, start_within}
 use Rattle.ndarray_layout.proofs.Slices.{sliced_sources}
 use Rattle.nd_base.proofs.laws.Signed.{magnitude_from}
@@ -67,7 +67,7 @@ module _ (fit : Fit) (elems : List SliceInfoElem) (view : View) (v : IsView view
       sliced_sources fit elems view.shape view.strides v.valid.same_count fits.0 fits.1
 
   -- the slice begins at a place
-  pub sliced_start_within : (pos 0 ≤ℤ sliced_start fit elems view) × (sliced_start fit elems view ≤ℤ pos limit)
+  pub sliced_start_within : IsPlace (sliced_start fit elems view)
   sliced_start_within = start_within v own.sources
 
   pub start-slice_of : pos (slice_of fit elems view).start ≡ sliced_start fit elems view

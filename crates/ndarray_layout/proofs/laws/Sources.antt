@@ -1,7 +1,7 @@
 -- Laws of layouts whose indices lie where indices of another layout do, their sources: what each step from view to view proves of
 -- itself, and what follows. The reach is read off the indices. So that an empty shape has some too, a length of 0 counts as 1 there,
 -- as in spans.
-use Rattle.std.proofs.Common.{◌≡◌, ℕ, zero, suc, ◌+◌, ◌-◌, ◌*◌, ◌<◌, ◌≤◌, ℤ, pos, negsuc, ◌+ℤ◌, ◌≤ℤ◌, true, false, List, [], ◌∷◌, length, map}
+use Rattle.std.proofs.Common.{◌≡◌, ℕ, zero, suc, ◌+◌, ◌-◌, ◌*◌, ◌<◌, ◌≤◌, ℤ, pos, negsuc, ◌+ℤ◌, true, false, List, [], ◌∷◌, length, map}
 use Rattle.std.proofs.Common.{Bool, cond, get_or, replicate, refl, sym, ap, subst, ◌∙◌, arith, inl, inr}
 use Rattle.std.specs.Prelude.{max}
 use Rattle.std.specs.Cmp.Lexicographic.{bytes_decides}
@@ -25,7 +25,7 @@ use Rattle.nd_base.proofs.laws.Span.{low_high_span}
 use Rattle.ndarray_layout.specs.BlocksView.{strides_of_blocks}
 use Rattle.ndarray_layout.specs.Descends.{Descends, IsViewOf}
 use Rattle.ndarray_layout.specs.KeepsPlaces.{KeepsPlaces}
-use Rattle.ndarray_layout.specs.View.{View, IsView}
+use Rattle.ndarray_layout.specs.View.{View, IsPlace, IsView}
 use Rattle.ndarray_layout.proofs.laws.KeepsPlaces.{Descends-kept, IsViewOf-kept}
 use Rattle.ndarray_layout.proofs.laws.View.{IsView-within, view_place}
 
@@ -108,8 +108,8 @@ IsView-from_places source {view} {new} v counts fits some keeps =
     let last = keeps greatest.0 greatest.1 in
     let lowest = view_place (source least.0) v first.0 in
     let highest = view_place (source greatest.0) v last.0 in
-    let low : low_span new.shape new.strides ≤ new.start = omega (arith, ints, first.1, least.2, lowest.low) in
-    let high : new.start + high_span new.shape new.strides ≤ limit = omega (arith, ints, last.1, greatest.2, highest.high) in
+    let low : low_span new.shape new.strides ≤ new.start = omega (arith, ints, first.1, least.2, lowest.0) in
+    let high : new.start + high_span new.shape new.strides ≤ limit = omega (arith, ints, last.1, greatest.2, highest.1) in
     record {
       valid = record { same_count = counts; size_fits = fits; span_fits = omega (arith, low_high_span new.shape new.strides, low, high) };
       low = low;
@@ -209,14 +209,14 @@ nonzero_size-own_sources {source} {old} {new = new} own =
 module _ {source : List ℕ → List ℕ} {view : View} {moved : ℤ} {new : List ℕ} {strides : List ℤ} (v : IsView view)
     (is : HasSources source view.shape view.strides moved new strides) where
   -- the first index has a place
-  pub start_within : (pos 0 ≤ℤ (pos view.start +ℤ moved)) × ((pos view.start +ℤ moved) ≤ℤ pos limit)
+  pub start_within : IsPlace (pos view.start +ℤ moved)
   start_within =
       let zeros : List ℕ = replicate (length (at_least 1 new)) 0 in
       let here = is_index-zeros (at_least 1 new) (some-at_least new) in
       let there = view_place (source zeros) (filled-IsView v) (is.within 1 zeros (omega arith) here) in
       let lies = is.offset zeros here in
       let first = offset_of-zeros strides (length (at_least 1 new)) in
-      (omega (arith, ints, there.low, lies, first), omega (arith, ints, there.high, lies, first))
+      (omega (arith, ints, there.0, lies, first), omega (arith, ints, there.1, lies, first))
 
   -- from there on it is a view of the same data, where its size fits
   module _ {start : ℕ} (begins : pos start ≡ pos view.start +ℤ moved) where

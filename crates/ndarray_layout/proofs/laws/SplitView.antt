@@ -1,19 +1,19 @@
 -- Laws of the two parts of a view that is split along an axis: each index of the view is of one of them, and they lie apart.
-use Rattle.std.proofs.Common.{◌≡◌, ◌⊎◌, ℕ, ◌+◌, ◌-◌, ◌<◌, ◌≤◌, ℤ, pos, ◌+ℤ◌, ◌*ℤ◌, ◌≤ℤ◌, Bool, true, false, cond, None, Some, List, length}
+use Rattle.std.proofs.Common.{◌≡◌, ◌⊎◌, ℕ, ◌+◌, ◌-◌, ◌<◌, ◌≤◌, ℤ, pos, ◌+ℤ◌, ◌*ℤ◌, Bool, true, false, cond, None, Some, List, length}
 use Rattle.std.proofs.Common.{get_or, set, refl, sym, ap, subst, ◌∙◌, inl, inr, arith}
 use Rattle.std.specs.Prelude.{◌&&◌, nat_le, nat_lt}
 use Rattle.std.proofs.lemmas.Bool.{and_from, and_parts, cases_lt, le-leb, leb-true, lt-ltb, ltb-true}
 use Rattle.std.proofs.lemmas.List.{get_or-set_same, length-set, set-get_or, set-set}
 use Rattle.nd_base.specs.declared.error.ErrorKind.TheVariants.{OutOfBounds}
 use Rattle.nd_base.proofs.laws.Coordinates.{is_index-set}
-use Rattle.nd_base.proofs.laws.Definitions.{is_index, limit}
+use Rattle.nd_base.proofs.laws.Definitions.{is_index}
 use Rattle.nd_base.proofs.laws.IsIndex.{coordinate_of_index, length_of_index}
 use Rattle.nd_base.proofs.laws.Signed.{magnitude_from}
 use Rattle.ndarray_layout.specs.Descends.{Descends}
 use Rattle.ndarray_layout.specs.DistinctPlaces.{HasDistinctPlaces}
 use Rattle.ndarray_layout.specs.SharePlace.{SharePlace}
 use Rattle.ndarray_layout.specs.SplitView.{split_fault, first_part_of, second_start, second_part_of, second_source}
-use Rattle.ndarray_layout.specs.View.{View, IsView}
+use Rattle.ndarray_layout.specs.View.{View, IsPlace, IsView}
 use Rattle.ndarray_layout.proofs.AxisByAxis.{first_coordinates, range_cases, range_of, range_start}
 use Rattle.ndarray_layout.proofs.OneAxis.{HasAxis, first_coordinate, set_axis}
 use Rattle.ndarray_layout.proofs.laws.KeepsPlaces.{Descends-told}
@@ -76,7 +76,7 @@ module _ (axis index : ℕ) (view : View) (v : IsView view) (none : split_fault 
       by true = refl
       by false = sym (first_coordinate view.start stride)
 
-  pub second_start_within : (pos 0 ≤ℤ second_start axis index view) × (second_start axis index view ≤ℤ pos limit)
+  pub second_start_within : IsPlace (second_start axis index view)
   second_start_within = rw begins (start_within v second.sources)
 
   pub start-second_part_of : pos (second_part_of axis index view).start ≡ second_start axis index view

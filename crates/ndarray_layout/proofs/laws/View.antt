@@ -1,5 +1,5 @@
 -- Laws of views: each index of the shape has a place; how many places there are, in which order, and where they lie.
-use Rattle.std.proofs.Common.{◌≡◌, ℕ, ◌+◌, ◌<◌, ◌≤◌, ◌^◌, ℤ, pos, ◌+ℤ◌, ◌≤ℤ◌, Bool, true, false, cond, Some, None, List, [], ◌∷◌}
+use Rattle.std.proofs.Common.{◌≡◌, ℕ, ◌+◌, ◌<◌, ◌≤◌, ◌^◌, ℤ, pos, ◌+ℤ◌, Bool, true, false, cond, Some, None, List, [], ◌∷◌}
 use Rattle.std.proofs.Common.{length, map, refl, sym, ap, subst, ◌∙◌, arith}
 use Rattle.std.specs.Prelude.{slice_get, slice_index}
 use Rattle.std.specs.Option.{option_map}
@@ -17,7 +17,7 @@ use Rattle.nd_base.proofs.laws.NonzeroSize.{length_le_nonzero_size, size_le_nonz
 use Rattle.nd_base.proofs.laws.FlatIndex.{slice_get-indices_in}
 use Rattle.nd_base.proofs.laws.Offset.{offset_bounds}
 use Rattle.nd_base.proofs.laws.Span.{low_high_span}
-use Rattle.ndarray_layout.specs.View.{View, IsView, LiesWithin, place_at, view_places}
+use Rattle.ndarray_layout.specs.View.{View, IsPlace, IsView, LiesWithin, place_at, view_places}
 
 -- a layout from its lowest element on
 pub lowest_view : {shape : List ℕ} {strides : List ℤ} → IsValidLayout shape strides
@@ -46,14 +46,10 @@ IsView-within {view} {new} v counts fits low high =
     }
 
 -- the place of an index
-pub record HasPlace (view : View) (index : List ℕ) : Type 0 where
-  pub low : pos 0 ≤ℤ place_at view index
-  pub high : place_at view index ≤ℤ pos limit
-
-pub view_place : {view : View} (index : List ℕ) → IsView view → is_index view.shape index ≡ true → HasPlace view index
+pub view_place : {view : View} (index : List ℕ) → IsView view → is_index view.shape index ≡ true → IsPlace (place_at view index)
 view_place {view} index v h =
     let offset = offset_bounds view.shape view.strides index h v.valid.same_count in
-    record { low = omega (arith, ints, offset.0, v.low); high = omega (arith, ints, offset.1, v.high) }
+    (omega (arith, ints, offset.0, v.low), omega (arith, ints, offset.1, v.high))
 
 -- an offset that is given is that of an index
 pub some_offset : (shape : List ℕ) (strides : List ℤ) (index : List ℕ) {offset : ℤ} → Some offset ≡ checked_offset shape strides index
@@ -67,12 +63,11 @@ some_offset shape strides index {offset} e = by (is_index shape index) refl e
 
 -- the place at an offset that is given
 pub offset_place_within : {view : View} (index : List ℕ) {offset : ℤ} → IsView view
-    → Some offset ≡ checked_offset view.shape view.strides index
-    → (pos 0 ≤ℤ (pos view.start +ℤ offset)) × ((pos view.start +ℤ offset) ≤ℤ pos limit)
+    → Some offset ≡ checked_offset view.shape view.strides index → IsPlace (pos view.start +ℤ offset)
 offset_place_within {view} index v e =
     let some = some_offset view.shape view.strides index e in
     let here = view_place index v some.0 in
-    (rw some.1 here.low, rw some.1 here.high)
+    rw some.1 here
 
 -- the size of a view fits a word
 pub size_fits : {view : View} → IsView view → size view.shape < 2 ^ 64

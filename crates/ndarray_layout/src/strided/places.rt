@@ -1,13 +1,13 @@
 //! The place of an index of a view, and a list of the places of all.
 ghost use Rattle.std.specs.List.{All};
 ghost use Rattle.std.specs.Option.{option_map};
-ghost use Rattle.std.specs.Prelude.{◌≡◌, ◌+◌, ◌<◌, ◌≤◌, ◌^◌, pos, ◌+ℤ◌, ◌*ℤ◌, ◌≤ℤ◌, ◌++◌, map, length, vec_len, vec_capacity, ℕ, IfOk, IsOk, Some, slice_get};
+ghost use Rattle.std.specs.Prelude.{◌≡◌, ◌+◌, ◌<◌, ◌≤◌, ◌^◌, pos, ◌+ℤ◌, ◌*ℤ◌, ◌++◌, map, length, vec_len, vec_capacity, ℕ, IfOk, IsOk, Some, slice_get};
 ghost use Rattle.nd_base.specs.FlatIndex.{index_of_flat_in};
 ghost use Rattle.nd_base.specs.Bounds.{IsInBounds};
 ghost use Rattle.nd_base.specs.Signed.{signed as signed_reading};
 ghost use Rattle.nd_base.specs.Size.{size, limit};
 ghost use Rattle.ndarray_layout.specs.Rows.{row_places, rows_places};
-ghost use Rattle.ndarray_layout.specs.View.{checked_place, view_places, LiesWithin, place_at};
+ghost use Rattle.ndarray_layout.specs.View.{IsPlace, checked_place, view_places, LiesWithin, place_at};
 
 use crate::strided::Strided;
 use crate::strided::rows::{Row, Rows};
@@ -53,8 +53,7 @@ fn push_row(mut places: Vec<usize>, row: Row) -> Vec<usize>
 pub(super) fn place_along_axis(start: usize, i: usize, stride: usize) -> usize
     requires small { i < 2 ^ 63 }
     requires first { start ≤ limit }
-    requires low { pos 0 ≤ℤ (pos start +ℤ (pos i *ℤ signed_reading stride)) }
-    requires high { (pos start +ℤ (pos i *ℤ signed_reading stride)) ≤ℤ pos limit }
+    requires there { IsPlace (pos start +ℤ (pos i *ℤ signed_reading stride)) }
     ensures { pos result ≡ pos start +ℤ (pos i *ℤ signed_reading stride) }
 {
     offset_place(start, stride_offset(i, stride))
@@ -65,8 +64,7 @@ pub(super) fn place_along_axis(start: usize, i: usize, stride: usize) -> usize
 #[inline]
 pub(super) fn offset_place(start: usize, offset: isize) -> usize
     requires first { start ≤ limit }
-    requires low { pos 0 ≤ℤ (pos start +ℤ offset) }
-    requires high { (pos start +ℤ offset) ≤ℤ pos limit }
+    requires there { IsPlace (pos start +ℤ offset) }
     ensures { pos result ≡ pos start +ℤ offset }
 {
     (start as isize + offset) as usize

@@ -1,12 +1,12 @@
 -- What was written is the collapse of the view, and so all that is known of collapses holds of it.
-use Rattle.std.proofs.Common.{rules, ◌≡◌, None, FitsSigned, pos, ◌+ℤ◌, ◌*ℤ◌, ◌≤ℤ◌, get_or, ap, ◌∙◌, refl}
+use Rattle.std.proofs.Common.{rules, ◌≡◌, None, FitsSigned, pos, ◌+ℤ◌, ◌*ℤ◌, get_or, ap, ◌∙◌, refl}
 use Rattle.std.specs.Int.{w64}
 use Rattle.std.proofs.Math.ListN.{get_or-map}
 use Rattle.std.proofs.lemmas.Int.{to_z-of_z}
-use Rattle.nd_base.proofs.laws.Definitions.{magnitude, signed, limit}
+use Rattle.nd_base.proofs.laws.Definitions.{magnitude, signed}
 use Rattle.ndarray_layout.specs.CollapsedView.{collapse_fault, collapse_of, collapse_source}
 use Rattle.ndarray_layout.specs.Descends.{Descends}
-use Rattle.ndarray_layout.specs.View.{View, view_of}
+use Rattle.ndarray_layout.specs.View.{IsPlace, View, view_of}
 use Rattle.ndarray_layout.proofs.laws.CollapsedView.{collapsed_start_within, Descends-collapse_of}
 use Rattle.ndarray_layout.proofs.strided.Strided.collapse.Given.{Over}
 use Rattle.ndarray_layout.proofs.strided.Strided.collapse.Goals.{After-do_collapse_axis-offset, After-offset_place-self-inside}
@@ -29,19 +29,13 @@ moved g c =
 
 -- so the first index that is left has a place
 within : (g : Over) (c : After-do_collapse_axis-offset g)
-    → (pos 0 ≤ℤ (pos c.self.inside.start +ℤ c.do_collapse_axis-offset.result))
-    × ((pos c.self.inside.start +ℤ c.do_collapse_axis-offset.result) ≤ℤ pos limit)
+    → IsPlace (pos c.self.inside.start +ℤ c.do_collapse_axis-offset.result)
 within g c = rw (moved g c) (collapsed_start_within c.args.axis.0 c.args.index (here g c) c.self.invariant (fits g c))
 
-pub offset_place-self-inside-requires-clause-low : goal.offset_place-self-inside-requires-clause-low
-offset_place-self-inside-requires-clause-low g c =
+pub offset_place-self-inside-requires-clause-there : goal.offset_place-self-inside-requires-clause-there
+offset_place-self-inside-requires-clause-there g c =
     let f : FitsSigned w64 c.do_collapse_axis-offset.result = search rules in
-    rw (to_z-of_z w64 c.do_collapse_axis-offset.result f) (within g c).0
-
-pub offset_place-self-inside-requires-clause-high : goal.offset_place-self-inside-requires-clause-high
-offset_place-self-inside-requires-clause-high g c =
-    let f : FitsSigned w64 c.do_collapse_axis-offset.result = search rules in
-    rw (to_z-of_z w64 c.do_collapse_axis-offset.result f) (within g c).1
+    rw (to_z-of_z w64 c.do_collapse_axis-offset.result f) (within g c)
 
 abbrev written : (g : Over) → After-offset_place-self-inside g → View
 written g c = view_of c.offset_place-self-inside.result (g.D.Lengths.list c.do_collapse_axis-offset.new.dims)

@@ -1,11 +1,11 @@
 -- What was written is the view of the ranges.
-use Rattle.std.proofs.Common.{rules, ◌≡◌, FitsSigned, pos, ◌+ℤ◌, ◌≤ℤ◌, length, ap, ◌∙◌, refl}
+use Rattle.std.proofs.Common.{rules, ◌≡◌, FitsSigned, pos, ◌+ℤ◌, length, ap, ◌∙◌, refl}
 use Rattle.std.specs.Int.{w64}
 use Rattle.std.proofs.lemmas.Int.{to_z-of_z}
-use Rattle.nd_base.proofs.laws.Definitions.{limit, magnitude, offset_of}
+use Rattle.nd_base.proofs.laws.Definitions.{magnitude, offset_of}
 use Rattle.ndarray_layout.specs.CroppedView.{RangesFit, moved_starts, cropped_of, crop_source}
 use Rattle.ndarray_layout.specs.Descends.{Descends}
-use Rattle.ndarray_layout.specs.View.{View, view_of}
+use Rattle.ndarray_layout.specs.View.{IsPlace, View, view_of}
 use Rattle.ndarray_layout.proofs.laws.CroppedView.{cropped_start_within, moved_small, moved_far, Descends-cropped_of}
 use Rattle.ndarray_layout.proofs.strided.Strided.crop.Given.{Over}
 use Rattle.ndarray_layout.proofs.strided.Strided.crop.Goals as goal
@@ -46,21 +46,15 @@ offset : (g : Over) (c : After-index_offset-offset g)
 offset g c = rw (moved g c.before, c.slice-6.ensures.list) at c.index_offset-offset.ensures
 
 within : (g : Over) (c : After-index_offset-offset g)
-    → (pos 0 ≤ℤ (pos c.self.inside.start +ℤ c.index_offset-offset.result))
-    × ((pos c.self.inside.start +ℤ c.index_offset-offset.result) ≤ℤ pos limit)
+    → IsPlace (pos c.self.inside.start +ℤ c.index_offset-offset.result)
 within g c =
     rw (offset g c) (cropped_start_within (g.D.Lengths.list c.args.starts.now) (g.D.Lengths.list c.args.ends.now) (here g c.before)
     c.self.invariant (fit g c.before))
 
-pub offset_place-start-requires-clause-low : goal.offset_place-start-requires-clause-low
-offset_place-start-requires-clause-low g c =
+pub offset_place-start-requires-clause-there : goal.offset_place-start-requires-clause-there
+offset_place-start-requires-clause-there g c =
     let f : FitsSigned w64 c.index_offset-offset.result = search rules in
-    rw (to_z-of_z w64 c.index_offset-offset.result f) (within g c).0
-
-pub offset_place-start-requires-clause-high : goal.offset_place-start-requires-clause-high
-offset_place-start-requires-clause-high g c =
-    let f : FitsSigned w64 c.index_offset-offset.result = search rules in
-    rw (to_z-of_z w64 c.index_offset-offset.result f) (within g c).1
+    rw (to_z-of_z w64 c.index_offset-offset.result f) (within g c)
 
 abbrev written : (g : Over) → After-offset_place-start g → View
 written g c = view_of c.offset_place-start.result (g.D.Lengths.list (g.D.Lengths.with_list c.args.ends.now c.subtract_starts.new.ends))

@@ -1,10 +1,10 @@
 -- What was written is the view at the coordinate.
-use Rattle.std.proofs.Common.{◌≡◌, None, pos, ◌+ℤ◌, ◌*ℤ◌, ◌≤ℤ◌, get_or, ap, ◌∙◌, refl}
-use Rattle.nd_base.proofs.laws.Definitions.{limit, magnitude, signed}
+use Rattle.std.proofs.Common.{◌≡◌, None, pos, ◌+ℤ◌, ◌*ℤ◌, get_or, ap, ◌∙◌, refl}
+use Rattle.nd_base.proofs.laws.Definitions.{magnitude, signed}
 use Rattle.ndarray_layout.specs.CollapsedView.{collapse_fault}
 use Rattle.ndarray_layout.specs.Descends.{Descends}
 use Rattle.ndarray_layout.specs.IndexedView.{indexed_of, index_source}
-use Rattle.ndarray_layout.specs.View.{View, view_of}
+use Rattle.ndarray_layout.specs.View.{IsPlace, View, view_of}
 use Rattle.ndarray_layout.proofs.OneAxis.{stride_read}
 use Rattle.ndarray_layout.proofs.OneAxis.{map-remove}
 use Rattle.ndarray_layout.proofs.laws.CollapsedView.{collapsed_start_within}
@@ -28,19 +28,15 @@ along g c =
 
 -- so what is left begins at a place
 within : (g : Over) (c : After-axis_of-stride g)
-    → (pos 0 ≤ℤ (pos c.self.inside.start +ℤ (pos c.args.index *ℤ signed c.axis_of-stride.result)))
-    × ((pos c.self.inside.start +ℤ (pos c.args.index *ℤ signed c.axis_of-stride.result)) ≤ℤ pos limit)
+    → IsPlace (pos c.self.inside.start +ℤ (pos c.args.index *ℤ signed c.axis_of-stride.result))
 within g c = rw (along g c) (collapsed_start_within c.args.axis.0 c.args.index (here g c) c.self.invariant (fits g c))
 
 pub place_along_axis-start-requires-clause-small : goal.place_along_axis-start-requires-clause-small
 place_along_axis-start-requires-clause-small g c =
     index_small c.args.axis.0 c.args.index (here g c) c.self.invariant (fits g c)
 
-pub place_along_axis-start-requires-clause-low : goal.place_along_axis-start-requires-clause-low
-place_along_axis-start-requires-clause-low g c = (within g c).0
-
-pub place_along_axis-start-requires-clause-high : goal.place_along_axis-start-requires-clause-high
-place_along_axis-start-requires-clause-high g c = (within g c).1
+pub place_along_axis-start-requires-clause-there : goal.place_along_axis-start-requires-clause-there
+place_along_axis-start-requires-clause-there g c = within g c
 
 abbrev written : (g : Over) → After-place_along_axis-start g → View
 written g c =

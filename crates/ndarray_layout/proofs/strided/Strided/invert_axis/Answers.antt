@@ -1,11 +1,11 @@
 -- What was written is the view with the axis backwards.
-use Rattle.std.proofs.Common.{rules, ◌≡◌, ◌-◌, ◌<◌, length, set, pos, ◌+ℤ◌, ◌*ℤ◌, ◌≤ℤ◌, get_or, ap, ◌∙◌, arith, refl}
+use Rattle.std.proofs.Common.{rules, ◌≡◌, ◌-◌, ◌<◌, length, set, pos, ◌+ℤ◌, ◌*ℤ◌, get_or, ap, ◌∙◌, arith, refl}
 use Rattle.std.proofs.lemmas.List.{length-set, map-set}
-use Rattle.nd_base.proofs.laws.Definitions.{limit, magnitude, signed}
+use Rattle.nd_base.proofs.laws.Definitions.{magnitude, signed}
 use Rattle.nd_base.proofs.laws.NonzeroSize.{length_le_nonzero_size}
 use Rattle.ndarray_layout.specs.Descends.{Descends}
 use Rattle.ndarray_layout.specs.InvertedView.{inverted_of, invert_source, opposite_stride}
-use Rattle.ndarray_layout.specs.View.{View, view_of}
+use Rattle.ndarray_layout.specs.View.{IsPlace, View, view_of}
 use Rattle.ndarray_layout.proofs.OneAxis.{length_read, stride_read}
 use Rattle.ndarray_layout.proofs.laws.InvertedView.{inverted_start_within, Descends-inverted_of}
 use Rattle.ndarray_layout.proofs.strided.Strided.invert_axis.Given.{Over}
@@ -31,19 +31,15 @@ last g c = c.saturating_sub.ensures ∙ ap (λ len. len - 1) (len_is g c)
 
 -- the last coordinate has a place
 within : (g : Over) (c : After-saturating_sub g)
-    → (pos 0 ≤ℤ (pos c.self.inside.start +ℤ (pos c.saturating_sub.result *ℤ signed c.axis_of-stride.result)))
-    × ((pos c.self.inside.start +ℤ (pos c.saturating_sub.result *ℤ signed c.axis_of-stride.result)) ≤ℤ pos limit)
+    → IsPlace (pos c.self.inside.start +ℤ (pos c.saturating_sub.result *ℤ signed c.axis_of-stride.result))
 within g c = rw (last g c, stride_is g c) (inverted_start_within c.args.axis.0 (here g c) c.self.invariant (there g c))
 
 pub place_along_axis-self-inside-requires-clause-small : goal.place_along_axis-self-inside-requires-clause-small
 place_along_axis-self-inside-requires-clause-small g c =
     omega (arith, last g c, length_le_nonzero_size (here g c).shape c.args.axis.0, c.self.invariant.valid.size_fits)
 
-pub place_along_axis-self-inside-requires-clause-low : goal.place_along_axis-self-inside-requires-clause-low
-place_along_axis-self-inside-requires-clause-low g c = (within g c).0
-
-pub place_along_axis-self-inside-requires-clause-high : goal.place_along_axis-self-inside-requires-clause-high
-place_along_axis-self-inside-requires-clause-high g c = (within g c).1
+pub place_along_axis-self-inside-requires-clause-there : goal.place_along_axis-self-inside-requires-clause-there
+place_along_axis-self-inside-requires-clause-there g c = within g c
 
 abbrev written : (g : Over) → After-place_along_axis-self-inside g → View
 written g c = view_of c.place_along_axis-self-inside.result (g.D.Lengths.list c.self.inside.dim)

@@ -1,13 +1,13 @@
 -- What was written is the slice of the view, and so all that is known of slices holds of it.
-use Rattle.std.proofs.Common.{rules, ◌≡◌, None, FitsSigned, pos, ◌+ℤ◌, ◌≤ℤ◌, sym, ap, ◌∙◌, refl}
+use Rattle.std.proofs.Common.{rules, ◌≡◌, None, FitsSigned, pos, ◌+ℤ◌, sym, ap, ◌∙◌, refl}
 use Rattle.std.specs.Int.{w64}
 use Rattle.std.proofs.lemmas.Int.{to_z-of_z}
-use Rattle.nd_base.proofs.laws.Definitions.{magnitude, limit}
+use Rattle.nd_base.proofs.laws.Definitions.{magnitude}
 use Rattle.nd_slice.specs.SliceFault.{argument_fault}
 use Rattle.nd_slice.specs.Selected.{selected}
 use Rattle.ndarray_layout.specs.Descends.{Descends}
 use Rattle.ndarray_layout.specs.SlicedView.{slice_of}
-use Rattle.ndarray_layout.specs.View.{View, view_of}
+use Rattle.ndarray_layout.specs.View.{IsPlace, View, view_of}
 use Rattle.ndarray_layout.proofs.laws.SlicedView.{no_argument_fault, sliced_start_within, Descends-slice_of}
 use Rattle.ndarray_layout.proofs.strided.Strided.slice.Given.{Over}
 use Rattle.ndarray_layout.proofs.strided.Strided.slice.Goals as goal
@@ -24,8 +24,7 @@ fits g c =
     no_argument_fault c.args.fit g.E.FixedCount.NDIM _ _ none
 
 -- the first index that is left lies so far from the first of the view
-moved : (g : Over) (c : After-struct_told-1 g)
-    → (pos 0 ≤ℤ (pos c.self.inside.start +ℤ c.in_ok-dim.offset)) × ((pos c.self.inside.start +ℤ c.in_ok-dim.offset) ≤ℤ pos limit)
+moved : (g : Over) (c : After-struct_told-1 g) → IsPlace (pos c.self.inside.start +ℤ c.in_ok-dim.offset)
 moved g c =
     rw (c.in_ok-dim.ensures.offset, c.slice-shape.ensures.list, c.slice-strides.ensures.list, c.elems.ensures)
     (sliced_start_within c.args.fit (g.S.SliceElems.list c.args.slices.now) (here g c) c.self.invariant (fits g c))
@@ -36,15 +35,10 @@ returns-clause-fault g c = search rules
 pub returns-clause-memory : goal.returns-clause-memory
 returns-clause-memory g c = λ fits few. search rules
 
-pub offset_place-start-requires-clause-low : goal.offset_place-start-requires-clause-low
-offset_place-start-requires-clause-low g c =
+pub offset_place-start-requires-clause-there : goal.offset_place-start-requires-clause-there
+offset_place-start-requires-clause-there g c =
     let f : FitsSigned w64 c.in_ok-dim.offset = search rules in
-    rw (to_z-of_z w64 c.in_ok-dim.offset f) (moved g c).0
-
-pub offset_place-start-requires-clause-high : goal.offset_place-start-requires-clause-high
-offset_place-start-requires-clause-high g c =
-    let f : FitsSigned w64 c.in_ok-dim.offset = search rules in
-    rw (to_z-of_z w64 c.in_ok-dim.offset f) (moved g c).1
+    rw (to_z-of_z w64 c.in_ok-dim.offset f) (moved g c)
 
 -- the start, the shape and the strides that are written are those of the slice
 sliced : (g : Over) (c : After-offset_place-start g)

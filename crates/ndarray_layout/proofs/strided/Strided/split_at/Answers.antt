@@ -1,11 +1,11 @@
 -- What was written are the two parts of the view.
-use Rattle.std.proofs.Common.{◌≡◌, ℤ, None, pos, ◌+ℤ◌, ◌*ℤ◌, ◌≤ℤ◌, true, nat_lt, get_or, ap, sym, ◌∙◌, arith, refl}
+use Rattle.std.proofs.Common.{◌≡◌, ℤ, None, pos, ◌+ℤ◌, ◌*ℤ◌, true, nat_lt, get_or, ap, sym, ◌∙◌, arith, refl}
 use Rattle.std.proofs.lemmas.Bool.{cond-true, cond-false, lt-ltb, le-ltb}
-use Rattle.nd_base.proofs.laws.Definitions.{limit, magnitude, signed}
+use Rattle.nd_base.proofs.laws.Definitions.{magnitude, signed}
 use Rattle.nd_base.proofs.laws.NonzeroSize.{length_le_nonzero_size}
 use Rattle.ndarray_layout.specs.Descends.{Descends}
 use Rattle.ndarray_layout.specs.SplitView.{split_fault, first_part_of, second_part_of, second_source, second_start}
-use Rattle.ndarray_layout.specs.View.{View, view_of}
+use Rattle.ndarray_layout.specs.View.{IsPlace, View, view_of}
 use Rattle.ndarray_layout.proofs.OneAxis.{length_read, stride_read}
 use Rattle.ndarray_layout.proofs.laws.SplitView.{cut_of_no_fault, second_start_within, Descends-first_part_of, Descends-second_part_of}
 use Rattle.ndarray_layout.proofs.strided.Strided.split_at.Given.{Over}
@@ -38,8 +38,7 @@ begins g c =
     ∙ ap (λ stride. start +ℤ (pos c.args.index *ℤ stride)) (sym (stride_is g c))
 
 within : (g : Over) (c : Then-index-len g)
-    → (pos 0 ≤ℤ (pos c.self.inside.start +ℤ (pos c.args.index *ℤ signed c.axis_of-stride.result)))
-    × ((pos c.self.inside.start +ℤ (pos c.args.index *ℤ signed c.axis_of-stride.result)) ≤ℤ pos limit)
+    → IsPlace (pos c.self.inside.start +ℤ (pos c.args.index *ℤ signed c.axis_of-stride.result))
 within g c = rw (begins g c) at (second_start_within c.args.axis.0 c.args.index (here g c) c.self.invariant (fits g c))
 
 pub place_along_axis-start-requires-clause-small : goal.place_along_axis-start-requires-clause-small
@@ -47,11 +46,8 @@ place_along_axis-start-requires-clause-small g c =
     let below = c.if-index-len.true in
     omega (arith, len_is g c, length_le_nonzero_size (here g c).shape c.args.axis.0, c.self.invariant.valid.size_fits)
 
-pub place_along_axis-start-requires-clause-low : goal.place_along_axis-start-requires-clause-low
-place_along_axis-start-requires-clause-low g c = (within g c).0
-
-pub place_along_axis-start-requires-clause-high : goal.place_along_axis-start-requires-clause-high
-place_along_axis-start-requires-clause-high g c = (within g c).1
+pub place_along_axis-start-requires-clause-there : goal.place_along_axis-start-requires-clause-there
+place_along_axis-start-requires-clause-there g c = within g c
 
 pub overflow_sub-len : goal.overflow_sub-len
 overflow_sub-len g c =

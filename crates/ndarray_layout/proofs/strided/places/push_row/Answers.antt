@@ -12,17 +12,11 @@ pub place_along_axis-requires-clause-first : goal.place_along_axis-requires-clau
 place_along_axis-requires-clause-first c =
     start_bound c.args.row.start c.args.row.stride c.args.row.len c.requires.in_bounds (omega arith)
 
-pub place_along_axis-requires-clause-low : goal.place_along_axis-requires-clause-low
-place_along_axis-requires-clause-low c =
+pub place_along_axis-requires-clause-there : goal.place_along_axis-requires-clause-there
+place_along_axis-requires-clause-there c =
     let row = c.args.row in
     let stride : signed c.unsigned-stride.result ≡ row.stride = omega (arith, ints, c.unsigned-stride.ensures.back) in
-    rw stride (place_bounds row.start row.stride row.len c.loop-i.i c.requires.in_bounds (omega arith)).0
-
-pub place_along_axis-requires-clause-high : goal.place_along_axis-requires-clause-high
-place_along_axis-requires-clause-high c =
-    let row = c.args.row in
-    let stride : signed c.unsigned-stride.result ≡ row.stride = omega (arith, ints, c.unsigned-stride.ensures.back) in
-    rw stride (place_bounds row.start row.stride row.len c.loop-i.i c.requires.in_bounds (omega arith)).1
+    rw stride (place_bounds row.start row.stride row.len c.loop-i.i c.requires.in_bounds (omega arith))
 
 pub loop-i-preserved : goal.loop-i-preserved
 loop-i-preserved c =

@@ -23,7 +23,7 @@ stride_offset-requires-clause-fits c =
     let more : 0 < c.args.number = omega (arith, c.if-number-eq0.false) in
     let last = last_within b more in
     let slower = slower_within b more in
-    omega (arith, ints, last.low, last.high, slower.low, slower.high, (offsets b more).0)
+    omega (arith, ints, last.0, last.1, slower.0, slower.1, (offsets b more).0)
 
 pub overflow_sub-offset : goal.overflow_sub-offset
 overflow_sub-offset c =
@@ -43,16 +43,16 @@ overflow_sub-offset c =
       c.stride_offset.ensures,
       both.0,
       both.1,
-      last.low,
-      last.high,
-      first.low,
-      first.high,
+      last.0,
+      last.1,
+      first.0,
+      first.1,
     )
 
 pub offset_place-requires-clause-first : goal.offset_place-requires-clause-first
 offset_place-requires-clause-first c =
     let more : 0 < c.args.number = omega (arith, c.if-number-eq0.false) in
-    omega (arith, ints, c.requires.last more, (last_within c.requires.column more).high)
+    omega (arith, ints, c.requires.last more, (last_within c.requires.column more).1)
 
 moved : (c : goal.After-stride_offset)
     → pos c.args.last +ℤ to_z w64 (of_z w64 (to_z w64 (of_z w64 c.offset_from_previous-offset.result) -ℤ to_z w64 (of_z w64 c.stride_offset.result)))
@@ -76,11 +76,10 @@ moved c =
       both.1,
     )
 
-pub offset_place-requires-clause-low : goal.offset_place-requires-clause-low
-offset_place-requires-clause-low c = omega (arith, ints, moved c, (first_within c.requires.column).low)
-
-pub offset_place-requires-clause-high : goal.offset_place-requires-clause-high
-offset_place-requires-clause-high c = omega (arith, ints, moved c, (first_within c.requires.column).high)
+pub offset_place-requires-clause-there : goal.offset_place-requires-clause-there
+offset_place-requires-clause-there c =
+    let first = first_within c.requires.column in
+    (omega (arith, ints, moved c, first.0), omega (arith, ints, moved c, first.1))
 
 pub returns : goal.returns
 returns c =
@@ -96,7 +95,7 @@ returns c =
     let on = c.offset_from_previous-offset.ensures in
     let offset = to_z w64 (of_z w64 c.offset_from_previous-offset.result) -ℤ to_z w64 (of_z w64 c.stride_offset.result) in
     let fits : FitsSigned w64 offset =
-    omega (arith, ints, is, gone, on, c.stride_offset.ensures, both.0, both.1, last.low, last.high, first.low, first.high) in
+    omega (arith, ints, is, gone, on, c.stride_offset.ensures, both.0, both.1, last.0, last.1, first.0, first.1) in
     omega (
       arith,
       ints,

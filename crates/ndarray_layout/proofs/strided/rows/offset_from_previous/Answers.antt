@@ -26,10 +26,10 @@ overflow_add-result c =
       ints,
       to_z-of_z w64 c.signed.result f,
       c.signed.ensures.same_bits,
-      first.low,
-      first.high,
-      then.low,
-      then.high,
+      first.0,
+      first.1,
+      then.0,
+      then.1,
       on,
       c.axes.invariant.before,
     )
@@ -56,7 +56,7 @@ stride_offset-offset-requires-clause-fits c =
     let o = at_end c.axes.invariant.later c.in-Some.axis c.in-Some.ensures (omega (arith, c.if-left-axis-gt0.false)) in
     let here = flat_within c.args.order c.axes.invariant.later.view (c.axes.left - 1) (omega (arith, c.axes.invariant.later.below)) in
     let then = back_within c.axes.invariant.later c.in-Some.axis c.in-Some.ensures o in
-    omega (arith, ints, here.low, here.high, then.low, then.high, (back c.axes.invariant.later c.in-Some.axis c.in-Some.ensures o).0)
+    omega (arith, ints, here.0, here.1, then.0, then.1, (back c.axes.invariant.later c.in-Some.axis c.in-Some.ensures o).0)
 
 pub overflow_sub-offset : goal.overflow_sub-offset
 overflow_sub-offset c =
@@ -69,10 +69,10 @@ overflow_sub-offset c =
       ints,
       to_z-of_z w64 c.stride_offset-offset.result f,
       c.stride_offset-offset.ensures,
-      first.low,
-      first.high,
-      then.low,
-      then.high,
+      first.0,
+      first.1,
+      then.0,
+      then.1,
       (back c.axes.invariant.later c.in-Some.axis c.in-Some.ensures o).0,
       c.axes.invariant.before,
     )
@@ -92,7 +92,7 @@ axes-preserved c =
           let is = to_z-of_z w64 w.stride_offset-offset.result f in
           let known = w.stride_offset-offset.ensures in
           let fits : FitsSigned w64 (to_z w64 c.axes.offset-bits -ℤ to_z w64 (of_z w64 w.stride_offset-offset.result)) =
-          omega (arith, ints, is, known, first.low, first.high, then.low, then.high, moved.0, c.axes.invariant.before) in
+          omega (arith, ints, is, known, first.0, first.1, then.0, then.1, moved.0, c.axes.invariant.before) in
           let now = to_z-of_z w64 (to_z w64 c.axes.offset-bits -ℤ to_z w64 (of_z w64 w.stride_offset-offset.result)) fits in
           rw (w.offset-is, w.left-is) (record {
             later = others_later c.axes.invariant.later c.in-Some.axis c.in-Some.ensures o;

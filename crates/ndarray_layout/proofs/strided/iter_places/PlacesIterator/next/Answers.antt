@@ -5,15 +5,10 @@ use Rattle.ndarray_layout.proofs.RowSteps.{bounds_of_place, left_after_step, lef
 use Rattle.ndarray_layout.proofs.RowSteps.{steps_on}
 use Rattle.ndarray_layout.proofs.strided.iter_places.PlacesIterator.next.Goals as goal
 
-pub offset_place-self-inside-requires-clause-low : goal.offset_place-self-inside-requires-clause-low
-offset_place-self-inside-requires-clause-low c =
+pub offset_place-self-inside-requires-clause-there : goal.offset_place-self-inside-requires-clause-there
+offset_place-self-inside-requires-clause-there c =
     let bounds = bounds_of_place _ (next_in_bounds c.self.invariant c.if-self-gt0.true) in
-    omega (arith, ints, bounds.0)
-
-pub offset_place-self-inside-requires-clause-high : goal.offset_place-self-inside-requires-clause-high
-offset_place-self-inside-requires-clause-high c =
-    let bounds = bounds_of_place _ (next_in_bounds c.self.invariant c.if-self-gt0.true) in
-    omega (arith, ints, bounds.1)
+    (omega (arith, ints, bounds.0), omega (arith, ints, bounds.1))
 
 pub invariant_of-self : goal.invariant_of-self
 invariant_of-self c =

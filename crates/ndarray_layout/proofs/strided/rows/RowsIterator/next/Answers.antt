@@ -8,13 +8,10 @@ use Rattle.ndarray_layout.proofs.NextRow.{given, left_after, length-rows_left, n
 use Rattle.ndarray_layout.proofs.RowsLeft.{IsView-slower}
 use Rattle.ndarray_layout.proofs.strided.rows.RowsIterator.next.Goals as goal
 
-pub offset_place-self-inside-requires-clause-low : goal.offset_place-self-inside-requires-clause-low
-offset_place-self-inside-requires-clause-low c =
-    omega (arith, ints, (next_within c.self.invariant (omega (arith, c.if-self-gt0.true)) c.if-self-gt0.true).0, c.signed.ensures.same_bits)
-
-pub offset_place-self-inside-requires-clause-high : goal.offset_place-self-inside-requires-clause-high
-offset_place-self-inside-requires-clause-high c =
-    omega (arith, ints, (next_within c.self.invariant (omega (arith, c.if-self-gt0.true)) c.if-self-gt0.true).1, c.signed.ensures.same_bits)
+pub offset_place-self-inside-requires-clause-there : goal.offset_place-self-inside-requires-clause-there
+offset_place-self-inside-requires-clause-there c =
+    let next = next_within c.self.invariant (omega (arith, c.if-self-gt0.true)) c.if-self-gt0.true in
+    (omega (arith, ints, next.0, c.signed.ensures.same_bits), omega (arith, ints, next.1, c.signed.ensures.same_bits))
 
 pub invariant_of-self : goal.invariant_of-self
 invariant_of-self c =
