@@ -40,10 +40,11 @@ no_axes {source} {strides} none = record {
     apart (i ∷ index) other here there same = absurd (cc)
 
 pub along : {source rest : List ℕ → List ℕ} {at : ℕ → ℕ} {len new_len : ℕ} {stride new_stride moved whole more : ℤ} {old new : List ℕ}
-    {old_strides strides : List ℤ} → AxisHasSources at len stride moved new_len new_stride → HasSources rest old old_strides more new strides
-    → whole ≡ moved +ℤ more → ((i : ℕ) (index : List ℕ) → source (i ∷ index) ≡ at i ∷ rest index)
+    {old_strides strides : List ℤ} → AxisHasSources at len stride moved new_len new_stride
+    → HasSources rest old old_strides more new strides → whole ≡ moved +ℤ more → ((i : ℕ) (index : List ℕ) → source (i ∷ index) ≡ at i ∷ rest index)
     → HasSources source (len ∷ old) (stride ∷ old_strides) whole (new_len ∷ new) (new_stride ∷ strides)
-along {source} {rest} {at} {len} {new_len} {stride} {new_stride} {whole = whole} {old = old} {new} {old_strides} {strides} axis others adds is =
+along {source} {rest} {at} {len} {new_len} {stride} {new_stride} {whole = whole} {old = old} {new} {old_strides} {strides} axis others adds
+    is =
     record { counts = omega (arith, others.counts); within = within; offset = offset }
   where
     within : (least : ℕ) (index : List ℕ) → least ≤ 1 → is_index (at_least least (new_len ∷ new)) index ≡ true
@@ -51,8 +52,9 @@ along {source} {rest} {at} {len} {new_len} {stride} {new_stride} {whole = whole}
     within least [] few here = absurd (cc)
     within least (i ∷ index) few here =
         let parts = and_parts (nat_lt i (max least new_len)) (is_index (at_least least new) index) here in
+        let below = axis.within least i few (ltb-true i (max least new_len) parts.0) in
         rw (is i index) (and_from (nat_lt (at i) (max least len)) (is_index (at_least least old) (rest index))
-        (lt-ltb (at i) (max least len) (axis.within least i few (ltb-true i (max least new_len) parts.0))) (others.within least index few parts.1))
+        (lt-ltb (at i) (max least len) below) (others.within least index few parts.1))
 
     offset : (index : List ℕ) → is_index (at_least 1 (new_len ∷ new)) index ≡ true
         → offset_of (stride ∷ old_strides) (source index) ≡ whole +ℤ offset_of (new_stride ∷ strides) index
@@ -62,8 +64,8 @@ along {source} {rest} {at} {len} {new_len} {stride} {new_stride} {whole = whole}
         rw (is i index) (omega (arith, ints, adds, axis.offset i (ltb-true i (max 1 new_len) parts.0), others.offset index parts.1))
 
 pub along-own : {source rest : List ℕ → List ℕ} {at : ℕ → ℕ} {len new_len : ℕ} {stride new_stride moved whole more : ℤ}
-    {old new : List ℕ} {old_strides strides : List ℤ} → AxisHasSources at len stride moved new_len new_stride → AreCoordinatesApart at new_len
-    → HasOwnSources rest old old_strides more new strides → whole ≡ moved +ℤ more
+    {old new : List ℕ} {old_strides strides : List ℤ} → AxisHasSources at len stride moved new_len new_stride
+    → AreCoordinatesApart at new_len → HasOwnSources rest old old_strides more new strides → whole ≡ moved +ℤ more
     → ((i : ℕ) (index : List ℕ) → source (i ∷ index) ≡ at i ∷ rest index)
     → HasOwnSources source (len ∷ old) (stride ∷ old_strides) whole (new_len ∷ new) (new_stride ∷ strides)
 along-own {source} {rest} {at} {new_len = new_len} {new = new} axis apart others adds is =
@@ -76,7 +78,8 @@ along-own {source} {rest} {at} {new_len = new_len} {new = new} axis apart others
         let first = and_parts (nat_lt i (max 1 new_len)) (is_index (at_least 1 new) index) here in
         let second = and_parts (nat_lt j (max 1 new_len)) (is_index (at_least 1 new) other) there in
         let both : at i ∷ rest index ≡ at j ∷ rest other = sym (is i index) ∙ same ∙ is j other in
-        let one : i ≡ j = apart i j (ltb-true i (max 1 new_len) first.0) (ltb-true j (max 1 new_len) second.0) (ap (λ xs. get_or xs 0 0) both) in
+        let one : i ≡ j =
+        apart i j (ltb-true i (max 1 new_len) first.0) (ltb-true j (max 1 new_len) second.0) (ap (λ xs. get_or xs 0 0) both) in
         let later : index ≡ other = others.apart index other first.1 second.1 (ap (drop 1) both) in
         cc
 

@@ -31,7 +31,8 @@ stretched_axis {len} {other} stride stays = elim (cases_eq other 1) [
         | inl e ↦ sym e
         | inr e ↦ absurd (more e)
       ] in
-      rw (ne_eqb other 1 more, eq-eqb len other same, same) (record { within = λ least i few below. below; offset = λ i below. omega (arith, ints) })
+      rw (ne_eqb other 1 more, eq-eqb len other same, same)
+      (record { within = λ least i few below. below; offset = λ i below. omega (arith, ints) })
 ]
 
 stretched_sources : (lens others : List ℕ) (strides : List ℤ) → length lens ≡ length others → length others ≡ length strides

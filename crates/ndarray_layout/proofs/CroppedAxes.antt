@@ -17,29 +17,24 @@ use Rattle.nd_slice.proofs.laws.UnitStep.{between_one, ranges_between}
 use Rattle.ndarray_layout.proofs.AxisByAxis.{along-own, no_axes, range_cases, range_of, range_start}
 use Rattle.ndarray_layout.proofs.laws.Sources.{HasOwnSources, at_least}
 
--- a start and an end for each axis, with no start past its end and no end past its axis
-pub record Ranges (shape starts ends : List ℕ) (strides : List ℤ) : Type 0 where
-  pub counts : length shape ≡ length strides
-  pub in_order : DifferencesFit ends starts
-  pub within : DifferencesFit shape ends
-
-rest : {len start end : ℕ} {stride : ℤ} {shape starts ends : List ℕ} {strides : List ℤ}
-    → Ranges (len ∷ shape) (start ∷ starts) (end ∷ ends) (stride ∷ strides) → Ranges shape starts ends strides
-rest r = let counts = r.counts in record { counts = omega arith; in_order = r.in_order.1; within = r.within.1 }
+rest : {len start end : ℕ} {shape starts ends : List ℕ} → RangesFit (len ∷ shape) (start ∷ starts) (end ∷ ends)
+    → RangesFit shape starts ends
+rest fit = record { in_order = fit.in_order.1; within = fit.within.1 }
 
 -- a part of the layout: each coordinate lies as far on as the start, where that moves
-pub cropped_sources : (shape starts ends : List ℕ) (strides : List ℤ) → Ranges shape starts ends strides
-    → HasOwnSources (sums (moved_starts starts ends)) shape strides (offset_of strides (moved_starts starts ends)) (differences ends starts) strides
-cropped_sources [] [] [] [] r = no_axes refl
-cropped_sources [] starts ends (stride ∷ strides) r = let counts = r.counts in absurd (omega arith)
-cropped_sources [] starts (end ∷ ends) [] r = absurd r.within
-cropped_sources [] (start ∷ starts) [] [] r = absurd r.in_order
-cropped_sources (len ∷ shape) starts ends [] r = let counts = r.counts in absurd (omega arith)
-cropped_sources (len ∷ shape) starts [] (stride ∷ strides) r = absurd r.within
-cropped_sources (len ∷ shape) [] (end ∷ ends) (stride ∷ strides) r = absurd r.in_order
-cropped_sources (len ∷ shape) (start ∷ starts) (end ∷ ends) (stride ∷ strides) r =
-    along-own (range_of len start end stride r.in_order.0 r.within.0) (λ i j below also same. omega arith)
-    (cropped_sources shape starts ends strides (rest r)) refl (λ i index. refl)
+pub cropped_sources : (shape starts ends : List ℕ) (strides : List ℤ) → length shape ≡ length strides → RangesFit shape starts ends
+    → HasOwnSources (sums (moved_starts starts ends)) shape strides (offset_of strides (moved_starts starts ends))
+    (differences ends starts) strides
+cropped_sources [] [] [] [] e fit = no_axes refl
+cropped_sources [] starts ends (stride ∷ strides) e fit = absurd (omega arith)
+cropped_sources [] starts (end ∷ ends) [] e fit = absurd fit.within
+cropped_sources [] (start ∷ starts) [] [] e fit = absurd fit.in_order
+cropped_sources (len ∷ shape) starts ends [] e fit = absurd (omega arith)
+cropped_sources (len ∷ shape) starts [] (stride ∷ strides) e fit = absurd fit.within
+cropped_sources (len ∷ shape) [] (end ∷ ends) (stride ∷ strides) e fit = absurd fit.in_order
+cropped_sources (len ∷ shape) (start ∷ starts) (end ∷ ends) (stride ∷ strides) e fit =
+    along-own (range_of len start end stride fit.in_order.0 fit.within.0) (λ i j below also same. omega arith)
+    (cropped_sources shape starts ends strides (omega arith) (rest fit)) refl (λ i index. refl)
 
 -- where there is an index, each start moves
 pub all_moved : (starts ends coordinates : List ℕ) → DifferencesFit ends starts → is_index (differences ends starts) coordinates ≡ true
@@ -76,7 +71,7 @@ moved_starts_within (len ∷ shape) (start ∷ starts) (end ∷ ends) fit =
     ] in
     and_from (nat_lt (range_start start end) (max 1 len)) (is_index (at_least 1 shape) (moved_starts starts ends))
     (lt-ltb (range_start start end) (max 1 len) first)
-    (moved_starts_within shape starts ends (record { in_order = fit.in_order.1; within = fit.within.1 }))
+    (moved_starts_within shape starts ends (rest fit))
 
 -- the starts that move lie where the slice by these ranges begins
 first_between : (len start end : ℕ) (stride : ℤ)
@@ -92,16 +87,16 @@ first_between len start end stride = ap (λ picked. first_offset picked stride) 
       ∙ ap (λ from. pos from *ℤ stride) (sym none.1)
 ]
 
-pub offset_as_sliced : (shape starts ends : List ℕ) (strides : List ℤ) → Ranges shape starts ends strides
+pub offset_as_sliced : (shape starts ends : List ℕ) (strides : List ℤ) → length shape ≡ length strides → RangesFit shape starts ends
     → offset_of strides (moved_starts starts ends) ≡ sliced_offset Strict (ranges_between starts ends) shape strides
-offset_as_sliced [] [] [] [] r = refl
-offset_as_sliced [] starts ends (stride ∷ strides) r = let counts = r.counts in absurd (omega arith)
-offset_as_sliced [] starts (end ∷ ends) [] r = absurd r.within
-offset_as_sliced [] (start ∷ starts) [] [] r = absurd r.in_order
-offset_as_sliced (len ∷ shape) starts ends [] r = let counts = r.counts in absurd (omega arith)
-offset_as_sliced (len ∷ shape) starts [] (stride ∷ strides) r = absurd r.within
-offset_as_sliced (len ∷ shape) [] (end ∷ ends) (stride ∷ strides) r = absurd r.in_order
-offset_as_sliced (len ∷ shape) (start ∷ starts) (end ∷ ends) (stride ∷ strides) r =
+offset_as_sliced [] [] [] [] e fit = refl
+offset_as_sliced [] starts ends (stride ∷ strides) e fit = absurd (omega arith)
+offset_as_sliced [] starts (end ∷ ends) [] e fit = absurd fit.within
+offset_as_sliced [] (start ∷ starts) [] [] e fit = absurd fit.in_order
+offset_as_sliced (len ∷ shape) starts ends [] e fit = absurd (omega arith)
+offset_as_sliced (len ∷ shape) starts [] (stride ∷ strides) e fit = absurd fit.within
+offset_as_sliced (len ∷ shape) [] (end ∷ ends) (stride ∷ strides) e fit = absurd fit.in_order
+offset_as_sliced (len ∷ shape) (start ∷ starts) (end ∷ ends) (stride ∷ strides) e fit =
     let first = first_between len start end stride in
-    let others = offset_as_sliced shape starts ends strides (rest r) in
+    let others = offset_as_sliced shape starts ends strides (omega arith) (rest fit) in
     cc

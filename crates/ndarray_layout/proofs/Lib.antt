@@ -11,6 +11,7 @@ pub mod MarkedAxes
 pub mod Merged
 pub mod NextRow
 pub mod OneAxis
+pub mod Passed
 pub mod PickedSize
 pub mod ReadView
 pub mod RowsLeft

@@ -6,7 +6,8 @@ use Rattle.std.proofs.Math.IntN.{zero-*ℤ}
 use Rattle.std.proofs.Math.Nat.{div-add-mod, div-le_self, div-lt_iff_lt-mul, mod-le, mod-lt}
 use Rattle.std.proofs.lemmas.Bool.{cases_eq, cond-true, cond-false, eq-eqb, ne_eqb}
 use Rattle.std.proofs.lemmas.Int.{ints}
-use Rattle.std.proofs.lemmas.List.{get_or-map, get_or-set_same, get_or-set_other, length-map, length-set, map-set, set_comm, set-get_or, set-set}
+use Rattle.std.proofs.lemmas.List.{get_or-map, get_or-set_same, get_or-set_other, length-map, length-set, map-set, set_comm}
+use Rattle.std.proofs.lemmas.List.{set-get_or, set-set}
 use Rattle.nd_base.proofs.laws.Coordinates.{is_index-set}
 use Rattle.nd_base.proofs.laws.Definitions.{is_index, offset_of}
 use Rattle.nd_base.proofs.laws.IsIndex.{coordinate_of_index, length_of_index}
@@ -73,7 +74,8 @@ offset-set (s ∷ strides) (c ∷ index) (suc axis) stride i e h =
     omega (arith, ints, offset-set strides index axis stride i (omega arith) (omega arith))
 
 module _ (shape : List ℕ) (strides : List ℤ) (taken into : ℕ) (stride : ℤ) (two : TwoAxes shape strides taken into)
-    (serves : IsMergedStride (get_or shape taken 0) (get_or strides taken (pos 0)) (get_or shape into 0) (get_or strides into (pos 0)) stride)
+    (serves : IsMergedStride (get_or shape taken 0) (get_or strides taken (pos 0)) (get_or shape into 0) (get_or strides into (pos 0))
+    stride)
   where
     abbrev t : ℕ
     t = get_or shape taken 0
@@ -98,7 +100,8 @@ module _ (shape : List ℕ) (strides : List ℤ) (taken into : ℕ) (stride : �
         subst (λ len. get_or index axis 0 < len) (get_or-map (max least) lens axis 0 0 (omega (arith, merged_count)))
         (coordinate_of_index (at_least least lens) index axis here (omega (arith, length-map lens (max least), merged_count))) in
         let on_taken : get_or lens taken 0 ≡ left_on (n * t) =
-        get_or-set_same (set shape into (n * t)) taken (left_on (n * t)) 0 (omega (arith, length-set shape into (n * t), two.taken_there)) in
+        get_or-set_same (set shape into (n * t)) taken (left_on (n * t)) 0
+        (omega (arith, length-set shape into (n * t), two.taken_there)) in
         let on_into : get_or lens into 0 ≡ n * t =
         get_or-set_other (set shape into (n * t)) taken into (left_on (n * t)) 0 (λ e. two.apart (sym e))
         ∙ get_or-set_same shape into (n * t) 0 two.into_there in
@@ -167,7 +170,8 @@ module _ (shape : List ℕ) (strides : List ℤ) (taken into : ℕ) (stride : �
         ∙ ap (set middle into) (sym (get_or-set_other index taken into (j / n) 0 (λ e. two.apart (sym e)))) ∙ set-get_or middle into 0)
         ∙ set-set index taken (j / n) 0 ∙ ap (set index taken) (sym left.none) ∙ set-get_or index taken 0)
 
-    pub merged_sources : HasOwnSources (merge_source taken into shape) shape strides (pos 0) (merged_shape taken into shape) (set strides into stride)
+    pub merged_sources : HasOwnSources (merge_source taken into shape) shape strides (pos 0) (merged_shape taken into shape)
+        (set strides into stride)
     merged_sources = record {
       sources = record {
         counts = merged_count ∙ two.counts ∙ sym (length-set strides into stride);

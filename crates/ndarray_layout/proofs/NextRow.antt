@@ -205,7 +205,8 @@ module _ {order : Order} {start : ℕ} {column : Fastest} {number : ℕ} (b : Is
     pub last_within : IsPlace (row_place order start column (number * column.len - 1))
     last_within = flat_within order b.is_view (number * column.len - 1) (omega (arith, first_below))
 
-    pub slower_within : IsPlace (place_at (view_of start column.lens.now column.strides.now) (index_of_flat_in order column.lens.now (number - 1)))
+    pub slower_within : IsPlace (place_at (view_of start column.lens.now column.strides.now)
+        (index_of_flat_in order column.lens.now (number - 1)))
     slower_within = flat_within order (IsView-slower order start column b.is_view) (number - 1) (omega (arith, b.below))
 
     pub offsets : (row_place order start column (number * column.len - 1)

@@ -8,7 +8,8 @@ use Rattle.std.proofs.Math.ListN.{get_or-map}
 use Rattle.std.proofs.lemmas.Int.{ints}
 use Rattle.std.proofs.lemmas.Option.{get_or_from_slice_get}
 use Rattle.nd_base.proofs.laws.Definitions.{all_signed, signed}
-use Rattle.ndarray_layout.proofs.AxisByAxis.{AreCoordinatesApart, AxisHasSources, along-own, at_coordinate, one_new_axis, same_axes, same_axis}
+use Rattle.ndarray_layout.proofs.AxisByAxis.{AreCoordinatesApart, AxisHasSources, along-own, at_coordinate, one_new_axis, same_axes}
+use Rattle.ndarray_layout.proofs.AxisByAxis.{same_axis}
 use Rattle.ndarray_layout.proofs.laws.Sources.{HasOwnSources}
 
 -- ---- lists with an item for each axis
@@ -63,7 +64,8 @@ set_axis (n ∷ shape) (s ∷ strides) (suc axis) has on apart =
 
 -- it is gone, at one coordinate
 pub remove_axis : (shape : List ℕ) (strides : List ℤ) (axis : ℕ) {i : ℕ} → HasAxis shape strides axis → i < get_or shape axis 0
-    → HasOwnSources (λ index. insert index axis i) shape strides (pos i *ℤ get_or strides axis (pos 0)) (remove shape axis) (remove strides axis)
+    → HasOwnSources (λ index. insert index axis i) shape strides (pos i *ℤ get_or strides axis (pos 0)) (remove shape axis)
+    (remove strides axis)
 remove_axis [] strides axis has below = let there = has.there in absurd (omega arith)
 remove_axis (n ∷ shape) [] axis has below = let counts = has.counts in absurd (omega arith)
 remove_axis (n ∷ shape) (s ∷ strides) zero has below =

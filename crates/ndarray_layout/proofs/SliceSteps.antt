@@ -163,8 +163,10 @@ first_within : {source : ℕ → ℕ} {len new : ℕ} {stride moved new_stride :
 first_within {source} {len} {stride = stride} {new_stride = new_stride} axis =
     let bounds = coordinate_bounds (max 1 len) stride (source 0) (axis.within 1 0 (omega arith) (omega arith)) in
     let first = axis.offset 0 (omega arith) in
-    let start = zero-*ℤ new_stride in
-    (omega (arith, ints, bounds.0, first, start, down-at_least len stride), omega (arith, ints, bounds.1, first, start, up-at_least len stride))
+    let start = zero-*ℤ new_stride in (
+      omega (arith, ints, bounds.0, first, start, down-at_least len stride),
+      omega (arith, ints, bounds.1, first, start, up-at_least len stride),
+    )
 
 -- ---- the steps
 module _ {fit : Fit} {elems : List SliceInfoElem} {shape : List ℕ} {strides : List ℤ} {rest : List SliceInfoElem} {lens : List ℕ}

@@ -33,7 +33,8 @@ module _ (fit : Fit) (len : ℕ) (slice : Slice) (fits : SliceFits fit len slice
   picked = picks fit len slice
 
   pub picked_axis : (stride : ℤ)
-      → AxisHasSources (λ j. get_or picked j 0) len stride (first_offset picked stride) (length picked) (picked_stride (length picked) stride slice.step)
+      → AxisHasSources (λ j. get_or picked j 0) len stride (first_offset picked stride) (length picked)
+      (picked_stride (length picked) stride slice.step)
   picked_axis stride = record {
     within = λ least j few below. elim (cases_lt j (length picked)) [
       | inl some ↦ omega (arith, pick_below fit len slice j fits some)

@@ -38,7 +38,8 @@ block_source steps index = sums (products (take (length steps) index) steps) (dr
 -- not 0 passes the limit
 abbrev pub blocks_fault : Option ℕ → List ℕ → List ℕ → List ℕ → Option ErrorKind
 blocks_fault fixed shape counts block =
-    if not (length block == length shape && option_map_or (λ count. count == length shape + length shape) fixed true) then Some IncompatibleShape
+    if not (length block == length shape && option_map_or (λ count. count == length shape + length shape) fixed true)
+    then Some IncompatibleShape
     else if is_empty block then Some Unsupported
     else if nat_lt limit (nonzero_size (counts ++ block)) then Some Overflow else None
 

@@ -31,7 +31,8 @@ abbrev pub stretched_strides : List ℕ → List ℕ → List ℤ → List ℤ
 stretched_strides lens others [] = []
 stretched_strides [] others (stride ∷ strides) = []
 stretched_strides (len ∷ lens) [] (stride ∷ strides) = []
-stretched_strides (len ∷ lens) (other ∷ others) (stride ∷ strides) = (if len == other then stride else pos 0) ∷ stretched_strides lens others strides
+stretched_strides (len ∷ lens) (other ∷ others) (stride ∷ strides) =
+    (if len == other then stride else pos 0) ∷ stretched_strides lens others strides
 
 -- how many axes of a shape are new where another one has only so many
 abbrev pub new_axes : List ℕ → List ℕ → ℕ

@@ -31,7 +31,8 @@ last_of_the_second : IsViewOf (drop 1) row row_twice → place_at row_twice (1 �
 last_of_the_second twice = (twice.places (1 ∷ 2 ∷ []) refl).1
 
 from_itself : IsView row → Descends (λ index. index) row row
-from_itself v = record { is_view = v; places = λ index here. (here, refl); in_bounds = λ len within. within; distinct = λ distinct. distinct }
+from_itself v =
+    record { is_view = v; places = λ index here. (here, refl); in_bounds = λ len within. within; distinct = λ distinct. distinct }
 
 -- the two rows are one in the data
 both_rows_are_one : Descends (drop 1) row row_twice → HasDistinctPlaces row → ⊥

@@ -10,7 +10,8 @@ use Rattle.ndarray_layout.specs.View.{View}
 -- the fault of the axes that are named: both are there, and they are two
 abbrev pub axes_fault : List ℕ → ℕ → ℕ → Option ErrorKind
 axes_fault shape take into =
-    if not (nat_lt take (length shape) && nat_lt into (length shape)) then Some OutOfBounds else if take == into then Some Unsupported else None
+    if not (nat_lt take (length shape) && nat_lt into (length shape)) then Some OutOfBounds
+    else if take == into then Some Unsupported else None
 
 -- some stride has every coordinate of both axes
 abbrev pub HasMergedStride : ℕ → ℕ → View → Type 0
@@ -32,7 +33,8 @@ has_merged_stride take into view =
 
 -- the fault where the axes have to be merged: that of the axes, and then that no stride has the coordinates of both
 abbrev pub merge_fault : ℕ → ℕ → View → Option ErrorKind
-merge_fault take into view = option_or (axes_fault view.shape take into) (if has_merged_stride take into view then None else Some IncompatibleLayout)
+merge_fault take into view =
+    option_or (axes_fault view.shape take into) (if has_merged_stride take into view then None else Some IncompatibleLayout)
 
 -- the axis whose stride has the coordinates of both: the one merged into, or the one taken where only that has more than one coordinate
 abbrev pub lasting_axis : ℕ → ℕ → List ℕ → ℕ

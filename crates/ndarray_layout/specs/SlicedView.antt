@@ -29,13 +29,16 @@ view_slice_fault fit None shape elems = argument_fault fit shape elems
 view_slice_fault fit (Some count) shape elems = if out_count elems == count then argument_fault fit shape elems else Some IncompatibleShape
 
 -- examples
-start_of_the_last_row : sliced_start Strict (elem.Index (negsuc 0) ∷ []) (record { start = 7; shape = 2 ∷ []; strides = pos 3 ∷ [] }) ≡ pos 10
+start_of_the_last_row :
+    sliced_start Strict (elem.Index (negsuc 0) ∷ []) (record { start = 7; shape = 2 ∷ []; strides = pos 3 ∷ [] }) ≡ pos 10
 start_of_the_last_row = refl
 
-last_row : slice_of Strict (elem.Index (negsuc 0) ∷ []) (record { start = 7; shape = 2 ∷ []; strides = pos 3 ∷ [] }) ≡ record { start = 10; shape = []; strides = [] }
+last_row : slice_of Strict (elem.Index (negsuc 0) ∷ []) (record { start = 7; shape = 2 ∷ []; strides = pos 3 ∷ [] })
+    ≡ record { start = 10; shape = []; strides = [] }
 last_row = refl
 
-every_other_backwards : slice_of Strict (elem.Slice (pos 1) None (negsuc 1) ∷ []) (record { start = 5; shape = 4 ∷ []; strides = pos 3 ∷ [] })
+every_other_backwards :
+    slice_of Strict (elem.Slice (pos 1) None (negsuc 1) ∷ []) (record { start = 5; shape = 4 ∷ []; strides = pos 3 ∷ [] })
     ≡ record { start = 14; shape = 2 ∷ []; strides = negsuc 5 ∷ [] }
 every_other_backwards = refl
 
@@ -52,7 +55,9 @@ last_row_with_new_axis = refl
 one_for_two_axes : view_slice_fault Strict (Some 1) (2 ∷ 3 ∷ []) (elem.Slice (pos 1) None (pos 1) ∷ []) ≡ Some IncompatibleShape
 one_for_two_axes = refl
 
-two_axes_for_one : view_slice_fault Strict (Some 1) (2 ∷ 3 ∷ []) (elem.Slice (pos 9) None (pos 1) ∷ elem.Slice (pos 0) None (pos 1) ∷ []) ≡ Some IncompatibleShape
+two_axes_for_one :
+    view_slice_fault Strict (Some 1) (2 ∷ 3 ∷ []) (elem.Slice (pos 9) None (pos 1) ∷ elem.Slice (pos 0) None (pos 1) ∷ [])
+    ≡ Some IncompatibleShape
 two_axes_for_one = refl
 
 past_the_end : view_slice_fault Strict (Some 1) (2 ∷ 3 ∷ []) (elem.Index (pos 1) ∷ elem.Slice (pos 4) None (pos 1) ∷ []) ≡ Some OutOfBounds

@@ -50,7 +50,8 @@ abbrev pub LiesWithin : ℕ → View → Type 0
 LiesWithin len view = LiesInBounds len view.start view.shape view.strides
 
 -- examples
-crossed : view_places RowMajor (record { start = 0; shape = 3 ∷ 2 ∷ []; strides = pos 2 ∷ pos 3 ∷ [] }) ≡ pos 0 ∷ pos 3 ∷ pos 2 ∷ pos 5 ∷ pos 4 ∷ pos 7 ∷ []
+crossed : view_places RowMajor (record { start = 0; shape = 3 ∷ 2 ∷ []; strides = pos 2 ∷ pos 3 ∷ [] })
+    ≡ pos 0 ∷ pos 3 ∷ pos 2 ∷ pos 5 ∷ pos 4 ∷ pos 7 ∷ []
 crossed = refl
 
 both_backwards : view_places RowMajor (record { start = 5; shape = 2 ∷ 3 ∷ []; strides = negsuc 2 ∷ negsuc 0 ∷ [] })

@@ -100,8 +100,10 @@ in_a_chunk (len ∷ shape) (size ∷ chunk) (i ∷ index) e some here =
     record {
       at = and_from (nat_lt (i / size) (len / size)) (is_index (chunk_counts shape chunk) (quotients index chunk))
           (lt-ltb (i / size) (len / size) (div_below i size (len / size) more (ltb-true i ((len / size) * size) parts.0))) rest.at;
-      inner = and_from (nat_lt (i % size) size) (is_index chunk (rests index chunk)) (lt-ltb (i % size) size (mod_below i size more)) rest.inner;
-      same = ap (λ j. j ∷ sums (products (quotients index chunk) chunk) (rests index chunk)) (div-add-mod' i size) ∙ ap (λ xs. i ∷ xs) rest.same;
+      inner = and_from (nat_lt (i % size) size) (is_index chunk (rests index chunk)) (lt-ltb (i % size) size (mod_below i size more))
+          rest.inner;
+      same = ap (λ j. j ∷ sums (products (quotients index chunk) chunk) (rests index chunk)) (div-add-mod' i size)
+          ∙ ap (λ xs. i ∷ xs) rest.same;
     }
 
 -- ---- the view of all chunks

@@ -1,6 +1,6 @@
 -- Laws of views of which one coordinate of an axis was taken.
-use Rattle.std.proofs.Common.{◌≡◌, ℕ, ◌+◌, ◌<◌, ℤ, pos, ◌+ℤ◌, ◌*ℤ◌, Bool, true, false, cond, None, Some, List, length, get_or}
-use Rattle.std.proofs.Common.{set, map, nat_lt, refl, sym, ap, ◌∙◌, arith}
+use Rattle.std.proofs.Common.{◌≡◌, ℕ, ◌+◌, ◌<◌, ℤ, pos, ◌+ℤ◌, ◌*ℤ◌, None, List, length, get_or}
+use Rattle.std.proofs.Common.{set, map, nat_lt, sym, ap, ◌∙◌, arith}
 use Rattle.std.proofs.lemmas.Bool.{and_parts, ltb-true}
 use Rattle.std.proofs.lemmas.List.{set-get_or}
 use Rattle.std.proofs.lemmas.List.Folds.{flat_map-map}
@@ -13,21 +13,18 @@ use Rattle.ndarray_layout.specs.View.{View, IsPlace, IsView, view_places}
 use Rattle.ndarray_layout.proofs.ByRows.{by_rows, places_from, row_from}
 use Rattle.ndarray_layout.proofs.AxisByAxis.{lone_coordinate}
 use Rattle.ndarray_layout.proofs.OneAxis.{first_coordinate, set_axis}
+use Rattle.ndarray_layout.proofs.Passed.{passed}
 use Rattle.ndarray_layout.proofs.laws.Sources.{Descends-own_sources, HasOwnSources, start_within}
 use Rattle.std.specs.List.{flat_map}
 use Rattle.std.specs.Prelude.{◌&&◌}
 use Rattle.nd_base.proofs.laws.Signed.{magnitude_from}
-
-fits : (here : Bool) → cond here None (Some OutOfBounds) ≡ None → here ≡ true
-fits true none = refl
-fits false none = absurd (cc)
 
 -- a coordinate that can be taken is one of an axis that there is
 pub coordinate_of_no_fault : (shape : List ℕ) (axis index : ℕ) → collapse_fault shape axis index ≡ None
     → (axis < length shape) × (index < get_or shape axis 0)
 coordinate_of_no_fault shape axis index none =
     let parts = and_parts (nat_lt axis (length shape)) (nat_lt index (get_or shape axis 0))
-    (fits (nat_lt axis (length shape) && nat_lt index (get_or shape axis 0)) none) in
+    (passed OutOfBounds (nat_lt axis (length shape) && nat_lt index (get_or shape axis 0)) none) in
     (ltb-true axis (length shape) parts.0, ltb-true index (get_or shape axis 0) parts.1)
 
 -- a coordinate of a view that can be taken
@@ -56,8 +53,8 @@ module _ (axis index : ℕ) (view : View) (v : IsView view) (none : collapse_fau
 pub places-collapse_of_last : (view : View) (last : ℕ) (starts : List ℕ) → length view.shape ≡ last + 1 → length view.strides ≡ last + 1
     → map pos starts ≡ view_places RowMajor (collapse_of last 0 view)
     → view_places RowMajor view
-    ≡ flat_map (λ start. map (λ coordinate. pos start +ℤ (pos coordinate *ℤ get_or view.strides last (pos 0))) (below (get_or view.shape last 0)))
-    starts
+    ≡ flat_map (λ start. map (λ coordinate. pos start +ℤ (pos coordinate *ℤ get_or view.strides last (pos 0)))
+    (below (get_or view.shape last 0))) starts
 places-collapse_of_last view last starts long also same =
     let stride = get_or view.strides last (pos 0) in
     let row = λ (start : ℤ). row_from start stride (get_or view.shape last 0) in

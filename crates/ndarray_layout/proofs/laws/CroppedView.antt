@@ -13,7 +13,7 @@ use Rattle.ndarray_layout.specs.CroppedView.{RangesFit, moved_starts, cropped_st
 use Rattle.ndarray_layout.specs.Descends.{Descends}
 use Rattle.ndarray_layout.specs.SlicedView.{slice_of}
 use Rattle.ndarray_layout.specs.View.{View, IsPlace, IsView}
-use Rattle.ndarray_layout.proofs.CroppedAxes.{Ranges, all_moved, cropped_sources, moved_starts_within, offset_as_sliced}
+use Rattle.ndarray_layout.proofs.CroppedAxes.{all_moved, cropped_sources, moved_starts_within, offset_as_sliced}
 use Rattle.ndarray_layout.proofs.laws.KeepsPlaces.{Descends-told}
 use Rattle.ndarray_layout.proofs.laws.Sources.{Descends-own_sources, HasOwnSources, at_least, filled-IsView, start_within}
 
@@ -42,12 +42,9 @@ shape-cropped_of starts ends view = refl
 
 -- ---- the view
 module _ (starts ends : List ℕ) (view : View) (v : IsView view) (fit : RangesFit view.shape starts ends) where
-  ranges : Ranges view.shape starts ends view.strides
-  ranges = record { counts = v.valid.same_count; in_order = fit.in_order; within = fit.within }
-
   own : HasOwnSources (sums (moved_starts starts ends)) view.shape view.strides (offset_of view.strides (moved_starts starts ends))
       (differences ends starts) view.strides
-  own = cropped_sources view.shape starts ends view.strides ranges
+  own = cropped_sources view.shape starts ends view.strides v.valid.same_count fit
 
   -- the starts that move add up
   pub moved_small : All (λ coordinate. coordinate ≤ limit) (moved_starts starts ends)
@@ -84,4 +81,5 @@ module _ (starts ends : List ℕ) (view : View) (v : IsView view) (fit : RangesF
       shape_between starts ends view.shape (omega arith) (omega arith)
 
   pub start_of_slice : (slice_of Strict (ranges_between starts ends) view).start ≡ (cropped_of starts ends view).start
-  start_of_slice = ap (λ z. magnitude (pos view.start +ℤ z)) (sym (offset_as_sliced view.shape starts ends view.strides ranges))
+  start_of_slice =
+      ap (λ z. magnitude (pos view.start +ℤ z)) (sym (offset_as_sliced view.shape starts ends view.strides v.valid.same_count fit))

@@ -6,7 +6,7 @@ use Rattle.ndarray_layout.specs.CollapsedView.{collapse_fault, collapsed_start}
 use Rattle.ndarray_layout.specs.Descends.{Descends}
 use Rattle.ndarray_layout.specs.IndexedView.{indexed_of, index_source}
 use Rattle.ndarray_layout.specs.View.{View, IsView}
-use Rattle.ndarray_layout.proofs.OneAxis.{remove_axis}
+use Rattle.ndarray_layout.proofs.OneAxis.{HasAxis, remove_axis}
 use Rattle.ndarray_layout.proofs.laws.CollapsedView.{collapsed_start_within, coordinate_of_no_fault}
 use Rattle.ndarray_layout.proofs.laws.Sources.{Descends-own_sources}
 
@@ -29,4 +29,5 @@ module _ (axis index : ℕ) (view : View) (v : IsView view) (none : collapse_fau
   pub Descends-indexed_of : Descends (index_source axis index) view (indexed_of axis index view)
   Descends-indexed_of =
       let at = coordinate_of_no_fault view.shape axis index none in
-      Descends-own_sources v (remove_axis view.shape view.strides axis (record { counts = v.valid.same_count; there = at.0 }) at.1) start-indexed_of
+      let has : HasAxis view.shape view.strides axis = record { counts = v.valid.same_count; there = at.0 } in
+      Descends-own_sources v (remove_axis view.shape view.strides axis has at.1) start-indexed_of

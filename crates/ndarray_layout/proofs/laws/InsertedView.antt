@@ -1,5 +1,5 @@
 -- Laws of views with a new axis of length 1.
-use Rattle.std.proofs.Common.{◌≡◌, ℕ, ◌≤◌, pos, Bool, true, false, cond, None, Some, List, length, get_or, refl, ap, arith}
+use Rattle.std.proofs.Common.{◌≡◌, ℕ, ◌≤◌, pos, cond, None, Some, List, length, get_or, refl, ap, arith}
 use Rattle.std.specs.List.{insert}
 use Rattle.std.specs.Prelude.{nat_le}
 use Rattle.std.proofs.lemmas.Bool.{le-leb, leb-true}
@@ -10,15 +10,12 @@ use Rattle.ndarray_layout.specs.IndexedView.{indexed_of}
 use Rattle.ndarray_layout.specs.InsertedView.{insert_fault, inserted_of, insert_source}
 use Rattle.ndarray_layout.specs.View.{View, IsView}
 use Rattle.ndarray_layout.proofs.OneAxis.{first_coordinate, insert_axis, remove-insert}
+use Rattle.ndarray_layout.proofs.Passed.{passed}
 use Rattle.ndarray_layout.proofs.laws.Sources.{Descends-from_start}
 
 -- a new axis without fault comes after no more axes than there are
 pub axis_of_no_fault : (shape : List ℕ) (axis : ℕ) → insert_fault shape axis ≡ None → axis ≤ length shape
-axis_of_no_fault shape axis none = leb-true axis (length shape) (by (nat_le axis (length shape)) none)
-  where
-    by : (here : Bool) → cond here None (Some OutOfBounds) ≡ None → here ≡ true
-    by true h = refl
-    by false h = absurd (cc)
+axis_of_no_fault shape axis none = leb-true axis (length shape) (passed OutOfBounds (nat_le axis (length shape)) none)
 
 pub no_fault_of_axis : (shape : List ℕ) (axis : ℕ) → axis ≤ length shape → insert_fault shape axis ≡ None
 no_fault_of_axis shape axis within = ap (λ here. cond here None (Some OutOfBounds)) (le-leb axis (length shape) within)

@@ -1,6 +1,6 @@
 -- Laws of views with an axis backwards.
-use Rattle.std.proofs.Common.{◌≡◌, ◌≢◌, ◌⊎◌, ℕ, ◌+◌, ◌-◌, ◌*◌, ◌<◌, ◌≤◌, ℤ, pos, negsuc, zero, suc, neg_ℤ, ◌+ℤ◌, ◌*ℤ◌, Bool, true, false, cond}
-use Rattle.std.proofs.Common.{None, Some, List, length, get_or, set, refl, sym, ap, ◌∙◌, inl, inr, arith}
+use Rattle.std.proofs.Common.{◌≡◌, ◌≢◌, ◌⊎◌, ℕ, ◌+◌, ◌-◌, ◌*◌, ◌<◌, ◌≤◌, ℤ, pos, negsuc, zero, suc, neg_ℤ, ◌+ℤ◌}
+use Rattle.std.proofs.Common.{◌*ℤ◌, cond, None, Some, List, length, get_or, set, refl, sym, ap, ◌∙◌, inl, inr, arith}
 use Rattle.std.specs.Ordering.{int_eq}
 use Rattle.std.specs.Prelude.{nat_lt}
 use Rattle.std.proofs.lemmas.Bool.{cases_Bool, cond-true, cond-false, ltb-true, lt-ltb}
@@ -17,15 +17,12 @@ use Rattle.ndarray_layout.specs.InvertedView.{invert_fault, opposite_stride, inv
 use Rattle.ndarray_layout.specs.View.{View, IsPlace, IsView}
 use Rattle.ndarray_layout.proofs.AxisByAxis.{AxisHasSources}
 use Rattle.ndarray_layout.proofs.OneAxis.{set_axis}
+use Rattle.ndarray_layout.proofs.Passed.{passed}
 use Rattle.ndarray_layout.proofs.laws.Sources.{Descends-own_sources, HasOwnSources, start_within}
 
 -- an axis without fault is there
 pub axis_of_no_fault : (shape : List ℕ) (axis : ℕ) → invert_fault shape axis ≡ None → axis < length shape
-axis_of_no_fault shape axis none = ltb-true axis (length shape) (by (nat_lt axis (length shape)) none)
-  where
-    by : (here : Bool) → cond here None (Some OutOfBounds) ≡ None → here ≡ true
-    by true h = refl
-    by false h = absurd (cc)
+axis_of_no_fault shape axis none = ltb-true axis (length shape) (passed OutOfBounds (nat_lt axis (length shape)) none)
 
 pub no_fault_of_axis : (shape : List ℕ) (axis : ℕ) → axis < length shape → invert_fault shape axis ≡ None
 no_fault_of_axis shape axis there = ap (λ here. cond here None (Some OutOfBounds)) (lt-ltb axis (length shape) there)
@@ -33,7 +30,8 @@ no_fault_of_axis shape axis there = ap (λ here. cond here None (Some OutOfBound
 -- ---- the opposite stride
 -- a stride has the other sign, or it is the one that has no opposite
 pub opposite_cases : (stride : ℤ)
-    → ((stride ≡ negsuc 9223372036854775807) × (opposite_stride stride ≡ negsuc 9223372036854775807)) ⊎ (opposite_stride stride ≡ neg_ℤ stride)
+    → ((stride ≡ negsuc 9223372036854775807) × (opposite_stride stride ≡ negsuc 9223372036854775807))
+    ⊎ (opposite_stride stride ≡ neg_ℤ stride)
 opposite_cases stride = elim (cases_Bool (int_eq stride (negsuc 9223372036854775807))) [
   | inl least ↦
       let is = (Decides-int_eq stride (negsuc 9223372036854775807)).0 least in
@@ -113,7 +111,8 @@ module _ (axis : ℕ) (view : View) (v : IsView view) (there : axis < length vie
   inverted_twice small =
       let opposites = opposite_stride stride in
       let in_strides : axis < length view.strides = omega (arith, there, v.valid.same_count) in
-      let along : get_or (set view.strides axis opposites) axis (pos 0) ≡ opposites = get_or-set_same view.strides axis opposites (pos 0) in_strides in
+      let along : get_or (set view.strides axis opposites) axis (pos 0) ≡ opposites =
+      get_or-set_same view.strides axis opposites (pos 0) in_strides in
       let back : pos (inverted_of axis view).start +ℤ (pos (len - 1) *ℤ opposites) ≡ pos view.start =
       omega (arith, ints, start-inverted_of, turned (len - 1) (omega arith)) in
       let strides : set (set view.strides axis opposites) axis (opposite_stride opposites) ≡ view.strides =

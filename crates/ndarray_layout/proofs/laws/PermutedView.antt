@@ -27,6 +27,7 @@ use Rattle.nd_dim.proofs.laws.AxesInOrder.{total_in_order, undone_by_inverse, un
 use Rattle.ndarray_layout.specs.Descends.{Descends}
 use Rattle.ndarray_layout.specs.PermutedView.{permute_fault, permuted_of, permute_source, reversed_of, swap_fault, swapped_of}
 use Rattle.ndarray_layout.specs.View.{View, IsView, place_at, view_places}
+use Rattle.ndarray_layout.proofs.Passed.{passed}
 use Rattle.ndarray_layout.proofs.laws.Sources.{Descends-from_start, at_least}
 
 -- ---- the transpose
@@ -180,11 +181,7 @@ module _ (axes : List ℕ) (view : View) (v : IsView view) (order : is_axis_orde
   })
 
 pub order_of_no_fault : (shape axes : List ℕ) → permute_fault shape axes ≡ None → is_axis_order (length shape) axes ≡ true
-order_of_no_fault shape axes none = accepted (is_axis_order (length shape) axes) none
-  where
-    accepted : (fits : Bool) → cond fits None (Some IncompatibleShape) ≡ None → fits ≡ true
-    accepted true none = refl
-    accepted false none = absurd (cc)
+order_of_no_fault shape axes none = passed IncompatibleShape (is_axis_order (length shape) axes) none
 
 pub no_fault_of_order : (shape axes : List ℕ) → is_axis_order (length shape) axes ≡ true → permute_fault shape axes ≡ None
 no_fault_of_order shape axes order = ap (λ fits. cond fits None (Some IncompatibleShape)) order
@@ -222,12 +219,8 @@ pub axes_of_no_fault : (shape : List ℕ) (axis other : ℕ) → swap_fault shap
     → (axis < length shape) × (other < length shape)
 axes_of_no_fault shape axis other none =
     let parts = and_parts (nat_lt axis (length shape)) (nat_lt other (length shape))
-    (accepted (nat_lt axis (length shape) && nat_lt other (length shape)) none) in
+    (passed OutOfBounds (nat_lt axis (length shape) && nat_lt other (length shape)) none) in
     (ltb-true axis (length shape) parts.0, ltb-true other (length shape) parts.1)
-  where
-    accepted : (fits : Bool) → cond fits None (Some OutOfBounds) ≡ None → fits ≡ true
-    accepted true none = refl
-    accepted false none = absurd (cc)
 
 pub no_fault_of_axes : (shape : List ℕ) (axis other : ℕ) → axis < length shape → other < length shape → swap_fault shape axis other ≡ None
 no_fault_of_axes shape axis other first second =

@@ -127,8 +127,8 @@ IsView-along_zeros : {view : View} (shape : List ℕ) → IsView view → nonzer
 IsView-along_zeros {view} shape v fits =
     let old = at_least 1 view.shape in
     let zeros : List ℕ = replicate (length old) 0 in
-    IsView-filled (IsView-from_places (λ index. zeros) (filled-IsView v)
-    (length-map shape (max 1) ∙ sym (length-replicate {A = ℤ} (length shape) (pos 0))) (omega (arith, size-at_least shape)) (some-at_least shape)
+    let counts = length-map shape (max 1) ∙ sym (length-replicate {A = ℤ} (length shape) (pos 0)) in
+    IsView-filled (IsView-from_places (λ index. zeros) (filled-IsView v) counts (omega (arith, size-at_least shape)) (some-at_least shape)
     (λ index here. (
       is_index-zeros old (some-at_least view.shape),
       omega (arith, ints, offset_along_zeros (length shape) index, offset_of-zeros view.strides (length old)),

@@ -16,6 +16,7 @@ use Rattle.ndarray_layout.specs.SplitView.{split_fault, first_part_of, second_st
 use Rattle.ndarray_layout.specs.View.{View, IsPlace, IsView}
 use Rattle.ndarray_layout.proofs.AxisByAxis.{first_coordinates, range_cases, range_of, range_start}
 use Rattle.ndarray_layout.proofs.OneAxis.{HasAxis, first_coordinate, set_axis}
+use Rattle.ndarray_layout.proofs.Passed.{passed}
 use Rattle.ndarray_layout.proofs.laws.KeepsPlaces.{Descends-told}
 use Rattle.ndarray_layout.proofs.laws.Sources.{Descends-from_start, Descends-own_sources, HasOwnSources, start_within}
 
@@ -24,14 +25,11 @@ pub cut_of_no_fault : (shape : List ℕ) (axis index : ℕ) → split_fault shap
     → (axis < length shape) × (index ≤ get_or shape axis 0)
 cut_of_no_fault shape axis index none =
     let parts = and_parts (nat_lt axis (length shape)) (nat_le index (get_or shape axis 0))
-    (by (nat_lt axis (length shape) && nat_le index (get_or shape axis 0)) none) in
+    (passed OutOfBounds (nat_lt axis (length shape) && nat_le index (get_or shape axis 0)) none) in
     (ltb-true axis (length shape) parts.0, leb-true index (get_or shape axis 0) parts.1)
-  where
-    by : (here : Bool) → cond here None (Some OutOfBounds) ≡ None → here ≡ true
-    by true h = refl
-    by false h = absurd (cc)
 
-pub no_fault_of_cut : (shape : List ℕ) (axis index : ℕ) → axis < length shape → index ≤ get_or shape axis 0 → split_fault shape axis index ≡ None
+pub no_fault_of_cut : (shape : List ℕ) (axis index : ℕ) → axis < length shape → index ≤ get_or shape axis 0
+    → split_fault shape axis index ≡ None
 no_fault_of_cut shape axis index there within =
     ap (λ here. cond here None (Some OutOfBounds))
     (and_from (nat_lt axis (length shape)) (nat_le index (get_or shape axis 0)) (lt-ltb axis (length shape) there)
@@ -83,7 +81,8 @@ module _ (axis index : ℕ) (view : View) (v : IsView view) (none : split_fault 
   start-second_part_of = magnitude_from (second_start axis index view) second_start_within.0
 
   -- a coordinate of an axis of another length
-  coordinate : (count : ℕ) (coordinates : List ℕ) → is_index (set view.shape axis count) coordinates ≡ true → get_or coordinates axis 0 < count
+  coordinate : (count : ℕ) (coordinates : List ℕ) → is_index (set view.shape axis count) coordinates ≡ true
+      → get_or coordinates axis 0 < count
   coordinate count coordinates here = subst (λ n. get_or coordinates axis 0 < n) (get_or-set_same view.shape axis count 0 there)
       (coordinate_of_index (set view.shape axis count) coordinates axis here (omega (arith, length-set view.shape axis count, there)))
 

@@ -86,8 +86,8 @@ length-view_places order view = length-map (indices_in order view.shape) (place 
 pub places_lie_within : (len : ℕ) (order : Order) (view : View) → LiesWithin len view → All (IsInBounds len) (view_places order view)
 places_lie_within len order view within =
     let indices = indices_in order view.shape in
-    let in_bounds = All-weaker (λ index. is_index view.shape index ≡ true) (λ index. IsInBounds len (place view.start view.strides index)) within
-    indices (All-indices_in order view.shape) in
+    let in_bounds = All-weaker (λ index. is_index view.shape index ≡ true)
+    (λ index. IsInBounds len (place view.start view.strides index)) within indices (All-indices_in order view.shape) in
     All-map (IsInBounds len) (place view.start view.strides) indices in_bounds
 
 -- the same of the places as unsigned numbers
@@ -113,7 +113,8 @@ lens_fit {view} v = λ axis d below.
     omega (arith, get_or_default_zero view.shape axis d below, length_le_nonzero_size view.shape axis, v.valid.size_fits)
 
 -- a view of a type that fixes two axes has two lengths
-pub two_lengths : (view : View) → IsCount (Some 2) (length view.shape) → view.shape ≡ slice_index view.shape 0 ∷ slice_index view.shape 1 ∷ []
+pub two_lengths : (view : View) → IsCount (Some 2) (length view.shape)
+    → view.shape ≡ slice_index view.shape 0 ∷ slice_index view.shape 1 ∷ []
 two_lengths view count = of view.shape count
   where
     of : (shape : List ℕ) → length shape ≡ 2 → shape ≡ slice_index shape 0 ∷ slice_index shape 1 ∷ []

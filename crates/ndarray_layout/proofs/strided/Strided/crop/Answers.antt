@@ -18,7 +18,8 @@ here g c = view_of c.self.inside.start (g.D.Lengths.list c.self.inside.dim) (g.D
 fit : (g : Over) (c : After-slice-6 g) → RangesFit (here g c).shape (g.D.Lengths.list c.args.starts.now) (g.D.Lengths.list c.args.ends.now)
 fit g c = record {
   in_order = rw (c.slice.ensures.list, c.slice-2.ensures.list) at (c.if-not-is_at_most.ensures.0 refl);
-  within = rw (c.slice-else-not-is_at_most.ensures.list, c.slice-else-not-is_at_most-2.ensures.list) at (c.if-not-is_at_most-2.ensures.0 refl);
+  within = rw (c.slice-else-not-is_at_most.ensures.list, c.slice-else-not-is_at_most-2.ensures.list)
+      at (c.if-not-is_at_most-2.ensures.0 refl);
 }
 
 -- the starts that move
@@ -32,7 +33,8 @@ moved g c =
 
 pub index_offset-offset-requires-clause-small : goal.index_offset-offset-requires-clause-small
 index_offset-offset-requires-clause-small g c =
-    rw (moved g c) (moved_small (g.D.Lengths.list c.args.starts.now) (g.D.Lengths.list c.args.ends.now) (here g c) c.self.invariant (fit g c))
+    rw (moved g c)
+    (moved_small (g.D.Lengths.list c.args.starts.now) (g.D.Lengths.list c.args.ends.now) (here g c) c.self.invariant (fit g c))
 
 pub index_offset-offset-requires-clause-fits : goal.index_offset-offset-requires-clause-fits
 index_offset-offset-requires-clause-fits g c =

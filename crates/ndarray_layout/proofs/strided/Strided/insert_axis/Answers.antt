@@ -1,6 +1,5 @@
 -- What was written is the view with the new axis.
-use Rattle.std.proofs.Common.{rules, ◌≡◌, ◌≤◌, length, ap}
-use Rattle.std.specs.List.{insert}
+use Rattle.std.proofs.Common.{rules, ◌≡◌, ◌≤◌, length, refl}
 use Rattle.nd_base.specs.Signed.{signed}
 use Rattle.ndarray_layout.specs.Descends.{Descends}
 use Rattle.ndarray_layout.specs.InsertedView.{inserted_of, insert_source}
@@ -23,9 +22,11 @@ within g c = search rules
 
 made : (g : Over) (c : In_ok-strides g) → written g c ≡ inserted_of c.args.axis.0 (here g c)
 made g c =
-    rw (c.in_ok-dim.ensures.list, c.in_ok-strides.ensures.list)
-    (ap (λ strides. record { start = c.self.inside.start; shape = insert (g.D.Lengths.list c.self.inside.dim) c.args.axis.0 1; strides = strides })
-    (map-insert signed (g.D.Lengths.list c.self.inside.strides) c.args.axis.0 1))
+    rw (
+      c.in_ok-dim.ensures.list,
+      c.in_ok-strides.ensures.list,
+      map-insert signed (g.D.Lengths.list c.self.inside.strides) c.args.axis.0 1,
+    ) refl
 
 kept : (g : Over) (c : In_ok-strides g) → Descends (insert_source c.args.axis.0) (here g c) (written g c)
 kept g c = rw (made g c) (Descends-inserted_of c.args.axis.0 (here g c) c.self.invariant (within g c))

@@ -53,7 +53,8 @@ strides_are g c =
     let strides = g.D.Lengths.list c.self.inside.strides in
     let axis = c.args.axis.0 in
     let new : c.set_axis_of.new.lens ≡ set strides axis c.opposite.result = rw c.slice_mut.ensures.list at c.set_axis_of.ensures in
-    let listed : g.D.Lengths.list (g.D.Lengths.with_list c.self.inside.strides c.set_axis_of.new.lens) ≡ set strides axis c.opposite.result =
+    let listed : g.D.Lengths.list (g.D.Lengths.with_list c.self.inside.strides c.set_axis_of.new.lens)
+    ≡ set strides axis c.opposite.result =
     g.met.D.Lengths.list_of_with_list c.self.inside.strides c.set_axis_of.new.lens
     (ap length new ∙ length-set strides axis c.opposite.result) ∙ new in
     rw listed (map-set signed strides axis c.opposite.result

@@ -32,7 +32,8 @@ begins : (g : Over) (c : Then-index-len g)
     → second_start c.args.axis.0 c.args.index (here g c) ≡ pos c.self.inside.start +ℤ (pos c.args.index *ℤ signed c.axis_of-stride.result)
 begins g c =
     let start = pos c.self.inside.start in
-    let below : nat_lt c.args.index (get_or (here g c).shape c.args.axis.0 0) ≡ true = lt-ltb _ _ (omega (arith, c.if-index-len.true, len_is g c)) in
+    let below : nat_lt c.args.index (get_or (here g c).shape c.args.axis.0 0) ≡ true =
+    lt-ltb _ _ (omega (arith, c.if-index-len.true, len_is g c)) in
     cond-true {A = ℤ} (nat_lt c.args.index (get_or (here g c).shape c.args.axis.0 0))
     (start +ℤ (pos c.args.index *ℤ get_or (here g c).strides c.args.axis.0 (pos 0))) start below
     ∙ ap (λ stride. start +ℤ (pos c.args.index *ℤ stride)) (sym (stride_is g c))
