@@ -1,21 +1,24 @@
 -- A view by the axis that moves fastest in an order: its other axes are a view whose places begin the rows along that axis.
-use Rattle.std.proofs.Common.{◌≡◌, ℕ, zero, suc, ◌+◌, ◌*◌, ◌-◌, ◌/◌, ◌%◌, ◌<◌, ◌≤◌, ℤ, pos, ◌+ℤ◌, ◌*ℤ◌, inl, inr, List, [], ◌∷◌, ◌++◌}
-use Rattle.std.proofs.Common.{refl, sym, ap, ◌∙◌, arith, length-append, length, get_or, map, take}
+use Rattle.std.proofs.Common.{◌≡◌, ℕ, zero, suc, ◌+◌, ◌*◌, ◌-◌, ◌/◌, ◌%◌, ◌<◌, ◌≤◌, ℤ, pos, ◌+ℤ◌, ◌*ℤ◌, List, [], ◌∷◌, ◌++◌}
+use Rattle.std.proofs.Common.{true, refl, sym, ap, ◌∙◌, arith, length-append, length, get_or, map, take}
 use Rattle.std.proofs.Math.Nat.{div-one, mod-eq_of_lt}
 use Rattle.std.proofs.Math.Seq.{get_or-append_seam, take-append_seam, take-length}
-use Rattle.std.proofs.lemmas.Bool.{cases_eq}
-use Rattle.std.proofs.lemmas.List.{map-append, reverse-append, take_more}
+use Rattle.std.proofs.lemmas.Bool.{and_from, lt-ltb}
+use Rattle.std.proofs.lemmas.Int.{ints}
+use Rattle.std.proofs.Math.IntN.{zero-*ℤ}
+use Rattle.std.specs.Prelude.{max, nat_lt}
+use Rattle.nd_base.proofs.laws.IsIndex.{length_of_index}
+use Rattle.std.proofs.lemmas.List.{length-map, map-append, reverse-append, take_more}
 use Rattle.std.proofs.lemmas.Nat.{div-add-mod', mod_below, mod-mul-add, div-mul-add, mul-add-lt}
 use Rattle.nd_base.specs.declared.order.Order.{Order}
 use Rattle.nd_base.specs.declared.order.Order.TheVariants.{RowMajor, ColumnMajor}
-use Rattle.nd_base.proofs.laws.Definitions.{as_read, index_of_flat, index_of_flat_in, nonzero_size, offset_of}
-use Rattle.nd_base.proofs.laws.Definitions.{reach_down, reach_up, size, sum_over_axes}
-use Rattle.nd_base.proofs.laws.NonzeroSize.{length_le_nonzero_size, nonzero_size-push, nonzero_size_of_other, nonzero_size_of_zero}
+use Rattle.nd_base.proofs.laws.Definitions.{is_index, as_read, index_of_flat, index_of_flat_in, nonzero_size, offset_of}
+use Rattle.nd_base.proofs.laws.Definitions.{size}
+use Rattle.nd_base.proofs.laws.NonzeroSize.{length_le_nonzero_size, nonzero_size-push}
 use Rattle.nd_base.proofs.laws.Offset.{offset_of-push}
 use Rattle.nd_base.proofs.laws.AsRead.{as_read-as_read, length-as_read, nonzero_size-as_read, offset_of-as_read}
-use Rattle.nd_base.proofs.laws.AsRead.{size-as_read, sum_over_axes-as_read}
+use Rattle.nd_base.proofs.laws.AsRead.{size-as_read}
 use Rattle.nd_base.proofs.laws.Size.{size-push}
-use Rattle.nd_base.proofs.laws.Span.{sum_over_axes-push}
 use Rattle.ndarray_layout.specs.Rows.{fastest_item, slower_items}
 use Rattle.ndarray_layout.specs.View.{IsView, view_places}
 use Rattle.ndarray_layout.specs.RowsLeft.{with_item}
@@ -23,7 +26,8 @@ use Rattle.ndarray_layout.specs.private.Fastest.{EndsIn}
 use Rattle.ndarray_layout.proofs.matching.FlatOffsets.{length-index_of_flat}
 use Rattle.ndarray_layout.proofs.ByRows.{by_last_axis, rows_from}
 use Rattle.ndarray_layout.proofs.ReadView.{places-as_read}
-use Rattle.ndarray_layout.proofs.laws.View.{IsView-within}
+use Rattle.ndarray_layout.proofs.BlockSteps.{is_index-joined}
+use Rattle.ndarray_layout.proofs.laws.Sources.{IsView-from_filled, at_least, nonzero_size-apart}
 
 -- ---- lists with an item for each axis
 -- read from the slowest axis on, the item of the fastest one is the last
@@ -92,28 +96,6 @@ pub size-others : {order : Order} {shape lens : List ℕ} {len : ℕ} → EndsIn
 size-others {order} {shape} {lens} {len} e =
     sym (size-as_read order shape) ∙ ap size (as_read-ends e) ∙ size-push (as_read order lens) len ∙ ap (λ n. len * n) (size-as_read order lens)
 
-no_more : (len : ℕ) (lens : List ℕ) → nonzero_size lens ≤ nonzero_size (len ∷ lens)
-no_more len lens = elim (cases_eq len 0) [
-  | inl e ↦ omega (arith, nonzero_size_of_zero len lens e)
-  | inr e ↦ omega (arith, nonzero_size_of_other len lens e, more len (nonzero_size lens) e)
-]
-  where
-    more : (a b : ℕ) → (a ≡ 0 → ⊥) → b ≤ a * b
-    more zero b some = absurd (some refl)
-    more (suc a) b some = omega arith
-
-pub nonzero_size-others : {order : Order} {shape lens : List ℕ} {len : ℕ} → EndsIn order shape lens len
-    → nonzero_size lens ≤ nonzero_size shape
-nonzero_size-others {order} {shape} {lens} {len} e =
-    omega (
-      arith,
-      nonzero_size-as_read order shape,
-      nonzero_size-as_read order lens,
-      ap nonzero_size (as_read-ends e),
-      nonzero_size-push (as_read order lens) len,
-      no_more len (as_read order lens),
-    )
-
 pub len_le_nonzero_size : {order : Order} {shape lens : List ℕ} {len : ℕ} → EndsIn order shape lens len → len ≤ nonzero_size shape
 len_le_nonzero_size {order} {shape} {lens} {len} e =
     omega (
@@ -124,20 +106,18 @@ len_le_nonzero_size {order} {shape} {lens} {len} e =
       length_le_nonzero_size (len ∷ as_read order lens) 0,
     )
 
--- a sum over the axes, such as a span
-pub sum-others : {order : Order} {shape lens : List ℕ} {strides others : List ℤ} {len : ℕ} {stride : ℤ} (f : ℕ → ℤ → ℕ)
-    → EndsIn order shape lens len
-    → EndsIn order strides others stride → length shape ≡ length strides
-    → sum_over_axes f shape strides ≡ f len stride + sum_over_axes f lens others
-sum-others {order} {shape} {lens} {strides} {others} {len} {stride} f e g count =
-    let less : length lens ≡ length others = omega (arith, length-others e, length-others g) in
-    let read : length (as_read order lens) ≡ length (as_read order others) =
-    omega (arith, less, length-as_read order lens, length-as_read order others) in
-    sym (sum_over_axes-as_read order f shape strides count)
-    ∙ ap (λ xs. sum_over_axes f xs (as_read order strides)) (as_read-ends e)
-    ∙ ap (sum_over_axes f (as_read order lens ++ len ∷ [])) (as_read-ends g)
-    ∙ sum_over_axes-push f (as_read order lens) (as_read order others) len stride read
-    ∙ ap (λ n. f len stride + n) (sum_over_axes-as_read order f lens others less)
+-- an index of the other axes is one with each coordinate of that one
+is_index-with_item : (order : Order) (lens index : List ℕ) (len i : ℕ) → is_index lens index ≡ true → i < len
+    → is_index (with_item order lens len) (with_item order index i) ≡ true
+is_index-with_item RowMajor lens index len i here below =
+    is_index-joined lens (len ∷ []) index (i ∷ []) here (and_from (nat_lt i len) true (lt-ltb i len below) refl)
+is_index-with_item ColumnMajor lens index len i here below = and_from (nat_lt i len) (is_index lens index) (lt-ltb i len below) here
+
+-- and lies as far on
+offset_of-with_item : (order : Order) (strides : List ℤ) (index : List ℕ) (stride : ℤ) (i : ℕ) → length strides ≡ length index
+    → offset_of (with_item order strides stride) (with_item order index i) ≡ (pos i *ℤ stride) +ℤ offset_of strides index
+offset_of-with_item RowMajor strides index stride i e = offset_of-push strides index stride i e
+offset_of-with_item ColumnMajor strides index stride i e = refl
 
 -- ---- views
 module _ (order : Order) {start : ℕ} {shape lens : List ℕ} {strides others : List ℤ} {len : ℕ} {stride : ℤ}
@@ -146,11 +126,17 @@ module _ (order : Order) {start : ℕ} {shape lens : List ℕ} {strides others :
   -- the other axes are a view
   pub IsView-others : IsView (record { start = start; shape = lens; strides = others })
   IsView-others =
-      let down = sum-others reach_down e g v.valid.same_count in
-      let up = sum-others reach_up e g v.valid.same_count in
-      IsView-within v (omega (arith, length-others e, length-others g, v.valid.same_count))
-      (omega (arith, nonzero_size-others e, v.valid.size_fits))
-      (omega (arith, down)) (omega (arith, up))
+      let source = λ (index : List ℕ). with_item order index 0 in
+      let within = λ (index : List ℕ) (here : is_index (at_least 1 lens) index ≡ true).
+      ap (λ all. is_index all (source index)) (ap (at_least 1) e.is ∙ map-with_item order (max 1) lens len)
+      ∙ is_index-with_item order (at_least 1 lens) index (max 1 len) 0 here (omega arith) in
+      let counts : length lens ≡ length others = omega (arith, length-others e, length-others g, v.valid.same_count) in
+      let few = nonzero_size-apart source shape lens within (λ index other here there same.
+      sym (slower-with_item order index 0) ∙ ap (slower_items order) same ∙ slower-with_item order other 0) in
+      IsView-from_filled source v counts (omega (arith, few, v.valid.size_fits)) (λ index here.
+      let long = length_of_index (at_least 1 lens) index here in
+      let moved = offset_of-with_item order others index stride 0 (omega (arith, long, counts, length-map lens (max 1))) in
+      (within index here, omega (arith, ints, ap (λ all. offset_of all (source index)) g.is, moved, zero-*ℤ stride)))
 
   -- whose places begin the rows
   pub places-others : view_places order (record { start = start; shape = shape; strides = strides })

@@ -1,11 +1,11 @@
 -- Laws of views whose axes stand in another order: they have the places of the view, and each index has its source.
-use Rattle.std.proofs.Common.{◌≡◌, ◌⊎◌, ℕ, ◌<◌, ℤ, pos, ◌+ℤ◌, ◌*ℤ◌, Bool, true, false, cond, None, Some, List}
+use Rattle.std.proofs.Common.{◌≡◌, ℕ, ◌<◌, ℤ, pos, ◌+ℤ◌, ◌*ℤ◌, Bool, true, false, cond, None, Some, List}
 use Rattle.std.proofs.Common.{[], ◌∷◌, length, map, reverse, get_or, set, refl, sym, ap, subst, ◌∙◌, inl, inr, arith}
 use Rattle.std.specs.Prelude.{◌&&◌, max, nat_lt}
 use Rattle.std.specs.List.{All, swap}
 use Rattle.std.proofs.Math.ListN.{get_or-map as get_or-map_same}
 use Rattle.std.proofs.lemmas.Int.{ints}
-use Rattle.std.proofs.lemmas.Bool.{and_from, and_parts, cases_order, lt-ltb, ltb-true}
+use Rattle.std.proofs.lemmas.Bool.{and_from, and_parts, cases_eq, lt-ltb, ltb-true}
 use Rattle.std.proofs.lemmas.List.{ext_get_or, get_or-map, length-map, length-reverse, map-set, reverse-reverse}
 use Rattle.std.proofs.lemmas.List.Elements.{All-weaker}
 use Rattle.std.proofs.lemmas.Simd.{map-map}
@@ -228,13 +228,6 @@ no_fault_of_axes shape axis other first second =
     (and_from (nat_lt axis (length shape)) (nat_lt other (length shape)) (lt-ltb axis (length shape) first)
     (lt-ltb other (length shape) second))
 
-same_or_not : (k a : ℕ) → (k ≡ a) ⊎ (k ≡ a → ⊥)
-same_or_not k a = elim (cases_order k a) [
-  | inl same ↦ inl same
-  | inr (inl before) ↦ inr (λ same. absurd (omega arith))
-  | inr (inr after) ↦ inr (λ same. absurd (omega arith))
-]
-
 -- exchanged twice they are as they were
 swap_twice : {X : Type 0} (d : X) (xs : List X) (a b : ℕ) → a < length xs → b < length xs → swap (swap xs a b) a b ≡ xs
 swap_twice d xs a b p q =
@@ -242,9 +235,9 @@ swap_twice d xs a b p q =
     let zs = swap ys a b in
     let first = swapped_from_swap xs ys a b d p q refl in
     let second = swapped_from_swap ys zs a b d (omega (arith, length-swap xs a b)) (omega (arith, length-swap xs a b)) refl in
-    ext_get_or d zs xs (length-swap ys a b ∙ length-swap xs a b) (λ k in_bounds. elim (same_or_not k a) [
+    ext_get_or d zs xs (length-swap ys a b ∙ length-swap xs a b) (λ k in_bounds. elim (cases_eq k a) [
       | inl at ↦ ap (λ i. get_or zs i d) at ∙ second.0 ∙ first.1 ∙ ap (λ i. get_or xs i d) (sym at)
-      | inr not_at ↦ elim (same_or_not k b) [
+      | inr not_at ↦ elim (cases_eq k b) [
         | inl at ↦ ap (λ i. get_or zs i d) at ∙ second.1 ∙ first.0 ∙ ap (λ i. get_or xs i d) (sym at)
         | inr nor ↦ second.2 k not_at nor ∙ first.2 k not_at nor
       ]

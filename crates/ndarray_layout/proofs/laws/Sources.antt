@@ -1,7 +1,7 @@
 -- Laws of layouts whose indices lie where indices of another layout do, their sources: what each step from view to view proves of
 -- itself, and what follows. The reach is read off the indices. So that an empty shape has some too, a length of 0 counts as 1 there,
 -- as in spans.
-use Rattle.std.proofs.Common.{◌≡◌, ℕ, zero, suc, ◌+◌, ◌-◌, ◌*◌, ◌<◌, ◌≤◌, ℤ, pos, negsuc, ◌+ℤ◌, true, false, List, [], ◌∷◌, length, map}
+use Rattle.std.proofs.Common.{◌≡◌, ℕ, zero, suc, ◌+◌, ◌*◌, ◌<◌, ◌≤◌, ℤ, pos, negsuc, ◌+ℤ◌, true, false, List, [], ◌∷◌, length, map}
 use Rattle.std.proofs.Common.{Bool, cond, get_or, replicate, refl, sym, ap, subst, ◌∙◌, arith, inl, inr}
 use Rattle.std.specs.Prelude.{max}
 use Rattle.std.specs.Cmp.Lexicographic.{bytes_decides}
@@ -15,7 +15,7 @@ use Rattle.std.proofs.lemmas.Map.Made.{IsDistinct-from_AllPairs, is_member-Decid
 use Rattle.nd_base.specs.declared.order.Order.TheVariants.{RowMajor}
 use Rattle.nd_base.proofs.laws.Coordinates.{is_index_of_larger}
 use Rattle.nd_base.proofs.laws.Definitions.{indices_in, is_empty, is_index, limit, nonzero_size, offset_of, reach_down}
-use Rattle.nd_base.proofs.laws.Definitions.{high_span, low_span, reach_up, size, sum_over_axes}
+use Rattle.nd_base.proofs.laws.Definitions.{high_span, low_span, magnitude, reach, reach_up, size, sum_over_axes}
 use Rattle.nd_base.proofs.laws.Indices.{All-indices_in, AllPairs-indices_in, Contains-indices_in, length-indices_in}
 use Rattle.nd_base.proofs.laws.IsIndex.{is_index-zeros}
 use Rattle.nd_base.proofs.laws.NonzeroSize.{nonzero_size_of_nonempty, nonzero_size_of_other, nonzero_size_of_zero}
@@ -27,7 +27,7 @@ use Rattle.ndarray_layout.specs.Descends.{Descends, IsViewOf}
 use Rattle.ndarray_layout.specs.KeepsPlaces.{KeepsPlaces}
 use Rattle.ndarray_layout.specs.View.{View, IsPlace, IsView}
 use Rattle.ndarray_layout.proofs.laws.KeepsPlaces.{Descends-kept, IsViewOf-kept}
-use Rattle.ndarray_layout.proofs.laws.View.{IsView-within, view_place}
+use Rattle.ndarray_layout.proofs.laws.View.{view_place}
 
 -- ---- lengths of 0 as lengths of 1
 -- a shape with this length in place of each that is less
@@ -65,15 +65,15 @@ sum-at_least f same [] strides = refl
 sum-at_least f same (len ∷ shape) [] = refl
 sum-at_least f same (len ∷ shape) (stride ∷ strides) = omega (arith, same len stride, sum-at_least f same shape strides)
 
-steps-at_least : (len s : ℕ) → (max 1 len - 1) * s ≡ (len - 1) * s
-steps-at_least len s = ap (λ n. n * s) (omega arith)
+reach-at_least : (len : ℕ) (stride : ℤ) → reach (max 1 len) stride ≡ reach len stride
+reach-at_least len stride = ap (λ n. n * magnitude stride) (omega arith)
 
 pub down-at_least : (len : ℕ) (stride : ℤ) → reach_down (max 1 len) stride ≡ reach_down len stride
 down-at_least len (pos s) = refl
-down-at_least len (negsuc s) = steps-at_least len (suc s)
+down-at_least len (negsuc s) = reach-at_least len (negsuc s)
 
 pub up-at_least : (len : ℕ) (stride : ℤ) → reach_up (max 1 len) stride ≡ reach_up len stride
-up-at_least len (pos s) = steps-at_least len s
+up-at_least len (pos s) = reach-at_least len (pos s)
 up-at_least len (negsuc s) = refl
 
 is_index-at_least : (shape index : List ℕ) → is_index shape index ≡ true → is_index (at_least 1 shape) index ≡ true
@@ -87,16 +87,26 @@ filled view = record { start = view.start; shape = at_least 1 view.shape; stride
 
 -- a view reaches as far so
 pub filled-IsView : {view : View} → IsView view → IsView (filled view)
-filled-IsView {view} v =
-    IsView-within v (length-map view.shape (max 1) ∙ v.valid.same_count) (omega (arith, size-at_least view.shape, v.valid.size_fits))
-    (omega (arith, sum-at_least reach_down down-at_least view.shape view.strides))
-    (omega (arith, sum-at_least reach_up up-at_least view.shape view.strides))
+filled-IsView {view} v = record {
+  valid = record {
+    same_count = length-map view.shape (max 1) ∙ v.valid.same_count;
+    size_fits = omega (arith, size-at_least view.shape, v.valid.size_fits);
+    span_fits = omega (arith, sum-at_least reach reach-at_least view.shape view.strides, v.valid.span_fits);
+  };
+  low = omega (arith, sum-at_least reach_down down-at_least view.shape view.strides, v.low);
+  high = omega (arith, sum-at_least reach_up up-at_least view.shape view.strides, v.high);
+}
 
 IsView-filled : {view : View} → IsView (filled view) → IsView view
-IsView-filled {view} v =
-    IsView-within v (sym (length-map view.shape (max 1)) ∙ v.valid.same_count) (omega (arith, size-at_least view.shape, v.valid.size_fits))
-    (omega (arith, sum-at_least reach_down down-at_least view.shape view.strides))
-    (omega (arith, sum-at_least reach_up up-at_least view.shape view.strides))
+IsView-filled {view} v = record {
+  valid = record {
+    same_count = sym (length-map view.shape (max 1)) ∙ v.valid.same_count;
+    size_fits = omega (arith, size-at_least view.shape, v.valid.size_fits);
+    span_fits = omega (arith, sum-at_least reach reach-at_least view.shape view.strides, v.valid.span_fits);
+  };
+  low = omega (arith, sum-at_least reach_down down-at_least view.shape view.strides, v.low);
+  high = omega (arith, sum-at_least reach_up up-at_least view.shape view.strides, v.high);
+}
 
 -- a layout with an index, whose indices lie where indices of a view do, is a view: so do the lowest and the highest
 IsView-from_places : (source : List ℕ → List ℕ) {view new : View} → IsView view → length new.shape ≡ length new.strides
@@ -116,6 +126,13 @@ IsView-from_places source {view} {new} v counts fits some keeps =
       high = high;
     }
 
+-- so is one with none, if they do where lengths of 0 count as 1
+pub IsView-from_filled : (source : List ℕ → List ℕ) {view new : View} → IsView view → length new.shape ≡ length new.strides
+    → nonzero_size new.shape ≤ limit → KeepsPlaces source (filled view) (filled new) → IsView new
+IsView-from_filled source {new = new} v counts fits keeps =
+    IsView-filled (IsView-from_places source (filled-IsView v) (length-map new.shape (max 1) ∙ counts)
+    (omega (arith, size-at_least new.shape)) (some-at_least new.shape) keeps)
+
 -- along strides of 0 all indices lie where the first does
 offset_along_zeros : (n : ℕ) (index : List ℕ) → offset_of (replicate n (pos 0)) index ≡ pos 0
 offset_along_zeros n [] = refl
@@ -127,12 +144,10 @@ IsView-along_zeros : {view : View} (shape : List ℕ) → IsView view → nonzer
 IsView-along_zeros {view} shape v fits =
     let old = at_least 1 view.shape in
     let zeros : List ℕ = replicate (length old) 0 in
-    let counts = length-map shape (max 1) ∙ sym (length-replicate {A = ℤ} (length shape) (pos 0)) in
-    IsView-filled (IsView-from_places (λ index. zeros) (filled-IsView v) counts (omega (arith, size-at_least shape)) (some-at_least shape)
-    (λ index here. (
+    IsView-from_filled (λ index. zeros) v (sym (length-replicate {A = ℤ} (length shape) (pos 0))) fits (λ index here. (
       is_index-zeros old (some-at_least view.shape),
       omega (arith, ints, offset_along_zeros (length shape) index, offset_of-zeros view.strides (length old)),
-    )))
+    ))
 
 -- so is one whose strides are 0 where it has no index
 pub IsView-where_some : (source : List ℕ → List ℕ) {view : View} (shape : List ℕ) (strides : List ℤ) → IsView view
@@ -193,12 +208,13 @@ no_more source old new within apart =
     (All-contains (Contains (indices_in RowMajor old)) sources q there ((is_member-Decides bytes_decides sources q).0 member))) in
     omega (arith, few, length-map all source, length-indices_in RowMajor new, length-indices_in RowMajor old)
 
-nonzero_size-own_sources : {source : List ℕ → List ℕ} {old : List ℕ} {old_strides : List ℤ} {moved : ℤ} {new : List ℕ} {strides : List ℤ}
-    → HasOwnSources source old old_strides moved new strides → nonzero_size new ≤ nonzero_size old
-nonzero_size-own_sources {source} {old} {new = new} own =
+pub nonzero_size-apart : (source : List ℕ → List ℕ) (old new : List ℕ)
+    → ((index : List ℕ) → is_index (at_least 1 new) index ≡ true → is_index (at_least 1 old) (source index) ≡ true)
+    → AreSourcesApart source new → nonzero_size new ≤ nonzero_size old
+nonzero_size-apart source old new within apart =
     omega (
       arith,
-      no_more source (at_least 1 old) (at_least 1 new) (λ index. own.sources.within 1 index (omega arith)) own.apart,
+      no_more source (at_least 1 old) (at_least 1 new) within apart,
       nonzero_size_of_nonempty (at_least 1 old) (some-at_least old),
       nonzero_size_of_nonempty (at_least 1 new) (some-at_least new),
       size-at_least old,
@@ -231,9 +247,8 @@ module _ {source : List ℕ → List ℕ} {view : View} {moved : ℤ} {new : Lis
     )
 
     is_view : nonzero_size new ≤ limit → IsView made
-    is_view fits = IsView-filled (IsView-from_places source (filled-IsView v) (length-map new (max 1) ∙ is.counts)
-        (omega (arith, size-at_least new)) (some-at_least new)
-        (λ index here. (is.within 1 index (omega arith) here, omega (arith, ints, begins, is.offset index here))))
+    is_view fits = IsView-from_filled source v is.counts fits
+        (λ index here. (is.within 1 index (omega arith) here, omega (arith, ints, begins, is.offset index here)))
 
     pub IsViewOf-sources : nonzero_size new ≤ limit → IsViewOf source view made
     IsViewOf-sources fits = IsViewOf-kept (is_view fits) keeps
@@ -242,8 +257,9 @@ module _ {source : List ℕ → List ℕ} {view : View} {moved : ℤ} {new : Lis
 pub Descends-own_sources : {source : List ℕ → List ℕ} {view : View} {moved : ℤ} {new : List ℕ} {strides : List ℤ} {start : ℕ} → IsView view
     → HasOwnSources source view.shape view.strides moved new strides → pos start ≡ pos view.start +ℤ moved
     → Descends source view (record { start = start; shape = new; strides = strides })
-Descends-own_sources {view} {new} v own begins =
-    let of_view = IsViewOf-sources v own.sources begins (omega (arith, nonzero_size-own_sources own, v.valid.size_fits)) in
+Descends-own_sources {source} {view} {new = new} v own begins =
+    let few = nonzero_size-apart source view.shape new (λ index. own.sources.within 1 index (omega arith)) own.apart in
+    let of_view = IsViewOf-sources v own.sources begins (omega (arith, few, v.valid.size_fits)) in
     Descends-kept of_view.is_view of_view.places
     (λ index other here there. own.apart index other (is_index-at_least new index here) (is_index-at_least new other there))
 

@@ -1,5 +1,5 @@
 -- Laws of views: each index of the shape has a place; how many places there are, in which order, and where they lie.
-use Rattle.std.proofs.Common.{◌≡◌, ℕ, ◌+◌, ◌<◌, ◌≤◌, ◌^◌, ℤ, pos, ◌+ℤ◌, Bool, true, false, cond, Some, None, List, [], ◌∷◌}
+use Rattle.std.proofs.Common.{◌≡◌, ℕ, ◌<◌, ◌^◌, ℤ, pos, ◌+ℤ◌, Bool, true, false, cond, Some, None, List, [], ◌∷◌}
 use Rattle.std.proofs.Common.{length, map, refl, sym, ap, subst, ◌∙◌, arith}
 use Rattle.std.specs.Prelude.{slice_get, slice_index}
 use Rattle.std.specs.Option.{option_map}
@@ -11,7 +11,7 @@ use Rattle.std.proofs.lemmas.List.Elements.{All-map, All-weaker}
 use Rattle.std.proofs.lemmas.Option.{slice_get-map}
 use Rattle.nd_base.specs.declared.order.Order.{Order}
 use Rattle.nd_base.proofs.laws.Definitions.{indices_in, is_index, IsInBounds, checked_offset, offset_of, place, index_of_flat_in}
-use Rattle.nd_base.proofs.laws.Definitions.{limit, nonzero_size, size, high_span, low_span, IsCount, IsValidLayout}
+use Rattle.nd_base.proofs.laws.Definitions.{size, low_span, IsCount, IsValidLayout}
 use Rattle.nd_base.proofs.laws.Indices.{length-indices_in, All-indices_in, indices_in_of_empty}
 use Rattle.nd_base.proofs.laws.NonzeroSize.{length_le_nonzero_size, size_le_nonzero_size}
 use Rattle.nd_base.proofs.laws.FlatIndex.{slice_get-indices_in}
@@ -27,23 +27,6 @@ lowest_view {shape} {strides} valid = record {
   low = omega arith;
   high = omega (arith, low_high_span shape strides, valid.span_fits);
 }
-
--- a layout that reaches no further than a view does, to either side, is a view from its start on
-pub IsView-within : {view new : View} → IsView view → length new.shape ≡ length new.strides → nonzero_size new.shape ≤ limit
-    → low_span new.shape new.strides + view.start ≤ low_span view.shape view.strides + new.start
-    → new.start + high_span new.shape new.strides ≤ view.start + high_span view.shape view.strides → IsView new
-IsView-within {view} {new} v counts fits low high =
-    let spans = low_high_span new.shape new.strides in
-    let whole = low_high_span view.shape view.strides in
-    record {
-      valid = record {
-        same_count = counts;
-        size_fits = fits;
-        span_fits = omega (arith, spans, whole, v.valid.span_fits);
-      };
-      low = omega (arith, v.low);
-      high = omega (arith, v.high);
-    }
 
 -- the place of an index
 pub view_place : {view : View} (index : List ℕ) → IsView view → is_index view.shape index ≡ true → IsPlace (place_at view index)
