@@ -17,9 +17,8 @@ first_part_of axis index view = record { start = view.start; shape = slice_set v
 -- the place of the first index of the part from a coordinate on; that of the view where there is no such coordinate
 abbrev pub second_start : ℕ → ℕ → View → ℤ
 second_start axis index view =
-    if nat_lt index (slice_index view.shape axis)
-    then pos view.start +ℤ (pos index *ℤ slice_index_or view.strides axis (pos 0))
-    else pos view.start
+    pos view.start
+    +ℤ (pos (if nat_lt index (slice_index view.shape axis) then index else 0) *ℤ slice_index_or view.strides axis (pos 0))
 
 -- the part of the coordinates from one on
 abbrev pub second_part_of : ℕ → ℕ → View → View

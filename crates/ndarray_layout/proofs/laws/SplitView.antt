@@ -1,6 +1,6 @@
 -- Laws of the two parts of a view that is split along an axis: each index of the view is of one of them, and they lie apart.
-use Rattle.std.proofs.Common.{◌≡◌, ◌⊎◌, ℕ, ◌+◌, ◌-◌, ◌<◌, ◌≤◌, ℤ, pos, ◌+ℤ◌, ◌*ℤ◌, Bool, true, false, cond, None, Some, List, length}
-use Rattle.std.proofs.Common.{get_or, set, refl, sym, ap, subst, ◌∙◌, inl, inr, arith}
+use Rattle.std.proofs.Common.{◌≡◌, ◌⊎◌, ℕ, ◌+◌, ◌-◌, ◌<◌, ◌≤◌, ℤ, pos, ◌*ℤ◌, true, cond, None, Some, List, length}
+use Rattle.std.proofs.Common.{get_or, set, ap, subst, ◌∙◌, inl, inr, arith}
 use Rattle.std.specs.Prelude.{◌&&◌, nat_le, nat_lt}
 use Rattle.std.proofs.lemmas.Bool.{and_from, and_parts, cases_lt, le-leb, leb-true, lt-ltb, ltb-true}
 use Rattle.std.proofs.lemmas.List.{get_or-set_same, length-set, set-get_or, set-set}
@@ -15,7 +15,7 @@ use Rattle.ndarray_layout.specs.SharePlace.{SharePlace}
 use Rattle.ndarray_layout.specs.SplitView.{split_fault, first_part_of, second_start, second_part_of, second_source}
 use Rattle.ndarray_layout.specs.View.{View, IsPlace, IsView}
 use Rattle.ndarray_layout.proofs.AxisByAxis.{first_coordinates, range_cases, range_of, range_start}
-use Rattle.ndarray_layout.proofs.OneAxis.{HasAxis, first_coordinate, set_axis}
+use Rattle.ndarray_layout.proofs.OneAxis.{HasAxis, set_axis}
 use Rattle.ndarray_layout.proofs.Passed.{passed}
 use Rattle.ndarray_layout.proofs.laws.KeepsPlaces.{Descends-told}
 use Rattle.ndarray_layout.proofs.laws.Sources.{Descends-from_start, Descends-own_sources, HasOwnSources, start_within}
@@ -66,16 +66,8 @@ module _ (axis index : ℕ) (view : View) (v : IsView view) (none : split_fault 
   second = rw (set-get_or view.strides axis (pos 0)) at (set_axis view.shape view.strides axis has
       (range_of len index len stride within (omega arith)) (λ i j below also same. omega arith))
 
-  begins : second_start axis index view ≡ pos view.start +ℤ (pos (range_start index len) *ℤ stride)
-  begins = by (nat_lt index len)
-    where
-      by : (some : Bool) → cond some (pos view.start +ℤ (pos index *ℤ stride)) (pos view.start)
-          ≡ pos view.start +ℤ (pos (cond some index 0) *ℤ stride)
-      by true = refl
-      by false = sym (first_coordinate view.start stride)
-
   pub second_start_within : IsPlace (second_start axis index view)
-  second_start_within = rw begins (start_within v second.sources)
+  second_start_within = start_within v second.sources
 
   pub start-second_part_of : pos (second_part_of axis index view).start ≡ second_start axis index view
   start-second_part_of = magnitude_from (second_start axis index view) second_start_within.0
@@ -87,7 +79,7 @@ module _ (axis index : ℕ) (view : View) (v : IsView view) (none : split_fault 
       (coordinate_of_index (set view.shape axis count) coordinates axis here (omega (arith, length-set view.shape axis count, there)))
 
   pub Descends-second_part_of : Descends (second_source axis index) view (second_part_of axis index view)
-  Descends-second_part_of = Descends-told (Descends-own_sources v second (start-second_part_of ∙ begins)) (λ coordinates here.
+  Descends-second_part_of = Descends-told (Descends-own_sources v second start-second_part_of) (λ coordinates here.
       let below = coordinate (len - index) coordinates here in
       elim (range_cases index len) [
         | inl some ↦ ap (λ from. set coordinates axis (from + get_or coordinates axis 0)) some.1

@@ -29,7 +29,7 @@ fn subtract_starts(ends: &mut [usize], starts: &[usize])
 
 /// How far a start moves: not at all where no coordinate lies below the end.
 #[inline(always)]
-fn moved_start(start: usize, end: usize) -> usize
+pub(super) fn moved_start(start: usize, end: usize) -> usize
     ensures { result ≡ (if nat_lt start end then start else 0) }
 {
     if start < end { start } else { 0 }

@@ -1,11 +1,12 @@
 //! The two parts of a view that is split along an axis.
-ghost use Rattle.std.specs.Prelude.{◌≡◌, ◌↔◌, ◌<◌, IsTrue, None, IfOk, IsOk, length, slice_set};
+ghost use Rattle.std.specs.Prelude.{◌≡◌, ◌↔◌, ◌<◌, pos, IsTrue, None, IfOk, IsOk, length, slice_set};
 ghost use Rattle.nd_base.specs.Memory.{NeedsNoMemory};
 ghost use Rattle.nd_base.specs.ShapeFault.{shape_fault};
 ghost use Rattle.ndarray_layout.specs.Descends.{Descends};
-ghost use Rattle.ndarray_layout.specs.SplitView.{split_fault, first_part_of, second_part_of, second_source};
+ghost use Rattle.ndarray_layout.specs.SplitView.{split_fault, first_part_of, second_part_of, second_source, second_start};
 
 use crate::strided::Strided;
+use crate::strided::cropping::moved_start;
 use crate::strided::places::place_along_axis;
 use nd_base::{Axis, ErrorKind, LayoutError, Lengths, axis_of, from_kind, set_axis_of};
 use std::alloc::Global;
@@ -28,6 +29,16 @@ fn with_length<D: Lengths>(dim: D, axis: Axis, len: usize) -> D
 }
 
 impl<D: Lengths> Strided<D> {
+    /// The place of the first index of the part from coordinate `index` on; the start where there is no such coordinate.
+    fn start_from(&self, axis: Axis, index: usize) -> usize
+        requires { split_fault self.now.shape axis.0 index ≡ None }
+        ensures { pos result ≡ second_start axis.0 index self.now }
+    {
+        let len = axis_of(self.dim.slice(), axis);
+        let stride = axis_of(self.strides.slice(), axis);
+        place_along_axis(self.start, moved_start(index, len), stride)
+    }
+
     /// The two parts of the view along an axis: the coordinates below `index`, and those from `index` on. No
     /// element is moved. The start of the second part moves to coordinate `index`, if there is one.
     ///
@@ -60,13 +71,8 @@ impl<D: Lengths> Strided<D> {
         if !can_split(self.dim.slice(), axis, index) {
             return Err(LayoutError::Shape(from_kind(ErrorKind::OutOfBounds)));
         }
+        let start = self.start_from(axis, index);
         let len = axis_of(self.dim.slice(), axis);
-        let stride = axis_of(self.strides.slice(), axis);
-        let start = if index < len {
-            place_along_axis(self.start, index, stride)
-        } else {
-            self.start
-        };
         let dim = self.dim.duplicate(alloc)?;
         let strides = self.strides.duplicate(alloc)?;
         let second = Strided {
