@@ -5,9 +5,9 @@ use Rattle.std.specs.Prelude.{max}
 use Rattle.std.proofs.Math.IntN.{zero-*ℤ}
 use Rattle.std.proofs.lemmas.Bool.{and_from, and_parts, cases_lt, cond-false, cond-true, le-ltb, lt-ltb, ltb-true}
 use Rattle.std.proofs.lemmas.Int.{ints}
-use Rattle.nd_base.proofs.laws.Definitions.{is_index, offset_of}
+use Rattle.nd_base.proofs.laws.Definitions.{is_index}
 use Rattle.nd_base.proofs.laws.Times.{times_sum}
-use Rattle.ndarray_layout.proofs.laws.Sources.{AreSourcesApart, HasSources, HasOwnSources, at_least}
+use Rattle.ndarray_layout.proofs.laws.Sources.{HasSources, HasOwnSources, at_least}
 
 -- ---- one axis
 -- each coordinate lies where one of another axis does, its source, both counted from first ones that are so far apart
@@ -20,68 +20,66 @@ abbrev pub AreCoordinatesApart : (ℕ → ℕ) → ℕ → Type 0
 AreCoordinatesApart source new = (i j : ℕ) → i < max 1 new → j < max 1 new → source i ≡ source j → i ≡ j
 
 -- ---- no axes, and one axis more
+-- an index of one axis more
+record Parts (len : ℕ) (shape index : List ℕ) : Type 0 where
+  first : ℕ
+  others : List ℕ
+  is : index ≡ first ∷ others
+  below : first < len
+  within : is_index shape others ≡ true
+
+parts : (len : ℕ) (shape index : List ℕ) → is_index (len ∷ shape) index ≡ true → Parts len shape index
+parts len shape [] here = absurd (cc)
+parts len shape (i ∷ index) here =
+    let both = and_parts (nat_lt i len) (is_index shape index) here in
+    record { first = i; others = index; is = refl; below = ltb-true i len both.0; within = both.1 }
+
+none : (index : List ℕ) → is_index [] index ≡ true → index ≡ []
+none [] here = refl
+none (i ∷ index) here = absurd (cc)
+
 pub no_axes : {source : List ℕ → List ℕ} {strides : List ℤ} → source [] ≡ [] → HasOwnSources source [] strides (pos 0) [] []
-no_axes {source} {strides} none = record {
-  sources = record { counts = refl; within = within; offset = offset };
-  apart = apart;
+no_axes is = record {
+  sources = record {
+    counts = refl;
+    within = λ least index few here. rw (none index here, is) refl;
+    offset = λ index here. rw (none index here, is) refl;
+  };
+  apart = λ index other here there same. none index here ∙ sym (none other there);
 }
-  where
-    within : (least : ℕ) (index : List ℕ) → least ≤ 1 → is_index [] index ≡ true → is_index [] (source index) ≡ true
-    within least [] few here = ap (is_index []) none
-    within least (i ∷ index) few here = absurd (cc)
-
-    offset : (index : List ℕ) → is_index [] index ≡ true → offset_of strides (source index) ≡ pos 0 +ℤ offset_of [] index
-    offset [] here = rw none refl
-    offset (i ∷ index) here = absurd (cc)
-
-    apart : AreSourcesApart source []
-    apart [] [] here there same = refl
-    apart [] (j ∷ other) here there same = absurd (cc)
-    apart (i ∷ index) other here there same = absurd (cc)
 
 pub along : {source rest : List ℕ → List ℕ} {at : ℕ → ℕ} {len new_len : ℕ} {stride new_stride moved whole more : ℤ} {old new : List ℕ}
     {old_strides strides : List ℤ} → AxisHasSources at len stride moved new_len new_stride
-    → HasSources rest old old_strides more new strides → whole ≡ moved +ℤ more → ((i : ℕ) (index : List ℕ) → source (i ∷ index) ≡ at i ∷ rest index)
+    → HasSources rest old old_strides more new strides → whole ≡ moved +ℤ more
+    → ((i : ℕ) (index : List ℕ) → source (i ∷ index) ≡ at i ∷ rest index)
     → HasSources source (len ∷ old) (stride ∷ old_strides) whole (new_len ∷ new) (new_stride ∷ strides)
-along {source} {rest} {at} {len} {new_len} {stride} {new_stride} {whole = whole} {old = old} {new} {old_strides} {strides} axis others adds
-    is =
-    record { counts = omega (arith, others.counts); within = within; offset = offset }
-  where
-    within : (least : ℕ) (index : List ℕ) → least ≤ 1 → is_index (at_least least (new_len ∷ new)) index ≡ true
-        → is_index (at_least least (len ∷ old)) (source index) ≡ true
-    within least [] few here = absurd (cc)
-    within least (i ∷ index) few here =
-        let parts = and_parts (nat_lt i (max least new_len)) (is_index (at_least least new) index) here in
-        let below = axis.within least i few (ltb-true i (max least new_len) parts.0) in
-        rw (is i index) (and_from (nat_lt (at i) (max least len)) (is_index (at_least least old) (rest index))
-        (lt-ltb (at i) (max least len) below) (others.within least index few parts.1))
-
-    offset : (index : List ℕ) → is_index (at_least 1 (new_len ∷ new)) index ≡ true
-        → offset_of (stride ∷ old_strides) (source index) ≡ whole +ℤ offset_of (new_stride ∷ strides) index
-    offset [] here = absurd (cc)
-    offset (i ∷ index) here =
-        let parts = and_parts (nat_lt i (max 1 new_len)) (is_index (at_least 1 new) index) here in
-        rw (is i index) (omega (arith, ints, adds, axis.offset i (ltb-true i (max 1 new_len) parts.0), others.offset index parts.1))
+along {rest = rest} {at} {len} {new_len} {old = old} {new} axis others adds is = record {
+  counts = omega (arith, others.counts);
+  within = λ least index few here.
+      let p = parts (max least new_len) (at_least least new) index here in
+      rw (p.is, is p.first p.others) (and_from (nat_lt (at p.first) (max least len)) (is_index (at_least least old) (rest p.others))
+      (lt-ltb (at p.first) (max least len) (axis.within least p.first few p.below)) (others.within least p.others few p.within));
+  offset = λ index here.
+      let p = parts (max 1 new_len) (at_least 1 new) index here in
+      rw (p.is, is p.first p.others) (omega (arith, ints, adds, axis.offset p.first p.below, others.offset p.others p.within));
+}
 
 pub along-own : {source rest : List ℕ → List ℕ} {at : ℕ → ℕ} {len new_len : ℕ} {stride new_stride moved whole more : ℤ}
     {old new : List ℕ} {old_strides strides : List ℤ} → AxisHasSources at len stride moved new_len new_stride
     → AreCoordinatesApart at new_len → HasOwnSources rest old old_strides more new strides → whole ≡ moved +ℤ more
     → ((i : ℕ) (index : List ℕ) → source (i ∷ index) ≡ at i ∷ rest index)
     → HasOwnSources source (len ∷ old) (stride ∷ old_strides) whole (new_len ∷ new) (new_stride ∷ strides)
-along-own {source} {rest} {at} {new_len = new_len} {new = new} axis apart others adds is =
-    record { sources = along axis others.sources adds is; apart = sources_apart }
-  where
-    sources_apart : AreSourcesApart source (new_len ∷ new)
-    sources_apart [] other here there same = absurd (cc)
-    sources_apart (i ∷ index) [] here there same = absurd (cc)
-    sources_apart (i ∷ index) (j ∷ other) here there same =
-        let first = and_parts (nat_lt i (max 1 new_len)) (is_index (at_least 1 new) index) here in
-        let second = and_parts (nat_lt j (max 1 new_len)) (is_index (at_least 1 new) other) there in
-        let both : at i ∷ rest index ≡ at j ∷ rest other = sym (is i index) ∙ same ∙ is j other in
-        let one : i ≡ j =
-        apart i j (ltb-true i (max 1 new_len) first.0) (ltb-true j (max 1 new_len) second.0) (ap (λ xs. get_or xs 0 0) both) in
-        let later : index ≡ other = others.apart index other first.1 second.1 (ap (drop 1) both) in
-        cc
+along-own {source} {rest} {at} {new_len = new_len} {new = new} axis apart others adds is = record {
+  sources = along axis others.sources adds is;
+  apart = λ index other here there same.
+      let p = parts (max 1 new_len) (at_least 1 new) index here in
+      let q = parts (max 1 new_len) (at_least 1 new) other there in
+      let both : at p.first ∷ rest p.others ≡ at q.first ∷ rest q.others =
+      sym (ap source p.is ∙ is p.first p.others) ∙ same ∙ ap source q.is ∙ is q.first q.others in
+      let one : p.first ≡ q.first = apart p.first q.first p.below q.below (ap (λ xs. get_or xs 0 0) both) in
+      let later : p.others ≡ q.others = others.apart p.others q.others p.within q.within (ap (drop 1) both) in
+      p.is ∙ ap (λ i. i ∷ p.others) one ∙ ap (λ xs. q.first ∷ xs) later ∙ sym q.is;
+}
 
 -- one coordinate of an axis
 pub at_coordinate : {source rest : List ℕ → List ℕ} {len i : ℕ} {stride whole more : ℤ} {old new : List ℕ} {old_strides strides : List ℤ}
@@ -100,40 +98,31 @@ at_coordinate {source} {rest} {len} {i} {old = old} below others adds is = recor
 -- a new axis whose coordinates all lie where the first one does
 pub new_axis : {source rest : List ℕ → List ℕ} {len : ℕ} {stride moved : ℤ} {old new : List ℕ} {old_strides strides : List ℤ}
     → ((i : ℕ) → i < max 1 len → pos i *ℤ stride ≡ pos 0) → HasSources rest old old_strides moved new strides
-    → ((i : ℕ) (index : List ℕ) → source (i ∷ index) ≡ rest index) → HasSources source old old_strides moved (len ∷ new) (stride ∷ strides)
-new_axis {source} {rest} {len} {stride} {moved} {old} {new} {old_strides} {strides} stays others is =
-    record { counts = omega (arith, others.counts); within = within; offset = offset }
-  where
-    within : (least : ℕ) (index : List ℕ) → least ≤ 1 → is_index (at_least least (len ∷ new)) index ≡ true
-        → is_index (at_least least old) (source index) ≡ true
-    within least [] few here = absurd (cc)
-    within least (i ∷ index) few here =
-        rw (is i index) (others.within least index few (and_parts (nat_lt i (max least len)) (is_index (at_least least new) index) here).1)
-
-    offset : (index : List ℕ) → is_index (at_least 1 (len ∷ new)) index ≡ true
-        → offset_of old_strides (source index) ≡ moved +ℤ offset_of (stride ∷ strides) index
-    offset [] here = absurd (cc)
-    offset (i ∷ index) here =
-        let parts = and_parts (nat_lt i (max 1 len)) (is_index (at_least 1 new) index) here in
-        rw (is i index) (omega (arith, ints, stays i (ltb-true i (max 1 len) parts.0), others.offset index parts.1))
+    → ((i : ℕ) (index : List ℕ) → source (i ∷ index) ≡ rest index)
+    → HasSources source old old_strides moved (len ∷ new) (stride ∷ strides)
+new_axis {len = len} {new = new} stays others is = record {
+  counts = omega (arith, others.counts);
+  within = λ least index few here.
+      let p = parts (max least len) (at_least least new) index here in
+      rw (p.is, is p.first p.others) (others.within least p.others few p.within);
+  offset = λ index here.
+      let p = parts (max 1 len) (at_least 1 new) index here in
+      rw (p.is, is p.first p.others) (omega (arith, ints, stays p.first p.below, others.offset p.others p.within));
+}
 
 pub one_new_axis : {source rest : List ℕ → List ℕ} (stride : ℤ) {moved : ℤ} {old new : List ℕ} {old_strides strides : List ℤ}
-    → HasOwnSources rest old old_strides moved new strides
-    → ((i : ℕ) (index : List ℕ) → source (i ∷ index) ≡ rest index) → HasOwnSources source old old_strides moved (1 ∷ new) (stride ∷ strides)
+    → HasOwnSources rest old old_strides moved new strides → ((i : ℕ) (index : List ℕ) → source (i ∷ index) ≡ rest index)
+    → HasOwnSources source old old_strides moved (1 ∷ new) (stride ∷ strides)
 one_new_axis {source} {rest} stride {new = new} others is = record {
   sources = new_axis (λ i below. let first : i ≡ 0 = omega arith in rw first (zero-*ℤ stride)) others.sources is;
-  apart = sources_apart;
+  apart = λ index other here there same.
+      let p = parts 1 (at_least 1 new) index here in
+      let q = parts 1 (at_least 1 new) other there in
+      let one : p.first ≡ q.first = omega (arith, p.below, q.below) in
+      let both : rest p.others ≡ rest q.others = sym (ap source p.is ∙ is p.first p.others) ∙ same ∙ ap source q.is ∙ is q.first q.others in
+      let later : p.others ≡ q.others = others.apart p.others q.others p.within q.within both in
+      p.is ∙ ap (λ i. i ∷ p.others) one ∙ ap (λ xs. q.first ∷ xs) later ∙ sym q.is;
 }
-  where
-    sources_apart : AreSourcesApart source (1 ∷ new)
-    sources_apart [] other here there same = absurd (cc)
-    sources_apart (i ∷ index) [] here there same = absurd (cc)
-    sources_apart (i ∷ index) (j ∷ other) here there same =
-        let first = and_parts (nat_lt i 1) (is_index (at_least 1 new) index) here in
-        let second = and_parts (nat_lt j 1) (is_index (at_least 1 new) other) there in
-        let one : i ≡ j = omega (arith, ltb-true i 1 first.0, ltb-true j 1 second.0) in
-        let later : index ≡ other = others.apart index other first.1 second.1 (sym (is i index) ∙ same ∙ is j other) in
-        cc
 
 -- ---- which coordinates
 -- the first ones, as many as there are or fewer

@@ -5,7 +5,7 @@ use Rattle.std.specs.Prelude.{◌/◌, ◌%◌, ◌==◌}
 use Rattle.std.proofs.Math.Nat.{div-mul-le_self}
 use Rattle.std.proofs.lemmas.Bool.{and_from, and_parts, eqb-false, le-ltb, lt-ltb, ltb-true, or_parts}
 use Rattle.std.proofs.lemmas.List.{drop_at, length-append, length-take-le, map-id, take-append-drop, take_at}
-use Rattle.std.proofs.lemmas.Nat.{div-add-mod', div_below, mod_below, same_from_place}
+use Rattle.std.proofs.lemmas.Nat.{div-add-mod', div-mul-add, div_below, mod-mul-add, mod_below}
 use Rattle.nd_base.specs.Elementwise.{elementwise, products, sums}
 use Rattle.nd_base.proofs.laws.Definitions.{is_empty, is_index}
 use Rattle.nd_base.proofs.laws.IsIndex.{length_of_index}
@@ -34,6 +34,27 @@ are_blocks = record {
         omega arith
 
 -- ---- each index in a chunk is in no other
+-- the chunk of an index, and the index in it
+abbrev pub quotients : List ℕ → List ℕ → List ℕ
+quotients index chunk = elementwise (λ i size. i / size) index chunk
+
+abbrev pub rests : List ℕ → List ℕ → List ℕ
+rests index chunk = elementwise (λ i size. i % size) index chunk
+
+-- are those of the index that an index in a chunk stands for
+parts_of_source : (chunk at inner : List ℕ) → length at ≡ length chunk → is_index chunk inner ≡ true
+    → (quotients (sums (products at chunk) inner) chunk ≡ at) × (rests (sums (products at chunk) inner) chunk ≡ inner)
+parts_of_source [] [] [] count inside = (refl, refl)
+parts_of_source [] [] (j ∷ inner) count inside = absurd (cc)
+parts_of_source [] (i ∷ at) inner count inside = absurd (omega arith)
+parts_of_source (size ∷ chunk) [] inner count inside = absurd (omega arith)
+parts_of_source (size ∷ chunk) (i ∷ at) [] count inside = absurd (cc)
+parts_of_source (size ∷ chunk) (i ∷ at) (j ∷ inner) count inside =
+    let both = and_parts (nat_lt j size) (is_index chunk inner) inside in
+    let below = ltb-true j size both.0 in
+    let later = parts_of_source chunk at inner (omega arith) both.1 in
+    (rw (div-mul-add i size j below, later.0) refl, rw (mod-mul-add i size j below, later.1) refl)
+
 -- an index in each of two chunks, which stand for one index
 pub record HaveOneSource (chunk at inner other within : List ℕ) : Type 0 where
   pub count : length at ≡ length chunk
@@ -45,39 +66,12 @@ pub record HaveOneSource (chunk at inner other within : List ℕ) : Type 0 where
 -- are one index in one chunk
 pub chunks_are_apart : (chunk at inner other within : List ℕ) → HaveOneSource chunk at inner other within
     → (at ≡ other) × (inner ≡ within)
-chunks_are_apart [] [] [] [] [] h = (refl, refl)
-chunks_are_apart [] (i ∷ at) inner other within h = let count = h.count in absurd (omega arith)
-chunks_are_apart [] [] (j ∷ inner) other within h = let inside = h.inside in absurd (cc)
-chunks_are_apart [] [] [] (k ∷ other) within h = let count = h.other_count in absurd (omega arith)
-chunks_are_apart [] [] [] [] (l ∷ within) h = let inside = h.other_inside in absurd (cc)
-chunks_are_apart (size ∷ chunk) [] inner other within h = let count = h.count in absurd (omega arith)
-chunks_are_apart (size ∷ chunk) (i ∷ at) [] other within h = let inside = h.inside in absurd (cc)
-chunks_are_apart (size ∷ chunk) (i ∷ at) (j ∷ inner) [] within h = let count = h.other_count in absurd (omega arith)
-chunks_are_apart (size ∷ chunk) (i ∷ at) (j ∷ inner) (k ∷ other) [] h = let inside = h.other_inside in absurd (cc)
-chunks_are_apart (size ∷ chunk) (i ∷ at) (j ∷ inner) (k ∷ other) (l ∷ within) h =
-    let first = and_parts (nat_lt j size) (is_index chunk inner) h.inside in
-    let second = and_parts (nat_lt l size) (is_index chunk within) h.other_inside in
-    let same = h.same in
-    let head : i * size + j ≡ k * size + l = cc in
-    let tail : sums (products at chunk) inner ≡ sums (products other chunk) within = cc in
-    let one = same_from_place i j k l size (ltb-true j size first.0) (ltb-true l size second.0) head in
-    let count = h.count in
-    let other_count = h.other_count in
-    let rest = chunks_are_apart chunk at inner other within (record {
-      count = omega arith;
-      other_count = omega arith;
-      inside = first.1;
-      other_inside = second.1;
-      same = tail;
-    }) in
-    (ap (λ x. x ∷ at) one.0 ∙ ap (λ xs. k ∷ xs) rest.0, ap (λ x. x ∷ inner) one.1 ∙ ap (λ xs. l ∷ xs) rest.1)
-
--- the chunk of an index, and the index in it
-abbrev pub quotients : List ℕ → List ℕ → List ℕ
-quotients index chunk = elementwise (λ i size. i / size) index chunk
-
-abbrev pub rests : List ℕ → List ℕ → List ℕ
-rests index chunk = elementwise (λ i size. i % size) index chunk
+chunks_are_apart chunk at inner other within h =
+    let first = parts_of_source chunk at inner h.count h.inside in
+    let second = parts_of_source chunk other within h.other_count h.other_inside in (
+      sym first.0 ∙ ap (λ index. quotients index chunk) h.same ∙ second.0,
+      sym first.1 ∙ ap (λ index. rests index chunk) h.same ∙ second.1,
+    )
 
 -- an index that is not left over is in that chunk
 pub record IsInChunk (shape chunk index : List ℕ) : Type 0 where

@@ -1,12 +1,12 @@
 -- Laws of views whose axes stand in another order: they have the places of the view, and each index has its source.
-use Rattle.std.proofs.Common.{◌≡◌, ℕ, ◌<◌, ℤ, pos, ◌+ℤ◌, ◌*ℤ◌, Bool, true, false, cond, None, Some, List}
+use Rattle.std.proofs.Common.{◌≡◌, ℕ, ◌<◌, ℤ, pos, ◌+ℤ◌, ◌*ℤ◌, true, cond, None, Some, List}
 use Rattle.std.proofs.Common.{[], ◌∷◌, length, map, reverse, get_or, set, refl, sym, ap, subst, ◌∙◌, inl, inr, arith}
 use Rattle.std.specs.Prelude.{◌&&◌, max, nat_lt}
 use Rattle.std.specs.List.{All, swap}
 use Rattle.std.proofs.Math.ListN.{get_or-map as get_or-map_same}
 use Rattle.std.proofs.lemmas.Int.{ints}
 use Rattle.std.proofs.lemmas.Bool.{and_from, and_parts, cases_eq, lt-ltb, ltb-true}
-use Rattle.std.proofs.lemmas.List.{ext_get_or, get_or-map, length-map, length-reverse, map-set, reverse-reverse}
+use Rattle.std.proofs.lemmas.List.{get_or_default, ext_get_or, get_or-map, length-map, length-reverse, map-set, reverse-reverse}
 use Rattle.std.proofs.lemmas.List.Elements.{All-weaker}
 use Rattle.std.proofs.lemmas.Simd.{map-map}
 use Rattle.std.proofs.lemmas.List.Edits.{length-swap, swap_is, swapped_from_swap}
@@ -17,11 +17,12 @@ use Rattle.nd_base.specs.declared.order.Order.TheVariants.{RowMajor, ColumnMajor
 use Rattle.nd_base.specs.Indices.{below, indices, is_index}
 use Rattle.nd_base.specs.Offset.{offset_of}
 use Rattle.nd_base.specs.Signed.{signed, all_signed}
-use Rattle.nd_base.proofs.laws.IsIndex.{is_index-reverse, length_of_index}
+use Rattle.nd_base.proofs.laws.IsIndex.{coordinate_of_index, is_index-reverse, is_index_from_coordinates, length_of_index}
 use Rattle.nd_base.proofs.laws.Indices.{All-indices_in}
 use Rattle.nd_base.proofs.laws.Lists.{map-reverse, map_same}
 use Rattle.nd_base.proofs.laws.Offset.{offset_of-reverse}
 use Rattle.nd_dim.specs.AxesInOrder.{reordered, is_axis_order, inverse_order}
+use Rattle.nd_dim.proofs.laws.AxesInOrder.{axis_found, get_or_map_at, position_of}
 use Rattle.nd_dim.proofs.laws.AxesInOrder.{in_own_order, length-inverse_order, length_of_order, order_of_permutation, total}
 use Rattle.nd_dim.proofs.laws.AxesInOrder.{total_in_order, undone_by_inverse, undone_by_order}
 use Rattle.ndarray_layout.specs.Descends.{Descends}
@@ -92,21 +93,6 @@ offsets_in_order strides index [] = refl
 offsets_in_order strides index (axis ∷ axes) =
     ap (λ rest. (pos (get_or index axis 0) *ℤ get_or strides axis (pos 0)) +ℤ rest) (offsets_in_order strides index axes)
 
-and_turns : (x y z : Bool) → (x && (y && z)) ≡ (y && (x && z))
-and_turns true y z = refl
-and_turns false true z = refl
-and_turns false false z = refl
-
-abbrev tests_total : ℕ → List ℕ → List ℕ → List ℕ → Bool
-tests_total otherwise shape index =
-    total {A = Bool} (λ x y. x && y) true and_turns (λ axis. nat_lt (get_or index axis 0) (get_or shape axis otherwise))
-
-tests_in_order : (otherwise : ℕ) (shape index axes : List ℕ)
-    → is_index (reordered otherwise axes shape) (reordered 0 axes index) ≡ tests_total otherwise shape index axes
-tests_in_order otherwise shape index [] = refl
-tests_in_order otherwise shape index (axis ∷ axes) =
-    ap (λ rest. nat_lt (get_or index axis 0) (get_or shape axis otherwise) && rest) (tests_in_order otherwise shape index axes)
-
 own : {X : Type 0} (otherwise : X) (n : ℕ) (items : List X) → length items ≡ n → reordered otherwise (below n) items ≡ items
 own otherwise n items count = subst (λ m. reordered otherwise (below m) items ≡ items) count (in_own_order otherwise items)
 
@@ -127,17 +113,22 @@ pub signed_in_order : (axes strides : List ℕ) → all_signed (reordered 0 axes
 signed_in_order axes strides = map-in_order signed 0 axes strides
 
 module _ (n : ℕ) (axes : List ℕ) (order : is_axis_order n axes ≡ true) (source : List ℕ → List ℕ) (back : TakenBack n axes source) where
-  test_of_source : (otherwise : ℕ) (shape index : List ℕ) → length shape ≡ n → length index ≡ n
-      → is_index (reordered otherwise axes shape) index ≡ is_index shape (source index)
-  test_of_source otherwise shape index count long =
+  is_index-source : (otherwise : ℕ) (shape index : List ℕ) → length shape ≡ n → is_index (reordered otherwise axes shape) index ≡ true
+      → length index ≡ n → is_index shape (source index) ≡ true
+  is_index-source otherwise shape index count here long =
       let taken = back index long in
-      sym (ap (is_index (reordered otherwise axes shape)) taken.1)
-      ∙ tests_in_order otherwise shape (source index) axes
-      ∙ sym (total_in_order n axes order (λ x y. x && y) true and_turns
-      (λ axis. nat_lt (get_or (source index) axis 0) (get_or shape axis otherwise)))
-      ∙ sym (tests_in_order otherwise shape (source index) (below n))
-      ∙ ap (λ lens. is_index lens (reordered 0 (below n) (source index))) (own otherwise n shape count)
-      ∙ ap (is_index shape) (own 0 n (source index) taken.0)
+      is_index_from_coordinates shape (source index) (taken.0 ∙ sym count) (λ axis h.
+      let found = axis_found n axes order axis (omega arith) in
+      let at = position_of axis axes in
+      let many : length (reordered otherwise axes shape) ≡ length axes = length-map axes (λ a. get_or shape a otherwise) in
+      let below = coordinate_of_index (reordered otherwise axes shape) index at here (omega (arith, found.0)) in
+      let mine : get_or index at 0 ≡ get_or (source index) axis 0 =
+      ap (λ xs. get_or xs at 0) (sym taken.1) ∙ get_or_map_at axes (source index) at 0 found.0
+      ∙ ap (λ a. get_or (source index) a 0) found.1 in
+      let its : get_or (reordered otherwise axes shape) at 0 ≡ get_or shape axis 0 =
+      get_or-map (λ a. get_or shape a otherwise) axes at 0 0 found.0 ∙ ap (λ a. get_or shape a otherwise) found.1
+      ∙ get_or_default shape axis otherwise 0 h in
+      omega arith)
 
   offset_of_source : (strides : List ℤ) (index : List ℕ) → length strides ≡ n → length index ≡ n
       → offset_of (reordered (pos 0) axes strides) index ≡ offset_of strides (source index)
@@ -167,9 +158,8 @@ module _ (axes : List ℕ) (view : View) (v : IsView view) (order : is_axis_orde
     sources = record {
       counts = length-map axes (λ axis. get_or view.shape axis 0) ∙ sym (length-map axes (λ axis. get_or view.strides axis (pos 0)));
       within = λ least index few here.
-          sym (test_of_source n axes order source back (max least 0) (at_least least view.shape) index (length-map view.shape (max least))
-          (long_index least index here))
-          ∙ rw (map-in_order (max least) 0 axes view.shape) at here;
+          is_index-source n axes order source back (max least 0) (at_least least view.shape) index (length-map view.shape (max least))
+          (rw (map-in_order (max least) 0 axes view.shape) at here) (long_index least index here);
       offset = λ index here. omega (
         arith,
         ints,
