@@ -130,7 +130,7 @@ pub first_coordinates : (len count : ℕ) (stride : ℤ) → count ≤ len → A
 first_coordinates len count stride few =
     record { within = λ least i least_few below. omega arith; offset = λ i below. omega (arith, ints) }
 
--- those from one on, up to another; where there is none, so to speak the first
+-- those from one on, up to another; where there are none, from the first on
 abbrev pub range_start : ℕ → ℕ → ℕ
 range_start start end = cond (nat_lt start end) start 0
 

@@ -49,7 +49,7 @@ length-elementwise f (x ∷ xs) (y ∷ ys) e = ap suc (length-elementwise f xs y
 -- ---- blocks at steps
 -- how many blocks of a length an axis has, the step from one to the next, and the stride: the last block ends within the axis
 pub record AreBlocks (count : ℕ → ℕ → ℕ) (step : ℕ → ℕ) (along : ℕ → ℕ → ℤ → ℤ) : Type 0 where
-  pub fit : (len size : ℕ) → 0 < size → 0 < count len size → (count len size - 1) * step size + size ≤ len
+  pub within : (len size : ℕ) → 0 < size → 0 < count len size → (count len size - 1) * step size + size ≤ len
   pub stride : (len size : ℕ) (stride : ℤ) → 2 ≤ count len size → along len size stride ≡ pos (step size) *ℤ stride
 
 -- there is a length of a block for each axis, and a stride
@@ -76,7 +76,7 @@ module _ (count : ℕ → ℕ → ℕ) (step : ℕ → ℕ) (along : ℕ → ℕ
   -- a coordinate in a block is one of the axis
   below : (len size i j : ℕ) → i < count len size → j < size → i * step size + j < len
   below len size i j here there =
-      let fit = blocks.fit len size (omega arith) (omega arith) in
+      let last = blocks.within len size (omega arith) (omega arith) in
       let before : i ≤ count len size - 1 = omega arith in
       let steps : i * step size ≤ (count len size - 1) * step size = mul-le-mul_right (step size) before in
       omega arith

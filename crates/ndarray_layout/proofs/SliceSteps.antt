@@ -171,12 +171,12 @@ first_within {source} {len} {stride = stride} {new_stride = new_stride} axis =
 -- ---- the steps
 module _ {fit : Fit} {elems : List SliceInfoElem} {shape : List ℕ} {strides : List ℤ} {rest : List SliceInfoElem} {lens : List ℕ}
     {steps : List ℤ} {new : ℕ} {ns nt : List ℕ} {offset : ℤ} where
-  pub slice_step : {slice : Slice} {len : ℕ} {stride : ℤ} {count : ℕ} (kept : ℕ) {moved : ℤ} → count ≡ length (picks fit len slice)
-      → signed kept ≡ picked_stride (length (picks fit len slice)) stride slice.step → moved ≡ first_offset (picks fit len slice) stride
+  pub slice_step : {slice : Slice} {len : ℕ} {stride : ℤ} {count : ℕ} (bits : ℕ) {moved : ℤ} → count ≡ length (picks fit len slice)
+      → signed bits ≡ picked_stride (length (picks fit len slice)) stride slice.step → moved ≡ first_offset (picks fit len slice) stride
       → slice_fault fit len slice ≡ None
       → SlicedSoFar fit elems shape strides (elem.Slice slice.start slice.end slice.step ∷ rest) (len ∷ lens) (stride ∷ steps) new ns nt
-      offset → SlicedSoFar fit elems shape strides rest lens steps (new + 1) (set ns new count) (set nt new kept) (offset +ℤ moved)
-  slice_step {slice} {len} {stride} {count} kept n t m none s =
+      offset → SlicedSoFar fit elems shape strides rest lens steps (new + 1) (set ns new count) (set nt new bits) (offset +ℤ moved)
+  slice_step {slice} {len} {stride} {count} bits n t m none s =
       let axis = first_within (picked_axis fit len slice (fits_of_no_fault fit len slice none) stride) in
       let shape_is : take new ns ++ (count ∷ sliced_shape fit rest lens) ≡ sliced_shape fit elems shape = rw n s.shape_is in
       let strides_is = s.strides_is in
@@ -184,10 +184,10 @@ module _ {fit : Fit} {elems : List SliceInfoElem} {shape : List ℕ} {strides : 
         same_count = omega (arith, s.same_count);
         counts = omega (arith, s.counts);
         room = omega (arith, s.room, length-set ns new count);
-        same_room = omega (arith, s.same_room, length-set ns new count, length-set nt new kept);
+        same_room = omega (arith, s.same_room, length-set ns new count, length-set nt new bits);
         fault = ap (λ fault. option_or fault (first_fault fit lens rest)) (sym none) ∙ s.fault;
         shape_is = wrote_len new count ns (sliced_shape fit rest lens) (omega (arith, s.room)) shape_is;
-        strides_is = wrote_stride new kept nt (sliced_strides fit rest lens steps) (omega (arith, s.room, s.same_room)) t strides_is;
+        strides_is = wrote_stride new bits nt (sliced_strides fit rest lens steps) (omega (arith, s.room, s.same_room)) t strides_is;
         offset_is = rw m (omega (arith, ints, s.offset_is));
         low = rw m (omega (arith, ints, s.low, axis.0));
         high = rw m (omega (arith, ints, s.high, axis.1));
@@ -260,14 +260,14 @@ stepped {offset = offset} valid s =
     record { fits = f; next = record { so_far = rw (to_z-of_z w64 offset f) s } }
 
 module _ {fit : Fit} {elems : List SliceInfoElem} {shape strides : List ℕ} {k axis new : ℕ} {ns nt : List ℕ} {offset : ℤ} where
-  pub slice_arm : {slice : Slice} {count : ℕ} (kept : ℕ) {moved : ℤ} → IsValidLayout shape (all_signed strides)
+  pub slice_arm : {slice : Slice} {count : ℕ} (bits : ℕ) {moved : ℤ} → IsValidLayout shape (all_signed strides)
       → AtAxis fit elems shape strides (elem.Slice slice.start slice.end slice.step) k axis new ns nt offset
       → count ≡ length (picks fit (get_or shape axis 0) slice)
-      → signed kept ≡ picked_stride (length (picks fit (get_or shape axis 0) slice)) (signed (get_or strides axis 0)) slice.step
+      → signed bits ≡ picked_stride (length (picks fit (get_or shape axis 0) slice)) (signed (get_or strides axis 0)) slice.step
       → moved ≡ first_offset (picks fit (get_or shape axis 0) slice) (signed (get_or strides axis 0))
       → slice_fault fit (get_or shape axis 0) slice ≡ None
-      → Stepped fit elems shape strides (k + 1) (axis + 1) (new + 1) (set ns new count) (set nt new kept) (offset +ℤ moved)
-  slice_arm kept valid at n t m none = stepped valid (slice_step kept n t m none at.so_far)
+      → Stepped fit elems shape strides (k + 1) (axis + 1) (new + 1) (set ns new count) (set nt new bits) (offset +ℤ moved)
+  slice_arm bits valid at n t m none = stepped valid (slice_step bits n t m none at.so_far)
 
   pub index_arm : (index : ℤ) {moved : ℤ} → IsValidLayout shape (all_signed strides)
       → AtAxis fit elems shape strides (elem.Index index) k axis new ns nt offset

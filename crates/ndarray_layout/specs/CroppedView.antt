@@ -1,4 +1,4 @@
--- What keeping a range of coordinates on each axis makes of a view, and which ranges a shape has.
+-- What a range of coordinates on each axis makes of a view, and which ranges a shape has.
 use Rattle.std.specs.Prelude.{◌≡◌, ℕ, ℤ, pos, negsuc, ◌+ℤ◌, nat_lt, if◌then◌else◌, List, [], ◌∷◌, refl}
 use Rattle.std.proofs.Math.Arith.{le→nltb}
 use Rattle.std.proofs.Math.Dec.{lit≤}
@@ -12,11 +12,11 @@ pub record RangesFit (shape starts ends : List ℕ) : Type 0 where
   pub in_order : DifferencesFit ends starts
   pub within : DifferencesFit shape ends
 
--- the starts on the axes that keep a coordinate, and 0 on the others
+-- the starts on the axes that have a coordinate left, and 0 on the others
 abbrev pub moved_starts : List ℕ → List ℕ → List ℕ
 moved_starts = elementwise (λ start end. if nat_lt start end then start else 0)
 
--- the place of the first index that is kept
+-- the place of the first index that is left
 abbrev pub cropped_start : List ℕ → List ℕ → View → ℤ
 cropped_start starts ends view = pos view.start +ℤ offset_of view.strides (moved_starts starts ends)
 
@@ -28,7 +28,7 @@ cropped_of starts ends view = record {
   strides = view.strides;
 }
 
--- which index of the view an index that is kept stands for: each coordinate lies that much further on
+-- which index of the view an index that is left stands for: each coordinate lies that much further on
 abbrev pub crop_source : List ℕ → List ℕ → List ℕ
 crop_source starts coordinates = sums coordinates starts
 

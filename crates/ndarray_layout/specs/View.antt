@@ -19,7 +19,7 @@ pub record View : Type 0 where
   pub shape : List ℕ
   pub strides : List ℤ
 
--- the view of strides that are kept as the `usize` of the same bits
+-- the view of strides that are given as the `usize` of the same bits
 abbrev pub view_of : ℕ → List ℕ → List ℕ → View
 view_of start shape strides = record { start = start; shape = shape; strides = all_signed strides }
 

@@ -23,7 +23,7 @@ whole size = size
 
 are_blocks : AreBlocks chunk_count whole chunk_stride
 are_blocks = record {
-  fit = λ len size some more. fits len size (len / size) more (div-mul-le_self len size);
+  within = λ len size some more. fits len size (len / size) more (div-mul-le_self len size);
   stride = λ len size stride more. ap (λ few. cond few (pos 0) (pos size *ℤ stride)) (le-ltb (chunk_count len size) 2 more);
 }
   where

@@ -61,7 +61,7 @@ module _ (starts ends : List ℕ) (view : View) (v : IsView view) (fit : RangesF
     (filled-IsView v).valid.span_fits,
   )
 
-  -- what is kept begins at a place
+  -- what is left begins at a place
   pub cropped_start_within : IsPlace (cropped_start starts ends view)
   cropped_start_within = start_within v own.sources
 
@@ -73,7 +73,7 @@ module _ (starts ends : List ℕ) (view : View) (v : IsView view) (fit : RangesF
   Descends-cropped_of = Descends-told (Descends-own_sources v own start-cropped_of) (λ coordinates here.
       all_moved starts ends coordinates fit.in_order here)
 
-  -- it has the shape and the start of the slice by the same ranges, also where no index is kept
+  -- it has the shape and the start of the slice by the same ranges, also where no index is left
   pub shape_of_slice : (slice_of Strict (ranges_between starts ends) view).shape ≡ (cropped_of starts ends view).shape
   shape_of_slice =
       let within = length_all_zip (λ x y. y ≤ x) view.shape ends fit.within in

@@ -108,7 +108,7 @@ map-in_order f otherwise (axis ∷ axes) items =
     ap (λ item. item ∷ map f (reordered otherwise axes items)) (sym (get_or-map_same f items axis otherwise))
     ∙ ap (λ rest. get_or (map f items) axis (f otherwise) ∷ rest) (map-in_order f otherwise axes items)
 
--- strides that are kept as the `usize` of the same bits stand in an order as they are kept
+-- so strides are read as signed before or after
 pub signed_in_order : (axes strides : List ℕ) → all_signed (reordered 0 axes strides) ≡ reordered (pos 0) axes (all_signed strides)
 signed_in_order axes strides = map-in_order signed 0 axes strides
 

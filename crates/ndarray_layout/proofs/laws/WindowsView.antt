@@ -33,7 +33,7 @@ once (negsuc s) = omega (arith, ints)
 
 are_blocks : AreBlocks window_count one own
 are_blocks = record {
-  fit = λ len size some more. omega arith;
+  within = λ len size some more. omega arith;
   stride = λ len size stride more. once stride;
 }
 
