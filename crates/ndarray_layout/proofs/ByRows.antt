@@ -49,7 +49,8 @@ no_step (negsuc n) = omega (arith, ints)
 
 -- an axis by itself is one row
 one_row : (place stride : ℤ) (coordinates : List ℕ)
-    → places_from place (stride ∷ []) (flat_map (λ i. (i ∷ []) ∷ []) coordinates) ≡ map (λ coordinate. place +ℤ (pos coordinate *ℤ stride)) coordinates
+    → places_from place (stride ∷ []) (flat_map (λ i. (i ∷ []) ∷ []) coordinates)
+    ≡ map (λ coordinate. place +ℤ (pos coordinate *ℤ stride)) coordinates
 one_row place stride [] = refl
 one_row place stride (coordinate ∷ coordinates) =
     let here : place +ℤ ((pos coordinate *ℤ stride) +ℤ pos 0) ≡ place +ℤ (pos coordinate *ℤ stride) = omega (arith, ints) in

@@ -77,7 +77,13 @@ ends_of_some ColumnMajor (item ∷ items) other some = record { is = refl }
 pub length-others : {A : Type 0} {order : Order} {items others : List A} {item : A} → EndsIn order items others item
     → length items ≡ length others + 1
 length-others {order = order} {items = items} {others = others} {item = item} e =
-    omega (arith, length-as_read order items, length-as_read order others, ap length (as_read-ends e), length-append (as_read order others) (item ∷ []))
+    omega (
+      arith,
+      length-as_read order items,
+      length-as_read order others,
+      ap length (as_read-ends e),
+      length-append (as_read order others) (item ∷ []),
+    )
 
 -- a function of each item
 map-with_item : {A B : Type 0} (order : Order) (f : A → B) (others : List A) (item : A)
@@ -94,7 +100,8 @@ EndsIn-map {order = order} {items = items} {others = others} {item = item} f e =
 -- the sizes
 pub size-others : {order : Order} {shape lens : List ℕ} {len : ℕ} → EndsIn order shape lens len → size shape ≡ len * size lens
 size-others {order} {shape} {lens} {len} e =
-    sym (size-as_read order shape) ∙ ap size (as_read-ends e) ∙ size-push (as_read order lens) len ∙ ap (λ n. len * n) (size-as_read order lens)
+    sym (size-as_read order shape) ∙ ap size (as_read-ends e) ∙ size-push (as_read order lens) len
+    ∙ ap (λ n. len * n) (size-as_read order lens)
 
 pub len_le_nonzero_size : {order : Order} {shape lens : List ℕ} {len : ℕ} → EndsIn order shape lens len → len ≤ nonzero_size shape
 len_le_nonzero_size {order} {shape} {lens} {len} e =
@@ -196,7 +203,8 @@ offset_of-flat_index {order} {shape} {lens} {strides} {others} {len} {stride} r 
     let index = index_of_flat (as_read order shape) r in
     let slow = index_of_flat (as_read order lens) (r / len) in
     let within : r < size (as_read order lens ++ len ∷ []) = omega (arith, size-as_read order shape, ap size (as_read-ends e)) in
-    let is : index ≡ slow ++ (r % len) ∷ [] = ap (λ xs. index_of_flat xs r) (as_read-ends e) ∙ index_of_flat-push (as_read order lens) len r within in
+    let is : index ≡ slow ++ (r % len) ∷ [] =
+    ap (λ xs. index_of_flat xs r) (as_read-ends e) ∙ index_of_flat-push (as_read order lens) len r within in
     let counts : length (as_read order strides) ≡ length index =
     omega (arith, length-as_read order strides, length-as_read order shape, length-index_of_flat (as_read order shape) r) in
     let slow_counts : length (as_read order others) ≡ length slow =

@@ -1,13 +1,15 @@
 -- From one row of a view to the next: along a column, and to the first row of the next one.
 use Rattle.std.proofs.Common.{◌≡◌, ℕ, zero, suc, ◌+◌, ◌*◌, ◌-◌, ◌/◌, ◌%◌, ◌<◌, ◌≤◌, ℤ, pos, ◌+ℤ◌, ◌*ℤ◌, Bool, true, false}
-use Rattle.std.proofs.Common.{inl, inr, List, [], ◌∷◌, replicate, length, length-append, length-drop, map, drop, refl, sym, ap, ◌∙◌, arith, add-one, drop-cons}
+use Rattle.std.proofs.Common.{inl, inr, List, [], ◌∷◌, replicate, length, length-append, length-drop, map, drop, refl, sym, ap, ◌∙◌}
+use Rattle.std.proofs.Common.{arith, add-one, drop-cons}
 use Rattle.std.proofs.Math.Nat.{mul-le-mul_left, mul-le-mul_right}
 use Rattle.std.proofs.lemmas.Bool.{cases_lt}
 use Rattle.std.proofs.lemmas.Int.{ints}
 use Rattle.std.proofs.lemmas.List.{get_or-map, length-map}
 use Rattle.std.proofs.lemmas.Nat.{div-add-mod', div-mul-add, mod-mul-add, mod_below, mul-add-lt}
 use Rattle.nd_base.specs.declared.order.Order.{Order}
-use Rattle.nd_base.proofs.laws.Definitions.{all_signed, index_of_flat_in, indices_in, is_empty, limit, magnitude, offset_of, place, signed, size}
+use Rattle.nd_base.proofs.laws.Definitions.{all_signed, index_of_flat_in, indices_in, is_empty, limit, magnitude, offset_of, place}
+use Rattle.nd_base.proofs.laws.Definitions.{signed, size}
 use Rattle.nd_base.proofs.laws.FlatIndex.{flat_index_in-zeros, index_of_flat_in-flat_index_in, is_index-index_of_flat_in}
 use Rattle.nd_base.proofs.laws.Indices.{get_or-indices_in, length-indices_in}
 use Rattle.nd_base.proofs.laws.IsIndex.{is_index-zeros}
@@ -85,8 +87,10 @@ module _ {order : Order} {shape lens : List ℕ} {strides others : List ℤ} {le
       let before : IsOnAxis len (flat - 1) (len - 1) (r - 1) = record {
         on = omega (arith, o.on);
         is = omega (arith, o.on, o.is, ap (λ n. n * len) more);
-      } in
-      (on_axis before (omega arith), omega (arith, ints, on_axis o below, no_step (offset_of others (index_of_flat_in order lens flat)) stride))
+      } in (
+        on_axis before (omega arith),
+        omega (arith, ints, on_axis o below, no_step (offset_of others (index_of_flat_in order lens flat)) stride),
+      )
 
 -- each flat index has a place
 pub flat_within : (order : Order) {view : View} → IsView view → (r : ℕ) → r < size view.shape
@@ -139,7 +143,8 @@ module _ {order : Order} {start : ℕ} {lens strides : List ℕ} {left : ℕ} (a
     }
 
     pub back : (offset_of (all_signed strides) (index_of_flat_in order lens (left - 1))
-        ≡ (pos (axis.len - 1) *ℤ signed axis.stride) +ℤ offset_of (all_signed axis.strides.now) (index_of_flat_in order axis.lens.now (flat - 1)))
+        ≡ (pos (axis.len - 1) *ℤ signed axis.stride)
+        +ℤ offset_of (all_signed axis.strides.now) (index_of_flat_in order axis.lens.now (flat - 1)))
         × (offset_of (all_signed strides) (index_of_flat_in order lens left)
         ≡ offset_of (all_signed axis.strides.now) (index_of_flat_in order axis.lens.now flat))
     back = after_axis both.0 (EndsIn-map signed both.1) a.view.valid.same_count o others_later.some a.below
@@ -168,7 +173,8 @@ some_rows (suc columns) len in_column some on = omega arith
 -- ---- the place of a row, by that of the one before it
 module _ (order : Order) (start : ℕ) (column : Fastest) (v : IsView (axis_view order start column)) where
   -- a stride on in its column
-  pub row_on : {flat coordinate r : ℕ} → IsOnAxis column.len flat coordinate r → 0 < coordinate → r < size (axis_view order start column).shape
+  pub row_on : {flat coordinate r : ℕ} → IsOnAxis column.len flat coordinate r → 0 < coordinate
+      → r < size (axis_view order start column).shape
       → row_place order start column (r - 1) +ℤ signed column.stride ≡ row_place order start column r
   row_on o some below =
       omega (arith, ints, next_on_axis (ends order start column) (steps order start column) v.valid.same_count o some below)
@@ -231,7 +237,8 @@ module _ {order : Order} {start : ℕ} {column : Fastest} {row : Row} {in_column
   given_below = omega (arith, whole, l.begun, some_rows columns_left column.len in_column some (l.on_axis some))
 
   -- a row from the next place on comes, and then those that are left
-  pub row_comes : {start' : ℕ} (left : ℕ) → pos start' ≡ row_place order start column given → count_of_rows column in_column columns_left ≡ left + 1
+  pub row_comes : {start' : ℕ} (left : ℕ) → pos start' ≡ row_place order start column given
+      → count_of_rows column in_column columns_left ≡ left + 1
       → rows_left order start column row (count_of_rows column in_column columns_left)
       ≡ record row { start = start' } ∷ rows_left order start column row left
   row_comes {start'} left e count =
@@ -289,9 +296,11 @@ module _ {order : Order} {start : ℕ} {column : Fastest} {row : Row} {in_column
 -- ---- how many
 pub count_fits : {order : Order} {start : ℕ} {column : Fastest} {row : Row} {in_column columns columns_left : ℕ}
     → AreRowsLeft order start column row in_column columns columns_left → count_of_rows column in_column columns_left ≤ limit
-count_fits {order} {start} {column} l = omega (arith, l.within, size_le_nonzero_size (axis_view order start column).shape, l.is_view.valid.size_fits)
+count_fits {order} {start} {column} l =
+    omega (arith, l.within, size_le_nonzero_size (axis_view order start column).shape, l.is_view.valid.size_fits)
 
-pub length-rows_left : (order : Order) (start : ℕ) (column : Fastest) (row : Row) (left : ℕ) → left ≤ size (axis_view order start column).shape
+pub length-rows_left : (order : Order) (start : ℕ) (column : Fastest) (row : Row) (left : ℕ)
+    → left ≤ size (axis_view order start column).shape
     → length (rows_left order start column row left) ≡ left
 length-rows_left order start column row left within =
     let view = axis_view order start column in

@@ -67,7 +67,8 @@ point_rows : (order : Order) (start : ℕ) → view_rows order (view_of start (1
 point_rows RowMajor start = refl
 point_rows ColumnMajor start = refl
 
-module _ (order : Order) (lens strides : List ℕ) (axis : Fastest) (point : IsPoint axis) (none : lens ≡ []) (counts : length lens ≡ length strides) where
+module _ (order : Order) (lens strides : List ℕ) (axis : Fastest) (point : IsPoint axis) (none : lens ≡ [])
+    (counts : length lens ≡ length strides) where
   nothing : (start : ℕ) → view_of start lens strides ≡ view_of start [] []
   nothing start =
       ap (λ xs. view_of start xs strides) none
@@ -105,7 +106,8 @@ pub record IsWithoutOnes (order : Order) (lens strides fewer others : List ℕ) 
 pub all_axes : (order : Order) (lens strides : List ℕ) → length lens ≡ length strides → IsWithoutOnes order lens strides lens strides
 all_axes order lens strides counts = record { counts = counts; same = λ start v. (v, refl) }
 
-module _ {order : Order} {lens strides fewer others : List ℕ} (without : IsWithoutOnes order lens strides fewer others) (axis : Fastest) where
+module _ {order : Order} {lens strides fewer others : List ℕ} (without : IsWithoutOnes order lens strides fewer others)
+    (axis : Fastest) where
   pub without_one : EndsIn order fewer axis.lens.now axis.len → EndsIn order others axis.strides.now axis.stride → axis.len ≡ 1
       → IsWithoutOnes order lens strides axis.lens.now axis.strides.now
   without_one e g one = record {
@@ -169,7 +171,8 @@ pub record IsFirst (order : Order) (start : ℕ) (axis column : Fastest) (row : 
   pub long : row.len ≡ axis.len
   pub count : columns ≡ cond (nat_eq axis.len 0 || nat_eq column.len 0) 0 (size column.lens.now)
 
-module _ {order : Order} {start : ℕ} {axis column : Fastest} {row : Row} {columns : ℕ} (f : IsFirst order start axis column row columns) where
+module _ {order : Order} {start : ℕ} {axis column : Fastest} {row : Row} {columns : ℕ}
+    (f : IsFirst order start axis column row columns) where
   known : IsView (axis_view order start column)
       × (view_places order (axis_view order start column) ≡ view_places order (view_of start axis.lens.now axis.strides.now))
   known =
@@ -195,9 +198,13 @@ module _ {order : Order} {start : ℕ} {axis column : Fastest} {row : Row} {colu
       by false true g e =
           let no_len = eqb-true column.len 0 g in
           (omega (arith, ap (λ n. n * column.len) e, sizes, ap (λ n. n * size column.lens.now) no_len), λ some. absurd (omega arith))
-      by false false g e = (omega (arith, ap (λ n. n * column.len) e, sizes), λ some. omega (arith, pos_of_ne-zero (eqb-false column.len 0 g)))
+      by false false g e = (
+        omega (arith, ap (λ n. n * column.len) e, sizes),
+        λ some. omega (arith, pos_of_ne-zero (eqb-false column.len 0 g)),
+      )
 
-  few : (none : Bool) → count_of_rows column 0 columns ≡ cond none 0 (size axis.lens.now) → count_of_rows column 0 columns ≤ size axis.lens.now
+  few : (none : Bool) → count_of_rows column 0 columns ≡ cond none 0 (size axis.lens.now)
+      → count_of_rows column 0 columns ≤ size axis.lens.now
   few true e = omega arith
   few false e = omega arith
 
@@ -234,7 +241,8 @@ module _ {order : Order} {start : ℕ} {axis column : Fastest} {row : Row} {colu
   left_of true true e g count starts all = drop_of_length-le starts (omega (arith, all, count_of_starts))
   left_of false true e g count starts all =
       let no_size = sym (size-axis_view order start axis) ∙ eqb-true (size (axis_view order start axis).shape) 0 g in
-      drop_of_length-le starts (omega (arith, all, count_of_starts, other_factor axis.len (size axis.lens.now) (eqb-false axis.len 0 e) no_size))
+      drop_of_length-le starts
+      (omega (arith, all, count_of_starts, other_factor axis.len (size axis.lens.now) (eqb-false axis.len 0 e) no_size))
   left_of true false e g count starts all =
       absurd (eqb-false (size (axis_view order start axis).shape) 0 g
       (size-axis_view order start axis ∙ ap (λ n. n * size axis.lens.now) (eqb-true axis.len 0 e) ∙ omega arith))

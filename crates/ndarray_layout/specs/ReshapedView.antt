@@ -1,5 +1,6 @@
 -- What reading a view's places along another shape makes of a view, and where that fails.
-use Rattle.std.specs.Prelude.{◌≡◌, ℕ, ◌≤◌, ℤ, pos, negsuc, ◌&&◌, ◌||◌, nat_lt, Option, Some, None, if◌then◌else◌, List, [], ◌∷◌, length, replicate, refl}
+use Rattle.std.specs.Prelude.{◌≡◌, ℕ, ◌≤◌, ℤ, pos, negsuc, ◌&&◌, ◌||◌, nat_lt, Option, Some, None, if◌then◌else◌, List, [], ◌∷◌}
+use Rattle.std.specs.Prelude.{length, replicate, refl}
 use Rattle.std.proofs.Math.Arith.{le→nltb}
 use Rattle.std.proofs.Math.Dec.{lit≤}
 use Rattle.nd_base.specs.declared.error.ErrorKind.{ErrorKind}
@@ -89,7 +90,8 @@ four_of_six = refl
 abbrev none_by_two : View
 none_by_two = record { start = 0; shape = 0 ∷ 2 ∷ []; strides = pos 7 ∷ pos 1 ∷ [] }
 
-another_without_an_index : reshape_of RowMajor (5 ∷ 0 ∷ []) none_by_two ≡ record { start = 0; shape = 5 ∷ 0 ∷ []; strides = pos 0 ∷ pos 0 ∷ [] }
+another_without_an_index : reshape_of RowMajor (5 ∷ 0 ∷ []) none_by_two
+    ≡ record { start = 0; shape = 5 ∷ 0 ∷ []; strides = pos 0 ∷ pos 0 ∷ [] }
 another_without_an_index = refl
 
 is_no_error : view_reshape_fault RowMajor (5 ∷ 0 ∷ []) none_by_two ≡ None

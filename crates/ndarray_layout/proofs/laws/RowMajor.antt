@@ -1,6 +1,7 @@
 -- Laws of views in the order of their data: each index lies at its flat index, and row i and column j of a list read as rows
 -- of m at i * m + j.
-use Rattle.std.proofs.Common.{◌≡◌, ℕ, ◌+◌, ◌*◌, ◌<◌, ◌≤◌, ℤ, pos, true, List, [], ◌∷◌, ◌++◌, drop, get_or, length, map, take, sym, ap, subst, ◌∙◌}
+use Rattle.std.proofs.Common.{◌≡◌, ℕ, ◌+◌, ◌*◌, ◌<◌, ◌≤◌, ℤ, pos, true, List, [], ◌∷◌, ◌++◌, drop, get_or, length, map, take, sym, ap}
+use Rattle.std.proofs.Common.{subst, ◌∙◌}
 use Rattle.std.proofs.Common.{arith}
 use Rattle.std.proofs.Math.Nat.{mul-le-mul_right}
 use Rattle.std.proofs.lemmas.Int.{ints}
@@ -8,8 +9,10 @@ use Rattle.std.proofs.lemmas.List.{ext_get_or, get_or-drop, get_or-map, get_or-t
 use Rattle.nd_base.specs.Place.{place, places}
 use Rattle.nd_base.specs.declared.order.Order.{Order}
 use Rattle.nd_base.specs.declared.order.Order.TheVariants.{RowMajor}
-use Rattle.nd_base.proofs.laws.Definitions.{is_index, indices_in, index_of_flat_in, flat_index_in, all_signed, limit, nonzero_size, low_span, size}
-use Rattle.nd_base.proofs.laws.FlatIndex.{flat_index_in-index_of_flat_in, flat_index_in-lt-size, get_or-indices_in, index_of_flat_in-flat_index_in}
+use Rattle.nd_base.proofs.laws.Definitions.{is_index, indices_in, index_of_flat_in, flat_index_in, all_signed, limit, nonzero_size}
+use Rattle.nd_base.proofs.laws.Definitions.{low_span, size}
+use Rattle.nd_base.proofs.laws.FlatIndex.{flat_index_in-index_of_flat_in, flat_index_in-lt-size, get_or-indices_in}
+use Rattle.nd_base.proofs.laws.FlatIndex.{index_of_flat_in-flat_index_in}
 use Rattle.nd_base.proofs.laws.FlatIndex.{is_index-index_of_flat_in}
 use Rattle.nd_base.proofs.laws.Indices.{length-indices_in}
 use Rattle.nd_base.proofs.laws.IsIndex.{length_of_index}

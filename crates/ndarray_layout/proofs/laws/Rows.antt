@@ -1,5 +1,6 @@
 -- Laws of the rows of a view: their places one after another are those of the view, each row has one, and each lies where the view does.
-use Rattle.std.proofs.Common.{◌≡◌, ℕ, zero, suc, ◌+◌, ◌*◌, ◌<◌, ◌^◌, ℤ, pos, negsuc, ◌+ℤ◌, ◌*ℤ◌, ◌≤ℤ◌, Bool, true, false, cond, List, [], ◌∷◌, ◌++◌}
+use Rattle.std.proofs.Common.{◌≡◌, ℕ, zero, suc, ◌+◌, ◌*◌, ◌<◌, ◌^◌, ℤ, pos, negsuc, ◌+ℤ◌, ◌*ℤ◌, ◌≤ℤ◌, Bool, true, false, cond, List}
+use Rattle.std.proofs.Common.{[], ◌∷◌, ◌++◌}
 use Rattle.std.proofs.Common.{length, get_or, map, nat_eq, refl, sym, ap, subst, ◌∙◌, arith, pos_of_ne-zero, eqb-true}
 use Rattle.std.specs.List.{All}
 use Rattle.std.proofs.Math.Seq.{drop-append_seam, take-append_seam}
@@ -80,7 +81,8 @@ places_fit order {view} v = places_lie_within (2 ^ 63) order view (λ index is.
 -- ---- the rows of a view
 -- those from places on
 from_places : (order : Order) (view : View) (places : List ℤ) → All (λ place. pos 0 ≤ℤ place) places
-    → rows_places (map (row_at order view) places) ≡ rows_from (fastest_item order view.strides (pos 0)) (fastest_item order view.shape 1) places
+    → rows_places (map (row_at order view) places)
+    ≡ rows_from (fastest_item order view.strides (pos 0)) (fastest_item order view.shape 1) places
 from_places order view [] low = refl
 from_places order view (place ∷ places) low =
     let stride = fastest_item order view.strides (pos 0) in
@@ -124,7 +126,8 @@ some_of_size : (order : Order) (shape : List ℕ) → 0 < size shape → 0 < fas
 some_of_size RowMajor [] some = omega arith
 some_of_size ColumnMajor [] some = omega arith
 some_of_size order (len ∷ lens) some =
-    factor (fastest_item order (len ∷ lens) 1) (size (slower_items order (len ∷ lens))) (omega (arith, size-others (ends_of_some order (len ∷ lens) 1 (omega arith))))
+    factor (fastest_item order (len ∷ lens) 1) (size (slower_items order (len ∷ lens)))
+    (omega (arith, size-others (ends_of_some order (len ∷ lens) 1 (omega arith))))
   where
     factor : (a b : ℕ) → 0 < a * b → 0 < a
     factor zero b h = absurd (omega arith)

@@ -8,7 +8,8 @@ use Rattle.std.proofs.lemmas.List.{get_or-map}
 use Rattle.std.proofs.lemmas.List.FromFn.{get_or-range_with_len, length-range_with_len}
 use Rattle.nd_base.specs.declared.order.Order.{Order}
 use Rattle.nd_base.proofs.laws.Definitions.{below, flat_index_in, index_of_flat_in, indices_in, is_index, place, size, IsInBounds}
-use Rattle.nd_base.proofs.laws.FlatIndex.{flat_index_in-index_of_flat_in, flat_index_in-lt-size, get_or-indices_in, index_of_flat_in-flat_index_in}
+use Rattle.nd_base.proofs.laws.FlatIndex.{flat_index_in-index_of_flat_in, flat_index_in-lt-size, get_or-indices_in}
+use Rattle.nd_base.proofs.laws.FlatIndex.{index_of_flat_in-flat_index_in}
 use Rattle.nd_base.proofs.laws.FlatIndex.{is_index-index_of_flat_in, length-indices_in}
 use Rattle.nd_base.proofs.laws.Place.{places_at_flat_indices}
 use Rattle.nd_shape.specs.MajorOrder.{LiesInOrder}
@@ -34,10 +35,13 @@ place_in_stretch order view index stretch here =
     let flat = flat_index_in order view.shape index in
     let below = flat_index_in-lt-size order view.shape index here in
     let all = indices_in order view.shape in
-    let at : get_or all flat [] ≡ index = get_or-indices_in order view.shape flat [] below ∙ index_of_flat_in-flat_index_in order view.shape index here in
-    sym (get_or-map (place view.start view.strides) all flat [] (pos 0) (omega (arith, length-indices_in order view.shape)) ∙ ap (place_at view) at)
+    let at : get_or all flat [] ≡ index =
+    get_or-indices_in order view.shape flat [] below ∙ index_of_flat_in-flat_index_in order view.shape index here in
+    sym (get_or-map (place view.start view.strides) all flat [] (pos 0) (omega (arith, length-indices_in order view.shape))
+    ∙ ap (place_at view) at)
     ∙ ap (λ places. get_or places flat (pos 0)) stretch
-    ∙ get_or-map pos (range_with_len view.start (size view.shape)) flat 0 (pos 0) (omega (arith, length-range_with_len view.start (size view.shape)))
+    ∙ get_or-map pos (range_with_len view.start (size view.shape)) flat 0 (pos 0)
+    (omega (arith, length-range_with_len view.start (size view.shape)))
     ∙ ap pos (get_or-range_with_len view.start (size view.shape) flat 0 below)
 
 -- so the layout lies in order, wherever it starts, and the other way round
@@ -56,7 +60,8 @@ stretch_in_bounds order view len stretch within = elim (cases_eq (size view.shap
       let first : stretch_start view ≡ 0 = cond-true {A = ℕ} (eqb (size view.shape) 0) 0 view.start (eq-eqb (size view.shape) 0 none) in
       omega arith
   | inr some ↦
-      let first : stretch_start view ≡ view.start = cond-false {A = ℕ} (eqb (size view.shape) 0) 0 view.start (ne_eqb (size view.shape) 0 some) in
+      let first : stretch_start view ≡ view.start =
+      cond-false {A = ℕ} (eqb (size view.shape) 0) 0 view.start (ne_eqb (size view.shape) 0 some) in
       let last = size view.shape - 1 in
       let below : last < size view.shape = omega arith in
       let index = index_of_flat_in order view.shape last in

@@ -27,7 +27,8 @@ invariant_of-result g c = rw (reshaped g c) (Descends-reshape_of c.args.order (g
     c.in_ok-strides.ensures.is_view c.in_ok-strides.ensures.fits).is_view
 
 pub returns-clause-complete : goal.returns-clause-complete
-returns-clause-complete g c = view_reshape_fault-ReshapeFits c.args.order (g.E.Lengths.list c.args.shape.now) c.in_ok-strides.ensures.is_view
+returns-clause-complete g c =
+    view_reshape_fault-ReshapeFits c.args.order (g.E.Lengths.list c.args.shape.now) c.in_ok-strides.ensures.is_view
 
 pub returns-clause-same_places : goal.returns-clause-same_places
 returns-clause-same_places g c = subst (λ view. view_places c.args.order view ≡ view_places c.args.order c.args.self.now)

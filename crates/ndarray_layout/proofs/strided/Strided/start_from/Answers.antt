@@ -24,7 +24,8 @@ begins : (g : Over) (c : After-moved_start g)
     → pos c.self.inside.start +ℤ (pos c.moved_start.result *ℤ signed c.axis_of-stride.result)
     ≡ second_start c.args.axis.0 c.args.index (here g c)
 begins g c =
-    let stride = stride_read (g.D.Lengths.list c.self.inside.strides) c.args.axis.0 (rw c.slice-2.ensures.list at c.axis_of-stride.ensures) in
+    let stride =
+    stride_read (g.D.Lengths.list c.self.inside.strides) c.args.axis.0 (rw c.slice-2.ensures.list at c.axis_of-stride.ensures) in
     rw (c.moved_start.ensures, len_is g c, stride) refl
 
 pub place_along_axis-requires-clause-small : goal.place_along_axis-requires-clause-small

@@ -51,6 +51,7 @@ returns-clause-in_bounds g c =
           w.start-is ∙ sym (cond-true {A = ℕ} (eqb (size view.shape) 0) 0 view.start (eq-eqb (size view.shape) 0 (omega arith)))
       | else-size-eq0 w ↦
           let some = w.if-size-eq0.false in
-          w.start-is ∙ sym (cond-false {A = ℕ} (eqb (size view.shape) 0) 0 view.start (ne_eqb (size view.shape) 0 (λ e. some (omega arith))))
+          w.start-is ∙ sym (cond-false {A = ℕ} (eqb (size view.shape) 0) 0 view.start
+          (ne_eqb (size view.shape) 0 (λ e. some (omega arith))))
     ] in
     rw (← c.self.view_is) (λ len within. omega (arith, stretch_in_bounds c.args.order view len stretch within, begins, count))

@@ -1,5 +1,6 @@
 -- Without an index the strides stay the zeros that they were made of.
-use Rattle.std.proofs.Common.{◌≡◌, ◌*◌, true, false, cond, pos, List, ℕ, ◌∷◌, ◌++◌, length, replicate, None, zero, suc, refl, sym, ap, ◌∙◌, arith}
+use Rattle.std.proofs.Common.{◌≡◌, ◌*◌, true, false, cond, pos, List, ℕ, ◌∷◌, ◌++◌, length, replicate, None, zero, suc, refl, sym, ap}
+use Rattle.std.proofs.Common.{◌∙◌, arith}
 use Rattle.std.proofs.lemmas.List.{length-append}
 use Rattle.nd_base.proofs.laws.Definitions.{all_signed, is_empty}
 use Rattle.nd_base.proofs.laws.NonzeroSize.{length_le_nonzero_size}

@@ -31,13 +31,15 @@ some g c = rw (c.slice-lens.ensures.list) at (sym c.contains.ensures.value ∙ c
 
 -- the product of the lengths of the block
 fits : (g : Over) (c : In_ok-size g) → nonzero_size (g.D.Lengths.list c.args.block.now) ≤ limit
-fits g c = ltb-false limit _ (no_overflow_reported (nat_lt limit (nonzero_size (g.D.Lengths.list c.args.block.now))) c.in_ok-size.ensures.fault)
+fits g c = ltb-false limit _ (no_overflow_reported (nat_lt limit (nonzero_size (g.D.Lengths.list c.args.block.now)))
+    c.in_ok-size.ensures.fault)
 
 pub returns-in_err-size : goal.returns-in_err-size
 returns-in_err-size g c =
     let at = (goal.at.returns-in_err-size g c).Else-contains in
     let block = lens g at in
-    let reported : Some c.in_err-size.field-0.0 ≡ cond (nat_lt limit (nonzero_size block)) (Some Overflow) None = c.in_err-size.ensures.fault in
+    let reported : Some c.in_err-size.field-0.0 ≡ cond (nat_lt limit (nonzero_size block)) (Some Overflow) None =
+    c.in_err-size.ensures.fault in
     let large : nat_lt limit (nonzero_size block) ≡ true = overflow_reported (nat_lt limit (nonzero_size block)) reported in
     let past : limit < nonzero_size (counts g at) * nonzero_size block =
     omega (arith, ltb-true limit (nonzero_size block) large, le-mul_of_pos_right (nonzero_size block) (nonzero_size_pos (counts g at))) in

@@ -62,7 +62,8 @@ loop-axis-preserved c =
           let from = nonzero_size_from_other list i (there at) (λ e. more (read at ∙ e)) in
           let two = pair total c.count-count.result w.new_ix2.ensures c.loop-axis.invariant.some more in
           let small : total * c.count-count.result ≤ limit =
-          ltb-false limit _ (no_overflow_reported (nat_lt limit (total * c.count-count.result)) (rw two at w.in_ok-product.ensures.fault)) in
+          ltb-false limit _ (no_overflow_reported (nat_lt limit (total * c.count-count.result))
+          (rw two at w.in_ok-product.ensures.fault)) in
           let is : w.in_ok-product.product ≡ total * c.count-count.result =
           w.in_ok-product.ensures.ok ∙ ap size w.new_ix2.ensures ∙ omega arith in
           record {

@@ -1,4 +1,5 @@
-use Rattle.std.proofs.Common.{◌≡◌, ◌≢◌, ◌<◌, ◌++◌, pos, length, get_or, take, sym, ap, ◌∙◌, arith, below_more, get_or-set_other, get_or-set_same}
+use Rattle.std.proofs.Common.{◌≡◌, ◌≢◌, ◌<◌, ◌++◌, pos, length, get_or, take, sym, ap, ◌∙◌, arith, below_more, get_or-set_other}
+use Rattle.std.proofs.Common.{get_or-set_same}
 use Rattle.std.proofs.Math.ListN.{length-set}
 use Rattle.std.proofs.lemmas.List.{get_or-map, length-map, map-append, take-map}
 use Rattle.nd_base.proofs.laws.Definitions.{all_signed, signed}
@@ -10,7 +11,8 @@ use Rattle.ndarray_layout.proofs.strided.blocks.write_strides.Goals as goal
 use Rattle.ndarray_layout.proofs.strided.blocks.write_strides.Goals.{In-loop-axis}
 
 -- the stride of this axis
-own : (c : In-loop-axis) → get_or (all_signed c.args.strides.now) c.loop-axis.axis (pos 0) ≡ signed (get_or c.args.strides.now c.loop-axis.axis 0)
+own : (c : In-loop-axis) → get_or (all_signed c.args.strides.now) c.loop-axis.axis (pos 0)
+    ≡ signed (get_or c.args.strides.now c.loop-axis.axis 0)
 own c = get_or-map signed c.args.strides.now c.loop-axis.axis 0 (pos 0)
     (omega (arith, c.loop-axis-test.true, c.requires.valid.same_count, length-map c.args.strides.now signed))
 

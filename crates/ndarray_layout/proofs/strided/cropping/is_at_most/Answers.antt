@@ -17,5 +17,7 @@ returns-then-lows-highs c =
     )
 
 pub returns-else-lows-highs : goal.returns-else-lows-highs
-returns-else-lows-highs c =
-    (λ passed. absurd (c.if-lows-highs.false (eqb-true (length c.args.lows.now) (length c.args.highs.now) passed)), λ fit. absurd (c.if-lows-highs.false (sym (length_all_zip (λ x y. y ≤ x) c.args.highs.now c.args.lows.now fit))))
+returns-else-lows-highs c = (
+  λ passed. absurd (c.if-lows-highs.false (eqb-true (length c.args.lows.now) (length c.args.highs.now) passed)),
+  λ fit. absurd (c.if-lows-highs.false (sym (length_all_zip (λ x y. y ≤ x) c.args.highs.now c.args.lows.now fit))),
+)

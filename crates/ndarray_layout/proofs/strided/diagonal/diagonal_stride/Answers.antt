@@ -51,7 +51,8 @@ next c =
     let more : 2 ≤ get_or shape i 0 = omega (arith, c.requires.least, c.if-len-lt2.false, diagonal_len_below shape i (axis_there c)) in
     let split = sum_from_step reach shape c.args.strides.now i (axis_there c) c.loop-stride-test.true in
     added (to_z w64 c.loop-stride.sum-bits) (signed (get_or c.args.strides.now i 0)) (get_or shape i 0)
-    (sum_from reach shape c.args.strides.now (i + 1)) more (rw split at c.loop-stride.invariant.low) (rw split at c.loop-stride.invariant.high)
+    (sum_from reach shape c.args.strides.now (i + 1)) more (rw split at c.loop-stride.invariant.low)
+    (rw split at c.loop-stride.invariant.high)
 
 -- what `signed` returned is the stride
 read : (c : After-signed-sum) → to_z w64 (of_z w64 c.signed-sum.result) ≡ signed (get_or c.args.strides.now c.loop-stride.stride-index 0)

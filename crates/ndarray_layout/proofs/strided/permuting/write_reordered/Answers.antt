@@ -21,7 +21,8 @@ bounds-items-index c =
     let axes = c.args.axes.now in
     let in_bounds : c.loop-position.position < length axes = search rules in
     let number = number_at axes c.loop-position.position c.index.result _ in_bounds c.index.ensures in
-    rw number (item_below (length c.args.items.now) (axis_numbers axes) c.requires.order c.loop-position.position (omega (arith, many axes)))
+    rw number (item_below (length c.args.items.now) (axis_numbers axes) c.requires.order c.loop-position.position
+    (omega (arith, many axes)))
 
 pub offset_bounds-items-index : goal.offset_bounds-items-index
 offset_bounds-items-index c =

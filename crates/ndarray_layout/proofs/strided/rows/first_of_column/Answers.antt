@@ -55,7 +55,8 @@ offset_place-requires-clause-first c =
     omega (arith, ints, c.requires.last more, (last_within c.requires.column more).1)
 
 moved : (c : goal.After-stride_offset)
-    → pos c.args.last +ℤ to_z w64 (of_z w64 (to_z w64 (of_z w64 c.offset_from_previous-offset.result) -ℤ to_z w64 (of_z w64 c.stride_offset.result)))
+    → pos c.args.last +ℤ to_z w64 (of_z w64 (to_z w64 (of_z w64 c.offset_from_previous-offset.result)
+    -ℤ to_z w64 (of_z w64 c.stride_offset.result)))
     ≡ row_place c.args.order c.args.start c.args.column.now (c.args.number * c.args.column.now.len)
 moved c =
     let f : FitsSigned w64 c.offset_from_previous-offset.result = search rules in

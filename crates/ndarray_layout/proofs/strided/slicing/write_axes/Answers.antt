@@ -5,7 +5,8 @@ use Rattle.std.proofs.lemmas.Int.{to_z-of_z}
 use Rattle.ndarray_layout.proofs.SliceSteps.{axis_there, room_there, at_elem, at_both, slice_arm, slice_at_fault}
 use Rattle.ndarray_layout.proofs.SliceSteps.{index_arm, index_within, new_axis_step}
 use Rattle.ndarray_layout.proofs.strided.slicing.write_axes.Goals as goal
-use Rattle.ndarray_layout.proofs.strided.slicing.write_axes.Goals.{in-Slice+in_ok-len-in-Slice, in-Index+in_ok-coordinate-in-Index, in-NewAxis}
+use Rattle.ndarray_layout.proofs.strided.slicing.write_axes.Goals.{in-Slice+in_ok-len-in-Slice, in-Index+in_ok-coordinate-in-Index}
+use Rattle.ndarray_layout.proofs.strided.slicing.write_axes.Goals.{in-NewAxis}
 
 pub slice_axis-requires : goal.slice_axis-requires
 slice_axis-requires c =

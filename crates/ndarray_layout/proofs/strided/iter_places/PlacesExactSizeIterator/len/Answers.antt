@@ -5,7 +5,12 @@ use Rattle.ndarray_layout.proofs.strided.iter_places.PlacesExactSizeIterator.len
 pub returns-clause-value : goal.returns-clause-value
 returns-clause-value c =
     let places = c.self.inside in
-    omega (arith, ap length c.self.view_is, length-places_after places.place places.stride places.left places.rows, c.count_of_places.ensures)
+    omega (
+      arith,
+      ap length c.self.view_is,
+      length-places_after places.place places.stride places.left places.rows,
+      c.count_of_places.ensures,
+    )
 
 pub overflow_add-result : goal.overflow_add-result
 overflow_add-result c =

@@ -8,7 +8,8 @@ use Rattle.ndarray_layout.proofs.strided.rows.Rows.along.Goals as goal
 pub count_of_columns-columns_left-requires : goal.count_of_columns-columns_left-requires
 count_of_columns-columns_left-requires c =
     let inner = IsView-slower c.args.order c.args.start c.args.axis c.requires in
-    size_fits (IsView-slower c.args.order c.args.start c.longer_axis-column.result (c.longer_axis-column.ensures.is_view c.args.start inner))
+    size_fits (IsView-slower c.args.order c.args.start c.longer_axis-column.result
+    (c.longer_axis-column.ensures.is_view c.args.start inner))
 
 pub invariant_of-result : goal.invariant_of-result
 invariant_of-result c =

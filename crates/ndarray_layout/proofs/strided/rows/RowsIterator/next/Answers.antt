@@ -27,7 +27,8 @@ returns-then-self-gt0-clause-steps c =
     let some : 0 < c.self.inside.columns_left + c.self.inside.left_in_column = omega (arith, c.if-self-gt0.true) in
     let on = next_in_column l some c.if-self-gt0.true in
     sym c.self.view_is
-    ∙ row_comes l some (count_of_rows c.self.inside.column (c.self.inside.left_in_column - 1) c.self.inside.columns_left) (omega (arith, ints, c.offset_place-self-inside.ensures, c.signed.ensures.same_bits, on)) (omega (arith, c.if-self-gt0.true))
+    ∙ row_comes l some (count_of_rows c.self.inside.column (c.self.inside.left_in_column - 1) c.self.inside.columns_left)
+    (omega (arith, ints, c.offset_place-self-inside.ensures, c.signed.ensures.same_bits, on)) (omega (arith, c.if-self-gt0.true))
 
 pub returns-then-self-gt0-clause-goes : goal.returns-then-self-gt0-clause-goes
 returns-then-self-gt0-clause-goes c =
@@ -56,7 +57,8 @@ first_of_column-self-inside-requires-clause-column c =
 pub first_of_column-self-inside-requires-clause-last : goal.first_of_column-self-inside-requires-clause-last
 first_of_column-self-inside-requires-clause-last c =
     let rows = c.self.inside in
-    let none : rows.columns * rows.column.len - rows.left_in_column - 1 ≡ rows.columns * rows.column.len - 1 = omega (arith, c.if-self-gt0.false) in
+    let none : rows.columns * rows.column.len - rows.left_in_column - 1 ≡ rows.columns * rows.column.len - 1 =
+    omega (arith, c.if-self-gt0.false) in
     λ begun. c.self.invariant.last (omega (arith, c.if-self-eq0.false)) begun ∙ ap (row_place rows.order rows.start rows.column) none
 
 pub overflow_add-self : goal.overflow_add-self
@@ -79,7 +81,8 @@ invariant_of-self-2 c =
     let none : rows.columns * rows.column.len ≡ given l some = omega (arith, c.if-self-gt0.false) in
     let one : rows.columns_left ≡ rows.columns_left - 1 + 1 = omega (arith, c.if-self-eq0.false) in
     left_after l some (c.first_of_column-self-inside.ensures ∙ ap (row_place rows.order rows.start rows.column) none)
-    (omega (arith, c.if-self-gt0.false, l.on_axis some, ap (λ n. n * rows.column.len) one)) (omega (arith, one)) (omega (arith, l.on_axis some))
+    (omega (arith, c.if-self-gt0.false, l.on_axis some, ap (λ n. n * rows.column.len) one)) (omega (arith, one))
+    (omega (arith, l.on_axis some))
     (omega arith)
 
 pub returns-clause-steps : goal.returns-clause-steps
