@@ -6,6 +6,7 @@
 
 mod axes;
 mod axes_mut;
+mod axis_chunks;
 mod axis_iter;
 mod copying;
 mod dimensionality;
@@ -17,12 +18,14 @@ mod iter_mut;
 mod layout;
 mod line;
 mod line_mut;
+mod owned;
 mod pairs;
 mod pieces;
 mod reading;
 mod rows;
 mod writing;
 
+pub use axis_chunks::{AxisChunksIter, AxisChunksIterMut};
 pub use axis_iter::{AxisIter, AxisIterMut};
 pub(crate) use folding::{ColumnsLeft, fold_items, fold_iter, fold_places, nth_place};
 pub use indexed::{IndexedIter, IndexedIterMut};

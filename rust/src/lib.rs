@@ -77,7 +77,10 @@ struct Readme;
 #[cfg(doctest)]
 struct MustUse;
 
-pub use crate::arrays::{AxisIter, AxisIterMut, IndexedIter, IndexedIterMut, IntoRows, IterMut, RowsMut, ViewIter};
+pub use crate::arrays::{
+    AxisChunksIter, AxisChunksIterMut, AxisIter, AxisIterMut, IndexedIter, IndexedIterMut, IntoRows, IterMut, RowsMut,
+    ViewIter,
+};
 pub use crate::convenience::*;
 pub use crate::memory::AllocError;
 pub use crate::nd_owned::{ArrayView, ArrayViewMut, Items, Iter, LentRow, LentRows, OwnedArray, PartMut, SplitViews};

@@ -41,16 +41,16 @@ impl<D: Lengths> Blocks<D> {
         view.start = view.start.wrapping_add_signed((coordinate as isize).wrapping_mul(self.stride));
         view
     }
+}
 
-    /// How far a view reaches below its start, and how many items are from its lowest place to its highest one.
-    fn reach(&self) -> Result<(usize, usize), LayoutError> {
-        let (dim, strides) = (self.view.dim(), self.view.strides());
-        if product(dim.slice()) == 0 {
-            return Ok((0, 0));
-        }
-        let span = max_abs_offset_check_overflow(1, dim, strides)?;
-        Ok((offset_from_low_addr_ptr_to_logical_ptr(dim, strides), span + 1))
+/// How far a view reaches below its start, and how many items are from its lowest place to its highest one. Errors: none of a view.
+pub(crate) fn reach<D: Lengths>(view: &Strided<D>) -> Result<(usize, usize), LayoutError> {
+    let (dim, strides) = (view.dim(), view.strides());
+    if product(dim.slice()) == 0 {
+        return Ok((0, 0));
     }
+    let span = max_abs_offset_check_overflow(1, dim, strides)?;
+    Ok((offset_from_low_addr_ptr_to_logical_ptr(dim, strides), span + 1))
 }
 
 /// The arrays at the coordinates of an axis that are still to come, from both ends, lent for as long as the data is. ndarray's
@@ -114,7 +114,7 @@ impl<'a, T, D: Lengths> AxisIterMut<'a, T, D> {
     {
         let (view, items) = into_parts(array);
         let blocks = Blocks::new(&view, axis)?;
-        let (below, width) = blocks.reach()?;
+        let (below, width) = reach(&blocks.view)?;
         if blocks.left.len() > 1 && blocks.stride.unsigned_abs() < width {
             return Err(LayoutError::Shape(from_kind(ErrorKind::IncompatibleLayout)));
         }

@@ -1,7 +1,7 @@
 //! What may be read of an array of any number of axes.
 
-use super::{IndexedIter, IntoRows, ViewIter};
-use crate::nd_base::{Axis, ErrorKind, Lengths, Order, ShapeError, from_kind, signed};
+use super::{AxisChunksIter, IndexedIter, IntoRows, ViewIter};
+use crate::nd_base::{Axis, ErrorKind, LayoutError, Lengths, Order, ShapeError, from_kind, signed};
 use crate::nd_dim::{Dimension, product};
 use crate::nd_shape::{is_layout_c, offset_from_low_addr_ptr_to_logical_ptr};
 use crate::ndarray_layout::Strided;
@@ -266,6 +266,29 @@ macro_rules! reads {
             /// ```
             pub fn lanes(&self, axis: Axis) -> Result<IntoRows<$lent, T, D>, ShapeError> {
                 Ok(IntoRows::new(self.stored(), with_last(self.view().clone(), axis)?))
+            }
+
+            /// An iterator over chunks of so many coordinates of an axis; the last may have fewer. ndarray's `axis_chunks_iter`.
+            /// Not proved.
+            ///
+            /// # Errors
+            ///
+            /// `OutOfBounds` where there is no such axis; `Unsupported` for a size of 0.
+            ///
+            /// # Panics
+            ///
+            /// As `borrowed`.
+            ///
+            /// ```
+            /// use ndarray_layout::*;
+            ///
+            #[doc = $setup]
+            /// let widths: Vec<usize> = array.axis_chunks_iter(Axis(1), 2)?.map(|chunk| chunk.ncols()).collect();
+            /// assert_eq!(widths, [2, 1]);
+            /// # Ok::<(), LayoutError>(())
+            /// ```
+            pub fn axis_chunks_iter(&self, axis: Axis, size: usize) -> Result<AxisChunksIter<$lent, T, D>, LayoutError> {
+                AxisChunksIter::new(self.stored(), self.view().clone(), axis, size)
             }
 
             /// An iterator over the items with their indices, in row-major order. ndarray's `indexed_iter`. Not proved.

@@ -1,7 +1,7 @@
 //! What may be written of an array of any number of axes.
 
 use super::reading::{block, first_place, last_place, with_last};
-use super::{IndexedIterMut, IntoRows, IterMut, RowsMut, ViewIter};
+use super::{AxisChunksIterMut, IndexedIterMut, IntoRows, IterMut, RowsMut, ViewIter};
 use crate::nd_base::{Axis, LayoutError, Lengths, Order, ShapeError};
 use crate::nd_dim::Dimension;
 use crate::nd_shape::NdIndex;
@@ -230,6 +230,37 @@ macro_rules! writes {
                 RowsMut::new(ArrayViewMut::new(view, self.stored_mut()))
             }
 
+            /// An iterator over chunks of so many coordinates of an axis, each lent to be written; the last may have fewer. A thread
+            /// of its own may write each. ndarray's `axis_chunks_iter_mut`. Not proved.
+            ///
+            /// # Errors
+            ///
+            /// `OutOfBounds` where there is no such axis; `Unsupported` for a size of 0; `IncompatibleLayout` where the places of two
+            /// chunks interleave, as those of some columns of a matrix do.
+            ///
+            /// # Panics
+            ///
+            /// As `view_mut`.
+            ///
+            /// ```
+            /// use ndarray_layout::*;
+            ///
+            #[doc = $setup]
+            /// for (mut rows, number) in array.axis_chunks_iter_mut(Axis(0), 1)?.zip(7..) {
+            ///     rows.fill(number);
+            /// }
+            #[doc = $end]
+            /// assert_eq!(items, [7, 7, 7, 8, 8, 8]);
+            /// # Ok::<(), LayoutError>(())
+            /// ```
+            pub fn axis_chunks_iter_mut(
+                &mut self,
+                axis: Axis,
+                size: usize,
+            ) -> Result<AxisChunksIterMut<'_, T, D>, LayoutError> {
+                AxisChunksIterMut::new(self.view_mut(), axis, size)
+            }
+
             /// Calls a closure at each item and at that of another array of the same shape, in row-major order. ndarray's
             /// `zip_mut_with`, which broadcasts the other one: `ArrayView::broadcast` comes first. Not proved.
             ///
@@ -356,91 +387,6 @@ impl<'a, T, D: Lengths> ArrayViewMut<'a, T, D> {
     #[must_use]
     pub fn rows(&self) -> IntoRows<'_, T, D> {
         self.borrowed().into_rows()
-    }
-}
-
-impl<T, D: Lengths> OwnedArray<T, D> {
-    /// An iterator over the rows along the last axis, in row-major order, to be read. ndarray's `rows`. Not proved.
-    ///
-    /// # Panics
-    ///
-    /// As `borrowed`.
-    ///
-    /// ```
-    /// use ndarray_layout::*;
-    ///
-    /// let array = OwnedArray::from_shape_vec(Ix2(2, 3).into(), vec![1, 2, 3, 4, 5, 6])?;
-    /// assert_eq!(array.rows().filter_map(|row| row.as_slice()).last(), Some(&[4, 5, 6][..]));
-    /// # Ok::<(), LayoutError>(())
-    /// ```
-    #[must_use]
-    pub fn rows(&self) -> IntoRows<'_, T, D> {
-        self.borrowed().into_rows()
-    }
-}
-
-impl<T: Copy, D: Lengths> OwnedArray<T, D> {
-    /// Writes an item at each index; spare items are unchanged. ndarray's `fill`. Not proved; that of `view_mut` is.
-    ///
-    /// # Panics
-    ///
-    /// As `view_mut`.
-    ///
-    /// ```
-    /// use ndarray_layout::*;
-    ///
-    /// let mut array = OwnedArray::from_shape_vec(Ix1(2).into(), vec![7, 8, 9])?;
-    /// array.fill(5);
-    /// assert_eq!(array.into_stored(), [5, 5, 9]);
-    /// # Ok::<(), LayoutError>(())
-    /// ```
-    pub fn fill(&mut self, item: T) {
-        self.view_mut().fill(item);
-    }
-
-    /// Writes at each index a copy of the item that another array of the same shape has there. ndarray's `assign`. Not proved;
-    /// that of `view_mut` is.
-    ///
-    /// # Errors
-    ///
-    /// `IncompatibleShape` where the shapes differ; the items are unchanged.
-    ///
-    /// # Panics
-    ///
-    /// As `view_mut`.
-    ///
-    /// ```
-    /// use ndarray_layout::*;
-    ///
-    /// let mut array = OwnedArray::from_shape_vec(Ix1(2).into(), vec![7, 8, 9])?;
-    /// array.assign(&ArrayView::from_shape(Ix1(2).into(), &[5, 6])?)?;
-    /// assert_eq!(array.into_stored(), [5, 6, 9]);
-    /// # Ok::<(), LayoutError>(())
-    /// ```
-    pub fn assign(&mut self, other: &ArrayView<'_, T, D>) -> Result<(), ShapeError> {
-        self.view_mut().assign(other)
-    }
-}
-
-impl<T, D: Lengths> OwnedArray<T, D> {
-    /// Swaps the items of two indices, and returns whether both are indices of the shape; else the array is unchanged. ndarray's
-    /// `swap`, which panics. Not proved; that of `view_mut` is.
-    ///
-    /// # Panics
-    ///
-    /// As `view_mut`.
-    ///
-    /// ```
-    /// use ndarray_layout::*;
-    ///
-    /// let mut array = OwnedArray::from_shape_vec(Ix1(2).into(), vec![7, 8, 9])?;
-    /// assert!(array.swap(&0, &1) && !array.swap(&0, &2));
-    /// assert_eq!(array.into_stored(), [8, 7, 9]);
-    /// # Ok::<(), LayoutError>(())
-    /// ```
-    #[must_use]
-    pub fn swap<I: NdIndex<D>, J: NdIndex<D>>(&mut self, index: &I, other: &J) -> bool {
-        self.view_mut().swap(index, other)
     }
 }
 

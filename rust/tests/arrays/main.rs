@@ -3,6 +3,7 @@
 #[path = "../refused/allocator.rs"]
 mod allocator;
 mod along;
+mod chunks;
 mod folded;
 mod indexing;
 mod iterated;
