@@ -11,6 +11,7 @@ mod axis_iter;
 mod copying;
 mod dimensionality;
 mod folding;
+mod from;
 mod indexed;
 mod indexing;
 mod iter;

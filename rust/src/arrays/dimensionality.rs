@@ -1,21 +1,7 @@
 //! The same array with another type of the dimension.
 
-use crate::convenience::OUT_OF_MEMORY;
-use crate::nd_base::{ErrorKind, IxDyn, LayoutError, Lengths, from_kind};
-use crate::ndarray_layout::Strided;
+use crate::nd_base::{IxDyn, LayoutError, Lengths};
 use crate::{ArrayView, ArrayViewMut, OwnedArray};
-
-/// The view with another type of the dimension. Errors: `IncompatibleShape` where it fixes another count of axes; out of memory.
-fn converted<D: Lengths, E: Lengths>(view: &Strided<D>) -> Result<Strided<E>, LayoutError> {
-    let ndim = view.dim().ndim();
-    if E::NDIM.is_some_and(|count| count != ndim) {
-        return Err(LayoutError::Shape(from_kind(ErrorKind::IncompatibleShape)));
-    }
-    let (mut dim, mut strides) = (E::zeros(ndim)?, E::zeros(ndim)?);
-    dim.slice_mut().copy_from_slice(view.dim().slice());
-    strides.slice_mut().copy_from_slice(view.strides().slice());
-    Ok(Strided { start: view.start(), dim, strides })
-}
 
 /// The conversions of one of the types of arrays: the head of the impl, the type of the result, what makes an array of it, and
 /// what makes `array` in examples, which is 1 2 3 over 4 5 6.
@@ -38,7 +24,7 @@ macro_rules! conversions {
             #[must_use]
             pub fn into_dyn(self) -> $array<$($lent)* T, IxDyn> {
                 let $from = self;
-                let $view = converted($from.view()).expect(OUT_OF_MEMORY);
+                let $view = $from.view().clone().into_dyn();
                 $made
             }
 
@@ -60,7 +46,7 @@ macro_rules! conversions {
             /// ```
             pub fn into_dimensionality<E: Lengths>(self) -> Result<$array<$($lent)* T, E>, LayoutError> {
                 let $from = self;
-                let $view = converted($from.view())?;
+                let $view = $from.view().clone().into_dimensionality()?;
                 Ok($made)
             }
         }

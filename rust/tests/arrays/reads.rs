@@ -3,7 +3,7 @@
 use crate::layouts::{Layout, rounds};
 use crate::{NUMBERS, kind, of_count, owned, rows, rows_mut, texts};
 use ndarray_layout::ErrorKind::IncompatibleShape;
-use ndarray_layout::{ArrayView, Axis, Ix1, Ix2, Ix3, Lengths, OwnedArray};
+use ndarray_layout::{ArrayView, ArrayViewMut, Axis, Ix1, Ix2, Ix3, Lengths, OwnedArray};
 
 #[test]
 fn shapes_and_strides_are_read() {
@@ -50,6 +50,18 @@ fn arrays_are_mapped_and_copied() {
     assert_eq!(array.map(|number| number.to_string()).unwrap().into_stored().concat(), "345012");
     let copy = owned(texts.clone()).to_array().unwrap();
     assert_eq!((copy.stored(), copy == owned(texts.clone())), (&texts[..6], true));
+}
+
+#[test]
+fn lists_are_arrays_of_one_axis() {
+    let (mut list, mut numbers) = (texts(), NUMBERS);
+    assert_eq!(ArrayView::from(&list[..]).last().map(String::as_str), Some("6"));
+    ArrayViewMut::from(&mut list[1..3]).first_mut().unwrap().push('a');
+    ArrayViewMut::from(&mut numbers[..]).invert_axis(Axis(0)).unwrap();
+    let mut array = OwnedArray::from(list);
+    ArrayViewMut::from(&mut array)[6].push('b');
+    assert_eq!(ArrayView::from(&array).to_vec().unwrap().concat(), "01a23456b");
+    assert!(ArrayView::from(&numbers[..0]).is_empty() && OwnedArray::from(Vec::<String>::new()).is_empty());
 }
 
 #[test]
