@@ -56,7 +56,7 @@ impl Eraser<'_> {
         }
         self.put(trees[0].first().lead, "#[track_caller]\n    fn");
         self.all(&trees[1..at])?;
-        let none = format!("None => {}::arrays::no_such_index(&index, self.dim())", self.names.package);
+        let none = format!("None => {}::arrays::no_such_index(index, self.dim())", self.names.package);
         self.put(" ", &format!("{{\n        match self.get(&index) {{ Some(item) => item, {none} }}\n    }}"));
         self.contract = Contract::at(self.out.len());
         Ok(Some(at + 1))

@@ -118,7 +118,7 @@ fn what_the_package_adds_is_made_of_a_source() {
         (
             "fn index(&self, index: I) -> &T { self.get(&index).unwrap() } fn f();",
             "#[track_caller] fn index(&self, index: I) -> &T { match self.get(&index) \
-             { Some(item) => item, None => crate::arrays::no_such_index(&index, self.dim()) } } fn f();",
+             { Some(item) => item, None => crate::arrays::no_such_index(index, self.dim()) } } fn f();",
         ),
         (
             "fn index(&self, at: usize) -> &T { &self.items[at] }",

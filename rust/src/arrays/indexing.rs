@@ -6,11 +6,11 @@ use crate::nd_shape::NdIndex;
 use core::fmt;
 use core::ops::IndexMut;
 
-/// Panics with an index, and the shape that it is no index of.
+/// Panics with an index, and the shape that it is no index of. The index comes by value, so that a loop keeps it in registers.
 #[cold]
 #[inline(never)]
 #[track_caller]
-pub(crate) fn no_such_index<D: Lengths>(index: &dyn fmt::Debug, dim: &D) -> ! {
+pub(crate) fn no_such_index<I: fmt::Debug, D: Lengths>(index: I, dim: &D) -> ! {
     panic!("index {index:?} is out of bounds of the shape {:?}", dim.slice())
 }
 
@@ -43,7 +43,7 @@ impl<T, D: Lengths, I: NdIndex<D>> IndexMut<I> for ArrayViewMut<'_, T, D> {
     fn index_mut(&mut self, index: I) -> &mut T {
         match self.view().place(&index) {
             Some(place) => &mut self.items[place],
-            None => no_such_index(&index, self.dim()),
+            None => no_such_index(index, self.dim()),
         }
     }
 }

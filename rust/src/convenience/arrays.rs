@@ -124,7 +124,7 @@ impl<T, D: Lengths, I: NdIndex<D>> Index<I> for OwnedArray<T, D> {
     fn index(&self, index: I) -> &T {
         match self.view().place(&index) {
             Some(place) => &self.stored()[place],
-            None => no_such_index(&index, self.dim()),
+            None => no_such_index(index, self.dim()),
         }
     }
 }
@@ -140,7 +140,7 @@ impl<T, D: Lengths, I: NdIndex<D>> IndexMut<I> for OwnedArray<T, D> {
     fn index_mut(&mut self, index: I) -> &mut T {
         match self.view().place(&index) {
             Some(place) => &mut self.stored_mut()[place],
-            None => no_such_index(&index, self.dim()),
+            None => no_such_index(index, self.dim()),
         }
     }
 }
