@@ -12,6 +12,7 @@ mod intersecting;
 mod inverting;
 mod iter_places;
 mod merging;
+mod moving;
 mod permuting;
 mod picked_size;
 mod places;

@@ -1,13 +1,15 @@
 //! What a view has: its start, shape and strides.
 ghost use Rattle.std.specs.Iterator.{YieldsFirst, YieldsLast};
 ghost use Rattle.std.specs.Iterator.Runs.{YieldsInOrder, YieldsInReverse};
-ghost use Rattle.std.specs.Prelude.{◌≡◌};
+ghost use Rattle.std.specs.Prelude.{◌≡◌, ◌↔◌, IsTrue};
 ghost use Rattle.nd_base.specs.Signed.{all_signed};
+ghost use Rattle.nd_base.specs.Size.{is_empty, size};
 ghost use Rattle.nd_shape.specs.Axes.{axes, axes_left};
 ghost use Rattle.ndarray_layout.specs.View.{IsView};
 
 use crate::strided::Strided;
 use nd_base::Lengths;
+use nd_dim::product;
 use nd_shape::{Axes, axes_of};
 
 impl<D: Lengths> Strided<D> {
@@ -37,6 +39,28 @@ impl<D: Lengths> Strided<D> {
         ensures is_view { IsView self.now }
     {
         &self.strides
+    }
+
+    /// How many indices the shape has.
+    ///
+    /// `[2,3]`: 6. ndarray's `len`.
+    #[inline]
+    pub fn len(&self) -> usize
+        ensures size { result ≡ size self.now.shape }
+        ensures is_view { IsView self.now }
+    {
+        product(self.dim.slice())
+    }
+
+    /// Whether the shape has no index, as one of its lengths is 0.
+    ///
+    /// `[2,0]`: `true`. ndarray's `is_empty`.
+    #[inline]
+    pub fn is_empty(&self) -> bool
+        ensures empty { result ≡ is_empty self.now.shape }
+        ensures none { IsTrue result ↔ (size self.now.shape ≡ 0) }
+    {
+        self.dim.slice().contains(&0)
     }
 
     /// Iterator over the axes with their lengths and strides, from the first axis or from the last.

@@ -1,0 +1,45 @@
+//! A view with its first index at another place.
+ghost use Rattle.std.specs.Prelude.{◌≡◌, IfOk};
+ghost use Rattle.std.specs.Result.{result_err};
+ghost use Rattle.nd_shape.specs.declared.acceptance.CanIndexCheckMode.TheVariants.{OwnedMutable};
+ghost use Rattle.ndarray_layout.specs.AcceptanceFrom.{acceptance_from};
+ghost use Rattle.ndarray_layout.specs.DistinctPlaces.{HasDistinctPlaces};
+ghost use Rattle.ndarray_layout.specs.View.{IsView, LiesWithin};
+
+use crate::strided::Strided;
+use nd_base::{Lengths, ShapeError};
+use nd_shape::CanIndexCheckMode;
+
+impl<D: Lengths> Strided<D> {
+    /// The view of the same shape and strides whose first index lies at `start`, in elements from the start of data of `len`
+    /// elements of `elem_size` bytes.
+    ///
+    /// # Errors
+    ///
+    /// Those of `from_parts`. Takes no memory.
+    ///
+    /// `[3]`, `[-1]` from 4, moved to 2 over 3 elements: (0) lies at 2 and (2) at 0; moved to 1: `OutOfBounds`. The project's
+    /// own.
+    pub fn moved_to(
+        self,
+        start: usize,
+        elem_size: usize,
+        len: usize,
+        mode: CanIndexCheckMode,
+    ) -> Result<Self, ShapeError>
+        ensures fault { result_err result ≡
+            acceptance_from start elem_size len mode self.shape self.strides }
+        ensures view { IfOk result (λ v. v ≡
+            record { start = start; shape = self.shape; strides = self.strides }) }
+        ensures is_view { IfOk result (λ v. IsView v) }
+        ensures in_bounds { IfOk result (λ v. LiesWithin len v) }
+        ensures distinct { IfOk result (λ v. mode ≡ OwnedMutable → HasDistinctPlaces v) }
+    {
+        let Strided {
+            start: _,
+            dim,
+            strides,
+        } = self;
+        Strided::from_parts(start, dim, strides, elem_size, len, mode)
+    }
+}
