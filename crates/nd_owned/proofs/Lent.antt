@@ -1,28 +1,28 @@
 -- Rows that are lent, as a loop goes over them: those that are cut so far, with those that are left, are all.
-use Rattle.std.proofs.Common.{◌≡◌, ℕ, ◌+◌, ◌<◌, ◌≤◌, ◌≢◌, ℤ, pos, negsuc, ◌&&◌, ◌||◌, Bool, true, false, nat_le, nat_lt, nat_eq, List, [], ◌∷◌, ◌++◌, length}
+use Rattle.std.proofs.Common.{◌≡◌, ℕ, ◌+◌, ◌<◌, ◌≤◌, ◌≢◌, ◌&&◌, ◌||◌, Bool, true, false, nat_le, nat_lt, nat_eq, List, [], ◌∷◌, ◌++◌, length}
 use Rattle.std.proofs.Common.{get_or, set, map, take}
 use Rattle.std.proofs.Common.{drop, refl, sym, ap, ◌∙◌, append_assoc, arith}
 use Prim.Native.Nat.{zero, suc}
 use Rattle.std.specs.List.{All, list_all}
-use Rattle.std.proofs.lemmas.Bool.{eqb-true, leb-true}
+use Rattle.std.proofs.lemmas.Bool.{and_parts, leb-true}
 use Rattle.std.proofs.lemmas.List.{get_or-map, map-append, map-set}
 use Rattle.std.proofs.lemmas.List.Elements.{All-cons}
 use Rattle.ndarray_layout.specs.declared.Row.{Row}
-use Rattle.nd_owned.specs.PartMut.{ascend, can_split_rows, have_columns, is_one, is_stretch, rows_before, rows_from}
-use Rattle.nd_owned.specs.private.Written.{AreInBounds}
-use Rattle.nd_owned.proofs.RowPlaces.{begins, copied_within}
-use Rattle.nd_owned.proofs.ViewRows.{places_of}
+use Rattle.nd_owned.specs.LentRow.{is_contiguous}
+use Rattle.nd_owned.specs.PartMut.{ascend, can_split_rows, have_columns, rows_before, rows_from}
 
--- one more of a list is kept, before those that are left
+-- one more of a list, before those that are left
+pub one_pushed : {X : Type 0} (old : List X) {new left others all : List X} {x : X} → new ≡ old ++ x ∷ [] → left ≡ x ∷ others → old ++ left ≡ all
+    → new ++ others ≡ all
+one_pushed old {others = others} {x = x} pushed first so_far =
+    ap (λ xs. xs ++ others) pushed ∙ append_assoc old (x ∷ []) others ∙ ap (λ xs. old ++ xs) (sym first) ∙ so_far
+
+-- what is made of it is one more of what is made of the list
 pub row_pushed : {A B X : Type 0} (f : A → X) (g : B → X) (old : List A) {new : List A} {x : A} {y : B} {left others : List B} {all : List X}
     → new ≡ old ++ x ∷ [] → left ≡ y ∷ others → f x ≡ g y → map f old ++ map g left ≡ all → map f new ++ map g others ≡ all
-row_pushed f g old {x = x} {y} {others = others} pushed first same so_far =
-    ap (λ xs. map f xs ++ map g others) pushed
-    ∙ ap (λ xs. xs ++ map g others) (map-append f old (x ∷ []))
-    ∙ append_assoc (map f old) (f x ∷ []) (map g others)
-    ∙ ap (λ z. map f old ++ (z ∷ map g others)) same
-    ∙ ap (λ ys. map f old ++ map g ys) (sym first)
-    ∙ so_far
+row_pushed f g old {x = x} {others = others} pushed first same so_far =
+    one_pushed (map f old) (ap (map f) pushed ∙ map-append f old (x ∷ []))
+    (ap (map g) first ∙ ap (λ z. z ∷ map g others) (sym same)) so_far
 
 -- at first none is kept
 pub rows_begin : {A B X : Type 0} (f : A → X) (g : B → X) {kept : List A} {left all : List B} → kept ≡ [] → left ≡ all
@@ -78,56 +78,22 @@ no_other_axis rows zero index first second = absurd (first refl)
 no_other_axis rows (suc zero) index first second = absurd (second refl)
 no_other_axis rows (suc (suc axis)) index first second = refl
 
--- ---- rows whose places lie side by side
-pub one_step : (stride : ℤ) → is_one stride ≡ true → stride ≡ pos 1
-one_step (pos step) one = ap pos (eqb-true step 1 one)
-one_step (negsuc below) one = let same : false ≡ true = one in cc
-
--- such a row ends where there is an item still
-pub stretch_within : {count : ℕ} (row : Row) → AreInBounds count (places_of row) → 0 < row.len → is_stretch row ≡ true
-    → row.start + row.len ≤ count
-stretch_within {count} row within some stretch = by (is_one row.stride) refl
-  where
-    by : (one : Bool) → is_one row.stride ≡ one → row.start + row.len ≤ count
-    by true one = copied_within count row.start row.len within.within (one_step row.stride one) some
-    by false other =
-        let single : row.len ≡ 1 = eqb-true row.len 1 (sym (ap (λ b. b || nat_eq row.len 1) other) ∙ stretch) in
-        omega (arith, single, begins count row.start row.stride row.len within.within some)
-
-pub stretch_of : (end : ℕ) (row : Row) → (nat_le end row.start && is_stretch row) ≡ true → is_stretch row ≡ true
-stretch_of end row all = by (nat_le end row.start) refl
-  where
-    by : (above : Bool) → nat_le end row.start ≡ above → is_stretch row ≡ true
-    by true above = sym (ap (λ b. b && is_stretch row) above) ∙ all
-    by false below = let wrong : false ≡ true = sym (ap (λ b. b && is_stretch row) below) ∙ all in cc
-
 -- ---- the first of the rows that are left
 module _ {row : Row} {left others : List Row} (end : ℕ) (first : left ≡ row ∷ others) where
-  pub meets_row : (nat_le end row.start && is_stretch row) ≡ false → ascend end left ≡ false
+  pub meets_row : (nat_le end row.start && is_contiguous row) ≡ false → ascend end left ≡ false
   meets_row missed = ap (ascend end) first ∙ ap (λ b. b && ascend (row.start + row.len) others) missed
 
-  pub after_row : (nat_le end row.start && is_stretch row) ≡ true → ascend end left ≡ ascend (row.start + row.len) others
+  pub after_row : (nat_le end row.start && is_contiguous row) ≡ true → ascend end left ≡ ascend (row.start + row.len) others
   after_row met = ap (ascend end) first ∙ ap (λ b. b && ascend (row.start + row.len) others) met
 
   -- where they ascend, this one lies side by side, and the others ascend from its end
   pub record RowsAscend : Type 0 where
     pub above : end ≤ row.start
-    pub stretch : is_stretch row ≡ true
+    pub contiguous : is_contiguous row ≡ true
     pub others_ascend : ascend (row.start + row.len) others ≡ true
 
-  pub rows_ascend : ascend end left ≡ true → RowsAscend
-  rows_ascend all = by (nat_le end row.start) (is_stretch row) refl refl
-    where
-      here : (nat_le end row.start && is_stretch row) && ascend (row.start + row.len) others ≡ true
-      here = sym (ap (ascend end) first) ∙ all
-
-      by : (above stretch : Bool) → nat_le end row.start ≡ above → is_stretch row ≡ stretch → RowsAscend
-      by true true above stretch = record {
-        above = leb-true end row.start above;
-        stretch = stretch;
-        others_ascend = sym (ap (λ b. b && ascend (row.start + row.len) others) (ap (λ b. b && is_stretch row) above ∙ stretch)) ∙ here;
-      }
-      by true false above stretch =
-          let wrong : false ≡ true = sym (ap (λ b. b && ascend (row.start + row.len) others) (ap (λ b. b && is_stretch row) above ∙ stretch)) ∙ here in cc
-      by false stretch above same =
-          let wrong : false ≡ true = sym (ap (λ b. (b && is_stretch row) && ascend (row.start + row.len) others) above) ∙ here in cc
+  pub first_ascends : ascend end left ≡ true → RowsAscend
+  first_ascends all =
+      let both = and_parts (nat_le end row.start && is_contiguous row) (ascend (row.start + row.len) others) (sym (ap (ascend end) first) ∙ all) in
+      let this = and_parts (nat_le end row.start) (is_contiguous row) both.0 in
+      record { above = leb-true end row.start this.0; contiguous = this.1; others_ascend = both.1 }

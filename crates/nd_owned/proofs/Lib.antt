@@ -13,7 +13,7 @@ pub mod Sets
 pub mod SliceParts
 pub mod Slices
 pub mod SplitItems
-pub mod Stretches
+pub mod ContiguousRows
 pub mod ViewRows
 pub mod Within
 pub mod laws

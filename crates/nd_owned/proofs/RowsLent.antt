@@ -18,7 +18,7 @@ use Rattle.ndarray_layout.specs.View.{View, IsView, LiesWithin, view_places}
 use Rattle.ndarray_layout.proofs.laws.Rows.{All-rows_places, get_or-row_places, length-row_places, no_step, places_fit, rows_lie_within}
 use Rattle.ndarray_layout.proofs.laws.Rows.{rows_places-view_rows, some_in_each_row}
 use Rattle.ndarray_layout.proofs.laws.View.{lens_fit}
-use Rattle.nd_owned.specs.LentRow.{HasRow, is_stretch_row, row_items, row_of, rows_items}
+use Rattle.nd_owned.specs.LentRow.{HasRow, is_contiguous, row_items, row_of, rows_items}
 use Rattle.nd_owned.specs.Owned.{item_at_place}
 use Rattle.nd_owned.proofs.RowPlaces.{begins, coordinate_in_bounds, neighbours_within, read_neighbours}
 
@@ -76,24 +76,25 @@ one_place start stride zero short = refl
 one_place start stride (suc zero) short = ap (λ place. place ∷ []) (no_step (pos start) stride ∙ sym (no_step (pos start) (pos 1)))
 one_place start stride (suc (suc len)) short = absurd (omega arith)
 
-stretch_places : (row : Row) → is_stretch_row row ≡ true → row_places row.start row.stride row.len ≡ row_places row.start (pos 1) row.len
-stretch_places row is = by (or_cases (int_eq row.stride (pos 1)) (nat_le row.len 1) is)
+pub contiguous_places : (row : Row) → is_contiguous row ≡ true → row_places row.start row.stride row.len ≡ row_places row.start (pos 1) row.len
+contiguous_places row is = by (or_cases (int_eq row.stride (pos 1)) (nat_le row.len 1) is)
   where
     by : (int_eq row.stride (pos 1) ≡ true) ⊎ (nat_le row.len 1 ≡ true)
         → row_places row.start row.stride row.len ≡ row_places row.start (pos 1) row.len
     by (inl one) = ap (λ stride. row_places row.start stride row.len) ((Decides-int_eq row.stride (pos 1)).0 one)
     by (inr short) = one_place row.start row.stride row.len (leb-true row.len 1 short)
 
--- a row that is a stretch is a part of the items
-pub stretch_within : {count : ℕ} (row : Row) → HasRow count row → is_stretch_row row ≡ true → row.start + row.len ≤ count
-stretch_within {count} row has is =
-    neighbours_within count row.start row.len has.some (subst (All (IsInBounds count)) (stretch_places row is) has.within)
+-- such a row is a part of the items
+pub end_within : {count : ℕ} (row : Row) → All (IsInBounds count) (row_places row.start row.stride row.len) → 0 < row.len → is_contiguous row ≡ true
+    → row.start + row.len ≤ count
+end_within {count} row within some is =
+    neighbours_within count row.start row.len some (subst (All (IsInBounds count)) (contiguous_places row is) within)
 
-pub stretch_items : {T : Type 0} (items : List T) (row : Row) {n : ℕ} → HasRow (length items) row → is_stretch_row row ≡ true → n ≡ row.len
+pub contiguous_items : {T : Type 0} (items : List T) (row : Row) {n : ℕ} → HasRow (length items) row → is_contiguous row ≡ true → n ≡ row.len
     → map Some (take n (drop row.start items)) ≡ row_items (row_of items row)
-stretch_items items row has is long =
+contiguous_items items row has is long =
     ap (λ n. map Some (take n (drop row.start items))) long
-    ∙ sym (ap (map (item_at_place items)) (stretch_places row is) ∙ read_neighbours items row.start row.len (stretch_within row has is))
+    ∙ sym (ap (map (item_at_place items)) (contiguous_places row is) ∙ read_neighbours items row.start row.len (end_within row has.within has.some is))
 
 -- a coordinate of a row, and the item at its place
 pub record IsPlaceOf (count : ℕ) (row : Row) (coordinate : ℕ) : Type 0 where

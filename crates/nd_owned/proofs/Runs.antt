@@ -117,42 +117,30 @@ module _ {T : Type 0} (old : ArrayValue T) (new : List T) {places : List ℤ} (a
           kept = spare run;
         })
 
--- ---- a part of an array
--- what may be called at the items of its indices may be at those of its places
+-- ---- a part of an array, which has the array's items by the view of a slice
+pub at_part : {T : Type 0} (P : ArrayValue T → ArrayValue T → Type 0) (slice : List SliceInfoElem) {array entry : ArrayValue T} {view : View}
+    {stored now : List T} → array ≡ entry → view ≡ slice_of Strict slice array.view → now ≡ stored
+    → P (record { items = array.items; view = view }) (record { items = stored; view = view })
+    → P (part_of slice entry) (part_of slice (record { items = now; view = array.view }))
+at_part P slice {array} {entry} {view} {stored} {now} same sliced all holds =
+    subst (λ a. P (part_of slice a) (part_of slice (record { items = now; view = array.view }))) same
+    (subst (λ items. P (part_of slice array) (part_of slice (record { items = items; view = array.view }))) (sym all)
+    (subst (λ v. P (record { items = array.items; view = v }) (record { items = stored; view = v })) sliced holds))
+
 pub part_callable : {F T : Type 0} {g : Mut F (MutBor T × Unit {0}) (Unit {0} × (MutBor T × Unit {0}))} {f : F} (slice : List SliceInfoElem)
-    {array entry : ArrayValue T} {part : View} → array ≡ entry → part ≡ slice_of Strict slice array.view
+    {array entry : ArrayValue T} {view : View} → array ≡ entry → view ≡ slice_of Strict slice array.view
     → CallableOnEachMut g (row_major_items (part_of slice entry)) f
-    → CallableOnEachMut g (map (item_at_place array.items) (view_places RowMajor part)) f
+    → CallableOnEachMut g (row_major_items (record { items = array.items; view = view })) f
 part_callable {g = g} {f} slice {array} same sliced callable =
-    subst (λ items. CallableOnEachMut g items f)
-    (ap (λ a. row_major_items (part_of slice a)) (sym same)
-    ∙ sym (items_in_order (part_of slice array))
-    ∙ ap (λ view. map (item_at_place array.items) (view_places RowMajor view)) (sym sliced))
-    callable
+    subst (λ v. CallableOnEachMut g (row_major_items (record { items = array.items; view = v })) f) (sym sliced)
+    (subst (λ a. CallableOnEachMut g (row_major_items (part_of slice a)) f) (sym same) callable)
 
--- by the items as they are left
-module _ {F T : Type 0} (call : F → T → T → F → Type 0) {f : F} (slice : List SliceInfoElem) {array entry : ArrayValue T} {part : View}
-    {stored now : List T} (same : array ≡ entry) (sliced : part ≡ slice_of Strict slice array.view) (all : now ≡ stored)
-    (run : HasRun call f (view_places RowMajor part) (map (item_at_place array.items) (view_places RowMajor part)) array.items stored) where
-  are : view_places RowMajor part ≡ view_places RowMajor (part_of slice array).view
-  are = ap (view_places RowMajor) sliced
-
-  pub part_ran : RunsOver call f (row_major_items (part_of slice entry)) (row_major_items (part_of slice (changed array now)))
-  part_ran =
-      subst (λ a. RunsOver call f (row_major_items (part_of slice a)) (row_major_items (part_of slice (changed array now)))) same
-      (subst (λ items. RunsOver call f (row_major_items (part_of slice array)) (row_major_items (part_of slice (changed array items)))) (sym all)
-      (ran_over (part_of slice array) stored are call (part_of slice array) (ap (map (item_at_place array.items)) are) run))
-
-  pub part_spare : KeepsSpare (part_of slice entry) (part_of slice (changed array now))
-  part_spare =
-      subst (λ a. KeepsSpare (part_of slice a) (part_of slice (changed array now))) same
-      (subst (λ items. KeepsSpare (part_of slice array) (part_of slice (changed array items))) (sym all)
-      (spare (part_of slice array) stored are call (part_of slice array) (ap (map (item_at_place array.items)) are) run))
-
-  pub part_mapped : (h : T → T) → ((x : T) (y : T) (f' : F) → call f x y f' → (f' ≡ f) × (y ≡ h x))
-      → HasItemsOf (λ index. option_map h (item_at (part_of slice entry) index)) (part_of slice entry) (part_of slice (changed array now))
-  part_mapped h acts =
-      subst (λ a. HasItemsOf (λ index. option_map h (item_at (part_of slice a) index)) (part_of slice a) (part_of slice (changed array now))) same
-      (subst (λ items. HasItemsOf (λ index. option_map h (item_at (part_of slice array) index)) (part_of slice array)
-      (part_of slice (changed array items))) (sym all)
-      (mapped (part_of slice array) stored are call (part_of slice array) (ap (map (item_at_place array.items)) are) refl run h acts))
+-- what holds of the array of lent items, before and after, holds of the items
+pub at_lent : {T : Type 0} (P : ArrayValue T → ArrayValue T → Type 0) {old new : ArrayValue T} {items left : List T} {view : View}
+    → old.items ≡ items → old.view ≡ view → new.items ≡ left → new.view ≡ old.view → P old new
+    → P (record { items = items; view = view }) (record { items = left; view = view })
+at_lent P {old} {new} {items} {left} {view} given by now same holds =
+    subst (λ xs. P (record { items = items; view = view }) (record { items = xs; view = view })) now
+    (subst (λ xs. P (record { items = xs; view = view }) (record { items = new.items; view = view })) given
+    (subst (λ v. P (record { items = old.items; view = v }) (record { items = new.items; view = v })) by
+    (subst (λ v. P old (record { items = new.items; view = v })) same holds)))

@@ -1,30 +1,28 @@
 -- Items that are set at one place after another, where no place is listed twice, and what that leaves at the indices of a view.
-use Rattle.std.proofs.Common.{◌≡◌, ◌≢◌, ℕ, suc, ◌<◌, ℤ, pos, Option, Some, List, [], ◌∷◌, length, get_or, set, map, refl, sym, ap, subst, ◌∙◌, arith}
+use Rattle.std.proofs.Common.{◌≡◌, ◌≢◌, ℕ, suc, ℤ, pos, negsuc, Option, Some, List, ◌∷◌, length, get_or, map, refl, sym, ap, subst, ◌∙◌, arith}
 use Rattle.std.specs.List.{All, AllPairs, Contains}
 use Rattle.std.proofs.lemmas.Bool.{cond-true}
 use Rattle.std.proofs.lemmas.List.{get_or-map}
 use Rattle.std.proofs.lemmas.Simd.{map-map}
+use Rattle.std.specs.Option.{option_map}
 use Rattle.std.specs.Prelude.{if◌then◌else◌, None}
+use Rattle.std.proofs.lemmas.Option.{slice_get-get_or}
 use Rattle.ndarray_layout.specs.declared.Order.TheVariants.{RowMajor}
 use Rattle.ndarray_layout.specs.Bounds.{IsInBounds}
 use Rattle.ndarray_layout.specs.Indices.{indices_in, is_index}
 use Rattle.ndarray_layout.specs.View.{View, LiesWithin, place_at, view_places}
+use Rattle.ndarray_layout.proofs.laws.DistinctPlaces.{AllPairs-view_places}
 use Rattle.ndarray_layout.proofs.laws.Indices.{All-indices_in, Contains-indices_in}
 use Rattle.ndarray_layout.proofs.laws.Lists.{map_same}
 use Rattle.nd_owned.specs.ArrayViewMut.{HasItemsOf}
 use Rattle.nd_owned.specs.Owned.{ArrayValue, IsOwned, item_at, item_at_place}
 use Rattle.nd_owned.specs.private.Written.{HasSet}
-use Rattle.nd_owned.proofs.Placed.{set_other, set_same}
 use Rattle.nd_owned.proofs.PlacesLeft.{all_places, are_in_bounds}
-use Rattle.nd_owned.proofs.Slices.{distinct_places}
 
 abbrev pub Distinct : List ℤ → Type 0
 Distinct places = AllPairs (λ one other. one ≢ other) places
 
--- ---- one item after another
-pub none_set : {T : Type 0} {stored : List T} → HasSet [] [] stored stored
-none_set = record { written = refl; kept = λ place spared. refl }
-
+-- ---- one place after another
 module _ {place : ℕ} {left others : List ℤ} (first : left ≡ pos place ∷ others) where
   pub others_distinct : Distinct left → Distinct others
   others_distinct distinct = λ i j d earlier below.
@@ -34,19 +32,6 @@ module _ {place : ℕ} {left others : List ℤ} (first : left ≡ pos place ∷ 
   pub alone : Distinct left → Contains others (pos place) → ⊥
   alone distinct (k, below, same) =
       subst Distinct first distinct 0 (suc k) (pos place) (omega arith) (omega (arith, below)) (sym same)
-
-  -- once the others have their items, it has its own, and so all have theirs
-  pub first_set : {T : Type 0} {items : List (Option T)} {old new : List T} (x : T) → place < length old → Distinct left
-      → HasSet others items (set old place x) new → HasSet left (Some x ∷ items) old new
-  first_set {items = items} {old} {new} x below distinct more =
-      subst (λ places. HasSet places (Some x ∷ items) old new) (sym first) (record {
-        written =
-            ap (λ item. item ∷ map (item_at_place new) others) (more.kept place (alone distinct) ∙ set_same old place below)
-            ∙ ap (λ rest. Some x ∷ rest) more.written;
-        kept = λ other spared.
-            more.kept other (λ here. spared (suc here.0, omega (arith, here.1), here.2))
-            ∙ set_other old place x other (λ same. spared (0, omega arith, ap pos (sym same)));
-      })
 
 -- ---- what stands at an index
 -- what two functions make of a list is the same at each of its items
@@ -71,10 +56,30 @@ has_items given {old} {new} same left = record {
   kept = left.kept;
 }
 
--- the same item at each place is the same item at each index
-same_item : {T : Type 0} (item : T) (view : View)
-    → map (λ place. Some item) (view_places RowMajor view) ≡ map (λ index. Some item) (indices_in RowMajor view.shape)
-same_item item view = map-map (λ place. Some item) (place_at view) (indices_in RowMajor view.shape)
+-- an item of which a copy is made is the copy
+pub copied : {T : Type 0} (given : List ℕ → Option T) {old new : ArrayValue T} → HasItemsOf (λ index. option_map (λ x. x) (given index)) old new
+    → HasItemsOf given old new
+copied {T} given has = record { view = has.view; items = λ index here. has.items index here ∙ same (given index); kept = has.kept }
+  where
+    same : (item : Option T) → option_map (λ x. x) item ≡ item
+    same None = refl
+    same (Some x) = refl
+
+-- each item of an array is overwritten
+pub overwritten : {T : Type 0} (item : T) {old new : ArrayValue T} → LiesWithin (length old.items) old.view
+    → HasItemsOf (λ index. option_map (λ x. item) (item_at old index)) old new → HasItemsOf (λ index. Some item) old new
+overwritten {T} item {old} within has = record {
+  view = has.view;
+  items = λ index here.
+      has.items index here
+      ∙ ap (option_map (λ x. item)) (cond-true (is_index old.view.shape index) (item_at_place old.items (place_at old.view index)) None here)
+      ∙ there (place_at old.view index) (within index here);
+  kept = has.kept;
+}
+  where
+    there : (z : ℤ) → IsInBounds (length old.items) z → option_map (λ x. item) (item_at_place old.items z) ≡ Some item
+    there (pos place) below = ap (option_map (λ x. item)) (slice_get-get_or old.items place item below)
+    there (negsuc n) below = absurd below
 
 -- the items at the places of a view are those of its indices
 pub items_in_order : {T : Type 0} (array : ArrayValue T)
@@ -100,22 +105,5 @@ all_of_owned {len = len} view seen owned many same are =
     record {
       are = all;
       in_bounds = are_in_bounds view (subst (λ n. LiesWithin n view) many owned.within) all;
-      distinct = subst Distinct (sym all) (distinct_places RowMajor view owned.distinct);
+      distinct = subst Distinct (sym all) (AllPairs-view_places RowMajor view owned.distinct);
     }
-
-module _ {T : Type 0} (old : ArrayValue T) {places : List ℤ} {new : List T} (are : places ≡ view_places RowMajor old.view) where
-  pub filled : (item : T) → HasSet places (map (λ place. Some item) places) old.items new
-      → HasItemsOf (λ index. Some item) old (record { items = new; view = old.view })
-  filled item left =
-      has_items (λ index. Some item) refl
-      (subst (λ items. HasSet (view_places RowMajor old.view) items old.items new) (same_item item old.view)
-      (subst (λ zs. HasSet zs (map (λ place. Some item) zs) old.items new) are left))
-
-  pub assigned : (source : ArrayValue T) {items : List (Option T)}
-      → items ≡ map (item_at_place source.items) (view_places RowMajor source.view) → old.view.shape ≡ source.view.shape
-      → HasSet places items old.items new → HasItemsOf (item_at source) old (record { items = new; view = old.view })
-  assigned source {items} given same left =
-      let all = view_places RowMajor old.view in
-      has_items (item_at source) refl
-      (subst (λ shape. HasSet all (map (item_at source) (indices_in RowMajor shape)) old.items new) (sym same)
-      (subst (λ xs. HasSet all xs old.items new) (given ∙ items_in_order source) (subst (λ zs. HasSet zs items old.items new) are left)))

@@ -1,5 +1,5 @@
 -- The rows of neighbours of slices of a view of which no two share an index: they lie among the items, and are apart.
-use Rattle.std.proofs.Common.{◌≡◌, ◌≢◌, ℕ, ◌+◌, ◌<◌, ◌≤◌, ◌^◌, ℤ, true, None, List, [], ◌∷◌, ◌++◌, map, refl, sym, ap, subst, ◌∙◌, arith}
+use Rattle.std.proofs.Common.{◌≡◌, ◌≢◌, ℕ, ◌+◌, ◌<◌, ◌≤◌, ℤ, true, None, List, [], ◌∷◌, ◌++◌, map, refl, sym, ap, subst, ◌∙◌, arith}
 use Rattle.std.specs.List.{All, AllPairs, flat_map}
 use Rattle.std.proofs.lemmas.Grind.{flat_map-append}
 use Rattle.std.proofs.lemmas.Simd.{map-map}
@@ -14,17 +14,18 @@ use Rattle.ndarray_layout.specs.Rows.{rows_places}
 use Rattle.ndarray_layout.specs.SliceFault.{argument_fault}
 use Rattle.ndarray_layout.specs.SlicedView.{slice_of}
 use Rattle.ndarray_layout.specs.View.{View, view_places}
-use Rattle.ndarray_layout.proofs.laws.Rows.{All-rows_places, places_fit}
+use Rattle.ndarray_layout.proofs.laws.Rows.{All-rows_places}
 use Rattle.ndarray_layout.proofs.laws.SlicedView.{Descends-slice_of}
 use Rattle.ndarray_layout.proofs.laws.View.{places_lie_within}
 use Rattle.nd_owned.specs.MultiSet.{Write, slices_of, write_places}
-use Rattle.nd_owned.specs.MultiSlice.{picked_rows, stretches_of}
+use Rattle.nd_owned.specs.MultiSlice.{picked_rows, contiguous_rows}
 use Rattle.nd_owned.specs.Owned.{IsOwned}
-use Rattle.nd_owned.specs.PartMut.{is_stretch, items_of_row}
+use Rattle.nd_owned.specs.LentRow.{is_contiguous}
+use Rattle.nd_owned.specs.PartMut.{items_of_row}
 use Rattle.nd_owned.specs.private.Pieces.{AreRowsApart}
 use Rattle.nd_owned.proofs.Faults.{both_none}
 use Rattle.nd_owned.proofs.Slices.{all_distinct}
-use Rattle.nd_owned.proofs.Stretches.{AreStretches, rows_apart, rows_within, view_stretches}
+use Rattle.nd_owned.proofs.ContiguousRows.{AreContiguous, rows_apart, rows_within, view_contiguous}
 use Rattle.nd_owned.proofs.ViewRows.{places_of}
 
 -- ---- lists of lists
@@ -40,12 +41,12 @@ flat_same f g xs ys same =
 -- ---- the parts
 -- what is taken of the items by rows that are those of slices are the rows of the slices
 pub rows_taken : {A T : Type 0} (f : A → List Row) (items : List T) (view : View) (parts : List A) (slices : List (List SliceInfoElem))
-    → map f parts ≡ map (λ slice. stretches_of (slice_of Strict slice view)) slices
+    → map f parts ≡ map (λ slice. contiguous_rows (slice_of Strict slice view)) slices
     → map (λ part. map (items_of_row items) (f part)) parts ≡ map (picked_rows items view) slices
 rows_taken f items view parts slices same =
     sym (map-map (map (items_of_row items)) f parts)
     ∙ ap (map (map (items_of_row items))) same
-    ∙ map-map (map (items_of_row items)) (λ slice. stretches_of (slice_of Strict slice view)) slices
+    ∙ map-map (map (items_of_row items)) (λ slice. contiguous_rows (slice_of Strict slice view)) slices
 
 -- ---- slices without items are writes of none
 abbrev bare : List SliceInfoElem → Write (Unit {0})
@@ -69,58 +70,54 @@ module _ {count : ℕ} {view : View} (owned : IsOwned count view) where
   Fits slice = argument_fault Strict view.shape slice ≡ None
 
   abbrev rows_of_slice : List SliceInfoElem → List Row
-  rows_of_slice slice = stretches_of (slice_of Strict slice view)
+  rows_of_slice slice = contiguous_rows (slice_of Strict slice view)
 
   abbrev places_of_slice : List SliceInfoElem → List ℤ
   places_of_slice slice = view_places RowMajor (slice_of Strict slice view)
 
   record AreRows (slices : List (List SliceInfoElem)) : Type 0 where
-    pub stretches : AreStretches (flat_map rows_of_slice slices)
+    pub rows : AreContiguous (flat_map rows_of_slice slices)
     pub places : rows_places (flat_map rows_of_slice slices) ≡ flat_map places_of_slice slices
     pub within : All (IsInBounds count) (flat_map places_of_slice slices)
-    pub fit : All (IsInBounds (2 ^ 63)) (flat_map places_of_slice slices)
 
   rows_are : (slices : List (List SliceInfoElem)) → All Fits slices → AreRows slices
   rows_are [] fit = record {
-    stretches = record { stretch = λ k d below. absurd (omega arith); some = λ k d below. absurd (omega arith) };
+    rows = record { contiguous = λ k d below. absurd (omega arith); some = λ k d below. absurd (omega arith) };
     places = refl;
     within = All-nil (IsInBounds count);
-    fit = All-nil (IsInBounds (2 ^ 63));
   }
   rows_are (slice ∷ slices) fit =
       let part = slice_of Strict slice view in
       let of_view = Descends-slice_of Strict slice view owned.is_view (All-head Fits slice slices fit) in
-      let has = view_stretches of_view.is_view in
+      let has = view_contiguous of_view.is_view in
       let others = rows_are slices (All-tail Fits slice slices fit) in
       record {
-        stretches = record {
-          stretch = All-append (λ row. is_stretch row ≡ true) (rows_of_slice slice) (flat_map rows_of_slice slices) has.are.stretch others.stretches.stretch;
-          some = All-append (λ row. 0 < row.len) (rows_of_slice slice) (flat_map rows_of_slice slices) has.are.some others.stretches.some;
+        rows = record {
+          contiguous = All-append (λ row. is_contiguous row ≡ true) (rows_of_slice slice) (flat_map rows_of_slice slices) has.are.contiguous others.rows.contiguous;
+          some = All-append (λ row. 0 < row.len) (rows_of_slice slice) (flat_map rows_of_slice slices) has.are.some others.rows.some;
         };
         places = flat_map-append places_of (rows_of_slice slice) (flat_map rows_of_slice slices)
             ∙ ap (λ places. places ++ rows_places (flat_map rows_of_slice slices)) has.places
             ∙ ap (λ places. places_of_slice slice ++ places) others.places;
         within = All-append (IsInBounds count) (places_of_slice slice) (flat_map places_of_slice slices)
             (places_lie_within count RowMajor part (of_view.in_bounds count owned.within)) others.within;
-        fit = All-append (IsInBounds (2 ^ 63)) (places_of_slice slice) (flat_map places_of_slice slices) (places_fit RowMajor of_view.is_view) others.fit;
       }
 
   pub slice_rows_within : (slices : List (List SliceInfoElem)) → slices_fault Strict view.shape slices ≡ None
-      → All (λ row. row.start + row.len ≤ count) (flat_map (λ slice. stretches_of (slice_of Strict slice view)) slices)
+      → All (λ row. row.start + row.len ≤ count) (flat_map (λ slice. contiguous_rows (slice_of Strict slice view)) slices)
   slice_rows_within slices none =
       let rows = flat_map rows_of_slice slices in
       let are = rows_are slices (slices_fit view.shape slices none) in
       let within = All-rows_places (IsInBounds count) rows (subst (All (IsInBounds count)) (sym are.places) are.within) in
-      let fit = All-rows_places (IsInBounds (2 ^ 63)) rows (subst (All (IsInBounds (2 ^ 63))) (sym are.places) are.fit) in
-      rows_within rows are.stretches (λ k d below. record { within = within k d below; fit = fit k d below })
+      rows_within rows are.rows within
 
   pub slice_rows_apart : (slices : List (List SliceInfoElem)) → slices_fault Strict view.shape slices ≡ None
       → AllPairs (AreApart Strict view.shape) slices
-      → AllPairs AreRowsApart (flat_map (λ slice. stretches_of (slice_of Strict slice view)) slices)
+      → AllPairs AreRowsApart (flat_map (λ slice. contiguous_rows (slice_of Strict slice view)) slices)
   slice_rows_apart slices none apart =
       let are = rows_are slices (slices_fit view.shape slices none) in
       let all = all_distinct view (map bare slices) owned.is_view owned.distinct
       (subst (λ those. slices_fault Strict view.shape those ≡ None) (sym (slices_of_bare slices)) none)
       (subst (AllPairs (AreApart Strict view.shape)) (sym (slices_of_bare slices)) apart) in
-      rows_apart (flat_map rows_of_slice slices) are.stretches
+      rows_apart (flat_map rows_of_slice slices) are.rows
       (subst (AllPairs (λ one other. one ≢ other)) (flat_map-map (write_places view) bare slices ∙ sym are.places) all)

@@ -1,10 +1,10 @@
 -- Slices of a view whose places are distinct: no place is listed twice by slices of which no two share an index, and what writes
 -- there leave.
-use Rattle.std.proofs.Common.{◌≡◌, ◌≢◌, ℕ, suc, ◌<◌, ℤ, pos, true, false, Bool, Some, None, inl, inr, List, [], ◌∷◌, ◌++◌, length, get_or}
-use Rattle.std.proofs.Common.{map, take, refl, sym, ap, subst, ◌∙◌, arith, ◌&&◌}
+use Rattle.std.proofs.Common.{◌≡◌, ◌≢◌, ℕ, suc, ◌<◌, ℤ, pos, true, Some, None, inl, inr, List, [], ◌∷◌, ◌++◌, length, get_or}
+use Rattle.std.proofs.Common.{map, take, refl, sym, ap, subst, ◌∙◌, arith}
 use Rattle.std.specs.List.{All, AllPairs, Contains, flat_map, list_all}
 use Rattle.std.specs.Prelude.{MatchOption, OnOk, Option, Result, Ok, Err}
-use Rattle.std.proofs.lemmas.Bool.{eqb-true}
+use Rattle.std.proofs.lemmas.Bool.{and_parts, eqb-true}
 use Rattle.std.proofs.lemmas.List.{append_cancel_left, get_or-map, length-map, map-append, take_at}
 use Rattle.std.proofs.lemmas.List.Elements.{All-append, All-cons, All-head, All-tail, Contains-append_cases, Contains-get_or}
 use Rattle.std.proofs.lemmas.List.Kept.{AllPairs-cons}
@@ -20,7 +20,8 @@ use Rattle.ndarray_layout.specs.Size.{size}
 use Rattle.ndarray_layout.specs.SlicedLayout.{sliced_shape}
 use Rattle.ndarray_layout.specs.SlicedView.{slice_of}
 use Rattle.ndarray_layout.specs.View.{View, IsView, place_at, view_places}
-use Rattle.ndarray_layout.proofs.laws.Indices.{All-indices_in, AllPairs-indices_in}
+use Rattle.ndarray_layout.proofs.laws.DistinctPlaces.{AllPairs-view_places}
+use Rattle.ndarray_layout.proofs.laws.Indices.{All-indices_in}
 use Rattle.ndarray_layout.proofs.laws.SharePlace.{intersect_of_shared_place}
 use Rattle.ndarray_layout.proofs.laws.SlicedView.{Descends-slice_of}
 use Rattle.ndarray_layout.proofs.laws.View.{length-view_places}
@@ -70,16 +71,6 @@ same_parts xs us ys vs long same =
     (first, append_cancel_left us ys vs (ap (λ front. front ++ ys) (sym first) ∙ same))
 
 -- ---- the places of one slice
--- where no two indices of a view have one place, no place is listed twice
-pub distinct_places : (order : Order) (view : View) → HasDistinctPlaces view → AllPairs (λ one other. one ≢ other) (view_places order view)
-distinct_places order view distinct = λ i j d earlier below same.
-    let indices = indices_in order view.shape in
-    let late : j < length indices = omega (arith, length-map indices (place_at view)) in
-    let early : i < length indices = omega arith in
-    AllPairs-indices_in order view.shape i j [] earlier late (distinct (get_or indices i []) (get_or indices j [])
-    (All-indices_in order view.shape i [] early) (All-indices_in order view.shape j [] late)
-    (sym (get_or-map (place_at view) indices i [] d early) ∙ same ∙ get_or-map (place_at view) indices j [] d late))
-
 -- a place that is listed is that of an index
 listed : (order : Order) (view : View) (place : ℤ) → Contains (view_places order view) place
     → (index : List ℕ) × (is_index view.shape index ≡ true) × (place_at view index ≡ place)
@@ -100,16 +91,12 @@ each_fits shape (write ∷ writes) none =
     let parts = both_none (argument_fault Strict shape write.slice) (slices_fault shape writes) none in
     All-cons (λ one. argument_fault Strict shape one.slice ≡ None) write writes parts.0 (each_fits shape writes parts.1)
 
-pub both_true : (first second : Bool) → (first && second) ≡ true → (first ≡ true) × (second ≡ true)
-both_true true second both = (refl, both)
-both_true false second both = absurd (cc)
-
 -- as many items as places
 pub each_count : {T : Type 0} (view : View) (writes : List (Write T)) → list_all (has_count view.shape) writes ≡ true
     → All (λ write. length (write_places view write) ≡ length write.items) writes
 each_count view [] all = λ k d below. absurd (omega arith)
 each_count view (write ∷ writes) all =
-    let parts = both_true (has_count view.shape write) (list_all (has_count view.shape) writes) all in
+    let parts = and_parts (has_count view.shape write) (list_all (has_count view.shape) writes) all in
     All-cons (λ one. length (write_places view one) ≡ length one.items) write writes
     (length-view_places RowMajor (slice_of Strict write.slice view)
     ∙ sym (eqb-true (length write.items) (size (sliced_shape Strict write.slice view.shape)) parts.0))
@@ -130,7 +117,7 @@ no_shared_place {view} one other {place} v distinct (fits, also) apart (here, th
 pub one_distinct : {T : Type 0} (view : View) (write : Write T) → IsView view → HasDistinctPlaces view
     → argument_fault Strict view.shape write.slice ≡ None → AllPairs (λ one other. one ≢ other) (write_places view write)
 one_distinct view write v distinct fits =
-    distinct_places RowMajor (slice_of Strict write.slice view) ((Descends-slice_of Strict write.slice view v fits).distinct distinct)
+    AllPairs-view_places RowMajor (slice_of Strict write.slice view) ((Descends-slice_of Strict write.slice view v fits).distinct distinct)
 
 pub all_distinct : {T : Type 0} (view : View) (writes : List (Write T)) → IsView view → HasDistinctPlaces view
     → slices_fault view.shape writes ≡ None → AllPairs (AreApart Strict view.shape) (slices_of writes)

@@ -2,11 +2,10 @@
 use Rattle.std.proofs.Common.{◌≡◌, ℕ, ◌+◌, ◌-◌, ◌*◌, ◌<◌, ◌≤◌, ℤ, pos, negsuc, ◌+ℤ◌, ◌≤ℤ◌, ◌<ℤ◌, true, false, None, Some, Option, inl, inr, List, []}
 use Rattle.std.proofs.Common.{◌∷◌, length, take, drop, min, refl, sym, ap, subst, ◌∙◌, arith, eq-eqb}
 use Prim.Native.Nat.{zero, suc}
-use Rattle.std.specs.Prelude.{slice_get, ◌⊎◌}
+use Rattle.std.specs.Prelude.{slice_get, ◌⊎◌, IfOk, Result, Ok, Err}
 use Rattle.std.specs.Option.{option_or}
 use Rattle.std.proofs.lemmas.Bool.{le-ltb}
 use Rattle.std.proofs.lemmas.Int.{ints}
-use Rattle.ndarray_layout.specs.declared.ErrorKind.{ErrorKind}
 use Rattle.ndarray_layout.specs.declared.CanIndexCheckMode.TheVariants.{ReadOnly}
 use Rattle.ndarray_layout.specs.Acceptance.{size_fault}
 use Rattle.ndarray_layout.specs.AcceptanceFrom.{acceptance_from}
@@ -76,14 +75,10 @@ distinct_moved {by} {old} {new} moved distinct index other here there same =
     (subst (λ shape. is_index shape other ≡ true) moved.shape there)
     (place_moved moved index ∙ ap (λ z. pos by +ℤ z) same ∙ sym (place_moved moved other))
 
--- so it is not refused
-pub not_refused : {kind : ErrorKind} (start len : ℕ) {shape given : List ℕ} {strides kept : List ℤ}
-    → Some kind ≡ acceptance_from start 1 len ReadOnly given kept → given ≡ shape → kept ≡ strides
-    → acceptance_from start 1 len ReadOnly shape strides ≡ None → ⊥
-not_refused {kind} start len {shape} {given} {strides} {kept} fault lens steps accepted =
-    let wrong : Some kind ≡ None =
-    fault ∙ ap (λ shape. acceptance_from start 1 len ReadOnly shape kept) lens ∙ ap (acceptance_from start 1 len ReadOnly shape) steps ∙ accepted in
-    cc
+-- what a success brings of its value
+pub if_ok : {X E : Type 0} (result : Result X E) {P Q : X → Type 0} → ((x : X) → P x → Q x) → IfOk result P → IfOk result Q
+if_ok (Ok x) brings known = brings x known
+if_ok (Err e) brings known = tt
 
 -- ---- parts with items of their own
 pub unmoved : {old new : View} → new ≡ old → IsMoved 0 old new

@@ -26,9 +26,9 @@ rows_items values = flat_map row_items values
 abbrev pub row_of : {T : Type 0} → List T → Row → RowValue T
 row_of items row = record { items = items; row = row }
 
--- whether the items of a row follow one another: its stride is 1, or it has at most one
-abbrev pub is_stretch_row : Row → Bool
-is_stretch_row row = int_eq row.stride (pos 1) || nat_le row.len 1
+-- whether the places of a row lie side by side: its stride is 1, or it has at most one
+abbrev pub is_contiguous : Row → Bool
+is_contiguous row = int_eq row.stride (pos 1) || nat_le row.len 1
 
 -- a row has a place, and each of its places has one of so many items
 pub record HasRow (count : ℕ) (row : Row) : Type 0 where
@@ -47,16 +47,16 @@ last_one_first = refl
 one_row_after_another : rows_items (backwards ∷ backwards ∷ []) ≡ Some 9 ∷ Some 7 ∷ Some 9 ∷ Some 7 ∷ []
 one_row_after_another = refl
 
-backwards_is_none : is_stretch_row backwards.row ≡ false
+backwards_is_none : is_contiguous backwards.row ≡ false
 backwards_is_none = refl
 
-neighbours_are_one : is_stretch_row (record { start = 5; stride = pos 1; len = 3 }) ≡ true
+neighbours_are_one : is_contiguous (record { start = 5; stride = pos 1; len = 3 }) ≡ true
 neighbours_are_one = refl
 
-one_item_is_one : is_stretch_row (record { start = 5; stride = negsuc 8; len = 1 }) ≡ true
+one_item_is_one : is_contiguous (record { start = 5; stride = negsuc 8; len = 1 }) ≡ true
 one_item_is_one = refl
 
-two_at_one_place_are_none : is_stretch_row (record { start = 5; stride = pos 0; len = 2 }) ≡ false
+two_at_one_place_are_none : is_contiguous (record { start = 5; stride = pos 0; len = 2 }) ≡ false
 two_at_one_place_are_none = refl
 
 row_past_its_items : HasRow 2 backwards.row → ⊥

@@ -15,20 +15,21 @@ use Rattle.ndarray_layout.specs.Signed.{magnitude}
 use Rattle.ndarray_layout.specs.SlicedView.{slice_of}
 use Rattle.ndarray_layout.specs.View.{View, view_places}
 use Rattle.nd_owned.specs.MultiSet.{IsSharingFault}
-use Rattle.nd_owned.specs.PartMut.{is_stretch, items_of_row}
+use Rattle.nd_owned.specs.PartMut.{items_of_row}
+use Rattle.nd_owned.specs.LentRow.{is_contiguous}
 
 -- the row of one place, which is not below 0
 abbrev pub one_place : ℤ → Row
 one_place place = record { start = magnitude place; stride = pos 1; len = 1 }
 
 -- the places of a view in rows of neighbours: its rows along the last axis where the places of each lie side by side, else each place alone
-abbrev pub stretches_of : View → List Row
-stretches_of view =
-    (if list_all is_stretch (view_rows RowMajor view) then view_rows RowMajor view else map one_place (view_places RowMajor view))
+abbrev pub contiguous_rows : View → List Row
+contiguous_rows view =
+    (if list_all is_contiguous (view_rows RowMajor view) then view_rows RowMajor view else map one_place (view_places RowMajor view))
 
 -- the items that a slice of a view picks, in such rows
 abbrev pub picked_rows : {T : Type 0} → List T → View → List SliceInfoElem → List (List T)
-picked_rows items view slice = map (items_of_row items) (stretches_of (slice_of Strict slice view))
+picked_rows items view slice = map (items_of_row items) (contiguous_rows (slice_of Strict slice view))
 
 -- the error, or none, of a list of slices: that of the first one that doesn't fit the shape; then Unsupported where two share an index
 abbrev pub IsFaultOfSlices : List ℕ → List (List SliceInfoElem) → Option ErrorKind → Type 0

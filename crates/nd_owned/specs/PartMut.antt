@@ -1,6 +1,6 @@
 -- Rows of items that are lent to be written: what a contract sees of them, which views have such rows, and what a part of them is.
 use Prim.Native.Nat.{zero, suc}
-use Rattle.std.specs.Prelude.{◌≡◌, ℕ, ◌+◌, ℤ, pos, negsuc, Bool, true, false, ◌&&◌, ◌||◌, nat_eq, nat_le, nat_lt, List, [], ◌∷◌, length, map, take, drop, refl}
+use Rattle.std.specs.Prelude.{◌≡◌, ℕ, ◌+◌, pos, negsuc, Bool, true, false, ◌&&◌, ◌||◌, nat_eq, nat_le, nat_lt, List, [], ◌∷◌, length, map, take, drop, refl}
 use Rattle.std.specs.Borrow.{GName}
 use Rattle.std.specs.List.{list_all}
 use Rattle.ndarray_layout.specs.declared.Row.{Row}
@@ -8,6 +8,7 @@ use Rattle.ndarray_layout.specs.declared.Order.TheVariants.{RowMajor}
 use Rattle.ndarray_layout.specs.Rows.{view_rows}
 use Rattle.ndarray_layout.specs.View.{View}
 use Rattle.nd_owned.specs.declared.parts_mut.PartMut.{PartMut}
+use Rattle.nd_owned.specs.LentRow.{is_contiguous}
 
 -- the items of each row
 abbrev pub rows_of : {T : Type 0} → PartMut T → List (List T)
@@ -17,23 +18,14 @@ rows_of part = map (λ row. row.now) part.rows.items
 abbrev pub names_of : {T : Type 0} → PartMut T → List GName
 names_of part = map (λ row. row.ghost_name) part.rows.items
 
--- a place is followed by the next one
-abbrev pub is_one : ℤ → Bool
-is_one (pos step) = nat_eq step 1
-is_one (negsuc below) = false
-
--- the places of a row, one or more, lie side by side
-abbrev pub is_stretch : Row → Bool
-is_stretch row = is_one row.stride || nat_eq row.len 1
-
 -- the places of each row lie side by side, none below this one, and none below the end of the row before
 abbrev pub ascend : ℕ → List Row → Bool
 ascend end [] = true
-ascend end (row ∷ rows) = (nat_le end row.start && is_stretch row) && ascend (row.start + row.len) rows
+ascend end (row ∷ rows) = (nat_le end row.start && is_contiguous row) && ascend (row.start + row.len) rows
 
--- the same of the rows of a view
-abbrev pub has_stretches : View → Bool
-has_stretches view = ascend 0 (view_rows RowMajor view)
+-- so do the rows of a view
+abbrev pub rows_ascend : View → Bool
+rows_ascend view = ascend 0 (view_rows RowMajor view)
 
 -- the items at the places of a row that lie side by side
 abbrev pub items_of_row : {T : Type 0} → List T → Row → List T
@@ -63,19 +55,19 @@ rows_from rows (suc axis) index = map (drop index) rows
 abbrev tile : View
 tile = record { start = 1; shape = 2 ∷ 2 ∷ []; strides = pos 4 ∷ pos 1 ∷ [] }
 
-tile_has_stretches : has_stretches tile ≡ true
-tile_has_stretches = refl
+tile_by_rows : rows_ascend tile ≡ true
+tile_by_rows = refl
 
-last_row_first : has_stretches (record { start = 5; shape = 2 ∷ 2 ∷ []; strides = negsuc 3 ∷ pos 1 ∷ [] }) ≡ false
+last_row_first : rows_ascend (record { start = 5; shape = 2 ∷ 2 ∷ []; strides = negsuc 3 ∷ pos 1 ∷ [] }) ≡ false
 last_row_first = refl
 
-rows_that_meet : has_stretches (record { start = 0; shape = 2 ∷ 2 ∷ []; strides = pos 1 ∷ pos 1 ∷ [] }) ≡ false
+rows_that_meet : rows_ascend (record { start = 0; shape = 2 ∷ 2 ∷ []; strides = pos 1 ∷ pos 1 ∷ [] }) ≡ false
 rows_that_meet = refl
 
-by_columns : has_stretches (record { start = 0; shape = 2 ∷ 2 ∷ []; strides = pos 1 ∷ pos 2 ∷ [] }) ≡ false
+by_columns : rows_ascend (record { start = 0; shape = 2 ∷ 2 ∷ []; strides = pos 1 ∷ pos 2 ∷ [] }) ≡ false
 by_columns = refl
 
-one_column : has_stretches (record { start = 0; shape = 2 ∷ 1 ∷ []; strides = pos 3 ∷ pos 7 ∷ [] }) ≡ true
+one_column : rows_ascend (record { start = 0; shape = 2 ∷ 1 ∷ []; strides = pos 3 ∷ pos 7 ∷ [] }) ≡ true
 one_column = refl
 
 second_row : items_of_row {T = ℕ} (0 ∷ 1 ∷ 2 ∷ 3 ∷ 4 ∷ 5 ∷ 6 ∷ 7 ∷ []) (record { start = 5; stride = pos 1; len = 2 }) ≡ 5 ∷ 6 ∷ []

@@ -22,12 +22,11 @@ mod iterating;
 mod rows;
 mod steps;
 
-use crate::rows::view_size;
 pub use iterating::Iter;
 use ndarray_layout::{
-    CanIndexCheckMode, ErrorKind, LayoutError, Lengths, NdIndex, ShapeError, StrideShape, Strided,
-    from_kind, max_abs_offset_check_overflow, offset_from_low_addr_ptr_to_logical_ptr,
+    CanIndexCheckMode, LayoutError, Lengths, NdIndex, ShapeError, StrideShape, Strided,
 };
+pub(crate) use rows::is_contiguous;
 pub use rows::{LentRow, LentRows};
 use std::alloc::{AllocError, Global};
 use std::marker::Model;
@@ -51,45 +50,6 @@ impl<'a, T, D: Lengths> Model for ArrayView<'a, T, D> {
     ghost view = { λ a. record { items = a.items.now; view = a.view } };
 
     ghost invariant = { λ a. HasItems (length a.items.now) a.view };
-}
-
-/// Whether a layout whose highest place this is leaves data of `len` elements. A layout without an index may reach as far as
-/// there are elements.
-fn leaves(highest: usize, len: usize, is_empty: bool) -> bool
-    ensures { result ≡ (if is_empty then nat_lt len highest else nat_le len highest) }
-{
-    if is_empty {
-        len < highest
-    } else {
-        len <= highest
-    }
-}
-
-/// How far a view reaches above its start. Errors: none, since a view has a span.
-fn reach_above<D: Lengths>(view: &Strided<D>) -> Result<usize, ShapeError>
-    ensures fault { result_err result ≡ size_fault 1 view.now.shape view.now.strides }
-    ensures reach { IfOk result (λ n. n ≡ high_span view.now.shape view.now.strides) }
-    ensures is_view { IsView view.now }
-{
-    let (dim, strides) = (view.dim(), view.strides());
-    let span = max_abs_offset_check_overflow(1, dim, strides)?;
-    let low = offset_from_low_addr_ptr_to_logical_ptr(dim, strides);
-    Ok(span - low)
-}
-
-/// Checks that each place of a view is below a count. Errors: those of `ArrayView::over`.
-pub(crate) fn check_within<D: Lengths>(view: &Strided<D>, len: usize) -> Result<(), ShapeError>
-    ensures fault { result_err result ≡
-        acceptance_from view.now.start 1 len ReadOnly view.now.shape view.now.strides }
-    ensures within { OnOk result (LiesWithin len view.now) }
-    ensures is_view { IsView view.now }
-{
-    let reach = reach_above(view)?;
-    let is_empty = view.dim().slice().contains(&0);
-    if leaves(view.start() + reach, len, is_empty) {
-        return Err(from_kind(ErrorKind::OutOfBounds));
-    }
-    Ok(())
 }
 
 impl<'a, T, D: Lengths> ArrayView<'a, T, D> {
@@ -155,7 +115,8 @@ impl<'a, T, D: Lengths> ArrayView<'a, T, D> {
         ensures view { IfOk result (λ a. a.view ≡ view) }
         ensures has_items { IfOk result (λ a. HasItems (length a.items) a.view) }
     {
-        check_within(&view, items.len())?;
+        let start = view.start();
+        let view = view.moved_to(start, 1, items.len(), CanIndexCheckMode::ReadOnly)?;
         Ok(ArrayView { items, view })
     }
 
@@ -184,14 +145,14 @@ impl<'a, T, D: Lengths> ArrayView<'a, T, D> {
     pub fn len(&self) -> usize
         ensures { result ≡ size self.now.view.shape }
     {
-        view_size(&self.view)
+        self.view.len()
     }
 
     /// Whether the shape has no index. ndarray's `is_empty`.
     pub fn is_empty(&self) -> bool
         ensures { IsTrue result ↔ (size self.now.view.shape ≡ 0) }
     {
-        self.len() == 0
+        self.view.is_empty()
     }
 
     /// All items as they are stored, spare ones too.

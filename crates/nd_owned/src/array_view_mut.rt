@@ -22,8 +22,6 @@ mod writing;
 
 use crate::array_view::ArrayView;
 use crate::fitted::Fitted;
-use crate::rows::view_size;
-pub(crate) use mapping::map_places;
 use ndarray_layout::{LayoutError, Lengths, NdIndex, ShapeError, StrideShape, Strided};
 pub use splitting::SplitViews;
 use std::alloc::{AllocError, Global};
@@ -160,14 +158,14 @@ impl<'a, T: Drop, D: Lengths> ArrayViewMut<'a, T, D> {
     pub fn len(&self) -> usize
         ensures { result ≡ size (array_of self.now).view.shape }
     {
-        view_size(self.fitted.view())
+        self.fitted.view().len()
     }
 
     /// Whether the shape has no index. ndarray's `is_empty`.
     pub fn is_empty(&self) -> bool
         ensures { IsTrue result ↔ (size (array_of self.now).view.shape ≡ 0) }
     {
-        self.len() == 0
+        self.fitted.view().is_empty()
     }
 
     /// All items as they are stored, spare ones too.

@@ -17,10 +17,8 @@ ghost use Rattle.ndarray_layout.specs.Span.{low_span};
 ghost use Rattle.ndarray_layout.specs.View.{view_of};
 ghost use Rattle.nd_owned.specs.Owned.{IsOwned};
 
-use crate::array_view::check_within;
 use ndarray_layout::{
-    Axis, CanIndexCheckMode, ErrorKind, LayoutError, Lengths, ShapeError, StrideShape, Strided,
-    dim_stride_overlap, from_kind,
+    Axis, CanIndexCheckMode, LayoutError, Lengths, ShapeError, StrideShape, Strided,
 };
 use std::alloc::Global;
 use std::marker::Model;
@@ -90,10 +88,8 @@ impl<D: Lengths> Fitted<D> {
         ensures view { IfOk result (λ a. a.view ≡ view) }
         ensures owned { IfOk result (λ a. IsOwned a.count a.view) }
     {
-        check_within(&view, count)?;
-        if dim_stride_overlap(view.dim(), view.strides()) {
-            return Err(from_kind(ErrorKind::Unsupported));
-        }
+        let start = view.start();
+        let view = view.moved_to(start, 1, count, CanIndexCheckMode::OwnedMutable)?;
         Ok(Fitted { view, count })
     }
 

@@ -27,7 +27,6 @@ use crate::array_view::ArrayView;
 use crate::array_view_mut::ArrayViewMut;
 use crate::multi_set::{check_apart, check_counts, part_of_write, parts_of, write_all};
 use crate::part::Part;
-use crate::rows::view_size;
 use ndarray_layout::{
     CanIndexCheckMode, LayoutError, Lengths, NdIndex, SliceElems, SliceInfoElem, StrideShape,
     Strided,
@@ -126,14 +125,14 @@ impl<T: Drop, D: Lengths> OwnedArray<T, D> {
     pub fn len(&self) -> usize
         ensures { result ≡ size self.now.view.shape }
     {
-        view_size(&self.view)
+        self.view.len()
     }
 
     /// Whether the shape has no index. ndarray's `is_empty`.
     pub fn is_empty(&self) -> bool
         ensures { IsTrue result ↔ (size self.now.view.shape ≡ 0) }
     {
-        self.len() == 0
+        self.view.is_empty()
     }
 
     /// All items as they are stored, spare ones too.

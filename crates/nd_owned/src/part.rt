@@ -11,7 +11,7 @@ ghost use Rattle.nd_owned.specs.Owned.{IsOfNone, item_at_place};
 ghost use Rattle.nd_owned.specs.private.Part.{part_places, view_of_part};
 ghost use Rattle.nd_owned.specs.private.Written.{HasWritten};
 
-use crate::rows::{read_view, view_size, write_view};
+use crate::rows::{read_view, write_view};
 use ndarray_layout::{
     Fit, Ix1, Ix2, IxDyn, LayoutError, Lengths, SliceElems, Strided, out_ndim_of,
 };
@@ -58,9 +58,9 @@ impl Part {
         ensures { result ≡ size (view_of_part self.now).shape }
     {
         match self {
-            Part::Line(view) => view_size(view),
-            Part::Plane(view) => view_size(view),
-            Part::Any(view) => view_size(view),
+            Part::Line(view) => view.len(),
+            Part::Plane(view) => view.len(),
+            Part::Any(view) => view.len(),
         }
     }
 

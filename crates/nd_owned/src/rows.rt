@@ -9,17 +9,8 @@ ghost use Rattle.ndarray_layout.specs.View.{IsView, LiesWithin, view_places};
 ghost use Rattle.nd_owned.specs.Owned.{item_at_place};
 ghost use Rattle.nd_owned.specs.private.Written.{AreInBounds, HasWritten};
 
-use ndarray_layout::{Lengths, Order, Places, Row, Strided, is_layout_c, product};
+use ndarray_layout::{Lengths, Order, Places, Row, Strided, is_layout_c};
 use std::alloc::{AllocError, Global};
-
-/// How many indices a view has.
-#[inline]
-pub(crate) fn view_size<D: Lengths>(view: &Strided<D>) -> usize
-    ensures size { result ≡ size view.now.shape }
-    ensures is_view { IsView view.now }
-{
-    product(view.dim().slice())
-}
 
 /// How many neighbours are worth the call of a copy.
 const WORTH_A_COPY: usize = 16;
@@ -31,7 +22,7 @@ fn one_row<D: Lengths>(view: &Strided<D>) -> Option<Row>
         row_places row.start row.stride row.len ≡ view_places RowMajor view.now) }
     ensures is_view { IsView view.now }
 {
-    let len = view_size(view);
+    let len = view.len();
     if len < WORTH_A_COPY || !is_layout_c(view.dim(), view.strides()) {
         return None;
     }
@@ -54,7 +45,7 @@ pub(crate) fn read_view<T: Copy, D: Lengths>(
         ≡ map (item_at_place stored.now) (view_places RowMajor view.now)) }
     ensures memory { size view.now.shape ≡ 0 → IsOk result }
 {
-    let mut items = Vec::with_capacity(alloc, view_size(view))?;
+    let mut items = Vec::with_capacity(alloc, view.len())?;
     if let Some(row) = one_row(view) {
         return Ok(read_row(items, stored, row));
     }

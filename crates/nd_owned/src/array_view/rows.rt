@@ -7,7 +7,7 @@ ghost use Rattle.ndarray_layout.specs.declared.Order.TheVariants.{RowMajor};
 ghost use Rattle.ndarray_layout.specs.Bounds.{IsInBounds};
 ghost use Rattle.ndarray_layout.specs.Rows.{view_rows};
 ghost use Rattle.ndarray_layout.specs.View.{view_places};
-ghost use Rattle.nd_owned.specs.LentRow.{RowValue, is_stretch_row, row_items, row_of, rows_items};
+ghost use Rattle.nd_owned.specs.LentRow.{RowValue, is_contiguous, row_items, row_of, rows_items};
 ghost use Rattle.nd_owned.specs.Owned.{item_at_place};
 
 use crate::array_view::ArrayView;
@@ -45,10 +45,10 @@ fn place_in_row(row: Row, coordinate: usize) -> usize
     (row.start as isize + coordinate as isize * row.stride) as usize
 }
 
-/// Whether the items of a row follow one another.
+/// Whether the places of a row lie side by side.
 #[inline(always)]
-fn is_stretch(row: Row) -> bool
-    ensures { result ≡ is_stretch_row row }
+pub(crate) fn is_contiguous(row: Row) -> bool
+    ensures { result ≡ is_contiguous row }
 {
     row.stride == 1 || row.len <= 1
 }
@@ -68,11 +68,11 @@ impl<'a, T> LentRow<'a, T> {
     /// Of `[2,2]` over 5 6 7 8 the second row is 7 8; the transpose has `None`. ndarray's `to_slice` of a row.
     #[inline]
     pub fn as_slice(&self) -> Option<&'a [T]>
-        ensures found { IsSome result ↔ IsTrue (is_stretch_row self.now.row) }
+        ensures found { IsSome result ↔ IsTrue (is_contiguous self.now.row) }
         ensures items { IfSome result (λ slice. map Some slice.now ≡ row_items self.now) }
     {
         let (items, row) = (self.items, self.row);
-        if !is_stretch(row) {
+        if !is_contiguous(row) {
             return None;
         }
         Some(&items[row.start..row.start + row.len])

@@ -17,7 +17,7 @@ use crate::array_view_mut::ArrayViewMut;
 use ndarray_layout::{ErrorKind, Lengths, Order, Places, ShapeError, from_kind};
 
 /// Calls a closure at the item of each of these places, one after another.
-pub(crate) fn map_places<T, F: FnMut(&mut T)>(stored: &mut [T], places: Places<'_>, mut f: F)
+fn map_places<T, F: FnMut(&mut T)>(stored: &mut [T], places: Places<'_>, mut f: F)
     requires in_bounds { All (IsInBounds (length stored.old)) places }
     requires distinct { AllPairs (λ one other. one ≢ other) places }
     requires callable { CallableOnEachMut F.FnMut (map (item_at_place stored.old) places) f }

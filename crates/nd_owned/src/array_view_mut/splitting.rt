@@ -42,34 +42,18 @@ fn reach<D: Lengths>(view: &Strided<D>) -> Result<(usize, usize), ShapeError>
     Ok((view.start() - low, view.start() + (span - low)))
 }
 
-/// Whether a view has no index.
-fn has_none<D: Lengths>(view: &Strided<D>) -> bool
-    ensures { result ≡ is_empty view.now.shape }
-{
-    view.dim().slice().contains(&0)
-}
-
-/// A view over the `len` items that are left where so many before them are left out. Errors: out of memory.
-fn moved<D: Lengths>(
-    alloc: Global,
-    view: &Strided<D>,
-    by: usize,
-    len: usize,
-) -> Result<Strided<D>, LayoutError>
-    requires some { is_empty view.now.shape ≡ false }
-    requires low { by + low_span view.now.shape view.now.strides ≤ view.now.start }
-    requires within { LiesWithin (by + len) view.now }
-    ensures fault { shape_fault result ≡ None }
-    ensures memory { NeedsNoMemory D.NDIM (length view.now.shape) → IsOk result }
-    ensures moved { IfOk result (IsMoved by view.now) }
+/// A view over the `len` items that are left where so many before them are left out. Errors: none.
+fn moved<D: Lengths>(view: Strided<D>, by: usize, len: usize) -> Result<Strided<D>, ShapeError>
+    requires some { is_empty view.shape ≡ false }
+    requires low { by + low_span view.shape view.strides ≤ view.start }
+    requires within { LiesWithin (by + len) view }
+    ensures none { IsOk result }
+    ensures moved { IfOk result (IsMoved by view) }
     ensures within { IfOk result (LiesWithin len) }
     ensures is_view { IfOk result IsView }
 {
     let start = view.start() - by;
-    let dim = view.dim().duplicate(alloc)?;
-    let strides = view.strides().duplicate(alloc)?;
-    let view = Strided::from_parts(start, dim, strides, 1, len, CanIndexCheckMode::ReadOnly)?;
-    Ok(view)
+    view.moved_to(start, 1, len, CanIndexCheckMode::ReadOnly)
 }
 
 impl<D: Lengths> SplitViews<D> {
@@ -113,7 +97,7 @@ impl<D: Lengths> SplitViews<D> {
             parts.second) }
     {
         let (first, second) = view.split_at(alloc, axis, index)?;
-        if has_none(&first) {
+        if first.is_empty() {
             return Ok(SplitViews {
                 first,
                 second,
@@ -121,7 +105,7 @@ impl<D: Lengths> SplitViews<D> {
                 first_is_lower: true,
             });
         }
-        if has_none(&second) {
+        if second.is_empty() {
             return Ok(SplitViews {
                 first,
                 second,
@@ -132,7 +116,7 @@ impl<D: Lengths> SplitViews<D> {
         let (first_low, first_high) = reach(&first)?;
         let (second_low, second_high) = reach(&second)?;
         if first_high < second_low {
-            let second = moved(alloc, &second, second_low, count - second_low)?;
+            let second = moved(second, second_low, count - second_low)?;
             return Ok(SplitViews {
                 first,
                 second,
@@ -141,7 +125,7 @@ impl<D: Lengths> SplitViews<D> {
             });
         }
         if second_high < first_low {
-            let first = moved(alloc, &first, first_low, count - first_low)?;
+            let first = moved(first, first_low, count - first_low)?;
             return Ok(SplitViews {
                 first,
                 second,

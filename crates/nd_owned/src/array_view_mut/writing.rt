@@ -1,42 +1,13 @@
 //! Writes to all items of an array.
-ghost use Rattle.std.specs.List.{All, AllPairs};
-ghost use Rattle.std.specs.Prelude.{◌≡◌, ◌≢◌, ◌↔◌, IsOk, OnErr, OnOk, Some, length, map};
+ghost use Rattle.std.specs.Prelude.{◌≡◌, ◌↔◌, IsOk, OnErr, OnOk, Some};
 ghost use Rattle.std.specs.Result.{result_err};
 ghost use Rattle.ndarray_layout.specs.declared.ErrorKind.TheVariants.{IncompatibleShape};
-ghost use Rattle.ndarray_layout.specs.Bounds.{IsInBounds};
 ghost use Rattle.nd_owned.specs.ArrayViewMut.{HasItemsOf};
 ghost use Rattle.nd_owned.specs.Owned.{item_at};
-ghost use Rattle.nd_owned.specs.private.Written.{HasSet};
 
-use crate::array_view::{ArrayView, Iter};
+use crate::array_view::ArrayView;
 use crate::array_view_mut::ArrayViewMut;
-use ndarray_layout::{ErrorKind, Lengths, Order, Places, ShapeError, from_kind};
-
-/// Writes an item at each of these places.
-fn fill_places<T: Copy>(stored: &mut [T], places: Places<'_>, item: T)
-    requires { All (IsInBounds (length stored.old)) places }
-    ensures { AllPairs (λ one other. one ≢ other) places.entry →
-        HasSet places.entry (map (λ place. Some item) places.entry) stored.old stored.new }
-{
-    for place in places {
-        stored[place] = item;
-    }
-}
-
-/// Writes a copy of the next item at each of these places.
-fn assign_places<T: Copy>(stored: &mut [T], places: Places<'_>, items: Iter<'_, T>)
-    requires within { All (IsInBounds (length stored.old)) places }
-    requires count { length items ≡ length places }
-    ensures { AllPairs (λ one other. one ≢ other) places.entry →
-        HasSet places.entry items.entry stored.old stored.new }
-{
-    let mut items = items;
-    for place in places {
-        if let Some(item) = items.next() {
-            stored[place] = *item;
-        }
-    }
-}
+use ndarray_layout::{Lengths, ShapeError};
 
 impl<'a, T: Copy, D: Lengths> ArrayViewMut<'a, T, D> {
     ghost use Rattle.nd_owned.specs.Lender.{array_of};
@@ -50,8 +21,14 @@ impl<'a, T: Copy, D: Lengths> ArrayViewMut<'a, T, D> {
         ensures filled { HasItemsOf (λ index. Some item) (array_of self.old) (array_of self.new) }
         ensures same_reference { self.new.items.ghost_name ≡ self.old.items.ghost_name }
     {
-        let places = self.fitted.view().iter_places(Order::RowMajor);
-        fill_places(self.items, places, item);
+        let _view = self.view();
+        self.map_in_place(
+            |stored: &mut T|
+                ensures { stored.new ≡ item }
+            {
+                *stored = item;
+            },
+        );
     }
 
     /// Writes at each index a copy of the item that another array of the same shape has there. Spare items are unchanged.
@@ -72,11 +49,11 @@ impl<'a, T: Copy, D: Lengths> ArrayViewMut<'a, T, D> {
             (HasItemsOf (item_at other.now) (array_of self.old) (array_of self.new)) }
         ensures same_reference { self.new.items.ghost_name ≡ self.old.items.ghost_name }
     {
-        if !self.fitted.view().dim().equal(other.dim()) {
-            return Err(from_kind(ErrorKind::IncompatibleShape));
-        }
-        let places = self.fitted.view().iter_places(Order::RowMajor);
-        assign_places(self.items, places, other.iter());
-        Ok(())
+        other.map_into(
+            self,
+            |item: &T|
+                ensures { result ≡ item.now }
+            { *item },
+        )
     }
 }

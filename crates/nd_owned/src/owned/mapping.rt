@@ -1,32 +1,36 @@
 //! Calls of a closure at items of an array that owns them.
 ghost use Rattle.std.specs.Fn.{CalledAtMut};
 ghost use Rattle.std.specs.Option.{option_map};
-ghost use Rattle.std.specs.Prelude.{◌≡◌, IsOk, None, OnErr, OnOk, length, map};
+ghost use Rattle.std.specs.Prelude.{◌≡◌, IsOk, None, OnErr, OnOk, length};
 ghost use Rattle.ndarray_layout.specs.declared.Fit.TheVariants.{Strict};
-ghost use Rattle.ndarray_layout.specs.declared.Order.TheVariants.{RowMajor};
 ghost use Rattle.ndarray_layout.specs.Memory.{NeedsNoMemory};
 ghost use Rattle.ndarray_layout.specs.ShapeFault.{shape_fault};
 ghost use Rattle.ndarray_layout.specs.SliceFault.{argument_fault, out_count};
-ghost use Rattle.ndarray_layout.specs.View.{view_places};
 ghost use Rattle.nd_owned.specs.ArrayViewMut.{HasItemsOf, KeepsSpare};
 ghost use Rattle.nd_owned.specs.Mapped.{ActsAsAtMut, CallableOnEachMut, RunsOver, part_of, row_major_items};
-ghost use Rattle.nd_owned.specs.Owned.{IsOwned, item_at, item_at_place};
-ghost use Rattle.nd_owned.specs.private.Written.{HasRun};
+ghost use Rattle.nd_owned.specs.Owned.{IsOwned, item_at};
 
-use crate::array_view_mut::map_places;
+use crate::array_view_mut::ArrayViewMut;
 use crate::owned::OwnedArray;
-use ndarray_layout::{Fit, IxDyn, LayoutError, Lengths, Order, SliceElems, Strided};
+use ndarray_layout::{Fit, IxDyn, LayoutError, Lengths, SliceElems, Strided};
 use std::alloc::Global;
 
 /// Calls a closure at the item of each index of a view, in row-major order.
-fn map_part<T, D: Lengths, F: FnMut(&mut T)>(stored: &mut [T], part: Strided<D>, f: F)
-    requires owned { IsOwned (length stored.old) part }
+fn map_view<T: Drop, D: Lengths, F: FnMut(&mut T)>(stored: &mut [T], view: Strided<D>, f: F)
+    requires owned { IsOwned (length stored.old) view }
     requires callable { CallableOnEachMut F.FnMut
-        (map (item_at_place stored.old) (view_places RowMajor part)) f }
-    ensures { HasRun (λ p x y q. CalledAtMut F.FnMut p x tt q y) f (view_places RowMajor part)
-        (map (item_at_place stored.old) (view_places RowMajor part)) stored.old stored.new }
+        (row_major_items (record { items = stored.old; view = view })) f }
+    ensures ran { RunsOver (λ p x y q. CalledAtMut F.FnMut p x tt q y) f
+        (row_major_items (record { items = stored.old; view = view }))
+        (row_major_items (record { items = stored.new; view = view })) }
+    ensures mapped { (h : T → T) → ActsAsAtMut F.FnMut f h → HasItemsOf
+        (λ index. option_map h (item_at (record { items = stored.old; view = view }) index))
+        (record { items = stored.old; view = view }) (record { items = stored.new; view = view }) }
+    ensures kept { KeepsSpare
+        (record { items = stored.old; view = view }) (record { items = stored.new; view = view }) }
 {
-    map_places(stored, part.iter_places(Order::RowMajor), f);
+    let mut array = ArrayViewMut::new(view, stored);
+    array.map_in_place(f);
 }
 
 impl<T: Drop, D: Lengths> OwnedArray<T, D> {
@@ -66,7 +70,7 @@ impl<T: Drop, D: Lengths> OwnedArray<T, D> {
             (part_of (S.list slices.now) self.old) (part_of (S.list slices.now) self.new)) }
     {
         let part: Strided<IxDyn> = self.view.slice(alloc, slices, Fit::Strict)?;
-        map_part(self.items.as_mut_slice(), part, f);
+        map_view(self.items.as_mut_slice(), part, f);
         Ok(())
     }
 }

@@ -6,28 +6,30 @@ ghost use Rattle.ndarray_layout.specs.Rows.{view_rows};
 ghost use Rattle.ndarray_layout.specs.ShapeFault.{shape_fault};
 ghost use Rattle.ndarray_layout.specs.Size.{size};
 ghost use Rattle.ndarray_layout.specs.View.{LiesWithin};
-ghost use Rattle.nd_owned.specs.PartMut.{has_stretches, is_stretch, items_of_row, rows_of};
+ghost use Rattle.nd_owned.specs.LentRow.{is_contiguous};
+ghost use Rattle.nd_owned.specs.PartMut.{items_of_row, rows_ascend, rows_of};
 
+use crate::array_view::is_contiguous;
 use crate::parts_mut::PartMut;
 use ndarray_layout::{ErrorKind, LayoutError, Lengths, Order, Row, Strided, from_kind};
 use std::alloc::{AllocError, Global};
 
 /// Whether the places of a row lie side by side, none below an end.
 #[inline]
-pub(crate) fn is_stretch_from(row: Row, end: usize) -> bool
-    ensures { result ≡ (nat_le end row.start && is_stretch row) }
+fn is_contiguous_from(row: Row, end: usize) -> bool
+    ensures { result ≡ (nat_le end row.start && is_contiguous row) }
 {
-    end <= row.start && (row.stride == 1 || row.len == 1)
+    end <= row.start && is_contiguous(row)
 }
 
 /// Whether the places of each row of a view lie side by side, and none below the end of the row before.
-fn rows_ascend<D: Lengths>(view: &Strided<D>, count: usize) -> bool
+fn has_ascending_rows<D: Lengths>(view: &Strided<D>, count: usize) -> bool
     requires { LiesWithin count view.now }
-    ensures { result ≡ has_stretches view.now }
+    ensures { result ≡ rows_ascend view.now }
 {
     let mut end = 0;
     for row in view.rows(Order::RowMajor) {
-        if !is_stretch_from(row, end) {
+        if !is_contiguous_from(row, end) {
             return false;
         }
         end = row.start + row.len;
@@ -42,7 +44,7 @@ fn cut_rows<'a, T: Drop, D: Lengths>(
     items: &'a mut [T],
 ) -> Result<Vec<&'a mut [T]>, AllocError>
     requires within { LiesWithin (length items.old) view.now }
-    requires ascend { has_stretches view.now ≡ true }
+    requires ascend { rows_ascend view.now ≡ true }
     ensures memory { size view.now.shape ≡ 0 → IsOk result }
     ensures rows { IfOk result (λ rows. map (λ row. row.now) rows.items ≡
         map (items_of_row items.old) (view_rows RowMajor view.now)) }
@@ -79,12 +81,12 @@ impl<'a, T: Drop> PartMut<'a, T> {
     ) -> Result<Self, LayoutError>
         requires { LiesWithin (length items.old) view.now }
         ensures fault { shape_fault result ≡
-            (if has_stretches view.now then None else Some IncompatibleLayout) }
+            (if rows_ascend view.now then None else Some IncompatibleLayout) }
         ensures memory { size view.now.shape ≡ 0 → IsOk result }
         ensures rows { IfOk result (λ part. rows_of part ≡
             map (items_of_row items.old) (view_rows RowMajor view.now)) }
     {
-        if !rows_ascend(view, items.len()) {
+        if !has_ascending_rows(view, items.len()) {
             return Err(LayoutError::Shape(from_kind(ErrorKind::IncompatibleLayout)));
         }
         let rows = cut_rows(alloc, view, items)?;

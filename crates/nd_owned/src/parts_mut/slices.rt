@@ -8,24 +8,25 @@ ghost use Rattle.ndarray_layout.specs.Rows.{view_rows};
 ghost use Rattle.ndarray_layout.specs.ShapeFault.{shape_fault};
 ghost use Rattle.ndarray_layout.specs.SlicedView.{slice_of};
 ghost use Rattle.ndarray_layout.specs.View.{view_places};
-ghost use Rattle.nd_owned.specs.MultiSlice.{IsFaultOfSlices, one_place, picked_rows, stretches_of};
+ghost use Rattle.nd_owned.specs.LentRow.{is_contiguous};
+ghost use Rattle.nd_owned.specs.MultiSlice.{IsFaultOfSlices, one_place, picked_rows, contiguous_rows};
 ghost use Rattle.nd_owned.specs.Owned.{IsOwned};
-ghost use Rattle.nd_owned.specs.PartMut.{is_stretch, rows_of};
+ghost use Rattle.nd_owned.specs.PartMut.{rows_of};
 
+use crate::array_view::is_contiguous;
 use crate::parts_mut::PartMut;
 use crate::parts_mut::free_items::lend_parts;
-use crate::parts_mut::making::is_stretch_from;
 use ndarray_layout::{
     ErrorKind, Fit, IxDyn, LayoutError, Lengths, Order, Row, SliceElems, Strided, from_kind,
 };
 use std::alloc::{AllocError, Global};
 
 /// Whether the places of each row of a view lie side by side.
-fn are_stretches<D: Lengths>(view: &Strided<D>) -> bool
-    ensures { result ≡ list_all is_stretch (view_rows RowMajor view.now) }
+fn are_contiguous<D: Lengths>(view: &Strided<D>) -> bool
+    ensures { result ≡ list_all is_contiguous (view_rows RowMajor view.now) }
 {
     for row in view.rows(Order::RowMajor) {
-        if !is_stretch_from(row, 0) {
+        if !is_contiguous(row) {
             return false;
         }
     }
@@ -59,10 +60,10 @@ fn list_places<D: Lengths>(alloc: Global, view: &Strided<D>) -> Result<Vec<Row>,
 }
 
 /// The places of a view in rows of neighbours. Errors: out of memory.
-fn stretches<D: Lengths>(alloc: Global, view: &Strided<D>) -> Result<Vec<Row>, AllocError>
-    ensures { IfOk result (λ rows. rows.items ≡ stretches_of view.now) }
+fn contiguous_rows<D: Lengths>(alloc: Global, view: &Strided<D>) -> Result<Vec<Row>, AllocError>
+    ensures { IfOk result (λ rows. rows.items ≡ contiguous_rows view.now) }
 {
-    if are_stretches(view) {
+    if are_contiguous(view) {
         list_rows(alloc, view)
     } else {
         list_places(alloc, view)
@@ -79,12 +80,12 @@ fn rows_of_slices<D: Lengths, S: SliceElems>(
     ensures fault { shape_fault result ≡ None }
     ensures memory { slices.now ≡ [] → IsOk result }
     ensures rows { IfOk result (λ parts. map (λ rows. rows.items) parts.items ≡
-        map (λ slice. stretches_of (slice_of Strict slice view.now)) (map S.list slices.now)) }
+        map (λ slice. contiguous_rows (slice_of Strict slice view.now)) (map S.list slices.now)) }
 {
     let mut parts = Vec::new(alloc);
     for slice in slices {
         let part: Strided<IxDyn> = view.slice(alloc, slice, Fit::Strict)?;
-        parts.push(stretches(alloc, &part)?)?;
+        parts.push(contiguous_rows(alloc, &part)?)?;
     }
     Ok(parts)
 }

@@ -25,6 +25,6 @@ returns-clause-places g c =
     subst (λ strides. LiesInOrder RowMajor view.shape strides) c.strides.ensures.list
     (subst (λ shape. LiesInOrder RowMajor shape (all_signed (g.D.Lengths.list c.strides.result.now))) c.dim.ensures.list
     (c.is_layout_c.ensures.places.0 c.if-not-is_layout_c.false)) in
-    ap (λ start. row_places start (pos 1) c.view_size-len.result) c.start.ensures.place
-    ∙ ap (row_places view.start (pos 1)) c.view_size-len.ensures.size
+    ap (λ start. row_places start (pos 1) c.len-len.result) c.start.ensures.place
+    ∙ ap (row_places view.start (pos 1)) c.len-len.ensures.size
     ∙ places_of_one_row view lies

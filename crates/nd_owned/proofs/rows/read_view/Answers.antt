@@ -15,7 +15,7 @@ use Rattle.nd_owned.proofs.ViewRows.{length_left, places_in_bounds, places_of, r
 use Rattle.nd_owned.proofs.rows.read_view.Goals as goal
 
 pub returns-in_err-items-clause-memory : goal.returns-in_err-items-clause-memory
-returns-in_err-items-clause-memory g c = λ none. absurd (false≢true (c.in_err-items.ensures.succeeds (c.view_size.ensures.size ∙ none)))
+returns-in_err-items-clause-memory g c = λ none. absurd (false≢true (c.in_err-items.ensures.succeeds (c.len.ensures.size ∙ none)))
 
 pub read_row-requires-clause-in_bounds : goal.read_row-requires-clause-in_bounds
 read_row-requires-clause-in_bounds g c =
@@ -29,7 +29,7 @@ read_row-requires-clause-room g c =
       length-row_places row.start row.stride row.len,
       ap length c.in-Some.ensures.places,
       length-view_places RowMajor c.args.view.now,
-      c.view_size.ensures.size,
+      c.len.ensures.size,
       c.in_ok-items.ensures.len,
       c.in_ok-items.ensures.exact,
     )
@@ -51,7 +51,7 @@ read_places-requires-clause-room g c = omega (
   arith,
   ap length c.iter_places.ensures.items,
   length-view_places RowMajor c.args.view.now,
-  c.view_size.ensures.size,
+  c.len.ensures.size,
   c.in_ok-items.ensures.len,
   c.in_ok-items.ensures.exact,
 )
@@ -71,7 +71,7 @@ loop-row-init g c =
         arith,
         ap length places,
         length-view_places RowMajor view,
-        c.view_size.ensures.size,
+        c.len.ensures.size,
         c.in_ok-items.ensures.len,
         c.in_ok-items.ensures.exact,
       );

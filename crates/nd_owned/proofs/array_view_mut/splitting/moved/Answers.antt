@@ -1,28 +1,26 @@
--- The view is accepted, so only an allocation can fail.
-use Rattle.std.proofs.Common.{◌≡◌, ◌+◌, ◌-◌, ◌≤◌, ap, ◌∙◌, arith}
-use Rattle.ndarray_layout.specs.Signed.{all_signed}
+-- The view is accepted over the items that are left.
+use Rattle.std.proofs.Common.{rules, ◌≡◌, ◌+◌, ◌-◌, ◌≤◌, None, ◌∙◌, ap, arith}
+use Rattle.std.specs.Result.{result_err}
 use Rattle.ndarray_layout.specs.Span.{low_span}
-use Rattle.nd_owned.proofs.SplitItems.{accepted_moved, not_refused}
+use Rattle.nd_owned.proofs.SplitItems.{accepted_moved, if_ok}
 use Rattle.nd_owned.proofs.array_view_mut.splitting.moved.Goals as goal
 
-pub returns-in_err-view-clause-fault : goal.returns-in_err-view-clause-fault
-returns-in_err-view-clause-fault g c =
-    let view = c.args.view.now in
-    let start = c.start.result - c.args.by in
+pub returns-clause-none : goal.returns-clause-none
+returns-clause-none g c =
+    let view = c.args.view in
     let place : c.start.result ≡ view.start = c.start.ensures.place in
     let low : c.args.by + low_span view.shape view.strides ≤ view.start = c.requires.low in
-    let accepted = accepted_moved c.args.by c.args.len {start = start} c.start.ensures.is_view c.requires.some c.requires.within
+    let accepted = accepted_moved c.args.by c.args.len {start = c.start.result - c.args.by} c.start.ensures.is_view c.requires.some c.requires.within
     (omega (arith, place, low)) (omega (arith, place, low)) in
-    absurd (not_refused start c.args.len c.in_err-view.ensures.fault (c.in_ok-dim.ensures.list ∙ c.dim.ensures.list)
-    (ap all_signed c.in_ok-strides.ensures.list ∙ c.strides.ensures.list) accepted)
+    let none : result_err c.moved_to.result ≡ None = c.moved_to.ensures.fault ∙ accepted in
+    search (rules, none)
 
-pub returns-in_err-view-clause-memory : goal.returns-in_err-view-clause-memory
-returns-in_err-view-clause-memory g c =
-    let view = c.args.view.now in
-    let start = c.start.result - c.args.by in
+pub returns-clause-moved : goal.returns-clause-moved
+returns-clause-moved g c =
+    let view = c.args.view in
     let place : c.start.result ≡ view.start = c.start.ensures.place in
     let low : c.args.by + low_span view.shape view.strides ≤ view.start = c.requires.low in
-    let accepted = accepted_moved c.args.by c.args.len {start = start} c.start.ensures.is_view c.requires.some c.requires.within
-    (omega (arith, place, low)) (omega (arith, place, low)) in
-    absurd (not_refused start c.args.len c.in_err-view.ensures.fault (c.in_ok-dim.ensures.list ∙ c.dim.ensures.list)
-    (ap all_signed c.in_ok-strides.ensures.list ∙ c.strides.ensures.list) accepted)
+    if_ok c.moved_to.result (λ new same.
+    let start : new.start ≡ c.start.result - c.args.by = ap (λ v. v.start) same in
+    record { shape = ap (λ v. v.shape) same; strides = ap (λ v. v.strides) same; start = omega (arith, start, place, low) })
+    c.moved_to.ensures.view

@@ -8,7 +8,7 @@ use Rattle.ndarray_layout.specs.declared.SliceInfoElem.{SliceInfoElem}
 use Rattle.ndarray_layout.specs.Intersections.{IsIntersection}
 use Rattle.ndarray_layout.specs.SlicedView.{slice_of}
 use Rattle.ndarray_layout.specs.View.{View}
-use Rattle.nd_owned.specs.MultiSlice.{stretches_of}
+use Rattle.nd_owned.specs.MultiSlice.{contiguous_rows}
 use Rattle.nd_owned.specs.private.Pieces.{AreRowsApart}
 use Rattle.nd_owned.proofs.SliceParts.{flat_same, rows_taken, slice_rows_apart, slice_rows_within}
 use Rattle.nd_owned.proofs.parts_mut.PartMut.of_slices.Goals as goal
@@ -19,10 +19,10 @@ no_two (Some x) none = let wrong : true ≡ false = none in cc
 
 -- the rows of all parts are those of the slices
 same_rows : {A : Type 0} (f : A → List Row) (view : View) {lent parts : List A} (slices : List (List SliceInfoElem)) → lent ≡ parts
-    → map f parts ≡ map (λ slice. stretches_of (slice_of Strict slice view)) slices
-    → flat_map (λ slice. stretches_of (slice_of Strict slice view)) slices ≡ flat_map f lent
+    → map f parts ≡ map (λ slice. contiguous_rows (slice_of Strict slice view)) slices
+    → flat_map (λ slice. contiguous_rows (slice_of Strict slice view)) slices ≡ flat_map f lent
 same_rows f view {parts = parts} slices same rows =
-    sym (ap (flat_map f) same ∙ flat_same f (λ slice. stretches_of (slice_of Strict slice view)) parts slices rows)
+    sym (ap (flat_map f) same ∙ flat_same f (λ slice. contiguous_rows (slice_of Strict slice view)) parts slices rows)
 
 pub lend_parts-requires-clause-within : goal.lend_parts-requires-clause-within
 lend_parts-requires-clause-within g c =

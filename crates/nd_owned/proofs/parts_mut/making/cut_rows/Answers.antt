@@ -1,15 +1,15 @@
 -- One more row is cut from the items that are left.
-use Rattle.std.proofs.Common.{◌≡◌, ◌+◌, ◌-◌, ◌<◌, ◌≤◌, length, map, take, drop, refl, sym, ap, subst, ◌∙◌, arith}
+use Rattle.std.proofs.Common.{◌≡◌, ◌+◌, ◌-◌, ◌≤◌, length, map, take, drop, refl, sym, ap, subst, ◌∙◌, arith}
 use Rattle.std.specs.List.{All}
 use Rattle.std.proofs.lemmas.List.{drop-drop, length-append, length-drop, length-map}
 use Rattle.std.proofs.lemmas.List.Elements.{All-head, All-tail}
 use Rattle.ndarray_layout.specs.declared.Order.TheVariants.{RowMajor}
 use Rattle.ndarray_layout.specs.Rows.{view_rows}
-use Rattle.ndarray_layout.proofs.laws.Rows.{some_in_each_row}
+use Rattle.nd_owned.specs.LentRow.{HasRow}
 use Rattle.nd_owned.specs.PartMut.{ascend, items_of_row}
-use Rattle.nd_owned.specs.private.Written.{AreInBounds}
-use Rattle.nd_owned.proofs.Lent.{row_pushed, rows_ascend, rows_begin, stretch_within}
-use Rattle.nd_owned.proofs.ViewRows.{no_rows, places_of, rows_in_bounds}
+use Rattle.nd_owned.proofs.Lent.{first_ascends, row_pushed, rows_begin}
+use Rattle.nd_owned.proofs.RowsLent.{end_within, rows_have_items}
+use Rattle.nd_owned.proofs.ViewRows.{no_rows}
 use Rattle.nd_owned.proofs.parts_mut.making.cut_rows.Goals as goal
 
 pub loop-row-init : goal.loop-row-init
@@ -17,8 +17,7 @@ loop-row-init g c =
     let items = c.args.items.now in
     let all = c.into_iter-row-iterator.ensures.into_iter_gives ∙ c.rows-row-items.ensures.items in
     record {
-      in_bounds = subst (All (λ row. AreInBounds (length items) (places_of row))) (sym all) (rows_in_bounds c.rows-row-items.ensures.is_view c.requires.within);
-      some = subst (All (λ row. 0 < row.len)) (sym all) (some_in_each_row RowMajor c.args.view.now);
+      have_items = subst (All (HasRow (length items))) (sym all) (rows_have_items c.rows-row-items.ensures.is_view c.requires.within);
       ascend = ap (ascend 0) all ∙ c.requires.ascend;
       left = refl;
       end = omega arith;
@@ -30,11 +29,9 @@ split_at_mut-spare-requires g c =
     let items = c.args.items.now in
     let row = c.in-Some.row in
     let first = c.in-Some.ensures.steps in
-    let here = All-head (λ row. AreInBounds (length items) (places_of row)) _ _
-    (subst (All (λ row. AreInBounds (length items) (places_of row))) first c.loop-row.invariant.in_bounds) in
-    let some = All-head (λ row. 0 < row.len) _ _ (subst (All (λ row. 0 < row.len)) first c.loop-row.invariant.some) in
-    let facts = rows_ascend c.loop-row.end first c.loop-row.invariant.ascend in
-    let within : row.start + row.len ≤ length items = stretch_within row here some facts.stretch in
+    let has = All-head (HasRow (length items)) _ _ (subst (All (HasRow (length items))) first c.loop-row.invariant.have_items) in
+    let facts = first_ascends c.loop-row.end first c.loop-row.invariant.ascend in
+    let within : row.start + row.len ≤ length items = end_within row has.within has.some facts.contiguous in
     omega (arith, within, facts.above, ap length c.loop-row.invariant.left, length-drop c.loop-row.end items)
 
 pub split_at_mut-these-requires : goal.split_at_mut-these-requires
@@ -42,11 +39,9 @@ split_at_mut-these-requires g c =
     let items = c.args.items.now in
     let row = c.in-Some.row in
     let first = c.in-Some.ensures.steps in
-    let here = All-head (λ row. AreInBounds (length items) (places_of row)) _ _
-    (subst (All (λ row. AreInBounds (length items) (places_of row))) first c.loop-row.invariant.in_bounds) in
-    let some = All-head (λ row. 0 < row.len) _ _ (subst (All (λ row. 0 < row.len)) first c.loop-row.invariant.some) in
-    let facts = rows_ascend c.loop-row.end first c.loop-row.invariant.ascend in
-    let within : row.start + row.len ≤ length items = stretch_within row here some facts.stretch in
+    let has = All-head (HasRow (length items)) _ _ (subst (All (HasRow (length items))) first c.loop-row.invariant.have_items) in
+    let facts = first_ascends c.loop-row.end first c.loop-row.invariant.ascend in
+    let within : row.start + row.len ≤ length items = end_within row has.within has.some facts.contiguous in
     omega (arith, within, facts.above, c.split_at_mut-spare.ensures.back_len, ap length c.loop-row.invariant.left, length-drop c.loop-row.end items)
 
 pub loop-row-preserved : goal.loop-row-preserved
@@ -55,21 +50,18 @@ loop-row-preserved g c =
     let row = c.in-Some.row in
     let end = c.loop-row.end in
     let first = c.in-Some.ensures.steps in
-    let in_bounds = subst (All (λ row. AreInBounds (length items) (places_of row))) first c.loop-row.invariant.in_bounds in
-    let here = All-head (λ row. AreInBounds (length items) (places_of row)) _ _ in_bounds in
-    let each = subst (All (λ row. 0 < row.len)) first c.loop-row.invariant.some in
-    let some = All-head (λ row. 0 < row.len) _ _ each in
-    let facts = rows_ascend end first c.loop-row.invariant.ascend in
+    let all = subst (All (HasRow (length items))) first c.loop-row.invariant.have_items in
+    let has = All-head (HasRow (length items)) _ _ all in
+    let facts = first_ascends end first c.loop-row.invariant.ascend in
     let reached : end + (row.start - end) ≡ row.start = omega (arith, facts.above) in
     let others : c.split_at_mut-spare.result.1.now ≡ drop row.start items =
     c.split_at_mut-spare.ensures.back ∙ ap (drop (row.start - end)) c.loop-row.invariant.left ∙ drop-drop (row.start - end) end items
     ∙ ap (λ n. drop n items) reached in
     record {
-      in_bounds = All-tail (λ row. AreInBounds (length items) (places_of row)) _ _ in_bounds;
-      some = All-tail (λ row. 0 < row.len) _ _ each;
+      have_items = All-tail (HasRow (length items)) _ _ all;
       ascend = facts.others_ascend;
       left = c.split_at_mut-these.ensures.back ∙ ap (drop row.len) others ∙ drop-drop row.len row.start items;
-      end = stretch_within row here some facts.stretch;
+      end = end_within row has.within has.some facts.contiguous;
       rows = row_pushed (λ row. row.now) (items_of_row items) c.loop-row.rows.items c.in_ok-push.ensures.items first
           (c.split_at_mut-these.ensures.front ∙ ap (take row.len) others) c.loop-row.invariant.rows;
     }

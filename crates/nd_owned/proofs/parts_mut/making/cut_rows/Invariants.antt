@@ -1,17 +1,15 @@
 -- The rows that are cut so far, with those of the items that are left, are all.
-use Rattle.std.proofs.Common.{◌≡◌, ◌<◌, ◌≤◌, ◌++◌, true, length, map, drop}
+use Rattle.std.proofs.Common.{◌≡◌, ◌≤◌, ◌++◌, true, length, map, drop}
 use Rattle.std.specs.List.{All}
 use Rattle.ndarray_layout.specs.declared.Order.TheVariants.{RowMajor}
 use Rattle.ndarray_layout.specs.Rows.{view_rows}
+use Rattle.nd_owned.specs.LentRow.{HasRow}
 use Rattle.nd_owned.specs.PartMut.{ascend, items_of_row}
-use Rattle.nd_owned.specs.private.Written.{AreInBounds}
-use Rattle.nd_owned.proofs.ViewRows.{places_of}
 use Rattle.nd_owned.proofs.parts_mut.making.cut_rows.Given as goal
 
 abbrev pub invariant-loop-row : goal.invariant-loop-row
 invariant-loop-row g l = record {
-  in_bounds : All (λ row. AreInBounds (length l.fn.items) (places_of row)) l.row-iterator;
-  some : All (λ row. 0 < row.len) l.row-iterator;
+  have_items : All (HasRow (length l.fn.items)) l.row-iterator;
   ascend : ascend l.end l.row-iterator ≡ true;
   left : l.left ≡ drop l.end l.fn.items;
   end : l.end ≤ length l.fn.items;

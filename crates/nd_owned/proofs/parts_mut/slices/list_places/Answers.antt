@@ -2,7 +2,7 @@
 use Rattle.std.proofs.Common.{◌++◌, map, sym, ap, ◌∙◌}
 use Rattle.std.proofs.lemmas.List.{append-nil}
 use Rattle.nd_owned.specs.MultiSlice.{one_place}
-use Rattle.nd_owned.proofs.Stretches.{one_pushed}
+use Rattle.nd_owned.proofs.Lent.{one_pushed}
 use Rattle.nd_owned.proofs.parts_mut.slices.list_places.Goals as goal
 
 pub loop-place-preserved : goal.loop-place-preserved

@@ -1,7 +1,7 @@
 -- One more row is listed.
 use Rattle.std.proofs.Common.{◌++◌, sym, ap, ◌∙◌}
 use Rattle.std.proofs.lemmas.List.{append-nil}
-use Rattle.nd_owned.proofs.Stretches.{one_pushed}
+use Rattle.nd_owned.proofs.Lent.{one_pushed}
 use Rattle.nd_owned.proofs.parts_mut.slices.list_rows.Goals as goal
 
 pub loop-row-preserved : goal.loop-row-preserved

@@ -4,7 +4,7 @@ use Rattle.ndarray_layout.specs.declared.Fit.TheVariants.{Strict}
 use Rattle.ndarray_layout.specs.SliceFault.{argument_fault}
 use Rattle.ndarray_layout.specs.SlicedView.{slice_of}
 use Rattle.ndarray_layout.specs.View.{View}
-use Rattle.nd_owned.specs.MultiSlice.{stretches_of}
+use Rattle.nd_owned.specs.MultiSlice.{contiguous_rows}
 use Rattle.nd_owned.proofs.Faults.{handed_on, next, of_this}
 use Rattle.nd_owned.proofs.Lent.{row_pushed}
 use Rattle.nd_owned.proofs.SliceParts.{slices_fit}
@@ -22,6 +22,6 @@ pub loop-slice-preserved : goal.loop-slice-preserved
 loop-slice-preserved g c =
     let view = c.args.view.now in
     let slices = c.args.slices.now in
-    row_pushed (λ rows. rows.items) (λ slice. stretches_of (slice_of Strict slice view)) c.loop-slice.parts.items c.in_ok-push.ensures.items
+    row_pushed (λ rows. rows.items) (λ slice. contiguous_rows (slice_of Strict slice view)) c.loop-slice.parts.items c.in_ok-push.ensures.items
     (next g.S.SliceElems.list slices c.loop-slice.slice-index c.loop-slice-test.true c.slice-item.is)
-    (c.in_ok-stretches.ensures ∙ ap stretches_of c.in_ok-part.ensures.sliced) c.loop-slice.invariant
+    (c.in_ok-contiguous_rows.ensures ∙ ap contiguous_rows c.in_ok-part.ensures.sliced) c.loop-slice.invariant

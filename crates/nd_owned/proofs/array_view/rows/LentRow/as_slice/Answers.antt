@@ -1,26 +1,26 @@
--- A row that is a stretch is a part of the items.
+-- A contiguous row is a part of the items.
 use Rattle.std.proofs.Common.{rules, ◌+◌, ◌≤◌, ◌<◌, ◌^◌, length, sym, ◌∙◌, arith}
-use Rattle.nd_owned.proofs.RowsLent.{stretch_items, stretch_within}
+use Rattle.nd_owned.proofs.RowsLent.{contiguous_items, end_within}
 use Rattle.nd_owned.proofs.array_view.rows.LentRow.as_slice.Goals as goal
 
 pub overflow_add-result : goal.overflow_add-result
 overflow_add-result g c =
-    let within = stretch_within c.self.inside.row c.self.invariant (sym c.is_stretch.ensures ∙ c.if-not-is_stretch.false) in
+    let within = end_within c.self.inside.row c.self.invariant.within c.self.invariant.some (sym c.is_contiguous.ensures ∙ c.if-not-is_contiguous.false) in
     let small : length c.self.inside.items.now < 2 ^ 64 = search rules in
     omega arith
 
 pub offset_bounds-items-row : goal.offset_bounds-items-row
 offset_bounds-items-row g c =
-    let within = stretch_within c.self.inside.row c.self.invariant (sym c.is_stretch.ensures ∙ c.if-not-is_stretch.false) in
+    let within = end_within c.self.inside.row c.self.invariant.within c.self.invariant.some (sym c.is_contiguous.ensures ∙ c.if-not-is_contiguous.false) in
     omega (arith, within)
 
 pub slice_bounds-result-end : goal.slice_bounds-result-end
 slice_bounds-result-end g c =
     let within : c.self.inside.row.start + c.self.inside.row.len ≤ length c.self.inside.items.now =
-    stretch_within c.self.inside.row c.self.invariant (sym c.is_stretch.ensures ∙ c.if-not-is_stretch.false) in
+    end_within c.self.inside.row c.self.invariant.within c.self.invariant.some (sym c.is_contiguous.ensures ∙ c.if-not-is_contiguous.false) in
     search rules
 
 pub returns-clause-items : goal.returns-clause-items
 returns-clause-items g c =
     rw (← c.self.view_is)
-    (stretch_items c.self.inside.items.now c.self.inside.row c.self.invariant (sym c.is_stretch.ensures ∙ c.if-not-is_stretch.false) (omega arith))
+    (contiguous_items c.self.inside.items.now c.self.inside.row c.self.invariant (sym c.is_contiguous.ensures ∙ c.if-not-is_contiguous.false) (omega arith))

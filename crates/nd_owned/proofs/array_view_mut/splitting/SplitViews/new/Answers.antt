@@ -3,30 +3,30 @@ use Rattle.std.proofs.Common.{sym, ◌∙◌, arith}
 use Rattle.nd_owned.proofs.SplitItems.{all_owned, lower_owned, lowest_within, none_owned, upper_owned}
 use Rattle.nd_owned.proofs.array_view_mut.splitting.SplitViews.new.Goals as goal
 
-pub returns-then-has_none-clause-first_owned : goal.returns-then-has_none-clause-first_owned
-returns-then-has_none-clause-first_owned g c = none_owned 0 c.in_ok-first.ensures.first_kept c.requires (sym c.has_none.ensures ∙ c.if-has_none.true)
+pub returns-then-is_empty-clause-first_owned : goal.returns-then-is_empty-clause-first_owned
+returns-then-is_empty-clause-first_owned g c = none_owned 0 c.in_ok-first.ensures.first_kept c.requires (sym c.is_empty.ensures.empty ∙ c.if-is_empty.true)
 
-pub returns-then-has_none-clause-second_owned : goal.returns-then-has_none-clause-second_owned
-returns-then-has_none-clause-second_owned g c = all_owned c.in_ok-first.ensures.second_kept c.requires
+pub returns-then-is_empty-clause-second_owned : goal.returns-then-is_empty-clause-second_owned
+returns-then-is_empty-clause-second_owned g c = all_owned c.in_ok-first.ensures.second_kept c.requires
 
-pub returns-then-has_none-2-clause-first_owned : goal.returns-then-has_none-2-clause-first_owned
-returns-then-has_none-2-clause-first_owned g c = all_owned c.in_ok-first.ensures.first_kept c.requires
+pub returns-then-is_empty-2-clause-first_owned : goal.returns-then-is_empty-2-clause-first_owned
+returns-then-is_empty-2-clause-first_owned g c = all_owned c.in_ok-first.ensures.first_kept c.requires
 
-pub returns-then-has_none-2-clause-second_owned : goal.returns-then-has_none-2-clause-second_owned
-returns-then-has_none-2-clause-second_owned g c =
-    none_owned 0 c.in_ok-first.ensures.second_kept c.requires (sym c.has_none-2.ensures ∙ c.if-has_none-2.true)
+pub returns-then-is_empty-2-clause-second_owned : goal.returns-then-is_empty-2-clause-second_owned
+returns-then-is_empty-2-clause-second_owned g c =
+    none_owned 0 c.in_ok-first.ensures.second_kept c.requires (sym c.is_empty-2.ensures.empty ∙ c.if-is_empty-2.true)
 
 -- ---- the first part is the lower one
 pub overflow_sub-count : goal.overflow_sub-count
 overflow_sub-count g c =
     let kept = c.in_ok-first.ensures.second_kept in
-    let below = lowest_within kept.is_view (sym c.has_none-2.ensures ∙ c.if-has_none-2.false) (kept.in_bounds c.args.count c.requires.within) in
+    let below = lowest_within kept.is_view (sym c.is_empty-2.ensures.empty ∙ c.if-is_empty-2.false) (kept.in_bounds c.args.count c.requires.within) in
     omega (arith, below, c.in_ok-second_low.ensures.lowest)
 
 pub returns-then-first_high-second_low-clause-cut : goal.returns-then-first_high-second_low-clause-cut
 returns-then-first_high-second_low-clause-cut g c =
     let kept = c.in_ok-first.ensures.second_kept in
-    let below = lowest_within kept.is_view (sym c.has_none-2.ensures ∙ c.if-has_none-2.false) (kept.in_bounds c.args.count c.requires.within) in
+    let below = lowest_within kept.is_view (sym c.is_empty-2.ensures.empty ∙ c.if-is_empty-2.false) (kept.in_bounds c.args.count c.requires.within) in
     omega (arith, below, c.in_ok-second_low.ensures.lowest)
 
 pub returns-then-first_high-second_low-clause-first_owned : goal.returns-then-first_high-second_low-clause-first_owned
@@ -43,13 +43,13 @@ returns-then-first_high-second_low-clause-second_owned g c =
 pub overflow_sub-count-then-second_high-first_low : goal.overflow_sub-count-then-second_high-first_low
 overflow_sub-count-then-second_high-first_low g c =
     let kept = c.in_ok-first.ensures.first_kept in
-    let below = lowest_within kept.is_view (sym c.has_none.ensures ∙ c.if-has_none.false) (kept.in_bounds c.args.count c.requires.within) in
+    let below = lowest_within kept.is_view (sym c.is_empty.ensures.empty ∙ c.if-is_empty.false) (kept.in_bounds c.args.count c.requires.within) in
     omega (arith, below, c.in_ok-first_low.ensures.lowest)
 
 pub returns-then-second_high-first_low-clause-cut : goal.returns-then-second_high-first_low-clause-cut
 returns-then-second_high-first_low-clause-cut g c =
     let kept = c.in_ok-first.ensures.first_kept in
-    let below = lowest_within kept.is_view (sym c.has_none.ensures ∙ c.if-has_none.false) (kept.in_bounds c.args.count c.requires.within) in
+    let below = lowest_within kept.is_view (sym c.is_empty.ensures.empty ∙ c.if-is_empty.false) (kept.in_bounds c.args.count c.requires.within) in
     omega (arith, below, c.in_ok-first_low.ensures.lowest)
 
 pub returns-then-second_high-first_low-clause-second_owned : goal.returns-then-second_high-first_low-clause-second_owned

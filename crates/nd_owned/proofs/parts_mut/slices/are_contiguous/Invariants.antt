@@ -3,8 +3,8 @@ use Rattle.std.proofs.Common.{◌≡◌}
 use Rattle.std.specs.List.{list_all}
 use Rattle.ndarray_layout.specs.declared.Order.TheVariants.{RowMajor}
 use Rattle.ndarray_layout.specs.Rows.{view_rows}
-use Rattle.nd_owned.specs.PartMut.{is_stretch}
-use Rattle.nd_owned.proofs.parts_mut.slices.are_stretches.Given as goal
+use Rattle.nd_owned.specs.LentRow.{is_contiguous}
+use Rattle.nd_owned.proofs.parts_mut.slices.are_contiguous.Given as goal
 
 abbrev pub invariant-loop-row : goal.invariant-loop-row
-invariant-loop-row g l = list_all is_stretch l.row-iterator ≡ list_all is_stretch (view_rows RowMajor l.view)
+invariant-loop-row g l = list_all is_contiguous l.row-iterator ≡ list_all is_contiguous (view_rows RowMajor l.view)
