@@ -21,7 +21,7 @@ pub fn length_of_ghost(trees: &[Tree]) -> Result<Option<usize>, Fault> {
         return Err(fault(trees[0].first(), "names nothing"));
     }
     let end = trees.iter().position(|tree| tree.is(";") || tree.is(",")).unwrap_or(trees.len());
-    let goes_on = |pair: &[Tree]| pair[0].group("{").is_some() && !pair[1].is("=");
+    let goes_on = |pair: &[Tree]| pair[0].group("{").is_some() && !pair[1].is("=") && !pair[1].is("by");
     if trees[..end].windows(2).any(goes_on) {
         return Err(fault(trees[0].first(), "has more than a fact"));
     }

@@ -53,6 +53,7 @@ fn each_form_becomes_plain_rust() {
         ("impl<T> Drop for S<T> { fn drop(self) ensures { x } { let S { a: _, b: _ } = self; } } fn f();", "fn f();"),
         ("ghost use Rattle.a.{◌≡◌}; use crate::dim::Dim;", "use crate::upper::dim::Dim;"),
         ("struct S { a: usize, ghost inside: { 0 < a }, }", "struct S { a: usize, }"),
+        ("struct S { a: usize, ghost one: { F a } by { p a }, }", "struct S { a: usize, }"),
         ("trait T { ghost list: { Self → List ℕ }; fn f(&self); }", "trait T { fn f(&self); }"),
         ("fn f(x: u8) -> u8 requires { x ≡ 1 } ensures* same { result ≡ x } { x }", "fn f(x: u8) -> u8 { x }"),
         ("fn f() -> u8 ensures { result ≡ 1 };", "fn f() -> u8;"),

@@ -1,40 +1,24 @@
 -- Faults of lists of writes, and what holds of each of them, one write after another.
-use Rattle.std.proofs.Common.{◌≡◌, ℕ, ◌+◌, ◌-◌, ◌<◌, ◌≤◌, Bool, true, false, ◌&&◌, cond, Option, Some, None, Result, Ok, Err}
+use Rattle.std.proofs.Common.{◌≡◌, ℕ, ◌+◌, ◌-◌, ◌<◌, ◌≤◌, Bool, true, false, ◌&&◌, cond, Option, Some, None}
 use Rattle.std.proofs.Common.{List, [], ◌∷◌, ◌++◌, length, get_or, map, take, drop, refl, sym, ap, subst, ◌∙◌, arith}
 use Rattle.std.specs.List.{All, drop-map, list_all}
 use Rattle.std.specs.Prelude.{MatchOption, slice_get}
 use Rattle.std.specs.Option.{option_or, option_map}
-use Rattle.std.specs.Result.{IsErrAnd}
-use Rattle.std.proofs.lemmas.List.{drop_more, drop_all, get_or-map, length-map, length-drop, take_all}
+use Rattle.std.proofs.lemmas.List.{drop_all, length-map, length-drop, take_all}
 use Rattle.std.proofs.lemmas.List.Elements.{All-append, All-cons}
 use Rattle.std.proofs.lemmas.Option.{slice_get-get_or, slice_get-map}
 use Rattle.ndarray_layout.specs.declared.ErrorKind.{ErrorKind}
 use Rattle.ndarray_layout.specs.declared.ErrorKind.TheVariants.{IncompatibleShape}
 use Rattle.ndarray_layout.specs.declared.Fit.TheVariants.{Strict}
-use Rattle.ndarray_layout.specs.declared.LayoutError.{LayoutError}
-use Rattle.ndarray_layout.specs.declared.LayoutError.TheVariants.{Shape, Memory}
 use Rattle.ndarray_layout.specs.SliceFault.{argument_fault}
-use Rattle.ndarray_layout.specs.ShapeFault.{shape_fault}
-use Rattle.nd_owned.proofs.Placed.{IsItem}
+use Rattle.nd_lent.proofs.laws.Lists.{IsItem}
 use Rattle.nd_owned.specs.MultiSet.{Write, IsFaultOfWrites, IsIntersectionFault, counts_fault, has_count, slices_fault}
-
--- ---- a list that a function was applied to, at its next item
-within : {X Y : Type 0} (f : X → Y) (xs : List X) (i : ℕ) → i < length xs → i < length (map f xs)
-within f xs i below = omega (arith, length-map xs f)
-
--- the item is what the function makes of the item of the first list
-pub this : {X Y : Type 0} (f : X → Y) (xs : List X) (i : ℕ) {x : X} → i < length xs → x ≡ get_or xs i x → f x ≡ get_or (map f xs) i (f x)
-this f xs i {x} below is = ap f is ∙ sym (get_or-map f xs i x (f x) below)
+use Rattle.nd_lent.proofs.laws.Lists.{next}
+use Rattle.nd_lent.proofs.laws.Faults.{both_none}
 
 pub this_got : {X Y : Type 0} (f : X → Y) (xs : List X) (i : ℕ) {x : X} → i < length xs → x ≡ get_or xs i x
     → slice_get (map f xs) i ≡ Some (f x)
 this_got f xs i {x} below is = slice_get-map f xs i ∙ ap (option_map f) (slice_get-get_or xs i x below ∙ ap Some (sym is))
-
--- what is left from it on
-pub next : {X Y : Type 0} (f : X → Y) (xs : List X) (i : ℕ) {x : X} → i < length xs → x ≡ get_or xs i x
-    → drop i (map f xs) ≡ f x ∷ drop (i + 1) (map f xs)
-next f xs i {x} below is = drop_more (map f xs) i (f x) (within f xs i below) ∙ ap (λ y. y ∷ drop (i + 1) (map f xs))
-    (sym (this f xs i below is))
 
 -- what is left after it, where that was cut off before
 pub rest : {X Y : Type 0} (f : X → Y) (xs : List X) (i : ℕ) → map f (take (length xs - (i + 1)) (drop (i + 1) xs)) ≡ drop (i + 1) (map f xs)
@@ -45,20 +29,10 @@ rest f xs i = ap (map f) (take_all (length xs - (i + 1)) (drop (i + 1) xs) (omeg
 pub ended : {X Y : Type 0} (f : X → Y) (xs : List X) (i : ℕ) → length xs ≤ i → drop i (map f xs) ≡ []
 ended f xs i end = drop_all i (map f xs) (omega (arith, length-map xs f))
 
--- what holds of each item holds of it
-pub of_this : {X Y : Type 0} (P : Y → Type 0) (f : X → Y) (xs : List X) (i : ℕ) {x : X} → i < length xs → x ≡ get_or xs i x
-    → All P (map f xs) → P (f x)
-of_this P f xs i {x} below is all = subst P (sym (this f xs i below is)) (all i (f x) (within f xs i below))
-
 -- one more item of a list
 pub all_pushed : {A : Type 0} (P : A → Type 0) (old : List A) {new : List A} (x : A) → new ≡ old ++ x ∷ [] → All P old → P x → All P new
 all_pushed P old x pushed all this = subst (All P) (sym pushed)
     (All-append P old (x ∷ []) all (All-cons P x [] this (λ k d below. absurd (omega arith))))
-
--- ---- slices that fit
-pub both_none : (first second : Option ErrorKind) → option_or first second ≡ None → (first ≡ None) × (second ≡ None)
-both_none None second none = (refl, none)
-both_none (Some fault) second none = absurd (cc)
 
 -- where those so far do, the fault is that of the next, and then that of those after it
 pub next_fault : {T X : Type 0} (f : X → Write T) (shape : List ℕ) (xs : List X) (i : ℕ) {x : X} → i < length xs → x ≡ get_or xs i x
@@ -73,13 +47,6 @@ pub next_fits : {T X : Type 0} (f : X → Write T) (shape : List ℕ) (xs : List
 next_fits f shape xs i {x} below is none =
     both_none (argument_fault Strict shape (f x).slice) (slices_fault shape (drop (i + 1) (map f xs)))
     (sym (ap (slices_fault shape) (next f xs i below is)) ∙ none)
-
--- an error without the fault of a shape that is handed on has none either
-pub handed_on : {X : Type 0} (Y : Type 0) (result : Result X LayoutError) (error : LayoutError) → IsErrAnd result (λ e. e ≡ error)
-    → shape_fault {X = Y} (Err error) ≡ None → shape_fault result ≡ None
-handed_on Y (Ok x) error is none = refl
-handed_on Y (Err (Memory e)) error is none = refl
-handed_on Y (Err (Shape kind)) error is none = subst (λ e. shape_fault {X = Y} (Err e) ≡ None) (sym is) none
 
 -- ---- counts of items
 -- whether there are as many items for each, by those so far and the next

@@ -1,53 +1,17 @@
 -- Items that are written at one list of places after another, where no place is in two of them.
-use Rattle.std.proofs.Common.{◌≡◌, ◌≢◌, ℕ, zero, suc, ◌+◌, ◌<◌, ℤ, pos, negsuc, Some, List, [], ◌∷◌, ◌++◌, length, get_or, set, map}
+use Rattle.std.proofs.Common.{◌≡◌, ◌≢◌, ℕ, ◌<◌, ℤ, pos, negsuc, Option, Some, List, [], ◌∷◌, ◌++◌, length, get_or, set, map}
 use Rattle.std.proofs.Common.{append_assoc, refl, sym, ap, subst, ◌∙◌, arith}
 use Rattle.std.specs.List.{All, AllPairs, Contains, flat_map}
-use Rattle.std.specs.Prelude.{slice_get}
 use Rattle.std.proofs.lemmas.Grind.{flat_map-append}
-use Rattle.std.proofs.lemmas.List.{append-nil, get_or-append-add, get_or_append_left, length-append, map-append, nil_from_length}
+use Rattle.std.proofs.lemmas.List.{append-nil, map-append, nil_from_length}
 use Rattle.std.proofs.lemmas.List.Elements.{Contains-append_left, Contains-append_right}
 use Rattle.ndarray_layout.specs.Bounds.{IsInBounds}
 use Rattle.ndarray_layout.proofs.laws.Lists.{map_same}
-use Rattle.nd_owned.specs.Owned.{item_at_place}
+use Rattle.nd_lent.specs.Items.{item_at_place}
+use Rattle.nd_lent.specs.Written.{HasSet}
 use Rattle.nd_owned.specs.private.Written.{HasWritten}
-
--- an item of a list is the same whatever stands for a missing one
-pub other_default : {X : Type 0} (xs : List X) (i : ℕ) (d e : X) → i < length xs → get_or xs i d ≡ get_or xs i e
-other_default [] i d e below = absurd (omega arith)
-other_default (x ∷ xs) zero d e below = refl
-other_default (x ∷ xs) (suc i) d e below = other_default xs i d e (omega arith)
-
--- an item of a list, at its index
-pub record IsItem {X : Type 0} (xs : List X) (i : ℕ) (x : X) : Type 0 where
-  pub below : i < length xs
-  pub is : x ≡ get_or xs i x
-
--- ---- what holds of a list of two parts
-pub all_first : {X : Type 0} (P : X → Type 0) (xs ys : List X) → All P (xs ++ ys) → All P xs
-all_first P xs ys all = λ k d below. subst P (get_or_append_left xs ys d k below) (all k d (omega (arith, length-append xs ys)))
-
-pub all_second : {X : Type 0} (P : X → Type 0) (xs ys : List X) → All P (xs ++ ys) → All P ys
-all_second P xs ys all = λ k d below. subst P (get_or-append-add xs ys k d) (all (length xs + k) d (omega (arith, length-append xs ys)))
-
-pub pairs_first : {X : Type 0} (R : X → X → Type 0) (xs ys : List X) → AllPairs R (xs ++ ys) → AllPairs R xs
-pairs_first R xs ys pairs = λ i j d earlier below.
-    let first : get_or (xs ++ ys) i d ≡ get_or xs i d = get_or_append_left xs ys d i (omega arith) in
-    subst (λ x. R x (get_or xs j d)) first
-    (subst (R (get_or (xs ++ ys) i d)) (get_or_append_left xs ys d j below) (pairs i j d earlier (omega (arith, length-append xs ys))))
-
-pub pairs_second : {X : Type 0} (R : X → X → Type 0) (xs ys : List X) → AllPairs R (xs ++ ys) → AllPairs R ys
-pairs_second R xs ys pairs = λ i j d earlier below.
-    let from = length xs in
-    subst (λ x. R x (get_or ys j d)) (get_or-append-add xs ys i d)
-    (subst (R (get_or (xs ++ ys) (from + i) d)) (get_or-append-add xs ys j d) (pairs (from + i) (from + j) d (omega arith)
-    (omega (arith, length-append xs ys))))
-
--- where no item is there twice, none of the one part is in the other
-pub parts_apart : {X : Type 0} (xs ys : List X) → AllPairs (λ one other. one ≢ other) (xs ++ ys) → All (λ x. Contains ys x → ⊥) xs
-parts_apart xs ys distinct = λ k d below here.
-    distinct k (length xs + here.0) d (omega arith) (omega (arith, here.1, length-append xs ys))
-    (get_or_append_left xs ys d k below ∙ sym here.2 ∙ other_default ys here.0 (get_or xs k d) d here.1
-    ∙ sym (get_or-append-add xs ys here.0 d))
+use Rattle.nd_lent.proofs.laws.Lists.{parts_apart, set_other, set_same}
+use Rattle.nd_lent.proofs.laws.Lists.{pairs_first, pairs_second}
 
 -- ---- a list of lists, as a loop goes over it
 -- one more that is kept of a list, before those that are left
@@ -74,42 +38,29 @@ pub parts_ended : {B X : Type 0} (g : B → List X) (kept : List X) {left : List
     → kept ≡ all
 parts_ended g kept ended so_far = sym (append-nil kept) ∙ ap (λ ys. kept ++ flat_map g ys) (sym ended) ∙ so_far
 
--- ---- writes
-pub set_same : {X : Type 0} (xs : List X) (i : ℕ) {x : X} → i < length xs → slice_get (set xs i x) i ≡ Some x
-set_same [] i below = absurd (omega arith)
-set_same (y ∷ xs) zero below = refl
-set_same (y ∷ xs) (suc i) below = set_same xs i (omega arith)
-
-pub set_other : {X : Type 0} (xs : List X) (i : ℕ) (x : X) (j : ℕ) → j ≢ i → slice_get (set xs i x) j ≡ slice_get xs j
-set_other [] i x j apart = refl
-set_other (y ∷ xs) zero x zero apart = absurd (apart refl)
-set_other (y ∷ xs) zero x (suc j) apart = refl
-set_other (y ∷ xs) (suc i) x zero apart = refl
-set_other (y ∷ xs) (suc i) x (suc j) apart = set_other xs i x j (λ same. apart (ap suc same))
-
 -- one item at one place
 pub one_written : {X : Type 0} {stored : List X} {place : ℕ} {x : X} → place < length stored
     → HasWritten (pos place ∷ []) (x ∷ []) stored (set stored place x)
 one_written {stored} {place} {x} below = record {
   written = ap (λ item. item ∷ []) (set_same stored place below);
-  kept = λ other spared. set_other stored place x other (λ same. spared (0, omega arith, ap pos (sym same)));
+  others = λ other spared. set_other stored place x other (λ same. spared (0, omega arith, ap pos (sym same)));
 }
 
 -- no item at no place
 pub none_written : {X : Type 0} {stored : List X} → HasWritten [] [] stored stored
-none_written = record { written = refl; kept = λ place spared. refl }
+none_written = record { written = refl; others = λ place spared. refl }
 
 -- what is at a place that a write spares stays
-stays : {X : Type 0} (count : ℕ) {places : List ℤ} {items old new : List X} (z : ℤ) → HasWritten places items old new → IsInBounds count z
-    → (Contains places z → ⊥) → item_at_place new z ≡ item_at_place old z
-stays count (pos place) write in_bounds spared = write.kept place spared
+pub stays : {X : Type 0} (count : ℕ) {places : List ℤ} {given : List (Option X)} {old new : List X} (z : ℤ) → HasSet places given old new
+    → IsInBounds count z → (Contains places z → ⊥) → item_at_place new z ≡ item_at_place old z
+stays count (pos place) write in_bounds spared = write.others place spared
 stays count (negsuc n) write in_bounds spared = absurd in_bounds
 
 -- one write after another, at places of their own
-pub both_written : {X : Type 0} (count : ℕ) {first second : List ℤ} {items more old mid new : List X} → All (IsInBounds count) first
-    → AllPairs (λ one other. one ≢ other) (first ++ second) → HasWritten first items old mid → HasWritten second more mid new
-    → HasWritten (first ++ second) (items ++ more) old new
-both_written count {first} {second} {items} {more} {mid} {new} in_bounds distinct one other =
+pub both_written : {X : Type 0} (count : ℕ) {first second : List ℤ} {given more : List (Option X)} {old mid new : List X} → All (IsInBounds count) first
+    → AllPairs (λ one other. one ≢ other) (first ++ second) → HasSet first given old mid → HasSet second more mid new
+    → HasSet (first ++ second) (given ++ more) old new
+both_written count {first} {second} {given} {mid = mid} {new} in_bounds distinct one other =
     let apart = parts_apart first second distinct in
     let earlier : map (item_at_place new) first ≡ map (item_at_place mid) first =
     map_same (item_at_place new) (item_at_place mid) first (λ k d below.
@@ -118,10 +69,9 @@ both_written count {first} {second} {items} {more} {mid} {new} in_bounds distinc
       written =
           map-append (item_at_place new) first second
           ∙ ap (λ got. got ++ map (item_at_place new) second) (earlier ∙ one.written)
-          ∙ ap (λ got. map Some items ++ got) other.written
-          ∙ sym (map-append Some items more);
-      kept = λ place spared. other.kept place (λ here. spared (Contains-append_right first second (pos place) here))
-          ∙ one.kept place (λ here. spared (Contains-append_left first second (pos place) here));
+          ∙ ap (λ got. given ++ got) other.written;
+      others = λ place spared. other.others place (λ here. spared (Contains-append_right first second (pos place) here))
+          ∙ one.others place (λ here. spared (Contains-append_left first second (pos place) here));
     }
 
 -- the items of a list are these, and then those
@@ -143,5 +93,5 @@ module _ {all first second : List ℤ} (cut : AreBoth all first second) where
       → HasWritten second those mid new → HasWritten all items old new
   parts_written count {items} {these} {those} {old} {new = new} in_bounds distinct given one other =
       subst (λ places. HasWritten places items old new) (sym cut.are)
-      (subst (λ xs. HasWritten (first ++ second) xs old new) (sym given.are)
+      (subst (λ xs. HasSet (first ++ second) xs old new) (sym (ap (map Some) given.are ∙ map-append Some these those))
       (both_written count in_bounds (subst (AllPairs (λ one other. one ≢ other)) cut.are distinct) one other))

@@ -1,42 +1,27 @@
 -- The places of rows: how many there are, where the next one lies, and what a copy of neighbours reads and writes.
 use Rattle.std.proofs.Common.{◌≡◌, ◌≢◌, ℕ, zero, suc, ◌+◌, ◌*◌, ◌<◌, ◌≤◌, ◌-◌, ℤ, pos, negsuc, ◌+ℤ◌, ◌*ℤ◌, Some, List, [], ◌∷◌, ◌++◌}
 use Rattle.std.proofs.Common.{length, get_or, set, map, take, drop, add-one, append_assoc, refl, sym, ap, subst, ◌∙◌, arith}
-use Rattle.std.specs.List.{All, AllPairs, Contains, range_with_len}
+use Rattle.std.specs.List.{All, AllPairs, Contains}
 use Rattle.std.specs.Prelude.{slice_get}
 use Rattle.std.proofs.lemmas.Int.{ints}
 use Rattle.std.proofs.lemmas.List.{drop-drop, drop_at, length-append, length-take-le, map-append, take-append-drop, take_at, take_more}
 use Rattle.std.proofs.lemmas.List.FromFn.{take-map-range_with_len}
 use Rattle.std.proofs.lemmas.Option.{slice_get-get_or}
-use Rattle.ndarray_layout.specs.Indices.{below}
 use Rattle.ndarray_layout.specs.Bounds.{IsInBounds}
 use Rattle.ndarray_layout.specs.Rows.{row_places}
 use Rattle.ndarray_layout.proofs.laws.Rows.{get_or-row_places, length-row_places, row_more}
-use Rattle.nd_owned.specs.Owned.{item_at_place}
+use Rattle.nd_lent.specs.Items.{item_at_place}
+use Rattle.nd_lent.specs.Written.{HasSet}
 use Rattle.nd_owned.specs.private.Written.{HasWritten}
-use Rattle.nd_owned.proofs.Placed.{IsItem, all_first, both_written, one_written, pairs_first}
+use Rattle.nd_lent.proofs.laws.Lists.{IsItem, all_first, pairs_first}
+use Rattle.nd_owned.proofs.Placed.{both_written, one_written}
+use Rattle.nd_lent.proofs.laws.RowItems.{neighbours_within, read_neighbours}
 
 -- ---- a row
 -- its first places
 pub take-row_places : (start : ℕ) (stride : ℤ) (len coordinate : ℕ) → coordinate ≤ len
     → take coordinate (row_places start stride len) ≡ row_places start stride coordinate
 take-row_places start stride len coordinate within = take-map-range_with_len (λ n. pos start +ℤ (pos n *ℤ stride)) 0 len coordinate within
-
--- each place of a row that lies in bounds does
-pub coordinate_in_bounds : (count start : ℕ) (stride : ℤ) (len coordinate : ℕ) → All (IsInBounds count) (row_places start stride len) → coordinate < len
-    → IsInBounds count (pos start +ℤ (pos coordinate *ℤ stride))
-coordinate_in_bounds count start stride len coordinate in_bounds below =
-    subst (IsInBounds count) (get_or-row_places start stride len coordinate (pos 0) below)
-    (in_bounds coordinate (pos 0) (omega (arith, length-row_places start stride len)))
-
--- the first place
-pub start_there : {start : ℕ} (stride : ℤ) → pos start ≡ pos start +ℤ (pos 0 *ℤ stride)
-start_there (pos s) = omega (arith, ints)
-start_there (negsuc s) = omega (arith, ints)
-
--- where it has one, it begins there
-pub begins : (count start : ℕ) (stride : ℤ) (len : ℕ) → All (IsInBounds count) (row_places start stride len) → 0 < len → start < count
-begins count start stride len in_bounds some = subst (IsInBounds count) (sym (start_there stride)) (coordinate_in_bounds count start stride len 0 in_bounds
-    some)
 
 -- the place after another one
 one_more_step : (coordinate : ℕ) (stride : ℤ) → pos (coordinate + 1) *ℤ stride ≡ (pos coordinate *ℤ stride) +ℤ stride
@@ -96,55 +81,16 @@ write_more count {start} {stride} {coordinate} {place} {items} {old} {mid} {x} i
     let here : HasWritten (last ∷ []) (x ∷ []) mid (set mid place x) = subst (λ z. HasWritten (z ∷ []) (x ∷ []) mid (set mid place x)) at.is
     (one_written within) in
     let both : HasWritten (first ++ last ∷ []) (take coordinate items ++ x ∷ []) old (set mid place x) =
-    both_written count
+    subst (λ xs. HasSet (first ++ last ∷ []) xs old (set mid place x)) (sym (map-append Some (take coordinate items) (x ∷ [])))
+    (both_written count
     (all_first (IsInBounds count) first (last ∷ []) (all_first (IsInBounds count) (first ++ last ∷ []) others
     (subst (All (IsInBounds count)) cut in_bounds)))
     (pairs_first (λ one other. one ≢ other) (first ++ last ∷ []) others (subst (AllPairs (λ one other. one ≢ other)) cut distinct)) before
-    here in
+    here) in
     let more : take (coordinate + 1) items ≡ take coordinate items ++ x ∷ [] = take_more items coordinate x item.below
     ∙ ap (λ y. take coordinate items ++ y ∷ []) (sym item.is) in
     subst (λ places. HasWritten places (take (coordinate + 1) items) old (set mid place x)) (sym (row_more start stride coordinate))
     (subst (λ done. HasWritten (first ++ last ∷ []) done old (set mid place x)) (sym more) both)
-
--- ---- a row of neighbours
-later : {X : Type 0} (x : X) (xs : List X) (a n : ℕ)
-    → map (slice_get (x ∷ xs)) (range_with_len (suc a) n) ≡ map (slice_get xs) (range_with_len a n)
-later x xs a zero = refl
-later x xs a (suc n) =
-    let next : suc a + 1 ≡ suc (a + 1) = omega arith in
-    ap (λ items. slice_get xs a ∷ items) (ap (λ m. map (slice_get (x ∷ xs)) (range_with_len m n)) next ∙ later x xs (a + 1) n)
-
-got_between : {X : Type 0} (xs : List X) (a n : ℕ) → a + n ≤ length xs
-    → map (slice_get xs) (range_with_len a n) ≡ map Some (take n (drop a xs))
-got_between xs a zero within = refl
-got_between [] a (suc n) within = absurd (omega arith)
-got_between (x ∷ xs) zero (suc n) within = ap (λ items. Some x ∷ items) (later x xs 0 n ∙ got_between xs 0 n (omega arith))
-got_between (x ∷ xs) (suc a) (suc n) within = later x xs a (suc n) ∙ got_between xs a (suc n) (omega arith)
-
-at_neighbours : {X : Type 0} (xs : List X) (start a n : ℕ)
-    → map (item_at_place xs) (map (λ coordinate. pos start +ℤ (pos coordinate *ℤ pos 1)) (range_with_len a n))
-    ≡ map (slice_get xs) (range_with_len (start + a) n)
-at_neighbours xs start a zero = refl
-at_neighbours xs start a (suc n) =
-    let here : start + a * 1 ≡ start + a = omega arith in
-    let next : start + (a + 1) ≡ start + a + 1 = omega arith in
-    ap (λ items. slice_get xs (start + a * 1) ∷ items) (at_neighbours xs start (a + 1) n ∙ ap (λ m. map (slice_get xs) (range_with_len m n))
-    next)
-    ∙ ap (λ m. slice_get xs m ∷ map (slice_get xs) (range_with_len (start + a + 1) n)) here
-
--- what stands there
-pub read_neighbours : {X : Type 0} (xs : List X) (start len : ℕ) → start + len ≤ length xs
-    → map (item_at_place xs) (row_places start (pos 1) len) ≡ map Some (take len (drop start xs))
-read_neighbours xs start len within =
-    let from : start + 0 ≡ start = omega arith in
-    at_neighbours xs start 0 len ∙ ap (λ m. map (slice_get xs) (range_with_len m len)) from ∙ got_between xs start len within
-
--- where the last place of a row is in bounds, the row is
-pub neighbours_within : (count start len : ℕ) → 0 < len → All (IsInBounds count) (row_places start (pos 1) len) → start + len ≤ count
-neighbours_within count start zero some in_bounds = absurd (omega arith)
-neighbours_within count start (suc len) some in_bounds =
-    let last : start + len * 1 < count = coordinate_in_bounds count start (pos 1) (suc len) len in_bounds (omega arith) in
-    omega arith
 
 -- so is one along a stride of 1
 pub copied_within : (count start : ℕ) {stride : ℤ} (len : ℕ) → All (IsInBounds count) (row_places start stride len) → stride ≡ pos 1 → 0 < len
@@ -168,9 +114,9 @@ got_outside (x ∷ old) items (suc start) (suc stop) zero at outside = refl
 got_outside (x ∷ old) items (suc start) (suc stop) (suc place) at outside =
     got_outside old items start stop place (omega arith) (λ low high. outside (omega arith) (omega arith))
 
-put_in : {X : Type 0} {old items : List X} (start : ℕ) → start + length items ≤ length old
+put_in : {X : Type 0} {old : List X} (items : List X) (start : ℕ) → start + length items ≤ length old
     → HasWritten (row_places start (pos 1) (length items)) items old (take start old ++ (items ++ drop (start + length items) old))
-put_in {old} {items} start within =
+put_in {old = old} items start within =
     let new = take start old ++ (items ++ drop (start + length items) old) in
     let front : length (take start old) ≡ start = length-take-le start old (omega arith) in
     let long : start + length items ≤ length new = omega (
@@ -185,7 +131,7 @@ put_in {old} {items} start within =
     ∙ take_at items (drop (start + length items) old) (length items) refl in
     record {
       written = read_neighbours new start (length items) long ∙ ap (map Some) there;
-      kept = λ place spared. got_outside old items start (start + length items) place (refl, within)
+      others = λ place spared. got_outside old items start (start + length items) place (refl, within)
           (λ low high. spared (at_coordinate place low high));
     }
   where
@@ -201,7 +147,7 @@ put_in {old} {items} start within =
         )
 
 -- items in place of neighbours
-pub write_neighbours : {X : Type 0} {old items : List X} (start : ℕ) → start + length items ≤ length old
+pub write_neighbours : {X : Type 0} {old : List X} (items : List X) (start : ℕ) → start + length items ≤ length old
     → HasWritten (row_places start (pos 1) (length items)) items old (take start old ++ (items ++ drop (length items) (drop start old)))
-write_neighbours {old} {items} start within = subst (λ others. HasWritten (row_places start (pos 1) (length items)) items old
-    (take start old ++ (items ++ others))) (sym (drop-drop (length items) start old)) (put_in start within)
+write_neighbours {old = old} items start within = subst (λ others. HasWritten (row_places start (pos 1) (length items)) items old
+    (take start old ++ (items ++ others))) (sym (drop-drop (length items) start old)) (put_in items start within)

@@ -1,7 +1,6 @@
 -- The rows of a view: where they lie, and what is read and written of the first of those that are left.
-use Rattle.std.proofs.Common.{◌≡◌, ℕ, ◌+◌, ◌*◌, ◌^◌, ℤ, pos, ◌+ℤ◌, ◌*ℤ◌, Some, Option, List, ◌∷◌, ◌++◌, length, get_or, map, append_assoc}
-use Rattle.std.proofs.Common.{Bool, true, false, cond, nat_eq, [], refl, sym, ap, subst, ◌∙◌, arith}
-use Rattle.std.proofs.lemmas.Bool.{eq-eqb}
+use Rattle.std.proofs.Common.{◌≡◌, ℕ, ◌+◌, ◌*◌, ◌^◌, pos, ◌+ℤ◌, ◌*ℤ◌, Some, Option, List, ◌∷◌, ◌++◌, length, get_or, map, append_assoc}
+use Rattle.std.proofs.Common.{sym, ap, subst, ◌∙◌, arith}
 use Rattle.std.specs.List.{All}
 use Rattle.std.proofs.lemmas.List.{length-append, map-append}
 use Rattle.ndarray_layout.specs.declared.Order.TheVariants.{RowMajor}
@@ -9,27 +8,16 @@ use Rattle.ndarray_layout.specs.declared.Row.{Row}
 use Rattle.ndarray_layout.specs.Indices.{below}
 use Rattle.ndarray_layout.specs.Bounds.{IsInBounds}
 use Rattle.ndarray_layout.specs.MajorOrder.{LiesInOrder}
-use Rattle.ndarray_layout.specs.Rows.{row_at, row_places, rows_places, slower_view, view_rows}
+use Rattle.ndarray_layout.specs.Rows.{row_places, rows_places, view_rows}
 use Rattle.ndarray_layout.specs.Size.{size}
 use Rattle.ndarray_layout.specs.View.{View, IsView, LiesWithin, view_places}
 use Rattle.ndarray_layout.proofs.laws.Lists.{map_same}
 use Rattle.ndarray_layout.proofs.laws.Rows.{All-rows_places, length-row_places, places_fit, rows_lie_within, rows_places-view_rows}
 use Rattle.ndarray_layout.proofs.laws.View.{length-view_places, places_lie_within}
-use Rattle.nd_owned.specs.Owned.{item_at_place}
+use Rattle.nd_lent.specs.Items.{item_at_place}
 use Rattle.nd_owned.specs.private.Written.{AreInBounds}
 use Rattle.nd_owned.proofs.Placed.{AreBoth}
-
-abbrev pub places_of : Row → List ℤ
-places_of row = row_places row.start row.stride row.len
-
--- ---- where the rows of a view lie
--- without an index there is none
-pub no_rows : (view : View) → size view.shape ≡ 0 → view_rows RowMajor view ≡ []
-no_rows view none = by (nat_eq (size view.shape) 0) (eq-eqb (size view.shape) 0 none)
-  where
-    by : (is : Bool) → is ≡ true → cond is [] (map (row_at RowMajor view) (view_places RowMajor (slower_view RowMajor view))) ≡ []
-    by true is = refl
-    by false is = absurd (cc)
+use Rattle.nd_lent.proofs.laws.RowItems.{places_of}
 
 -- places that are neighbours are one row
 pub places_of_one_row : (view : View) → LiesInOrder RowMajor view.shape view.strides

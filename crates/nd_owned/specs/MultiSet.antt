@@ -4,7 +4,7 @@ use Rattle.std.specs.Prelude.{List, [], ◌∷◌, length, map, slice_get, slice
 use Rattle.std.proofs.Common.{ap, eq-eqb}
 use Rattle.std.proofs.Math.Nat.{not-suc-le-zero}
 use Rattle.std.proofs.lemmas.Bool.{both_ways, ltb-true}
-use Rattle.std.specs.List.{All, AllPairs, Contains, list_all}
+use Rattle.std.specs.List.{All, Contains, list_all}
 use Rattle.std.specs.Option.{option_or}
 use Rattle.std.specs.declared.vec.Vec.{Vec}
 use Rattle.ndarray_layout.specs.declared.ErrorKind.{ErrorKind}
@@ -14,12 +14,13 @@ use Rattle.ndarray_layout.specs.declared.Order.TheVariants.{RowMajor}
 use Rattle.ndarray_layout.specs.declared.SliceInfoElem.{SliceInfoElem}
 use Rattle.ndarray_layout.specs.declared.SliceInfoElem.TheVariants as elem
 use Rattle.ndarray_layout.specs.Intersect.{Intersect}
-use Rattle.ndarray_layout.specs.Intersections.{AreApart, SomeIntersect, slices_fault as fault_of_slices}
+use Rattle.ndarray_layout.specs.Intersections.{slices_fault as fault_of_slices}
 use Rattle.ndarray_layout.specs.Size.{size}
 use Rattle.ndarray_layout.specs.SlicedLayout.{sliced_shape}
 use Rattle.ndarray_layout.specs.SlicedView.{slice_of}
 use Rattle.ndarray_layout.specs.View.{View, view_places}
-use Rattle.nd_owned.specs.Owned.{item_at_place}
+use Rattle.nd_lent.specs.Items.{item_at_place}
+use Rattle.nd_lent.specs.MultiSlice.{IsSharingFault}
 
 -- a slice, and the items for its places
 pub record Write (T : Type 0) : Type 0 where
@@ -46,12 +47,7 @@ has_count shape write = length write.items == size (sliced_shape Strict write.sl
 abbrev pub counts_fault : {T : Type 0} → List ℕ → List (Write T) → Option ErrorKind
 counts_fault shape writes = option_or (slices_fault shape writes) (if list_all (has_count shape) writes then None else Some IncompatibleShape)
 
--- the error, or none, of slices that fit: Unsupported where two share an index, and none where no two do
-abbrev pub IsSharingFault : List ℕ → List (List SliceInfoElem) → Option ErrorKind → Type 0
-IsSharingFault shape slices None = AllPairs (AreApart Strict shape) slices
-IsSharingFault shape slices (Some kind) = (kind ≡ Unsupported) × SomeIntersect Strict shape slices
-
--- that of the slices of writes
+-- the error, or none, of writes whose slices fit: that of the slices
 abbrev pub IsIntersectionFault : {T : Type 0} → List ℕ → List (Write T) → Option ErrorKind → Type 0
 IsIntersectionFault shape writes fault = IsSharingFault shape (slices_of writes) fault
 

@@ -1,4 +1,2 @@
-pub mod Folded
-pub mod Part
-pub mod Pieces
+pub mod PickedView
 pub mod Written

@@ -6,10 +6,10 @@ ghost use Rattle.std.specs.Prelude.{◌≡◌, IfSome, List, Option, Some, lengt
 ghost use Rattle.ndarray_layout.specs.declared.Order.TheVariants.{RowMajor};
 ghost use Rattle.ndarray_layout.specs.Size.{size};
 ghost use Rattle.ndarray_layout.specs.View.{view_places};
-ghost use Rattle.nd_owned.specs.Owned.{IsOwned, item_at_place};
+ghost use Rattle.nd_lent.specs.Items.{IsOwned, item_at_place};
 
-use crate::array_view::Iter;
 use crate::owned::OwnedArray;
+use nd_lent::Iter;
 use ndarray_layout::{Lengths, Order};
 use std::iter::FusedIterator;
 use std::marker::Model;

@@ -1,20 +1,13 @@
-//! Arrays that own their items, and arrays of items that are kept elsewhere and lent, over the layout layer: parts of one
-//! array, picked by slices, are read and written by the places of its layout.
+//! Arrays that own their items, over the layout layer: parts of one array, picked by slices, are read and written by the places
+//! of its layout. What lends items is re-exported.
 #![tactic(auto)]
 
-mod array_view;
-mod array_view_mut;
-mod fitted;
-mod indexing;
 mod iterating;
 mod multi_set;
 mod owned;
-mod part;
-mod parts_mut;
+mod picked_view;
 mod rows;
 
-pub use array_view::{ArrayView, Iter, LentRow, LentRows};
-pub use array_view_mut::{ArrayViewMut, SplitViews};
 pub use iterating::Items;
+pub use nd_lent::{ArrayView, ArrayViewMut, Iter, LentRow, LentRows, PartMut, SplitViews};
 pub use owned::OwnedArray;
-pub use parts_mut::PartMut;

@@ -9,10 +9,10 @@ ghost use Rattle.ndarray_layout.specs.Size.{size};
 ghost use Rattle.ndarray_layout.specs.SlicedView.{slice_of};
 ghost use Rattle.ndarray_layout.specs.View.{LiesWithin};
 ghost use Rattle.nd_owned.specs.MultiSet.{HaveNoItems, IsIntersectionFault, counts_fault, has_count, slices_fault, write_of, write_places};
-ghost use Rattle.nd_owned.specs.private.Part.{part_places, view_of_part};
+ghost use Rattle.nd_owned.specs.private.PickedView.{picked_places, view_of_picked};
 ghost use Rattle.nd_owned.specs.private.Written.{HasWritten};
 
-use crate::part::Part;
+use crate::picked_view::PickedView;
 use ndarray_layout::{
     ErrorKind, Fit, LayoutError, Lengths, ShapeError, SliceInfoElem, Strided,
     first_elems_intersection, from_kind,
@@ -22,10 +22,10 @@ use std::alloc::Global;
 /// A slice, and the items for its places.
 pub(crate) type SliceItems<T> = (Vec<SliceInfoElem>, Vec<T>);
 
-/// A part of a view, and the items for its places.
+/// What a slice picks of a view, and the items for its places.
 #[derive(Drop)]
-pub(crate) struct PartItems<'a, T: Copy> {
-    part: Part,
+pub(crate) struct PickedItems<'a, T: Copy> {
+    view: PickedView,
     items: &'a [T],
 }
 
@@ -79,21 +79,21 @@ pub(crate) fn check_apart<T: Copy, D: Lengths>(
 
 /// The part of the view that the slice of one write picks, where there are as many items for it. Errors: that of the slice,
 /// then `IncompatibleShape` for another count, then out of memory.
-pub(crate) fn part_of_write<T: Copy, D: Lengths>(
+pub(crate) fn picked_by_write<T: Copy, D: Lengths>(
     alloc: Global,
     view: &Strided<D>,
     write: &SliceItems<T>,
-) -> Result<Part, LayoutError>
+) -> Result<PickedView, LayoutError>
     ensures fault { shape_fault result ≡ counts_fault view.now.shape (write_of write.now ∷ []) }
     ensures part { IfOk result (λ part.
-        view_of_part part ≡ slice_of Strict write.now.0.items view.now) }
+        view_of_picked part ≡ slice_of Strict write.now.0.items view.now) }
     ensures count { IfOk result (λ part.
-        size (view_of_part part).shape ≡ length write.now.1.items) }
+        size (view_of_picked part).shape ≡ length write.now.1.items) }
     ensures in_bounds { IfOk result (λ part. (len : ℕ) → LiesWithin len view.now →
-        LiesWithin len (view_of_part part)) }
+        LiesWithin len (view_of_picked part)) }
 {
     let (slice, items) = write;
-    let fault = match Part::new(alloc, view, slice) {
+    let fault = match PickedView::new(alloc, view, slice) {
         Ok(part) => {
             if part.size() == items.len() {
                 return Ok(part);
@@ -111,46 +111,46 @@ pub(crate) fn part_of_write<T: Copy, D: Lengths>(
 }
 
 /// The parts of the view that the slices pick, without those that pick nothing, and the items for them.
-pub(crate) fn parts_of<'a, T: Copy, D: Lengths>(
+pub(crate) fn picked_views<'a, T: Copy, D: Lengths>(
     alloc: Global,
     view: &Strided<D>,
     writes: &'a [SliceItems<T>],
-) -> Result<Vec<PartItems<'a, T>>, LayoutError>
+) -> Result<Vec<PickedItems<'a, T>>, LayoutError>
     requires { counts_fault view.now.shape (map write_of writes.now) ≡ None }
     ensures fault { shape_fault result ≡ None }
     ensures memory { HaveNoItems (map write_of writes.now) → IsOk result }
-    ensures places { IfOk result (λ v. flat_map (λ one. part_places one.part) v.items
+    ensures places { IfOk result (λ v. flat_map (λ one. picked_places one.view) v.items
         ≡ flat_map (write_places view.now) (map write_of writes.now)) }
     ensures items { IfOk result (λ v. flat_map (λ one. one.items.now) v.items
         ≡ flat_map (λ write. write.items) (map write_of writes.now)) }
     ensures counts { IfOk result (λ v.
-        All (λ one. size (view_of_part one.part).shape ≡ length one.items.now) v.items) }
+        All (λ one. size (view_of_picked one.view).shape ≡ length one.items.now) v.items) }
     ensures in_bounds { IfOk result (λ v. (len : ℕ) → LiesWithin len view.now →
-        All (λ one. LiesWithin len (view_of_part one.part)) v.items) }
+        All (λ one. LiesWithin len (view_of_picked one.view)) v.items) }
 {
     let mut parts = Vec::new(alloc);
     for (slice, items) in writes {
         if items.is_empty() {
             continue;
         }
-        let part = Part::new(alloc, view, slice)?;
+        let part = PickedView::new(alloc, view, slice)?;
         let items = items.as_slice();
-        parts.push(PartItems { part, items })?;
+        parts.push(PickedItems { view: part, items })?;
     }
     Ok(parts)
 }
 
 /// Writes the items of each part at its places, one part after another.
-pub(crate) fn write_all<T: Copy>(stored: &mut [T], parts: &[PartItems<'_, T>])
-    requires in_bounds { All (λ one. LiesWithin (length stored.old) (view_of_part one.part)) parts.now }
+pub(crate) fn write_all<T: Copy>(stored: &mut [T], parts: &[PickedItems<'_, T>])
+    requires in_bounds { All (λ one. LiesWithin (length stored.old) (view_of_picked one.view)) parts.now }
     requires counts { All (λ one.
-        size (view_of_part one.part).shape ≡ length one.items.now) parts.now }
+        size (view_of_picked one.view).shape ≡ length one.items.now) parts.now }
     ensures { AllPairs (λ one other. one ≢ other)
-        (flat_map (λ one. part_places one.part) parts.now) →
-        HasWritten (flat_map (λ one. part_places one.part) parts.now)
+        (flat_map (λ one. picked_places one.view) parts.now) →
+        HasWritten (flat_map (λ one. picked_places one.view) parts.now)
         (flat_map (λ one. one.items.now) parts.now) stored.old stored.new }
 {
     for one in parts {
-        one.part.write(stored, one.items);
+        one.view.write(stored, one.items);
     }
 }

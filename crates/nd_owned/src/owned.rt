@@ -12,21 +12,19 @@ ghost use Rattle.ndarray_layout.specs.Indices.{is_index};
 ghost use Rattle.ndarray_layout.specs.Memory.{NeedsNoMemory};
 ghost use Rattle.ndarray_layout.specs.ShapeBuilder.{custom_strides, strides_list};
 ghost use Rattle.ndarray_layout.specs.ShapeFault.{shape_fault};
-ghost use Rattle.ndarray_layout.specs.Signed.{all_signed};
 ghost use Rattle.ndarray_layout.specs.Size.{size};
 ghost use Rattle.ndarray_layout.specs.SlicedView.{slice_of};
-ghost use Rattle.ndarray_layout.specs.Span.{low_span};
-ghost use Rattle.ndarray_layout.specs.View.{view_of, view_places};
-ghost use Rattle.nd_owned.specs.Owned.{IsOfNone, IsOwned, item_at, item_at_place, shape_fault_of, with_item, with_items};
+ghost use Rattle.ndarray_layout.specs.View.{view_places};
+ghost use Rattle.nd_owned.specs.Owned.{IsOfNone, shape_fault_of, with_items};
+ghost use Rattle.nd_lent.specs.Items.{IsOwned, item_at, item_at_place, view_from_0, with_item};
 ghost use Rattle.nd_owned.specs.MultiSet.{HaveNoItems, IsFaultOfWrites, IsWritten, KeepsOthers, counts_fault, write_of, write_places};
 ghost use Rattle.nd_owned.specs.private.Written.{HasWritten};
 
 mod mapping;
 
-use crate::array_view::ArrayView;
-use crate::array_view_mut::ArrayViewMut;
-use crate::multi_set::{check_apart, check_counts, part_of_write, parts_of, write_all};
-use crate::part::Part;
+use crate::multi_set::{check_apart, check_counts, picked_by_write, picked_views, write_all};
+use crate::picked_view::PickedView;
+use nd_lent::{ArrayView, ArrayViewMut};
 use ndarray_layout::{
     CanIndexCheckMode, LayoutError, Lengths, NdIndex, SliceElems, SliceInfoElem, StrideShape,
     Strided,
@@ -45,7 +43,7 @@ pub struct OwnedArray<T, D: Lengths> {
 
 impl<T, D: Lengths> Model for OwnedArray<T, D> {
     ghost use Rattle.std.specs.Prelude.{length};
-    ghost use Rattle.nd_owned.specs.Owned.{ArrayValue, IsOwned};
+    ghost use Rattle.nd_lent.specs.Items.{ArrayValue, IsOwned};
 
     ghost Value = { ArrayValue T };
 
@@ -56,7 +54,7 @@ impl<T, D: Lengths> Model for OwnedArray<T, D> {
 
 impl<T: Drop, D: Lengths> OwnedArray<T, D> {
     ghost use Rattle.nd_owned.specs.contracts.owned.OwnedArray.{the_row};
-    ghost use Rattle.nd_owned.specs.Lender.{array_of};
+    ghost use Rattle.nd_lent.specs.Lender.{array_of};
 
     /// The array of a shape, by its own strides or by given ones, over a list of items.
     ///
@@ -83,11 +81,7 @@ impl<T: Drop, D: Lengths> OwnedArray<T, D> {
             NeedsNoMemory D.NDIM (length (D.list shape.dim)) → IsOk result }
         ensures stored { IfOk result (λ a. a.items ≡ items.items) }
         ensures view { IfOk result (λ a. a.view ≡
-            view_of
-            (low_span
-            (D.list shape.dim)
-            (all_signed (strides_list D.list (D.list shape.dim) shape.strides)))
-            (D.list shape.dim)
+            view_from_0 (D.list shape.dim)
             (strides_list D.list (D.list shape.dim) shape.strides)) }
         ensures owned { IfOk result (λ a. IsOwned (length a.items) a.view) }
         ensures handed_back { IfErr result (λ error. error.1 ≡ items) }
@@ -268,7 +262,7 @@ impl<T: Copy, D: Lengths> OwnedArray<T, D> {
             (view_places RowMajor (slice_of Strict (S.list slices.now) self.now.view))) }
         ensures memory { IsOfNone self.now.view.shape (S.list slices.now) → IsOk result }
     {
-        let part = Part::new(alloc, &self.view, slices)?;
+        let part = PickedView::new(alloc, &self.view, slices)?;
         Ok(part.read(alloc, self.items.as_slice())?)
     }
 
@@ -304,7 +298,7 @@ impl<T: Copy, D: Lengths> OwnedArray<T, D> {
         ensures count { length self.new.items ≡ length self.old.items }
         ensures written { OnOk result (All (IsWritten self.old.view self.new.items)
             (map write_of writes.now)) }
-        ensures kept { OnOk result (KeepsOthers self.old.view
+        ensures others { OnOk result (KeepsOthers self.old.view
             (map write_of writes.now) self.old.items self.new.items) }
     {
         if let [write] = writes
@@ -314,7 +308,7 @@ impl<T: Copy, D: Lengths> OwnedArray<T, D> {
         }
         check_counts(&self.view, writes)?;
         check_apart(&self.view, writes)?;
-        let parts = parts_of(alloc, &self.view, writes)?;
+        let parts = picked_views(alloc, &self.view, writes)?;
         write_all(self.items.as_mut_slice(), parts.as_slice());
         Ok(())
     }
@@ -333,7 +327,7 @@ impl<T: Copy, D: Lengths> OwnedArray<T, D> {
         ensures written { OnOk result (HasWritten (write_places self.old.view (write_of write.now))
             write.now.1.items self.old.items self.new.items) }
     {
-        let part = part_of_write(alloc, &self.view, write)?;
+        let part = picked_by_write(alloc, &self.view, write)?;
         part.write(self.items.as_mut_slice(), write.1.as_slice());
         Ok(())
     }

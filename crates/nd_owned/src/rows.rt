@@ -6,7 +6,7 @@ ghost use Rattle.ndarray_layout.specs.Bounds.{IsInBounds};
 ghost use Rattle.ndarray_layout.specs.Rows.{row_places};
 ghost use Rattle.ndarray_layout.specs.Size.{size};
 ghost use Rattle.ndarray_layout.specs.View.{IsView, LiesWithin, view_places};
-ghost use Rattle.nd_owned.specs.Owned.{item_at_place};
+ghost use Rattle.nd_lent.specs.Items.{item_at_place};
 ghost use Rattle.nd_owned.specs.private.Written.{AreInBounds, HasWritten};
 
 use ndarray_layout::{Lengths, Order, Places, Row, Strided, is_layout_c};

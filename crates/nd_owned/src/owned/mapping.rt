@@ -6,12 +6,12 @@ ghost use Rattle.ndarray_layout.specs.declared.Fit.TheVariants.{Strict};
 ghost use Rattle.ndarray_layout.specs.Memory.{NeedsNoMemory};
 ghost use Rattle.ndarray_layout.specs.ShapeFault.{shape_fault};
 ghost use Rattle.ndarray_layout.specs.SliceFault.{argument_fault, out_count};
-ghost use Rattle.nd_owned.specs.ArrayViewMut.{HasItemsOf, KeepsSpare};
-ghost use Rattle.nd_owned.specs.Mapped.{ActsAsAtMut, CallableOnEachMut, RunsOver, part_of, row_major_items};
-ghost use Rattle.nd_owned.specs.Owned.{IsOwned, item_at};
+ghost use Rattle.nd_lent.specs.ArrayViewMut.{HasItemsOf, KeepsSpare};
+ghost use Rattle.nd_lent.specs.Mapped.{ActsAsAtMut, CallableOnEachMut, RunsOver, part_of, row_major_items};
+ghost use Rattle.nd_lent.specs.Items.{IsOwned, item_at};
 
-use crate::array_view_mut::ArrayViewMut;
 use crate::owned::OwnedArray;
+use nd_lent::ArrayViewMut;
 use ndarray_layout::{Fit, IxDyn, LayoutError, Lengths, SliceElems, Strided};
 use std::alloc::Global;
 
@@ -26,7 +26,7 @@ fn map_view<T: Drop, D: Lengths, F: FnMut(&mut T)>(stored: &mut [T], view: Strid
     ensures mapped { (h : T → T) → ActsAsAtMut F.FnMut f h → HasItemsOf
         (λ index. option_map h (item_at (record { items = stored.old; view = view }) index))
         (record { items = stored.old; view = view }) (record { items = stored.new; view = view }) }
-    ensures kept { KeepsSpare
+    ensures spare { KeepsSpare
         (record { items = stored.old; view = view }) (record { items = stored.new; view = view }) }
 {
     let mut array = ArrayViewMut::new(view, stored);
@@ -66,7 +66,7 @@ impl<T: Drop, D: Lengths> OwnedArray<T, D> {
         ensures mapped { OnOk result ((h : T → T) → ActsAsAtMut F.FnMut f h → HasItemsOf
             (λ index. option_map h (item_at (part_of (S.list slices.now) self.old) index))
             (part_of (S.list slices.now) self.old) (part_of (S.list slices.now) self.new)) }
-        ensures kept { OnOk result (KeepsSpare
+        ensures spare { OnOk result (KeepsSpare
             (part_of (S.list slices.now) self.old) (part_of (S.list slices.now) self.new)) }
     {
         let part: Strided<IxDyn> = self.view.slice(alloc, slices, Fit::Strict)?;

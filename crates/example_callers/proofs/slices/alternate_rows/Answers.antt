@@ -50,4 +50,4 @@ module _ (picture rows : ArrayValue ℕ) (elems : List SliceInfoElem) (are : ele
 pub returns-clause-pixels : goal.returns-clause-pixels
 returns-clause-pixels c =
     let are : (c.into.result ∷ c.into-2.result ∷ []) ≡ part = rw (c.into.ensures, c.into-2.ensures, c.new.ensures) refl in
-    shown c.args.picture.now c.in_ok-rows.rows _ are c.in_ok-rows.ensures.view c.in_ok-rows.ensures.items
+    shown c.args.picture.now c.in_ok-rows.rows _ are c.in_ok-rows.ensures.array.view c.in_ok-rows.ensures.array.items

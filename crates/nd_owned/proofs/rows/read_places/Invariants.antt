@@ -2,7 +2,7 @@
 use Rattle.std.proofs.Common.{◌≡◌, ◌+◌, ◌≤◌, ◌++◌, Some, length, map, vec_len, vec_capacity}
 use Rattle.std.specs.List.{All}
 use Rattle.ndarray_layout.specs.Bounds.{IsInBounds}
-use Rattle.nd_owned.specs.Owned.{item_at_place}
+use Rattle.nd_lent.specs.Items.{item_at_place}
 use Rattle.nd_owned.proofs.rows.read_places.Given as goal
 
 abbrev pub invariant-loop-place : goal.invariant-loop-place

@@ -4,8 +4,9 @@ use Rattle.std.proofs.Common.{◌∙◌, arith}
 use Rattle.std.proofs.lemmas.List.{append-nil, map-append}
 use Rattle.ndarray_layout.specs.Bounds.{IsInBounds}
 use Rattle.ndarray_layout.specs.Rows.{row_places}
-use Rattle.nd_owned.specs.Owned.{item_at_place}
-use Rattle.nd_owned.proofs.RowPlaces.{at_coordinate, begins, coordinate_in_bounds, copied_within, next_there, read_more, read_neighbours, start_there}
+use Rattle.nd_lent.specs.Items.{item_at_place}
+use Rattle.nd_owned.proofs.RowPlaces.{at_coordinate, copied_within, next_there, read_more}
+use Rattle.nd_lent.proofs.laws.RowItems.{begins, coordinate_in_bounds, read_neighbours, start_there}
 use Rattle.nd_owned.proofs.rows.read_row.Goals as goal
 
 pub overflow_add-start : goal.overflow_add-start

@@ -1,7 +1,7 @@
 -- A stride after the place lies the next one, and the items so far are read.
 use Rattle.std.proofs.Common.{◌≡◌, ◌+◌, ◌<◌, ◌^◌, pos, ◌+ℤ◌, ◌*ℤ◌, Some, ◌++◌, map, vec_len, vec_capacity}
 use Rattle.ndarray_layout.specs.Rows.{row_places}
-use Rattle.nd_owned.specs.Owned.{item_at_place}
+use Rattle.nd_lent.specs.Items.{item_at_place}
 use Rattle.nd_owned.proofs.rows.read_row.Given as goal
 
 abbrev pub invariant-loop-coordinate : goal.invariant-loop-coordinate

@@ -6,7 +6,8 @@ use Rattle.ndarray_layout.specs.Bounds.{IsInBounds}
 use Rattle.ndarray_layout.specs.Rows.{row_places}
 use Rattle.nd_owned.specs.private.Written.{HasWritten}
 use Rattle.nd_owned.proofs.Placed.{none_written}
-use Rattle.nd_owned.proofs.RowPlaces.{after_first, at_coordinate, begins, coordinate_in_bounds, copied_within, next_there, start_there, write_more}
+use Rattle.nd_owned.proofs.RowPlaces.{after_first, at_coordinate, copied_within, next_there, write_more}
+use Rattle.nd_lent.proofs.laws.RowItems.{begins, coordinate_in_bounds, start_there}
 use Rattle.nd_owned.proofs.RowPlaces.{write_neighbours}
 use Rattle.nd_owned.proofs.rows.write_row.Goals as goal
 
@@ -48,7 +49,7 @@ returns-then-is_copied g c =
     (take start old ++ (c.copy_from_slice.new.self ++ drop n (drop start old)))) (sym same)
     (subst (λ new. HasWritten (row_places start (pos 1) (length items)) items old
     (take start old ++ (new ++ drop (length items) (drop start old)))) (sym c.copy_from_slice.ensures.after)
-    (write_neighbours start within)))
+    (write_neighbours items start within)))
 
 pub bounds-stored-start : goal.bounds-stored-start
 bounds-stored-start g c =

@@ -6,8 +6,8 @@ use Rattle.ndarray_layout.specs.declared.Order.TheVariants.{RowMajor}
 use Rattle.ndarray_layout.specs.Size.{size}
 use Rattle.ndarray_layout.specs.SlicedLayout.{sliced_shape}
 use Rattle.ndarray_layout.specs.View.{view_places}
-use Rattle.nd_owned.specs.Owned.{item_at_place}
-use Rattle.nd_owned.specs.private.Part.{view_of_part}
+use Rattle.nd_lent.specs.Items.{item_at_place}
+use Rattle.nd_owned.specs.private.PickedView.{view_of_picked}
 use Rattle.nd_owned.proofs.owned.OwnedArray.items.Goals as goal
 
 pub read-requires : goal.read-requires
@@ -22,7 +22,7 @@ returns-clause-items g c =
 pub returns-in_err-read-clause-memory : goal.returns-in_err-read-clause-memory
 returns-in_err-read-clause-memory g c = λ none.
     let elems = g.S.SliceElems.list c.args.slices.now in
-    let empty : size (view_of_part c.in_ok-part.part).shape ≡ 0 =
+    let empty : size (view_of_picked c.in_ok-part.part).shape ≡ 0 =
     ap (λ view. size view.shape) c.in_ok-part.ensures.part
     ∙ subst (λ array. size (sliced_shape Strict elems array.view.shape) ≡ 0) (sym c.self.view_is) none.none in
     absurd (false≢true (c.in_err-read.ensures.memory empty))

@@ -5,7 +5,7 @@ use Rattle.std.proofs.lemmas.List.{take_at}
 use Rattle.std.proofs.lemmas.List.Elements.{All-head}
 use Rattle.std.specs.List.{All}
 use Rattle.ndarray_layout.specs.ShapeFault.{shape_fault}
-use Rattle.nd_owned.specs.declared.part.Part.{Part}
+use Rattle.nd_owned.specs.declared.picked_view.PickedView.{PickedView}
 use Rattle.nd_owned.specs.private.Written.{HasWritten}
 use Rattle.ndarray_layout.specs.View.{View}
 use Rattle.nd_owned.specs.MultiSet.{Write, write_places}
@@ -13,8 +13,10 @@ use Rattle.nd_owned.proofs.Faults.{HaveCounts}
 use Rattle.std.specs.List.{flat_map}
 use Rattle.nd_owned.proofs.owned.OwnedArray.multi_set.Goals.{After-drop-parts}
 use Rattle.nd_owned.specs.MultiSet.{HaveNoItems, IsFaultOfWrites, IsWritten, KeepsOthers, write_of}
-use Rattle.nd_owned.proofs.Faults.{handed_on, have_counts, no_fault}
-use Rattle.nd_owned.proofs.Slices.{all_distinct, all_written, on_ok, one_fault, one_kept, one_written, only, others_kept}
+use Rattle.nd_lent.proofs.laws.Faults.{handed_on}
+use Rattle.nd_owned.proofs.Faults.{have_counts, no_fault}
+use Rattle.nd_owned.proofs.Slices.{all_distinct, all_written, one_fault, one_kept, one_written, only, others_kept}
+use Rattle.nd_lent.proofs.laws.Faults.{on_ok}
 use Rattle.nd_owned.proofs.owned.OwnedArray.multi_set.Given.{Over}
 use Rattle.nd_owned.proofs.owned.OwnedArray.multi_set.Goals as goal
 use Rattle.nd_owned.proofs.owned.OwnedArray.multi_set.Goals.{After-set_one}
@@ -22,7 +24,7 @@ use Rattle.nd_owned.proofs.owned.OwnedArray.multi_set.Goals.{After-set_one}
 pub returns-in_err-parts-clause-fault : goal.returns-in_err-parts-clause-fault
 returns-in_err-parts-clause-fault g c =
     let writes = map write_of c.args.writes.now in
-    let none = handed_on (List Part) c.from_residual-in_err-parts.result c.in_err-parts.field-0.0 c.from_residual-in_err-parts.ensures.1
+    let none = handed_on (List PickedView) c.from_residual-in_err-parts.result c.in_err-parts.field-0.0 c.from_residual-in_err-parts.ensures.1
     c.in_err-parts.ensures.fault in
     subst (IsFaultOfWrites c.args.self.now.view.shape writes) (sym none)
     (subst (λ array. IsFaultOfWrites array.view.shape writes None) c.self.view_is
@@ -69,8 +71,8 @@ returns-2-clause-written g c =
     (subst (λ array. All (IsWritten array.view stored) (writes g c)) c.self.view_is
     (all_written (view g c) (writes g c) c.self.inside.items.items stored (have g c).counts (left g c)))
 
-pub returns-2-clause-kept : goal.returns-2-clause-kept
-returns-2-clause-kept g c =
+pub returns-2-clause-others : goal.returns-2-clause-others
+returns-2-clause-others g c =
     let stored = c.write_all.new.stored in
     subst (λ those. KeepsOthers c.args.self.now.view (writes g c) c.args.self.now.items those) (sym (now g c))
     (subst (λ array. KeepsOthers array.view (writes g c) array.items stored) c.self.view_is (others_kept (view g c) (writes g c) (left g c)))
@@ -99,8 +101,8 @@ returns-clause-written g c =
     (λ left. subst (λ writes. All (IsWritten view c.set_one.new.self.items) (map write_of writes)) (sym (alone g c))
     (one_written view (write_of c.write-item.result) left)) c.set_one.ensures.written
 
-pub returns-clause-kept : goal.returns-clause-kept
-returns-clause-kept g c =
+pub returns-clause-others : goal.returns-clause-others
+returns-clause-others g c =
     let array = c.args.self.now in
     on_ok c.set_one.result
     (λ left. subst (λ writes. KeepsOthers array.view (map write_of writes) array.items c.set_one.new.self.items) (sym (alone g c))

@@ -5,8 +5,9 @@ use Rattle.ndarray_layout.specs.declared.Fit.TheVariants.{Strict}
 use Rattle.ndarray_layout.specs.SliceFault.{argument_fault}
 use Rattle.nd_owned.specs.private.Written.{HasWritten}
 use Rattle.nd_owned.specs.MultiSet.{write_of, write_places}
-use Rattle.nd_owned.proofs.Faults.{both_none, have_counts}
-use Rattle.nd_owned.proofs.Slices.{one_distinct}
+use Rattle.nd_lent.proofs.laws.Faults.{both_none}
+use Rattle.nd_owned.proofs.Faults.{have_counts}
+use Rattle.nd_lent.proofs.laws.SlicePlaces.{slice_distinct}
 use Rattle.nd_owned.proofs.owned.OwnedArray.set_one.Goals as goal
 
 pub write-requires-clause-within : goal.write-requires-clause-within
@@ -25,6 +26,6 @@ returns-clause-written g c =
     (both_none _ None (have_counts view.shape (write ∷ []) (sym c.in_ok-part.ensures.fault)).fit).0 in
     let left = rw (c.in_ok-part.ensures.part, c.as_slice.ensures.value, c.as_mut_slice.ensures.value) at c.write.ensures in
     let made : HasWritten (write_places view write) write.items items.items stored =
-    left (one_distinct view write c.self.invariant.is_view c.self.invariant.distinct fits) in
+    left (slice_distinct view write.slice c.self.invariant.is_view c.self.invariant.distinct fits) in
     subst (λ new. HasWritten (write_places c.args.self.now.view write) write.items c.args.self.now.items new) (sym now)
     (subst (λ array. HasWritten (write_places array.view write) write.items array.items stored) c.self.view_is made)

@@ -1,12 +1,23 @@
 -- What the calls leave at the items of the array is what they leave at those of the list.
-use Rattle.std.proofs.Common.{rules}
+use Rattle.std.proofs.Common.{rules, ◌≡◌, List, subst}
+use Rattle.ndarray_layout.specs.View.{View}
 use Rattle.std.specs.Fn.{CalledAtMut}
 use Rattle.std.specs.Option.{option_map}
-use Rattle.nd_owned.specs.ArrayViewMut.{HasItemsOf}
-use Rattle.nd_owned.specs.Mapped.{RunsOver, row_major_items}
-use Rattle.nd_owned.specs.Owned.{item_at}
-use Rattle.nd_owned.proofs.Runs.{at_lent}
+use Rattle.nd_lent.specs.ArrayViewMut.{HasItemsOf}
+use Rattle.nd_lent.specs.Mapped.{RunsOver, row_major_items}
+use Rattle.nd_lent.specs.Items.{item_at}
+use Rattle.nd_lent.specs.Items.{ArrayValue}
 use Rattle.nd_owned.proofs.owned.mapping.map_view.Goals as goal
+
+-- what holds of the array of lent items, before and after, holds of the items
+at_lent : {T : Type 0} (P : ArrayValue T → ArrayValue T → Type 0) {old new : ArrayValue T} {items left : List T} {view : View}
+    → old.items ≡ items → old.view ≡ view → new.items ≡ left → new.view ≡ old.view → P old new
+    → P (record { items = items; view = view }) (record { items = left; view = view })
+at_lent P {old} {new} {items} {left} {view} given by now same holds =
+    subst (λ xs. P (record { items = items; view = view }) (record { items = xs; view = view })) now
+    (subst (λ xs. P (record { items = xs; view = view }) (record { items = new.items; view = view })) given
+    (subst (λ v. P (record { items = old.items; view = v }) (record { items = new.items; view = v })) by
+    (subst (λ v. P old (record { items = new.items; view = v })) same holds)))
 
 pub returns-clause-ran : goal.returns-clause-ran
 returns-clause-ran g c =

@@ -1,0 +1,127 @@
+-- A function that is called at items that are lent, one after another.
+use Rattle.std.proofs.Common.{◌≡◌, ℕ, ◌+◌, ◌<◌, Option, Some, None, List, [], ◌∷◌, ◌++◌, length, get_or, map, take, drop, refl, sym, ap}
+use Rattle.std.proofs.Common.{subst, ◌∙◌, Bor, arith}
+use Rattle.std.specs.Fn.{Called, Mut, Takes}
+use Rattle.std.specs.Iterator.{CallableInFold, CallableInForEach, CallsOnEach, FoldTurn, FoldsItems, Yields}
+use Rattle.std.specs.List.{FoldsTo}
+use Rattle.std.proofs.lemmas.List.{append-nil, drop_more, get_or-map, length-map, map-append, take_more}
+use Rattle.nd_lent.specs.Lending.{lends}
+use Rattle.nd_lent.specs.private.Folded.{HasFolded}
+
+abbrev shown : {T : Type 0} → List (Bor T) → List (Option T)
+shown lent = map (λ item. Some item.now) lent
+
+-- items that are lent one after another leave the others
+lent_first : {T : Type 0} (lent : List (Bor T)) (left : List (Option T)) → Yields lends (shown lent ++ left) lent left
+lent_first [] left = refl
+lent_first (item ∷ lent) left = (shown lent ++ left, refl, lent_first lent left)
+
+lent_before : {T : Type 0} (s t left : List (Option T)) (lent : List (Bor T)) → Yields lends s lent t
+    → Yields lends (s ++ left) lent (t ++ left)
+lent_before s t left [] yields = ap (λ s. s ++ left) yields
+lent_before s t left (item ∷ lent) yields =
+    (yields.0 ++ left, ap (λ s. s ++ left) yields.1, lent_before yields.0 t left lent yields.2)
+
+then_lent : {T : Type 0} (s t : List (Option T)) (lent others : List (Bor T)) → Yields lends s others t → Yields lends (shown lent ++ s) (lent ++ others) t
+then_lent s t [] others then = then
+then_lent s t (item ∷ lent) others then = (shown lent ++ s, refl, then_lent s t lent others then)
+
+then_folded : {P A : Type 0} (R : P → A → P → Type 0) (p q r : P) (xs ys : List A) → FoldsTo R p xs q → FoldsTo R q ys r → FoldsTo R p (xs ++ ys) r
+then_folded R p q r [] ys first then = subst (λ p. FoldsTo R p ys r) (sym first) then
+then_folded R p q r (x ∷ xs) ys first then = (first.0, first.1, then_folded R first.0 q r xs ys first.2 then)
+
+-- the item of a number
+pub record IsItemAt {T : Type 0} (items : List (Option T)) (i : ℕ) (x : T) : Type 0 where
+  pub below : i < length items
+  pub is : get_or items i None ≡ Some x
+
+pub item_in_list : {T : Type 0} {items : List (Option T)} {i : ℕ} {x : T} → i < length items → get_or items i None ≡ Some x → IsItemAt items i x
+item_in_list below is = record { below = below; is = is }
+
+pub item_of_slice : {T : Type 0} (slice : List T) {i : ℕ} {x : T} → i < length slice → x ≡ get_or slice i x → IsItemAt (map Some slice) i x
+item_of_slice slice {i} {x} below is = record {
+  below = omega (arith, length-map slice Some);
+  is = get_or-map Some slice i x None below ∙ ap Some (sym is);
+}
+
+module _ {F B T : Type 0} {g : Mut F (B × (Bor T × Unit {0})) B} where
+  -- ---- the items so far
+  pub none_folded : {p : F × B} → HasFolded g p [] p
+  none_folded = record { lent = []; are = refl; calls = refl }
+
+  pub both_folded : {p q r : F × B} {first then : List (Option T)} → HasFolded g p first q → HasFolded g q then r → HasFolded g p (first ++ then) r
+  both_folded {p} {q} {r} {first} {then} one other = record {
+    lent = one.lent ++ other.lent;
+    are = map-append (λ item. Some item.now) one.lent other.lent ∙ ap (λ items. items ++ shown other.lent) one.are ∙ ap (λ items. first ++ items) other.are;
+    calls = then_folded (FoldTurn g) p q r one.lent other.lent one.calls other.calls;
+  }
+
+  pub one_folded : {p q : F × B} (item : Bor T) → FoldTurn g p item q → HasFolded g p (Some item.now ∷ []) q
+  one_folded {q = q} item turn = record { lent = item ∷ []; are = refl; calls = (q, turn, refl) }
+
+  -- ---- whether it may be called
+  pub callable_after : {f h : F} {total sum : B} {items left : List (Option T)} → HasFolded g (f, total) items (h, sum)
+      → CallableInFold lends g (items ++ left) f total → CallableInFold lends g left h sum
+  callable_after {f} {h} {total} {sum} {items} {left} done callable =
+      let all = subst (λ items. CallableInFold lends g (items ++ left) f total) (sym done.are) callable in
+      record {
+        at = λ xs t q x u yields calls step. all.at (done.lent ++ xs) t q x u (then_lent left t done.lent xs yields)
+            (then_folded (FoldTurn g) (f, total) (h, sum) q done.lent xs done.calls calls) step;
+      }
+
+  -- where it may be called at items and others, it may be at the items alone
+  pub callable_in_part : {f : F} {total : B} (items left : List (Option T)) → CallableInFold lends g (items ++ left) f total
+      → CallableInFold lends g items f total
+  callable_in_part items left callable = record {
+    at = λ xs t q x u yields calls step.
+        callable.at xs (t ++ left) q x (u ++ left) (lent_before items t left xs yields) calls (ap (λ s. s ++ left) step);
+  }
+
+  -- ---- one item more
+  pub may_be_called : {f : F} {total : B} {items : List (Option T)} {i : ℕ} {x : T} → IsItemAt items i x
+      → CallableInFold lends g (drop i items) f total → (item : Bor T) → item.now ≡ x → Takes g f (total, (item, tt))
+  may_be_called {f} {total} {items} {i} at callable item is =
+      callable.at [] (drop i items) (f, total) item (drop (i + 1) items) refl refl
+      (drop_more items i None at.below ∙ ap (λ y. y ∷ drop (i + 1) items) (at.is ∙ ap Some (sym is)))
+
+  pub one_more_folded : {p q r : F × B} {items : List (Option T)} {i : ℕ} (item : Bor T) → IsItemAt items i item.now → FoldTurn g q item r
+      → HasFolded g p (take i items) q → HasFolded g p (take (i + 1) items) r
+  one_more_folded {p} {r = r} {items} {i} item at turn done =
+      subst (λ items. HasFolded g p items r) (sym (take_more items i None at.below ∙ ap (λ y. take i items ++ y ∷ []) at.is))
+      (both_folded done (one_folded item turn))
+
+  pub still_callable : {f h : F} {total sum : B} {items : List (Option T)} {i : ℕ} (item : Bor T) → IsItemAt items i item.now
+      → FoldTurn g (f, total) item (h, sum) → CallableInFold lends g (drop i items) f total → CallableInFold lends g (drop (i + 1) items) h sum
+  still_callable {f} {total = total} {items = items} {i} item at turn callable =
+      callable_after (one_folded item turn)
+      (subst (λ left. CallableInFold lends g left f total) (drop_more items i None at.below ∙ ap (λ y. y ∷ drop (i + 1) items) at.is) callable)
+
+  -- ---- all items
+  pub all_folded : {f h : F} {init result : B} {items : List (Option T)} → HasFolded g (f, init) items (h, result)
+      → FoldsItems lends g items f init result
+  all_folded {h = h} {items = items} done =
+      let yields = subst (λ s. Yields lends s done.lent []) (append-nil (shown done.lent) ∙ done.are) (lent_first done.lent []) in
+      (done.lent, h, ([], ([], yields, (refl, refl))), done.calls)
+
+-- ---- a function that keeps no total, as one that does: `inside` reads it from the state of the other one
+calls_inside : {F C T : Type 0} (g : Mut F (Bor T × Unit {0}) (Unit {0})) (other : Mut C (Unit {0} × (Bor T × Unit {0})) (Unit {0})) (inside : C → F)
+    → ((s t : C) (x : Bor T) → Called other s (tt, (x, tt)) tt t → Called g (inside s) (x, tt) tt (inside t))
+    → (xs : List (Bor T)) (p q : C × Unit {0}) → FoldsTo {P = C × Unit {0}} (FoldTurn other) p xs q
+    → FoldsTo (λ p x q. Called g p (x, tt) tt q) (inside p.0) xs (inside q.0)
+calls_inside g other inside says [] p q calls = ap (λ p. inside p.0) calls
+calls_inside g other inside says (x ∷ xs) p q calls =
+    (inside calls.0.0, says p.0 calls.0.0 x calls.1, calls_inside g other inside says xs calls.0 q calls.2)
+
+pub callable_inside : {F C T : Type 0} (g : Mut F (Bor T × Unit {0}) (Unit {0})) (other : Mut C (Unit {0} × (Bor T × Unit {0})) (Unit {0}))
+    (inside : C → F) → ((s : C) (x : Bor T) → Takes g (inside s) (x, tt) → Takes other s (tt, (x, tt)))
+    → ((s t : C) (x : Bor T) → Called other s (tt, (x, tt)) tt t → Called g (inside s) (x, tt) tt (inside t)) → {items : List (Option T)} (f : C)
+    → CallableInForEach lends g items (inside f) → CallableInFold lends other items f tt
+callable_inside g other inside asks says f callable = record {
+  at = λ xs t q x u yields calls step. asks q.0 x (callable.at xs t (inside q.0) x u yields (calls_inside g other inside says xs (f, tt) q calls) step);
+}
+
+pub called_inside : {F C T : Type 0} (g : Mut F (Bor T × Unit {0}) (Unit {0})) (other : Mut C (Unit {0} × (Bor T × Unit {0})) (Unit {0}))
+    (inside : C → F) → ((s t : C) (x : Bor T) → Called other s (tt, (x, tt)) tt t → Called g (inside s) (x, tt) tt (inside t))
+    → {items : List (Option T)} (f : C) → FoldsItems lends other items f tt tt → CallsOnEach lends g items (inside f)
+called_inside g other inside says f ran =
+    (ran.0, inside ran.1, ran.2, calls_inside g other inside says ran.0 (f, tt) (ran.1, tt) ran.3)

@@ -1,0 +1,13 @@
+pub mod Apart
+pub mod ContiguousRows
+pub mod Folding
+pub mod Lent
+pub mod Pieces
+pub mod RowsLent
+pub mod Runs
+pub mod Sets
+pub mod SliceParts
+pub mod SplitItems
+pub mod Steps
+pub mod Within
+pub mod laws

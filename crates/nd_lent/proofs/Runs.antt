@@ -1,0 +1,114 @@
+-- Calls of a closure at one place after another, where no place is listed twice, and what they leave at the indices of a view.
+use Rattle.std.proofs.Common.{◌≡◌, ℕ, suc, ◌<◌, ℤ, pos, negsuc, Option, Some, None, List, [], ◌∷◌, length, get_or, set, map, refl, sym, ap, subst, ◌∙◌, arith}
+use Rattle.std.specs.Prelude.{zip}
+use Rattle.std.specs.Iterator.{CallableAtEachTurn}
+use Rattle.std.specs.List.{Contains, FoldsTo}
+use Rattle.std.specs.Option.{option_map}
+use Rattle.std.proofs.lemmas.List.{length-map}
+use Rattle.std.proofs.lemmas.Simd.{map-map}
+use Rattle.ndarray_layout.specs.declared.Order.TheVariants.{RowMajor}
+use Rattle.ndarray_layout.specs.Indices.{indices_in}
+use Rattle.ndarray_layout.specs.View.{view_places}
+use Rattle.ndarray_layout.proofs.laws.Lists.{map_same}
+use Rattle.nd_lent.specs.ArrayViewMut.{HasItemsOf, KeepsSpare}
+use Rattle.nd_lent.specs.Mapped.{Makes, gives, RunsOver, row_major_items}
+use Rattle.nd_lent.specs.Items.{ArrayValue, item_at, item_at_place}
+use Rattle.nd_lent.specs.Written.{HasRun}
+use Rattle.nd_lent.proofs.laws.Lists.{other_default, set_other, set_same}
+use Rattle.nd_lent.proofs.Sets.{Distinct, alone, has_items, items_in_order}
+
+-- ---- one call after another
+pub none_run : {F X Y : Type 0} {call : F → X → Y → F → Type 0} {f : F} {stored : List Y} → HasRun call f [] [] stored stored
+none_run {f = f} = record { ran = record { last = f; calls = refl }; others = λ place spared. refl }
+
+module _ {place : ℕ} {left others : List ℤ} (first : left ≡ pos place ∷ others) where
+  -- once the calls at the others are made, those at all are
+  pub first_run : {F X Y : Type 0} {call : F → X → Y → F → Type 0} {f next : F} {given : List (Option X)} {old new : List Y} (x : X) (y : Y)
+      → call f x y next → place < length old → Distinct left → HasRun call next others given (set old place y) new
+      → HasRun call f left (Some x ∷ given) old new
+  first_run {call = call} {f} {next} {given} {old} {new} x y called below distinct more =
+      let made : item_at_place new (pos place) ≡ Some y = more.others place (alone first distinct) ∙ set_same old place below in
+      subst (λ places. HasRun call f places (Some x ∷ given) old new) (sym first) (record {
+        ran = record {
+          last = more.ran.last;
+          calls = (next, subst (λ item. Makes call f (Some x, item) next) (sym made) called, more.ran.calls);
+        };
+        others = λ other spared.
+            more.others other (λ here. spared (suc here.0, omega (arith, here.1), here.2))
+            ∙ set_other old place y other (λ same. spared (0, omega arith, ap pos (sym same)));
+      })
+
+  -- the items at the others are as before
+  pub others_same : {Y : Type 0} (old : List Y) (y : Y) → Distinct left
+      → map (item_at_place (set old place y)) others ≡ map (item_at_place old) others
+  others_same old y distinct = map_same (item_at_place (set old place y)) (item_at_place old) others (λ k d below.
+      apart (get_or others k d) (λ same. alone first distinct (k, below, other_default others k (pos place) d below ∙ same)))
+    where
+      apart : (z : ℤ) → (z ≡ pos place → ⊥) → item_at_place (set old place y) z ≡ item_at_place old z
+      apart (pos other) elsewhere = set_other old place y other (λ same. elsewhere (ap pos same))
+      apart (negsuc below) elsewhere = refl
+
+-- ---- what calls make that act as a function does
+acted : {F X Y : Type 0} (call : F → X → Y → F → Type 0) {f : F} (h : X → Y)
+    → ((x : X) (y : Y) (f' : F) → call f x y f' → (f' ≡ f) × (y ≡ h x))
+    → (given : List (Option X)) (made : List (Option Y)) (p last : F) → p ≡ f → length given ≡ length made
+    → FoldsTo (Makes call) p (zip given made) last → made ≡ map (option_map h) given
+acted call h acts [] [] p last same count calls = refl
+acted call h acts [] (y ∷ made) p last same count calls = absurd (omega arith)
+acted call h acts (x ∷ given) [] p last same count calls = absurd (omega arith)
+acted call h acts (None ∷ given) (y ∷ made) p last same count calls = absurd calls.1
+acted call h acts (Some x ∷ given) (None ∷ made) p last same count calls = absurd calls.1
+acted call h acts (Some x ∷ given) (Some y ∷ made) p last same count (next, called, more) =
+    let this = acts x y next (subst (λ q. call q x y next) same called) in
+    let rest = acted call h acts given made next last this.0 (omega arith) more in
+    ap (λ item. item ∷ made) (ap Some this.1) ∙ ap (λ items. Some (h x) ∷ items) rest
+
+-- ---- a closure that may be called at each item in turn
+module _ {F T : Type 0} {R : F → T → F → Type 0} {Q : F → T → Type 0} {items others : List (Option T)} {f : F} {x : T} (first : items ≡ Some x ∷ others)
+    (callable : CallableAtEachTurn gives R Q items f) where
+  -- may be at the first
+  pub callable_at_first : Q f x
+  callable_at_first = callable.at [] items f x others refl refl first
+
+  -- and after the call at it at each of the others
+  pub callable_at_others : (q : F) → R f x q → CallableAtEachTurn gives R Q others q
+  callable_at_others q called = record {
+    at = λ xs t r y u yields calls step. callable.at (x ∷ xs) t r y u (others, first, yields) (q, called, calls) step;
+  }
+
+-- ---- all places of an array
+abbrev changed : {T : Type 0} → ArrayValue T → List T → ArrayValue T
+changed old new = record { items = new; view = old.view }
+
+module _ {T : Type 0} (old : ArrayValue T) (new : List T) {places : List ℤ} (are : places ≡ view_places RowMajor old.view) where
+  made_in_order : map (item_at_place new) places ≡ row_major_items (changed old new)
+  made_in_order = ap (map (item_at_place new)) are ∙ items_in_order (changed old new)
+
+  module _ {F X : Type 0} (call : F → X → T → F → Type 0) {f : F} (source : ArrayValue X) {given : List (Option X)}
+      (these : given ≡ map (item_at_place source.items) (view_places RowMajor source.view)) where
+    pub ran_over : HasRun call f places given old.items new → RunsOver call f (row_major_items source) (row_major_items (changed old new))
+    ran_over run =
+        subst (λ xs. RunsOver call f xs (row_major_items (changed old new))) (these ∙ items_in_order source)
+        (subst (RunsOver call f given) made_in_order run.ran)
+
+    pub spare : HasRun call f places given old.items new → KeepsSpare old (changed old new)
+    spare run = λ place none. run.others place (λ here. none (subst (λ zs. Contains zs (pos place)) are here))
+
+    pub mapped : old.view.shape ≡ source.view.shape → HasRun call f places given old.items new
+        → (h : X → T) → ((x : X) (y : T) (f' : F) → call f x y f' → (f' ≡ f) × (y ≡ h x))
+        → HasItemsOf (λ index. option_map h (item_at source index)) old (changed old new)
+    mapped same run h acts =
+        let ran = ran_over run in
+        let count : length (row_major_items source) ≡ length (row_major_items (changed old new)) =
+        length-map (indices_in RowMajor source.view.shape) (item_at source)
+        ∙ ap (λ shape. length (indices_in RowMajor shape)) (sym same)
+        ∙ sym (length-map (indices_in RowMajor old.view.shape) (item_at (changed old new))) in
+        let made = acted call h acts (row_major_items source) (row_major_items (changed old new)) f ran.last refl count ran.calls in
+        has_items (λ index. option_map h (item_at source index)) refl (record {
+          written =
+              items_in_order (changed old new)
+              ∙ made
+              ∙ map-map (option_map h) (item_at source) (indices_in RowMajor source.view.shape)
+              ∙ ap (λ shape. map (λ index. option_map h (item_at source index)) (indices_in RowMajor shape)) (sym same);
+          others = spare run;
+        })

@@ -1,0 +1,106 @@
+-- Items that are set at one place after another, where no place is listed twice, and what that leaves at the indices of a view.
+use Rattle.std.proofs.Common.{◌≡◌, ◌≢◌, ℕ, suc, ℤ, pos, negsuc, Option, Some, List, ◌∷◌, length, get_or, map, refl, sym, ap, subst, ◌∙◌, arith}
+use Rattle.std.specs.List.{All, AllPairs, Contains}
+use Rattle.std.proofs.lemmas.Bool.{cond-true}
+use Rattle.std.proofs.lemmas.List.{get_or-map}
+use Rattle.std.proofs.lemmas.Simd.{map-map}
+use Rattle.std.specs.Option.{option_map}
+use Rattle.std.specs.Prelude.{if◌then◌else◌, None}
+use Rattle.std.proofs.lemmas.Option.{slice_get-get_or}
+use Rattle.ndarray_layout.specs.declared.Order.TheVariants.{RowMajor}
+use Rattle.ndarray_layout.specs.Bounds.{IsInBounds}
+use Rattle.ndarray_layout.specs.Indices.{indices_in, is_index}
+use Rattle.ndarray_layout.specs.View.{View, LiesWithin, place_at, view_places}
+use Rattle.ndarray_layout.proofs.laws.DistinctPlaces.{AllPairs-view_places}
+use Rattle.ndarray_layout.proofs.laws.Indices.{All-indices_in, Contains-indices_in}
+use Rattle.ndarray_layout.proofs.laws.Lists.{map_same}
+use Rattle.nd_lent.specs.ArrayViewMut.{HasItemsOf}
+use Rattle.nd_lent.specs.Items.{ArrayValue, IsOwned, item_at, item_at_place}
+use Rattle.nd_lent.specs.Written.{HasSet}
+use Rattle.nd_lent.proofs.laws.ItemPlaces.{are_in_bounds}
+
+abbrev pub Distinct : List ℤ → Type 0
+Distinct places = AllPairs (λ one other. one ≢ other) places
+
+-- ---- one place after another
+module _ {place : ℕ} {left others : List ℤ} (first : left ≡ pos place ∷ others) where
+  pub others_distinct : Distinct left → Distinct others
+  others_distinct distinct = λ i j d earlier below.
+      subst Distinct first distinct (suc i) (suc j) d (omega (arith, earlier)) (omega (arith, below))
+
+  -- the first place is none of the others
+  pub alone : Distinct left → Contains others (pos place) → ⊥
+  alone distinct (k, below, same) =
+      subst Distinct first distinct 0 (suc k) (pos place) (omega arith) (omega (arith, below)) (sym same)
+
+-- ---- what stands at an index
+-- what two functions make of a list is the same at each of its items
+same_at : {X Y : Type 0} (f g : X → Y) (xs : List X) {x : X} → map f xs ≡ map g xs → Contains xs x → f x ≡ g x
+same_at f g xs {x} same (k, below, is) =
+    ap f (sym is)
+    ∙ sym (get_or-map f xs k x (f x) below)
+    ∙ ap (λ ys. get_or ys k (f x)) same
+    ∙ get_or-map g xs k x (f x) below
+    ∙ ap g is
+
+pub has_items : {T : Type 0} (given : List ℕ → Option T) {old new : ArrayValue T} → new.view ≡ old.view
+    → HasSet (view_places RowMajor old.view) (map given (indices_in RowMajor old.view.shape)) old.items new.items → HasItemsOf given old new
+has_items given {old} {new} same left = record {
+  view = same;
+  items = λ index here.
+      ap (λ view. if is_index view.shape index then item_at_place new.items (place_at view index) else None) same
+      ∙ cond-true (is_index old.view.shape index) (item_at_place new.items (place_at old.view index)) None here
+      ∙ same_at (λ one. item_at_place new.items (place_at old.view one)) given (indices_in RowMajor old.view.shape)
+      (sym (map-map (item_at_place new.items) (place_at old.view) (indices_in RowMajor old.view.shape)) ∙ left.written)
+      (Contains-indices_in RowMajor old.view.shape index here);
+  spare = left.others;
+}
+
+-- an item of which a copy is made is the copy
+pub copied : {T : Type 0} (given : List ℕ → Option T) {old new : ArrayValue T} → HasItemsOf (λ index. option_map (λ x. x) (given index)) old new
+    → HasItemsOf given old new
+copied {T} given has = record { view = has.view; items = λ index here. has.items index here ∙ same (given index); spare = has.spare }
+  where
+    same : (item : Option T) → option_map (λ x. x) item ≡ item
+    same None = refl
+    same (Some x) = refl
+
+-- each item of an array is overwritten
+pub overwritten : {T : Type 0} (item : T) {old new : ArrayValue T} → LiesWithin (length old.items) old.view
+    → HasItemsOf (λ index. option_map (λ x. item) (item_at old index)) old new → HasItemsOf (λ index. Some item) old new
+overwritten {T} item {old} within has = record {
+  view = has.view;
+  items = λ index here.
+      has.items index here
+      ∙ ap (option_map (λ x. item)) (cond-true (is_index old.view.shape index) (item_at_place old.items (place_at old.view index)) None here)
+      ∙ there (place_at old.view index) (within index here);
+  spare = has.spare;
+}
+  where
+    there : (z : ℤ) → IsInBounds (length old.items) z → option_map (λ x. item) (item_at_place old.items z) ≡ Some item
+    there (pos place) below = ap (option_map (λ x. item)) (slice_get-get_or old.items place item below)
+    there (negsuc n) below = absurd below
+
+-- the items at the places of a view are those of its indices
+pub items_in_order : {T : Type 0} (array : ArrayValue T)
+    → map (item_at_place array.items) (view_places RowMajor array.view) ≡ map (item_at array) (indices_in RowMajor array.view.shape)
+items_in_order {T} array =
+    let indices = indices_in RowMajor array.view.shape in
+    let at : List ℕ → Option T = λ index. item_at_place array.items (place_at array.view index) in
+    map-map (item_at_place array.items) (place_at array.view) indices
+    ∙ map_same at (item_at array) indices (λ k d below.
+    sym (cond-true (is_index array.view.shape (get_or indices k d)) (at (get_or indices k d)) None
+    (All-indices_in RowMajor array.view.shape k d below)))
+
+-- ---- all places of an array that owns its items
+pub record AreAll (len : ℕ) (view : View) (places : List ℤ) : Type 0 where
+  pub are : places ≡ view_places RowMajor view
+  pub in_bounds : All (IsInBounds len) places
+  pub distinct : Distinct places
+
+pub all_of_owned : {len : ℕ} (view : View) {places : List ℤ} → IsOwned len view → places ≡ view_places RowMajor view → AreAll len view places
+all_of_owned view owned are = record {
+  are = are;
+  in_bounds = are_in_bounds view owned.within are;
+  distinct = subst Distinct (sym are) (AllPairs-view_places RowMajor view owned.distinct);
+}

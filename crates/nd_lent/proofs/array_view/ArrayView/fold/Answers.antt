@@ -1,0 +1,33 @@
+-- The items of one row more are folded.
+use Rattle.std.proofs.Common.{ap, subst, sym}
+use Rattle.std.specs.Iterator.{CallableInFold}
+use Rattle.nd_lent.specs.LentRow.{row_items, rows_items}
+use Rattle.nd_lent.specs.Lending.{lends}
+use Rattle.nd_lent.specs.private.Folded.{HasFolded}
+use Rattle.nd_lent.proofs.Folding.{all_folded, both_folded, callable_after, callable_in_part, none_folded}
+use Rattle.nd_lent.proofs.array_view.ArrayView.fold.Goals as goal
+
+pub fold_row-requires : goal.fold_row-requires
+fold_row-requires g c =
+    let all = subst (λ items. CallableInFold lends g.F.FnMut items c.loop-row.f c.loop-row.total) (ap rows_items c.in-Some.ensures.steps)
+    c.loop-row.invariant.callable in
+    callable_in_part (row_items c.in-Some.row) (rows_items c.next.new.self) all
+
+pub loop-row-preserved : goal.loop-row-preserved
+loop-row-preserved g c =
+    let all = subst (λ items. CallableInFold lends g.F.FnMut items c.loop-row.f c.loop-row.total) (ap rows_items c.in-Some.ensures.steps)
+    c.loop-row.invariant.callable in
+    record {
+      folded = λ h result others. c.loop-row.invariant.folded h result
+          (subst (λ items. HasFolded g.F.FnMut (c.loop-row.f, c.loop-row.total) items (h, result)) (sym (ap rows_items c.in-Some.ensures.steps))
+          (both_folded c.fold_row.ensures others));
+      callable = callable_after c.fold_row.ensures all;
+    }
+
+pub returns : goal.returns
+returns g c =
+    record {
+      ran = all_folded (c.loop-row.invariant.folded c.loop-row.f c.loop-row.total
+          (subst (λ items. HasFolded g.F.FnMut (c.loop-row.f, c.loop-row.total) items (c.loop-row.f, c.loop-row.total))
+          (sym (ap rows_items c.in-None.ensures.steps.0)) none_folded));
+    }

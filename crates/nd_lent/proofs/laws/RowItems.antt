@@ -1,0 +1,86 @@
+-- Laws of the places of rows, and of the items there.
+use Rattle.std.proofs.Common.{◌≡◌, ℕ, zero, suc, ◌+◌, ◌*◌, ◌<◌, ◌≤◌, ℤ, pos, negsuc, ◌+ℤ◌, ◌*ℤ◌, Bool, true, false, cond, nat_eq, Some}
+use Rattle.std.proofs.Common.{List, [], ◌∷◌, length, map, take, drop, refl, sym, ap, subst, ◌∙◌, arith}
+use Rattle.std.specs.List.{All, range_with_len}
+use Rattle.std.specs.Prelude.{slice_get}
+use Rattle.std.proofs.lemmas.Bool.{eq-eqb}
+use Rattle.std.proofs.lemmas.Int.{ints}
+use Rattle.ndarray_layout.specs.declared.Order.TheVariants.{RowMajor}
+use Rattle.ndarray_layout.specs.declared.Row.{Row}
+use Rattle.ndarray_layout.specs.Bounds.{IsInBounds}
+use Rattle.ndarray_layout.specs.Rows.{row_at, row_places, slower_view, view_rows}
+use Rattle.ndarray_layout.specs.Size.{size}
+use Rattle.ndarray_layout.specs.View.{View, view_places}
+use Rattle.ndarray_layout.proofs.laws.Rows.{get_or-row_places, length-row_places}
+use Rattle.nd_lent.specs.Items.{item_at_place}
+
+abbrev pub places_of : Row → List ℤ
+places_of row = row_places row.start row.stride row.len
+
+-- without an index there is none
+pub no_rows : (view : View) → size view.shape ≡ 0 → view_rows RowMajor view ≡ []
+no_rows view none = by (nat_eq (size view.shape) 0) (eq-eqb (size view.shape) 0 none)
+  where
+    by : (is : Bool) → is ≡ true → cond is [] (map (row_at RowMajor view) (view_places RowMajor (slower_view RowMajor view))) ≡ []
+    by true is = refl
+    by false is = absurd (cc)
+
+-- ---- where the places of a row lie
+
+-- each place of a row that lies in bounds does
+pub coordinate_in_bounds : (count start : ℕ) (stride : ℤ) (len coordinate : ℕ) → All (IsInBounds count) (row_places start stride len) → coordinate < len
+    → IsInBounds count (pos start +ℤ (pos coordinate *ℤ stride))
+coordinate_in_bounds count start stride len coordinate in_bounds below =
+    subst (IsInBounds count) (get_or-row_places start stride len coordinate (pos 0) below)
+    (in_bounds coordinate (pos 0) (omega (arith, length-row_places start stride len)))
+
+-- the first place
+pub start_there : {start : ℕ} (stride : ℤ) → pos start ≡ pos start +ℤ (pos 0 *ℤ stride)
+start_there (pos s) = omega (arith, ints)
+start_there (negsuc s) = omega (arith, ints)
+
+-- where it has one, it begins there
+pub begins : (count start : ℕ) (stride : ℤ) (len : ℕ) → All (IsInBounds count) (row_places start stride len) → 0 < len → start < count
+begins count start stride len in_bounds some = subst (IsInBounds count) (sym (start_there stride)) (coordinate_in_bounds count start stride len 0 in_bounds
+    some)
+
+-- ---- a row of neighbours
+
+later : {X : Type 0} (x : X) (xs : List X) (a n : ℕ)
+    → map (slice_get (x ∷ xs)) (range_with_len (suc a) n) ≡ map (slice_get xs) (range_with_len a n)
+later x xs a zero = refl
+later x xs a (suc n) =
+    let next : suc a + 1 ≡ suc (a + 1) = omega arith in
+    ap (λ items. slice_get xs a ∷ items) (ap (λ m. map (slice_get (x ∷ xs)) (range_with_len m n)) next ∙ later x xs (a + 1) n)
+
+got_between : {X : Type 0} (xs : List X) (a n : ℕ) → a + n ≤ length xs
+    → map (slice_get xs) (range_with_len a n) ≡ map Some (take n (drop a xs))
+got_between xs a zero within = refl
+got_between [] a (suc n) within = absurd (omega arith)
+got_between (x ∷ xs) zero (suc n) within = ap (λ items. Some x ∷ items) (later x xs 0 n ∙ got_between xs 0 n (omega arith))
+got_between (x ∷ xs) (suc a) (suc n) within = later x xs a (suc n) ∙ got_between xs a (suc n) (omega arith)
+
+at_neighbours : {X : Type 0} (xs : List X) (start a n : ℕ)
+    → map (item_at_place xs) (map (λ coordinate. pos start +ℤ (pos coordinate *ℤ pos 1)) (range_with_len a n))
+    ≡ map (slice_get xs) (range_with_len (start + a) n)
+at_neighbours xs start a zero = refl
+at_neighbours xs start a (suc n) =
+    let here : start + a * 1 ≡ start + a = omega arith in
+    let next : start + (a + 1) ≡ start + a + 1 = omega arith in
+    ap (λ items. slice_get xs (start + a * 1) ∷ items) (at_neighbours xs start (a + 1) n ∙ ap (λ m. map (slice_get xs) (range_with_len m n))
+    next)
+    ∙ ap (λ m. slice_get xs m ∷ map (slice_get xs) (range_with_len (start + a + 1) n)) here
+
+-- what stands there
+pub read_neighbours : {X : Type 0} (xs : List X) (start len : ℕ) → start + len ≤ length xs
+    → map (item_at_place xs) (row_places start (pos 1) len) ≡ map Some (take len (drop start xs))
+read_neighbours xs start len within =
+    let from : start + 0 ≡ start = omega arith in
+    at_neighbours xs start 0 len ∙ ap (λ m. map (slice_get xs) (range_with_len m len)) from ∙ got_between xs start len within
+
+-- where the last place of a row is in bounds, the row is
+pub neighbours_within : (count start len : ℕ) → 0 < len → All (IsInBounds count) (row_places start (pos 1) len) → start + len ≤ count
+neighbours_within count start zero some in_bounds = absurd (omega arith)
+neighbours_within count start (suc len) some in_bounds =
+    let last : start + len * 1 < count = coordinate_in_bounds count start (pos 1) (suc len) len in_bounds (omega arith) in
+    omega arith

@@ -1,0 +1,194 @@
+//! Items that are kept elsewhere, lent as an array.
+ghost use Rattle.std.specs.Option.{IsSome};
+ghost use Rattle.std.specs.Prelude.{◌≡◌, ◌↔◌, IsTrue, None, IfOk, IsOk, length, option_copied};
+ghost use Rattle.std.specs.Result.{result_err};
+ghost use Rattle.ndarray_layout.specs.declared.CanIndexCheckMode.TheVariants.{ReadOnly};
+ghost use Rattle.ndarray_layout.specs.AcceptanceByStrides.{acceptance_by_strides};
+ghost use Rattle.ndarray_layout.specs.AcceptanceFrom.{acceptance_from};
+ghost use Rattle.ndarray_layout.specs.Indices.{is_index};
+ghost use Rattle.ndarray_layout.specs.Memory.{NeedsNoMemory};
+ghost use Rattle.ndarray_layout.specs.ShapeBuilder.{custom_strides, strides_list};
+ghost use Rattle.ndarray_layout.specs.ShapeFault.{shape_fault};
+ghost use Rattle.ndarray_layout.specs.Size.{size};
+ghost use Rattle.nd_lent.specs.ArrayView.{HasItems};
+ghost use Rattle.nd_lent.specs.Items.{item_at, view_from_0};
+
+mod folding;
+mod iterating;
+mod rows;
+mod steps;
+
+pub use iterating::Iter;
+use ndarray_layout::{
+    CanIndexCheckMode, LayoutError, Lengths, NdIndex, ShapeError, StrideShape, Strided,
+};
+pub(crate) use rows::is_contiguous;
+pub use rows::{LentRow, LentRows};
+use std::alloc::{AllocError, Global};
+use std::marker::Model;
+
+/// Items of any type that are kept elsewhere and lent, with a view that has a place among them for each index. Two indices
+/// may have one item, as after a broadcast. Items at no place of the view are spare ones, and no call shows them but
+/// `stored`. ndarray's `ArrayView`.
+#[derive(Drop)]
+pub struct ArrayView<'a, T, D: Lengths> {
+    items: &'a [T],
+    view: Strided<D>,
+}
+
+impl<'a, T, D: Lengths> Model for ArrayView<'a, T, D> {
+    ghost use Rattle.std.specs.Prelude.{length};
+    ghost use Rattle.nd_lent.specs.Items.{ArrayValue};
+    ghost use Rattle.nd_lent.specs.ArrayView.{HasItems};
+
+    ghost Value = { ArrayValue T };
+
+    ghost view = { λ a. record { items = a.items.now; view = a.view } };
+
+    ghost invariant = { λ a. HasItems (length a.items.now) a.view };
+}
+
+impl<'a, T, D: Lengths> ArrayView<'a, T, D> {
+    /// The array of a view over items. The caller ensures that each place of it has an item; `over` checks it.
+    ///
+    /// `[2]`, `[-1]` from 1 over 7 8 9: (0) is 8, (1) is 7, and 9 is spare. The project's own.
+    pub fn new(view: Strided<D>, items: &'a [T]) -> Self
+        requires { HasItems (length items.now) view }
+        ensures items { result.items ≡ items.now }
+        ensures view { result.view ≡ view }
+    {
+        ArrayView { items, view }
+    }
+
+    /// The array of a shape, by its own strides or by given ones, over items.
+    ///
+    /// The lowest place of the layout is 0, the first item. Items past the layout, or between its places, are spare ones.
+    ///
+    /// # Errors
+    ///
+    /// Those of `Strided::from_shape` in read-only mode, over as many elements of one byte as there are items.
+    ///
+    /// `[2]` with the stride `[-1]` over 7 8 9: (0) is 8, (1) is 7, and 9 is spare. ndarray's `from_shape`.
+    pub fn from_shape(
+        alloc: Global,
+        shape: StrideShape<D>,
+        items: &'a [T],
+    ) -> Result<Self, LayoutError>
+        ensures fault { shape_fault result ≡
+            acceptance_by_strides D.list 1 (length items.now) ReadOnly
+            (D.list shape.dim) shape.strides }
+        ensures given { shape_fault result ≡ None → IsSome (custom_strides shape.strides) →
+            IsOk result }
+        ensures memory { shape_fault result ≡ None →
+            NeedsNoMemory D.NDIM (length (D.list shape.dim)) → IsOk result }
+        ensures stored { IfOk result (λ a. a.items ≡ items.now) }
+        ensures view { IfOk result (λ a. a.view ≡
+            view_from_0 (D.list shape.dim)
+            (strides_list D.list (D.list shape.dim) shape.strides)) }
+        ensures has_items { IfOk result (λ a. HasItems (length a.items) a.view) }
+    {
+        let len = items.len();
+        let view = Strided::from_shape(alloc, shape, 1, len, CanIndexCheckMode::ReadOnly)?;
+        Ok(ArrayView { items, view })
+    }
+
+    /// The array of a view over items, which may be fewer than those that the view was made for.
+    ///
+    /// # Errors
+    ///
+    /// `OutOfBounds` where an index of the view lies past the items; a view without an index is out of bounds where it
+    /// reaches, by its span, past all of them. Those of `Strided::from_parts` in read-only mode, over elements of one byte.
+    ///
+    /// Takes no memory, and time in proportion to the count of axes.
+    ///
+    /// `[2]`, `[-1]` from 1 over 7 8 9: (0) is 8 and (1) is 7; over 7 alone `OutOfBounds`. The project's own.
+    pub fn over(view: Strided<D>, items: &'a [T]) -> Result<Self, ShapeError>
+        ensures fault { result_err result ≡
+            acceptance_from view.start 1 (length items.now) ReadOnly view.shape view.strides }
+        ensures stored { IfOk result (λ a. a.items ≡ items.now) }
+        ensures view { IfOk result (λ a. a.view ≡ view) }
+        ensures has_items { IfOk result (λ a. HasItems (length a.items) a.view) }
+    {
+        let start = view.start();
+        let view = view.moved_to(start, 1, items.len(), CanIndexCheckMode::ReadOnly)?;
+        Ok(ArrayView { items, view })
+    }
+
+    /// The view: the shape, the strides and the place of the first index. Each place of it has an item.
+    ///
+    /// `[2]` with the stride `[-1]` over 7 8 9: `[2]`, `[-1]` from 1. The project's own.
+    #[inline]
+    pub fn view(&self) -> &Strided<D>
+        ensures view { result.now ≡ self.now.view }
+        ensures has_items { HasItems (length self.now.items) self.now.view }
+    {
+        &self.view
+    }
+
+    /// The shape. ndarray's `raw_dim`, which copies it.
+    #[inline]
+    pub fn dim(&self) -> &D
+        ensures list { D.list result.now ≡ self.now.view.shape }
+    {
+        self.view.dim()
+    }
+
+    /// How many indices the shape has; spare items don't count.
+    ///
+    /// `[2]` with the stride `[-1]` over 7 8 9: 2. ndarray's `len`.
+    pub fn len(&self) -> usize
+        ensures { result ≡ size self.now.view.shape }
+    {
+        self.view.len()
+    }
+
+    /// Whether the shape has no index. ndarray's `is_empty`.
+    pub fn is_empty(&self) -> bool
+        ensures { IsTrue result ↔ (size self.now.view.shape ≡ 0) }
+    {
+        self.view.is_empty()
+    }
+
+    /// All items as they are stored, spare ones too.
+    ///
+    /// `[2]` with the stride `[-1]` over 7 8 9: 7 8 9. ndarray's `as_slice_memory_order`, where no item is spare.
+    #[inline]
+    pub fn stored(&self) -> &'a [T]
+        ensures items { result.now ≡ self.now.items }
+        ensures has_items { HasItems (length self.now.items) self.now.view }
+    {
+        self.items
+    }
+
+    /// The item of an index; `None` where it is no index of the shape.
+    ///
+    /// `[2]` with the stride `[-1]` over 7 8 9: (0) is 8, and (2) is `None`. ndarray's `get`.
+    #[inline]
+    pub fn get<I: NdIndex<D>>(&self, index: &I) -> Option<&'a T>
+        ensures found { IsSome result ↔
+            IsTrue (is_index self.now.view.shape (I.index_list index.now)) }
+        ensures item { option_copied result ≡ item_at self.now (I.index_list index.now) }
+    {
+        let place = self.view.place(index)?;
+        let items = self.items;
+        Some(&items[place])
+    }
+
+    /// The same array, with a shape and strides of its own.
+    ///
+    /// # Errors
+    ///
+    /// Out of memory; never where the type fixes the count of axes or there are at most 4.
+    ///
+    /// In place of ndarray's `Clone`.
+    pub fn duplicate(&self, alloc: Global) -> Result<Self, AllocError>
+        ensures array { IfOk result (λ a. a ≡ self.now) }
+        ensures memory { NeedsNoMemory D.NDIM (length self.now.view.shape) → IsOk result }
+    {
+        let view = self.view.duplicate(alloc)?;
+        Ok(ArrayView {
+            items: self.items,
+            view,
+        })
+    }
+}

@@ -1,0 +1,93 @@
+//! A function that is called at each item of an array in turn, row by row.
+ghost use Rattle.std.specs.Iterator.{CallableInFold, CallableInForEach, CallsOnEach, FoldsItems};
+ghost use Rattle.std.specs.Prelude.{Some, map};
+ghost use Rattle.ndarray_layout.specs.declared.Order.TheVariants.{RowMajor};
+ghost use Rattle.ndarray_layout.specs.View.{view_places};
+ghost use Rattle.nd_lent.specs.LentRow.{row_items};
+ghost use Rattle.nd_lent.specs.Lending.{lends};
+ghost use Rattle.nd_lent.specs.Items.{item_at_place};
+ghost use Rattle.nd_lent.specs.private.Folded.{HasFolded};
+
+use crate::array_view::{ArrayView, LentRow};
+use ndarray_layout::Lengths;
+
+/// Folds the items of a slice, and hands back the function.
+#[inline(always)]
+fn fold_slice<T, B, F: FnMut(B, &T) -> B>(items: &[T], init: B, mut f: F) -> (B, F)
+    requires { CallableInFold lends F.FnMut (map Some items.now) f init }
+    ensures { HasFolded F.FnMut (f, init) (map Some items.now) (result.1, result.0) }
+{
+    let mut total = init;
+    for item in items {
+        total = f(total, item);
+    }
+    (total, f)
+}
+
+/// Folds the items of a row place by place, and hands back the function.
+#[inline(always)]
+fn fold_places<T, B, F: FnMut(B, &T) -> B>(row: &LentRow<'_, T>, init: B, mut f: F) -> (B, F)
+    requires { CallableInFold lends F.FnMut (row_items row.now) f init }
+    ensures { HasFolded F.FnMut (f, init) (row_items row.now) (result.1, result.0) }
+{
+    let mut total = init;
+    for coordinate in 0..row.len() {
+        let item = row.item(coordinate);
+        total = f(total, item);
+    }
+    (total, f)
+}
+
+/// Folds the items of a row, and hands back the function.
+#[inline(always)]
+fn fold_row<T, B, F: FnMut(B, &T) -> B>(row: &LentRow<'_, T>, init: B, f: F) -> (B, F)
+    requires { CallableInFold lends F.FnMut (row_items row.now) f init }
+    ensures { HasFolded F.FnMut (f, init) (row_items row.now) (result.1, result.0) }
+{
+    match row.as_slice() {
+        Some(items) => fold_slice(items, init, f),
+        None => fold_places(row, init, f),
+    }
+}
+
+impl<T, D: Lengths> ArrayView<'_, T, D> {
+    /// The last result of a function that is called at each item in turn, in row-major order, with the result before, first
+    /// with `init`.
+    ///
+    /// It is what `iter().fold(init, f)` returns, and faster: a row whose items follow one another is a loop over a slice.
+    ///
+    /// The sum of `[2]` with the stride `[-1]` over 7 8 9, by `fold(0, |sum, item| sum + item)`: 15. ndarray's `fold`.
+    pub fn fold<B, F: FnMut(B, &T) -> B>(&self, init: B, f: F) -> B
+        requires callable { CallableInFold lends F.FnMut
+            (map (item_at_place self.now.items) (view_places RowMajor self.now.view)) f init }
+        ensures ran { FoldsItems lends F.FnMut
+            (map (item_at_place self.now.items) (view_places RowMajor self.now.view))
+            f init result }
+    {
+        let (mut total, mut f) = (init, f);
+        for row in self.rows() {
+            (total, f) = fold_row(&row, total, f);
+        }
+        total
+    }
+
+    /// Calls a function at each item in turn, in row-major order.
+    ///
+    /// It is what `iter().for_each(f)` does, and faster, as `fold` is.
+    ///
+    /// `[2]` with the stride `[-1]` over 7 8 9: at 8, then at 7. ndarray's `for_each`.
+    pub fn for_each<F: FnMut(&T)>(&self, mut f: F)
+        requires callable { CallableInForEach lends F.FnMut
+            (map (item_at_place self.now.items) (view_places RowMajor self.now.view)) f }
+        ensures ran { CallsOnEach lends F.FnMut
+            (map (item_at_place self.now.items) (view_places RowMajor self.now.view)) f }
+    {
+        let each = move |(), item: &T|
+            requires { F.pre f item }
+            ensures { F.step f.entry item.entry tt f.exit }
+        {
+            f(item);
+        };
+        self.fold((), each);
+    }
+}

@@ -1,0 +1,100 @@
+//! The items of an array one after another, each lent, without a list of them.
+ghost use Rattle.std.specs.Borrow.{Bor};
+ghost use Rattle.std.specs.Iterator.{UpTo, YieldsFirstBy, item_count};
+ghost use Rattle.std.specs.Iterator.Runs.{EveryRun, ItemsMapTo};
+ghost use Rattle.std.specs.Iterator.SizeHint.{IsWithinCount};
+ghost use Rattle.std.specs.List.{All};
+ghost use Rattle.std.specs.Prelude.{◌≡◌, IfSome, List, Option, Some, length, map};
+ghost use Rattle.ndarray_layout.specs.declared.Order.TheVariants.{RowMajor};
+ghost use Rattle.ndarray_layout.specs.Bounds.{IsInBounds};
+ghost use Rattle.ndarray_layout.specs.Size.{size};
+ghost use Rattle.ndarray_layout.specs.View.{view_places};
+ghost use Rattle.nd_lent.specs.Items.{item_at_place};
+
+use crate::array_view::ArrayView;
+use ndarray_layout::{Lengths, Order, Places};
+use std::iter::FusedIterator;
+use std::marker::Model;
+
+/// The items of an array that are still to come, in row-major order of their indices, each lent. A contract sees the list
+/// of them.
+#[derive(Drop)]
+pub struct Iter<'a, T> {
+    stored: &'a [T],
+    places: Places<'a>,
+}
+
+impl<'a, T> Model for Iter<'a, T> {
+    ghost use Rattle.std.specs.List.{All};
+    ghost use Rattle.std.specs.Prelude.{List, Option, length, map};
+    ghost use Rattle.ndarray_layout.specs.Bounds.{IsInBounds};
+    ghost use Rattle.nd_lent.specs.Items.{item_at_place};
+
+    ghost Value = { List (Option T) };
+
+    ghost view = { λ items. map (item_at_place items.stored.now) items.places };
+
+    ghost invariant = { λ items. All (IsInBounds (length items.stored.now)) items.places };
+}
+
+impl<'a, T> Iter<'a, T> {
+    /// The items at places. The caller ensures that each is one of these items.
+    ///
+    /// The places 1 and 0 of 7 8 9: 8 7. The project's own.
+    pub fn new(stored: &'a [T], places: Places<'a>) -> Self
+        requires { All (IsInBounds (length stored.now)) places }
+        ensures { result ≡ map (item_at_place stored.now) places.entry }
+    {
+        Iter { stored, places }
+    }
+}
+
+impl<'a, T> Iterator for Iter<'a, T> {
+    type Item = &'a T;
+
+    ghost next_gives = { YieldsFirstBy (λ item. Some item.now) (λ left. left) };
+
+    ghost remaining = { item_count (λ left. left) };
+
+    #[inline]
+    fn next(&mut self) -> Option<&'a T> {
+        let place = self.places.next()?;
+        let stored = self.stored;
+        Some(&stored[place])
+    }
+
+    fn size_hint(&self) -> (usize, Option<usize>)
+        ensures lower { IsWithinCount result.0 (item_count (λ left. left) self.now) }
+        ensures upper { IfSome result.1 (UpTo (item_count (λ left. left) self.now)) }
+        ensures exact { (result.0 ≡ length self.now) × (result.1 ≡ Some (length self.now)) }
+    {
+        self.places.size_hint()
+    }
+}
+
+impl<T> ExactSizeIterator for Iter<'_, T> {
+    fn len(&self) -> usize {
+        self.places.len()
+    }
+}
+
+impl<T> FusedIterator for Iter<'_, T> {}
+
+impl<'a, T, D: Lengths> ArrayView<'a, T, D> {
+    /// An iterator over the items of all indices, in row-major order (the last axis moves fastest), which knows how many
+    /// are left. Spare items aren't among them.
+    ///
+    /// Takes no memory, and lists nothing. An item takes the time of its place (`Strided::iter_places`).
+    ///
+    /// `[2]` with the stride `[-1]` over 7 8 9: 8 7. ndarray's `iter`.
+    pub fn iter(&self) -> Iter<'_, T>
+        ensures items { result ≡ map (item_at_place self.now.items)
+            (view_places RowMajor self.now.view) }
+        ensures count { length result ≡ size self.now.view.shape }
+        ensures in_order { EveryRun
+            (YieldsFirstBy (λ (item : Bor T). Some item.now) (λ (left : List (Option T)). left))
+            (λ run. ItemsMapTo run (λ (item : Bor T). Some item.now) run.from) }
+    {
+        Iter::new(self.stored(), self.view().iter_places(Order::RowMajor))
+    }
+}

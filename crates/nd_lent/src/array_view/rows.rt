@@ -1,0 +1,177 @@
+//! The rows of an array one after another, each lent.
+ghost use Rattle.std.specs.Iterator.{UpTo, YieldsFirst, item_count};
+ghost use Rattle.std.specs.Iterator.Runs.{YieldsInOrder};
+ghost use Rattle.std.specs.Iterator.SizeHint.{IsWithinCount};
+ghost use Rattle.std.specs.Prelude.{◌≡◌, ◌<◌, ◌^◌, ◌↔◌, ◌+ℤ◌, ◌*ℤ◌, pos, None, IfSome, IsSome, IsTrue, List, Some, length, map, option_copied, slice_index_or};
+ghost use Rattle.ndarray_layout.specs.declared.Order.TheVariants.{RowMajor};
+ghost use Rattle.ndarray_layout.specs.Bounds.{IsInBounds};
+ghost use Rattle.ndarray_layout.specs.Rows.{view_rows};
+ghost use Rattle.ndarray_layout.specs.View.{view_places};
+ghost use Rattle.nd_lent.specs.LentRow.{RowValue, is_contiguous, row_items, row_of, rows_items};
+ghost use Rattle.nd_lent.specs.Items.{item_at_place};
+
+use crate::array_view::ArrayView;
+use ndarray_layout::{Lengths, Order, Row, Rows};
+use std::iter::FusedIterator;
+use std::marker::Model;
+
+/// A row of an array: items that lie evenly among those that are lent. There is at least one. ndarray's one-dimensional
+/// `ArrayView`.
+#[derive(Drop)]
+pub struct LentRow<'a, T> {
+    items: &'a [T],
+    row: Row,
+}
+
+impl<'a, T> Model for LentRow<'a, T> {
+    ghost use Rattle.std.specs.Prelude.{length};
+    ghost use Rattle.nd_lent.specs.LentRow.{HasRow, RowValue, row_of};
+
+    ghost Value = { RowValue T };
+
+    ghost view = { λ row. row_of row.items.now row.row };
+
+    ghost invariant = { λ row. HasRow (length row.items.now) row.row };
+}
+
+/// The place of a coordinate of a row. The caller ensures that neither it nor the first place is past an `isize`.
+#[inline(always)]
+fn place_in_row(row: Row, coordinate: usize) -> usize
+    requires first { row.start < 2 ^ 63 }
+    requires small { coordinate < 2 ^ 63 }
+    requires in_bounds { IsInBounds (2 ^ 63) (pos row.start +ℤ (pos coordinate *ℤ row.stride)) }
+    ensures { pos result ≡ pos row.start +ℤ (pos coordinate *ℤ row.stride) }
+{
+    (row.start as isize + coordinate as isize * row.stride) as usize
+}
+
+/// Whether the places of a row lie side by side.
+#[inline(always)]
+pub(crate) fn is_contiguous(row: Row) -> bool
+    ensures { result ≡ is_contiguous row }
+{
+    row.stride == 1 || row.len <= 1
+}
+
+impl<'a, T> LentRow<'a, T> {
+    /// How many items it has.
+    #[inline]
+    pub fn len(&self) -> usize
+        ensures len { result ≡ self.now.row.len }
+        ensures count { result ≡ length (row_items self.now) }
+    {
+        self.row.len
+    }
+
+    /// The items as a slice, where they follow one another: by the stride 1, or if there is one; else `None`.
+    ///
+    /// Of `[2,2]` over 5 6 7 8 the second row is 7 8; the transpose has `None`. ndarray's `to_slice` of a row.
+    #[inline]
+    pub fn as_slice(&self) -> Option<&'a [T]>
+        ensures found { IsSome result ↔ IsTrue (is_contiguous self.now.row) }
+        ensures items { IfSome result (λ slice. map Some slice.now ≡ row_items self.now) }
+    {
+        let (items, row) = (self.items, self.row);
+        if !is_contiguous(row) {
+            return None;
+        }
+        Some(&items[row.start..row.start + row.len])
+    }
+
+    /// The item of a coordinate. The caller ensures that it is one of the row.
+    #[inline(always)]
+    pub(crate) fn item(&self, coordinate: usize) -> &'a T
+        requires { coordinate < self.now.row.len }
+        ensures { slice_index_or (row_items self.now) coordinate None ≡ Some result.now }
+    {
+        let (items, row) = (self.items, self.row);
+        &items[place_in_row(row, coordinate)]
+    }
+
+    /// The item of a coordinate; `None` where it is past the row.
+    ///
+    /// Of `[2,2]` over 5 6 7 8, the second row at 0: 7; at 2: `None`. ndarray's `get` of a row.
+    #[inline]
+    pub fn get(&self, coordinate: usize) -> Option<&'a T>
+        ensures found { IsSome result ↔ (coordinate < self.now.row.len) }
+        ensures item { option_copied result ≡ slice_index_or (row_items self.now) coordinate None }
+    {
+        if coordinate >= self.row.len {
+            return None;
+        }
+        Some(self.item(coordinate))
+    }
+}
+
+/// The rows of an array that are still to come, in row-major order, each lent. A contract sees the list of them.
+#[derive(Drop)]
+pub struct LentRows<'a, T> {
+    items: &'a [T],
+    rows: Rows<'a>,
+}
+
+impl<'a, T> Model for LentRows<'a, T> {
+    ghost use Rattle.std.specs.List.{All};
+    ghost use Rattle.std.specs.Prelude.{List, length, map};
+    ghost use Rattle.nd_lent.specs.LentRow.{HasRow, RowValue, row_of};
+
+    ghost Value = { List (RowValue T) };
+
+    ghost view = { λ rows. map (row_of rows.items.now) rows.rows };
+
+    ghost invariant = { λ rows. All (HasRow (length rows.items.now)) rows.rows };
+}
+
+impl<'a, T> Iterator for LentRows<'a, T> {
+    type Item = LentRow<'a, T>;
+
+    ghost next_gives = { YieldsFirst (λ left. left) };
+
+    ghost remaining = { item_count (λ left. left) };
+
+    #[inline]
+    fn next(&mut self) -> Option<LentRow<'a, T>> {
+        let row = self.rows.next()?;
+        Some(LentRow {
+            items: self.items,
+            row,
+        })
+    }
+
+    fn size_hint(&self) -> (usize, Option<usize>)
+        ensures lower { IsWithinCount result.0 (item_count (λ left. left) self.now) }
+        ensures upper { IfSome result.1 (UpTo (item_count (λ left. left) self.now)) }
+        ensures exact { (result.0 ≡ length self.now) × (result.1 ≡ Some (length self.now)) }
+    {
+        self.rows.size_hint()
+    }
+}
+
+impl<T> ExactSizeIterator for LentRows<'_, T> {
+    fn len(&self) -> usize {
+        self.rows.len()
+    }
+}
+
+impl<T> FusedIterator for LentRows<'_, T> {}
+
+impl<'a, T, D: Lengths> ArrayView<'a, T, D> {
+    /// An iterator over the rows along the last axis, in row-major order, which knows how many are left. Each is lent. An
+    /// array without axes has one row, of one item; an array without indices has none.
+    ///
+    /// Takes no memory, and lists nothing. A row takes the time of its places (`Strided::rows`).
+    ///
+    /// `[2,2]` over 5 6 7 8: the rows 5 6 and 7 8; of the transpose 5 7 and 6 8. ndarray's `rows`.
+    pub fn rows(&self) -> LentRows<'_, T>
+        ensures rows { result ≡ map (row_of self.now.items) (view_rows RowMajor self.now.view) }
+        ensures items { rows_items result
+            ≡ map (item_at_place self.now.items) (view_places RowMajor self.now.view) }
+        ensures in_order { YieldsInOrder
+            (YieldsFirst (λ (left : List (RowValue T)). left)) (λ left. left) }
+    {
+        LentRows {
+            items: self.stored(),
+            rows: self.view().rows(Order::RowMajor),
+        }
+    }
+}

@@ -1,0 +1,272 @@
+//! Items that are kept elsewhere, lent as an array to be written.
+ghost use Rattle.std.specs.Option.{IsSome};
+ghost use Rattle.std.specs.Prelude.{◌≡◌, ◌↔◌, ◌&&◌, IsTrue, None, IfErr, IfOk, IsOk, Some, length, option_copied};
+ghost use Rattle.std.specs.Result.{result_err};
+ghost use Rattle.ndarray_layout.specs.declared.CanIndexCheckMode.TheVariants.{OwnedMutable};
+ghost use Rattle.ndarray_layout.specs.AcceptanceByStrides.{acceptance_by_strides};
+ghost use Rattle.ndarray_layout.specs.AcceptanceFrom.{acceptance_from};
+ghost use Rattle.ndarray_layout.specs.Indices.{is_index};
+ghost use Rattle.ndarray_layout.specs.Memory.{NeedsNoMemory};
+ghost use Rattle.ndarray_layout.specs.ShapeBuilder.{custom_strides, strides_list};
+ghost use Rattle.ndarray_layout.specs.ShapeFault.{shape_fault};
+ghost use Rattle.ndarray_layout.specs.Size.{size};
+ghost use Rattle.nd_lent.specs.Items.{IsOwned, IsOwned-prop, view_from_0};
+
+mod axes;
+mod mapping;
+mod splitting;
+mod steps;
+mod writing;
+
+use crate::array_view::ArrayView;
+use ndarray_layout::{
+    CanIndexCheckMode, LayoutError, Lengths, NdIndex, ShapeError, StrideShape, Strided,
+};
+pub use splitting::SplitViews;
+use std::alloc::{AllocError, Global};
+use std::mem::replace;
+
+/// Items of any type that are kept elsewhere and lent to be written, with a view by which each index has one of them to
+/// itself. Items at no place of the view are spare ones, which no call writes. ndarray's `ArrayViewMut`.
+pub struct ArrayViewMut<'a, T, D: Lengths> {
+    items: &'a mut [T],
+    view: Strided<D>,
+    ghost owned: { IsOwned (length items.now) view } by { IsOwned-prop (length items.now) view },
+}
+
+// What is written stays where the items are kept.
+impl<T, D: Lengths> Drop for ArrayViewMut<'_, T, D> {
+    fn drop(self)
+        ensures { self.exit.0.now ≡ self.entry.items.now }
+    {
+        let ArrayViewMut { items: _, view: _ } = self;
+    }
+}
+
+impl<'a, T: Drop, D: Lengths> ArrayViewMut<'a, T, D> {
+    ghost use Rattle.nd_lent.specs.Items.{item_at, with_item};
+    ghost use Rattle.nd_lent.specs.ArrayViewMut.{with_swapped};
+    ghost use Rattle.nd_lent.specs.Lender.{array_of};
+
+    /// The array of a view over items. The caller ensures that each place of it has an item, and that no two indices alias:
+    /// that is so where `Strided::from_shape`, `new` or `from_parts` accepted it in owned mode over as many elements. `over`
+    /// checks it.
+    ///
+    /// By this call a proof knows what the items are once the array is gone, as `fill` and the others left them.
+    ///
+    /// `[2]`, `[-1]` from 1 over 7 8 9: (0) is 8, (1) is 7, and 9 is spare. The project's own.
+    pub fn new(view: Strided<D>, items: &'a mut [T]) -> Self
+        requires { IsOwned (length items.old) view }
+        ensures same_reference { result.items.ghost_name ≡ items.entry.ghost_name }
+        ensures stored { (array_of result).items ≡ items.old }
+        ensures view { (array_of result).view ≡ view }
+    {
+        ArrayViewMut { items, view }
+    }
+
+    /// The array of a view over items, where each index has one of them to itself. The items may be fewer than those that the
+    /// view was made for.
+    ///
+    /// # Errors
+    ///
+    /// Those of `Strided::from_parts` in owned mode, over as many elements of one byte as there are items: `OutOfBounds` where
+    /// an index of the view lies past the items; a view without an index is out of bounds where it reaches, by its span, past
+    /// all of them; then `Unsupported` where two indices may alias. (A proof that needs to know what the items are in the end
+    /// takes `new`.)
+    ///
+    /// Takes no memory, and time by the square of the count of axes at most.
+    ///
+    /// `[2]`, `[-1]` from 1 over 7 8 9: (0) is 8, (1) is 7, and 9 is spare; over 7 alone `OutOfBounds`. `[2,2]`, `[1,1]` from 0
+    /// over 7 8 9: `Unsupported`. The project's own.
+    pub fn over(view: Strided<D>, items: &'a mut [T]) -> Result<Self, ShapeError>
+        ensures fault { result_err result ≡
+            acceptance_from view.start 1 (length items.old) OwnedMutable view.shape view.strides }
+        ensures same_reference { IfOk result (λ a. a.items.ghost_name ≡ items.entry.ghost_name) }
+        ensures stored { IfOk result (λ a. (array_of a).items ≡ items.old) }
+        ensures view { IfOk result (λ a. (array_of a).view ≡ view) }
+        ensures owned { IfOk result (λ a. IsOwned (length (array_of a).items) (array_of a).view) }
+    {
+        let start = view.start();
+        let view = view.moved_to(start, 1, items.len(), CanIndexCheckMode::OwnedMutable)?;
+        Ok(ArrayViewMut { items, view })
+    }
+
+    /// The array of a shape, by its own strides or by given ones, over items.
+    ///
+    /// The lowest place of the layout is 0, the first item. Items past the layout, or between its places, are spare ones.
+    ///
+    /// # Errors
+    ///
+    /// Those of `Strided::from_shape` in owned mode, over as many elements of one byte as there are items. (A proof that
+    /// needs to know what the items are in the end takes `new`.)
+    ///
+    /// `[2]` with the stride `[-1]` over 7 8 9: (0) is 8, (1) is 7, and 9 is spare. ndarray's `from_shape`.
+    pub fn from_shape(
+        alloc: Global,
+        shape: StrideShape<D>,
+        items: &'a mut [T],
+    ) -> Result<Self, LayoutError>
+        ensures fault { shape_fault result ≡
+            acceptance_by_strides D.list 1 (length items.old) OwnedMutable
+            (D.list shape.dim) shape.strides }
+        ensures given { shape_fault result ≡ None → IsSome (custom_strides shape.strides) →
+            IsOk result }
+        ensures memory { shape_fault result ≡ None →
+            NeedsNoMemory D.NDIM (length (D.list shape.dim)) → IsOk result }
+        ensures same_reference { IfOk result (λ a. a.items.ghost_name ≡ items.entry.ghost_name) }
+        ensures stored { IfOk result (λ a. (array_of a).items ≡ items.old) }
+        ensures view { IfOk result (λ a. (array_of a).view ≡
+            view_from_0 (D.list shape.dim)
+            (strides_list D.list (D.list shape.dim) shape.strides)) }
+        ensures owned { IfOk result (λ a. IsOwned (length (array_of a).items) (array_of a).view) }
+    {
+        let len = items.len();
+        let view = Strided::from_shape(alloc, shape, 1, len, CanIndexCheckMode::OwnedMutable)?;
+        Ok(ArrayViewMut { items, view })
+    }
+
+    /// The view: the shape, the strides and the place of the first index. Each place of it has an item, and no two indices
+    /// alias.
+    ///
+    /// `[2]` with the stride `[-1]` over 7 8 9: `[2]`, `[-1]` from 1. The project's own.
+    #[inline]
+    pub fn view(&self) -> &Strided<D>
+        ensures view { result.now ≡ (array_of self.now).view }
+        ensures owned { IsOwned (length (array_of self.now).items) (array_of self.now).view }
+    {
+        &self.view
+    }
+
+    /// The shape. ndarray's `raw_dim`, which copies it.
+    #[inline]
+    pub fn dim(&self) -> &D
+        ensures list { D.list result.now ≡ (array_of self.now).view.shape }
+    {
+        self.view.dim()
+    }
+
+    /// How many indices the shape has; spare items don't count.
+    ///
+    /// `[2]` with the stride `[-1]` over 7 8 9: 2. ndarray's `len`.
+    pub fn len(&self) -> usize
+        ensures { result ≡ size (array_of self.now).view.shape }
+    {
+        self.view.len()
+    }
+
+    /// Whether the shape has no index. ndarray's `is_empty`.
+    pub fn is_empty(&self) -> bool
+        ensures { IsTrue result ↔ (size (array_of self.now).view.shape ≡ 0) }
+    {
+        self.view.is_empty()
+    }
+
+    /// All items as they are stored, spare ones too.
+    ///
+    /// `[2]` with the stride `[-1]` over 7 8 9: 7 8 9. ndarray's `as_slice_memory_order`, where no item is spare.
+    #[inline]
+    pub fn stored(&self) -> &[T]
+        ensures items { result.now ≡ (array_of self.now).items }
+        ensures owned { IsOwned (length (array_of self.now).items) (array_of self.now).view }
+    {
+        &*self.items
+    }
+
+    /// The item of an index; `None` where it is no index of the shape.
+    ///
+    /// `[2]` with the stride `[-1]` over 7 8 9: (0) is 8, and (2) is `None`. ndarray's `get`.
+    #[inline]
+    pub fn get<I: NdIndex<D>>(&self, index: &I) -> Option<&T>
+        ensures found { IsSome result ↔
+            IsTrue (is_index (array_of self.now).view.shape (I.index_list index.now)) }
+        ensures item { option_copied result ≡
+            item_at (array_of self.now) (I.index_list index.now) }
+    {
+        let place = self.view.place(index)?;
+        let items = self.stored();
+        Some(&items[place])
+    }
+
+    /// Replaces the item of an index, and returns whether it is an index of the shape; else the array is unchanged.
+    ///
+    /// `[2]` with the stride `[-1]` over 7 8 9: 5 at (1) makes it 5 8 9. ndarray's `get_mut`, with the write.
+    #[inline]
+    pub fn set<I: NdIndex<D>>(&mut self, index: &I, item: T) -> bool
+        ensures is_index { result ≡
+            is_index (array_of self.old).view.shape (I.index_list index.now) }
+        ensures written { array_of self.new ≡
+            with_item (array_of self.old) (I.index_list index.now) item }
+        ensures same_reference { self.new.items.ghost_name ≡ self.old.items.ghost_name }
+    {
+        match self.view.place(index) {
+            Some(place) => {
+                self.items[place] = item;
+                true
+            },
+            None => false,
+        }
+    }
+
+    /// Replaces the item of an index by another one, and returns the one that was there; the given one comes back as the error
+    /// where it is no index of the shape, and the array is unchanged. So no item is dropped.
+    ///
+    /// `[2]` with the stride `[-1]` over 7 8 9: 5 at (1) returns 7 and makes it 5 8 9, and 5 at (2) returns `Err(5)`. ndarray's
+    /// `get_mut`, with `std::mem::replace`.
+    #[inline]
+    pub fn replace<I: NdIndex<D>>(&mut self, index: &I, item: T) -> Result<T, T>
+        ensures found { IsOk result ↔
+            IsTrue (is_index (array_of self.old).view.shape (I.index_list index.now)) }
+        ensures returned { IfOk result (λ old.
+            item_at (array_of self.old) (I.index_list index.now) ≡ Some old) }
+        ensures handed_back { IfErr result (λ given. given ≡ item) }
+        ensures written { array_of self.new ≡
+            with_item (array_of self.old) (I.index_list index.now) item }
+        ensures same_reference { self.new.items.ghost_name ≡ self.old.items.ghost_name }
+    {
+        match self.view.place(index) {
+            Some(place) => {
+                let items = &mut *self.items;
+                Ok(replace(&mut items[place], item))
+            },
+            None => Err(item),
+        }
+    }
+
+    /// Swaps the items of two indices, and returns whether both are indices of the shape; else the array is unchanged.
+    ///
+    /// `[2]` with the stride `[-1]` over 7 8 9: (0) and (1) make it 8 7 9. ndarray's `swap`, which panics where one is no index.
+    #[inline]
+    pub fn swap<I: NdIndex<D>, J: NdIndex<D>>(&mut self, index: &I, other: &J) -> bool
+        ensures are_indices { result ≡
+            (is_index (array_of self.old).view.shape (I.index_list index.now)
+            && is_index (array_of self.old).view.shape (J.index_list other.now)) }
+        ensures swapped { array_of self.new ≡ with_swapped (array_of self.old)
+            (I.index_list index.now) (J.index_list other.now) }
+        ensures same_reference { self.new.items.ghost_name ≡ self.old.items.ghost_name }
+    {
+        let view = &self.view;
+        match (view.place(index), view.place(other)) {
+            (Some(one), Some(other)) => {
+                self.items.swap(one, other);
+                true
+            },
+            _ => false,
+        }
+    }
+
+    /// The array, to be read for as long as this one isn't written.
+    ///
+    /// # Errors
+    ///
+    /// Out of memory; never where the type fixes the count of axes or there are at most 4.
+    ///
+    /// ndarray's `view`.
+    pub fn as_view(&self, alloc: Global) -> Result<ArrayView<'_, T, D>, AllocError>
+        ensures array { IfOk result (λ a. a ≡ array_of self.now) }
+        ensures memory { NeedsNoMemory D.NDIM (length (array_of self.now).view.shape) →
+            IsOk result }
+    {
+        let view = self.view.duplicate(alloc)?;
+        Ok(ArrayView::new(view, self.stored()))
+    }
+}

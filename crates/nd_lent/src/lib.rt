@@ -1,0 +1,11 @@
+//! Items that are kept elsewhere, lent as an array or in parts, to be read or written by the places of a layout.
+#![tactic(auto)]
+
+mod array_view;
+mod array_view_mut;
+mod indexing;
+mod parts_mut;
+
+pub use array_view::{ArrayView, Iter, LentRow, LentRows};
+pub use array_view_mut::{ArrayViewMut, SplitViews};
+pub use parts_mut::PartMut;

@@ -1,6 +1,0 @@
--- There is an item for each place.
-use Rattle.nd_owned.proofs.RowsLent.{count_of_items}
-use Rattle.nd_owned.proofs.array_view.rows.LentRow.len.Goals as goal
-
-pub returns-clause-count : goal.returns-clause-count
-returns-clause-count g c = rw (← c.self.view_is) (count_of_items c.self.inside.items.now c.self.inside.row)

@@ -1,6 +1,0 @@
--- The diagonal has an item for each index.
-use Rattle.nd_owned.proofs.OwnedParts.{owned_part}
-use Rattle.nd_owned.proofs.array_view_mut.ArrayViewMut.diag.Goals as goal
-
-pub new-requires : goal.new-requires
-new-requires g c = owned_part _ c.diag-view.ensures.kept c.parts-count.ensures.owned

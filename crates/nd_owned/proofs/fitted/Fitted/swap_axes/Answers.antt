@@ -1,9 +1,0 @@
--- Each index has an item to itself as before.
-use Rattle.std.specs.List.{swap}
-use Rattle.nd_owned.proofs.OwnedParts.{owned_after}
-use Rattle.nd_owned.proofs.fitted.Fitted.swap_axes.Goals as goal
-
-pub invariant_of-self : goal.invariant_of-self
-invariant_of-self g c =
-    owned_after c.swap_axes.result (λ index. swap index c.args.axis.0 c.args.other.0)
-    _ c.swap_axes.ensures.unchanged c.swap_axes.ensures.kept c.self.invariant
