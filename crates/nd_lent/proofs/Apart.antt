@@ -28,7 +28,8 @@ module _ {row : Row} {left others : List Row} (first : left ≡ row ∷ others) 
 pub part_first : {A B : Type 0} (f : A → List B) (xs : List A) (i : ℕ) {x : A} {ys : List B} → i < length xs → x ≡ get_or xs i x → ys ≡ f x
     → flat_map f (drop i xs) ≡ ys ++ flat_map f (drop (i + 1) xs)
 part_first f xs i {x} below is same =
-    ap (flat_map f) (drop_more xs i x below ∙ ap (λ y. y ∷ drop (i + 1) xs) (sym is)) ∙ ap (λ zs. zs ++ flat_map f (drop (i + 1) xs)) (sym same)
+    ap (flat_map f) (drop_more xs i x below ∙ ap (λ y. y ∷ drop (i + 1) xs) (sym is))
+    ∙ ap (λ zs. zs ++ flat_map f (drop (i + 1) xs)) (sym same)
 
 -- what holds of each pair of all holds of each of the first part with each of the second
 pub pairs_between : {X : Type 0} (R : X → X → Type 0) (xs ys : List X) → AllPairs R (xs ++ ys) → All (λ y. All (λ x. R x y) xs) ys

@@ -61,16 +61,19 @@ in_one_of f [] k d x below here = absurd (omega arith)
 in_one_of f (a ∷ xs) zero d x below here = Contains-append_left (f a) (flat_map f xs) x here
 in_one_of f (a ∷ xs) (suc k) d x below here = Contains-append_right (f a) (flat_map f xs) x (in_one_of f xs k d x (omega arith) here)
 
-pub rows_apart : (rows : List Row) → AreContiguous rows → AllPairs (λ one other. one ≢ other) (rows_places rows) → AllPairs AreRowsApart rows
+pub rows_apart : (rows : List Row) → AreContiguous rows → AllPairs (λ one other. one ≢ other) (rows_places rows)
+    → AllPairs AreRowsApart rows
 rows_apart [] are distinct = λ i j d earlier below. absurd (omega arith)
 rows_apart (row ∷ rows) are distinct =
     let none = parts_apart (places_of row) (rows_places rows) distinct in
     let contiguous = All-tail (λ row. is_contiguous row ≡ true) row rows are.contiguous in
     let some = All-tail (λ row. 0 < row.len) row rows are.some in
     AllPairs-cons AreRowsApart row rows
-    (λ k d below. apart_without_common row (get_or rows k d) (All-head (λ row. is_contiguous row ≡ true) row rows are.contiguous) (contiguous k d below)
+    (λ k d below. apart_without_common row (get_or rows k d) (All-head (λ row. is_contiguous row ≡ true) row rows are.contiguous)
+    (contiguous k d below)
     (All-head (λ row. 0 < row.len) row rows are.some) (some k d below)
-    (λ place here there. none here.0 place here.1 (subst (Contains (rows_places rows)) (sym here.2) (in_one_of places_of rows k d place below there))))
+    (λ place here there. none here.0 place here.1
+    (subst (Contains (rows_places rows)) (sym here.2) (in_one_of places_of rows k d place below there))))
     (rows_apart rows (record { contiguous = contiguous; some = some })
     (pairs_second (λ one other. one ≢ other) (places_of row) (rows_places rows) distinct))
 

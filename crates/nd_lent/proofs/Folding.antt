@@ -22,11 +22,13 @@ lent_before s t left [] yields = ap (λ s. s ++ left) yields
 lent_before s t left (item ∷ lent) yields =
     (yields.0 ++ left, ap (λ s. s ++ left) yields.1, lent_before yields.0 t left lent yields.2)
 
-then_lent : {T : Type 0} (s t : List (Option T)) (lent others : List (Bor T)) → Yields lends s others t → Yields lends (shown lent ++ s) (lent ++ others) t
+then_lent : {T : Type 0} (s t : List (Option T)) (lent others : List (Bor T)) → Yields lends s others t
+    → Yields lends (shown lent ++ s) (lent ++ others) t
 then_lent s t [] others then = then
 then_lent s t (item ∷ lent) others then = (shown lent ++ s, refl, then_lent s t lent others then)
 
-then_folded : {P A : Type 0} (R : P → A → P → Type 0) (p q r : P) (xs ys : List A) → FoldsTo R p xs q → FoldsTo R q ys r → FoldsTo R p (xs ++ ys) r
+then_folded : {P A : Type 0} (R : P → A → P → Type 0) (p q r : P) (xs ys : List A) → FoldsTo R p xs q → FoldsTo R q ys r
+    → FoldsTo R p (xs ++ ys) r
 then_folded R p q r [] ys first then = subst (λ p. FoldsTo R p ys r) (sym first) then
 then_folded R p q r (x ∷ xs) ys first then = (first.0, first.1, then_folded R first.0 q r xs ys first.2 then)
 
@@ -35,7 +37,8 @@ pub record IsItemAt {T : Type 0} (items : List (Option T)) (i : ℕ) (x : T) : T
   pub below : i < length items
   pub is : get_or items i None ≡ Some x
 
-pub item_in_list : {T : Type 0} {items : List (Option T)} {i : ℕ} {x : T} → i < length items → get_or items i None ≡ Some x → IsItemAt items i x
+pub item_in_list : {T : Type 0} {items : List (Option T)} {i : ℕ} {x : T} → i < length items → get_or items i None ≡ Some x
+    → IsItemAt items i x
 item_in_list below is = record { below = below; is = is }
 
 pub item_of_slice : {T : Type 0} (slice : List T) {i : ℕ} {x : T} → i < length slice → x ≡ get_or slice i x → IsItemAt (map Some slice) i x
@@ -49,10 +52,12 @@ module _ {F B T : Type 0} {g : Mut F (B × (Bor T × Unit {0})) B} where
   pub none_folded : {p : F × B} → HasFolded g p [] p
   none_folded = record { lent = []; are = refl; calls = refl }
 
-  pub both_folded : {p q r : F × B} {first then : List (Option T)} → HasFolded g p first q → HasFolded g q then r → HasFolded g p (first ++ then) r
+  pub both_folded : {p q r : F × B} {first then : List (Option T)} → HasFolded g p first q → HasFolded g q then r
+      → HasFolded g p (first ++ then) r
   both_folded {p} {q} {r} {first} {then} one other = record {
     lent = one.lent ++ other.lent;
-    are = map-append (λ item. Some item.now) one.lent other.lent ∙ ap (λ items. items ++ shown other.lent) one.are ∙ ap (λ items. first ++ items) other.are;
+    are = map-append (λ item. Some item.now) one.lent other.lent ∙ ap (λ items. items ++ shown other.lent) one.are
+        ∙ ap (λ items. first ++ items) other.are;
     calls = then_folded (FoldTurn g) p q r one.lent other.lent one.calls other.calls;
   }
 
@@ -91,10 +96,12 @@ module _ {F B T : Type 0} {g : Mut F (B × (Bor T × Unit {0})) B} where
       (both_folded done (one_folded item turn))
 
   pub still_callable : {f h : F} {total sum : B} {items : List (Option T)} {i : ℕ} (item : Bor T) → IsItemAt items i item.now
-      → FoldTurn g (f, total) item (h, sum) → CallableInFold lends g (drop i items) f total → CallableInFold lends g (drop (i + 1) items) h sum
+      → FoldTurn g (f, total) item (h, sum) → CallableInFold lends g (drop i items) f total
+      → CallableInFold lends g (drop (i + 1) items) h sum
   still_callable {f} {total = total} {items = items} {i} item at turn callable =
       callable_after (one_folded item turn)
-      (subst (λ left. CallableInFold lends g left f total) (drop_more items i None at.below ∙ ap (λ y. y ∷ drop (i + 1) items) at.is) callable)
+      (subst (λ left. CallableInFold lends g left f total)
+      (drop_more items i None at.below ∙ ap (λ y. y ∷ drop (i + 1) items) at.is) callable)
 
   -- ---- all items
   pub all_folded : {f h : F} {init result : B} {items : List (Option T)} → HasFolded g (f, init) items (h, result)
@@ -104,7 +111,8 @@ module _ {F B T : Type 0} {g : Mut F (B × (Bor T × Unit {0})) B} where
       (done.lent, h, ([], ([], yields, (refl, refl))), done.calls)
 
 -- ---- a function that keeps no total, as one that does: `inside` reads it from the state of the other one
-calls_inside : {F C T : Type 0} (g : Mut F (Bor T × Unit {0}) (Unit {0})) (other : Mut C (Unit {0} × (Bor T × Unit {0})) (Unit {0})) (inside : C → F)
+calls_inside : {F C T : Type 0} (g : Mut F (Bor T × Unit {0}) (Unit {0})) (other : Mut C (Unit {0} × (Bor T × Unit {0})) (Unit {0}))
+    (inside : C → F)
     → ((s t : C) (x : Bor T) → Called other s (tt, (x, tt)) tt t → Called g (inside s) (x, tt) tt (inside t))
     → (xs : List (Bor T)) (p q : C × Unit {0}) → FoldsTo {P = C × Unit {0}} (FoldTurn other) p xs q
     → FoldsTo (λ p x q. Called g p (x, tt) tt q) (inside p.0) xs (inside q.0)
@@ -114,10 +122,12 @@ calls_inside g other inside says (x ∷ xs) p q calls =
 
 pub callable_inside : {F C T : Type 0} (g : Mut F (Bor T × Unit {0}) (Unit {0})) (other : Mut C (Unit {0} × (Bor T × Unit {0})) (Unit {0}))
     (inside : C → F) → ((s : C) (x : Bor T) → Takes g (inside s) (x, tt) → Takes other s (tt, (x, tt)))
-    → ((s t : C) (x : Bor T) → Called other s (tt, (x, tt)) tt t → Called g (inside s) (x, tt) tt (inside t)) → {items : List (Option T)} (f : C)
+    → ((s t : C) (x : Bor T) → Called other s (tt, (x, tt)) tt t → Called g (inside s) (x, tt) tt (inside t))
+    → {items : List (Option T)} (f : C)
     → CallableInForEach lends g items (inside f) → CallableInFold lends other items f tt
 callable_inside g other inside asks says f callable = record {
-  at = λ xs t q x u yields calls step. asks q.0 x (callable.at xs t (inside q.0) x u yields (calls_inside g other inside says xs (f, tt) q calls) step);
+  at = λ xs t q x u yields calls step. asks q.0 x
+      (callable.at xs t (inside q.0) x u yields (calls_inside g other inside says xs (f, tt) q calls) step);
 }
 
 pub called_inside : {F C T : Type 0} (g : Mut F (Bor T × Unit {0}) (Unit {0})) (other : Mut C (Unit {0} × (Bor T × Unit {0})) (Unit {0}))

@@ -12,13 +12,15 @@ use Rattle.nd_lent.specs.LentRow.{is_contiguous}
 use Rattle.nd_lent.specs.PartMut.{ascend, can_split_rows, have_columns, rows_before, rows_from}
 
 -- one more of a list, before those that are left
-pub one_pushed : {X : Type 0} (old : List X) {new left others all : List X} {x : X} → new ≡ old ++ x ∷ [] → left ≡ x ∷ others → old ++ left ≡ all
+pub one_pushed : {X : Type 0} (old : List X) {new left others all : List X} {x : X} → new ≡ old ++ x ∷ [] → left ≡ x ∷ others
+    → old ++ left ≡ all
     → new ++ others ≡ all
 one_pushed old {others = others} {x = x} pushed first so_far =
     ap (λ xs. xs ++ others) pushed ∙ append_assoc old (x ∷ []) others ∙ ap (λ xs. old ++ xs) (sym first) ∙ so_far
 
 -- what is made of it is one more of what is made of the list
-pub row_pushed : {A B X : Type 0} (f : A → X) (g : B → X) (old : List A) {new : List A} {x : A} {y : B} {left others : List B} {all : List X}
+pub row_pushed : {A B X : Type 0} (f : A → X) (g : B → X)
+    (old : List A) {new : List A} {x : A} {y : B} {left others : List B} {all : List X}
     → new ≡ old ++ x ∷ [] → left ≡ y ∷ others → f x ≡ g y → map f old ++ map g left ≡ all → map f new ++ map g others ≡ all
 row_pushed f g old {x = x} {others = others} pushed first same so_far =
     one_pushed (map f old) (ap (map f) pushed ∙ map-append f old (x ∷ []))
@@ -38,7 +40,8 @@ row_replaced f xs i {old} {new} made other below is same =
 
 -- ---- columns of rows
 -- a test that each row passes says that each is as long
-pub columns_below : {A T : Type 0} (f : A → List T) (index : ℕ) (rows : List A) → list_all (λ row. nat_le index (length row)) (map f rows) ≡ true
+pub columns_below : {A T : Type 0} (f : A → List T) (index : ℕ) (rows : List A)
+    → list_all (λ row. nat_le index (length row)) (map f rows) ≡ true
     → All (λ row. index ≤ length (f row)) rows
 columns_below f index [] all = λ k d below. absurd (omega (arith, below))
 columns_below {A} f index (row ∷ rows) all = by (nat_le index (length (f row))) refl (λ passed. columns_below f index rows passed)
@@ -52,7 +55,8 @@ columns_below {A} f index (row ∷ rows) all = by (nat_le index (length (f row))
     by false short others =
         let wrong : false ≡ true = sym (ap (λ b. b && list_all (λ row. nat_le index (length row)) (map f rows)) short) ∙ all in cc
 
-as_long : {T : Type 0} (rows : List (List T)) (index : ℕ) → have_columns rows index ≡ true → list_all (λ row. nat_le index (length row)) rows ≡ true
+as_long : {T : Type 0} (rows : List (List T)) (index : ℕ) → have_columns rows index ≡ true
+    → list_all (λ row. nat_le index (length row)) rows ≡ true
 as_long rows index can = by (list_all (λ row. nat_le index (length row)) rows) refl
   where
     by : (all : Bool) → list_all (λ row. nat_le index (length row)) rows ≡ all → all ≡ true
@@ -94,6 +98,7 @@ module _ {row : Row} {left others : List Row} (end : ℕ) (first : left ≡ row 
 
   pub first_ascends : ascend end left ≡ true → RowsAscend
   first_ascends all =
-      let both = and_parts (nat_le end row.start && is_contiguous row) (ascend (row.start + row.len) others) (sym (ap (ascend end) first) ∙ all) in
+      let both = and_parts (nat_le end row.start && is_contiguous row) (ascend (row.start + row.len) others)
+      (sym (ap (ascend end) first) ∙ all) in
       let this = and_parts (nat_le end row.start) (is_contiguous row) both.0 in
       record { above = leb-true end row.start this.0; contiguous = this.1; others_ascend = both.1 }

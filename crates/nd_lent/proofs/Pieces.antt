@@ -49,7 +49,8 @@ pub record IsCut {T : Type 0} (row : Row) (at : ℕ) (old new : List (Piece T)) 
   pub after_start : after.start ≡ row.start + row.len
   pub after_items : after.items.now ≡ drop row.len (drop (row.start - piece.start) piece.items.now)
 
-module _ {T : Type 0} {row : Row} {at : ℕ} {old new : List (Piece T)} {piece before after : Piece T} (cut : IsCut row at old new piece before after) where
+module _ {T : Type 0} {row : Row} {at : ℕ} {old new : List (Piece T)} {piece before after : Piece T}
+    (cut : IsCut row at old new piece before after) where
   -- how many items are before the row, and after it
   length_before : length before.items.now ≡ row.start - piece.start
   length_before =
@@ -78,10 +79,12 @@ module _ {T : Type 0} {row : Row} {at : ℕ} {old new : List (Piece T)} {piece b
       ∙ ap (λ n. take (length piece.items.now - (row.start - piece.start)) (drop n whole)) there
 
   -- what is taken is the row of the whole
-  pub row_taken : (whole : List T) → ArePieces whole old → take row.len (drop (row.start - piece.start) piece.items.now) ≡ items_of_row whole row
+  pub row_taken : (whole : List T) → ArePieces whole old
+      → take row.len (drop (row.start - piece.start) piece.items.now) ≡ items_of_row whole row
   row_taken whole are =
       ap (take row.len) (from_the_row whole are)
-      ∙ take_less row.len (length piece.items.now - (row.start - piece.start)) (drop row.start whole) (omega (arith, cut.covers.from, cut.covers.to))
+      ∙ take_less row.len (length piece.items.now - (row.start - piece.start)) (drop row.start whole)
+      (omega (arith, cut.covers.from, cut.covers.to))
 
   -- what is left are pieces of it
   before_is : (whole : List T) → ArePieces whole old → before.items.now ≡ take (length before.items.now) (drop before.start whole)
@@ -96,11 +99,13 @@ module _ {T : Type 0} {row : Row} {at : ℕ} {old new : List (Piece T)} {piece b
   after_is : (whole : List T) → ArePieces whole old → after.items.now ≡ take (length after.items.now) (drop after.start whole)
   after_is whole are =
       let less : row.len ≤ length piece.items.now - (row.start - piece.start) = omega (arith, cut.covers.from, cut.covers.to) in
-      let left : length piece.items.now - (row.start - piece.start) - row.len ≡ length after.items.now = omega (arith, length_after, cut.covers.from, cut.covers.to) in
+      let left : length piece.items.now - (row.start - piece.start) - row.len ≡ length after.items.now = omega
+      (arith, length_after, cut.covers.from, cut.covers.to) in
       cut.after_items
       ∙ ap (drop row.len) (from_the_row whole are)
       ∙ drop_less row.len (length piece.items.now - (row.start - piece.start)) (drop row.start whole) less
-      ∙ ap (take (length piece.items.now - (row.start - piece.start) - row.len)) (drop-drop row.len row.start whole ∙ ap (λ n. drop n whole) (sym cut.after_start))
+      ∙ ap (take (length piece.items.now - (row.start - piece.start) - row.len))
+      (drop-drop row.len row.start whole ∙ ap (λ n. drop n whole) (sym cut.after_start))
       ∙ ap (λ n. take n (drop after.start whole)) left
 
   pub pieces_left : (whole : List T) → ArePieces whole old → ArePieces whole new
@@ -117,7 +122,8 @@ module _ {T : Type 0} {row : Row} {at : ℕ} {old new : List (Piece T)} {piece b
         (
           omega (arith, ap length cut.pieces, length-append (set old at before) (after ∷ []), fits),
           λ d. subst (Covers other) (sym (get_or-set_same old at before d cut.below)
-              ∙ sym (get_or_append_left (set old at before) (after ∷ []) d at fits) ∙ ap (λ pieces. get_or pieces at d) (sym cut.pieces)) has,
+              ∙ sym (get_or_append_left (set old at before) (after ∷ []) d at fits)
+              ∙ ap (λ pieces. get_or pieces at d) (sym cut.pieces)) has,
         ),
       )
 
@@ -138,7 +144,8 @@ module _ {T : Type 0} {row : Row} {at : ℕ} {old new : List (Piece T)} {piece b
         (
           omega (arith, ap length cut.pieces, length-append (set old at before) (after ∷ []), fits),
           λ d. subst (Covers other) (sym (get_or-set_other old at k before d else)
-              ∙ sym (get_or_append_left (set old at before) (after ∷ []) d k fits) ∙ ap (λ pieces. get_or pieces k d) (sym cut.pieces)) (has.1 d),
+              ∙ sym (get_or_append_left (set old at before) (after ∷ []) d k fits) ∙ ap (λ pieces. get_or pieces k d) (sym cut.pieces))
+              (has.1 d),
         ),
       )
 

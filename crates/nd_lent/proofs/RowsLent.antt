@@ -33,7 +33,8 @@ short_row {view} place v = by view.shape (lens_fit v)
 short_rows : {view : View} → IsView view → All (λ row. row.len < 2 ^ 63) (view_rows RowMajor view)
 short_rows {view} v = by (nat_eq (size view.shape) 0)
   where
-    by : (none : Bool) → All (λ row. row.len < 2 ^ 63) (cond none [] (map (row_at RowMajor view) (view_places RowMajor (slower_view RowMajor view))))
+    by : (none : Bool) → All (λ row. row.len < 2 ^ 63)
+        (cond none [] (map (row_at RowMajor view) (view_places RowMajor (slower_view RowMajor view))))
     by true = All-nil (λ row. row.len < 2 ^ 63)
     by false = All-map (λ row. row.len < 2 ^ 63) (row_at RowMajor view) (view_places RowMajor (slower_view RowMajor view))
         (λ k d below. short_row (get_or (view_places RowMajor (slower_view RowMajor view)) k d) v)
@@ -52,7 +53,8 @@ rows_have_items {count} {view} v within =
     }
 
 -- their items are those at the places of the view
-rows_items-row_of : {T : Type 0} (items : List T) (rows : List Row) → rows_items (map (row_of items) rows) ≡ map (item_at_place items) (rows_places rows)
+rows_items-row_of : {T : Type 0} (items : List T) (rows : List Row)
+    → rows_items (map (row_of items) rows) ≡ map (item_at_place items) (rows_places rows)
 rows_items-row_of items [] = refl
 rows_items-row_of items (row ∷ rows) =
     ap (λ others. row_items (row_of items row) ++ others) (rows_items-row_of items rows)
@@ -76,7 +78,8 @@ one_place start stride zero short = refl
 one_place start stride (suc zero) short = ap (λ place. place ∷ []) (no_step (pos start) stride ∙ sym (no_step (pos start) (pos 1)))
 one_place start stride (suc (suc len)) short = absurd (omega arith)
 
-pub contiguous_places : (row : Row) → is_contiguous row ≡ true → row_places row.start row.stride row.len ≡ row_places row.start (pos 1) row.len
+pub contiguous_places : (row : Row) → is_contiguous row ≡ true
+    → row_places row.start row.stride row.len ≡ row_places row.start (pos 1) row.len
 contiguous_places row is = by (or_cases (int_eq row.stride (pos 1)) (nat_le row.len 1) is)
   where
     by : (int_eq row.stride (pos 1) ≡ true) ⊎ (nat_le row.len 1 ≡ true)
@@ -85,16 +88,19 @@ contiguous_places row is = by (or_cases (int_eq row.stride (pos 1)) (nat_le row.
     by (inr short) = one_place row.start row.stride row.len (leb-true row.len 1 short)
 
 -- such a row is a part of the items
-pub end_within : {count : ℕ} (row : Row) → All (IsInBounds count) (row_places row.start row.stride row.len) → 0 < row.len → is_contiguous row ≡ true
+pub end_within : {count : ℕ} (row : Row) → All (IsInBounds count) (row_places row.start row.stride row.len) → 0 < row.len
+    → is_contiguous row ≡ true
     → row.start + row.len ≤ count
 end_within {count} row within some is =
     neighbours_within count row.start row.len some (subst (All (IsInBounds count)) (contiguous_places row is) within)
 
-pub contiguous_items : {T : Type 0} (items : List T) (row : Row) {n : ℕ} → HasRow (length items) row → is_contiguous row ≡ true → n ≡ row.len
+pub contiguous_items : {T : Type 0} (items : List T) (row : Row) {n : ℕ} → HasRow (length items) row → is_contiguous row ≡ true
+    → n ≡ row.len
     → map Some (take n (drop row.start items)) ≡ row_items (row_of items row)
 contiguous_items items row has is long =
     ap (λ n. map Some (take n (drop row.start items))) long
-    ∙ sym (ap (map (item_at_place items)) (contiguous_places row is) ∙ read_neighbours items row.start row.len (end_within row has.within has.some is))
+    ∙ sym (ap (map (item_at_place items)) (contiguous_places row is)
+    ∙ read_neighbours items row.start row.len (end_within row has.within has.some is))
 
 -- a coordinate of a row, and the item at its place
 pub record IsPlaceOf (count : ℕ) (row : Row) (coordinate : ℕ) : Type 0 where
@@ -103,7 +109,8 @@ pub record IsPlaceOf (count : ℕ) (row : Row) (coordinate : ℕ) : Type 0 where
   pub fits : IsInBounds (2 ^ 63) (pos row.start +ℤ (pos coordinate *ℤ row.stride))
   pub within : IsInBounds count (pos row.start +ℤ (pos coordinate *ℤ row.stride))
 
-pub place_of_coordinate : {count : ℕ} (row : Row) (coordinate : ℕ) → HasRow count row → coordinate < row.len → IsPlaceOf count row coordinate
+pub place_of_coordinate : {count : ℕ} (row : Row) (coordinate : ℕ) → HasRow count row → coordinate < row.len
+    → IsPlaceOf count row coordinate
 place_of_coordinate {count} row coordinate has below = record {
   first = begins (2 ^ 63) row.start row.stride row.len has.fit has.some;
   small = omega (arith, has.short);

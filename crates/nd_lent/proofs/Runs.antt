@@ -64,7 +64,8 @@ acted call h acts (Some x ∷ given) (Some y ∷ made) p last same count (next, 
     ap (λ item. item ∷ made) (ap Some this.1) ∙ ap (λ items. Some (h x) ∷ items) rest
 
 -- ---- a closure that may be called at each item in turn
-module _ {F T : Type 0} {R : F → T → F → Type 0} {Q : F → T → Type 0} {items others : List (Option T)} {f : F} {x : T} (first : items ≡ Some x ∷ others)
+module _ {F T : Type 0} {R : F → T → F → Type 0} {Q : F → T → Type 0} {items others : List (Option T)} {f : F} {x : T}
+    (first : items ≡ Some x ∷ others)
     (callable : CallableAtEachTurn gives R Q items f) where
   -- may be at the first
   pub callable_at_first : Q f x

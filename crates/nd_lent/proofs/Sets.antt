@@ -57,7 +57,8 @@ has_items given {old} {new} same left = record {
 }
 
 -- an item of which a copy is made is the copy
-pub copied : {T : Type 0} (given : List ℕ → Option T) {old new : ArrayValue T} → HasItemsOf (λ index. option_map (λ x. x) (given index)) old new
+pub copied : {T : Type 0} (given : List ℕ → Option T) {old new : ArrayValue T}
+    → HasItemsOf (λ index. option_map (λ x. x) (given index)) old new
     → HasItemsOf given old new
 copied {T} given has = record { view = has.view; items = λ index here. has.items index here ∙ same (given index); spare = has.spare }
   where
@@ -72,7 +73,8 @@ overwritten {T} item {old} within has = record {
   view = has.view;
   items = λ index here.
       has.items index here
-      ∙ ap (option_map (λ x. item)) (cond-true (is_index old.view.shape index) (item_at_place old.items (place_at old.view index)) None here)
+      ∙ ap (option_map (λ x. item))
+      (cond-true (is_index old.view.shape index) (item_at_place old.items (place_at old.view index)) None here)
       ∙ there (place_at old.view index) (within index here);
   spare = has.spare;
 }
@@ -98,7 +100,8 @@ pub record AreAll (len : ℕ) (view : View) (places : List ℤ) : Type 0 where
   pub in_bounds : All (IsInBounds len) places
   pub distinct : Distinct places
 
-pub all_of_owned : {len : ℕ} (view : View) {places : List ℤ} → IsOwned len view → places ≡ view_places RowMajor view → AreAll len view places
+pub all_of_owned : {len : ℕ} (view : View) {places : List ℤ} → IsOwned len view → places ≡ view_places RowMajor view
+    → AreAll len view places
 all_of_owned view owned are = record {
   are = are;
   in_bounds = are_in_bounds view owned.within are;

@@ -30,7 +30,8 @@ use Rattle.nd_lent.proofs.laws.RowItems.{places_of}
 
 -- ---- lists of lists
 -- two that are made of equal lists are equal
-pub flat_same : {A B X : Type 0} (f : A → List X) (g : B → List X) (xs : List A) (ys : List B) → map f xs ≡ map g ys → flat_map f xs ≡ flat_map g ys
+pub flat_same : {A B X : Type 0} (f : A → List X) (g : B → List X) (xs : List A) (ys : List B) → map f xs ≡ map g ys
+    → flat_map f xs ≡ flat_map g ys
 flat_same f g xs ys same =
     sym (flat_map-map (λ zs. zs) f xs) ∙ ap (flat_map (λ zs. zs)) same ∙ flat_map-map (λ zs. zs) g ys
 
@@ -70,7 +71,8 @@ module _ {count : ℕ} {view : View} (owned : IsOwned count view) where
       let others = rows_are slices (All-tail Fits slice slices fit) in
       record {
         rows = record {
-          contiguous = All-append (λ row. is_contiguous row ≡ true) (rows_of_slice slice) (flat_map rows_of_slice slices) has.are.contiguous others.rows.contiguous;
+          contiguous = All-append (λ row. is_contiguous row ≡ true) (rows_of_slice slice)
+              (flat_map rows_of_slice slices) has.are.contiguous others.rows.contiguous;
           some = All-append (λ row. 0 < row.len) (rows_of_slice slice) (flat_map rows_of_slice slices) has.are.some others.rows.some;
         };
         places = flat_map-append places_of (rows_of_slice slice) (flat_map rows_of_slice slices)

@@ -101,7 +101,8 @@ none_owned {count = count} {new = new} len kept owned none = record {
   distinct = kept.distinct owned.distinct;
 }
 
-pub all_owned : {source : List ℕ → List ℕ} {count : ℕ} {old new : View} → Descends source old new → IsOwned count old → IsOwned (count - 0) new
+pub all_owned : {source : List ℕ → List ℕ} {count : ℕ} {old new : View} → Descends source old new → IsOwned count old
+    → IsOwned (count - 0) new
 all_owned {count = count} {new = new} kept owned =
     let same : count ≡ count - 0 = omega arith in
     subst (λ n. IsOwned n new) same (owned_descendant count kept owned)
@@ -154,7 +155,8 @@ item_of_upper xs cut len (pos k) (negsuc j) below same = absurd (omega (arith, i
 item_of_upper xs cut len (negsuc k) w below same = absurd below
 
 -- a part, and what it is made of
-pub record IsPartOf {T : Type 0} (by len : ℕ) (source : List ℕ → List ℕ) (whole : ArrayValue T) (split new : View) (part : ArrayValue T) : Type 0 where
+pub record IsPartOf {T : Type 0} (by len : ℕ) (source : List ℕ → List ℕ) (whole : ArrayValue T) (split new : View)
+    (part : ArrayValue T) : Type 0 where
   pub kept : Descends source whole.view split
   pub moved : IsMoved by split new
   pub owned : IsOwned len new
@@ -168,7 +170,8 @@ module _ {T : Type 0} {by len : ℕ} {source : List ℕ → List ℕ} {whole par
       let there : is_index new.shape index ≡ true = subst (λ view. is_index view.shape index ≡ true) made.view here in
       let kept = made.kept.places index (subst (λ shape. is_index shape index ≡ true) made.moved.shape there) in
       let place : place_at part.view index ≡ place_at new index = ap (λ view. place_at view index) made.view in
-      let items = same (place_at new index) (place_at whole.view (source index)) (made.owned.within index there) (sym kept.1 ∙ place_moved made.moved index) in
+      let items = same (place_at new index) (place_at whole.view (source index)) (made.owned.within index there)
+      (sym kept.1 ∙ place_moved made.moved index) in
       (kept.0, rw (here, kept.0) (ap (item_at_place part.items) place ∙ items))
 
   pub lower_shown : by ≡ 0 → part.items ≡ take len whole.items → ShowsPartOf source whole part

@@ -18,13 +18,15 @@ pub step_to : {T : Type 0} (items : List T) {source : List ℕ → List ℕ} {st
     → IsArrayOfStep Descends source step array made
 step_to items {source} {step} {old} {new} {made = made} same these this view kept =
     subst (λ a. IsArrayOfStep Descends source step a made) same
-    (subst (λ v. IsArrayOfStep Descends source step (record { items = items; view = old }) (record { items = made.items; view = v })) (sym this)
+    (subst (λ v. IsArrayOfStep Descends source step (record { items = items; view = old }) (record { items = made.items; view = v }))
+    (sym this)
     (subst (λ xs. IsArrayOfStep Descends source step (record { items = items; view = old }) (record { items = xs; view = new })) (sym these)
     (record { view = view; items = shown items kept; kept = kept })))
 
 -- the same of a step that changes the view in place
 pub step_in_place : {T X E : Type 0} (result : Result X E) (items : List T) (source : List ℕ → List ℕ) (step : View → View) (old new : View)
-    {array : ArrayValue T} → record { items = items; view = old } ≡ array → OnOk result (new ≡ step old) → OnOk result (Descends source old new)
+    {array : ArrayValue T} → record { items = items; view = old } ≡ array → OnOk result (new ≡ step old)
+    → OnOk result (Descends source old new)
     → OnOk result (IsArrayOfStep Descends source step array (record { items = items; view = new }))
 step_in_place (Ok x) items source step old new same view kept = step_to items same refl refl view kept
 step_in_place (Err e) items source step old new same view kept = tt

@@ -7,19 +7,23 @@ use Rattle.ndarray_layout.specs.declared.Order.TheVariants.{RowMajor}
 use Rattle.ndarray_layout.specs.Indices.{is_index}
 use Rattle.ndarray_layout.specs.Signed.{magnitude}
 use Rattle.ndarray_layout.specs.View.{place_at, view_places}
-use Rattle.nd_lent.specs.Written.{KeepsOthers}
+use Rattle.nd_lent.specs.Written.{KeepsAllBut}
 use Rattle.nd_lent.specs.Items.{ArrayValue, item_at}
 
 -- the array with the items of two indices of the shape swapped
 abbrev pub with_swapped : {T : Type 0} → ArrayValue T → List ℕ → List ℕ → ArrayValue T
 with_swapped array one other =
     (if is_index array.view.shape one && is_index array.view.shape other
-    then record { items = swap array.items (magnitude (place_at array.view one)) (magnitude (place_at array.view other)); view = array.view }
+    then record {
+      items = swap array.items (magnitude (place_at array.view one))
+          (magnitude (place_at array.view other));
+      view = array.view;
+    }
     else array)
 
 -- each place that no index has holds the same item in both, and none is past the end of one alone
 abbrev pub KeepsSpare : {T : Type 0} → ArrayValue T → ArrayValue T → Type 0
-KeepsSpare old new = KeepsOthers (view_places RowMajor old.view) old.items new.items
+KeepsSpare old new = KeepsAllBut (view_places RowMajor old.view) old.items new.items
 
 -- the view is the same one, each index has the item that is given for it, and every other item is as before
 pub record HasItemsOf {T : Type 0} (given : List ℕ → Option T) (old new : ArrayValue T) : Type 0 where

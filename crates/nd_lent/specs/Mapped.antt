@@ -21,7 +21,8 @@ Makes call before (Some x, None) after = ⊥
 Makes call before (None, y) after = ⊥
 
 -- calls in turn, each as the one before left the closure, make these items, each of the one at its place in the other list
-pub record RunsOver {F X Y : Type 0} (call : F → X → Y → F → Type 0) (f : F) (given : List (Option X)) (made : List (Option Y)) : Type 0 where
+pub record RunsOver {F X Y : Type 0} (call : F → X → Y → F → Type 0) (f : F) (given : List (Option X))
+    (made : List (Option Y)) : Type 0 where
   pub last : F
   pub calls : FoldsTo (Makes call) f (zip given made) last
 
@@ -42,7 +43,8 @@ abbrev pub TakesAtMut : {F T R : Type 0} → Mut F (MutBor T × Unit {0}) (R × 
 TakesAtMut {F} {T} g f x = (item : MutBor T) → item.now ≡ x → Takes g f (item, tt)
 
 -- f, which returns nothing, may be called at a `&mut` to each of these items in turn, as the calls before left it
-abbrev pub CallableOnEachMut : {F T : Type 0} → Mut F (MutBor T × Unit {0}) (Unit {0} × (MutBor T × Unit {0})) → List (Option T) → F → Type 0
+abbrev pub CallableOnEachMut : {F T : Type 0} → Mut F (MutBor T × Unit {0}) (Unit {0} × (MutBor T × Unit {0})) → List (Option T) → F
+    → Type 0
 CallableOnEachMut {T = T} g items f = CallableAtEachTurn gives (λ p x q. (y : T) × CalledAtMut g p x tt q y) (TakesAtMut g) items f
 
 -- the part of an array that a slice argument picks

@@ -37,7 +37,8 @@ IsSharingFault shape slices (Some kind) = (kind ≡ Unsupported) × SomeIntersec
 
 -- the error, or none, of a list of slices: that of the first one that doesn't fit the shape; then Unsupported where two share an index
 abbrev pub IsFaultOfSlices : List ℕ → List (List SliceInfoElem) → Option ErrorKind → Type 0
-IsFaultOfSlices shape slices fault = MatchOption (slices_fault Strict shape slices) (IsSharingFault shape slices fault) (λ kind. fault ≡ Some kind)
+IsFaultOfSlices shape slices fault = MatchOption (slices_fault Strict shape slices) (IsSharingFault shape slices fault)
+    (λ kind. fault ≡ Some kind)
 
 -- examples
 abbrev two_by_three : View
@@ -71,5 +72,9 @@ first_row = elem.Index (pos 0) ∷ all_of_axis ∷ []
 
 one_row_twice : IsFaultOfSlices (2 ∷ 3 ∷ []) (first_row ∷ first_row ∷ []) None → ⊥
 one_row_twice apart =
-    apart 0 1 [] (ltb-true 0 1 refl) (ltb-true 1 2 refl)
-    (0 ∷ 0 ∷ [], refl, ((0, ltb-true 0 1 refl, refl), ((0, ltb-true 0 3 refl, refl), tt)), ((0, ltb-true 0 1 refl, refl), ((0, ltb-true 0 3 refl, refl), tt)))
+    apart 0 1 [] (ltb-true 0 1 refl) (ltb-true 1 2 refl) (
+      0 ∷ 0 ∷ [],
+      refl,
+      ((0, ltb-true 0 1 refl, refl), ((0, ltb-true 0 3 refl, refl), tt)),
+      ((0, ltb-true 0 1 refl, refl), ((0, ltb-true 0 3 refl, refl), tt)),
+    )

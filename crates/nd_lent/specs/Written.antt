@@ -8,18 +8,19 @@ use Rattle.nd_lent.specs.Items.{item_at_place}
 use Rattle.nd_lent.specs.Mapped.{RunsOver}
 
 -- at every other place is the same item in both lists, and none is past the end of one alone
-abbrev pub KeepsOthers : {T : Type 0} → List ℤ → List T → List T → Type 0
-KeepsOthers places old new = (place : ℕ) → (Contains places (pos place) → ⊥) → slice_get new place ≡ slice_get old place
+abbrev pub KeepsAllBut : {T : Type 0} → List ℤ → List T → List T → Type 0
+KeepsAllBut places old new = (place : ℕ) → (Contains places (pos place) → ⊥) → slice_get new place ≡ slice_get old place
 
 -- the items are at the places, in their order
 pub record HasSet {T : Type 0} (places : List ℤ) (items : List (Option T)) (old new : List T) : Type 0 where
   pub written : map (item_at_place new) places ≡ items
-  pub others : KeepsOthers places old new
+  pub others : KeepsAllBut places old new
 
 -- calls in turn made the items at the places of the given ones
-pub record HasRun {F X Y : Type 0} (call : F → X → Y → F → Type 0) (f : F) (places : List ℤ) (given : List (Option X)) (old new : List Y) : Type 0 where
+pub record HasRun {F X Y : Type 0} (call : F → X → Y → F → Type 0) (f : F) (places : List ℤ) (given : List (Option X))
+    (old new : List Y) : Type 0 where
   pub ran : RunsOver call f given (map (item_at_place new) places)
-  pub others : KeepsOthers places old new
+  pub others : KeepsAllBut places old new
 
 -- examples
 other_item_set : HasSet {T = ℕ} (pos 0 ∷ []) (Some 8 ∷ []) (7 ∷ []) (7 ∷ []) → ⊥

@@ -30,6 +30,8 @@ use std::marker::Model;
 /// Items of any type that are kept elsewhere and lent, with a view that has a place among them for each index. Two indices
 /// may have one item, as after a broadcast. Items at no place of the view are spare ones, and no call shows them but
 /// `stored`. ndarray's `ArrayView`.
+///
+/// In the examples `a` is `[2]` with the stride `[-1]` over 7 8 9: (0) is 8, (1) is 7, and 9 is spare.
 #[derive(Drop)]
 pub struct ArrayView<'a, T, D: Lengths> {
     items: &'a [T],
@@ -51,7 +53,7 @@ impl<'a, T, D: Lengths> Model for ArrayView<'a, T, D> {
 impl<'a, T, D: Lengths> ArrayView<'a, T, D> {
     /// The array of a view over items. The caller ensures that each place of it has an item; `over` checks it.
     ///
-    /// `[2]`, `[-1]` from 1 over 7 8 9: (0) is 8, (1) is 7, and 9 is spare. The project's own.
+    /// `[2]`, `[-1]` from 1 over 7 8 9 is `a`. The project's own.
     pub fn new(view: Strided<D>, items: &'a [T]) -> Self
         requires { HasItems (length items.now) view }
         ensures items { result.items ≡ items.now }
@@ -68,7 +70,7 @@ impl<'a, T, D: Lengths> ArrayView<'a, T, D> {
     ///
     /// Those of `Strided::from_shape` in read-only mode, over as many elements of one byte as there are items.
     ///
-    /// `[2]` with the stride `[-1]` over 7 8 9: (0) is 8, (1) is 7, and 9 is spare. ndarray's `from_shape`.
+    /// `[2]` with the stride `[-1]` over 7 8 9 is `a`. ndarray's `from_shape`.
     pub fn from_shape(
         alloc: Global,
         shape: StrideShape<D>,
@@ -101,7 +103,7 @@ impl<'a, T, D: Lengths> ArrayView<'a, T, D> {
     ///
     /// Takes no memory, and time in proportion to the count of axes.
     ///
-    /// `[2]`, `[-1]` from 1 over 7 8 9: (0) is 8 and (1) is 7; over 7 alone `OutOfBounds`. The project's own.
+    /// `[2]`, `[-1]` from 1 over 7 8 9 is `a`; over 7 alone `OutOfBounds`. The project's own.
     pub fn over(view: Strided<D>, items: &'a [T]) -> Result<Self, ShapeError>
         ensures fault { result_err result ≡
             acceptance_from view.start 1 (length items.now) ReadOnly view.shape view.strides }
@@ -116,7 +118,7 @@ impl<'a, T, D: Lengths> ArrayView<'a, T, D> {
 
     /// The view: the shape, the strides and the place of the first index. Each place of it has an item.
     ///
-    /// `[2]` with the stride `[-1]` over 7 8 9: `[2]`, `[-1]` from 1. The project's own.
+    /// `a.view()` is `[2]`, `[-1]` from 1. The project's own.
     #[inline]
     pub fn view(&self) -> &Strided<D>
         ensures view { result.now ≡ self.now.view }
@@ -135,7 +137,7 @@ impl<'a, T, D: Lengths> ArrayView<'a, T, D> {
 
     /// How many indices the shape has; spare items don't count.
     ///
-    /// `[2]` with the stride `[-1]` over 7 8 9: 2. ndarray's `len`.
+    /// `a.len()` is 2. ndarray's `len`.
     pub fn len(&self) -> usize
         ensures { result ≡ size self.now.view.shape }
     {
@@ -151,7 +153,7 @@ impl<'a, T, D: Lengths> ArrayView<'a, T, D> {
 
     /// All items as they are stored, spare ones too.
     ///
-    /// `[2]` with the stride `[-1]` over 7 8 9: 7 8 9. ndarray's `as_slice_memory_order`, where no item is spare.
+    /// `a.stored()` is 7 8 9. ndarray's `as_slice_memory_order`, where no item is spare.
     #[inline]
     pub fn stored(&self) -> &'a [T]
         ensures items { result.now ≡ self.now.items }
@@ -162,7 +164,7 @@ impl<'a, T, D: Lengths> ArrayView<'a, T, D> {
 
     /// The item of an index; `None` where it is no index of the shape.
     ///
-    /// `[2]` with the stride `[-1]` over 7 8 9: (0) is 8, and (2) is `None`. ndarray's `get`.
+    /// `a.get(&0)` is 8, and `a.get(&2)` is `None`. ndarray's `get`.
     #[inline]
     pub fn get<I: NdIndex<D>>(&self, index: &I) -> Option<&'a T>
         ensures found { IsSome result ↔
@@ -174,7 +176,7 @@ impl<'a, T, D: Lengths> ArrayView<'a, T, D> {
         Some(&items[place])
     }
 
-    /// The same array, with a shape and strides of its own.
+    /// An array that lends the same items, with a shape and strides of its own.
     ///
     /// # Errors
     ///

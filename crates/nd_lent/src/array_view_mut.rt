@@ -28,6 +28,8 @@ use std::mem::replace;
 
 /// Items of any type that are kept elsewhere and lent to be written, with a view by which each index has one of them to
 /// itself. Items at no place of the view are spare ones, which no call writes. ndarray's `ArrayViewMut`.
+///
+/// In the examples `a` is `[2]` with the stride `[-1]` over 7 8 9: (0) is 8, (1) is 7, and 9 is spare.
 pub struct ArrayViewMut<'a, T, D: Lengths> {
     items: &'a mut [T],
     view: Strided<D>,
@@ -54,7 +56,7 @@ impl<'a, T: Drop, D: Lengths> ArrayViewMut<'a, T, D> {
     ///
     /// By this call a proof knows what the items are once the array is gone, as `fill` and the others left them.
     ///
-    /// `[2]`, `[-1]` from 1 over 7 8 9: (0) is 8, (1) is 7, and 9 is spare. The project's own.
+    /// `[2]`, `[-1]` from 1 over 7 8 9 is `a`. The project's own.
     pub fn new(view: Strided<D>, items: &'a mut [T]) -> Self
         requires { IsOwned (length items.old) view }
         ensures same_reference { result.items.ghost_name ≡ items.entry.ghost_name }
@@ -76,8 +78,8 @@ impl<'a, T: Drop, D: Lengths> ArrayViewMut<'a, T, D> {
     ///
     /// Takes no memory, and time by the square of the count of axes at most.
     ///
-    /// `[2]`, `[-1]` from 1 over 7 8 9: (0) is 8, (1) is 7, and 9 is spare; over 7 alone `OutOfBounds`. `[2,2]`, `[1,1]` from 0
-    /// over 7 8 9: `Unsupported`. The project's own.
+    /// `[2]`, `[-1]` from 1 over 7 8 9 is `a`; over 7 alone `OutOfBounds`. `[2,2]`, `[1,1]` from 0 over 7 8 9: `Unsupported`.
+    /// The project's own.
     pub fn over(view: Strided<D>, items: &'a mut [T]) -> Result<Self, ShapeError>
         ensures fault { result_err result ≡
             acceptance_from view.start 1 (length items.old) OwnedMutable view.shape view.strides }
@@ -100,7 +102,7 @@ impl<'a, T: Drop, D: Lengths> ArrayViewMut<'a, T, D> {
     /// Those of `Strided::from_shape` in owned mode, over as many elements of one byte as there are items. (A proof that
     /// needs to know what the items are in the end takes `new`.)
     ///
-    /// `[2]` with the stride `[-1]` over 7 8 9: (0) is 8, (1) is 7, and 9 is spare. ndarray's `from_shape`.
+    /// `[2]` with the stride `[-1]` over 7 8 9 is `a`. ndarray's `from_shape`.
     pub fn from_shape(
         alloc: Global,
         shape: StrideShape<D>,
@@ -128,7 +130,7 @@ impl<'a, T: Drop, D: Lengths> ArrayViewMut<'a, T, D> {
     /// The view: the shape, the strides and the place of the first index. Each place of it has an item, and no two indices
     /// alias.
     ///
-    /// `[2]` with the stride `[-1]` over 7 8 9: `[2]`, `[-1]` from 1. The project's own.
+    /// `a.view()` is `[2]`, `[-1]` from 1. The project's own.
     #[inline]
     pub fn view(&self) -> &Strided<D>
         ensures view { result.now ≡ (array_of self.now).view }
@@ -147,7 +149,7 @@ impl<'a, T: Drop, D: Lengths> ArrayViewMut<'a, T, D> {
 
     /// How many indices the shape has; spare items don't count.
     ///
-    /// `[2]` with the stride `[-1]` over 7 8 9: 2. ndarray's `len`.
+    /// `a.len()` is 2. ndarray's `len`.
     pub fn len(&self) -> usize
         ensures { result ≡ size (array_of self.now).view.shape }
     {
@@ -163,7 +165,7 @@ impl<'a, T: Drop, D: Lengths> ArrayViewMut<'a, T, D> {
 
     /// All items as they are stored, spare ones too.
     ///
-    /// `[2]` with the stride `[-1]` over 7 8 9: 7 8 9. ndarray's `as_slice_memory_order`, where no item is spare.
+    /// `a.stored()` is 7 8 9. ndarray's `as_slice_memory_order`, where no item is spare.
     #[inline]
     pub fn stored(&self) -> &[T]
         ensures items { result.now ≡ (array_of self.now).items }
@@ -174,7 +176,7 @@ impl<'a, T: Drop, D: Lengths> ArrayViewMut<'a, T, D> {
 
     /// The item of an index; `None` where it is no index of the shape.
     ///
-    /// `[2]` with the stride `[-1]` over 7 8 9: (0) is 8, and (2) is `None`. ndarray's `get`.
+    /// `a.get(&0)` is 8, and `a.get(&2)` is `None`. ndarray's `get`.
     #[inline]
     pub fn get<I: NdIndex<D>>(&self, index: &I) -> Option<&T>
         ensures found { IsSome result ↔
@@ -189,7 +191,7 @@ impl<'a, T: Drop, D: Lengths> ArrayViewMut<'a, T, D> {
 
     /// Replaces the item of an index, and returns whether it is an index of the shape; else the array is unchanged.
     ///
-    /// `[2]` with the stride `[-1]` over 7 8 9: 5 at (1) makes it 5 8 9. ndarray's `get_mut`, with the write.
+    /// `a.set(&1, 5)` makes it 5 8 9. ndarray's `get_mut`, with the write.
     #[inline]
     pub fn set<I: NdIndex<D>>(&mut self, index: &I, item: T) -> bool
         ensures is_index { result ≡
@@ -210,8 +212,8 @@ impl<'a, T: Drop, D: Lengths> ArrayViewMut<'a, T, D> {
     /// Replaces the item of an index by another one, and returns the one that was there; the given one comes back as the error
     /// where it is no index of the shape, and the array is unchanged. So no item is dropped.
     ///
-    /// `[2]` with the stride `[-1]` over 7 8 9: 5 at (1) returns 7 and makes it 5 8 9, and 5 at (2) returns `Err(5)`. ndarray's
-    /// `get_mut`, with `std::mem::replace`.
+    /// `a.replace(&1, 5)` returns 7 and makes it 5 8 9, and `a.replace(&2, 5)` returns `Err(5)`. ndarray's `get_mut`, with
+    /// `std::mem::replace`.
     #[inline]
     pub fn replace<I: NdIndex<D>>(&mut self, index: &I, item: T) -> Result<T, T>
         ensures found { IsOk result ↔
@@ -234,7 +236,7 @@ impl<'a, T: Drop, D: Lengths> ArrayViewMut<'a, T, D> {
 
     /// Swaps the items of two indices, and returns whether both are indices of the shape; else the array is unchanged.
     ///
-    /// `[2]` with the stride `[-1]` over 7 8 9: (0) and (1) make it 8 7 9. ndarray's `swap`, which panics where one is no index.
+    /// `a.swap(&0, &1)` makes it 8 7 9. ndarray's `swap`, which panics where one is no index.
     #[inline]
     pub fn swap<I: NdIndex<D>, J: NdIndex<D>>(&mut self, index: &I, other: &J) -> bool
         ensures are_indices { result ≡

@@ -11,7 +11,7 @@ use std::ops::Index;
 
 /// The item of an index, which the caller ensures to be one of the shape; `get` is for any other.
 ///
-/// `[2]` with the stride `[-1]` over 7 8 9: (0) is 8, and (1) is 7. ndarray's `index`, which panics past the shape.
+/// `a[0]` is 8, and `a[1]` is 7. ndarray's `index`, which panics past the shape.
 impl<T, D: Lengths, I: NdIndex<D> + Drop> Index<I> for ArrayView<'_, T, D> {
     type Output = T;
 
@@ -28,7 +28,7 @@ impl<T, D: Lengths, I: NdIndex<D> + Drop> Index<I> for ArrayView<'_, T, D> {
 
 /// The item of an index, which the caller ensures to be one of the shape; `get` is for any other.
 ///
-/// `[2]` with the stride `[-1]` over 7 8 9: (0) is 8, and (1) is 7. ndarray's `index`, which panics past the shape.
+/// `a[0]` is 8, and `a[1]` is 7. ndarray's `index`, which panics past the shape.
 impl<T: Drop, D: Lengths, I: NdIndex<D> + Drop> Index<I> for ArrayViewMut<'_, T, D> {
     type Output = T;
 

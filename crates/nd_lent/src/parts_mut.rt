@@ -38,9 +38,8 @@ impl<'a, T: Drop> PartMut<'a, T> {
         }
     }
 
-    /// The same, to be written. (A proof doesn't know what the row is after the write; `set` says it.)
-    ///
-    /// ndarray's `row_mut`.
+    /// The items of a row, to be written; `None` where there is no such row. (A proof doesn't know what the row is after the
+    /// write; `set` says it.) ndarray's `row_mut`.
     #[inline]
     pub fn row_mut(&mut self, index: usize) -> Option<&mut [T]>
         ensures found { IsSome result ↔ (index < length (rows_of self.old)) }

@@ -57,7 +57,8 @@ stays count (pos place) write in_bounds spared = write.others place spared
 stays count (negsuc n) write in_bounds spared = absurd in_bounds
 
 -- one write after another, at places of their own
-pub both_written : {X : Type 0} (count : ℕ) {first second : List ℤ} {given more : List (Option X)} {old mid new : List X} → All (IsInBounds count) first
+pub both_written : {X : Type 0} (count : ℕ) {first second : List ℤ} {given more : List (Option X)} {old mid new : List X}
+    → All (IsInBounds count) first
     → AllPairs (λ one other. one ≢ other) (first ++ second) → HasSet first given old mid → HasSet second more mid new
     → HasSet (first ++ second) (given ++ more) old new
 both_written count {first} {second} {given} {mid = mid} {new} in_bounds distinct one other =

@@ -76,7 +76,8 @@ write_more count {start} {stride} {coordinate} {place} {items} {old} {mid} {x} i
     let last = pos start +ℤ (pos coordinate *ℤ stride) in
     let others = drop (coordinate + 1) all in
     let cut : all ≡ (first ++ last ∷ []) ++ others =
-    sym (take-append-drop (coordinate + 1) all) ∙ ap (λ places. places ++ others) (take-row_places start stride (length items) (coordinate + 1)
+    sym (take-append-drop (coordinate + 1) all)
+    ∙ ap (λ places. places ++ others) (take-row_places start stride (length items) (coordinate + 1)
     (omega (arith, item.below)) ∙ row_more start stride coordinate) in
     let here : HasWritten (last ∷ []) (x ∷ []) mid (set mid place x) = subst (λ z. HasWritten (z ∷ []) (x ∷ []) mid (set mid place x)) at.is
     (one_written within) in
@@ -93,7 +94,8 @@ write_more count {start} {stride} {coordinate} {place} {items} {old} {mid} {x} i
     (subst (λ done. HasWritten (first ++ last ∷ []) done old (set mid place x)) (sym more) both)
 
 -- so is one along a stride of 1
-pub copied_within : (count start : ℕ) {stride : ℤ} (len : ℕ) → All (IsInBounds count) (row_places start stride len) → stride ≡ pos 1 → 0 < len
+pub copied_within : (count start : ℕ) {stride : ℤ} (len : ℕ) → All (IsInBounds count) (row_places start stride len) → stride ≡ pos 1
+    → 0 < len
     → start + len ≤ count
 copied_within count start len in_bounds one some =
     neighbours_within count start len some (subst (λ s. All (IsInBounds count) (row_places start s len)) one in_bounds)
@@ -135,7 +137,8 @@ put_in {old = old} items start within =
           (λ low high. spared (at_coordinate place low high));
     }
   where
-    at_coordinate : (place : ℕ) → start ≤ place → place < start + length items → Contains (row_places start (pos 1) (length items)) (pos place)
+    at_coordinate : (place : ℕ) → start ≤ place → place < start + length items
+        → Contains (row_places start (pos 1) (length items)) (pos place)
     at_coordinate place low high =
         let coordinate = place - start in
         let under : coordinate < length items = omega arith in

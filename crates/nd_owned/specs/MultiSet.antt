@@ -45,16 +45,19 @@ has_count shape write = length write.items == size (sliced_shape Strict write.sl
 
 -- the error of the first slice that doesn't fit, else that of a count of items that isn't its slice's
 abbrev pub counts_fault : {T : Type 0} → List ℕ → List (Write T) → Option ErrorKind
-counts_fault shape writes = option_or (slices_fault shape writes) (if list_all (has_count shape) writes then None else Some IncompatibleShape)
+counts_fault shape writes = option_or (slices_fault shape writes)
+    (if list_all (has_count shape) writes then None else Some IncompatibleShape)
 
 -- the error, or none, of writes whose slices fit: that of the slices
 abbrev pub IsIntersectionFault : {T : Type 0} → List ℕ → List (Write T) → Option ErrorKind → Type 0
 IsIntersectionFault shape writes fault = IsSharingFault shape (slices_of writes) fault
 
--- the error, or none, of a list of writes, in this order: that of the first slice that doesn't fit; IncompatibleShape for a count of items that isn't
+-- the error, or none, of a list of writes, in this order: that of the first slice that doesn't fit; IncompatibleShape for a count of items
+-- that isn't
 -- its slice's; Unsupported for two slices that share an index
 abbrev pub IsFaultOfWrites : {T : Type 0} → List ℕ → List (Write T) → Option ErrorKind → Type 0
-IsFaultOfWrites shape writes fault = MatchOption (counts_fault shape writes) (IsIntersectionFault shape writes fault) (λ kind. fault ≡ Some kind)
+IsFaultOfWrites shape writes fault = MatchOption (counts_fault shape writes) (IsIntersectionFault shape writes fault)
+    (λ kind. fault ≡ Some kind)
 
 -- no list has an item, as where each slice picks nothing
 abbrev pub HaveNoItems : {T : Type 0} → List (Write T) → Type 0
@@ -114,8 +117,12 @@ intersection_before_count : IsFaultOfWrites (2 ∷ 3 ∷ []) (first_row ∷ shor
 intersection_before_count fault = let same : Some Unsupported ≡ Some IncompatibleShape = fault in cc
 
 at_the_corner : Intersect Strict (2 ∷ 3 ∷ []) first_row.slice first_column.slice
-at_the_corner =
-    (0 ∷ 0 ∷ [], refl, ((0, ltb-true 0 1 refl, refl), ((0, ltb-true 0 3 refl, refl), tt)), ((0, ltb-true 0 2 refl, refl), ((0, ltb-true 0 1 refl, refl), tt)))
+at_the_corner = (
+  0 ∷ 0 ∷ [],
+  refl,
+  ((0, ltb-true 0 1 refl, refl), ((0, ltb-true 0 3 refl, refl), tt)),
+  ((0, ltb-true 0 2 refl, refl), ((0, ltb-true 0 1 refl, refl), tt)),
+)
 
 row_and_column : IsFaultOfWrites (2 ∷ 3 ∷ []) (first_row ∷ first_column ∷ []) (Some Unsupported)
 row_and_column = (refl, (0, 1, (ltb-true 0 1 refl, at_the_corner)))
@@ -136,4 +143,5 @@ place_of_the_row : Spares two_by_three 1 first_row → ⊥
 place_of_the_row spares = spares (1, ltb-true 1 3 refl, refl)
 
 another_item : KeepsOthers {T = ℕ} two_by_three [] (7 ∷ []) (8 ∷ []) → ⊥
-another_item kept = both_ways (nat_eq 8 7) refl (eq-eqb 8 7 (ap (λ item. unwrap_or item 0) (kept 0 (λ k d below. absurd (not-suc-le-zero below)))))
+another_item kept = both_ways (nat_eq 8 7) refl
+    (eq-eqb 8 7 (ap (λ item. unwrap_or item 0) (kept 0 (λ k d below. absurd (not-suc-le-zero below)))))

@@ -1,4 +1,5 @@
--- What an owned array has beside its items and its view: other items in place of its own, the error that hands a list back, and slices that pick nothing.
+-- What an owned array has beside its items and its view: other items in place of its own, the error that hands a list back, and slices that
+-- pick nothing.
 pub use Rattle.nd_lent.specs.Items.{ArrayValue, IsOwned, item_at, item_at_place, with_item}
 use Rattle.std.specs.Prelude.{◌≡◌, ℕ, pos, negsuc, Option, Some, None, Result, Ok, Err, List, [], ◌∷◌, length, nat_eq, refl}
 use Rattle.std.proofs.Common.{eq-eqb}

@@ -64,7 +64,7 @@ impl<T: Copy, D: Lengths> OwnedArray<T, D> {
     ///
     /// Takes no memory, and lists nothing. An item takes the time of its place (`Strided::iter_places`) and of a copy.
     ///
-    /// `[2]` with the stride `[-1]` over 7 8 9: 8 7. ndarray's `iter`, which lends each item.
+    /// `a.iter()` gives 8 7. ndarray's `iter`, which lends each item.
     pub fn iter(&self) -> Items<'_, T>
         ensures items { result ≡ map (item_at_place self.now.items)
             (view_places RowMajor self.now.view) }

@@ -35,6 +35,8 @@ use std::marker::Model;
 /// An array that owns its items. Each index of its shape has an item, at its place in the list of the items, and no two
 /// indices alias. Items at no place of the layout are spare ones, and no call shows them but `stored`, `stored_mut` and
 /// `into_stored`.
+///
+/// In the examples `a` is `[2]` with the stride `[-1]` over 7 8 9: (0) is 8, (1) is 7, and 9 is spare.
 #[derive(Drop)]
 pub struct OwnedArray<T, D: Lengths> {
     items: Vec<T>,
@@ -66,7 +68,7 @@ impl<T: Drop, D: Lengths> OwnedArray<T, D> {
     /// Those of `Strided::from_shape` in owned mode, over as many elements of one byte as the list has items. The list
     /// comes back with the error.
     ///
-    /// `[2]` with the stride `[-1]` over 7 8 9: (0) is 8, (1) is 7, and 9 is spare. ndarray's `from_shape_vec`.
+    /// `[2]` with the stride `[-1]` over 7 8 9 is `a`. ndarray's `from_shape_vec`.
     pub fn from_shape_vec(
         alloc: Global,
         shape: StrideShape<D>,
@@ -96,7 +98,7 @@ impl<T: Drop, D: Lengths> OwnedArray<T, D> {
     /// The view: the shape, the strides and the place of the first index. Each place of it has an item, and no two indices
     /// alias.
     ///
-    /// `[2]` with the stride `[-1]` over 7 8 9: `[2]`, `[-1]` from 1. ndarray's `view` lends the items as well.
+    /// `a.view()` is `[2]`, `[-1]` from 1. ndarray's `view` lends the items as well.
     #[inline]
     pub fn view(&self) -> &Strided<D>
         ensures view { result.now ≡ self.now.view }
@@ -115,7 +117,7 @@ impl<T: Drop, D: Lengths> OwnedArray<T, D> {
 
     /// How many indices the shape has; spare items don't count.
     ///
-    /// `[2]` with the stride `[-1]` over 7 8 9: 2. ndarray's `len`.
+    /// `a.len()` is 2. ndarray's `len`.
     pub fn len(&self) -> usize
         ensures { result ≡ size self.now.view.shape }
     {
@@ -131,7 +133,7 @@ impl<T: Drop, D: Lengths> OwnedArray<T, D> {
 
     /// All items as they are stored, spare ones too.
     ///
-    /// `[2]` with the stride `[-1]` over 7 8 9: 7 8 9. ndarray's `as_slice_memory_order`, where no item is spare.
+    /// `a.stored()` is 7 8 9. ndarray's `as_slice_memory_order`, where no item is spare.
     #[inline]
     pub fn stored(&self) -> &[T]
         ensures items { result.now ≡ self.now.items }
@@ -142,8 +144,8 @@ impl<T: Drop, D: Lengths> OwnedArray<T, D> {
 
     /// All items as they are stored, spare ones too, to be written. Their count and the view are unchanged.
     ///
-    /// `[2]` with the stride `[-1]` over 7 8 9: 5 at the end of the list makes it 7 8 5, and (0) is 8 still. ndarray's
-    /// `as_slice_memory_order_mut`, where no item is spare.
+    /// Of `a`, 5 at the end of the list makes it 7 8 5, and (0) is 8 still. ndarray's `as_slice_memory_order_mut`, where no item
+    /// is spare.
     #[inline]
     pub fn stored_mut(&mut self) -> &mut [T]
         ensures* writes_back { sem 𝓛 (Lends
@@ -159,8 +161,7 @@ impl<T: Drop, D: Lengths> OwnedArray<T, D> {
     ///
     /// No clause says what the array is once the items were written; `stored_mut` has one.
     ///
-    /// `[2]` with the stride `[-1]` over 7 8 9: the view starts at 1, and 5 at this place of the list makes it 7 5 9. The project's
-    /// own.
+    /// The view of `a` starts at 1, and 5 at this place of the list makes it 7 5 9. The project's own.
     #[inline]
     pub fn parts_mut(&mut self) -> (&Strided<D>, &mut [T])
         ensures view { result.0.now ≡ self.old.view }
@@ -173,7 +174,7 @@ impl<T: Drop, D: Lengths> OwnedArray<T, D> {
 
     /// The list of all items as they are stored, spare ones too, and no copy of it. It ends the array.
     ///
-    /// `[2]` with the stride `[-1]` over 7 8 9: 7 8 9. ndarray's `into_raw_vec_and_offset`, whose offset the view's start is.
+    /// Of `a`: 7 8 9. ndarray's `into_raw_vec_and_offset`, whose offset the view's start is.
     #[inline]
     pub fn into_stored(self) -> Vec<T>
         ensures { result.items ≡ self.items }
@@ -184,7 +185,7 @@ impl<T: Drop, D: Lengths> OwnedArray<T, D> {
 
     /// Replaces the item of an index, and returns whether it is an index of the shape; else the array is unchanged.
     ///
-    /// `[2]` with the stride `[-1]` over 7 8 9: 5 at (1) makes it 5 8 9. ndarray's `get_mut`, with the write.
+    /// `a.set(&1, 5)` makes it 5 8 9. ndarray's `get_mut`, with the write.
     pub fn set<I: NdIndex<D>>(&mut self, index: &I, item: T) -> bool
         ensures is_index { result ≡ is_index self.old.view.shape (I.index_list index.now) }
         ensures written { self.new ≡ with_item self.old (I.index_list index.now) item }
@@ -204,7 +205,7 @@ impl<T: Drop, D: Lengths> OwnedArray<T, D> {
     ///
     /// Out of memory; never where the type fixes the count of axes or there are at most 4.
     ///
-    /// `[2]` with the stride `[-1]` over 7 8 9: (0) is 8, (1) is 7, and 9 is spare. ndarray's `view`.
+    /// `(0)` of it is 8, as of `a`. ndarray's `view`.
     pub fn as_view(&self, alloc: Global) -> Result<ArrayView<'_, T, D>, AllocError>
         ensures array { IfOk result (λ a. a ≡ self.now) }
         ensures memory { NeedsNoMemory D.NDIM (length self.now.view.shape) → IsOk result }
@@ -222,7 +223,7 @@ impl<T: Drop, D: Lengths> OwnedArray<T, D> {
     /// No clause says what the array is once the result is gone. A proof that needs it duplicates `view` first, and passes the
     /// duplicate and `stored_mut` to a function that makes the lent array of the two, by `ArrayViewMut::new`.
     ///
-    /// `[2]` with the stride `[-1]` over 7 8 9: 5 at (1) of the result makes it 5 8 9. ndarray's `view_mut`.
+    /// 5 at (1) of that of `a` makes it 5 8 9. ndarray's `view_mut`.
     pub fn as_view_mut(&mut self, alloc: Global) -> Result<ArrayViewMut<'_, T, D>, AllocError>
         ensures array { IfOk result (λ a. array_of a ≡ self.old) }
         ensures memory { NeedsNoMemory D.NDIM (length self.old.view.shape) → IsOk result }
@@ -235,7 +236,7 @@ impl<T: Drop, D: Lengths> OwnedArray<T, D> {
 impl<T: Copy, D: Lengths> OwnedArray<T, D> {
     /// A copy of the item of an index; `None` where it is no index of the shape.
     ///
-    /// `[2]` with the stride `[-1]` over 7 8 9: (0) is 8, and (2) is `None`. ndarray's `get`.
+    /// `a.get(&0)` is 8, and `a.get(&2)` is `None`. ndarray's `get`.
     pub fn get<I: NdIndex<D>>(&self, index: &I) -> Option<T>
         ensures found { IsSome result ↔
             IsTrue (is_index self.now.view.shape (I.index_list index.now)) }

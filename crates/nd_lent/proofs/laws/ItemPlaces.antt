@@ -21,7 +21,8 @@ first_in_bounds {len} {place} {others = others} first in_bounds =
     record { first = All-head (IsInBounds len) (pos place) others all; left = All-tail (IsInBounds len) (pos place) others all }
 
 -- its item comes before theirs
-pub first_item : {T : Type 0} (stored : List T) (d : T) {place : ℕ} {left others : List ℤ} → left ≡ pos place ∷ others → place < length stored
+pub first_item : {T : Type 0} (stored : List T) (d : T) {place : ℕ} {left others : List ℤ} → left ≡ pos place ∷ others
+    → place < length stored
     → map (item_at_place stored) left ≡ Some (get_or stored place d) ∷ map (item_at_place stored) others
 first_item stored d {place} {others = others} first below =
     ap (map (item_at_place stored)) first
@@ -33,5 +34,6 @@ pub are_in_bounds : {len : ℕ} (view : View) {places : List ℤ} → LiesWithin
 are_in_bounds {len} view within are = subst (All (IsInBounds len)) (sym are) (places_lie_within len RowMajor view within)
 
 -- the places of a view are those of one that is equal
-pub all_places : {view other : View} {places : List ℤ} → places ≡ view_places RowMajor view → view ≡ other → places ≡ view_places RowMajor other
+pub all_places : {view other : View} {places : List ℤ} → places ≡ view_places RowMajor view → view ≡ other
+    → places ≡ view_places RowMajor other
 all_places are same = are ∙ ap (view_places RowMajor) same

@@ -49,7 +49,8 @@ parts_apart xs ys distinct = λ k d below here.
 -- ---- a list of lists
 
 -- what is in none of them is not in all of them together
-pub none_of_all : {A X : Type 0} (f : A → List X) (xs : List A) (x : X) → All (λ a. Contains (f a) x → ⊥) xs → Contains (flat_map f xs) x → ⊥
+pub none_of_all : {A X : Type 0} (f : A → List X) (xs : List A) (x : X) → All (λ a. Contains (f a) x → ⊥) xs → Contains (flat_map f xs) x
+    → ⊥
 none_of_all f [] x none here = absurd (omega (arith, here.1))
 none_of_all f (a ∷ xs) x none here =
     elim (Contains-append_cases (f a) (flat_map f xs) x here) [

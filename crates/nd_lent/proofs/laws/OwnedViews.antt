@@ -5,7 +5,8 @@ use Rattle.ndarray_layout.specs.Descends.{Descends}
 use Rattle.ndarray_layout.specs.View.{View}
 use Rattle.nd_lent.specs.Items.{IsOwned}
 
-pub owned_descendant : {source : List ℕ → List ℕ} {old new : View} (count : ℕ) → Descends source old new → IsOwned count old → IsOwned count new
+pub owned_descendant : {source : List ℕ → List ℕ} {old new : View} (count : ℕ) → Descends source old new → IsOwned count old
+    → IsOwned count new
 owned_descendant count kept owned = record {
   is_view = kept.is_view;
   within = kept.in_bounds count owned.within;

@@ -28,7 +28,8 @@ no_rows view none = by (nat_eq (size view.shape) 0) (eq-eqb (size view.shape) 0 
 -- ---- where the places of a row lie
 
 -- each place of a row that lies in bounds does
-pub coordinate_in_bounds : (count start : ℕ) (stride : ℤ) (len coordinate : ℕ) → All (IsInBounds count) (row_places start stride len) → coordinate < len
+pub coordinate_in_bounds : (count start : ℕ) (stride : ℤ) (len coordinate : ℕ) → All (IsInBounds count) (row_places start stride len)
+    → coordinate < len
     → IsInBounds count (pos start +ℤ (pos coordinate *ℤ stride))
 coordinate_in_bounds count start stride len coordinate in_bounds below =
     subst (IsInBounds count) (get_or-row_places start stride len coordinate (pos 0) below)
@@ -41,7 +42,8 @@ start_there (negsuc s) = omega (arith, ints)
 
 -- where it has one, it begins there
 pub begins : (count start : ℕ) (stride : ℤ) (len : ℕ) → All (IsInBounds count) (row_places start stride len) → 0 < len → start < count
-begins count start stride len in_bounds some = subst (IsInBounds count) (sym (start_there stride)) (coordinate_in_bounds count start stride len 0 in_bounds
+begins count start stride len in_bounds some = subst (IsInBounds count) (sym (start_there stride))
+    (coordinate_in_bounds count start stride len 0 in_bounds
     some)
 
 -- ---- a row of neighbours

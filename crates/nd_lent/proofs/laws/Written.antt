@@ -8,7 +8,8 @@ use Rattle.ndarray_layout.specs.View.{place_at}
 use Rattle.nd_lent.specs.Items.{ArrayValue, IsOwned, item_at, item_at_place, with_item}
 use Rattle.nd_lent.proofs.laws.Lists.{set_other, set_same}
 
-at_place : {T : Type 0} (items : List T) (z : ℤ) (x : T) → IsInBounds (length items) z → item_at_place (set items (magnitude z) x) z ≡ Some x
+at_place : {T : Type 0} (items : List T) (z : ℤ) (x : T) → IsInBounds (length items) z
+    → item_at_place (set items (magnitude z) x) z ≡ Some x
 at_place items (pos place) x in_bounds = set_same items place in_bounds
 at_place items (negsuc below) x in_bounds = absurd in_bounds
 
@@ -27,7 +28,11 @@ pub kept : {T : Type 0} (array : ArrayValue T) (index other : List ℕ) (x : T) 
 kept {T} array index other x owned apart = by (is_index array.view.shape index) (is_index array.view.shape other) refl refl
   where
     by : (here there : Bool) → is_index array.view.shape index ≡ here → is_index array.view.shape other ≡ there
-        → item_at (if here then record { items = set array.items (magnitude (place_at array.view index)) x; view = array.view } else array) other
+        → item_at (if here then record {
+          items = set array.items
+              (magnitude (place_at array.view index)) x;
+          view = array.view;
+        } else array) other
         ≡ item_at array other
     by false there h g = refl
     by true false h g = rw g refl

@@ -7,7 +7,8 @@ use Rattle.std.proofs.Common.{Bor, ap, eq-eqb}
 use Rattle.std.proofs.lemmas.Bool.{both_ways}
 
 -- the function was called at each item in turn, which took it and the total before to those after
-pub record HasFolded {F B T : Type 0} (g : Mut F (B × (Bor T × Unit {0})) B) (before : F × B) (items : List (Option T)) (after : F × B) : Type 0 where
+pub record HasFolded {F B T : Type 0} (g : Mut F (B × (Bor T × Unit {0})) B) (before : F × B) (items : List (Option T))
+    (after : F × B) : Type 0 where
   pub lent : List (Bor T)
   pub are : map (λ item. Some item.now) lent ≡ items
   pub calls : FoldsTo {P = F × B} (FoldTurn g) before lent after

@@ -56,7 +56,7 @@ impl<T, D: Lengths> ArrayView<'_, T, D> {
     ///
     /// It is what `iter().fold(init, f)` returns, and faster: a row whose items follow one another is a loop over a slice.
     ///
-    /// The sum of `[2]` with the stride `[-1]` over 7 8 9, by `fold(0, |sum, item| sum + item)`: 15. ndarray's `fold`.
+    /// `a.fold(0, |sum, item| sum + item)` is 15. ndarray's `fold`.
     pub fn fold<B, F: FnMut(B, &T) -> B>(&self, init: B, f: F) -> B
         requires callable { CallableInFold lends F.FnMut
             (map (item_at_place self.now.items) (view_places RowMajor self.now.view)) f init }
@@ -75,7 +75,7 @@ impl<T, D: Lengths> ArrayView<'_, T, D> {
     ///
     /// It is what `iter().for_each(f)` does, and faster, as `fold` is.
     ///
-    /// `[2]` with the stride `[-1]` over 7 8 9: at 8, then at 7. ndarray's `for_each`.
+    /// Of `a`: at 8, then at 7. ndarray's `for_each`.
     pub fn for_each<F: FnMut(&T)>(&self, mut f: F)
         requires callable { CallableInForEach lends F.FnMut
             (map (item_at_place self.now.items) (view_places RowMajor self.now.view)) f }

@@ -86,7 +86,7 @@ impl<'a, T, D: Lengths> ArrayView<'a, T, D> {
     ///
     /// Takes no memory, and lists nothing. An item takes the time of its place (`Strided::iter_places`).
     ///
-    /// `[2]` with the stride `[-1]` over 7 8 9: 8 7. ndarray's `iter`.
+    /// `a.iter()` gives 8 7. ndarray's `iter`.
     pub fn iter(&self) -> Iter<'_, T>
         ensures items { result ≡ map (item_at_place self.now.items)
             (view_places RowMajor self.now.view) }

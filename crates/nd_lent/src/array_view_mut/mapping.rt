@@ -58,7 +58,7 @@ impl<'a, T: Drop, D: Lengths> ArrayViewMut<'a, T, D> {
     ///
     /// Takes no memory, and for each index the time of its place (`Strided::iter_places`) and of the call.
     ///
-    /// `|item| *item = item.wrapping_mul(2)` at `[2]` with the stride `[-1]` over 7 8 9: 14 16 9. ndarray's `map_inplace`.
+    /// `|item| *item = item.wrapping_mul(2)` at `a`: 14 16 9. ndarray's `map_inplace`.
     pub fn map_in_place<F: FnMut(&mut T)>(&mut self, f: F)
         requires { CallableOnEachMut F.FnMut (row_major_items (array_of self.old)) f }
         ensures ran { RunsOver (λ p x y q. CalledAtMut F.FnMut p x tt q y) f

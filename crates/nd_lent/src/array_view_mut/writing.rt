@@ -16,7 +16,7 @@ impl<'a, T: Copy, D: Lengths> ArrayViewMut<'a, T, D> {
     ///
     /// Takes no memory, and for each index the time of its place (`Strided::iter_places`) and of a copy.
     ///
-    /// 5 to `[2]` with the stride `[-1]` over 7 8 9: 5 5 9. ndarray's `fill`.
+    /// 5 to `a`: 5 5 9. ndarray's `fill`.
     pub fn fill(&mut self, item: T)
         ensures filled { HasItemsOf (λ index. Some item) (array_of self.old) (array_of self.new) }
         ensures same_reference { self.new.items.ghost_name ≡ self.old.items.ghost_name }
@@ -40,7 +40,7 @@ impl<'a, T: Copy, D: Lengths> ArrayViewMut<'a, T, D> {
     /// `IncompatibleShape` where the shapes differ; the items are unchanged. (A shape that can be broadcast is an error
     /// too: `ArrayView::broadcast` comes first.)
     ///
-    /// 5 6 to `[2]` with the stride `[-1]` over 7 8 9: 6 5 9. ndarray's `assign`.
+    /// 5 6 to `a`: 6 5 9. ndarray's `assign`.
     pub fn assign(&mut self, other: &ArrayView<'_, T, D>) -> Result<(), ShapeError>
         ensures fits { IsOk result ↔ ((array_of self.old).view.shape ≡ other.now.view.shape) }
         ensures fault { OnErr result (result_err result ≡ Some IncompatibleShape) }

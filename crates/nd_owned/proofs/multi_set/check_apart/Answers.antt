@@ -15,7 +15,8 @@ first_elems_intersection-found-requires g c =
     record {
       lens_fit = subst (All (λ len. len < 2 ^ 63)) same (lens_fit c.dim.ensures.is_view);
       fit = subst (λ shape. slices_fault Strict shape (map (λ pair. pair.0.items) writes) ≡ None) same
-          (subst (λ slices. slices_fault Strict c.args.view.now.shape slices ≡ None) (map-map (λ write. write.slice) write_of writes) c.requires);
+          (subst (λ slices. slices_fault Strict c.args.view.now.shape slices ≡ None)
+          (map-map (λ write. write.slice) write_of writes) c.requires);
     }
 
 pub returns-in-Some : goal.returns-in-Some
@@ -26,7 +27,8 @@ returns-in-Some g c =
       (
         found.0,
         found.1,
-        subst (λ slices. IsIntersection Strict c.args.view.now.shape slices (Some found)) (sym (map-map (λ write. write.slice) write_of writes))
+        subst (λ slices. IsIntersection Strict c.args.view.now.shape slices (Some found))
+            (sym (map-map (λ write. write.slice) write_of writes))
             (subst (λ shape. IsIntersection Strict shape (map (λ pair. pair.0.items) writes) (Some found))
             (c.slice.ensures.list ∙ c.dim.ensures.list) c.in-Some.ensures),
       ),

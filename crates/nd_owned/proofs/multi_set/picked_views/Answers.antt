@@ -31,8 +31,10 @@ loop-slice-preserved-then-is_empty g c =
     c.loop-slice-test.true c.loop-slice-item.is
     (each_count view writes (have_counts view.shape writes c.requires).counts) in
     record {
-      places = parts_skipped (write_places view) (flat_map (λ one. picked_places one.view) c.loop-slice.parts.items) first (as_many ∙ none) c.loop-slice.invariant.places;
-      items = parts_skipped (λ write. write.items) (flat_map (λ one. one.items.now) c.loop-slice.parts.items) first none c.loop-slice.invariant.items;
+      places = parts_skipped (write_places view) (flat_map (λ one. picked_places one.view) c.loop-slice.parts.items) first
+          (as_many ∙ none) c.loop-slice.invariant.places;
+      items = parts_skipped (λ write. write.items)
+          (flat_map (λ one. one.items.now) c.loop-slice.parts.items) first none c.loop-slice.invariant.items;
       counts = c.loop-slice.invariant.counts;
       in_bounds = c.loop-slice.invariant.in_bounds;
     }
@@ -89,10 +91,12 @@ loop-slice-preserved g c =
 
 pub returns-clause-places : goal.returns-clause-places
 returns-clause-places g c =
-    parts_ended (write_places c.args.view.now) (flat_map (λ one. picked_places one.view) c.loop-slice.parts.items) (ended write_of c.args.writes.now c.loop-slice.slice-index c.loop-slice-test.false)
+    parts_ended (write_places c.args.view.now) (flat_map (λ one. picked_places one.view) c.loop-slice.parts.items)
+    (ended write_of c.args.writes.now c.loop-slice.slice-index c.loop-slice-test.false)
     c.loop-slice.invariant.places
 
 pub returns-clause-items : goal.returns-clause-items
 returns-clause-items g c =
-    parts_ended (λ write. write.items) (flat_map (λ one. one.items.now) c.loop-slice.parts.items) (ended write_of c.args.writes.now c.loop-slice.slice-index c.loop-slice-test.false)
+    parts_ended (λ write. write.items) (flat_map (λ one. one.items.now) c.loop-slice.parts.items)
+    (ended write_of c.args.writes.now c.loop-slice.slice-index c.loop-slice-test.false)
     c.loop-slice.invariant.items

@@ -34,7 +34,8 @@ loop-one-preserved g c =
           c.loop-one.invariant.written distinct new
           (parts_written cut count
           (places_lie_within count RowMajor (view_of_picked one.view)
-          (subst (λ one. LiesWithin count (view_of_picked one.view)) (sym c.one-item.is) (c.requires.in_bounds i one c.loop-one-test.true))) apart
+          (subst (λ one. LiesWithin count (view_of_picked one.view)) (sym c.one-item.is)
+          (c.requires.in_bounds i one c.loop-one-test.true))) apart
           (record { are = ap (flat_map (λ one. one.items.now)) first }) (c.write.ensures (first_distinct cut apart)) others);
     }
 

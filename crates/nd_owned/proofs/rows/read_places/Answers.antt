@@ -12,7 +12,8 @@ pub offset_bounds-stored-place : goal.offset_bounds-stored-place
 offset_bounds-stored-place g c =
     let count = length c.args.stored.now in
     let under : c.in-Some.place < count =
-    All-head (IsInBounds count) (pos c.in-Some.place) _ (subst (All (IsInBounds count)) c.in-Some.ensures.steps c.loop-place.invariant.in_bounds) in
+    All-head (IsInBounds count) (pos c.in-Some.place) _
+    (subst (All (IsInBounds count)) c.in-Some.ensures.steps c.loop-place.invariant.in_bounds) in
     omega arith
 
 pub loop-place-preserved : goal.loop-place-preserved
@@ -30,7 +31,8 @@ loop-place-preserved g c =
       items = ap (λ items. map Some items ++ map got others) c.push_reserved.ensures.items
           ∙ ap (λ items. items ++ map got others) (map-append Some old (item ∷ []))
           ∙ append_assoc (map Some old) (Some item ∷ []) (map got others)
-          ∙ ap (λ here. map Some old ++ here ∷ map got others) (ap Some c.index-stored-place.is ∙ sym (slice_get-get_or stored place item under))
+          ∙ ap (λ here. map Some old ++ here ∷ map got others)
+          (ap Some c.index-stored-place.is ∙ sym (slice_get-get_or stored place item under))
           ∙ ap (λ places. map Some old ++ map got places) (sym steps)
           ∙ c.loop-place.invariant.items;
       in_bounds = All-tail (IsInBounds (length stored)) (pos place) others in_bounds;

@@ -65,13 +65,16 @@ loop-coordinate-init g c =
 pub place_after-place-requires-clause-in_bounds : goal.place_after-place-requires-clause-in_bounds
 place_after-place-requires-clause-in_bounds g c =
     subst (IsInBounds (2 ^ 63)) (sym c.loop-coordinate.invariant.next)
-    (coordinate_in_bounds (2 ^ 63) c.args.row.start c.args.row.stride c.args.row.len c.loop-coordinate._coordinate c.requires.in_bounds.fit c.loop-coordinate-test.true)
+    (coordinate_in_bounds
+    (2 ^ 63) c.args.row.start c.args.row.stride c.args.row.len c.loop-coordinate._coordinate c.requires.in_bounds.fit
+    c.loop-coordinate-test.true)
 
 pub bounds-stored-place : goal.bounds-stored-place
 bounds-stored-place g c =
     let count = length c.args.stored.now in
     subst (IsInBounds count) (sym (c.place_after-place.ensures ∙ c.loop-coordinate.invariant.next))
-    (coordinate_in_bounds count c.args.row.start c.args.row.stride c.args.row.len c.loop-coordinate._coordinate c.requires.in_bounds.within c.loop-coordinate-test.true)
+    (coordinate_in_bounds count c.args.row.start c.args.row.stride c.args.row.len c.loop-coordinate._coordinate c.requires.in_bounds.within
+    c.loop-coordinate-test.true)
 
 pub offset_bounds-stored-place : goal.offset_bounds-stored-place
 offset_bounds-stored-place g c =
@@ -110,9 +113,11 @@ loop-coordinate-preserved g c =
 
 pub returns-clause-items : goal.returns-clause-items
 returns-clause-items g c =
-    let all : c.loop-coordinate._coordinate ≡ c.args.row.len = omega (arith, c.loop-coordinate-test.false, c.loop-coordinate.auto._coordinate-end) in
+    let all : c.loop-coordinate._coordinate ≡ c.args.row.len = omega
+    (arith, c.loop-coordinate-test.false, c.loop-coordinate.auto._coordinate-end) in
     c.loop-coordinate.invariant.items
     ∙ ap (λ n. map Some c.args.items.items ++ map (item_at_place c.args.stored.now) (row_places c.args.row.start c.args.row.stride n)) all
 
 pub returns-clause-len : goal.returns-clause-len
-returns-clause-len g c = omega (arith, c.loop-coordinate.invariant.len, c.loop-coordinate-test.false, c.loop-coordinate.auto._coordinate-end)
+returns-clause-len g c = omega
+    (arith, c.loop-coordinate.invariant.len, c.loop-coordinate-test.false, c.loop-coordinate.auto._coordinate-end)

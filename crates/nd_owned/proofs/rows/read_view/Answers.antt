@@ -91,7 +91,8 @@ loop-row-preserved g c =
     let first = c.in-Some-row.ensures.steps in
     let row = c.in-Some-row.row in
     record {
-      items = read_first first c.args.stored.now c.loop-row.items.items c.read_row-items.result.items c.read_row-items.ensures.items c.loop-row.invariant.items;
+      items = read_first first c.args.stored.now c.loop-row.items.items c.read_row-items.result.items c.read_row-items.ensures.items
+          c.loop-row.invariant.items;
       in_bounds = All-tail (λ row. AreInBounds (length c.args.stored.now) (places_of row)) _ _
           (subst (All (λ row. AreInBounds (length c.args.stored.now) (places_of row))) first c.loop-row.invariant.in_bounds);
       room = omega (arith, length_left first, c.loop-row.invariant.room, c.read_row-items.ensures.len, c.read_row-items.ensures.capacity);

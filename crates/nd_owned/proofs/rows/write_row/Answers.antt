@@ -87,7 +87,8 @@ place_after-place-requires-clause-in_bounds g c =
 pub bounds-stored-place : goal.bounds-stored-place
 bounds-stored-place g c =
     let count = length c.args.stored.now in
-    let under : c.place_after-place.result < count = subst (IsInBounds count) (sym (c.place_after-place.ensures ∙ c.loop-item.invariant.next))
+    let under : c.place_after-place.result < count = subst (IsInBounds count)
+    (sym (c.place_after-place.ensures ∙ c.loop-item.invariant.next))
     (coordinate_in_bounds count c.args.row.start c.args.row.stride (length c.args.items.now) (c.loop-item.item-index + 1) c.requires.within
     (omega (arith, c.in-Some.ensures.cases.1, c.loop-item-test.true))) in
     omega (arith, under, c.loop-item.auto.stored, length-set c.args.stored.now c.args.row.start c.in-Some.first.now)
@@ -110,7 +111,8 @@ loop-item-preserved g c =
     let here : pos place ≡ pos start +ℤ (pos (i + 1) *ℤ stride) = c.place_after-place.ensures ∙ c.loop-item.invariant.next in
     let within : place < length c.loop-item.stored = bounds-stored-place g c in
     record {
-      small = subst (IsInBounds (2 ^ 63)) (sym here) (coordinate_in_bounds (2 ^ 63) start stride (length items) (i + 1) c.requires.fit below);
+      small = subst (IsInBounds (2 ^ 63)) (sym here)
+          (coordinate_in_bounds (2 ^ 63) start stride (length items) (i + 1) c.requires.fit below);
       next = next_there start (i + 1) stride here;
       written = λ distinct. write_more (length stored) c.requires.within distinct
           (record { below = below; is = after_first i c.in-Some.ensures.cases.0 c.item-item.is }) within

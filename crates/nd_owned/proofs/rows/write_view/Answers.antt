@@ -38,7 +38,8 @@ loop-row-init g c =
     let all = c.into_iter-row-iterator.ensures.into_iter_gives ∙ c.rows-row-items.ensures.items in
     let places = ap rows_places all ∙ rows_places-view_rows RowMajor v in
     record {
-      in_bounds = subst (All (λ row. AreInBounds (length c.args.stored.now) (places_of row))) (sym all) (rows_in_bounds v c.requires.within);
+      in_bounds = subst (All (λ row. AreInBounds (length c.args.stored.now) (places_of row))) (sym all)
+          (rows_in_bounds v c.requires.within);
       count = ap length places ∙ length-view_places RowMajor view ∙ c.requires.count;
       distinct = subst (AllPairs (λ one other. one ≢ other)) (sym places);
       written = λ distinct new. subst (λ zs. HasWritten zs c.args.items.now c.args.stored.now new) places;
@@ -68,7 +69,8 @@ loop-row-preserved g c =
     let cut = first_and_others first in
     let in_bounds = subst (All (λ row. AreInBounds count (places_of row))) first c.loop-row.invariant.in_bounds in
     let here = subst (λ n. AllPairs (λ one other. one ≢ other) (row_places row.start row.stride n)
-    → HasWritten (row_places row.start row.stride n) these c.loop-row.stored c.write_row-in-loop-row.new.stored) c.split_at.ensures.front_len
+    → HasWritten (row_places row.start row.stride n) these c.loop-row.stored c.write_row-in-loop-row.new.stored)
+    c.split_at.ensures.front_len
     c.write_row-in-loop-row.ensures in
     record {
       in_bounds = All-tail (λ row. AreInBounds count (places_of row)) _ _ in_bounds;

@@ -19,7 +19,8 @@ loop-row-preserved g c =
     c.loop-row.invariant.callable in
     record {
       folded = λ h result others. c.loop-row.invariant.folded h result
-          (subst (λ items. HasFolded g.F.FnMut (c.loop-row.f, c.loop-row.total) items (h, result)) (sym (ap rows_items c.in-Some.ensures.steps))
+          (subst (λ items. HasFolded g.F.FnMut (c.loop-row.f, c.loop-row.total) items (h, result))
+          (sym (ap rows_items c.in-Some.ensures.steps))
           (both_folded c.fold_row.ensures others));
       callable = callable_after c.fold_row.ensures all;
     }

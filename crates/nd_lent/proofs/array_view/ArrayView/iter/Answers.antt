@@ -11,7 +11,8 @@ use Rattle.nd_lent.proofs.array_view.ArrayView.iter.Goals as goal
 
 pub new-requires : goal.new-requires
 new-requires g c =
-    rw c.stored.ensures.items (are_in_bounds _ c.stored.ensures.has_items.within (all_places c.iter_places.ensures.items c.view.ensures.view))
+    rw c.stored.ensures.items
+    (are_in_bounds _ c.stored.ensures.has_items.within (all_places c.iter_places.ensures.items c.view.ensures.view))
 
 pub returns-clause-count : goal.returns-clause-count
 returns-clause-count g c =

@@ -15,12 +15,14 @@ write_mapped-requires-clause-within g c =
 pub write_mapped-requires-clause-callable : goal.write_mapped-requires-clause-callable
 write_mapped-requires-clause-callable g c =
     let same : c.args.to.now.view.shape ≡ c.args.self.now.view.shape = search rules in
-    subst (λ items. CallableOnAllAt gives g.F.FnMut items c.args.f) (sym (c.iter.ensures.items ∙ items_in_order c.args.self.now)) (c.requires (sym same))
+    subst (λ items. CallableOnAllAt gives g.F.FnMut items c.args.f) (sym (c.iter.ensures.items ∙ items_in_order c.args.self.now))
+    (c.requires (sym same))
 
 pub returns-clause-ran : goal.returns-clause-ran
 returns-clause-ran g c =
     let all = all_of_owned _ c.args.to.now.owned c.iter_places-places.ensures.items in
-    ran_over (array_of c.args.to.now) c.write_mapped.new.stored all.are (λ p x y q. CalledAt g.F.FnMut p x y q) c.args.self.now c.iter.ensures.items
+    ran_over (array_of c.args.to.now) c.write_mapped.new.stored all.are
+    (λ p x y q. CalledAt g.F.FnMut p x y q) c.args.self.now c.iter.ensures.items
     (c.write_mapped.ensures all.distinct)
 
 pub returns-clause-mapped : goal.returns-clause-mapped
@@ -33,5 +35,6 @@ returns-clause-mapped g c =
 pub returns-clause-spare : goal.returns-clause-spare
 returns-clause-spare g c =
     let all = all_of_owned _ c.args.to.now.owned c.iter_places-places.ensures.items in
-    spare (array_of c.args.to.now) c.write_mapped.new.stored all.are (λ p x y q. CalledAt g.F.FnMut p x y q) c.args.self.now c.iter.ensures.items
+    spare (array_of c.args.to.now) c.write_mapped.new.stored all.are
+    (λ p x y q. CalledAt g.F.FnMut p x y q) c.args.self.now c.iter.ensures.items
     (c.write_mapped.ensures all.distinct)

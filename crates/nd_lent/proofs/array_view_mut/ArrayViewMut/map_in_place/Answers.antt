@@ -20,13 +20,15 @@ pub map_places-requires-clause-callable : goal.map_places-requires-clause-callab
 map_places-requires-clause-callable g c =
     let array = array_of c.args.self.now in
     let all = all_of_owned _ c.args.self.now.owned c.iter_places-places.ensures.items in
-    subst (λ items. CallableOnEachMut g.F.FnMut items c.args.f) (sym (ap (map (item_at_place array.items)) all.are ∙ items_in_order array)) c.requires
+    subst (λ items. CallableOnEachMut g.F.FnMut items c.args.f)
+    (sym (ap (map (item_at_place array.items)) all.are ∙ items_in_order array)) c.requires
 
 pub returns-clause-ran : goal.returns-clause-ran
 returns-clause-ran g c =
     let array = array_of c.args.self.now in
     let all = all_of_owned _ c.args.self.now.owned c.iter_places-places.ensures.items in
-    ran_over array c.map_places.new.stored all.are (λ p x y q. CalledAtMut g.F.FnMut p x tt q y) array (ap (map (item_at_place array.items)) all.are)
+    ran_over array c.map_places.new.stored all.are (λ p x y q. CalledAtMut g.F.FnMut p x tt q y) array
+    (ap (map (item_at_place array.items)) all.are)
     c.map_places.ensures
 
 pub returns-clause-mapped : goal.returns-clause-mapped
@@ -40,5 +42,6 @@ pub returns-clause-spare : goal.returns-clause-spare
 returns-clause-spare g c =
     let array = array_of c.args.self.now in
     let all = all_of_owned _ c.args.self.now.owned c.iter_places-places.ensures.items in
-    spare array c.map_places.new.stored all.are (λ p x y q. CalledAtMut g.F.FnMut p x tt q y) array (ap (map (item_at_place array.items)) all.are)
+    spare array c.map_places.new.stored all.are (λ p x y q. CalledAtMut g.F.FnMut p x tt q y) array
+    (ap (map (item_at_place array.items)) all.are)
     c.map_places.ensures

@@ -16,7 +16,8 @@ returns-then-first_is_lower-clause-first_items g c =
     let none = no_split_fault (split_fault view.shape c.args.axis.0 c.args.index) _ c.in_ok-parts.ensures.fault in
     lower_shown (record {
       kept = Descends-first_part_of c.args.axis.0 c.args.index view owned.is_view none;
-      moved = subst (λ lower. IsMoved (if lower then 0 else parts.cut) (first_part_of c.args.axis.0 c.args.index view) parts.first) c.if-first_is_lower.true
+      moved = subst (λ lower. IsMoved (if lower then 0 else parts.cut)
+          (first_part_of c.args.axis.0 c.args.index view) parts.first) c.if-first_is_lower.true
           c.in_ok-parts.ensures.first;
       owned = subst (λ lower. IsOwned (if lower then parts.cut else length c.args.self.items.now - parts.cut) parts.first)
           c.if-first_is_lower.true c.in_ok-parts.ensures.first_owned;
@@ -31,7 +32,8 @@ returns-then-first_is_lower-clause-second_items g c =
     let none = no_split_fault (split_fault view.shape c.args.axis.0 c.args.index) _ c.in_ok-parts.ensures.fault in
     upper_shown (record {
       kept = Descends-second_part_of c.args.axis.0 c.args.index view owned.is_view none;
-      moved = subst (λ lower. IsMoved (if lower then parts.cut else 0) (second_part_of c.args.axis.0 c.args.index view) parts.second) c.if-first_is_lower.true
+      moved = subst (λ lower. IsMoved (if lower then parts.cut else 0)
+          (second_part_of c.args.axis.0 c.args.index view) parts.second) c.if-first_is_lower.true
           c.in_ok-parts.ensures.second;
       owned = subst (λ lower. IsOwned (if lower then length c.args.self.items.now - parts.cut else parts.cut) parts.second)
           c.if-first_is_lower.true c.in_ok-parts.ensures.second_owned;
@@ -46,7 +48,8 @@ returns-clause-first_items g c =
     let none = no_split_fault (split_fault view.shape c.args.axis.0 c.args.index) _ c.in_ok-parts.ensures.fault in
     upper_shown (record {
       kept = Descends-first_part_of c.args.axis.0 c.args.index view owned.is_view none;
-      moved = subst (λ lower. IsMoved (if lower then 0 else parts.cut) (first_part_of c.args.axis.0 c.args.index view) parts.first) c.if-first_is_lower.false
+      moved = subst (λ lower. IsMoved (if lower then 0 else parts.cut)
+          (first_part_of c.args.axis.0 c.args.index view) parts.first) c.if-first_is_lower.false
           c.in_ok-parts.ensures.first;
       owned = subst (λ lower. IsOwned (if lower then parts.cut else length c.args.self.items.now - parts.cut) parts.first)
           c.if-first_is_lower.false c.in_ok-parts.ensures.first_owned;
@@ -61,7 +64,8 @@ returns-clause-second_items g c =
     let none = no_split_fault (split_fault view.shape c.args.axis.0 c.args.index) _ c.in_ok-parts.ensures.fault in
     lower_shown (record {
       kept = Descends-second_part_of c.args.axis.0 c.args.index view owned.is_view none;
-      moved = subst (λ lower. IsMoved (if lower then parts.cut else 0) (second_part_of c.args.axis.0 c.args.index view) parts.second) c.if-first_is_lower.false
+      moved = subst (λ lower. IsMoved (if lower then parts.cut else 0)
+          (second_part_of c.args.axis.0 c.args.index view) parts.second) c.if-first_is_lower.false
           c.in_ok-parts.ensures.second;
       owned = subst (λ lower. IsOwned (if lower then length c.args.self.items.now - parts.cut else parts.cut) parts.second)
           c.if-first_is_lower.false c.in_ok-parts.ensures.second_owned;

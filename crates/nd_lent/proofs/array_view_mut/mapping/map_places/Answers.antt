@@ -20,7 +20,8 @@ loop-place-init g c =
       in_bounds = subst (All (IsInBounds (length stored))) (sym same) c.requires.in_bounds;
       distinct = subst Distinct (sym same) c.requires.distinct;
       run = λ new run.
-          subst (λ places. HasRun (λ p x y q. CalledAtMut g.F.FnMut p x tt q y) c.args.f places (map (item_at_place stored) places) stored new) same run;
+          subst (λ places. HasRun (λ p x y q. CalledAtMut g.F.FnMut p x tt q y) c.args.f places
+          (map (item_at_place stored) places) stored new) same run;
     }
 
 pub offset_bounds-stored-place : goal.offset_bounds-stored-place
@@ -67,7 +68,8 @@ loop-place-preserved g c =
           let rest = subst (λ items. HasRun (λ p x y q. CalledAtMut g.F.FnMut p x tt q y) c.f.new.self c.next.new.self items
           (set stored c.in-Some.place left) new) others more in
           c.loop-place.invariant.run new
-          (subst (λ items. HasRun (λ p x y q. CalledAtMut g.F.FnMut p x tt q y) c.loop-place.f c.loop-place.place-iterator items stored new) (sym given)
+          (subst (λ items. HasRun (λ p x y q. CalledAtMut g.F.FnMut p x tt q y) c.loop-place.f c.loop-place.place-iterator items stored new)
+          (sym given)
           (first_run steps item.result left called under apart rest));
     }
 
@@ -75,5 +77,6 @@ pub returns : goal.returns
 returns g c =
     let stored = c.loop-place.stored in
     c.loop-place.invariant.run stored
-    (subst (λ places. HasRun (λ p x y q. CalledAtMut g.F.FnMut p x tt q y) c.loop-place.f places (map (item_at_place stored) places) stored stored)
+    (subst (λ places. HasRun (λ p x y q. CalledAtMut g.F.FnMut p x tt q y) c.loop-place.f places
+    (map (item_at_place stored) places) stored stored)
     (sym c.in-None.ensures.steps.0) none_run)

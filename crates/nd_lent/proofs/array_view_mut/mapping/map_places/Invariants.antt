@@ -15,6 +15,8 @@ invariant-loop-place g l = record {
   in_bounds : All (IsInBounds (length l.fn.stored)) l.place-iterator;
   distinct : Distinct l.place-iterator;
   run : (new : List g.row.T.Denot)
-      → HasRun (λ p x y q. CalledAtMut g.F.FnMut p x tt q y) l.f l.place-iterator (map (item_at_place l.stored) l.place-iterator) l.stored new
-      → HasRun (λ p x y q. CalledAtMut g.F.FnMut p x tt q y) l.fn.f l.fn.places (map (item_at_place l.fn.stored) l.fn.places) l.fn.stored new;
+      → HasRun (λ p x y q. CalledAtMut g.F.FnMut p x tt q y) l.f l.place-iterator
+      (map (item_at_place l.stored) l.place-iterator) l.stored new
+      → HasRun (λ p x y q. CalledAtMut g.F.FnMut p x tt q y) l.fn.f l.fn.places
+      (map (item_at_place l.fn.stored) l.fn.places) l.fn.stored new;
 }

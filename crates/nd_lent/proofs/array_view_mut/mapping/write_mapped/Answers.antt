@@ -55,7 +55,8 @@ loop-place-preserved-in-Some-next g c =
       count = omega (arith, ap length steps, ap length given, c.loop-place.invariant.count);
       distinct = λ distinct. others_distinct steps (c.loop-place.invariant.distinct distinct);
       run = λ distinct new more. c.loop-place.invariant.run distinct new
-          (subst (λ items. HasRun (λ p x y q. CalledAt g.F.FnMut p x y q) c.loop-place.f c.loop-place.place-iterator items stored new) (sym given)
+          (subst (λ items. HasRun (λ p x y q. CalledAt g.F.FnMut p x y q) c.loop-place.f c.loop-place.place-iterator items stored new)
+          (sym given)
           (first_run steps item.now c.f.result called under (c.loop-place.invariant.distinct distinct) more));
     }
 

@@ -10,7 +10,8 @@ returns-clause-none g c =
     let view = c.args.view in
     let place : c.start.result ≡ view.start = c.start.ensures.place in
     let low : c.args.by + low_span view.shape view.strides ≤ view.start = c.requires.low in
-    let accepted = accepted_moved c.args.by c.args.len {start = c.start.result - c.args.by} c.start.ensures.is_view c.requires.some c.requires.within
+    let accepted = accepted_moved c.args.by c.args.len {start = c.start.result - c.args.by} c.start.ensures.is_view c.requires.some
+    c.requires.within
     (omega (arith, place, low)) (omega (arith, place, low)) in
     let none : result_err c.moved_to.result ≡ None = c.moved_to.ensures.fault ∙ accepted in
     search (rules, none)

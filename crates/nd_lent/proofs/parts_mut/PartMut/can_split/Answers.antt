@@ -16,4 +16,5 @@ returns-then-index-eq1 g c =
     (c.have_columns.ensures
     ∙ ap (λ rows. list_all (λ row. nat_le index (length row.now)) rows && some (length rows)) c.deref.ensures.value
     ∙ ap (λ all. all && some (length rows)) (sym (list_all-map (λ row. nat_le index (length row)) (λ row. row.now) rows))
-    ∙ ap (λ count. list_all (λ row. nat_le index (length row)) (map (λ row. row.now) rows) && some count) (sym (length-map rows (λ row. row.now))))
+    ∙ ap (λ count. list_all (λ row. nat_le index (length row)) (map (λ row. row.now) rows) && some count)
+    (sym (length-map rows (λ row. row.now))))

@@ -13,8 +13,10 @@ loop-row-init g c =
     let all = c.into_iter-row-iterator.ensures.into_iter_gives.0 in
     record {
       long = subst (All (λ row. at ≤ length row.now)) (sym all) c.requires;
-      first = rows_begin (λ row. row.now) (λ row. take at row.now) c.in_ok-first.ensures.items all ∙ sym (map-map (take at) (λ row. row.now) rows);
-      second = rows_begin (λ row. row.now) (λ row. drop at row.now) c.in_ok-second.ensures.items all ∙ sym (map-map (drop at) (λ row. row.now) rows);
+      first = rows_begin (λ row. row.now) (λ row. take at row.now) c.in_ok-first.ensures.items all
+          ∙ sym (map-map (take at) (λ row. row.now) rows);
+      second = rows_begin (λ row. row.now) (λ row. drop at row.now) c.in_ok-second.ensures.items all
+          ∙ sym (map-map (drop at) (λ row. row.now) rows);
     }
 
 pub loop-row-preserved : goal.loop-row-preserved

@@ -42,7 +42,15 @@ split_at_mut-these-requires g c =
     let has = All-head (HasRow (length items)) _ _ (subst (All (HasRow (length items))) first c.loop-row.invariant.have_items) in
     let facts = first_ascends c.loop-row.end first c.loop-row.invariant.ascend in
     let within : row.start + row.len ≤ length items = end_within row has.within has.some facts.contiguous in
-    omega (arith, within, facts.above, c.split_at_mut-spare.ensures.back_len, ap length c.loop-row.invariant.left, length-drop c.loop-row.end items)
+    omega (
+      arith,
+      within,
+      facts.above,
+      c.split_at_mut-spare.ensures.back_len,
+      ap length c.loop-row.invariant.left,
+      length-drop
+          c.loop-row.end items,
+    )
 
 pub loop-row-preserved : goal.loop-row-preserved
 loop-row-preserved g c =

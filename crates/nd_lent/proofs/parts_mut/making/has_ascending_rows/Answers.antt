@@ -19,12 +19,14 @@ loop-row-init g c =
 
 pub returns-then-not-is_contiguous_from : goal.returns-then-not-is_contiguous_from
 returns-then-not-is_contiguous_from g c =
-    sym (meets_row c.loop-row.end c.in-Some.ensures.steps (sym c.is_contiguous_from.ensures ∙ c.if-not-is_contiguous_from.true)) ∙ c.loop-row.invariant.same
+    sym (meets_row c.loop-row.end c.in-Some.ensures.steps (sym c.is_contiguous_from.ensures ∙ c.if-not-is_contiguous_from.true))
+    ∙ c.loop-row.invariant.same
 
 pub overflow_add-end : goal.overflow_add-end
 overflow_add-end g c =
     let row = c.in-Some.row in
-    let has = All-head (HasRow c.args.count) _ _ (subst (All (HasRow c.args.count)) c.in-Some.ensures.steps c.loop-row.invariant.have_items) in
+    let has = All-head (HasRow c.args.count) _ _
+    (subst (All (HasRow c.args.count)) c.in-Some.ensures.steps c.loop-row.invariant.have_items) in
     let within : row.start + row.len ≤ c.args.count =
     end_within row has.within has.some (and_parts _ _ (sym c.is_contiguous_from.ensures ∙ c.if-not-is_contiguous_from.false)).1 in
     let fits = c.ranges.count.fits in
@@ -35,7 +37,8 @@ loop-row-preserved g c =
     let first = c.in-Some.ensures.steps in
     record {
       have_items = All-tail (HasRow c.args.count) _ _ (subst (All (HasRow c.args.count)) first c.loop-row.invariant.have_items);
-      same = sym (after_row c.loop-row.end first (sym c.is_contiguous_from.ensures ∙ c.if-not-is_contiguous_from.false)) ∙ c.loop-row.invariant.same;
+      same = sym (after_row c.loop-row.end first (sym c.is_contiguous_from.ensures ∙ c.if-not-is_contiguous_from.false))
+          ∙ c.loop-row.invariant.same;
     }
 
 pub returns : goal.returns

@@ -11,5 +11,6 @@ loop-place-preserved g c =
 
 pub returns : goal.returns
 returns g c =
-    sym (append-nil c.loop-place.rows.items) ∙ ap (λ places. c.loop-place.rows.items ++ map one_place places) (sym c.in-None.ensures.steps.0)
+    sym (append-nil c.loop-place.rows.items)
+    ∙ ap (λ places. c.loop-place.rows.items ++ map one_place places) (sym c.in-None.ensures.steps.0)
     ∙ c.loop-place.invariant

@@ -9,4 +9,5 @@ loop-row-preserved g c = one_pushed c.loop-row.rows.items c.in_ok-push.ensures.i
 
 pub returns : goal.returns
 returns g c =
-    sym (append-nil c.loop-row.rows.items) ∙ ap (λ rows. c.loop-row.rows.items ++ rows) (sym c.in-None.ensures.steps.0) ∙ c.loop-row.invariant
+    sym (append-nil c.loop-row.rows.items) ∙ ap (λ rows. c.loop-row.rows.items ++ rows) (sym c.in-None.ensures.steps.0)
+    ∙ c.loop-row.invariant

@@ -23,6 +23,7 @@ pub loop-slice-preserved : goal.loop-slice-preserved
 loop-slice-preserved g c =
     let view = c.args.view.now in
     let slices = c.args.slices.now in
-    row_pushed (λ rows. rows.items) (λ slice. contiguous_rows (slice_of Strict slice view)) c.loop-slice.parts.items c.in_ok-push.ensures.items
+    row_pushed (λ rows. rows.items)
+    (λ slice. contiguous_rows (slice_of Strict slice view)) c.loop-slice.parts.items c.in_ok-push.ensures.items
     (next g.S.SliceElems.list slices c.loop-slice.slice-index c.loop-slice-test.true c.slice-item.is)
     (c.in_ok-contiguous_rows.ensures ∙ ap contiguous_rows c.in_ok-part.ensures.sliced) c.loop-slice.invariant

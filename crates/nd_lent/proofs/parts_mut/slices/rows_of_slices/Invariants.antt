@@ -7,5 +7,6 @@ use Rattle.nd_lent.proofs.parts_mut.slices.rows_of_slices.Given as goal
 
 abbrev pub invariant-loop-slice : goal.invariant-loop-slice
 invariant-loop-slice g l =
-    map (λ rows. rows.items) l.parts.items ++ map (λ slice. contiguous_rows (slice_of Strict slice l.view)) (drop l.slice-index (map g.S.SliceElems.list l.slices))
+    map (λ rows. rows.items) l.parts.items ++ map (λ slice. contiguous_rows (slice_of Strict slice l.view))
+    (drop l.slice-index (map g.S.SliceElems.list l.slices))
     ≡ map (λ slice. contiguous_rows (slice_of Strict slice l.view)) (map g.S.SliceElems.list l.slices)

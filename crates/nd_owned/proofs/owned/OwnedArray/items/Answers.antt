@@ -11,7 +11,8 @@ use Rattle.nd_owned.specs.private.PickedView.{view_of_picked}
 use Rattle.nd_owned.proofs.owned.OwnedArray.items.Goals as goal
 
 pub read-requires : goal.read-requires
-read-requires g c = rw (c.as_slice.ensures.value) (c.in_ok-part.ensures.in_bounds (length c.self.inside.items.items) c.self.invariant.within)
+read-requires g c = rw (c.as_slice.ensures.value)
+    (c.in_ok-part.ensures.in_bounds (length c.self.inside.items.items) c.self.invariant.within)
 
 pub returns-clause-items : goal.returns-clause-items
 returns-clause-items g c =

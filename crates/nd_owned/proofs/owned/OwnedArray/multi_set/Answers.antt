@@ -24,7 +24,8 @@ use Rattle.nd_owned.proofs.owned.OwnedArray.multi_set.Goals.{After-set_one}
 pub returns-in_err-parts-clause-fault : goal.returns-in_err-parts-clause-fault
 returns-in_err-parts-clause-fault g c =
     let writes = map write_of c.args.writes.now in
-    let none = handed_on (List PickedView) c.from_residual-in_err-parts.result c.in_err-parts.field-0.0 c.from_residual-in_err-parts.ensures.1
+    let none = handed_on (List PickedView) c.from_residual-in_err-parts.result c.in_err-parts.field-0.0
+    c.from_residual-in_err-parts.ensures.1
     c.in_err-parts.ensures.fault in
     subst (IsFaultOfWrites c.args.self.now.view.shape writes) (sym none)
     (subst (λ array. IsFaultOfWrites array.view.shape writes None) c.self.view_is
@@ -75,7 +76,8 @@ pub returns-2-clause-others : goal.returns-2-clause-others
 returns-2-clause-others g c =
     let stored = c.write_all.new.stored in
     subst (λ those. KeepsOthers c.args.self.now.view (writes g c) c.args.self.now.items those) (sym (now g c))
-    (subst (λ array. KeepsOthers array.view (writes g c) array.items stored) c.self.view_is (others_kept (view g c) (writes g c) (left g c)))
+    (subst (λ array. KeepsOthers array.view (writes g c) array.items stored) c.self.view_is
+    (others_kept (view g c) (writes g c) (left g c)))
 
 -- ---- one write alone
 alone : (g : Over) (c : After-set_one g) → c.args.writes.now ≡ c.write-item.result ∷ []

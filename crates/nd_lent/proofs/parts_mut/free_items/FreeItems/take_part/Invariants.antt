@@ -10,7 +10,8 @@ abbrev pub invariant-loop-row : goal.invariant-loop-row
 invariant-loop-row g l = record {
   room : All (HasRoom l.self.pieces.items) (drop l.row-index l.rows);
   apart : AllPairs AreRowsApart (drop l.row-index l.rows);
-  others : (other : Row) → All (λ row. AreRowsApart row other) l.rows → HasRoom l.fn.self.pieces.items other → HasRoom l.self.pieces.items other;
+  others : (other : Row) → All (λ row. AreRowsApart row other) l.rows → HasRoom l.fn.self.pieces.items other
+      → HasRoom l.self.pieces.items other;
   pieces : (whole : List _) → ArePieces whole l.fn.self.pieces.items → ArePieces whole l.self.pieces.items;
   rows : (whole : List _) → ArePieces whole l.fn.self.pieces.items
       → map (λ row. row.now) l.taken.items ++ map (items_of_row whole) (drop l.row-index l.rows) ≡ map (items_of_row whole) l.rows;
