@@ -53,8 +53,8 @@ impl<'a, T> Left<'a, T> {
 /// The view of an array, and its items.
 #[inline]
 pub(crate) fn into_parts<'a, T, D: Lengths>(array: ArrayViewMut<'a, T, D>) -> (Strided<D>, &'a mut [T]) {
-    let ArrayViewMut { items, fitted } = array;
-    (fitted.into_parts().0, items)
+    let ArrayViewMut { items, view } = array;
+    (view, items)
 }
 
 /// How many items are from the lowest place of a run to its highest one.

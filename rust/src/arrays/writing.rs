@@ -331,7 +331,7 @@ impl<'a, T, D: Lengths> ArrayViewMut<'a, T, D> {
     #[inline]
     #[must_use]
     pub fn parts_mut(&mut self) -> (&Strided<D>, &mut [T]) {
-        (self.fitted.view(), self.items)
+        (&self.view, self.items)
     }
 
     /// The items in row-major order, to be written for as long as they are lent, where they lie one after another so; else
