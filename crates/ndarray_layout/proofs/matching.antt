@@ -7,9 +7,10 @@ pub mod Forced
 pub mod HasIndex
 pub mod Joined
 pub mod Matched
+pub mod Merged
 pub mod OnesRead
-pub mod Steps
 pub mod StridesAt
 pub mod Turned
+pub mod Turns
 pub mod Views
 pub mod WholeSteps

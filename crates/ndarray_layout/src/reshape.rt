@@ -1,132 +1,141 @@
 //! Reshapes of layouts that leave the data where it lies. One pass over the axes of both shapes, in the order of reading, finds the
 //! strides.
+ghost use Rattle.std.specs.List.{All};
 ghost use Rattle.std.specs.Int.{w64};
 ghost use Rattle.std.specs.Int.RustNames.{FitsSigned};
-ghost use Rattle.std.specs.Prelude.{◌≡◌, ◌≢◌, ◌+◌, ◌-◌, ◌*◌, ◌<◌, ◌≤◌, ◌↔◌, ℕ, ℤ, List, Some, None, false, pos, ◌*ℤ◌, IsTrue, IfOk, IfErr, OnOk, length, take, drop, map, slice_index};
-ghost use Rattle.nd_base.specs.Indices.{below};
+ghost use Rattle.std.specs.Prelude.{◌≡◌, ◌+◌, ◌-◌, ◌<◌, ◌≤◌, ◌↔◌, ◌∷◌, false, ℤ, List, [], Some, None, IfOk, IfErr, OnOk, drop, length};
+ghost use Rattle.nd_base.specs.AsRead.{as_read};
 ghost use Rattle.nd_base.specs.Memory.{NeedsNoMemory};
 ghost use Rattle.nd_base.specs.Signed.{signed as signed_reading, all_signed};
-ghost use Rattle.nd_base.specs.Size.{size, nonzero_size, is_empty, limit};
+ghost use Rattle.nd_base.specs.Size.{nonzero_size, is_empty, limit};
 ghost use Rattle.nd_base.specs.ValidLayout.{IsValidLayout};
-ghost use Rattle.ndarray_layout.specs.private.ReshapeProgress.{CanMatch, GoesOn, IsBlock, IsMatched, layouts, left, fault_of, segment};
-ghost use Rattle.ndarray_layout.specs.reshape.ForcedStrides.{forced_strides, stride_at};
+ghost use Rattle.ndarray_layout.specs.private.ReshapeProgress.{AreHeads, CanMatch, GoesOn, IsBlock, IsTurn, Writes, WritesBlock, block_strides, fault_of, forced, left_at, left_in, segment};
+ghost use Rattle.ndarray_layout.specs.reshape.ForcedStrides.{forced_strides};
 ghost use Rattle.ndarray_layout.specs.reshape.ReshapeFault.{reshape_fault, IsErrorFor, IsOfShape};
 ghost use Rattle.ndarray_layout.specs.reshape.SamePlaces.{Keeps, AgreeOnLonger};
 
-use nd_base::{
-    ErrorKind, LayoutError, Lengths, Order, ShapeError, from_kind, is_multiple, signed, unsigned,
-};
-use nd_dim::{Forward, Reverse, Sequence, SequenceMut, item};
+use nd_base::{ErrorKind, LayoutError, Lengths, Order, ShapeError, from_kind, is_multiple};
 use std::alloc::Global;
 
-/// How far two shapes are read: so many axes of each, which have as many indices.
+/// A layout, the shape that takes its places, and the order in which the axes of both are read.
+#[derive(Clone, Copy)]
+struct Shapes<'a> {
+    order: Order,
+    from: &'a [usize],
+    strides: &'a [usize],
+    to: &'a [usize],
+}
+
+/// How far two shapes are read: so many axes of each.
 #[derive(Clone, Copy)]
 struct Reached {
     from_axes: usize,
     to_axes: usize,
 }
 
-/// Axes of both shapes that are read next, up to where they have as many indices. Those of the
-/// old one step as one axis, by this step.
+/// Axes of both shapes, up to an end, that have as many indices. Those of the layout are one axis of this stride.
 #[derive(Clone, Copy)]
 struct Block {
     end: Reached,
-    step: usize,
+    stride: usize,
 }
 
-/// Reads axes of both shapes until they have as many indices again.
+/// The number of an axis, which is read after so many others.
+#[inline(always)]
+fn item(order: Order, items: &[usize], axis: usize) -> usize
+    requires { axis < length items.now }
+    ensures { drop axis (as_read order items.now)
+        ≡ result ∷ drop (axis + 1) (as_read order items.now) }
+{
+    match order {
+        Order::RowMajor => items[axis],
+        Order::ColumnMajor => items[items.len() - 1 - axis],
+    }
+}
+
+/// Writes the stride of an axis, which is read after so many others.
+#[inline(always)]
+fn write(order: Order, out: &mut [usize], axis: usize, stride: usize)
+    requires { axis < length out.old }
+    ensures written { Writes (length out.old - (axis + 1)) (stride ∷ [])
+        (as_read order out.old) (as_read order out.new) }
+    ensures room { length out.new ≡ length out.old }
+{
+    match order {
+        Order::RowMajor => out[axis] = stride,
+        Order::ColumnMajor => {
+            let last = out.len() - 1;
+            out[last - axis] = stride;
+        }
+    }
+}
+
+/// Reads axes of both shapes until they have as many indices.
 ///
 /// Errors: `IncompatibleLayout` or `IncompatibleShape`, that of the whole reshape.
 #[inline(always)]
-fn next_block<S: Sequence, T: Sequence>(
-    from: &S,
-    strides: &S,
-    to: &T,
-    start: Reached,
-) -> Result<Block, ShapeError>
-    requires goes_on { GoesOn (layouts (S.items from.now) (S.items strides.now) (T.items to.now))
-        start.to_axes (left (layouts (S.items from.now) (S.items strides.now) (T.items to.now))
-        start.from_axes start.to_axes) }
-    requires from_count { length (S.items from.now) ≤ usize.MAX }
-    requires to_count { length (T.items to.now) ≤ usize.MAX }
-    requires from_left { start.from_axes < length (S.items from.now) }
-    requires to_left { start.to_axes < length (T.items to.now) }
-    requires from_longer { 1 < slice_index (S.items from.now) start.from_axes }
-    requires to_longer { 1 < slice_index (T.items to.now) start.to_axes }
-    ensures fault { IfErr result
-        (λ kind. fault_of (layouts (S.items from.now) (S.items strides.now) (T.items to.now))
-        ≡ Some kind) }
-    ensures block { IfOk result
-        (λ block. IsBlock (layouts (S.items from.now) (S.items strides.now) (T.items to.now))
-        start.from_axes start.to_axes block.end.from_axes block.end.to_axes
-        (size (segment start.to_axes block.end.to_axes (T.items to.now)))
-        (signed_reading block.step)) }
+fn next_block(both: &Shapes<'_>, at: Reached) -> Result<Block, ShapeError>
+    requires same_count { length both.now.from.now ≡ length both.now.strides.now }
+    requires from_left { at.from_axes < length both.now.from.now }
+    requires to_left { at.to_axes < length both.now.to.now }
+    requires heads { AreHeads (left_at both.now at) }
+    ensures fault { IfErr result (λ kind. fault_of (left_at both.now at) ≡ Some kind) }
+    ensures block { IfOk result (λ block.
+        IsBlock (left_at both.now at) (signed_reading block.stride) (left_at both.now block.end)) }
+    ensures ahead { IfOk result (λ block. (at.from_axes < block.end.from_axes)
+        × (at.to_axes < block.end.to_axes) × (block.end.to_axes ≤ length both.now.to.now)) }
 {
-    let (mut from_end, mut to_end) = (start.from_axes + 1, start.to_axes + 1);
-    let mut from_product = item(from, start.from_axes);
-    let mut to_product = item(to, start.to_axes);
-    let mut step = item(strides, start.from_axes);
-    while from_product != to_product {
-        if from_product > to_product {
-            if to_end == to.len() {
+    let mut len = item(both.order, both.from, at.from_axes);
+    let mut stride = item(both.order, both.strides, at.from_axes);
+    let mut new_len = item(both.order, both.to, at.to_axes);
+    let mut end = Reached {
+        from_axes: at.from_axes + 1,
+        to_axes: at.to_axes + 1,
+    };
+    while len != new_len {
+        if len > new_len {
+            if end.to_axes >= both.to.len() {
                 return Err(from_kind(ErrorKind::IncompatibleShape));
             }
-            to_product *= item(to, to_end);
-            to_end += 1;
+            new_len *= item(both.order, both.to, end.to_axes);
+            end.to_axes += 1;
             continue;
         }
-        if from_end == from.len() {
+        if end.from_axes >= both.from.len() {
             return Err(from_kind(ErrorKind::IncompatibleShape));
         }
-        let len = item(from, from_end);
-        if len > 1 {
-            let next = item(strides, from_end);
-            if !is_multiple(step, len, next) {
+        let next_len = item(both.order, both.from, end.from_axes);
+        if next_len > 1 {
+            let next = item(both.order, both.strides, end.from_axes);
+            if !is_multiple(stride, next_len, next) {
                 return Err(from_kind(ErrorKind::IncompatibleLayout));
             }
-            step = next;
+            stride = next;
         }
-        from_product *= len;
-        from_end += 1;
+        len *= next_len;
+        end.from_axes += 1;
     }
-    let end = Reached {
-        from_axes: from_end,
-        to_axes: to_end,
-    };
-    Ok(Block { end, step })
+    Ok(Block { end, stride })
 }
 
-/// Writes the strides of the axes from `start` up to `end`, the last of which has the stride `step`, so that
-/// they step as one axis.
+/// Writes the strides of the axes from `start` up to `end`, which are iterated over as one, from that of the last one on.
 #[inline(always)]
-fn write_block<T: Sequence, O: SequenceMut>(
-    to: &T,
-    out: &mut O,
-    start: usize,
-    end: usize,
-    step: usize,
-)
-    requires room { length (O.items out.old) ≡ length (T.items to.now) }
+fn write_block(both: &Shapes<'_>, out: &mut [usize], start: usize, end: usize, stride: usize)
     requires ahead { start < end }
-    requires within { end ≤ length (T.items to.now) }
-    requires len_fits { (k : ℕ) → start ≤ k → k < end →
-        slice_index (T.items to.now) k ≤ limit }
-    requires steps_fit { (k : ℕ) → start ≤ k → k < end →
-        FitsSigned w64
-        (pos (size (drop (k + 1) (take end (T.items to.now)))) *ℤ signed_reading step) }
-    ensures written { (k : ℕ) → start ≤ k → k < end →
-        signed_reading (slice_index (O.items out.new) k)
-        ≡ pos (size (drop (k + 1) (take end (T.items to.now)))) *ℤ signed_reading step }
-    ensures kept { (k : ℕ) → k < start →
-        slice_index (O.items out.new) k ≡ slice_index (O.items out.old) k }
-    ensures room { length (O.items out.new) ≡ length (O.items out.old) }
-    ensures target { O.same_target out.old out.new }
+    requires within { end ≤ length both.now.to.now }
+    requires room { length out.old ≡ length both.now.to.now }
+    requires fits { All (FitsSigned w64) (block_strides
+        (segment start end (as_read both.now.order both.now.to.now)) (signed_reading stride)) }
+    ensures written { WritesBlock (length both.now.to.now - end) (block_strides
+        (segment start end (as_read both.now.order both.now.to.now)) (signed_reading stride))
+        (as_read both.now.order out.old) (as_read both.now.order out.new) }
+    ensures room { length out.new ≡ length out.old }
 {
-    out.set(end - 1, step);
-    let mut stride = signed(step);
-    for k in (start + 1..end).rev() {
-        stride *= item(to, k) as isize;
-        out.set(k - 1, unsigned(stride));
+    write(both.order, out, end - 1, stride);
+    let mut stride = stride;
+    for axis in (start + 1..end).rev() {
+        stride = stride.wrapping_mul(item(both.order, both.to, axis));
+        write(both.order, out, axis - 1, stride);
     }
 }
 
@@ -134,126 +143,117 @@ fn write_block<T: Sequence, O: SequenceMut>(
 ///
 /// Errors: `IncompatibleLayout` or `IncompatibleShape`, that of the whole reshape.
 #[inline(always)]
-fn advance<S: Sequence, T: Sequence, O: SequenceMut>(
-    from: &S,
-    strides: &S,
-    to: &T,
-    out: &mut O,
-    at: Reached,
-) -> Result<Reached, ShapeError>
-    requires from_count { length (S.items from.now) ≤ usize.MAX }
-    requires to_count { length (T.items to.now) ≤ usize.MAX }
-    requires from_left { at.from_axes < length (S.items from.now) }
-    requires to_left { at.to_axes < length (T.items to.now) }
-    requires room { length (O.items out.old) ≡ length (T.items to.now) }
-    requires written { IsMatched
-        (layouts (S.items from.now) (S.items strides.now) (T.items to.now))
-        (all_signed (O.items out.old)) at.from_axes at.to_axes }
-    ensures fault { IfErr result
-        (λ kind. fault_of (layouts (S.items from.now) (S.items strides.now) (T.items to.now))
-        ≡ Some kind) }
-    ensures further { IfOk result
-        (λ next. at.from_axes + at.to_axes < next.from_axes + next.to_axes) }
-    ensures room { IfOk result (λ next. length (O.items out.new) ≡ length (T.items to.now)) }
-    ensures written { IfOk result
-        (λ next. IsMatched (layouts (S.items from.now) (S.items strides.now) (T.items to.now))
-        (all_signed (O.items out.new)) next.from_axes next.to_axes) }
-    ensures target { O.same_target out.old out.new }
+fn advance(both: &Shapes<'_>, out: &mut [usize], at: Reached) -> Result<Reached, ShapeError>
+    requires same_count { length both.now.from.now ≡ length both.now.strides.now }
+    requires from_left { at.from_axes < length both.now.from.now }
+    requires to_left { at.to_axes < length both.now.to.now }
+    requires room { length out.old ≡ length both.now.to.now }
+    requires can_match { CanMatch (left_at both.now at) }
+    ensures fault { IfErr result (λ kind. fault_of (left_at both.now at) ≡ Some kind) }
+    ensures turn { IfOk result (λ next. IsTurn (left_at both.now at) (as_read both.now.order out.old)
+        (left_at both.now next) (as_read both.now.order out.new)) }
+    ensures further { IfOk result (λ next.
+        at.from_axes + at.to_axes < next.from_axes + next.to_axes) }
+    ensures room { length out.new ≡ length out.old }
 {
-    let from_len = item(from, at.from_axes);
-    let to_len = item(to, at.to_axes);
-    if from_len == to_len {
-        out.set(at.to_axes, item(strides, at.from_axes));
+    let len = item(both.order, both.from, at.from_axes);
+    let new_len = item(both.order, both.to, at.to_axes);
+    if len == new_len {
+        let stride = item(both.order, both.strides, at.from_axes);
+        write(both.order, out, at.to_axes, stride);
         return Ok(Reached {
             from_axes: at.from_axes + 1,
             to_axes: at.to_axes + 1,
         });
     }
-    if from_len == 1 {
+    if len == 1 {
         return Ok(Reached {
             from_axes: at.from_axes + 1,
-            to_axes: at.to_axes,
+            ..at
         });
     }
-    if to_len == 1 {
-        out.set(at.to_axes, 1);
+    if new_len == 1 {
+        write(both.order, out, at.to_axes, 1);
         return Ok(Reached {
-            from_axes: at.from_axes,
             to_axes: at.to_axes + 1,
+            ..at
         });
     }
-    let block = next_block(from, strides, to, at)?;
-    write_block(to, out, at.to_axes, block.end.to_axes, block.step);
+    let block = next_block(both, at)?;
+    write_block(both, out, at.to_axes, block.end.to_axes, block.stride);
     Ok(block.end)
 }
 
-/// Whether each axis from this one on has length 1.
+/// Reads the axes that the old shape has left, once the new one has none.
+///
+/// Errors: `IncompatibleShape` where one of them is longer than 1, that of the whole reshape.
 #[inline(always)]
-fn only_ones<S: Sequence>(lens: &S, start: usize) -> bool
-    ensures ones { IsTrue result → (k : ℕ) → start ≤ k → k < length (S.items lens.now) →
-        slice_index (S.items lens.now) k ≡ 1 }
-    ensures longer { result ≡ false →
-        (k : ℕ) × (start ≤ k) × (k < length (S.items lens.now))
-        × (slice_index (S.items lens.now) k ≢ 1) }
+fn pass_ones(both: &Shapes<'_>, at: Reached) -> Result<Reached, ShapeError>
+    requires same_count { length both.now.from.now ≡ length both.now.strides.now }
+    requires over { at.from_axes < length both.now.from.now →
+        length both.now.to.now ≤ at.to_axes }
+    requires can_match { CanMatch (left_at both.now at) }
+    ensures fault { IfErr result (λ kind. fault_of (left_at both.now at) ≡ Some kind) }
+    ensures goes_on { IfOk result (λ next.
+        GoesOn (left_at both.now at) (λ strides. strides) (left_at both.now next)) }
+    ensures over { IfOk result (λ next. (length both.now.from.now ≤ next.from_axes)
+        × (next.to_axes ≡ at.to_axes)) }
 {
-    for k in start..lens.len() {
-        if item(lens, k) != 1 {
-            return false;
+    let mut from_axes = at.from_axes;
+    while from_axes < both.from.len() {
+        if item(both.order, both.from, from_axes) != 1 {
+            return Err(from_kind(ErrorKind::IncompatibleShape));
         }
+        from_axes += 1;
     }
-    true
+    Ok(Reached { from_axes, ..at })
 }
 
-/// Writes a stride of 1 for each axis from this one on.
+/// Writes the strides of the axes that the new shape has left, once the old one has none.
+///
+/// Errors: `IncompatibleShape` where one of them is longer than 1, that of the whole reshape.
 #[inline(always)]
-fn write_ones<O: SequenceMut>(out: &mut O, start: usize)
-    ensures written { (k : ℕ) → start ≤ k → k < length (O.items out.old) →
-        slice_index (O.items out.new) k ≡ 1 }
-    ensures kept { (k : ℕ) → k < start →
-        slice_index (O.items out.new) k ≡ slice_index (O.items out.old) k }
-    ensures room { length (O.items out.new) ≡ length (O.items out.old) }
-    ensures target { O.same_target out.old out.new }
+fn write_ones(both: &Shapes<'_>, out: &mut [usize], at: Reached) -> Result<(), ShapeError>
+    requires over { length both.now.from.now ≤ at.from_axes }
+    requires room { length out.old ≡ length both.now.to.now }
+    requires can_match { CanMatch (left_at both.now at) }
+    ensures fault { IfErr result (λ kind. fault_of (left_at both.now at) ≡ Some kind) }
+    ensures turn { OnOk result (IsTurn (left_at both.now at) (as_read both.now.order out.old)
+        (left_in both.now at.from_axes (length both.now.to.now)) (as_read both.now.order out.new)) }
+    ensures room { length out.new ≡ length out.old }
 {
-    for k in start..out.len() {
-        out.set(k, 1);
+    for axis in at.to_axes..both.to.len() {
+        if item(both.order, both.to, axis) != 1 {
+            return Err(from_kind(ErrorKind::IncompatibleShape));
+        }
+        write(both.order, out, axis, 1);
     }
+    Ok(())
 }
 
-/// Writes the strides of a reshape, where all sequences are in the order of reading.
+/// Writes the strides of a reshape.
 ///
 /// Errors: `IncompatibleLayout` where a joint is bad, then `IncompatibleShape` where the sizes differ.
 #[inline(always)]
-fn fill_as_read<S: Sequence, T: Sequence, O: SequenceMut>(
-    from: &S,
-    strides: &S,
-    to: &T,
-    out: &mut O,
-) -> Result<(), ShapeError>
-    requires can_match { CanMatch
-        (layouts (S.items from.now) (S.items strides.now) (T.items to.now)) }
-    requires room { length (O.items out.old) ≡ length (T.items to.now) }
-    ensures fault { IfErr result
-        (λ kind. fault_of (layouts (S.items from.now) (S.items strides.now) (T.items to.now))
-        ≡ Some kind) }
-    ensures fits { OnOk result
-        (fault_of (layouts (S.items from.now) (S.items strides.now) (T.items to.now)) ≡ None) }
-    ensures strides { OnOk result (all_signed (O.items out.new)
-        ≡ map (stride_at (S.items from.now) (all_signed (S.items strides.now)) (T.items to.now))
-        (below (length (T.items to.now)))) }
-    ensures room { IfOk result (λ done. length (O.items out.new) ≡ length (T.items to.now)) }
-    ensures target { O.same_target out.old out.new }
+fn fill(both: &Shapes<'_>, out: &mut [usize]) -> Result<(), ShapeError>
+    requires same_count { length both.now.from.now ≡ length both.now.strides.now }
+    requires can_match { CanMatch (left_in both.now 0 0) }
+    requires room { length out.old ≡ length both.now.to.now }
+    ensures fault { IfErr result (λ kind. fault_of (left_in both.now 0 0) ≡ Some kind) }
+    ensures fits { OnOk result (fault_of (left_in both.now 0 0) ≡ None) }
+    ensures strides { OnOk result
+        (all_signed (as_read both.now.order out.new) ≡ forced (left_in both.now 0 0)) }
+    ensures room { length out.new ≡ length out.old }
 {
     let mut at = Reached {
         from_axes: 0,
         to_axes: 0,
     };
-    while at.from_axes < from.len() && at.to_axes < to.len() {
-        at = advance(from, strides, to, out, at)?;
+    while at.from_axes < both.from.len() && at.to_axes < both.to.len() {
+        at = advance(both, out, at)?;
     }
-    if !only_ones(from, at.from_axes) || !only_ones(to, at.to_axes) {
-        return Err(from_kind(ErrorKind::IncompatibleShape));
-    }
-    write_ones(out, at.to_axes);
+    at = pass_ones(both, at)?;
+    write_ones(both, out, at)?;
     Ok(())
 }
 
@@ -261,39 +261,45 @@ fn fill_as_read<S: Sequence, T: Sequence, O: SequenceMut>(
 ///
 /// Errors: `IncompatibleLayout` where a joint is bad, then `IncompatibleShape` where the sizes differ.
 #[inline(always)]
-fn fill_reshaped<E: Lengths>(
+fn fill_reshaped(
     order: Order,
     from: &[usize],
     strides: &[usize],
     to: &[usize],
-    out: &mut E,
+    out: &mut [usize],
 ) -> Result<(), ShapeError>
     requires valid { IsValidLayout from.now (all_signed strides.now) }
     requires from_some { is_empty from.now ≡ false }
     requires to_some { is_empty to.now ≡ false }
     requires to_fits { nonzero_size to.now ≤ limit }
-    requires room { length (E.list out.old) ≡ length to.now }
+    requires room { length out.old ≡ length to.now }
     ensures fault { IfErr result
         (λ kind. reshape_fault order from.now (all_signed strides.now) to.now ≡ Some kind) }
     ensures fits { OnOk result
         (reshape_fault order from.now (all_signed strides.now) to.now ≡ None) }
     ensures strides { OnOk result
-        (all_signed (E.list out.new)
-        ≡ forced_strides order from.now (all_signed strides.now) to.now) }
+        (all_signed out.new ≡ forced_strides order from.now (all_signed strides.now) to.now) }
+    ensures room { length out.new ≡ length out.old }
 {
     match order {
-        Order::RowMajor => fill_as_read(
-            &Forward(from),
-            &Forward(strides),
-            &Forward(to),
-            &mut Forward(out),
-        ),
-        Order::ColumnMajor => fill_as_read(
-            &Reverse(from),
-            &Reverse(strides),
-            &Reverse(to),
-            &mut Reverse(out),
-        ),
+        Order::RowMajor => {
+            let both = Shapes {
+                order: Order::RowMajor,
+                from,
+                strides,
+                to,
+            };
+            fill(&both, out)
+        }
+        Order::ColumnMajor => {
+            let both = Shapes {
+                order: Order::ColumnMajor,
+                from,
+                strides,
+                to,
+            };
+            fill(&both, out)
+        }
     }
 }
 
@@ -356,7 +362,7 @@ pub fn reshape_dim<D: Lengths, E: Lengths>(
         from.slice(),
         strides.slice(),
         to.slice(),
-        &mut others,
+        others.slice_mut(),
     )?;
     Ok(others)
 }

@@ -10,9 +10,9 @@ use Rattle.std.proofs.lemmas.Bool.{and_from, cases_Bool, cond-true, eq-eqb, eqb-
 use Rattle.std.proofs.lemmas.Bool.{not_from_false, not_from_true, or_left, false_from_ne_true, le-ltb}
 use Rattle.std.proofs.lemmas.Bool.Decides.{Decides-int_eq}
 use Rattle.std.proofs.lemmas.List.Folds.{list_any-append}
-use Rattle.nd_base.specs.Size.{is_empty, size}
+use Rattle.nd_base.specs.Size.{size}
 use Rattle.ndarray_layout.specs.reshape.Joints.{first_longer, is_loose, loose_joints, cumulative_products, is_bad_joint, has_bad_joint}
-use Rattle.ndarray_layout.proofs.matching.HasIndex.{HasIndex, is_empty-rest, rest-has_index, some-len}
+use Rattle.ndarray_layout.proofs.matching.HasIndex.{HasIndex, rest-has_index, some-len}
 
 -- ---- tests of lists
 same-test : (x y : Bool) → (x ≡ true → y ≡ true) → (y ≡ true → x ≡ true) → x ≡ y
@@ -83,7 +83,11 @@ any-products p [] none = ap (λ b. b || false) (none 0)
 any-products p (len ∷ to) none = ap₂ (λ a b. a || b) (none 0)
     (any-map p (λ q. len * q) (cumulative_products to) ∙ any-products (λ q. p (len * q)) to (λ j. none (suc j)))
 
-pub product-not : (to : List ℕ) (j : ℕ) → ((k : ℕ) → size (take k to) ≡ j → ⊥) → is_product to j ≡ false
+-- a number of indices that no first axes of a shape have
+abbrev pub IsNoProduct : List ℕ → ℕ → Type 0
+IsNoProduct to j = (k : ℕ) → size (take k to) ≡ j → ⊥
+
+pub product-not : (to : List ℕ) (j : ℕ) → IsNoProduct to j → is_product to j ≡ false
 product-not to j none = any-products (λ p. p == j) to (λ k. ne_eqb (size (take k to)) j (none k))
 
 pub bad-times : (len : ℕ) (to : List ℕ) (q : ℕ) → 0 < len → is_bad_joint (len ∷ to) (len * q) ≡ is_bad_joint to q
@@ -133,18 +137,12 @@ any-above p q {len} {lens} {s} {strides} at same =
     (λ j l. same (len * j) (let more : len * 1 ≤ len * j = mul-le-mul_left len l in omega arith)))
     ∙ sym (any-joint q len lens s strides)
 
--- ---- both shapes lose axes of one product
-bad-past : (front to : List ℕ) (q : ℕ) → is_empty front ≡ false → is_bad_joint (front ++ to) (size front * q) ≡ is_bad_joint to q
-bad-past [] to q some = ap (is_bad_joint to) (one-mul q)
-bad-past (len ∷ front) to q some =
-    ap (is_bad_joint (len ∷ front ++ to)) (mul_assoc len (size front) q)
-    ∙ bad-times len (front ++ to) (size front * q) (some-len len front some) ∙ bad-past front to q (is_empty-rest len front some)
-
-pub bad-both : (front : List ℕ) {len : ℕ} (from : List ℕ) (s : ℤ) (strides : List ℤ) (to : List ℕ) → is_empty front ≡ false
-    → len ≡ size front → has_bad_joint (len ∷ from) (s ∷ strides) (front ++ to) ≡ has_bad_joint from strides to
-bad-both front {len} from s strides to some same =
-    let bad = is_bad_joint (front ++ to) in
-    let past : (q : ℕ) → bad (len * q) ≡ is_bad_joint to q = λ q. ap (λ n. bad (n * q)) same ∙ bad-past front to q some in
+-- ---- both shapes lose an axis of one length
+pub bad-both : (len : ℕ) (from : List ℕ) (s : ℤ) (strides : List ℤ) (to : List ℕ) → 0 < len
+    → has_bad_joint (len ∷ from) (s ∷ strides) (len ∷ to) ≡ has_bad_joint from strides to
+bad-both len from s strides to some =
+    let bad = is_bad_joint (len ∷ to) in
+    let past = λ (q : ℕ). bad-times len to q some in
     let first : bad len ≡ false = ap bad (sym (mul-one len)) ∙ past 1 ∙ bad-none to in
     let test = nat_lt 1 len && is_loose s (first_longer from strides) in
     any-joint bad len from s strides
@@ -243,13 +241,13 @@ bad-loose {len} {next} from {s} t strides to (long, longer) (less, none) apart =
     (ap₂ (λ a b. a && b) (ap₂ (λ a b. a && b) (lt-ltb 1 len long) loose) bad)
 
 -- as a lesser first axis is
-pub product-within : (len other : ℕ) (to : List ℕ) → 1 < len → len < other → is_product (other ∷ to) len ≡ false
-product-within len other to long less = product-not (other ∷ to) len within
+pub IsNoProduct-within : (len other : ℕ) (to : List ℕ) → 1 < len → len < other → IsNoProduct (other ∷ to) len
+IsNoProduct-within len other to long less zero e = omega arith
+IsNoProduct-within len other to long less (suc k) e = multiple (size (take k to)) e
   where
     multiple : (n : ℕ) → other * n ≡ len → ⊥
     multiple zero e = omega arith
     multiple (suc n) e = let more : other * 1 ≤ other * suc n = mul-le-mul_left other (omega arith) in omega arith
 
-    within : (k : ℕ) → size (take k (other ∷ to)) ≡ len → ⊥
-    within zero e = omega arith
-    within (suc k) e = multiple (size (take k to)) e
+pub product-within : (len other : ℕ) (to : List ℕ) → 1 < len → len < other → is_product (other ∷ to) len ≡ false
+product-within len other to long less = product-not (other ∷ to) len (IsNoProduct-within len other to long less)

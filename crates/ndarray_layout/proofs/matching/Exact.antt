@@ -3,9 +3,10 @@ use Rattle.std.proofs.Common.{◌≡◌, ℕ, zero, suc, ◌+◌, ◌*◌, ◌/�
 use Rattle.std.proofs.Common.{refl, sym, ap, ◌∙◌, ◌⊎◌, inl, inr, arith, subst}
 use Rattle.std.specs.Ordering.{int_eq}
 use Rattle.std.specs.Prelude.{◌↔◌}
-use Rattle.std.proofs.Math.Nat.{eq_of_mul-eq-mul_left, mul-le-mul_left, mul-le-mul_right, mul-one, mul-pos, mul_assoc, one-mul}
+use Rattle.std.proofs.Math.Nat.{eq_of_mul-eq-mul_left, mul-le-mul_left, mul-le-mul_right, mul-pos, mul_assoc, one-mul}
 use Rattle.std.proofs.lemmas.Bool.{both_ways, cases_Bool, cases_eq, cases_order}
 use Rattle.std.proofs.lemmas.Bool.Decides.{Decides-int_eq}
+use Rattle.std.proofs.lemmas.Int.{ints}
 use Rattle.std.proofs.lemmas.List.{length-map}
 use Rattle.std.proofs.lemmas.Nat.{mod_below}
 use Rattle.nd_base.specs.Size.{size, is_empty}
@@ -45,13 +46,13 @@ exact-step same has rest = record {
 
 -- ---- one axis in front
 -- the stride of the first axis, and the others
-record FirstStride (from : List ℕ) (strides : List ℤ) (len : ℕ) (to : List ℕ) : Type 0 where
+pub record FirstStride (from : List ℕ) (strides : List ℤ) (len : ℕ) (to : List ℕ) : Type 0 where
   pub first : ℤ
   pub rest : List ℤ
   pub count : length to ≡ length rest
   pub alike : PlacesAlike from strides (len ∷ to) (first ∷ rest)
 
-first-stride : {from : List ℕ} {strides : List ℤ} {len : ℕ} {to : List ℕ} → HasStrides from strides (len ∷ to)
+pub first-stride : {from : List ℕ} {strides : List ℤ} {len : ℕ} {to : List ℕ} → HasStrides from strides (len ∷ to)
     → FirstStride from strides len to
 first-stride {from} {strides} {len} {to} has = by has.others has.same_count has.alike
   where
@@ -116,35 +117,11 @@ strides-to-one {to = to} sizes = (
       },
 )
 
-module _ (from : List ℕ) (strides : List ℤ) (len : ℕ) (to : List ℕ) where
-  -- an axis of length 1 after the first
-  strides-to-skip : 0 < size to → HasStrides from strides (len ∷ 1 ∷ to) ↔ HasStrides from strides (len ∷ to)
-  strides-to-skip some = (
-    λ has. let f = first-stride has in less f.first f.rest f.count f.alike,
-    λ has.
-        let f = first-stride has in
-        let count = f.count in
-        record {
-          others = f.first ∷ pos 0 ∷ f.rest;
-          same_count = omega arith;
-          alike = λ r l. offset-skip len to f.first (pos 0) f.rest r some ∙ f.alike r l;
-        },
-  )
-    where
-      less : (first : ℤ) (rest : List ℤ) → length (1 ∷ to) ≡ length rest → PlacesAlike from strides (len ∷ 1 ∷ to) (first ∷ rest)
-          → HasStrides from strides (len ∷ to)
-      less first [] e alike = absurd (omega arith)
-      less first (next ∷ rest) e alike = record {
-        others = first ∷ rest;
-        same_count = omega arith;
-        alike = λ r l. sym (offset-skip len to first next rest r some) ∙ alike r l;
-      }
-
 -- two axes of the new shape whose first is shorter than that of the old one
 strides-to-merged : {first len next : ℕ} {from to : List ℕ} {s : ℤ} {strides : List ℤ}
-    → HaveAsMany (first ∷ from) (s ∷ strides) (len ∷ next ∷ to) → 1 < len → 1 < next → len < first
+    → HaveAsMany (first ∷ from) (s ∷ strides) (len ∷ next ∷ to) → 1 < len → len < first
     → HasStrides (first ∷ from) (s ∷ strides) (len ∷ next ∷ to) ↔ HasStrides (first ∷ from) (s ∷ strides) (len * next ∷ to)
-strides-to-merged {first} {len} {next} {from} {to} {s} {strides} can long longer less = (
+strides-to-merged {first} {len} {next} {from} {to} {s} {strides} can long less = (
   λ has. let f = first-stride has in joined f.first f.rest f.count f.alike,
   λ has.
       let f = first-stride has in
@@ -152,31 +129,45 @@ strides-to-merged {first} {len} {next} {from} {to} {s} {strides} can long longer
       record {
         others = (pos next *ℤ f.first) ∷ f.first ∷ f.rest;
         same_count = omega arith;
-        alike = λ r l. offset-merged len next to f.first f.rest r (omega arith, some) ∙ f.alike r l;
+        alike = λ r l. offset-merged len next to f.first f.rest r (here, some) ∙ f.alike r l;
       },
 )
   where
+    after : is_empty (next ∷ to) ≡ false
+    after = is_empty-rest len (next ∷ to) can.more
+
+    here : 0 < next
+    here = some-len next to after
+
     some : 0 < size to
-    some = size_of_nonempty to (is_empty-rest next to (is_empty-rest len (next ∷ to) can.more))
+    some = size_of_nonempty to (is_empty-rest next to after)
+
+    -- by strides that are whole: of two longer axes they are so, and an axis of length 1 takes those that make them so
+    whole : (other z : ℤ) (rest : List ℤ) → length to ≡ length rest → other ≡ pos next *ℤ z
+        → PlacesAlike (first ∷ from) (s ∷ strides) (len ∷ next ∷ to) (other ∷ z ∷ rest)
+        → HasStrides (first ∷ from) (s ∷ strides) (len * next ∷ to)
+    whole other z rest count same alike = record {
+      others = z ∷ rest;
+      same_count = ap suc count;
+      alike = λ r l. sym (offset-merged len next to z rest r (here, some))
+          ∙ ap (λ x. offset_at_flat_index (len ∷ next ∷ to) (x ∷ z ∷ rest) r) (sym same) ∙ alike r l;
+    }
 
     joined : (other : ℤ) (rest : List ℤ) → length (next ∷ to) ≡ length rest
         → PlacesAlike (first ∷ from) (s ∷ strides) (len ∷ next ∷ to) (other ∷ rest)
         → HasStrides (first ∷ from) (s ∷ strides) (len * next ∷ to)
     joined other [] e alike = absurd (omega arith)
-    joined other (after ∷ rest) e alike =
-        let more = size_of_nonempty from (is_empty-rest first from can.index.some) in
-        let sizes : size (len ∷ next ∷ to) ≡ size (first ∷ from) = sym can.sizes in
-        let same : SamePlaces (len ∷ next ∷ to) (other ∷ after ∷ rest) (first ∷ from) (s ∷ strides) =
-        record { sizes = sizes; alike = λ r l. sym (alike r (omega arith)) } in
-        let whole = whole-step long longer less some more same in
-        record {
-          others = after ∷ rest;
-          same_count = omega arith;
-          alike = λ r l.
-              sym (offset-merged len next to after rest r (omega arith, some))
-              ∙ ap (λ z. offset_at_flat_index (len ∷ next ∷ to) (z ∷ after ∷ rest) r) (sym whole)
-              ∙ alike r l;
-        }
+    joined other (z ∷ rest) e alike = elim (cases_eq next 1) [
+      | inl one ↦ whole other other rest (omega arith) (sym (ap (λ n. pos n *ℤ other) one ∙ omega (arith, ints))) (λ r l.
+          let skipped = λ (x : ℤ). ap (λ n. offset_at_flat_index (len ∷ n ∷ to) (other ∷ x ∷ rest) r) one
+          ∙ offset-skip len to other x rest r some in
+          skipped other ∙ sym (skipped z) ∙ alike r l)
+      | inr longer ↦
+          let more = size_of_nonempty from (is_empty-rest first from can.index.some) in
+          let same : SamePlaces (len ∷ next ∷ to) (other ∷ z ∷ rest) (first ∷ from) (s ∷ strides) =
+          record { sizes = sym can.sizes; alike = λ r l. sym (alike r (let sizes = can.sizes in omega arith)) } in
+          whole other z rest (omega arith) (whole-step long (omega (arith, here, longer)) less some more same) alike
+    ]
 
 -- ---- all axes
 abbrev ExactBelow : ℕ → Type 0
@@ -266,24 +257,12 @@ exact-to rec {first} {len} {from} {s} {strides} (next ∷ to) small long less ca
     let rest = is_empty-rest len (next ∷ to) can.more in
     let after = is_empty-rest next to rest in
     let here = some-len next to rest in
-    let some = size_of_nonempty to after in
-    elim (cases_eq next 1) [
-      | inl one ↦ subst (λ n. IsExact (first ∷ from) (s ∷ strides) (len ∷ n ∷ to)) (sym one)
-          (exact-step (bad-to-merged first len 1 to can.index less
-          ∙ ap (λ n. has_bad_joint (first ∷ from) (s ∷ strides) (n ∷ to)) (mul-one len)) (strides-to-skip (first ∷ from) (s ∷ strides) len to some)
-          (rec (first ∷ from) (s ∷ strides) (len ∷ to) (omega arith) (record {
-            index = can.index;
-            more = filled to (omega arith) after;
-            sizes = can.sizes ∙ ap (λ n. len * (n * size to)) one ∙ ap (λ n. len * n) (one-mul (size to));
-          })))
-      | inr other ↦
-          exact-step (bad-to-merged first len next to can.index less) (strides-to-merged can long (omega arith) less)
-          (rec (first ∷ from) (s ∷ strides) (len * next ∷ to) (omega arith) (record {
-            index = can.index;
-            more = filled {len = len * next} to (mul-pos (omega arith) here) after;
-            sizes = can.sizes ∙ sym (mul_assoc len next (size to));
-          }))
-    ]
+    exact-step (bad-to-merged first len next to can.index less) (strides-to-merged can long less)
+    (rec (first ∷ from) (s ∷ strides) (len * next ∷ to) (omega arith) (record {
+      index = can.index;
+      more = filled {len = len * next} to (mul-pos (omega arith) here) after;
+      sizes = can.sizes ∙ sym (mul_assoc len next (size to));
+    }))
 
 -- by the first axis of each shape
 exact-heads : {n : ℕ} → ExactBelow n → {len other : ℕ} {from : List ℕ} {s : ℤ} {strides : List ℤ} {to : List ℕ}
@@ -319,7 +298,7 @@ exact-heads rec {len} {other} {from} {s} {strides} {to} small can =
               let same : size from ≡ size to =
               eq_of_mul-eq-mul_left len here (size from) (size to) (sizes ∙ ap (λ n. n * size to) (sym equal)) in
               subst (λ n. IsExact (len ∷ from) (s ∷ strides) (n ∷ to)) equal
-              (exact-step (bad-both (len ∷ []) from s strides to (filled [] here refl) (sym (mul-one len))) (strides-both here (size_of_nonempty from after.some) same)
+              (exact-step (bad-both len from s strides to here) (strides-both here (size_of_nonempty from after.some) same)
               (rec from strides to (omega arith) (record { index = after; more = rest; sizes = same })))
           | inr (inl less) ↦ exact-from rec from strides small (omega arith) less can
           | inr (inr more) ↦ exact-to rec to small (omega arith) more can

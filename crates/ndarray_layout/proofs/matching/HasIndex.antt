@@ -1,5 +1,5 @@
 -- Layouts that have an index, and axes with the places of others.
-use Rattle.std.proofs.Common.{◌≡◌, ℕ, zero, suc, ◌*◌, ◌<◌, ◌≤◌, ◌==◌, false, ℤ, List, [], ◌∷◌, ◌++◌, length, take, refl, arith}
+use Rattle.std.proofs.Common.{◌≡◌, ℕ, zero, suc, ◌*◌, ◌<◌, ◌≤◌, ◌==◌, false, ℤ, List, [], ◌∷◌, length, take, arith}
 use Rattle.std.proofs.Math.Nat.{mul-le-mul_left}
 use Rattle.std.proofs.lemmas.Bool.{false_from_ne_true, ne_eqb, or_from, or_parts}
 use Rattle.nd_base.proofs.laws.Size.{size_of_empty}
@@ -62,11 +62,3 @@ PlacesAlike from strides to others = (r : ℕ) → r < size from → offset_of o
 pub record SamePlaces (from : List ℕ) (strides : List ℤ) (to : List ℕ) (others : List ℤ) : Type 0 where
   pub sizes : size from ≡ size to
   pub alike : PlacesAlike from strides to others
-
--- shapes one after the other that have an index
-pub nonempty-parts : (front back : List ℕ) → is_empty (front ++ back) ≡ false → (is_empty front ≡ false) × (is_empty back ≡ false)
-nonempty-parts [] back h = (refl, h)
-nonempty-parts (len ∷ front) back h =
-    let head = or_parts (len == 0) (is_empty (front ++ back)) h in
-    let rest = nonempty-parts front back head.1 in
-    (or_from (len == 0) (is_empty front) head.0 rest.0, rest.1)

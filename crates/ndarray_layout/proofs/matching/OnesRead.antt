@@ -4,7 +4,7 @@ use Rattle.std.proofs.Common.{take, refl, sym, ap, ap₂, ◌∙◌, arith, add-
 use Rattle.std.specs.List.{filter, range_with_len}
 use Rattle.std.specs.Prelude.{if◌then◌else◌}
 use Rattle.std.proofs.Math.Bool.{and-false}
-use Rattle.std.proofs.Math.Nat.{mul-le-mul_left, mul_assoc, one-mul}
+use Rattle.std.proofs.Math.Nat.{mul-le-mul_left, mul-one, mul_assoc}
 use Rattle.std.proofs.lemmas.Bool.{ne_eqb}
 use Rattle.std.proofs.lemmas.List.{length-map, map-append}
 use Rattle.nd_base.proofs.laws.Definitions.{below, is_empty, size}
@@ -13,7 +13,7 @@ use Rattle.ndarray_layout.proofs.matching.BadJoints.{eqb-times}
 use Rattle.ndarray_layout.proofs.matching.HasIndex.{some-len}
 
 -- ---- numbers below one that pass a test
-range-shift : (a n : ℕ) → range_with_len (a + 1) n ≡ map suc (range_with_len a n)
+pub range-shift : (a n : ℕ) → range_with_len (a + 1) n ≡ map suc (range_with_len a n)
 range-shift a zero = refl
 range-shift a (suc n) = ap₂ (λ x xs. x ∷ xs) (add-one a) (range-shift (a + 1) n)
 
@@ -39,7 +39,7 @@ filter-none p (suc n) none =
     ∙ ap₂ (λ b xs. (if b then 0 ∷ [] else []) ++ map suc xs) (none 0 (omega arith))
     (filter-none (λ k. p (suc k)) n (λ k l. none (suc k) (omega arith)))
 
-map-suc : (f : ℕ → ℤ) (xs : List ℕ) → map f (map suc xs) ≡ map (λ k. f (suc k)) xs
+pub map-suc : (f : ℕ → ℤ) (xs : List ℕ) → map f (map suc xs) ≡ map (λ k. f (suc k)) xs
 map-suc f [] = refl
 map-suc f (x ∷ xs) = ap (λ ys. f (suc x) ∷ ys) (map-suc f xs)
 
@@ -79,27 +79,19 @@ ones_count-next test len lens axis =
     by true xs = omega (arith, length-map xs suc)
     by false xs = omega (arith, length-map xs suc)
 
--- a front without such axes has no part in them
-pub ones_count-past : (test : ℕ → Bool) (front lens : List ℕ) (axis : ℕ)
-    → ((k : ℕ) → k < length front → test (size (take k front)) ≡ false)
-    → ones_count test (front ++ lens) (length front + axis) ≡ ones_count (λ n. test (size front * n)) lens axis
-ones_count-past test [] lens axis none =
-    let start : 0 + axis ≡ axis = omega arith in
-    ap (ones_count test lens) start ∙ (λ i. ones_count (λ n. test (sym (one-mul n) i)) lens axis)
-ones_count-past test (len ∷ front) lens axis none =
-    let start : suc (length front) + axis ≡ suc (length front + axis) = omega arith in
-    ap (ones_count test (len ∷ front ++ lens)) start
-    ∙ ones_count-next test len (front ++ lens) (length front + axis)
-    ∙ ap (λ b. (if len == 1 && b then 1 else 0) + ones_count (λ n. test (len * n)) (front ++ lens) (length front + axis))
-    (none 0 (omega arith))
-    ∙ ap (λ b. (if b then 1 else 0) + ones_count (λ n. test (len * n)) (front ++ lens) (length front + axis)) (and-false (len == 1))
-    ∙ zero-more
-    ∙ ones_count-past (λ n. test (len * n)) front lens axis (λ k l. none (suc k) (omega arith))
-    ∙ (λ i. ones_count (λ n. test (sym (mul_assoc len (size front) n) i)) lens axis)
-  where
-    zero-more : 0 + ones_count (λ n. test (len * n)) (front ++ lens) (length front + axis)
-        ≡ ones_count (λ n. test (len * n)) (front ++ lens) (length front + axis)
-    zero-more = omega arith
+-- two axes longer than 1 together have none between them, but at the product of the first
+pub ones_before-joined : (len next : ℕ) (lens : List ℕ) (q axis : ℕ) → 1 < len → 1 < len * next → q ≢ len
+    → ones_before (len ∷ next ∷ lens) q (suc (suc axis)) ≡ ones_before (len * next ∷ lens) q (suc axis)
+ones_before-joined len next lens q axis long more other =
+    let later = ones_count (λ n. len * (next * n) == q) lens axis in
+    let none : 0 + (0 + later) ≡ 0 + later = omega arith in
+    ones_count-next (λ n. n == q) len (next ∷ lens) (suc axis)
+    ∙ ap₂ (λ b n. (if b && (1 == q) then 1 else 0) + n) (ne_eqb len 1 (λ e. omega arith)) (ones_count-next (λ n. len * n == q) next lens axis
+    ∙ ap (λ b. (if next == 1 && b then 1 else 0) + later) (ne_eqb (len * 1) q (λ e. other (sym e ∙ mul-one len)))
+    ∙ ap (λ b. (if b then 1 else 0) + later) (and-false (next == 1)))
+    ∙ none ∙ (λ i. 0 + ones_count (λ n. sym (mul_assoc len next n) i == q) lens axis)
+    ∙ sym (ones_count-next (λ n. n == q) (len * next) lens axis
+    ∙ ap (λ b. (if b && (1 == q) then 1 else 0) + ones_count (λ n. len * next * n == q) lens axis) (ne_eqb (len * next) 1 (λ e. omega arith)))
 
 -- ---- at a product
 -- a longer axis in front has no part in them
@@ -122,17 +114,11 @@ ones-past len lens s strides q some =
     ones_where-next (λ n. n == len * q) len lens s strides
     ∙ (λ i. (if len == 1 && (1 == len * q) then s ∷ [] else []) ++ ones_where (λ n. eqb-times len n q some i) lens strides)
 
-pub ones-longer : (len : ℕ) (lens : List ℕ) (s : ℤ) (strides : List ℤ) (q : ℕ) → 1 < len
-    → strides_of_ones (len ∷ lens) (s ∷ strides) (len * q) ≡ strides_of_ones lens strides q
-ones-longer len lens s strides q long =
-    ones_where-longer (λ n. n == len * q) lens s strides (λ e. omega arith)
-    ∙ (λ i. ones_where (λ n. eqb-times len n q (omega arith) i) lens strides)
-
-pub ones_before-one : (lens : List ℕ) (q axis : ℕ)
-    → ones_before (1 ∷ lens) (1 * q) (suc axis) ≡ (if 1 == 1 * q then 1 else 0) + ones_before lens q axis
-ones_before-one lens q axis =
-    ones_count-next (λ n. n == 1 * q) 1 lens axis
-    ∙ (λ i. (if 1 == 1 * q then 1 else 0) + ones_count (λ n. eqb-times 1 n q (omega arith) i) lens axis)
+pub ones_before-past : (len : ℕ) (lens : List ℕ) (q axis : ℕ) → 0 < len
+    → ones_before (len ∷ lens) (len * q) (suc axis) ≡ (if len == 1 && (1 == len * q) then 1 else 0) + ones_before lens q axis
+ones_before-past len lens q axis some =
+    ones_count-next (λ n. n == len * q) len lens axis
+    ∙ (λ i. (if len == 1 && (1 == len * q) then 1 else 0) + ones_count (λ n. eqb-times len n q some i) lens axis)
 
 -- before a longer axis there is none
 pub ones-none : (lens : List ℕ) (strides : List ℤ) → length lens ≡ length strides → is_empty lens ≡ false → get_or lens 0 0 ≢ 1

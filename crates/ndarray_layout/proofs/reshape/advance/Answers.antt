@@ -1,49 +1,58 @@
-use Rattle.std.proofs.Common.{arith, sym, ◌∙◌, refl}
-use Rattle.ndarray_layout.proofs.matching.Blocks.{block-lens-fit, block-steps-fit, left-pos}
-use Rattle.ndarray_layout.proofs.matching.Matched.{matched-block, matched-both, matched-from, matched-to}
+use Rattle.std.proofs.Common.{◌+◌, ◌<◌, ap, arith, get_or, length, refl, subst, sym, ◌∙◌, w64}
+use Rattle.std.specs.Int.RustNames.{FitsSigned}
+use Rattle.std.specs.List.{All}
+use Rattle.std.proofs.lemmas.List.{length-drop}
+use Rattle.nd_base.proofs.laws.AsRead.{length-as_read}
+use Rattle.nd_base.proofs.laws.Definitions.{all_signed, as_read, signed}
+use Rattle.ndarray_layout.specs.private.ReshapeProgress.{block_strides}
+use Rattle.ndarray_layout.proofs.matching.Blocks.{segment-front}
+use Rattle.ndarray_layout.proofs.matching.Matched.{block-read, both-read, from-goes, to-read, turn-passed}
+use Rattle.ndarray_layout.proofs.matching.Merged.{next-stride}
 use Rattle.ndarray_layout.proofs.reshape.advance.Goals as goal
 
-pub returns-then-from_len-to_len-clause-written : goal.returns-then-from_len-to_len-clause-written
-returns-then-from_len-to_len-clause-written g c =
-    matched-both (g.S.Sequence.items c.args.strides.now) c.requires.written
-    (record { room = c.requires.room; here = c.requires.to_left; made = c.set.ensures.items }) c.requires.from_left
-    (sym c.item-from_len.ensures ∙ c.if-from_len-to_len.true ∙ c.item-to_len.ensures) c.item.ensures
+pub returns-then-len-new_len-clause-turn : goal.returns-then-len-new_len-clause-turn
+returns-then-len-new_len-clause-turn c =
+    let to = as_read c.args.both.now.order c.args.both.now.to.now in
+    let count = length-as_read c.args.both.now.order c.args.both.now.to.now in
+    both-read c.requires.can_match c.item-len.ensures (ap all_signed c.item-stride.ensures) c.item-new_len.ensures c.if-len-new_len.true
+    (omega (arith, count, length-drop (c.args.at.to_axes + 1) to, c.requires.room)) c.write.ensures.written
 
-pub returns-then-from_len-eq1-clause-written : goal.returns-then-from_len-eq1-clause-written
-returns-then-from_len-eq1-clause-written g c =
-    matched-from (g.O.Sequence.items c.args.out.now) c.requires.written c.requires.room c.requires.from_left
-    (sym c.item-from_len.ensures ∙ c.if-from_len-eq1.true)
-    (λ e. c.if-from_len-to_len.false (c.if-from_len-eq1.true ∙ sym (c.item-to_len.ensures ∙ e)))
+pub returns-then-len-eq1-clause-turn : goal.returns-then-len-eq1-clause-turn
+returns-then-len-eq1-clause-turn c =
+    let both = c.args.both.now in
+    let strides = as_read both.order both.strides.now in
+    let within : c.args.at.from_axes < length strides =
+    omega (arith, length-as_read both.order both.strides.now, c.requires.same_count, c.requires.from_left) in
+    turn-passed (as_read both.order c.args.out.now) refl
+    (from-goes c.requires.can_match c.item-len.ensures (next-stride strides c.args.at.from_axes within) c.if-len-eq1.true
+    (λ e. c.if-len-new_len.false (c.if-len-eq1.true ∙ sym e ∙ ap (λ xs. get_or xs 0 0) c.item-new_len.ensures)))
 
-pub returns-then-to_len-eq1-clause-written : goal.returns-then-to_len-eq1-clause-written
-returns-then-to_len-eq1-clause-written g c =
-    matched-to (g.O.Sequence.items c.args.out.now) c.requires.written
-    (record { room = c.requires.room; here = c.requires.to_left; made = c.set-then-to_len-eq1.ensures.items })
-    (λ e. c.if-from_len-eq1.false (c.item-from_len.ensures ∙ e)) (sym c.item-to_len.ensures ∙ c.if-to_len-eq1.true)
+pub returns-then-new_len-eq1-clause-turn : goal.returns-then-new_len-eq1-clause-turn
+returns-then-new_len-eq1-clause-turn c =
+    let to = as_read c.args.both.now.order c.args.both.now.to.now in
+    let count = length-as_read c.args.both.now.order c.args.both.now.to.now in
+    to-read c.requires.can_match c.item-new_len.ensures c.if-new_len-eq1.true
+    (λ e. c.if-len-eq1.false (sym (ap (λ xs. get_or xs 0 0) c.item-len.ensures) ∙ e))
+    (omega (arith, count, length-drop (c.args.at.to_axes + 1) to, c.requires.room)) c.write-then-new_len-eq1.ensures.written
 
-pub next_block-requires-clause-from_longer : goal.next_block-requires-clause-from_longer
-next_block-requires-clause-from_longer g c =
-    let some = left-pos (g.S.Sequence.items c.args.from.now) c.args.at.from_axes c.requires.written.goes_on.can_match.some
-    c.requires.from_left in
-    let same = c.item-from_len.ensures in
-    let other = c.if-from_len-eq1.false in
-    omega (arith, some, same, other)
+-- ---- a block
+pub write_block-requires-clause-fits : goal.write_block-requires-clause-fits
+write_block-requires-clause-fits c =
+    let to = as_read c.args.both.now.order c.args.both.now.to.now in
+    let count = length-as_read c.args.both.now.order c.args.both.now.to.now in
+    let block = c.in_ok-block.ensures.block in
+    let ahead = c.in_ok-block.ensures.ahead in
+    let lens = segment-front c.args.at.to_axes c.in_ok-block.block.end.to_axes to block.lens (omega (arith, ahead.1)) (omega (arith, ahead.2, count))
+    block.front in
+    subst (λ ns. All (FitsSigned w64) (block_strides ns (signed c.in_ok-block.block.stride))) (sym lens) block.fits
 
-pub next_block-requires-clause-to_longer : goal.next_block-requires-clause-to_longer
-next_block-requires-clause-to_longer g c =
-    let some = left-pos (g.T.Sequence.items c.args.to.now) c.args.at.to_axes c.requires.written.goes_on.can_match.more c.requires.to_left in
-    let same = c.item-to_len.ensures in
-    let other = c.if-to_len-eq1.false in
-    omega (arith, some, same, other)
-
-pub write_block-requires-clause-len_fits : goal.write_block-requires-clause-len_fits
-write_block-requires-clause-len_fits g c = block-lens-fit c.in_ok-block.ensures.block
-
-pub write_block-requires-clause-steps_fit : goal.write_block-requires-clause-steps_fit
-write_block-requires-clause-steps_fit g c = block-steps-fit c.in_ok-block.ensures.block refl
-
-pub returns-clause-written : goal.returns-clause-written
-returns-clause-written g c =
-    matched-block c.requires.written
-    (record { room = c.requires.room; count = c.write_block.ensures.room ∙ c.requires.room; same = c.write_block.ensures.kept })
-    c.in_ok-block.ensures.block c.write_block.ensures.written
+pub returns-clause-turn : goal.returns-clause-turn
+returns-clause-turn c =
+    let to = as_read c.args.both.now.order c.args.both.now.to.now in
+    let count = length-as_read c.args.both.now.order c.args.both.now.to.now in
+    let block = c.in_ok-block.ensures.block in
+    let ahead = c.in_ok-block.ensures.ahead in
+    let lens = segment-front c.args.at.to_axes c.in_ok-block.block.end.to_axes to block.lens (omega (arith, ahead.1)) (omega (arith, ahead.2, count))
+    block.front in
+    block-read c.in_ok-block.block.stride block lens (omega (arith, count, length-drop c.in_ok-block.block.end.to_axes to))
+    c.write_block.ensures.written

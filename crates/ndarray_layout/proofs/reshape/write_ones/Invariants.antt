@@ -1,11 +1,11 @@
--- The strides so far are written.
-use Rattle.std.proofs.Common.{◌≡◌, ℕ, ◌≤◌, ◌<◌, length, get_or}
+-- The strides of the axes so far are written.
+use Rattle.std.proofs.Common.{◌≡◌, length}
+use Rattle.nd_base.proofs.laws.Definitions.{as_read}
+use Rattle.ndarray_layout.specs.private.ReshapeProgress.{IsTurn, left_at, left_in}
 use Rattle.ndarray_layout.proofs.reshape.write_ones.Given as goal
 
-abbrev pub invariant-loop-k : goal.invariant-loop-k
-invariant-loop-k g l = record {
-  room : length (g.O.Sequence.items l.out) ≡ length (g.O.Sequence.items l.fn.out);
-  written : (j : ℕ) → l.start ≤ j → j < l.k → get_or (g.O.Sequence.items l.out) j 0 ≡ 1;
-  kept : (j : ℕ) → j < l.start → get_or (g.O.Sequence.items l.out) j 0 ≡ get_or (g.O.Sequence.items l.fn.out) j 0;
-  target : g.O.SequenceMut.same_target l.fn.out l.out;
+abbrev pub invariant-loop-axis : goal.invariant-loop-axis
+invariant-loop-axis l = record {
+  turn : IsTurn (left_at l.both l.fn.at) (as_read l.both.order l.fn.out) (left_in l.both l.fn.at.from_axes l.axis) (as_read l.both.order l.out);
+  room : length l.out ≡ length l.both.to.now;
 }
