@@ -13,4 +13,4 @@ pub mod StridesAt
 pub mod Turned
 pub mod Turns
 pub mod Views
-pub mod WholeSteps
+pub mod WholeStrides

@@ -1,5 +1,6 @@
 -- Whether a joint is bad, where both shapes lose an axis in front, and where two axes of one are joined.
-use Rattle.std.proofs.Common.{◌≡◌, ◌≢◌, ℕ, zero, suc, ◌+◌, ◌*◌, ◌<◌, ◌≤◌, ◌==◌, ◌&&◌, ◌||◌, Bool, true, false, not, ℤ, pos, ◌*ℤ◌, List, [], ◌∷◌, ◌++◌}
+use Rattle.std.proofs.Common.{◌≡◌, ◌≢◌, ℕ, zero, suc, ◌+◌, ◌*◌, ◌<◌, ◌≤◌, ◌==◌, ◌&&◌, ◌||◌, Bool, true, false, not, ℤ, pos, ◌*ℤ◌}
+use Rattle.std.proofs.Common.{List, [], ◌∷◌, ◌++◌}
 use Rattle.std.proofs.Common.{map, take, refl, sym, ap, ap₂, ◌∙◌, inl, inr, arith, Some}
 use Rattle.std.specs.List.{list_any}
 use Rattle.std.specs.Ordering.{int_eq}
@@ -167,7 +168,7 @@ bad-skip len from s t strides to = ap (λ js. list_any (is_bad_joint to)
     ((if nat_lt 1 len && is_loose s (first_longer from strides) then len ∷ [] else []) ++ map (λ joint. len * joint) js))
     (joints-one from t strides)
 
--- ---- two axes of the old shape that step as one
+-- ---- two axes of the old shape that are iterated over as one
 tight : (s : ℤ) → not (int_eq s s) ≡ false
 tight s = not_from_true (int_eq s s) ((Decides-int_eq s s).1 refl)
 
@@ -210,7 +211,8 @@ bad-to-merged first len next to at less = any-above (is_bad_joint (len ∷ next 
 
 -- ---- what is decided
 -- no joint lies within a shape of one index, or before the first of one axis
-pub bad-single : (from : List ℕ) (strides : List ℤ) (to : List ℕ) → HasIndex from strides → size to ≡ 1 → has_bad_joint from strides to ≡ false
+pub bad-single : (from : List ℕ) (strides : List ℤ) (to : List ℕ) → HasIndex from strides → size to ≡ 1
+    → has_bad_joint from strides to ≡ false
 bad-single from strides to at one = any-joints (is_bad_joint to) (λ j. false) at (λ j some.
     ap (λ b. b && not (is_product to j)) (le-ltb j (size to) (omega arith))) ∙ any-none (loose_joints from strides)
 

@@ -1,5 +1,6 @@
 -- Strides of axes that are iterated over as one, and items that are written anew.
-use Rattle.std.proofs.Common.{◌≡◌, ℕ, suc, ◌+◌, ◌-◌, ◌*◌, ◌%◌, ◌^◌, ◌<◌, ◌≤◌, ℤ, pos, ◌*ℤ◌, List, [], ◌∷◌, ◌++◌, length, get_or, take, drop, refl}
+use Rattle.std.proofs.Common.{◌≡◌, ℕ, suc, ◌+◌, ◌-◌, ◌*◌, ◌%◌, ◌^◌, ◌<◌, ◌≤◌, ℤ, pos, ◌*ℤ◌, List, [], ◌∷◌, ◌++◌, length, get_or}
+use Rattle.std.proofs.Common.{take, drop, refl}
 use Rattle.std.proofs.Common.{append-nil, sym, ap, ap₂, ◌∙◌, arith, subst, Some, w64, length-append}
 use Rattle.std.specs.Int.{cast_signed, int_wrap}
 use Rattle.std.specs.Int.RustNames.{FitsSigned, unsigned_abs}
@@ -58,7 +59,8 @@ writes-front news {item = item} at first then before (x ∷ olds) later e count 
     (omega (arith, length-append news later))
 
 -- and others after them
-pub writes-through : (news nexts : List ℕ) {now after : ℕ} {out middle others : List ℕ} → now ≡ length nexts + after → Writes now news out middle
+pub writes-through : (news nexts : List ℕ) {now after : ℕ} {out middle others : List ℕ} → now ≡ length nexts + after
+    → Writes now news out middle
     → Writes after nexts middle others → Writes after (news ++ nexts) out others
 writes-through news nexts at first then before olds later e count room =
     let n = length news in
@@ -91,7 +93,8 @@ segment-push start axis lens {len} {rest} low e =
 pub segment-front : (start end : ℕ) (items lens : List ℕ) → start ≤ end → end ≤ length items → drop start items ≡ lens ++ drop end items
     → segment start end items ≡ lens
 segment-front start end items lens low high e =
-    let count : end - start ≡ length lens = omega (arith, ap length e, length-append lens (drop end items), length-drop start items, length-drop end items) in
+    let count : end - start ≡ length lens = omega (arith, ap length e, length-append lens
+        (drop end items), length-drop start items, length-drop end items) in
     ap (take (end - start)) e ∙ ap (λ n. take n (lens ++ drop end items)) count ∙ take-append_seam lens (drop end items)
 
 -- the axes up to one have to be written yet but for their last one, which has this stride, and so have those after it theirs
@@ -117,7 +120,8 @@ part-first {stride = stride} {lens = lens} none fits written = record {
 wrap_pos : (n : ℕ) → n < 2 ^ 64 → int_wrap w64 (pos n) ≡ cast_signed w64 n
 unfolding int_wrap
 wrap_pos n l =
-    ap (λ z. cast_signed w64 (unsigned_abs z)) (int_rem_euclid_is (pos n) (pos (2 ^ 64)) (2 ^ 64) 0 n (omega arith) refl (omega (arith, ints)))
+    ap (λ z. cast_signed w64 (unsigned_abs z)) (int_rem_euclid_is (pos n) (pos (2 ^ 64)) (2 ^ 64) 0 n (omega arith) refl
+    (omega (arith, ints)))
     ∙ ap (cast_signed w64) (mod-eq_of_lt l)
 
 wrapped : (stride len : ℕ) → stride < 2 ^ 64 → len < 2 ^ 64 → signed ((stride * len) % 2 ^ 64) ≡ int_wrap w64 (pos len *ℤ signed stride)

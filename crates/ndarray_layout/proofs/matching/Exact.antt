@@ -13,11 +13,12 @@ use Rattle.nd_base.specs.Size.{size, is_empty}
 use Rattle.nd_base.proofs.laws.Size.{size_of_nonempty}
 use Rattle.ndarray_layout.specs.reshape.ForcedStrides.{offset_at_flat_index}
 use Rattle.ndarray_layout.specs.reshape.Joints.{has_bad_joint}
-use Rattle.ndarray_layout.proofs.matching.HasIndex.{HasIndex, PlacesAlike, SamePlaces, filled, is_empty-rest, rest-has_index, some-len, with-axis}
+use Rattle.ndarray_layout.proofs.matching.HasIndex.{HasIndex, PlacesAlike, SamePlaces, filled, is_empty-rest, rest-has_index}
+use Rattle.ndarray_layout.proofs.matching.HasIndex.{some-len, with-axis}
 use Rattle.ndarray_layout.proofs.matching.BadJoints.{bad-both, bad-from-one, bad-to-one, bad-skip, bad-merged, bad-to-merged, bad-single}
 use Rattle.ndarray_layout.proofs.matching.BadJoints.{bad-loose, product-within}
 use Rattle.ndarray_layout.proofs.matching.FlatOffsets.{offset-first, offset-within, offset-one, offset-merged, offset-skip}
-use Rattle.ndarray_layout.proofs.matching.WholeSteps.{whole-step}
+use Rattle.ndarray_layout.proofs.matching.WholeStrides.{whole-stride}
 
 -- some strides of a shape keep the places of a layout
 pub record HasStrides (from : List ℕ) (strides : List ℤ) (to : List ℕ) : Type 0 where
@@ -36,10 +37,10 @@ pub record HaveAsMany (from : List ℕ) (strides : List ℤ) (to : List ℕ) : T
   pub more : is_empty to ≡ false
   pub sizes : size from ≡ size to
 
-exact-step : {from lens : List ℕ} {strides steps : List ℤ} {to news : List ℕ}
-    → has_bad_joint from strides to ≡ has_bad_joint lens steps news → HasStrides from strides to ↔ HasStrides lens steps news
-    → IsExact lens steps news → IsExact from strides to
-exact-step same has rest = record {
+exact-by : {from lens : List ℕ} {strides others : List ℤ} {to news : List ℕ}
+    → has_bad_joint from strides to ≡ has_bad_joint lens others news → HasStrides from strides to ↔ HasStrides lens others news
+    → IsExact lens others news → IsExact from strides to
+exact-by same has rest = record {
   made = λ good. has.1 (rest.made (sym same ∙ good));
   good = λ made. same ∙ rest.good (has.0 made);
 }
@@ -85,10 +86,10 @@ strides-both {len} {from} {to} {s} {strides} some more sizes = (
 )
 
 -- ---- a layout with the same places
-strides-same : (from : List ℕ) (strides : List ℤ) (lens : List ℕ) (steps : List ℤ) {to : List ℕ} → size from ≡ size lens
-    → ((r : ℕ) → r < size from → offset_at_flat_index from strides r ≡ offset_at_flat_index lens steps r)
-    → HasStrides from strides to ↔ HasStrides lens steps to
-strides-same from strides lens steps sizes same = (
+strides-same : (from : List ℕ) (strides : List ℤ) (lens : List ℕ) (others : List ℤ) {to : List ℕ} → size from ≡ size lens
+    → ((r : ℕ) → r < size from → offset_at_flat_index from strides r ≡ offset_at_flat_index lens others r)
+    → HasStrides from strides to ↔ HasStrides lens others to
+strides-same from strides lens others sizes same = (
   λ has. record {
     others = has.others;
     same_count = has.same_count;
@@ -166,7 +167,7 @@ strides-to-merged {first} {len} {next} {from} {to} {s} {strides} can long less =
           let more = size_of_nonempty from (is_empty-rest first from can.index.some) in
           let same : SamePlaces (len ∷ next ∷ to) (other ∷ z ∷ rest) (first ∷ from) (s ∷ strides) =
           record { sizes = sym can.sizes; alike = λ r l. sym (alike r (let sizes = can.sizes in omega arith)) } in
-          whole other z rest (omega arith) (whole-step long (omega (arith, here, longer)) less some more same) alike
+          whole other z rest (omega arith) (whole-stride long (omega (arith, here, longer)) less some more same) alike
     ]
 
 -- ---- all axes
@@ -216,8 +217,9 @@ exact-from rec {len} {other} (next ∷ from) {s} (t ∷ strides) {to} small long
     let within : other * 1 ≤ other * size to = mul-le-mul_left other more in
     elim (cases_eq next 1) [
       | inl one ↦ subst (λ n. IsExact (len ∷ n ∷ from) (s ∷ t ∷ strides) (other ∷ to)) (sym one)
-          (exact-step (bad-skip len from s t strides (other ∷ to))
-          (strides-same (len ∷ 1 ∷ from) (s ∷ t ∷ strides) (len ∷ from) (s ∷ strides) (ap (λ n. len * n) (one-mul (size from))) (λ r l. offset-skip len from s t strides r some))
+          (exact-by (bad-skip len from s t strides (other ∷ to))
+          (strides-same (len ∷ 1 ∷ from) (s ∷ t ∷ strides) (len ∷ from) (s ∷ strides) (ap (λ n. len * n) (one-mul (size from)))
+          (λ r l. offset-skip len from s t strides r some))
           (rec (len ∷ from) (s ∷ strides) (other ∷ to) (omega arith) (record {
             index = with-axis s (omega arith) after;
             more = can.more;
@@ -225,7 +227,7 @@ exact-from rec {len} {other} (next ∷ from) {s} (t ∷ strides) {to} small long
           })))
       | inr longer ↦ elim (int_cases s (pos next *ℤ t)) [
         | inl same ↦ subst (λ z. IsExact (len ∷ next ∷ from) (z ∷ t ∷ strides) (other ∷ to)) (sym same)
-            (exact-step (bad-merged len next from t strides (other ∷ to) (long, omega arith))
+            (exact-by (bad-merged len next from t strides (other ∷ to) (long, omega arith))
             (strides-same (len ∷ next ∷ from) ((pos next *ℤ t) ∷ t ∷ strides) (len * next ∷ from) (t ∷ strides)
             (sym (mul_assoc len next (size from)))
             (λ r l. offset-merged len next from t strides r (here, some)))
@@ -239,7 +241,7 @@ exact-from rec {len} {other} (next ∷ from) {s} (t ∷ strides) {to} small long
               (bad-loose from t strides (other ∷ to) (long, omega arith) (omega arith, product-within len other to long less) apart));
           good = λ has.
               let f = first-stride has in
-              absurd (apart (whole-step long (omega arith) less some more (record { sizes = can.sizes; alike = f.alike })));
+              absurd (apart (whole-stride long (omega arith) less some more (record { sizes = can.sizes; alike = f.alike })));
         }
       ]
     ]
@@ -257,7 +259,7 @@ exact-to rec {first} {len} {from} {s} {strides} (next ∷ to) small long less ca
     let rest = is_empty-rest len (next ∷ to) can.more in
     let after = is_empty-rest next to rest in
     let here = some-len next to rest in
-    exact-step (bad-to-merged first len next to can.index less) (strides-to-merged can long less)
+    exact-by (bad-to-merged first len next to can.index less) (strides-to-merged can long less)
     (rec (first ∷ from) (s ∷ strides) (len * next ∷ to) (omega arith) (record {
       index = can.index;
       more = filled {len = len * next} to (mul-pos (omega arith) here) after;
@@ -276,7 +278,7 @@ exact-heads rec {len} {other} {from} {s} {strides} {to} small can =
     let sizes : len * size from ≡ other * size to = can.sizes in
     elim (cases_eq len 1) [
       | inl one ↦ subst (λ n. IsExact (n ∷ from) (s ∷ strides) (other ∷ to)) (sym one)
-          (exact-step (bad-from-one from s strides (other ∷ to))
+          (exact-by (bad-from-one from s strides (other ∷ to))
           (strides-same (1 ∷ from) (s ∷ strides) from strides (one-mul (size from)) (λ r l. offset-one from s strides l))
           (rec from strides (other ∷ to) (omega arith) (record {
             index = after;
@@ -287,7 +289,7 @@ exact-heads rec {len} {other} {from} {s} {strides} {to} small can =
         | inl one ↦
             let same : size (len ∷ from) ≡ size (1 ∷ to) = sizes ∙ ap (λ n. n * size to) one in
             subst (λ n. IsExact (len ∷ from) (s ∷ strides) (n ∷ to)) (sym one)
-            (exact-step (bad-to-one (len ∷ from) (s ∷ strides) to) (strides-to-one same)
+            (exact-by (bad-to-one (len ∷ from) (s ∷ strides) to) (strides-to-one same)
             (rec (len ∷ from) (s ∷ strides) to (omega arith) (record {
               index = can.index;
               more = rest;
@@ -298,7 +300,7 @@ exact-heads rec {len} {other} {from} {s} {strides} {to} small can =
               let same : size from ≡ size to =
               eq_of_mul-eq-mul_left len here (size from) (size to) (sizes ∙ ap (λ n. n * size to) (sym equal)) in
               subst (λ n. IsExact (len ∷ from) (s ∷ strides) (n ∷ to)) equal
-              (exact-step (bad-both len from s strides to here) (strides-both here (size_of_nonempty from after.some) same)
+              (exact-by (bad-both len from s strides to here) (strides-both here (size_of_nonempty from after.some) same)
               (rec from strides to (omega arith) (record { index = after; more = rest; sizes = same })))
           | inr (inl less) ↦ exact-from rec from strides small (omega arith) less can
           | inr (inr more) ↦ exact-to rec to small (omega arith) more can

@@ -1,7 +1,9 @@
 -- How far the index of a flat index lies, the axes read from the slowest on.
-use Rattle.std.proofs.Common.{◌≡◌, ℕ, suc, ◌+◌, ◌*◌, ◌/◌, ◌%◌, ◌<◌, ℤ, pos, ◌+ℤ◌, ◌*ℤ◌, List, [], ◌∷◌, length, refl, sym, ap, ap₂, ◌∙◌, arith}
+use Rattle.std.proofs.Common.{◌≡◌, ℕ, suc, ◌+◌, ◌*◌, ◌/◌, ◌%◌, ◌<◌, ℤ, pos, ◌+ℤ◌, ◌*ℤ◌, List, [], ◌∷◌, length, refl, sym, ap, ap₂}
+use Rattle.std.proofs.Common.{◌∙◌, arith}
 use Rattle.std.proofs.Math.Arith.{mod-mul}
-use Rattle.std.proofs.Math.Nat.{add-div_right, add-mod_right, div-add-mod, div-div-eq-div-mul, div-eq_of_lt, mod-eq_of_lt, mul_comm, one-mul, zero-div}
+use Rattle.std.proofs.Math.Nat.{add-div_right, add-mod_right, div-add-mod, div-div-eq-div-mul, div-eq_of_lt, mod-eq_of_lt, mul_comm}
+use Rattle.std.proofs.Math.Nat.{one-mul, zero-div}
 use Rattle.std.proofs.lemmas.Int.{ints}
 use Rattle.std.proofs.lemmas.Nat.{div-mul-add, mod-mul-add, mod_below}
 use Rattle.nd_base.proofs.laws.Definitions.{index_of_flat, size}
@@ -56,7 +58,7 @@ pub offset-one : (lens : List ℕ) (s : ℤ) (ss : List ℤ) {r : ℕ} → r < s
     → offset_at_flat_index (1 ∷ lens) (s ∷ ss) r ≡ offset_at_flat_index lens ss r
 offset-one lens s ss below = offset-within 1 lens s ss (omega (arith, one-mul (size lens)))
 
--- two axes that step as one are one
+-- two axes that are iterated over as one are one
 pub offset-merged : (len next : ℕ) (lens : List ℕ) (s : ℤ) (ss : List ℤ) (r : ℕ) → (0 < next) × (0 < size lens)
     → offset_at_flat_index (len ∷ next ∷ lens) ((pos next *ℤ s) ∷ s ∷ ss) r ≡ offset_at_flat_index (len * next ∷ lens) (s ∷ ss) r
 offset-merged len next lens s ss r (some, more) =

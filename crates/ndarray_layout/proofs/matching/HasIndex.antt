@@ -56,7 +56,8 @@ has_index-of-valid valid some = record { same_count = valid.same_count; some = s
 
 -- as far as the flat indices go, the index of a flat index lies as far along the one layout as along the other
 abbrev pub PlacesAlike : List ℕ → List ℤ → List ℕ → List ℤ → Type 0
-PlacesAlike from strides to others = (r : ℕ) → r < size from → offset_of others (index_of_flat to r) ≡ offset_of strides (index_of_flat from r)
+PlacesAlike from strides to others = (r : ℕ) → r < size from → offset_of others (index_of_flat to r) ≡ offset_of strides
+    (index_of_flat from r)
 
 -- axes with as many indices as others, and with their places
 pub record SamePlaces (from : List ℕ) (strides : List ℤ) (to : List ℕ) (others : List ℤ) : Type 0 where

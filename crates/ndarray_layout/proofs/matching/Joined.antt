@@ -1,16 +1,20 @@
 -- Two axes of one shape are read as one: of the old shape where they are iterated over as one, and of the new shape.
-use Rattle.std.proofs.Common.{◌≡◌, ◌≢◌, ℕ, zero, suc, ◌+◌, ◌-◌, ◌*◌, ◌<◌, ◌≤◌, ◌==◌, false, ℤ, pos, ◌*ℤ◌, List, [], ◌∷◌, ◌++◌, length, get_or}
+use Rattle.std.proofs.Common.{◌≡◌, ◌≢◌, ℕ, zero, suc, ◌+◌, ◌-◌, ◌*◌, ◌<◌, ◌≤◌, ◌==◌, ◌&&◌, false, ℤ, pos, ◌*ℤ◌, List, [], ◌∷◌, ◌++◌}
+use Rattle.std.proofs.Common.{length, get_or}
 use Rattle.std.proofs.Common.{refl, sym, ap, ap₂, ◌∙◌, inl, inr, arith, subst, None}
 use Rattle.std.specs.Prelude.{if◌then◌else◌, nat_lt}
-use Rattle.std.proofs.Math.Nat.{mul-le-mul_left, mul-one, mul-pos, mul_assoc, one-mul}
+use Rattle.std.proofs.Math.Bool.{and-false}
+use Rattle.std.proofs.Math.Nat.{mul-le-mul_left, mul-one, mul-pos, mul_assoc}
 use Rattle.std.proofs.lemmas.Bool.{both_ways, cases_eq, cond-false, le-ltb, ne_eqb}
 use Rattle.std.proofs.lemmas.Int.{unsigned_abs-mul}
-use Rattle.nd_base.proofs.laws.Definitions.{is_empty, limit, magnitude, size}
+use Rattle.nd_base.proofs.laws.Definitions.{is_empty, limit, magnitude, size, span}
 use Rattle.nd_base.proofs.laws.Size.{size_of_nonempty}
 use Rattle.nd_dim.specs.Strides.{size_after, size_until}
 use Rattle.ndarray_layout.specs.reshape.ForcedStrides.{offset_at_flat_index, ones_before, strides_of_ones}
+use Rattle.ndarray_layout.specs.reshape.Joints.{has_bad_joint}
 use Rattle.ndarray_layout.specs.private.ReshapeProgress.{CanMatch, GoesOn, Layouts, fault_of, forced, forced_at, with_from, with_to}
-use Rattle.ndarray_layout.proofs.matching.BadJoints.{IsNoProduct, bad-merged, bad-skip, bad-to-merged, is_product, product-merged, product-within}
+use Rattle.ndarray_layout.proofs.matching.BadJoints.{IsNoProduct, bad-merged, bad-skip, bad-to-merged, is_product, product-merged}
+use Rattle.ndarray_layout.proofs.matching.BadJoints.{product-within}
 use Rattle.ndarray_layout.proofs.matching.Blocks.{times-one}
 use Rattle.ndarray_layout.proofs.matching.Exact.{exactly, first-stride}
 use Rattle.ndarray_layout.proofs.matching.Faults.{fault-same, none-parts}
@@ -34,104 +38,58 @@ reach-joined (suc len) (suc next) m some more =
     sum : len * (suc next * m) + next * m ≡ (len * suc next + next) * m
     sum = omega arith
 
-module _ {len next : ℕ} {t : ℤ} {rest : Layouts} where
-  can-join : CanMatch (with_from len (pos next *ℤ t) (with_from next t rest)) → CanMatch (with_from (len * next) t rest)
-  can-join can =
-      let here = some-len len (next ∷ rest.from) can.some in
-      let after = is_empty-rest len (next ∷ rest.from) can.some in
-      let there = some-len next rest.from after in
-      let count = can.same_count in
-      let span_fits = can.span_fits in
-      let reach = reach-joined len next (magnitude t) here there in
-      let times : (len - 1) * magnitude (pos next *ℤ t) ≡ (len - 1) * (next * magnitude t) =
-      ap (λ m. (len - 1) * m) (unsigned_abs-mul (pos next) t) in
-      record {
+-- which are one of a stride, with the same joints and the same places
+turn-merged : {len next : ℕ} {s t : ℤ} (u : ℤ) {rest : Layouts} → CanMatch (with_from len s (with_from next t rest)) → 1 < len
+    → IsNoProduct rest.to len → span (len * next ∷ rest.from) (u ∷ rest.strides) ≤ limit
+    → has_bad_joint (len ∷ next ∷ rest.from) (s ∷ t ∷ rest.strides) rest.to ≡ has_bad_joint (len * next ∷ rest.from)
+        (u ∷ rest.strides) rest.to
+    → ((r : ℕ) → offset_at_flat_index (len ∷ next ∷ rest.from) (s ∷ t ∷ rest.strides) r
+    ≡ offset_at_flat_index (len * next ∷ rest.from) (u ∷ rest.strides) r)
+    → GoesOn (with_from len s (with_from next t rest)) (λ ss. ss) (with_from (len * next) u rest)
+turn-merged {len} {next} {s} {t} u {rest} can long apart fits bad same =
+    let count = can.same_count in
+    record {
+      can_match = record {
         same_count = omega arith;
-        some = filled rest.from (mul-pos here there) (is_empty-rest next rest.from after);
+        some = filled rest.from (mul-pos (omega arith) here) (is_empty-rest next rest.from after);
         more = can.more;
         from_fits = subst (λ n. n ≤ limit) (sym (mul_assoc len next (size rest.from))) can.from_fits;
         to_fits = can.to_fits;
-        span_fits = omega arith;
-      }
-
-  turn-join : CanMatch (with_from len (pos next *ℤ t) (with_from next t rest)) → 1 < len → 1 < next → IsNoProduct rest.to len
-      → GoesOn (with_from len (pos next *ℤ t) (with_from next t rest)) (λ ss. ss) (with_from (len * next) t rest)
-  turn-join can long longer apart = record {
-    can_match = can-join can;
-    fault = fault-same both one (bad-merged len next rest.from t rest.strides rest.to (long, longer))
-        (ap (λ n. n == size rest.to) (sym (mul_assoc len next (size rest.from))));
-    strides = λ none. forced-same both one can.more refl alike;
-  }
-    where
-      both : Layouts
-      both = with_from len (pos next *ℤ t) (with_from next t rest)
-
-      one : Layouts
-      one = with_from (len * next) t rest
-
-      alike : (axis : ℕ) → axis < length rest.to → AreDecidedAlike both axis one axis
-      alike axis l =
-          let q = size_until rest.to axis in
-          let after = is_empty-rest next rest.from (is_empty-rest len (next ∷ rest.from) can.some) in
-          let more : 1 < len * next = let twice : len * 1 ≤ len * next = mul-le-mul_left len (omega arith) in omega arith in
-          record {
-            len = refl;
-            long = λ longer_axis. offset-merged len next rest.from t rest.strides (size_after rest.to axis)
-                (omega arith, size_of_nonempty rest.from after);
-            product = product-merged len next rest.from q (λ e. apart axis (sym e));
-            read = λ coordinate known. ap (λ xs. get_or xs (ones_before rest.to q axis) (pos 1))
-                (ones_where-longer (λ n. n == q) (next ∷ rest.from) (pos next *ℤ t) (t ∷ rest.strides) (λ e. omega arith)
-                ∙ ones_where-longer (λ n. len * n == q) rest.from t rest.strides (λ e. omega arith)
-                ∙ (λ i. ones_where (λ n. sym (mul_assoc len next n) i == q) rest.from rest.strides)
-                ∙ sym (ones_where-longer (λ n. n == q) rest.from t rest.strides (λ e. omega arith)));
-          }
-
--- an axis of length 1 after a longer one
-turn-skip : {len : ℕ} {s t : ℤ} {rest : Layouts} → CanMatch (with_from len s (with_from 1 t rest)) → 1 < len → IsNoProduct rest.to len
-    → GoesOn (with_from len s (with_from 1 t rest)) (λ ss. ss) (with_from len s rest)
-turn-skip {len} {s} {t} {rest} can long apart = record {
-  can_match = after;
-  fault = fault-same both one (bad-skip len rest.from s t rest.strides rest.to)
-      (ap (λ n. len * n == size rest.to) (one-mul (size rest.from)));
-  strides = λ none. forced-same both one can.more refl alike;
-}
+        span_fits = fits;
+      };
+      fault = fault-same both one bad (ap (λ n. n == size rest.to) (sym (mul_assoc len next (size rest.from))));
+      strides = λ none. forced-same both one can.more refl alike;
+    }
   where
     both : Layouts
-    both = with_from len s (with_from 1 t rest)
+    both = with_from len s (with_from next t rest)
 
     one : Layouts
-    one = with_from len s rest
+    one = with_from (len * next) u rest
 
-    rest_some : is_empty rest.from ≡ false
-    rest_some = is_empty-rest 1 rest.from (is_empty-rest len (1 ∷ rest.from) can.some)
+    after : is_empty (next ∷ rest.from) ≡ false
+    after = is_empty-rest len (next ∷ rest.from) can.some
 
-    after : CanMatch one
-    after =
-        let count = can.same_count in
-        let span_fits = can.span_fits in
-        record {
-          same_count = omega arith;
-          some = filled rest.from (omega arith) rest_some;
-          more = can.more;
-          from_fits = subst (λ n. len * n ≤ limit) (one-mul (size rest.from)) can.from_fits;
-          to_fits = can.to_fits;
-          span_fits = omega arith;
-        }
+    here : 0 < next
+    here = some-len next rest.from after
 
     alike : (axis : ℕ) → axis < length rest.to → AreDecidedAlike both axis one axis
     alike axis l =
         let q = size_until rest.to axis in
+        let more : 1 < len * next = let twice : len * 1 ≤ len * next = mul-le-mul_left len here in omega arith in
         record {
           len = refl;
-          long = λ longer. offset-skip len rest.from s t rest.strides (size_after rest.to axis) (size_of_nonempty rest.from rest_some);
-          product = product-merged len 1 rest.from q (λ e. apart axis (sym e)) ∙ ap (λ n. is_product (n ∷ rest.from) q) (mul-one len);
+          long = λ longer. same (size_after rest.to axis);
+          product = product-merged len next rest.from q (λ e. apart axis (sym e));
           read = λ coordinate known. ap (λ xs. get_or xs (ones_before rest.to q axis) (pos 1))
-              (ones_where-longer (λ n. n == q) (1 ∷ rest.from) s (t ∷ rest.strides) (λ e. omega arith)
-              ∙ ones_where-next (λ n. len * n == q) 1 rest.from t rest.strides
-              ∙ ap (λ b. (if b then t ∷ [] else []) ++ ones_where (λ n. len * (1 * n) == q) rest.from rest.strides)
+              (ones_where-longer (λ n. n == q) (next ∷ rest.from) s (t ∷ rest.strides) (λ e. omega arith)
+              ∙ ones_where-next (λ n. len * n == q) next rest.from t rest.strides
+              ∙ ap (λ b. (if next == 1 && b then t ∷ [] else []) ++ ones_where (λ n. len * (next * n) == q) rest.from rest.strides)
               (ne_eqb (len * 1) q (λ e. apart axis (sym e ∙ mul-one len)))
-              ∙ (λ i. ones_where (λ n. len * one-mul n i == q) rest.from rest.strides)
-              ∙ sym (ones_where-longer (λ n. n == q) rest.from s rest.strides (λ e. omega arith)));
+              ∙ ap (λ b. (if b then t ∷ [] else []) ++ ones_where (λ n. len * (next * n) == q) rest.from rest.strides)
+              (and-false (next == 1))
+              ∙ (λ i. ones_where (λ n. sym (mul_assoc len next n) i == q) rest.from rest.strides)
+              ∙ sym (ones_where-longer (λ n. n == q) rest.from u rest.strides (λ e. omega arith)));
         }
 
 -- by what the test of the code says
@@ -140,15 +98,34 @@ pub turn-joined : {len next : ℕ} {s t : ℤ} {rest : Layouts} → CanMatch (wi
     → GoesOn (with_from len s (with_from next t rest)) (λ ss. ss) (with_from (len * next) t rest)
 turn-joined {len} {next} {s} {t} {rest} can long longer apart whole =
     subst (λ z. GoesOn (with_from len z (with_from next t rest)) (λ ss. ss) (with_from (len * next) t rest)) (sym whole)
-    (turn-join (subst (λ z. CanMatch (with_from len z (with_from next t rest))) whole can) long longer apart)
+    (joined (subst (λ z. CanMatch (with_from len z (with_from next t rest))) whole can))
+  where
+    joined : CanMatch (with_from len (pos next *ℤ t) (with_from next t rest))
+        → GoesOn (with_from len (pos next *ℤ t) (with_from next t rest)) (λ ss. ss) (with_from (len * next) t rest)
+    joined can =
+        let after = is_empty-rest next rest.from (is_empty-rest len (next ∷ rest.from) can.some) in
+        let reach = reach-joined len next (magnitude t) (omega arith) (omega arith) in
+        let times = ap (λ m. (len - 1) * m) (unsigned_abs-mul (pos next) t) in
+        turn-merged t can long apart (let fits = can.span_fits in omega arith)
+        (bad-merged len next rest.from t rest.strides rest.to (long, longer))
+        (λ r. offset-merged len next rest.from t rest.strides r (omega arith, size_of_nonempty rest.from after))
 
 pub turn-skipped : {len next : ℕ} {s t : ℤ} {rest : Layouts} → CanMatch (with_from len s (with_from next t rest)) → 1 < len → next ≡ 1
     → IsNoProduct rest.to len → GoesOn (with_from len s (with_from next t rest)) (λ ss. ss) (with_from (len * next) s rest)
 turn-skipped {len} {next} {s} {t} {rest} can long one apart =
-    let whole : len ≡ len * next = sym (ap (λ n. len * n) one ∙ mul-one len) in
-    subst (λ n. GoesOn (with_from len s (with_from next t rest)) (λ ss. ss) (with_from n s rest)) whole
-    (subst (λ n. GoesOn (with_from len s (with_from n t rest)) (λ ss. ss) (with_from len s rest)) (sym one)
-    (turn-skip (subst (λ n. CanMatch (with_from len s (with_from n t rest))) one can) long apart))
+    subst (λ n. GoesOn (with_from len s (with_from n t rest)) (λ ss. ss) (with_from (len * n) s rest)) (sym one)
+    (skipped (subst (λ n. CanMatch (with_from len s (with_from n t rest))) one can))
+  where
+    skipped : CanMatch (with_from len s (with_from 1 t rest))
+        → GoesOn (with_from len s (with_from 1 t rest)) (λ ss. ss) (with_from (len * 1) s rest)
+    skipped can =
+        let after = is_empty-rest 1 rest.from (is_empty-rest len (1 ∷ rest.from) can.some) in
+        let same = mul-one len in
+        let reach : (len * 1 - 1) * magnitude s ≡ (len - 1) * magnitude s = ap (λ n. (n - 1) * magnitude s) same in
+        turn-merged s can long apart (let fits = can.span_fits in omega arith)
+        (bad-skip len rest.from s t rest.strides rest.to ∙ ap (λ n. has_bad_joint (n ∷ rest.from) (s ∷ rest.strides) rest.to) (sym same))
+        (λ r. offset-skip len rest.from s t rest.strides r (size_of_nonempty rest.from after)
+        ∙ ap (λ n. offset_at_flat_index (n ∷ rest.from) (s ∷ rest.strides) r) (sym same))
 
 -- ---- two axes of the new shape, before the first axis of the old one is at its end
 -- each list of strides gives one with the stride of an axis more, of which it has the last one
@@ -204,7 +181,8 @@ module _ {first len next : ℕ} {s : ℤ} {rest : Layouts} (can : CanMatch (with
           } in
           stride_at-long both.from both.strides both.to 0 long
           ∙ sym (forced-of-alike 0 (record { same_count = omega arith; some = can.more }) at (omega arith) long)
-          ∙ ap (λ z. pos next *ℤ z) (forced-of-alike 0 (record { same_count = omega arith; some = can-join-to.more }) at_one (omega arith) more
+          ∙ ap (λ z. pos next *ℤ z) (forced-of-alike 0 (record { same_count = omega arith; some = can-join-to.more }) at_one
+          (omega arith) more
           ∙ sym (stride_at-long one.from one.strides one.to 0 more))
 
       -- one of length 1 has the stride of the axis before it
@@ -222,12 +200,14 @@ module _ {first len next : ℕ} {s : ℤ} {rest : Layouts} (can : CanMatch (with
       record {
         len = refl;
         long = λ longer. ap (offset_at_flat_index both.from both.strides)
-            (size_after-next len (next ∷ rest.to) (suc later) ∙ size_after-next next rest.to later ∙ sym (size_after-next (len * next) rest.to later));
+            (size_after-next len (next ∷ rest.to) (suc later) ∙ size_after-next next rest.to later
+            ∙ sym (size_after-next (len * next) rest.to later));
         product = ap (is_product both.from) (sym (mul_assoc len next q));
         read = λ coordinate known.
             let apart : len * next * q ≢ len = λ e. both_ways (is_product one.from len) (product-within len first rest.from long less)
             (ap (is_product one.from) (sym e) ∙ known) in
-            ap (λ n. get_or (strides_of_ones both.from both.strides n) (ones_before both.to n (suc (suc later))) (pos 1)) (sym (mul_assoc len next q))
+            ap (λ n. get_or (strides_of_ones both.from both.strides n) (ones_before both.to n (suc (suc later))) (pos 1))
+            (sym (mul_assoc len next q))
             ∙ ap (λ k. get_or (strides_of_ones both.from both.strides (len * next * q)) k (pos 1))
             (ones_before-joined len next rest.to (len * next * q) later long more apart);
       }

@@ -37,7 +37,8 @@ turn-through {rest = rest} first next =
 
 -- ---- one turn, by the first axes
 module _ {both : Layouts} (can : CanMatch both) {out others : List ℕ} where
-  pub both-read : {len new_len stride : ℕ} {from to : List ℕ} {strides : List ℤ} → both.from ≡ len ∷ from → both.strides ≡ signed stride ∷ strides
+  pub both-read : {len new_len stride : ℕ} {from to : List ℕ} {strides : List ℤ} → both.from ≡ len ∷ from
+      → both.strides ≡ signed stride ∷ strides
       → both.to ≡ new_len ∷ to → len ≡ new_len
       → {after : ℕ} → after ≡ length to → Writes after (stride ∷ []) out others
       → IsTurn both out (record { from = from; strides = strides; to = to }) others
@@ -132,7 +133,8 @@ module _ {both : Layouts} (can : CanMatch both) {len : ℕ} {rest : List ℕ} wh
 module _ {both rest : Layouts} {out others : List ℕ} (turn : IsTurn both out rest others) (e : rest.from ≡ []) (g : rest.to ≡ []) where
   pub all-fault : fault_of both ≡ None
   all-fault =
-      turn.goes_on.fault ∙ fault-none rest.from rest.strides rest.to (ap size e ∙ sym (ap size g)) (ap (λ xs. has_bad_joint xs rest.strides rest.to) e)
+      turn.goes_on.fault ∙ fault-none rest.from rest.strides rest.to (ap size e ∙ sym (ap size g))
+          (ap (λ xs. has_bad_joint xs rest.strides rest.to) e)
 
   pub all-strides : length out ≡ length both.to → all_signed others ≡ forced both
   all-strides room =

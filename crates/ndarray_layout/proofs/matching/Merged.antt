@@ -11,7 +11,8 @@ use Rattle.nd_base.specs.declared.error.ErrorKind.TheVariants.{IncompatibleShape
 use Rattle.nd_base.proofs.laws.Definitions.{all_signed, is_empty, limit, magnitude, signed, size}
 use Rattle.nd_base.proofs.laws.Size.{size-push, size_of_nonempty}
 use Rattle.ndarray_layout.specs.reshape.Joints.{has_bad_joint}
-use Rattle.ndarray_layout.specs.private.ReshapeProgress.{AreHeads, CanMatch, GoesOn, IsBlock, Layouts, block_strides, fault_of, forced, with_from, with_to}
+use Rattle.ndarray_layout.specs.private.ReshapeProgress.{AreHeads, CanMatch, GoesOn, IsBlock, Layouts, block_strides, fault_of}
+use Rattle.ndarray_layout.specs.private.ReshapeProgress.{forced, with_from, with_to}
 use Rattle.ndarray_layout.proofs.matching.BadJoints.{IsNoProduct-within, bad-larger, bad-lone, bad-loose, product-within}
 use Rattle.ndarray_layout.proofs.matching.Blocks.{block_strides-push, times-one}
 use Rattle.ndarray_layout.proofs.matching.Faults.{fault-layout, fault-shape}
@@ -174,7 +175,8 @@ module _ {both : Layouts} {len product : ℕ} {s : ℤ} {rest : Layouts} (before
 
 -- ---- or of the old one
 module _ {both : Layouts} {len product : ℕ} {s : ℤ} {rest : Layouts} (before : IsJoined both len s product rest)
-    {next : ℕ} {from : List ℕ} (from_is : rest.from ≡ next ∷ from) {z : ℤ} {strides : List ℤ} (strides_are : rest.strides ≡ z ∷ strides) where
+    {next : ℕ} {from : List ℕ} (from_is : rest.from ≡ next ∷ from) {z : ℤ} {strides : List ℤ}
+        (strides_are : rest.strides ≡ z ∷ strides) where
   abbrev pub without_old : Layouts
   without_old = record { from = from; strides = strides; to = rest.to }
 

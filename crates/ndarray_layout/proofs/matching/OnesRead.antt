@@ -1,5 +1,6 @@
 -- The axes of length 1 at products that pass a test: their strides, and how many stand before an axis, as a shape loses its first axis.
-use Rattle.std.proofs.Common.{◌≡◌, ◌≢◌, ℕ, zero, suc, ◌+◌, ◌*◌, ◌<◌, ◌≤◌, ◌==◌, ◌&&◌, Bool, true, false, cond, ℤ, pos, List, [], ◌∷◌, ◌++◌, length, get_or, map}
+use Rattle.std.proofs.Common.{◌≡◌, ◌≢◌, ℕ, zero, suc, ◌+◌, ◌*◌, ◌<◌, ◌≤◌, ◌==◌, ◌&&◌, Bool, true, false, cond, ℤ, pos, List, []}
+use Rattle.std.proofs.Common.{◌∷◌, ◌++◌, length, get_or, map}
 use Rattle.std.proofs.Common.{take, refl, sym, ap, ap₂, ◌∙◌, arith, add-one}
 use Rattle.std.specs.List.{filter, range_with_len}
 use Rattle.std.specs.Prelude.{if◌then◌else◌}
@@ -25,7 +26,8 @@ filter-map p (x ∷ xs) = by (p (suc x)) (filter (λ y. p (suc y)) xs) (filter-m
     by true zs e = ap (λ ys. suc x ∷ ys) e
     by false zs e = e
 
-filter-below : (p : ℕ → Bool) (n : ℕ) → filter p (below (suc n)) ≡ (if p 0 then 0 ∷ [] else []) ++ map suc (filter (λ k. p (suc k)) (below n))
+filter-below : (p : ℕ → Bool) (n : ℕ) → filter p (below (suc n)) ≡ (if p 0 then 0 ∷ [] else []) ++ map suc
+    (filter (λ k. p (suc k)) (below n))
 filter-below p n = by (p 0) (ap (filter p) (range-shift 0 n) ∙ filter-map p (below n))
   where
     by : (b : Bool) {xs ys : List ℕ} → xs ≡ ys → cond b (0 ∷ xs) xs ≡ (if b then 0 ∷ [] else []) ++ ys
@@ -86,12 +88,14 @@ ones_before-joined len next lens q axis long more other =
     let later = ones_count (λ n. len * (next * n) == q) lens axis in
     let none : 0 + (0 + later) ≡ 0 + later = omega arith in
     ones_count-next (λ n. n == q) len (next ∷ lens) (suc axis)
-    ∙ ap₂ (λ b n. (if b && (1 == q) then 1 else 0) + n) (ne_eqb len 1 (λ e. omega arith)) (ones_count-next (λ n. len * n == q) next lens axis
+    ∙ ap₂ (λ b n. (if b && (1 == q) then 1 else 0) + n) (ne_eqb len 1 (λ e. omega arith))
+    (ones_count-next (λ n. len * n == q) next lens axis
     ∙ ap (λ b. (if next == 1 && b then 1 else 0) + later) (ne_eqb (len * 1) q (λ e. other (sym e ∙ mul-one len)))
     ∙ ap (λ b. (if b then 1 else 0) + later) (and-false (next == 1)))
     ∙ none ∙ (λ i. 0 + ones_count (λ n. sym (mul_assoc len next n) i == q) lens axis)
     ∙ sym (ones_count-next (λ n. n == q) (len * next) lens axis
-    ∙ ap (λ b. (if b && (1 == q) then 1 else 0) + ones_count (λ n. len * next * n == q) lens axis) (ne_eqb (len * next) 1 (λ e. omega arith)))
+    ∙ ap (λ b. (if b && (1 == q) then 1 else 0) + ones_count (λ n. len * next * n == q) lens axis)
+    (ne_eqb (len * next) 1 (λ e. omega arith)))
 
 -- ---- at a product
 -- a longer axis in front has no part in them

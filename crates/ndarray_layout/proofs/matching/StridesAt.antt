@@ -70,7 +70,8 @@ later-alike both count rest some first alike (suc axis) (suc later) e l =
 pub maps-agree : (f g : ℕ → ℤ) (start count : ℕ) → ((k : ℕ) → k < start + count → f k ≡ g k)
     → map f (range_with_len start count) ≡ map g (range_with_len start count)
 maps-agree f g start zero same = refl
-maps-agree f g start (suc count) same = ap₂ (λ x xs. x ∷ xs) (same start (omega arith)) (maps-agree f g (start + 1) count (λ k l. same k (omega arith)))
+maps-agree f g start (suc count) same = ap₂ (λ x xs. x ∷ xs) (same start (omega arith))
+    (maps-agree f g (start + 1) count (λ k l. same k (omega arith)))
 
 pub forced-same : (both rest : Layouts) → is_empty rest.to ≡ false → length both.to ≡ length rest.to
     → ((later : ℕ) → later < length rest.to → AreDecidedAlike both later rest later) → forced both ≡ forced rest
@@ -92,7 +93,8 @@ forced-after both rest some count first alike =
     ∙ ap (λ ss. forced_at both 0 ∷ ss) (map-suc (forced_at both) (below (length rest.to))
     ∙ maps-agree (λ axis. forced_at both (suc axis)) (forced_at rest) 0 (length rest.to) (λ later l. later-alike both 1 rest some first
     (λ axis later e after l.
-    let same : axis ≡ suc later = omega arith in subst (λ a. AreDecidedAlike both a rest later) (sym same) (alike later after l)) (suc later) later
+    let same : axis ≡ suc later = omega arith in subst (λ a. AreDecidedAlike both a rest later) (sym same) (alike later after l))
+        (suc later) later
     (omega arith) (omega arith)))
 
 pub forced-next : (both rest : Layouts) → is_empty rest.to ≡ false → length both.to ≡ suc (length rest.to)

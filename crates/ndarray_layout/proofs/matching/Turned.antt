@@ -56,8 +56,8 @@ module _ {order read : Order} (from strides to : List ℕ) (is : order ≡ read)
       ∙ sym (ap (λ o. forced_strides o from (all_signed strides) to) is)
 
 -- layouts of equal lists are equal
-pub layouts-same : {lens steps news from strides to : List ℕ} → lens ≡ from → steps ≡ strides → news ≡ to
-    → layouts lens steps news ≡ layouts from strides to
+pub layouts-same : {lens others news from strides to : List ℕ} → lens ≡ from → others ≡ strides → news ≡ to
+    → layouts lens others news ≡ layouts from strides to
 layouts-same e f g = λ i. layouts (e i) (f i) (g i)
 
 -- strides that are those of the definition keep the places

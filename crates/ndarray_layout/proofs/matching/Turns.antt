@@ -63,7 +63,8 @@ can-past-to {len} {rest} can =
     }
 
 pub size_after-next : (len : ℕ) (lens : List ℕ) (axis : ℕ) → size_after (len ∷ lens) (suc axis) ≡ size_after lens axis
-size_after-next len lens axis = ap (λ n. size (drop n (len ∷ lens))) (add-one (suc axis)) ∙ sym (ap (λ n. size (drop n lens)) (add-one axis))
+size_after-next len lens axis = ap (λ n. size (drop n (len ∷ lens))) (add-one (suc axis))
+    ∙ sym (ap (λ n. size (drop n lens)) (add-one axis))
 
 -- ---- an axis of one length of each
 pub turn-both : {len : ℕ} {s : ℤ} {rest : Layouts} → CanMatch (with_from len s (with_to len rest))
@@ -94,7 +95,8 @@ turn-both {len} {s} {rest} can = record {
           ∙ omega (arith, ints)
     ]
 
-    by : (b : Bool) (xs : List ℤ) (n : ℕ) → get_or ((if b then s ∷ [] else []) ++ xs) ((if b then 1 else 0) + n) (pos 1) ≡ get_or xs n (pos 1)
+    by : (b : Bool) (xs : List ℤ) (n : ℕ) → get_or ((if b then s ∷ [] else []) ++ xs) ((if b then 1 else 0) + n) (pos 1) ≡ get_or xs n
+        (pos 1)
     by true xs n = let next : 1 + n ≡ suc n = omega arith in ap (λ k. get_or (s ∷ xs) k (pos 1)) next
     by false xs n = let same : 0 + n ≡ n = omega arith in ap (λ k. get_or xs k (pos 1)) same
 
@@ -174,7 +176,8 @@ turn-to-one {rest} can longer = record {
     after = can-past-to can
 
     first : forced_at both 0 ≡ pos 1
-    first = cond-true (is_product rest.from 1) (get_or (strides_of_ones rest.from rest.strides 1) 0 (pos 1)) (pos 1) (product-none rest.from)
+    first = cond-true (is_product rest.from 1) (get_or (strides_of_ones rest.from rest.strides 1) 0 (pos 1)) (pos 1)
+        (product-none rest.from)
         ∙ ap (λ xs. get_or xs 0 (pos 1)) (ones-none rest.from rest.strides can.same_count can.some longer)
 
     alike : (later : ℕ) → later < length rest.to → AreDecidedAlike both (suc later) rest later
@@ -185,7 +188,8 @@ turn-to-one {rest} can longer = record {
           long = λ long. ap (offset_at_flat_index rest.from rest.strides) (size_after-next 1 rest.to later);
           product = ap (is_product rest.from) (one-mul q);
           read = λ one known.
-              ap₂ (λ n k. get_or (strides_of_ones rest.from rest.strides n) k (pos 1)) (one-mul q) (ones_before-past 1 rest.to q later (omega arith))
+              ap₂ (λ n k. get_or (strides_of_ones rest.from rest.strides n) k (pos 1)) (one-mul q)
+              (ones_before-past 1 rest.to q later (omega arith))
               ∙ elim (cases_Bool (1 == 1 * q)) [
                 | inl first ↦
                     let at_one : q ≡ 1 = let e = eqb-true 1 (1 * q) first in omega arith in

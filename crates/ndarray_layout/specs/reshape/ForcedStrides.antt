@@ -34,7 +34,7 @@ stride_of_one from strides to axis previous =
     then slice_index_or (strides_of_ones from strides (size_until to axis)) (ones_before to (size_until to axis) axis) (pos 1)
     else previous)
 
--- an axis longer than 1 steps as far as the old layout does over as many indices as the axes read after it have
+-- the stride of an axis longer than 1 is as far as the old layout goes over as many indices as the axes read after it have
 abbrev pub stride_of_axis : List ℕ → List ℤ → List ℕ → ℕ → ℤ → ℤ
 stride_of_axis from strides to axis previous =
     (if nat_lt 1 (slice_index to axis) then offset_at_flat_index from strides (size_after to axis) else stride_of_one from strides to axis previous)

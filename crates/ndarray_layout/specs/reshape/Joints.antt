@@ -11,12 +11,12 @@ first_longer [] strides = None
 first_longer (len ∷ lens) [] = None
 first_longer (len ∷ lens) (stride ∷ strides) = (if nat_lt 1 len then Some (len, stride) else first_longer lens strides)
 
--- a step of an axis isn't the whole of the next longer one: its length times its stride
+-- the stride of an axis isn't the whole of the next longer one: its length times its stride
 abbrev pub is_loose : ℤ → Option (ℕ × ℤ) → Bool
 is_loose stride None = false
 is_loose stride (Some next) = not (int_eq stride (pos next.0 *ℤ next.1))
 
--- where two longer axes that follow one another don't step as one, the product of all lengths read before the later one
+-- where two longer axes that follow one another can't be iterated over as one, the product of all lengths read before the later one
 abbrev pub loose_joints : List ℕ → List ℤ → List ℕ
 loose_joints [] strides = []
 loose_joints (len ∷ lens) [] = []

@@ -52,7 +52,7 @@ impl<D: Lengths> Strided<D> {
     /// `Overflow` where the product of the lengths that are not 0 is greater than `isize::MAX`;
     /// then `IncompatibleShape` where one of the two shapes alone has no index; then out of memory,
     /// never where the type fixes the count of axes or there are at most 4; then
-    /// `IncompatibleLayout` where two axes would have to step as one and don't; then
+    /// `IncompatibleLayout` where two axes would have to be iterated over as one and can't; then
     /// `IncompatibleShape` where the sizes differ.
     ///
     /// `[2,3]` with strides `[3,1]` to `[3,2]`: `[2,1]` in row-major order, `IncompatibleLayout` in

@@ -11,7 +11,8 @@ returns-then-item-ne1-clause-fault c =
     let turn = c.loop-axis.invariant.turn in
     turn.goes_on.fault
     ∙ from-over-fault turn.goes_on.can_match
-    (drop_all c.args.at.from_axes (as_read both.order both.from.now) (omega (arith, c.requires.over, length-as_read both.order both.from.now)))
+    (drop_all c.args.at.from_axes (as_read both.order both.from.now)
+    (omega (arith, c.requires.over, length-as_read both.order both.from.now)))
     c.item.ensures c.if-item-ne1.true
     ∙ ap Some (sym c.from_kind.ensures)
 

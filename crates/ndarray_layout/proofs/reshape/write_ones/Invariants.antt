@@ -6,6 +6,7 @@ use Rattle.ndarray_layout.proofs.reshape.write_ones.Given as goal
 
 abbrev pub invariant-loop-axis : goal.invariant-loop-axis
 invariant-loop-axis l = record {
-  turn : IsTurn (left_at l.both l.fn.at) (as_read l.both.order l.fn.out) (left_in l.both l.fn.at.from_axes l.axis) (as_read l.both.order l.out);
+  turn : IsTurn (left_at l.both l.fn.at) (as_read l.both.order l.fn.out) (left_in l.both l.fn.at.from_axes l.axis)
+      (as_read l.both.order l.out);
   room : length l.out ≡ length l.both.to.now;
 }

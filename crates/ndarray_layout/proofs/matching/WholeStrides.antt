@@ -1,5 +1,6 @@
--- Where two layouts have the same places, the slowest axis of fewer coordinates steps by the whole of the axis after it.
-use Rattle.std.proofs.Common.{◌≡◌, ℕ, zero, suc, ◌+◌, ◌-◌, ◌*◌, ◌<◌, ◌≤◌, ℤ, pos, ◌+ℤ◌, ◌*ℤ◌, List, ◌∷◌, refl, sym, ap, ◌∙◌, inl, inr, arith}
+-- Where two layouts have the same places, the stride of the slowest axis of fewer coordinates is the whole of the axis after it.
+use Rattle.std.proofs.Common.{◌≡◌, ℕ, zero, suc, ◌+◌, ◌-◌, ◌*◌, ◌<◌, ◌≤◌, ℤ, pos, ◌+ℤ◌, ◌*ℤ◌, List, ◌∷◌, refl, sym, ap, ◌∙◌, inl}
+use Rattle.std.proofs.Common.{inr, arith}
 use Rattle.std.proofs.Math.Nat.{mul-le-mul_left, mul-le-mul_right}
 use Rattle.std.proofs.lemmas.Bool.{cases_lt}
 use Rattle.std.proofs.lemmas.Int.{ints}
@@ -8,7 +9,7 @@ use Rattle.ndarray_layout.specs.reshape.ForcedStrides.{offset_at_flat_index}
 use Rattle.ndarray_layout.proofs.matching.HasIndex.{SamePlaces}
 use Rattle.ndarray_layout.proofs.matching.FlatOffsets.{offset-whole, offset-within, offset-further, next-times}
 
--- by places that lie a step of the longer axis apart, on one side or the other
+-- by places that lie a stride of the longer axis apart, on one side or the other
 record AreBelow (q : ℕ) (s t u x y : ℤ) : Type 0 where
   pub turn : pos 1 *ℤ s ≡ u +ℤ x
   pub last : pos q *ℤ t ≡ u +ℤ y
@@ -35,11 +36,11 @@ fewer-each len other part rest l some e = elim (cases_lt rest part) [
       absurd (omega arith)
 ]
 
-pub whole-step : {len next other : ℕ} {lens others : List ℕ} {s t u : ℤ} {ss us : List ℤ} → 1 < len → 1 < next → len < other
+pub whole-stride : {len next other : ℕ} {lens others : List ℕ} {s t u : ℤ} {ss us : List ℤ} → 1 < len → 1 < next → len < other
     → 0 < size lens → 0 < size others → SamePlaces (len ∷ next ∷ lens) (s ∷ t ∷ ss) (other ∷ others) (u ∷ us)
     → s ≡ pos next *ℤ t
-whole-step {next = zero} long longer less some more same = absurd (omega arith)
-whole-step {len} {next = suc q} {other} {lens} {others} {s} {t} {u} {ss} {us} long longer less some more same =
+whole-stride {next = zero} long longer less some more same = absurd (omega arith)
+whole-stride {len} {next = suc q} {other} {lens} {others} {s} {t} {u} {ss} {us} long longer less some more same =
     elim (cases_lt (size others) (size lens)) [ inl down ↦ below down | inr up ↦ above up ]
   where
     n : ℕ
@@ -65,7 +66,8 @@ whole-step {len} {next = suc q} {other} {lens} {others} {s} {t} {u} {ss} {us} lo
     there = let one : 1 * n ≤ q * n = mul-le-mul_right n (omega arith) in omega arith
 
     first : offset_at_flat_index (len ∷ suc q ∷ lens) (s ∷ t ∷ ss) turn ≡ pos 1 *ℤ s
-    first = offset-whole len (suc q ∷ lens) s (t ∷ ss) 1 (omega (arith, turn_is, fewer, several, there)) (omega (arith, turn_is, fewer, several, there))
+    first = offset-whole len (suc q ∷ lens) s (t ∷ ss) 1 (omega (arith, turn_is, fewer, several, there))
+        (omega (arith, turn_is, fewer, several, there))
 
     inner : {x : ℕ} → x < turn → offset_at_flat_index (len ∷ suc q ∷ lens) (s ∷ t ∷ ss) x ≡ offset_at_flat_index (suc q ∷ lens) (t ∷ ss) x
     inner l = offset-within len (suc q ∷ lens) s (t ∷ ss) l
