@@ -3,7 +3,7 @@ use Rattle.std.proofs.Common.{◌≡◌, ℕ, zero, suc, ◌+◌, ◌*◌, ◌/�
 use Rattle.std.proofs.Common.{refl, sym, ap, ◌∙◌, ◌⊎◌, inl, inr, arith, subst}
 use Rattle.std.specs.Ordering.{int_eq}
 use Rattle.std.specs.Prelude.{◌↔◌}
-use Rattle.std.proofs.Math.Nat.{eq_of_mul-eq-mul_left, mul-le-mul_left, mul-le-mul_right, mul-pos, mul_assoc, one-mul}
+use Rattle.std.proofs.Math.Nat.{eq_of_mul-eq-mul_left, mul-le-mul_left, mul-le-mul_right, mul-one, mul-pos, mul_assoc, one-mul}
 use Rattle.std.proofs.lemmas.Bool.{both_ways, cases_Bool, cases_eq, cases_order}
 use Rattle.std.proofs.lemmas.Bool.Decides.{Decides-int_eq}
 use Rattle.std.proofs.lemmas.Int.{ints}
@@ -199,6 +199,48 @@ int_cases x y =
       | inr differ ↦ inr (λ e. both_ways (int_eq x y) differ ((Decides-int_eq x y).1 e))
     ]
 
+-- two axes of the old shape have the joints and the places of one with a stride
+pub record AreOne (len next : ℕ) (s t u : ℤ) (from : List ℕ) (strides : List ℤ) : Type 0 where
+  pub joints : (to : List ℕ) → has_bad_joint (len ∷ next ∷ from) (s ∷ t ∷ strides) to ≡ has_bad_joint (len * next ∷ from) (u ∷ strides) to
+  pub offsets : (r : ℕ) → offset_at_flat_index (len ∷ next ∷ from) (s ∷ t ∷ strides) r
+      ≡ offset_at_flat_index (len * next ∷ from) (u ∷ strides) r
+
+-- that of the later one where they are iterated over as one
+pub are-whole : {len next : ℕ} {s t : ℤ} {from : List ℕ} (strides : List ℤ) → 1 < len → 1 < next → 0 < size from → s ≡ pos next *ℤ t
+    → AreOne len next s t t from strides
+are-whole {len} {next} {t = t} {from} strides long longer some whole = record {
+  joints = λ to. ap (λ z. has_bad_joint (len ∷ next ∷ from) (z ∷ t ∷ strides) to) whole
+      ∙ bad-merged len next from t strides to (long, longer);
+  offsets = λ r. ap (λ z. offset_at_flat_index (len ∷ next ∷ from) (z ∷ t ∷ strides) r) whole
+      ∙ offset-merged len next from t strides r (omega arith, some);
+}
+
+-- and that of the earlier one before an axis of length 1
+pub are-skipped : {len next : ℕ} (s t : ℤ) {from : List ℕ} (strides : List ℤ) → next ≡ 1 → 0 < size from
+    → AreOne len next s t s from strides
+are-skipped {len} {next} s t {from} strides one some =
+    let same : len ≡ len * next = sym (ap (λ n. len * n) one ∙ mul-one len) in
+    record {
+      joints = λ to. ap (λ n. has_bad_joint (len ∷ n ∷ from) (s ∷ t ∷ strides) to) one ∙ bad-skip len from s t strides to
+          ∙ ap (λ n. has_bad_joint (n ∷ from) (s ∷ strides) to) same;
+      offsets = λ r. ap (λ n. offset_at_flat_index (len ∷ n ∷ from) (s ∷ t ∷ strides) r) one ∙ offset-skip len from s t strides r some
+          ∙ ap (λ n. offset_at_flat_index (n ∷ from) (s ∷ strides) r) same;
+    }
+
+exact-one : {n : ℕ} → ExactBelow n → {len next other : ℕ} {from : List ℕ} {s t u : ℤ} {strides : List ℤ} {to : List ℕ}
+    → suc (suc (length from)) + length to ≤ n → HaveAsMany (len ∷ next ∷ from) (s ∷ t ∷ strides) (other ∷ to)
+    → AreOne len next s t u from strides → IsExact (len ∷ next ∷ from) (s ∷ t ∷ strides) (other ∷ to)
+exact-one rec {len} {next} {other} {from} {s} {t} {u} {strides} {to} small can are =
+    let rest = rest-has_index can.index in
+    let sizes = mul_assoc len next (size from) in
+    exact-by (are.joints (other ∷ to)) (strides-same (len ∷ next ∷ from) (s ∷ t ∷ strides) (len * next ∷ from) (u ∷ strides) (sym sizes)
+    (λ r l. are.offsets r))
+    (rec (len * next ∷ from) (u ∷ strides) (other ∷ to) (omega arith) (record {
+      index = with-axis u (mul-pos (some-len len (next ∷ from) can.index.some) (some-len next from rest.some)) (rest-has_index rest);
+      more = can.more;
+      sizes = sizes ∙ can.sizes;
+    }))
+
 -- the first axis of the old shape is the shorter one
 exact-from : {n : ℕ} → ExactBelow n → {len other : ℕ} (from : List ℕ) {s : ℤ} (strides : List ℤ) {to : List ℕ}
     → suc (length from) + length to ≤ n → 1 < len → len < other → HaveAsMany (len ∷ from) (s ∷ strides) (other ∷ to)
@@ -216,26 +258,9 @@ exact-from rec {len} {other} (next ∷ from) {s} (t ∷ strides) {to} small long
     let more = size_of_nonempty to (is_empty-rest other to can.more) in
     let within : other * 1 ≤ other * size to = mul-le-mul_left other more in
     elim (cases_eq next 1) [
-      | inl one ↦ subst (λ n. IsExact (len ∷ n ∷ from) (s ∷ t ∷ strides) (other ∷ to)) (sym one)
-          (exact-by (bad-skip len from s t strides (other ∷ to))
-          (strides-same (len ∷ 1 ∷ from) (s ∷ t ∷ strides) (len ∷ from) (s ∷ strides) (ap (λ n. len * n) (one-mul (size from)))
-          (λ r l. offset-skip len from s t strides r some))
-          (rec (len ∷ from) (s ∷ strides) (other ∷ to) (omega arith) (record {
-            index = with-axis s (omega arith) after;
-            more = can.more;
-            sizes = ap (λ n. len * n) (sym (one-mul (size from))) ∙ ap (λ n. len * (n * size from)) (sym one) ∙ can.sizes;
-          })))
+      | inl one ↦ exact-one rec (omega arith) can (are-skipped s t strides one some)
       | inr longer ↦ elim (int_cases s (pos next *ℤ t)) [
-        | inl same ↦ subst (λ z. IsExact (len ∷ next ∷ from) (z ∷ t ∷ strides) (other ∷ to)) (sym same)
-            (exact-by (bad-merged len next from t strides (other ∷ to) (long, omega arith))
-            (strides-same (len ∷ next ∷ from) ((pos next *ℤ t) ∷ t ∷ strides) (len * next ∷ from) (t ∷ strides)
-            (sym (mul_assoc len next (size from)))
-            (λ r l. offset-merged len next from t strides r (here, some)))
-            (rec (len * next ∷ from) (t ∷ strides) (other ∷ to) (omega arith) (record {
-              index = with-axis t (mul-pos (omega arith) here) after;
-              more = can.more;
-              sizes = mul_assoc len next (size from) ∙ can.sizes;
-            })))
+        | inl same ↦ exact-one rec (omega arith) can (are-whole strides long (omega arith) some same)
         | inr apart ↦ record {
           made = λ good. absurd (both_ways (has_bad_joint (len ∷ next ∷ from) (s ∷ t ∷ strides) (other ∷ to)) good
               (bad-loose from t strides (other ∷ to) (long, omega arith) (omega arith, product-within len other to long less) apart));

@@ -11,14 +11,13 @@ use Rattle.nd_base.proofs.laws.Definitions.{is_empty, limit, magnitude, size, sp
 use Rattle.nd_base.proofs.laws.Size.{size_of_nonempty}
 use Rattle.nd_dim.specs.Strides.{size_after, size_until}
 use Rattle.ndarray_layout.specs.reshape.ForcedStrides.{offset_at_flat_index, ones_before, strides_of_ones}
-use Rattle.ndarray_layout.specs.reshape.Joints.{has_bad_joint}
 use Rattle.ndarray_layout.specs.private.ReshapeProgress.{CanMatch, GoesOn, Layouts, fault_of, forced, forced_at, with_from, with_to}
-use Rattle.ndarray_layout.proofs.matching.BadJoints.{IsNoProduct, bad-merged, bad-skip, bad-to-merged, is_product, product-merged}
+use Rattle.ndarray_layout.proofs.matching.BadJoints.{IsNoProduct, bad-to-merged, is_product, product-merged}
 use Rattle.ndarray_layout.proofs.matching.BadJoints.{product-within}
 use Rattle.ndarray_layout.proofs.matching.Blocks.{times-one}
-use Rattle.ndarray_layout.proofs.matching.Exact.{exactly, first-stride}
+use Rattle.ndarray_layout.proofs.matching.Exact.{AreOne, are-skipped, are-whole, exactly, first-stride}
 use Rattle.ndarray_layout.proofs.matching.Faults.{fault-same, none-parts}
-use Rattle.ndarray_layout.proofs.matching.FlatOffsets.{offset-merged, offset-skip}
+use Rattle.ndarray_layout.proofs.matching.FlatOffsets.{offset-merged}
 use Rattle.ndarray_layout.proofs.matching.Forced.{forced-of-alike, stride_at-long}
 use Rattle.ndarray_layout.proofs.matching.HasIndex.{HasIndex, SamePlaces, filled, is_empty-rest, some-len}
 use Rattle.ndarray_layout.proofs.matching.OnesRead.{ones_before-joined, ones_where, ones_where-longer, ones_where-next}
@@ -38,15 +37,11 @@ reach-joined (suc len) (suc next) m some more =
     sum : len * (suc next * m) + next * m ≡ (len * suc next + next) * m
     sum = omega arith
 
--- which are one of a stride, with the same joints and the same places
-turn-merged : {len next : ℕ} {s t : ℤ} (u : ℤ) {rest : Layouts} → CanMatch (with_from len s (with_from next t rest)) → 1 < len
-    → IsNoProduct rest.to len → span (len * next ∷ rest.from) (u ∷ rest.strides) ≤ limit
-    → has_bad_joint (len ∷ next ∷ rest.from) (s ∷ t ∷ rest.strides) rest.to ≡ has_bad_joint (len * next ∷ rest.from)
-        (u ∷ rest.strides) rest.to
-    → ((r : ℕ) → offset_at_flat_index (len ∷ next ∷ rest.from) (s ∷ t ∷ rest.strides) r
-    ≡ offset_at_flat_index (len * next ∷ rest.from) (u ∷ rest.strides) r)
+-- which are one of a stride
+turn-one : {len next : ℕ} {s t u : ℤ} {rest : Layouts} → CanMatch (with_from len s (with_from next t rest)) → 1 < len
+    → IsNoProduct rest.to len → AreOne len next s t u rest.from rest.strides → span (len * next ∷ rest.from) (u ∷ rest.strides) ≤ limit
     → GoesOn (with_from len s (with_from next t rest)) (λ ss. ss) (with_from (len * next) u rest)
-turn-merged {len} {next} {s} {t} u {rest} can long apart fits bad same =
+turn-one {len} {next} {s} {t} {u} {rest} can long apart are fits =
     let count = can.same_count in
     record {
       can_match = record {
@@ -57,7 +52,7 @@ turn-merged {len} {next} {s} {t} u {rest} can long apart fits bad same =
         to_fits = can.to_fits;
         span_fits = fits;
       };
-      fault = fault-same both one bad (ap (λ n. n == size rest.to) (sym (mul_assoc len next (size rest.from))));
+      fault = fault-same both one (are.joints rest.to) (ap (λ n. n == size rest.to) (sym (mul_assoc len next (size rest.from))));
       strides = λ none. forced-same both one can.more refl alike;
     }
   where
@@ -79,7 +74,7 @@ turn-merged {len} {next} {s} {t} u {rest} can long apart fits bad same =
         let more : 1 < len * next = let twice : len * 1 ≤ len * next = mul-le-mul_left len here in omega arith in
         record {
           len = refl;
-          long = λ longer. same (size_after rest.to axis);
+          long = λ longer. are.offsets (size_after rest.to axis);
           product = product-merged len next rest.from q (λ e. apart axis (sym e));
           read = λ coordinate known. ap (λ xs. get_or xs (ones_before rest.to q axis) (pos 1))
               (ones_where-longer (λ n. n == q) (next ∷ rest.from) s (t ∷ rest.strides) (λ e. omega arith)
@@ -93,39 +88,24 @@ turn-merged {len} {next} {s} {t} u {rest} can long apart fits bad same =
         }
 
 -- by what the test of the code says
-pub turn-joined : {len next : ℕ} {s t : ℤ} {rest : Layouts} → CanMatch (with_from len s (with_from next t rest)) → 1 < len → 1 < next
-    → IsNoProduct rest.to len → s ≡ pos next *ℤ t
-    → GoesOn (with_from len s (with_from next t rest)) (λ ss. ss) (with_from (len * next) t rest)
-turn-joined {len} {next} {s} {t} {rest} can long longer apart whole =
-    subst (λ z. GoesOn (with_from len z (with_from next t rest)) (λ ss. ss) (with_from (len * next) t rest)) (sym whole)
-    (joined (subst (λ z. CanMatch (with_from len z (with_from next t rest))) whole can))
-  where
-    joined : CanMatch (with_from len (pos next *ℤ t) (with_from next t rest))
-        → GoesOn (with_from len (pos next *ℤ t) (with_from next t rest)) (λ ss. ss) (with_from (len * next) t rest)
-    joined can =
-        let after = is_empty-rest next rest.from (is_empty-rest len (next ∷ rest.from) can.some) in
-        let reach = reach-joined len next (magnitude t) (omega arith) (omega arith) in
-        let times = ap (λ m. (len - 1) * m) (unsigned_abs-mul (pos next) t) in
-        turn-merged t can long apart (let fits = can.span_fits in omega arith)
-        (bad-merged len next rest.from t rest.strides rest.to (long, longer))
-        (λ r. offset-merged len next rest.from t rest.strides r (omega arith, size_of_nonempty rest.from after))
+module _ {len next : ℕ} {s t : ℤ} {rest : Layouts} (can : CanMatch (with_from len s (with_from next t rest))) (long : 1 < len)
+    (apart : IsNoProduct rest.to len) where
+  after_two : is_empty rest.from ≡ false
+  after_two = is_empty-rest next rest.from (is_empty-rest len (next ∷ rest.from) can.some)
 
-pub turn-skipped : {len next : ℕ} {s t : ℤ} {rest : Layouts} → CanMatch (with_from len s (with_from next t rest)) → 1 < len → next ≡ 1
-    → IsNoProduct rest.to len → GoesOn (with_from len s (with_from next t rest)) (λ ss. ss) (with_from (len * next) s rest)
-turn-skipped {len} {next} {s} {t} {rest} can long one apart =
-    subst (λ n. GoesOn (with_from len s (with_from n t rest)) (λ ss. ss) (with_from (len * n) s rest)) (sym one)
-    (skipped (subst (λ n. CanMatch (with_from len s (with_from n t rest))) one can))
-  where
-    skipped : CanMatch (with_from len s (with_from 1 t rest))
-        → GoesOn (with_from len s (with_from 1 t rest)) (λ ss. ss) (with_from (len * 1) s rest)
-    skipped can =
-        let after = is_empty-rest 1 rest.from (is_empty-rest len (1 ∷ rest.from) can.some) in
-        let same = mul-one len in
-        let reach : (len * 1 - 1) * magnitude s ≡ (len - 1) * magnitude s = ap (λ n. (n - 1) * magnitude s) same in
-        turn-merged s can long apart (let fits = can.span_fits in omega arith)
-        (bad-skip len rest.from s t rest.strides rest.to ∙ ap (λ n. has_bad_joint (n ∷ rest.from) (s ∷ rest.strides) rest.to) (sym same))
-        (λ r. offset-skip len rest.from s t rest.strides r (size_of_nonempty rest.from after)
-        ∙ ap (λ n. offset_at_flat_index (n ∷ rest.from) (s ∷ rest.strides) r) (sym same))
+  pub turn-joined : 1 < next → s ≡ pos next *ℤ t → GoesOn (with_from len s (with_from next t rest)) (λ ss. ss)
+      (with_from (len * next) t rest)
+  turn-joined longer whole =
+      let reach = reach-joined len next (magnitude t) (omega arith) (omega arith) in
+      let times = ap (λ z. (len - 1) * magnitude z) whole ∙ ap (λ m. (len - 1) * m) (unsigned_abs-mul (pos next) t) in
+      turn-one can long apart (are-whole rest.strides long longer (size_of_nonempty rest.from after_two) whole)
+      (let fits = can.span_fits in omega arith)
+
+  pub turn-skipped : next ≡ 1 → GoesOn (with_from len s (with_from next t rest)) (λ ss. ss) (with_from (len * next) s rest)
+  turn-skipped one =
+      let reach = ap (λ n. (n - 1) * magnitude s) (ap (λ n. len * n) one ∙ mul-one len) in
+      turn-one can long apart (are-skipped s t rest.strides one (size_of_nonempty rest.from after_two))
+      (let fits = can.span_fits in omega arith)
 
 -- ---- two axes of the new shape, before the first axis of the old one is at its end
 -- each list of strides gives one with the stride of an axis more, of which it has the last one

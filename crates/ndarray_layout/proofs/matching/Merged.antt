@@ -213,13 +213,13 @@ module _ {both : Layouts} {len product : ℕ} {s : ℤ} {rest : Layouts} (before
   pub joined-old : len < product → 1 < next → s ≡ pos next *ℤ z → IsJoined both (len * next) z product without_old
   joined-old less longer whole =
       let at = at_old.are_heads in
-      joined z (turn-joined at.can_match at.long longer (IsNoProduct-within len product rest.to at.long less) whole)
+      joined z (turn-joined at.can_match at.long (IsNoProduct-within len product rest.to at.long less) longer whole)
 
   pub joined-one : len < product → next ≤ 1 → IsJoined both (len * next) s product without_old
   joined-one less short =
       let at = at_old.are_heads in
       let some = some-len next from after_old in
-      joined s (turn-skipped at.can_match at.long (omega arith) (IsNoProduct-within len product rest.to at.long less))
+      joined s (turn-skipped at.can_match at.long (IsNoProduct-within len product rest.to at.long less) (omega arith))
 
   pub apart-fault : len < product → 1 < next → s ≢ pos next *ℤ z → fault_of both ≡ Some IncompatibleLayout
   apart-fault less longer differ =
