@@ -134,6 +134,7 @@ fn write_block(both: &Shapes<'_>, out: &mut [usize], start: usize, end: usize, s
     write(both.order, out, end - 1, stride);
     let mut stride = stride;
     for axis in (start + 1..end).rev() {
+        // Both are read as signed numbers, whose product fits and has these bits.
         stride = stride.wrapping_mul(item(both.order, both.to, axis));
         write(both.order, out, axis - 1, stride);
     }

@@ -93,8 +93,14 @@ segment-push start axis lens {len} {rest} low e =
 pub segment-front : (start end : ℕ) (items lens : List ℕ) → start ≤ end → end ≤ length items → drop start items ≡ lens ++ drop end items
     → segment start end items ≡ lens
 segment-front start end items lens low high e =
-    let count : end - start ≡ length lens = omega (arith, ap length e, length-append lens
-        (drop end items), length-drop start items, length-drop end items) in
+    let count : end - start ≡ length lens = omega (
+      arith,
+      ap length e,
+      length-append lens
+          (drop end items),
+      length-drop start items,
+      length-drop end items,
+    ) in
     ap (take (end - start)) e ∙ ap (λ n. take n (lens ++ drop end items)) count ∙ take-append_seam lens (drop end items)
 
 -- the axes up to one have to be written yet but for their last one, which has this stride, and so have those after it theirs

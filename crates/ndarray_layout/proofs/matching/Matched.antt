@@ -134,7 +134,7 @@ module _ {both rest : Layouts} {out others : List ℕ} (turn : IsTurn both out r
   pub all-fault : fault_of both ≡ None
   all-fault =
       turn.goes_on.fault ∙ fault-none rest.from rest.strides rest.to (ap size e ∙ sym (ap size g))
-          (ap (λ xs. has_bad_joint xs rest.strides rest.to) e)
+      (ap (λ xs. has_bad_joint xs rest.strides rest.to) e)
 
   pub all-strides : length out ≡ length both.to → all_signed others ≡ forced both
   all-strides room =

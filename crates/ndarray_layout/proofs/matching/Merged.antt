@@ -176,7 +176,7 @@ module _ {both : Layouts} {len product : ℕ} {s : ℤ} {rest : Layouts} (before
 -- ---- or of the old one
 module _ {both : Layouts} {len product : ℕ} {s : ℤ} {rest : Layouts} (before : IsJoined both len s product rest)
     {next : ℕ} {from : List ℕ} (from_is : rest.from ≡ next ∷ from) {z : ℤ} {strides : List ℤ}
-        (strides_are : rest.strides ≡ z ∷ strides) where
+    (strides_are : rest.strides ≡ z ∷ strides) where
   abbrev pub without_old : Layouts
   without_old = record { from = from; strides = strides; to = rest.to }
 

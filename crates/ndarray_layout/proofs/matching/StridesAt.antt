@@ -94,7 +94,7 @@ forced-after both rest some count first alike =
     ∙ maps-agree (λ axis. forced_at both (suc axis)) (forced_at rest) 0 (length rest.to) (λ later l. later-alike both 1 rest some first
     (λ axis later e after l.
     let same : axis ≡ suc later = omega arith in subst (λ a. AreDecidedAlike both a rest later) (sym same) (alike later after l))
-        (suc later) later
+    (suc later) later
     (omega arith) (omega arith)))
 
 pub forced-next : (both rest : Layouts) → is_empty rest.to ≡ false → length both.to ≡ suc (length rest.to)

@@ -43,7 +43,7 @@ write_block-requires-clause-fits c =
     let block = c.in_ok-block.ensures.block in
     let ahead = c.in_ok-block.ensures.ahead in
     let lens = segment-front c.args.at.to_axes c.in_ok-block.block.end.to_axes to block.lens (omega (arith, ahead.1))
-        (omega (arith, ahead.2, count))
+    (omega (arith, ahead.2, count))
     block.front in
     subst (λ ns. All (FitsSigned w64) (block_strides ns (signed c.in_ok-block.block.stride))) (sym lens) block.fits
 
@@ -54,7 +54,7 @@ returns-clause-turn c =
     let block = c.in_ok-block.ensures.block in
     let ahead = c.in_ok-block.ensures.ahead in
     let lens = segment-front c.args.at.to_axes c.in_ok-block.block.end.to_axes to block.lens (omega (arith, ahead.1))
-        (omega (arith, ahead.2, count))
+    (omega (arith, ahead.2, count))
     block.front in
     block-read c.in_ok-block.block.stride block lens (omega (arith, count, length-drop c.in_ok-block.block.end.to_axes to))
     c.write_block.ensures.written

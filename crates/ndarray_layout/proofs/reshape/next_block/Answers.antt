@@ -67,8 +67,11 @@ overflow_mul-len c =
     let strides = as_read c.args.both.now.order c.args.both.now.strides.now in
     let within : c.loop-len.end.from_axes < length strides =
     omega (arith, c.if-end-both-2.false, c.requires.same_count, length-as_read c.args.both.now.order c.args.both.now.strides.now) in
-    omega (arith, (old-product-fits c.loop-len.invariant.joined c.item-next_len.ensures
-    (next-stride strides c.loop-len.end.from_axes within)).0)
+    omega (
+      arith,
+      (old-product-fits c.loop-len.invariant.joined c.item-next_len.ensures
+          (next-stride strides c.loop-len.end.from_axes within)).0,
+    )
 
 pub loop-len-preserved : goal.loop-len-preserved
 loop-len-preserved c =
