@@ -1,6 +1,7 @@
 //! What is left of a source with contracts in plain Rust: a list of forms, each with what it becomes. What no form knows is
 //! an error, and never passed through. `rust/ERASURE.md` says why the meaning stays.
 
+use crate::bounds::{Copied, added_to};
 use crate::differences::ends_value;
 use crate::docs::Contract;
 use crate::errors;
@@ -49,6 +50,7 @@ pub fn erase(trees: &[Tree], names: &Names) -> Result<Erased, Fault> {
         modules: Vec::new(),
         contract: Contract::default(),
         in_trait: false,
+        copied: Vec::new(),
         bracket: "",
         takes_ranges: false,
         endless: String::new(),
@@ -66,7 +68,9 @@ pub(crate) struct Eraser<'a> {
     /// The clauses of the item at hand.
     pub(crate) contract: Contract,
     /// Whether that is an item of a sealed trait.
-    in_trait: bool,
+    pub(crate) in_trait: bool,
+    /// What the impl at hand clones where its source copies.
+    pub(crate) copied: Vec<Copied>,
     /// The bracket in which the tree at hand stands; none at the top.
     pub(crate) bracket: &'static str,
     /// Whether a range with no end may stand in that bracket.
@@ -92,6 +96,9 @@ impl<'a> Eraser<'a> {
         Self::export,
         Self::finality,
         Self::seal,
+        Self::type_bounds,
+        Self::cloned_impl,
+        Self::copied,
         Self::drop_bound,
         Self::clone_method,
         Self::formatter,
@@ -329,7 +336,7 @@ impl<'a> Eraser<'a> {
         self.put(word.first().lead, "trait");
         self.all(&trees[1..head])?;
         let before = if rest.get(length_of_generics(rest)).is_some_and(|tree| tree.is(":")) { " +" } else { ":" };
-        self.put(before, &format!(" {}::sealed::Sealed", self.names.package));
+        self.put(before, &format!(" {}::sealed::Sealed{}", self.names.package, added_to(name.text)));
         Ok(Some(head))
     }
 

@@ -1,6 +1,7 @@
 //! Makes plain Rust of the sources in `crates/` before the package is built: one file for the library, and one each for the
 //! libraries of its programs, the tests and the exports for C.
 
+mod bounds;
 mod code;
 mod differences;
 mod docs;

@@ -3,6 +3,7 @@
 //! Each item calls the layer, is tested with ndarray's values, and says that it isn't proved. A copy that needs memory, as
 //! of an `IxDyn` of more than 4 axes, panics where an allocation fails. The layer's own calls return the error instead.
 
+mod aliases;
 mod any_axes;
 mod array_slices;
 mod arrays;
@@ -17,6 +18,10 @@ mod ranges;
 mod slice_arguments;
 mod views;
 
+pub use aliases::{
+    ArrayView0, ArrayView1, ArrayView2, ArrayView3, ArrayView4, ArrayView5, ArrayView6, ArrayViewD, ArrayViewMut0,
+    ArrayViewMut1, ArrayViewMut2, ArrayViewMut3, ArrayViewMut4, ArrayViewMut5, ArrayViewMut6, ArrayViewMutD,
+};
 pub use dimension_types::{DimAdd, DimMax};
 pub use dimensions::{Dim, DimensionExt, Ix, Ix0, Ix1, Ix2, Ix3, Ix4, Ix5, Ix6, IxDyn, Ixs};
 pub use iterators::IndexCopies;

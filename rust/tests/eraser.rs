@@ -1,6 +1,8 @@
 //! The eraser: what each form becomes, and that what it doesn't know is an error.
 #![allow(dead_code)]
 
+#[path = "../build/bounds.rs"]
+mod bounds;
 #[path = "../build/code.rs"]
 mod code;
 #[path = "../build/differences.rs"]
@@ -197,8 +199,8 @@ fn a_trait_that_leads_to_places_is_sealed() {
     const ROWS: &[(&str, &str)] = &[
         ("pub trait FixedCount { const N: u8; }", "pub trait FixedCount: crate::sealed::Sealed { const N: u8; }"),
         (
-            "pub trait Lengths: A<B = C> + Drop { ghost a: { b }; }",
-            "pub trait Lengths: A<B = C> + Sized + crate::sealed::Sealed { }",
+            "pub trait RemoveAxis: A<B = C> + Drop { ghost a: { b }; }",
+            "pub trait RemoveAxis: A<B = C> + Sized + crate::sealed::Sealed { }",
         ),
         ("pub trait NdIndex<E: Lengths> {}", "pub trait NdIndex<E: Lengths>: crate::sealed::Sealed {}"),
         (
@@ -214,6 +216,57 @@ fn a_trait_that_leads_to_places_is_sealed() {
     ];
     for (source, due) in ROWS {
         assert_eq!(line(source), *if due.is_empty() { source } else { due }, "{source}");
+    }
+}
+
+#[test]
+fn a_bound_of_the_list_is_added() {
+    const ROWS: &[(&str, &str)] = &[
+        ("pub trait Lengths: Eq {}", "pub trait Lengths: Eq + crate::sealed::Sealed + Clone + Send + Sync {}"),
+        ("trait Lengths: Eq {}", ""),
+        (
+            "pub trait SliceElems { type Smaller: Lengths; type Other: Lengths; } trait T { type Smaller: Lengths; }",
+            "pub trait SliceElems: crate::sealed::Sealed { type Smaller: Dimension; type Other: Lengths; } trait T { type Smaller: Lengths; }",
+        ),
+        (
+            "impl<D: A + Copy> IntoIterator for Indices<D> { fn f() { let d = self.dim; g(self.dim, d); } } fn f<A: Copy>() { self.dim; }",
+            "impl<D: A + Clone> IntoIterator for Indices<D> { fn f() { let d = self.dim.clone(); g(self.dim.clone(), d); } } fn f<A: Copy>() { self.dim; }",
+        ),
+        (
+            "impl<D: Copy> Iterator for IndexIter<D> { fn f() { let mut n = index; self.index = n; a.index; self.dim.g(index.h()) } }",
+            "impl<D: Clone> Iterator for IndexIter<D> { fn f() { let mut n = index.clone(); self.index = n; a.index; self.dim.g(index.h()) } }",
+        ),
+        (
+            "impl<D: Copy> Clone for Indices<D> { fn clone(&self) -> Result<Self, AllocError> { Ok(*self) } }",
+            "impl<D: Clone> Clone for Indices<D> { fn clone(&self) -> Self {Indices { dim: self.dim.clone() }} }",
+        ),
+        ("impl<D: Copy> Copy for Indices<D> {} impl<T: Copy> Iterator for Places<T> { fn f() { self.index; } }", ""),
+    ];
+    for (source, due) in ROWS {
+        let due = if due.is_empty() { source } else { due };
+        assert_eq!(line(source), *due, "{source}");
+    }
+}
+
+/// The sources of the layer, as one text.
+fn sources(folder: &Path) -> String {
+    let paths = fs::read_dir(folder).expect("a folder").map(|entry| entry.expect("an entry").path());
+    let text_of = |path: std::path::PathBuf| match path.extension() {
+        None => sources(&path),
+        Some(_) => fs::read_to_string(path).expect("a source"),
+    };
+    paths.map(text_of).collect()
+}
+
+#[test]
+fn each_row_of_the_list_of_bounds_is_of_something() {
+    let layer = ["nd_base", "nd_dim", "nd_shape", "nd_slice"];
+    let text: String = layer.iter().map(|name| sources(Path::new(&format!("crates/{name}/src")))).collect();
+    let heads = bounds::ADDED.iter().map(|(name, _)| format!("pub trait {name}"));
+    let types = bounds::OF_TYPES.iter().map(|(name, _)| format!("    type {name}: "));
+    let impls = bounds::CLONED.iter().map(|(words, _)| format!("{}<", words.join(" ")));
+    for row in heads.chain(types).chain(impls) {
+        assert!(text.contains(&row), "{row}");
     }
 }
 

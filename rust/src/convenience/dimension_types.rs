@@ -33,33 +33,97 @@ pub trait DimMax<D: Dimension> {
     type Output: Dimension;
 }
 
-/// A row of a table: what a trait makes of one type with `Ix0`, `Ix1`, .. `Ix6` and `IxDyn`.
+/// Not proved.
+impl<D: Dimension> DimMax<D> for D {
+    type Output = D;
+}
+
+/// Not proved.
+impl<D: Dimension> DimAdd<D> for Ix0 {
+    type Output = D;
+}
+
+/// Not proved.
+impl<D: Dimension> DimAdd<D> for IxDyn {
+    type Output = IxDyn;
+}
+
+/// What a trait makes of one type with others.
 macro_rules! outputs {
-    ($trait:ident, $left:ty: $o0:ty, $o1:ty, $o2:ty, $o3:ty, $o4:ty, $o5:ty, $o6:ty, $dynamic:ty) => {
-        outputs!(@each $trait, $left: Ix0 $o0, Ix1 $o1, Ix2 $o2, Ix3 $o3, Ix4 $o4, Ix5 $o5, Ix6 $o6, IxDyn $dynamic);
-    };
-    (@each $trait:ident, $left:ty: $($right:ident $output:ty),*) => {$(
+    ($trait:ident: $($left:ty, $($right:ty)+ => $output:ty;)*) => {$($(
         /// Not proved.
         impl $trait<$right> for $left {
             type Output = $output;
         }
-    )*};
+    )+)*};
 }
 
-outputs!(DimAdd, Ix0: Ix0, Ix1, Ix2, Ix3, Ix4, Ix5, Ix6, IxDyn);
-outputs!(DimAdd, Ix1: Ix1, Ix2, Ix3, Ix4, Ix5, Ix6, IxDyn, IxDyn);
-outputs!(DimAdd, Ix2: Ix2, Ix3, Ix4, Ix5, Ix6, IxDyn, IxDyn, IxDyn);
-outputs!(DimAdd, Ix3: Ix3, Ix4, Ix5, Ix6, IxDyn, IxDyn, IxDyn, IxDyn);
-outputs!(DimAdd, Ix4: Ix4, Ix5, Ix6, IxDyn, IxDyn, IxDyn, IxDyn, IxDyn);
-outputs!(DimAdd, Ix5: Ix5, Ix6, IxDyn, IxDyn, IxDyn, IxDyn, IxDyn, IxDyn);
-outputs!(DimAdd, Ix6: Ix6, IxDyn, IxDyn, IxDyn, IxDyn, IxDyn, IxDyn, IxDyn);
-outputs!(DimAdd, IxDyn: IxDyn, IxDyn, IxDyn, IxDyn, IxDyn, IxDyn, IxDyn, IxDyn);
+outputs! {
+    DimAdd:
+    Ix1, Ix0 => Ix1;
+    Ix1, Ix1 => Ix2;
+    Ix1, Ix2 => Ix3;
+    Ix1, Ix3 => Ix4;
+    Ix1, Ix4 => Ix5;
+    Ix1, Ix5 => Ix6;
+    Ix1, Ix6 IxDyn => IxDyn;
+    Ix2, Ix0 => Ix2;
+    Ix2, Ix1 => Ix3;
+    Ix2, Ix2 => Ix4;
+    Ix2, Ix3 => Ix5;
+    Ix2, Ix4 => Ix6;
+    Ix2, Ix5 Ix6 IxDyn => IxDyn;
+    Ix3, Ix0 => Ix3;
+    Ix3, Ix1 => Ix4;
+    Ix3, Ix2 => Ix5;
+    Ix3, Ix3 => Ix6;
+    Ix3, Ix4 Ix5 Ix6 IxDyn => IxDyn;
+    Ix4, Ix0 => Ix4;
+    Ix4, Ix1 => Ix5;
+    Ix4, Ix2 => Ix6;
+    Ix4, Ix3 Ix4 Ix5 Ix6 IxDyn => IxDyn;
+    Ix5, Ix0 => Ix5;
+    Ix5, Ix1 => Ix6;
+    Ix5, Ix2 Ix3 Ix4 Ix5 Ix6 IxDyn => IxDyn;
+    Ix6, Ix0 => Ix6;
+    Ix6, Ix1 Ix2 Ix3 Ix4 Ix5 Ix6 IxDyn => IxDyn;
+}
 
-outputs!(DimMax, Ix0: Ix0, Ix1, Ix2, Ix3, Ix4, Ix5, Ix6, IxDyn);
-outputs!(DimMax, Ix1: Ix1, Ix1, Ix2, Ix3, Ix4, Ix5, Ix6, IxDyn);
-outputs!(DimMax, Ix2: Ix2, Ix2, Ix2, Ix3, Ix4, Ix5, Ix6, IxDyn);
-outputs!(DimMax, Ix3: Ix3, Ix3, Ix3, Ix3, Ix4, Ix5, Ix6, IxDyn);
-outputs!(DimMax, Ix4: Ix4, Ix4, Ix4, Ix4, Ix4, Ix5, Ix6, IxDyn);
-outputs!(DimMax, Ix5: Ix5, Ix5, Ix5, Ix5, Ix5, Ix5, Ix6, IxDyn);
-outputs!(DimMax, Ix6: Ix6, Ix6, Ix6, Ix6, Ix6, Ix6, Ix6, IxDyn);
-outputs!(DimMax, IxDyn: IxDyn, IxDyn, IxDyn, IxDyn, IxDyn, IxDyn, IxDyn, IxDyn);
+outputs! {
+    DimMax:
+    Ix0, Ix1 => Ix1;
+    Ix0, Ix2 => Ix2;
+    Ix0, Ix3 => Ix3;
+    Ix0, Ix4 => Ix4;
+    Ix0, Ix5 => Ix5;
+    Ix0, Ix6 => Ix6;
+    Ix0, IxDyn => IxDyn;
+    Ix1, Ix0 => Ix1;
+    Ix1, Ix2 => Ix2;
+    Ix1, Ix3 => Ix3;
+    Ix1, Ix4 => Ix4;
+    Ix1, Ix5 => Ix5;
+    Ix1, Ix6 => Ix6;
+    Ix1, IxDyn => IxDyn;
+    Ix2, Ix0 Ix1 => Ix2;
+    Ix2, Ix3 => Ix3;
+    Ix2, Ix4 => Ix4;
+    Ix2, Ix5 => Ix5;
+    Ix2, Ix6 => Ix6;
+    Ix2, IxDyn => IxDyn;
+    Ix3, Ix0 Ix1 Ix2 => Ix3;
+    Ix3, Ix4 => Ix4;
+    Ix3, Ix5 => Ix5;
+    Ix3, Ix6 => Ix6;
+    Ix3, IxDyn => IxDyn;
+    Ix4, Ix0 Ix1 Ix2 Ix3 => Ix4;
+    Ix4, Ix5 => Ix5;
+    Ix4, Ix6 => Ix6;
+    Ix4, IxDyn => IxDyn;
+    Ix5, Ix0 Ix1 Ix2 Ix3 Ix4 => Ix5;
+    Ix5, Ix6 => Ix6;
+    Ix5, IxDyn => IxDyn;
+    Ix6, Ix0 Ix1 Ix2 Ix3 Ix4 Ix5 => Ix6;
+    Ix6, IxDyn => IxDyn;
+    IxDyn, Ix0 Ix1 Ix2 Ix3 Ix4 Ix5 Ix6 => IxDyn;
+}

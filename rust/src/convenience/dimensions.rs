@@ -8,7 +8,7 @@ use crate::nd_base::{
 use crate::nd_dim::{IntoDimension, new_dim};
 use alloc::vec::Vec;
 use core::ops::{
-    Deref, DerefMut, Index, IndexMut, Range, RangeFrom, RangeFull, RangeInclusive, RangeTo, RangeToInclusive,
+    Bound, Deref, DerefMut, Index, IndexMut, Range, RangeFrom, RangeFull, RangeInclusive, RangeTo, RangeToInclusive,
 };
 
 /// A length or a coordinate. ndarray's `Ix`. Not proved.
@@ -287,3 +287,4 @@ macro_rules! index_by {
 }
 
 index_by!(Range<Ix>, RangeFrom<Ix>, RangeFull, RangeInclusive<Ix>, RangeTo<Ix>, RangeToInclusive<Ix>);
+index_by!((Bound<Ix>, Bound<Ix>));

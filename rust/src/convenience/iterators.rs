@@ -50,14 +50,14 @@ impl<T> fmt::Debug for LentRows<'_, T> {
 }
 
 /// Not proved.
-impl<D: Dimension + Copy> fmt::Debug for IndicesIter<D> {
+impl<D: Dimension> fmt::Debug for IndicesIter<D> {
     fn fmt(&self, f: &mut fmt::Formatter<'_>) -> fmt::Result {
         print_left(f, "IndicesIter", self.len())
     }
 }
 
 /// Not proved.
-impl<D: Dimension + Copy> fmt::Debug for IndicesIterF<D> {
+impl<D: Dimension> fmt::Debug for IndicesIterF<D> {
     fn fmt(&self, f: &mut fmt::Formatter<'_>) -> fmt::Result {
         print_left(f, "IndicesIterF", self.len())
     }

@@ -2,11 +2,11 @@
 
 use super::view_of;
 use ndarray_layout::{
-    DimAdd, DimMax, Dimension, Indices, IntoDimension, Ix0, Ix2, IxDyn, IxDynImpl, LayoutError, Lengths, Order, Shape,
+    DimAdd, DimMax, Dimension, IntoDimension, Ix0, Ix2, IxDyn, IxDynImpl, LayoutError, Lengths, Order, Shape,
     SliceNextDim, all_indices, axes_of, s,
 };
 use std::marker::PhantomData;
-use std::ops::{Bound, Index, Range};
+use std::ops::{Index, Range};
 
 /// Whether a type has a trait: the constant of the types that have it hides that of all types.
 macro_rules! has {
@@ -45,21 +45,9 @@ fn has_unasked<D: Dimension>() -> [bool; 5] {
     [has!(D: IntoDimension), has!(D: Default), outputs[0], outputs[1], outputs[2]]
 }
 
-/// The indices of any shape, by what a generic function asks for.
-fn indices_of<D: Dimension + IntoDimension<Dim = D>>(shape: D) -> Result<Indices<D>, LayoutError> {
-    Ok(all_indices(shape)?)
-}
-
 #[test]
-fn a_generic_function_asks_for_each_trait() -> Result<(), LayoutError> {
-    assert_eq!(has_unasked::<Ix2>(), [false; 5]);
-    assert_eq!(indices_of(Ix2(2, 3))?.into_iter().count(), 6);
-    Ok(())
-}
-
-#[test]
-fn a_list_of_lengths_has_no_index_by_two_bounds() {
-    assert!(!has!(IxDynImpl: Index<(Bound<usize>, Bound<usize>)>));
+fn a_generic_function_asks_for_no_trait() {
+    assert_eq!(has_unasked::<Ix2>(), [true; 5]);
 }
 
 /// Calls of ndarray that aren't here: one of the package would hide that of its name.
