@@ -13,7 +13,7 @@
 //! # Ok::<(), ndarray_layout::ShapeError>(())
 //! ```
 //!
-//! [`guide`] has an example for each task.
+//! [`guide`] has an example for each task. [`compat`] has the calls of ndarray's layer by its own signatures.
 //!
 //! The sources of the modules [`nd_base`] to [`nd_owned`] have contracts, which are proved; this package is what is left
 //! of them without the contracts, made before it is built. The section `Contract` of an item has its clauses, and
@@ -36,6 +36,7 @@ extern crate alloc;
 extern crate std;
 
 mod arrays;
+pub mod compat;
 mod convenience;
 pub mod memory;
 #[cfg(all(test, feature = "std"))]

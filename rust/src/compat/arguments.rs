@@ -1,0 +1,310 @@
+//! What callers give for shapes, indices and slices, by the signatures of ndarray.
+
+use super::{Dimension, of_memory};
+use crate::{Axis, Ix, Order, Shape, SliceInfoElem, StrideShape};
+use core::fmt::Debug;
+
+/// What stands for a list of lengths and converts to a dimension. ndarray's `IntoDimension`. Not proved.
+pub trait IntoDimension {
+    /// The dimension type that it makes.
+    type Dim: Dimension;
+
+    /// The dimension of the same list. ndarray's `into_dimension`.
+    ///
+    /// # Panics
+    ///
+    /// Where an allocation fails.
+    ///
+    /// ```
+    /// use ndarray_layout::compat::{IntoDimension, Ix2, IxDyn};
+    ///
+    /// assert_eq!((4, 5).into_dimension(), Ix2(4, 5));
+    /// assert_eq!(vec![4, 5].into_dimension(), IxDyn(&[4, 5]));
+    /// ```
+    fn into_dimension(self) -> Self::Dim;
+}
+
+/// Not proved.
+impl<T: crate::IntoDimension<Dim: crate::Dimension>> IntoDimension for T {
+    type Dim = T::Dim;
+
+    #[inline]
+    fn into_dimension(self) -> T::Dim {
+        of_memory(crate::IntoDimension::into_dimension(self))
+    }
+}
+
+/// The dimension of a list of lengths, however it is written. ndarray's `Dim(..)`. Not proved.
+///
+/// # Panics
+///
+/// Where an allocation fails.
+///
+/// ```
+/// use ndarray_layout::compat::{Dim, Dimension};
+///
+/// /// The shape with its axes the other way around.
+/// fn reversed<D: Dimension>(shape: &D) -> D {
+///     let mut reversed = Dim(shape.clone());
+///     reversed.slice_mut().reverse();
+///     reversed
+/// }
+///
+/// assert_eq!(reversed(&Dim([4, 5])), Dim([5, 4]));
+/// ```
+#[allow(non_snake_case)]
+#[inline]
+#[must_use]
+pub fn Dim<T: IntoDimension>(lens: T) -> T::Dim {
+    lens.into_dimension()
+}
+
+/// The length of an axis by the axis. ndarray's `DimensionExt`. Not proved.
+///
+/// ```
+/// use ndarray_layout::compat::{Axis, DimensionExt, Ix2};
+///
+/// let mut shape = Ix2(4, 5);
+/// shape.set_axis(Axis(0), 6);
+/// assert_eq!((shape.axis(Axis(0)), shape.axis(Axis(1))), (6, 5));
+/// ```
+pub trait DimensionExt {
+    /// The length of an axis. ndarray's `axis`.
+    ///
+    /// # Panics
+    ///
+    /// Where there is no such axis.
+    fn axis(&self, axis: Axis) -> Ix;
+
+    /// Replaces the length of an axis. ndarray's `set_axis`.
+    ///
+    /// # Panics
+    ///
+    /// Where there is no such axis.
+    fn set_axis(&mut self, axis: Axis, value: Ix);
+}
+
+/// Not proved.
+impl<D: Dimension> DimensionExt for D {
+    #[inline]
+    #[track_caller]
+    fn axis(&self, axis: Axis) -> Ix {
+        self.slice().axis(axis)
+    }
+
+    #[inline]
+    #[track_caller]
+    fn set_axis(&mut self, axis: Axis, value: Ix) {
+        self.slice_mut().set_axis(axis, value);
+    }
+}
+
+/// Not proved.
+impl DimensionExt for [Ix] {
+    #[inline]
+    #[track_caller]
+    fn axis(&self, axis: Axis) -> Ix {
+        crate::axis_of(self, axis)
+    }
+
+    #[inline]
+    #[track_caller]
+    fn set_axis(&mut self, axis: Axis, value: Ix) {
+        crate::set_axis_of(self, axis, value);
+    }
+}
+
+/// What can index an array. ndarray's `NdIndex`. Not proved.
+///
+/// ```
+/// use ndarray_layout::compat::{Dimension, Ix2, NdIndex};
+///
+/// /// The place of an index in row-major order.
+/// fn place<D: Dimension, I: NdIndex<D>>(shape: &D, index: I) -> Option<isize> {
+///     index.index_checked(shape, &shape.default_strides())
+/// }
+///
+/// assert_eq!((place(&Ix2(4, 5), (1, 2)), place(&Ix2(4, 5), [1, 5])), (Some(7), None));
+/// ```
+pub trait NdIndex<E>: Debug {
+    /// The offset of the index from the first one, where it is one of the shape. ndarray's `index_checked`.
+    fn index_checked(&self, dim: &E, strides: &E) -> Option<isize>;
+
+    /// The offset of the index from the first one. ndarray's `index_unchecked`.
+    fn index_unchecked(&self, strides: &E) -> isize;
+}
+
+/// Not proved.
+impl<E: crate::Dimension, I: crate::NdIndex<E>> NdIndex<E> for I {
+    #[inline]
+    fn index_checked(&self, dim: &E, strides: &E) -> Option<isize> {
+        crate::NdIndex::index_checked(self, dim, strides)
+    }
+
+    #[inline]
+    fn index_unchecked(&self, strides: &E) -> isize {
+        crate::NdIndex::index_unchecked(self, strides)
+    }
+}
+
+/// A shape with an order, and what one is built from. ndarray's `ShapeBuilder`. Not proved.
+pub trait ShapeBuilder {
+    /// The dimension type of the shape.
+    type Dim: Dimension;
+
+    /// What strides are written as.
+    type Strides;
+
+    /// The shape, with its order. ndarray's `into_shape_with_order`.
+    ///
+    /// # Panics
+    ///
+    /// Where an allocation fails.
+    ///
+    /// ```
+    /// use ndarray_layout::compat::{Ix2, ShapeBuilder};
+    ///
+    /// let shape = (4, 5).into_shape_with_order();
+    /// assert!(shape.is_c() && *shape.raw_dim() == Ix2(4, 5));
+    /// ```
+    fn into_shape_with_order(self) -> Shape<Self::Dim>;
+
+    /// The shape in column-major order. ndarray's `f`.
+    ///
+    /// # Panics
+    ///
+    /// Where an allocation fails.
+    ///
+    /// ```
+    /// use ndarray_layout::compat::ShapeBuilder;
+    ///
+    /// assert!(!(4, 5).f().is_c());
+    /// ```
+    fn f(self) -> Shape<Self::Dim>;
+
+    /// The shape in column-major order, or in row-major order. ndarray's `set_f`.
+    ///
+    /// # Panics
+    ///
+    /// Where an allocation fails.
+    ///
+    /// ```
+    /// use ndarray_layout::compat::ShapeBuilder;
+    ///
+    /// assert!((4, 5).f().set_f(false).is_c());
+    /// ```
+    fn set_f(self, is_f: bool) -> Shape<Self::Dim>;
+
+    /// The shape with strides of one's own. ndarray's `strides`.
+    ///
+    /// # Panics
+    ///
+    /// Where an allocation fails.
+    ///
+    /// ```
+    /// use ndarray_layout::compat::{Ix2, ShapeBuilder, StrideShape, Strides};
+    ///
+    /// let StrideShape { dim, strides } = (4, 5).strides((1, 4));
+    /// assert!(matches!(strides, Strides::Custom(strides) if strides == Ix2(1, 4)) && dim == Ix2(4, 5));
+    /// ```
+    fn strides(self, strides: Self::Strides) -> StrideShape<Self::Dim>;
+}
+
+/// Not proved.
+impl<T: crate::ShapeBuilder<Dim: crate::Dimension>> ShapeBuilder for T {
+    type Dim = T::Dim;
+
+    type Strides = T::Strides;
+
+    #[inline]
+    fn into_shape_with_order(self) -> Shape<T::Dim> {
+        of_memory(crate::ShapeBuilder::into_shape_with_order(self))
+    }
+
+    #[inline]
+    fn f(self) -> Shape<T::Dim> {
+        of_memory(crate::ShapeBuilder::f(self))
+    }
+
+    #[inline]
+    fn set_f(self, is_f: bool) -> Shape<T::Dim> {
+        of_memory(crate::ShapeBuilder::set_f(self, is_f))
+    }
+
+    #[inline]
+    fn strides(self, strides: T::Strides) -> StrideShape<T::Dim> {
+        of_memory(crate::ShapeBuilder::strides(self, strides))
+    }
+}
+
+/// A shape, with or without an order. ndarray's `ShapeArg`. Not proved.
+pub trait ShapeArg {
+    /// The dimension type of the shape.
+    type Dim: Dimension;
+
+    /// The shape, and the order where there is one. ndarray's `into_shape_and_order`.
+    ///
+    /// # Panics
+    ///
+    /// Where an allocation fails.
+    ///
+    /// ```
+    /// use ndarray_layout::compat::{Ix2, Order, ShapeArg};
+    ///
+    /// assert_eq!((4, 5).into_shape_and_order(), (Ix2(4, 5), None));
+    /// assert_eq!(((4, 5), Order::F).into_shape_and_order(), (Ix2(4, 5), Some(Order::ColumnMajor)));
+    /// ```
+    fn into_shape_and_order(self) -> (Self::Dim, Option<Order>);
+}
+
+/// Not proved.
+impl<T: crate::ShapeArg<Dim: crate::Dimension>> ShapeArg for T {
+    type Dim = T::Dim;
+
+    #[inline]
+    fn into_shape_and_order(self) -> (T::Dim, Option<Order>) {
+        of_memory(crate::ShapeArg::into_shape_and_order(self))
+    }
+}
+
+/// A slice argument for shapes of a type. ndarray's `SliceArg`. Not proved.
+///
+/// ```
+/// use ndarray_layout::compat::{Dimension, Ix3, SliceArg, s};
+///
+/// /// How many axes a slice leaves of a shape.
+/// fn axes_after<D: Dimension>(_shape: &D, slices: impl SliceArg<D>) -> usize {
+///     slices.out_ndim()
+/// }
+///
+/// assert_eq!(axes_after(&Ix3(4, 5, 6), s![1, .., 2..;2]), 2);
+/// ```
+pub trait SliceArg<D: Dimension>: AsRef<[SliceInfoElem]> {
+    /// The dimension type of the shape after.
+    type OutDim: Dimension;
+
+    /// The number of axes of the shape before. ndarray's `in_ndim`.
+    fn in_ndim(&self) -> usize;
+
+    /// The number of axes of the shape after. ndarray's `out_ndim`.
+    fn out_ndim(&self) -> usize;
+}
+
+/// Not proved.
+impl<D, T> SliceArg<D> for T
+where
+    D: crate::Dimension,
+    T: crate::SliceArg<D, OutDim: crate::Dimension> + AsRef<[SliceInfoElem]> + ?Sized,
+{
+    type OutDim = T::OutDim;
+
+    #[inline]
+    fn in_ndim(&self) -> usize {
+        crate::SliceArg::in_ndim(self)
+    }
+
+    #[inline]
+    fn out_ndim(&self) -> usize {
+        crate::SliceArg::out_ndim(self)
+    }
+}
