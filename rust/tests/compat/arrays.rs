@@ -3,7 +3,8 @@
 use crate::back;
 use ndarray_layout::compat::{
     Array, Array0, Array1, Array2, Array3, Array4, Array5, Array6, ArrayD, ArrayExt, ArrayView, ArrayViewMut, Axis,
-    Dim, Ix1, Ix2, Ix3, IxDyn, Layout, NdProducer, ShapeBuilder, array_layout, indices_of, s,
+    CanIndexCheckMode, Dim, Ix1, Ix2, Ix3, IxDyn, Layout, NdProducer, ShapeBuilder, array_layout, indices, indices_of,
+    s,
 };
 use ndarray_layout::{LayoutError, Strided};
 
@@ -92,4 +93,18 @@ fn the_shape_of_an_array_is_told_and_its_indices() -> Result<(), LayoutError> {
     }
     assert!(array.slice(s![.., 0, ..;-1]).iter().eq(&[1, 0, 11, 10]));
     Ok(())
+}
+
+/// The package's dimensions go where those of this module go.
+fn places_of<D: ndarray_layout::Dimension>(view: &Strided<D>) -> Vec<(D::Pattern, Option<usize>)> {
+    let indices = indices(view.dim().clone()).into_iter();
+    indices.map(|pattern| (pattern.clone(), view.place(&Dim(pattern)))).collect()
+}
+
+#[test]
+fn a_function_over_the_package_calls_both() {
+    let shape = (2, 2).f().strides(Ix2(1, 3));
+    let view = Strided::from_shape(shape, 1, 5, CanIndexCheckMode::ReadOnly).expect("a layout");
+    let due = [((0, 0), Some(0)), ((0, 1), Some(3)), ((1, 0), Some(1)), ((1, 1), Some(4))];
+    assert_eq!(places_of(&view), due);
 }

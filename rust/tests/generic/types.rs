@@ -2,10 +2,12 @@
 
 use crate::{OfAny, for_each_type};
 use ndarray_layout::{
-    Axis, Dim, DimAdd, DimMax, Dimension, Ix0, Ix1, Ix2, Ix3, Ix4, Ix6, IxDyn, LayoutError, Lengths, RemoveAxis,
-    co_broadcast,
+    Axis, Dim, DimAdd, DimMax, Dimension, DimensionExt, IntoDimension, Ix0, Ix1, Ix2, Ix3, Ix4, Ix6, IxDyn,
+    LayoutError, Lengths, NdIndex, RemoveAxis, co_broadcast,
 };
 use std::any::TypeId;
+use std::fmt::Debug;
+use std::ops::{Add, AddAssign, IndexMut, Mul, MulAssign, Sub, SubAssign};
 
 /// The shape that two broadcast to, where both have the same type.
 fn common<D: Dimension>(shape: &D, other: &D) -> Result<<D as DimMax<D>>::Output, LayoutError> {
@@ -74,6 +76,38 @@ impl OfAny for Types {
 #[test]
 fn a_type_brings_those_of_its_results() {
     for_each_type(&Types);
+}
+
+/// What ndarray's `Dimension` brings beside its calls: each line is a bound of it.
+fn ask_for_bounds<D>()
+where
+    D: Clone + Eq + Debug + Send + Sync + Default,
+    D: IndexMut<usize, Output = usize> + IntoDimension<Dim = D> + NdIndex<D> + DimensionExt,
+    D: Add<Output = D> + AddAssign + for<'a> AddAssign<&'a D>,
+    D: Sub<Output = D> + SubAssign + for<'a> SubAssign<&'a D>,
+    D: Mul<Output = D> + MulAssign + for<'a> MulAssign<&'a D> + Mul<usize, Output = D> + MulAssign<usize>,
+    D: Dimension<Pattern: IntoDimension<Dim = D> + Clone + Debug + PartialEq + Eq + Default>,
+    D: Dimension<Smaller: Dimension, Larger: Dimension + RemoveAxis>,
+    D: DimMax<D, Output = D> + DimMax<Ix0, Output = D> + DimMax<IxDyn, Output = IxDyn>,
+    D: DimMax<D::Smaller, Output = D> + DimMax<D::Larger, Output = D::Larger>,
+    D: DimAdd<D> + DimAdd<D::Smaller> + DimAdd<D::Larger>,
+    D: DimAdd<Ix0, Output = D> + DimAdd<Ix1, Output = D::Larger> + DimAdd<IxDyn, Output = IxDyn>,
+    Ix0: DimAdd<D, Output = D>,
+    IxDyn: DimAdd<D, Output = IxDyn>,
+{
+}
+
+struct Bounds;
+
+impl OfAny for Bounds {
+    fn call<D: Dimension + 'static>(&self, _: D) {
+        ask_for_bounds::<D>();
+    }
+}
+
+#[test]
+fn a_dimension_has_each_bound_of_ndarray() {
+    for_each_type(&Bounds);
 }
 
 #[test]
