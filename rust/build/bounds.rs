@@ -2,7 +2,7 @@
 //! those that it asks for less. The kit has no `Send`, its `Clone` may fail, and bounds that name the trait itself can't be proved.
 
 use crate::erase::Eraser;
-use crate::tokens::{Fault, Tree, begins_with, length_of_generics};
+use crate::tokens::{Fault, Tree, begins_with, fault, length_of_generics};
 
 /// Traits of the package, each with bounds that it has beside those of its source.
 pub const ADDED: &[(&str, &[&str])] = &[
@@ -33,14 +33,15 @@ pub const OF_TYPES: &[(&str, &[&str])] = &[
     ("Pattern", &["IntoDimension<Dim = Self>", "Clone", "core::fmt::Debug", "PartialEq", "Eq", "Default"]),
     ("Smaller", &["Dimension"]),
     ("Larger", &["Dimension", "crate::RemoveAxis"]),
+    ("OutDim", &["crate::Dimension"]),
 ];
 
-/// A value that the source copies, and what stands for it in the package.
-pub type Copied = (&'static [&'static str], &'static str);
+/// A bound or a value of a source, and what stands for it in the package.
+pub type Replaced = (&'static [&'static str], &'static str);
 
-/// Impls that the sources have for types that are copied. In the package they stand for types that are cloned, which is the same
-/// where one is copied, and panics where an allocation fails for another.
-pub const CLONED: &[(&[&str], &[Copied])] = &[
+/// Impls that the sources have for a parameter with `+ Copy`, each with the values that it copies. In the package they stand for
+/// `+ Clone`, which is the same where a value is copied, and panics where an allocation fails for another.
+pub const CLONED: &[(&[&str], &[Replaced])] = &[
     (&["Clone", "for", "Indices"], &[(&["*", "self"], "Indices { dim: self.dim.clone() }")]),
     (&["IntoIterator", "for", "Indices"], &[(&["self", ".", "dim"], "self.dim.clone()")]),
     (
@@ -54,7 +55,20 @@ pub const CLONED: &[(&[&str], &[Copied])] = &[
     (&["ExactSizeIterator", "for", "IndexIter"], &[]),
     (&["FusedIterator", "for", "IndexIter"], &[]),
     (&["Clone", "for", "SliceInfo"], &[(&["self", ".", "indices"], "self.indices.clone()")]),
+    (
+        &["Strided"],
+        &[
+            (&["*", "ends"], "ends.clone()"),
+            (&["*", "starts"], "starts.clone()"),
+            (&["self", ".", "strides"], "self.strides.clone()"),
+        ],
+    ),
+    (&["ArrayView"], &[]),
+    (&["ArrayViewMut"], &[]),
 ];
+
+/// Impls of slice arguments, whose shape after is any list of lengths in the sources, and a dimension in the package.
+pub const OF_DIMENSIONS: &[&[&str]] = &[&["SliceArg", "<"]];
 
 /// Bounds after others, or none.
 pub fn added_to(name: &str) -> String {
@@ -78,33 +92,48 @@ impl Eraser<'_> {
         Ok(trees.iter().position(|tree| tree.is(";")))
     }
 
-    /// An impl of the list asks for types that are cloned, and clones what its source copies.
-    pub(crate) fn cloned_impl(&mut self, trees: &[Tree]) -> Result<Option<usize>, Fault> {
-        if !trees[0].is("impl") || !self.copied.is_empty() {
+    /// An impl of a list has its bounds replaced, and the values that its source copies.
+    pub(crate) fn listed_impl(&mut self, trees: &[Tree]) -> Result<Option<usize>, Fault> {
+        if !trees[0].is("impl") || !self.replaced.is_empty() {
             return Ok(None);
         }
-        let generics = 1 + length_of_generics(&trees[1..]);
-        let Some((_, copied)) = CLONED.iter().find(|(of, _)| begins_with(&trees[generics..], of)) else {
+        self.replaced = replaced_in(trees);
+        if self.replaced.is_empty() {
             return Ok(None);
-        };
-        let body = trees.iter().position(|tree| tree.group("{").is_some()).unwrap_or(generics);
-        self.copied = vec![(&["Copy"], "Clone")];
-        self.copied.extend_from_slice(copied);
+        }
+        let body = trees.iter().position(|tree| tree.group("{").is_some());
+        let body = body.ok_or_else(|| fault(trees[0].first(), "is an impl without a body"))?;
         let whole = self.all(&trees[..=body]);
-        self.copied.clear();
+        self.replaced.clear();
         whole.map(|()| Some(body + 1))
     }
 
-    /// A value that the source copies is cloned: what a bracket, a comma or a semicolon ends, or the head of the impl.
-    pub(crate) fn copied(&mut self, trees: &[Tree]) -> Result<Option<usize>, Fault> {
+    /// A bound or a value is replaced in an impl of a list where nothing is read of it: a bracket, a comma or a semicolon ends it.
+    pub(crate) fn replacement(&mut self, trees: &[Tree]) -> Result<Option<usize>, Fault> {
         let is_whole = |rest: &[Tree]| rest.first().is_none_or(|next| [",", ";", ">"].iter().any(|end| next.is(end)));
-        let is_copied = |(texts, _): &&Copied| begins_with(trees, texts) && is_whole(&trees[texts.len()..]);
-        match self.copied.iter().find(is_copied).filter(|_| !self.out.ends_with('.')).copied() {
-            Some((texts, clone)) => {
-                self.put(trees[0].first().lead, clone);
+        let is_replaced = |(texts, _): &&Replaced| begins_with(trees, texts) && is_whole(&trees[texts.len()..]);
+        match self.replaced.iter().find(is_replaced).filter(|_| !self.out.ends_with('.')).copied() {
+            Some((texts, other)) => {
+                self.put(trees[0].first().lead, other);
                 Ok(Some(texts.len()))
             }
             None => Ok(None),
         }
     }
+}
+
+/// What is replaced in an impl; nothing where no list has it.
+fn replaced_in(trees: &[Tree]) -> Vec<Replaced> {
+    let (generics, of) = trees.split_at(1 + length_of_generics(&trees[1..]));
+    let is_of = |words: &[&str]| begins_with(of, words);
+    let copies = generics.windows(2).any(|pair| begins_with(pair, &["+", "Copy"]));
+    let cloned = CLONED.iter().find(|(words, _)| copies && is_of(words));
+    let mut replaced: Vec<Replaced> = cloned.map_or(Vec::new(), |(_, values)| values.to_vec());
+    if cloned.is_some() {
+        replaced.push((&["+", "Copy"], "+ Clone"));
+    }
+    if OF_DIMENSIONS.iter().any(|words| is_of(words)) {
+        replaced.push((&[":", "Lengths"], ": crate::Dimension"));
+    }
+    replaced
 }

@@ -1,7 +1,7 @@
 //! What is left of a source with contracts in plain Rust: a list of forms, each with what it becomes. What no form knows is
 //! an error, and never passed through. `rust/ERASURE.md` says why the meaning stays.
 
-use crate::bounds::{Copied, added_to};
+use crate::bounds::{Replaced, added_to};
 use crate::differences::ends_value;
 use crate::docs::Contract;
 use crate::errors;
@@ -50,7 +50,7 @@ pub fn erase(trees: &[Tree], names: &Names) -> Result<Erased, Fault> {
         modules: Vec::new(),
         contract: Contract::default(),
         in_trait: false,
-        copied: Vec::new(),
+        replaced: Vec::new(),
         bracket: "",
         takes_ranges: false,
         endless: String::new(),
@@ -69,8 +69,8 @@ pub(crate) struct Eraser<'a> {
     pub(crate) contract: Contract,
     /// Whether that is an item of a sealed trait.
     pub(crate) in_trait: bool,
-    /// What the impl at hand clones where its source copies.
-    pub(crate) copied: Vec<Copied>,
+    /// What is replaced in the impl at hand.
+    pub(crate) replaced: Vec<Replaced>,
     /// The bracket in which the tree at hand stands; none at the top.
     pub(crate) bracket: &'static str,
     /// Whether a range with no end may stand in that bracket.
@@ -97,8 +97,8 @@ impl<'a> Eraser<'a> {
         Self::finality,
         Self::seal,
         Self::type_bounds,
-        Self::cloned_impl,
-        Self::copied,
+        Self::listed_impl,
+        Self::replacement,
         Self::drop_bound,
         Self::clone_method,
         Self::formatter,

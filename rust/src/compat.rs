@@ -34,6 +34,7 @@ mod dimensions;
 mod equations;
 mod indices;
 mod owned;
+pub mod prelude;
 mod slices;
 mod steps;
 

@@ -233,14 +233,22 @@ fn a_bound_of_the_list_is_added() {
             "impl<D: A + Clone> IntoIterator for Indices<D> { fn f() { let d = self.dim.clone(); g(self.dim.clone(), d); } } fn f<A: Copy>() { self.dim; }",
         ),
         (
-            "impl<D: Copy> Iterator for IndexIter<D> { fn f() { let mut n = index; self.index = n; a.index; self.dim.g(index.h()) } }",
-            "impl<D: Clone> Iterator for IndexIter<D> { fn f() { let mut n = index.clone(); self.index = n; a.index; self.dim.g(index.h()) } }",
+            "impl<D: A + Copy> Iterator for IndexIter<D> { fn f() { let mut n = index; self.index = n; a.index; self.dim.g(index.h()) } }",
+            "impl<D: A + Clone> Iterator for IndexIter<D> { fn f() { let mut n = index.clone(); self.index = n; a.index; self.dim.g(index.h()) } }",
         ),
         (
-            "impl<D: Copy> Clone for Indices<D> { fn clone(&self) -> Result<Self, AllocError> { Ok(*self) } }",
-            "impl<D: Clone> Clone for Indices<D> { fn clone(&self) -> Self {Indices { dim: self.dim.clone() }} }",
+            "impl<D: A + Copy> Clone for Indices<D> { fn clone(&self) -> Result<Self, AllocError> { Ok(*self) } }",
+            "impl<D: A + Clone> Clone for Indices<D> { fn clone(&self) -> Self {Indices { dim: self.dim.clone() }} }",
         ),
-        ("impl<D: Copy> Copy for Indices<D> {} impl<T: Copy> Iterator for Places<T> { fn f() { self.index; } }", ""),
+        (
+            "impl<T: A, E: Lengths> SliceArg<D> for S<T, E> { type OutDim = E; } impl<E: Lengths> SliceElems for E {}",
+            "impl<T: A, E: crate::Dimension> SliceArg<D> for S<T, E> { type OutDim = E; } impl<E: Lengths> SliceElems for E {}",
+        ),
+        ("impl<T: Copy> ArrayViewMut<T> {} impl<D> Strided<D> { fn f() { self.strides; } }", ""),
+        (
+            "impl<D: A + Copy> Copy for Indices<D> {} impl<T: Copy> Iterator for Places<T> { fn f() { self.index; } }",
+            "",
+        ),
     ];
     for (source, due) in ROWS {
         let due = if due.is_empty() { source } else { due };
@@ -260,12 +268,13 @@ fn sources(folder: &Path) -> String {
 
 #[test]
 fn each_row_of_the_list_of_bounds_is_of_something() {
-    let layer = ["nd_base", "nd_dim", "nd_shape", "nd_slice"];
+    let layer = ["nd_base", "nd_dim", "nd_shape", "nd_slice", "ndarray_layout", "nd_owned"];
     let text: String = layer.iter().map(|name| sources(Path::new(&format!("crates/{name}/src")))).collect();
     let heads = bounds::ADDED.iter().map(|(name, _)| format!("pub trait {name}"));
     let types = bounds::OF_TYPES.iter().map(|(name, _)| format!("    type {name}: "));
     let impls = bounds::CLONED.iter().map(|(words, _)| format!("{}<", words.join(" ")));
-    for row in heads.chain(types).chain(impls) {
+    let others = bounds::OF_DIMENSIONS.iter().map(|words| words.concat());
+    for row in heads.chain(types).chain(impls).chain(others) {
         assert!(text.contains(&row), "{row}");
     }
 }

@@ -294,7 +294,7 @@ pub trait SliceArg<D: Dimension>: AsRef<[SliceInfoElem]> {
 impl<D, T> SliceArg<D> for T
 where
     D: crate::Dimension,
-    T: crate::SliceArg<D, OutDim: crate::Dimension> + AsRef<[SliceInfoElem]> + ?Sized,
+    T: crate::SliceArg<D> + AsRef<[SliceInfoElem]> + ?Sized,
 {
     type OutDim = T::OutDim;
 

@@ -4,7 +4,7 @@ use ndarray_layout::{
     ArrayView, ArrayView0, ArrayView1, ArrayView2, ArrayView3, ArrayView4, ArrayView5, ArrayView6, ArrayViewD,
     ArrayViewMut, ArrayViewMut0, ArrayViewMut1, ArrayViewMut2, ArrayViewMut3, ArrayViewMut4, ArrayViewMut5,
     ArrayViewMut6, ArrayViewMutD, Dim, Dimension, Ix0, Ix1, Ix2, Ix3, Ix4, Ix5, Ix6, IxDyn, IxDynImpl, LayoutError,
-    NdIndex, SliceInfo, SliceInfoElem, all_indices,
+    Lengths, NdIndex, SliceArg, SliceInfo, SliceInfoElem, Strided, all_indices, s,
 };
 use std::ops::Bound::{Excluded, Included, Unbounded};
 
@@ -44,6 +44,39 @@ fn a_view_of_any_type_is_read_and_written() -> Result<(), LayoutError> {
     assert_eq!(greatest(&view), Some((IxDyn(&[2, 1]), 9)));
     add_coordinates(&mut ArrayViewMut::from_shape(IxDyn(&[2, 3]).into(), &mut items)?);
     assert_eq!(items, [5, 1, 3, 5, 5, 12]);
+    Ok(())
+}
+
+/// How many items a slice picks, and how many of them stand in the last place along each axis.
+fn sizes<D: Dimension, I: SliceArg<D>>(view: &Strided<D>, slices: I) -> Result<(usize, usize), LayoutError> {
+    let shape = view.sliced(slices)?.dim().clone();
+    let is_last = |index: &I::OutDim| index.slice().iter().zip(shape.slice()).all(|(i, len)| i + 1 == *len);
+    Ok((shape.size(), all_indices(shape.clone())?.into_iter().map(Dim).filter(is_last).count()))
+}
+
+/// The view of the inner coordinates: without the first and the last on each axis.
+fn inner<'a, D: Dimension>(view: &ArrayView<'a, i32, D>) -> Option<ArrayView<'a, i32, D>> {
+    let mut starts = view.dim().clone();
+    starts.slice_mut().fill(1);
+    let mut ends = view.dim().clone();
+    ends -= &starts;
+    view.crop(&starts, &ends)
+}
+
+#[test]
+fn a_view_of_any_type_is_sliced_and_cropped() -> Result<(), LayoutError> {
+    let mut items: Vec<i32> = (0..60).collect();
+    let view = ArrayView::from_shape(Ix3(3, 4, 5).into(), &items)?;
+    assert_eq!(sizes(view.view(), s![1, .., ..;2])?, (12, 1));
+    assert_eq!(inner(&view).map(|inner| inner.iter().copied().collect()), Some(vec![26, 27, 28, 31, 32, 33]));
+    let view = ArrayView::from_shape(IxDyn(&[3, 4, 5]).into(), &items)?;
+    assert_eq!(sizes(view.view(), s![1, .., ..;2])?, (12, 1));
+    assert_eq!(inner(&view).map(|inner| inner.iter().sum()), Some(26 + 27 + 28 + 31 + 32 + 33));
+    assert!(view.view().crop(&IxDyn(&[0, 0]), &IxDyn(&[1, 1])).is_none());
+    let view = ArrayViewMut::from_shape(IxDyn(&[3, 4, 5]).into(), &mut items)?;
+    view.crop(&IxDyn(&[1, 1, 1]), &IxDyn(&[2, 2, 2])).expect("a part").fill(-1);
+    assert_eq!(items.iter().position(|&item| item == -1), Some(26));
+    assert_eq!(items.iter().filter(|&&item| item == -1).count(), 1);
     Ok(())
 }
 

@@ -1,7 +1,7 @@
 //! Slice arguments whose type says the counts of axes before and after.
 
 use ndarray_layout::{
-    ErrorKind, FixedCount, Ix1, Ix2, Ix3, IxDyn, Lengths, ShapeError, SliceArg, SliceElems, SliceInfo, SliceInfoElem,
+    Dimension, ErrorKind, FixedCount, Ix1, Ix2, Ix3, IxDyn, ShapeError, SliceArg, SliceElems, SliceInfo, SliceInfoElem,
     from_kind,
 };
 
@@ -45,7 +45,7 @@ fn assert_argument<D: FixedCount>(argument: &impl SliceArg<D>, elems: &[SliceInf
 }
 
 /// Asserts the same of an argument, and of one with its elements lent, at its own type and at that of any count.
-fn assert_arguments<T: SliceElems, Dout: Lengths>(info: &SliceInfo<T, Ix2, Dout>, elems: &[SliceInfoElem]) {
+fn assert_arguments<T: SliceElems, Dout: Dimension>(info: &SliceInfo<T, Ix2, Dout>, elems: &[SliceInfoElem]) {
     let lent = SliceInfo::<&[SliceInfoElem], Ix2, Dout>::from(info);
     assert_argument::<Ix2>(info, elems);
     assert_argument::<IxDyn>(info, elems);
