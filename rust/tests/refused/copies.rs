@@ -46,7 +46,7 @@ fn assert_panics(calls: &[&dyn Fn()]) {
 fn a_call_by_ndarrays_signature_panics_where_its_allocation_fails() {
     let shape = IxDyn(&[1; 6]);
     let longer = IxDyn(&[1; 7]);
-    let lens = vec![1; 6];
+    let lens = [1; 6];
     let view = view_of(&shape);
     let calls: [&dyn Fn(); 16] = [
         &|| drop(compat::IntoDimension::into_dimension(&lens[..])),
