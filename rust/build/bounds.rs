@@ -94,7 +94,7 @@ impl Eraser<'_> {
 
     /// An impl of a list has its bounds replaced, and the values that its source copies.
     pub(crate) fn listed_impl(&mut self, trees: &[Tree]) -> Result<Option<usize>, Fault> {
-        if !trees[0].is("impl") || !self.replaced.is_empty() {
+        if !trees[0].is("impl") || !self.replaced.is_empty() || !self.names.is_packed() {
             return Ok(None);
         }
         self.replaced = replaced_in(trees);

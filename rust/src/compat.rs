@@ -35,6 +35,7 @@ mod equations;
 mod indices;
 mod owned;
 pub mod prelude;
+mod slice_arguments;
 mod slices;
 mod steps;
 
@@ -47,7 +48,7 @@ pub use crate::{
     ShapeError, Slice, SliceInfo, SliceInfoElem, SliceNextDim, StrideShape, Strides, abs_index, arith_seq_intersect,
     from_kind, s, stride_offset, stride_offset_checked,
 };
-pub use arguments::{Dim, DimensionExt, IntoDimension, NdIndex, ShapeArg, ShapeBuilder, SliceArg};
+pub use arguments::{Dim, DimensionExt, IntoDimension, NdIndex, ShapeArg, ShapeBuilder, ShapeSize};
 pub use arrays::{NdProducer, array_layout, indices_of};
 pub use checks::{
     can_index_slice, can_index_slice_not_custom, can_index_slice_with_strides, dim_stride_overlap, is_layout_c,
@@ -59,6 +60,7 @@ pub use dimension_types::{DimAdd, DimMax};
 pub use equations::{extended_gcd, solve_linear_diophantine_eq};
 pub use indices::{indices, indices_iter_f};
 pub use owned::{Array, Array0, Array1, Array2, Array3, Array4, Array5, Array6, ArrayD, ArrayExt};
+pub use slice_arguments::SliceArg;
 pub use slices::{do_slice, slice_min_max, slices_intersect, to_abs_slice};
 pub use steps::{
     axes_of, co_broadcast, do_collapse_axis, incompatible_shapes, merge_axes, move_min_stride_axis_to_last, reshape_dim,

@@ -1,7 +1,7 @@
-//! What callers give for shapes, indices and slices, by the signatures of ndarray.
+//! What callers give for shapes and indices, by the signatures of ndarray.
 
 use super::{Dimension, of_memory};
-use crate::{Axis, Ix, Order, Shape, SliceInfoElem, StrideShape};
+use crate::{Axis, Ix, Order, Shape, StrideShape, Strides};
 use core::fmt::Debug;
 
 /// What stands for a list of lengths and converts to a dimension. ndarray's `IntoDimension`. Not proved.
@@ -211,29 +211,93 @@ pub trait ShapeBuilder {
 }
 
 /// Not proved.
-impl<T: crate::ShapeBuilder<Dim: crate::Dimension>> ShapeBuilder for T {
+impl<T: IntoDimension> ShapeBuilder for T {
     type Dim = T::Dim;
 
-    type Strides = T::Strides;
+    type Strides = T;
 
     #[inline]
     fn into_shape_with_order(self) -> Shape<T::Dim> {
-        of_memory(crate::ShapeBuilder::into_shape_with_order(self))
+        self.set_f(false)
     }
 
     #[inline]
     fn f(self) -> Shape<T::Dim> {
-        of_memory(crate::ShapeBuilder::f(self))
+        self.set_f(true)
     }
 
     #[inline]
     fn set_f(self, is_f: bool) -> Shape<T::Dim> {
-        of_memory(crate::ShapeBuilder::set_f(self, is_f))
+        self.into_dimension().in_order(is_f)
     }
 
     #[inline]
-    fn strides(self, strides: T::Strides) -> StrideShape<T::Dim> {
-        of_memory(crate::ShapeBuilder::strides(self, strides))
+    fn strides(self, strides: T) -> StrideShape<T::Dim> {
+        StrideShape { dim: self.into_dimension(), strides: Strides::Custom(strides.into_dimension()) }
+    }
+}
+
+/// Not proved.
+impl<D: Dimension> ShapeBuilder for Shape<D> {
+    type Dim = D;
+
+    type Strides = D;
+
+    #[inline]
+    fn into_shape_with_order(self) -> Shape<D> {
+        self
+    }
+
+    #[inline]
+    fn f(self) -> Shape<D> {
+        self.set_f(true)
+    }
+
+    #[inline]
+    fn set_f(self, is_f: bool) -> Shape<D> {
+        self.raw_dim().clone().in_order(is_f)
+    }
+
+    #[inline]
+    fn strides(self, strides: D) -> StrideShape<D> {
+        StrideShape { dim: self.raw_dim().clone(), strides: Strides::Custom(strides) }
+    }
+}
+
+/// The size of a shape with an order or with strides, in a function over any dimension. Not proved.
+///
+/// ```
+/// use ndarray_layout::compat::{Dimension, ShapeBuilder, ShapeSize, StrideShape};
+///
+/// /// How many items an array of a shape has.
+/// fn count<D: Dimension>(shape: impl Into<StrideShape<D>>) -> usize {
+///     shape.into().size()
+/// }
+///
+/// assert_eq!((count((4, 5)), count((4, 5).f()), count((4, 5).strides((1, 4)))), (20, 20, 20));
+/// ```
+pub trait ShapeSize {
+    /// The product of all lengths. ndarray's `size` of `Shape` and `StrideShape`.
+    ///
+    /// # Panics
+    ///
+    /// Where it passes `usize`, with overflow checks.
+    fn size(&self) -> Ix;
+}
+
+/// Not proved.
+impl<D: Dimension> ShapeSize for Shape<D> {
+    #[inline]
+    fn size(&self) -> Ix {
+        self.raw_dim().size()
+    }
+}
+
+/// Not proved.
+impl<D: Dimension> ShapeSize for StrideShape<D> {
+    #[inline]
+    fn size(&self) -> Ix {
+        self.raw_dim().size()
     }
 }
 
@@ -258,53 +322,21 @@ pub trait ShapeArg {
 }
 
 /// Not proved.
-impl<T: crate::ShapeArg<Dim: crate::Dimension>> ShapeArg for T {
+impl<T: IntoDimension> ShapeArg for T {
     type Dim = T::Dim;
 
     #[inline]
     fn into_shape_and_order(self) -> (T::Dim, Option<Order>) {
-        of_memory(crate::ShapeArg::into_shape_and_order(self))
+        (self.into_dimension(), None)
     }
-}
-
-/// A slice argument for shapes of a type. ndarray's `SliceArg`. Not proved.
-///
-/// ```
-/// use ndarray_layout::compat::{Dimension, Ix3, SliceArg, s};
-///
-/// /// How many axes a slice leaves of a shape.
-/// fn axes_after<D: Dimension>(_shape: &D, slices: impl SliceArg<D>) -> usize {
-///     slices.out_ndim()
-/// }
-///
-/// assert_eq!(axes_after(&Ix3(4, 5, 6), s![1, .., 2..;2]), 2);
-/// ```
-pub trait SliceArg<D: Dimension>: AsRef<[SliceInfoElem]> {
-    /// The dimension type of the shape after.
-    type OutDim: Dimension;
-
-    /// The number of axes of the shape before. ndarray's `in_ndim`.
-    fn in_ndim(&self) -> usize;
-
-    /// The number of axes of the shape after. ndarray's `out_ndim`.
-    fn out_ndim(&self) -> usize;
 }
 
 /// Not proved.
-impl<D, T> SliceArg<D> for T
-where
-    D: crate::Dimension,
-    T: crate::SliceArg<D> + AsRef<[SliceInfoElem]> + ?Sized,
-{
-    type OutDim = T::OutDim;
+impl<T: IntoDimension> ShapeArg for (T, Order) {
+    type Dim = T::Dim;
 
     #[inline]
-    fn in_ndim(&self) -> usize {
-        crate::SliceArg::in_ndim(self)
-    }
-
-    #[inline]
-    fn out_ndim(&self) -> usize {
-        crate::SliceArg::out_ndim(self)
+    fn into_shape_and_order(self) -> (T::Dim, Option<Order>) {
+        (self.0.into_dimension(), Some(self.1))
     }
 }

@@ -2,7 +2,7 @@
 
 use super::{DimAdd, DimMax, IntoDimension, NdIndex};
 use crate::sealed::Sealed;
-use crate::{ArrayView1, ArrayViewMut1, Axis, Ix, Ix0, Ix1, IxDyn};
+use crate::{ArrayView1, ArrayViewMut1, Axis, Ix, Ix0, Ix1, IxDyn, Shape};
 use core::fmt::Debug;
 use core::ops::{Add, AddAssign, IndexMut, Mul, MulAssign, Sub, SubAssign};
 
@@ -84,6 +84,9 @@ pub trait Dimension:
 
     #[doc(hidden)]
     fn of_proved(proved: Self::Proved) -> Self;
+
+    #[doc(hidden)]
+    fn in_order(self, is_f: bool) -> Shape<Self>;
 
     /// The number of axes. ndarray's `ndim`.
     ///

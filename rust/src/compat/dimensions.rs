@@ -1,7 +1,7 @@
 //! The calls of the package's dimensions by the signatures of ndarray.
 
 use super::{Dimension, RemoveAxis, fitting, of_memory, of_shapes};
-use crate::{ArrayView, ArrayView1, ArrayViewMut, ArrayViewMut1, Axis, FixedCount, Ix, Ix1, IxDyn, Lengths};
+use crate::{ArrayView, ArrayView1, ArrayViewMut, ArrayViewMut1, Axis, FixedCount, Ix, Ix1, IxDyn, Lengths, Shape};
 
 /// Not proved.
 impl<D: crate::Dimension> Dimension for D {
@@ -33,6 +33,11 @@ impl<D: crate::Dimension> Dimension for D {
     #[inline]
     fn of_proved(proved: D) -> D {
         proved
+    }
+
+    #[inline]
+    fn in_order(self, is_f: bool) -> Shape<D> {
+        of_memory(crate::ShapeBuilder::set_f(self, is_f))
     }
 
     #[inline]

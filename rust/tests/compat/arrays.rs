@@ -3,8 +3,8 @@
 use crate::back;
 use ndarray_layout::compat::{
     Array, Array0, Array1, Array2, Array3, Array4, Array5, Array6, ArrayD, ArrayExt, ArrayView, ArrayViewMut, Axis,
-    CanIndexCheckMode, Dim, Ix1, Ix2, Ix3, IxDyn, Layout, NdProducer, ShapeBuilder, array_layout, indices, indices_of,
-    s,
+    CanIndexCheckMode, Dim, Ix1, Ix2, Ix3, IxDyn, Layout, NdProducer, ShapeBuilder, ShapeSize, StrideShape,
+    array_layout, indices, indices_of, s,
 };
 use ndarray_layout::{LayoutError, Strided};
 
@@ -93,6 +93,18 @@ fn the_shape_of_an_array_is_told_and_its_indices() -> Result<(), LayoutError> {
     }
     assert!(array.slice(s![.., 0, ..;-1]).iter().eq(&[1, 0, 11, 10]));
     Ok(())
+}
+
+/// The sizes of a shape, as what builds an array is handed it.
+fn sizes<Sh: ShapeBuilder>(shape: impl Fn() -> Sh) -> (usize, usize) {
+    let own: StrideShape<_> =
+        shape().into_shape_with_order().strides(shape().into_shape_with_order().raw_dim().clone());
+    (shape().f().size(), own.size())
+}
+
+#[test]
+fn a_shape_of_any_type_has_a_size() {
+    assert_eq!((sizes(|| (4, 5)), sizes(|| vec![4, 5, 0]), sizes(|| ())), ((20, 20), (0, 0), (1, 1)));
 }
 
 /// The package's dimensions go where those of this module go.

@@ -1,8 +1,9 @@
 //! Functions over any dimension, as they stand in code over ndarray: nothing but the bounds of `compat`.
 
 use ndarray_layout::compat::{
-    Axis, DimAdd, DimMax, Dimension, IntoDimension, Ix0, Ix1, Ix2, Ix3, Ix4, Ix6, IxDyn, NdIndex, RemoveAxis,
-    ShapeBuilder, ShapeError, co_broadcast, indices,
+    Axis, DimAdd, DimMax, Dimension, IntoDimension, Ix0, Ix1, Ix2, Ix3, Ix4, Ix6, IxDyn, NdIndex, Order, RemoveAxis,
+    Shape, ShapeArg, ShapeBuilder, ShapeError, SliceArg, StrideShape, Strides, co_broadcast, indices, s,
+    slices_intersect,
 };
 
 /// The sizes of the inner shapes: without the first axis, the first two, and so on.
@@ -65,6 +66,34 @@ fn agrees<D: Dimension>(shape: D) -> bool {
 
 fn axes_together<A: Dimension + DimAdd<B>, B: Dimension>() -> Option<usize> {
     <A as DimAdd<B>>::Output::NDIM
+}
+
+/// A shape in column-major order, by strides of its own.
+fn by_columns<D: Dimension>(shape: D) -> (bool, StrideShape<D>) {
+    let strides = shape.fortran_strides();
+    let shape: Shape<D> = shape.f();
+    (shape.is_c(), shape.set_f(false).strides(strides))
+}
+
+fn order_of<T: IntoDimension>(shape: T) -> (usize, Option<Order>) {
+    let (dim, order) = (shape, Order::F).into_shape_and_order();
+    (dim.into_shape_and_order().0.ndim(), order)
+}
+
+/// Whether a slice picks anything, and how many axes it leaves.
+fn picks<D: Dimension, I: SliceArg<D>>(shape: &D, slices: I) -> (bool, usize) {
+    let lent: &I = &slices;
+    (slices_intersect(shape, lent, &slices), lent.out_ndim())
+}
+
+#[test]
+fn shapes_and_slices_of_any_type_are_handed_on() {
+    let (is_c, shape) = by_columns(Ix2(4, 5));
+    assert!(!is_c && matches!(shape.strides, Strides::Custom(strides) if strides == Ix2(1, 4)));
+    let (is_c, shape) = by_columns(IxDyn(&[4, 5]));
+    assert!(!is_c && shape.raw_dim() == &IxDyn(&[4, 5]));
+    assert_eq!((order_of(Ix2(4, 5)), order_of(vec![4, 5, 6])), ((2, Some(Order::ColumnMajor)), (3, Some(Order::F))));
+    assert_eq!((picks(&Ix2(4, 5), s![1, ..]), picks(&IxDyn(&[4, 5]), &s![.., 3..3])), ((true, 1), (false, 2)));
 }
 
 #[test]
