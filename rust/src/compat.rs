@@ -23,6 +23,9 @@
 //! - `IxDyn::zeros`, by this name, returns a `Result`; `D::zeros` of a generic function doesn't.
 //! - `Slice::new` and `s!` take the step 0. The call that takes the slice panics.
 //! - [`slices_intersect`] looks at each index and each slice before it compares any.
+//! - [`dim_stride_overlap`] is false for each shape with a length of 0, and `min_stride_axis` passes over axes that aren't longer
+//!   than 1.
+//! - [`reshape_dim`] returns an error for a length of 0, where ndarray may panic.
 //! - Numbers are computed where ndarray's wrap, and a layout at the ends of `isize` is looked at where ndarray panics.
 
 mod arguments;

@@ -54,7 +54,7 @@ where
 ///
 /// # Panics
 ///
-/// Where an allocation fails.
+/// Where the counts of axes of the layout differ, and where an allocation fails.
 ///
 /// ```
 /// use ndarray_layout::compat::{Ix1, Ix2, Order, reshape_dim};
@@ -68,6 +68,7 @@ where
     D: Dimension,
     E: Dimension,
 {
+    assert_eq!(from.ndim(), strides.ndim(), "a layout has as many strides as axes");
     of_shapes(crate::reshape_dim(from.proved(), strides.proved(), to.proved(), order)).map(E::of_proved)
 }
 

@@ -1,9 +1,9 @@
 //! Where ndarray panics, the call of `compat` does, with what is wrong.
 
 use ndarray_layout::compat::{
-    Array1, ArrayExt, Axis, Dimension, DimensionExt, Ix0, Ix1, Ix2, Ix3, IxDyn, RemoveAxis, Slice, SliceInfoElem,
-    co_broadcast, do_collapse_axis, do_slice, extended_gcd, merge_axes, s, slice_min_max, slices_intersect,
-    solve_linear_diophantine_eq, to_abs_slice,
+    Array1, ArrayExt, Axis, Dimension, DimensionExt, Ix0, Ix1, Ix2, Ix3, IxDyn, Order, RemoveAxis, Slice,
+    SliceInfoElem, co_broadcast, do_collapse_axis, do_slice, extended_gcd, merge_axes, reshape_dim, s, slice_min_max,
+    slices_intersect, solve_linear_diophantine_eq, to_abs_slice,
 };
 use std::panic::{UnwindSafe, catch_unwind};
 
@@ -52,6 +52,12 @@ fn an_axis_or_a_coordinate_that_is_not_there() {
 fn a_count_of_axes_that_the_type_does_not_have() {
     assert_eq!(said(|| Ix2::zeros(3)), "the type has another count of axes");
     assert_eq!(said(|| co_broadcast::<Ix2, Ix1, Ix3>(&Ix2(4, 5), &Ix1(5))), "the type has another count of axes");
+}
+
+#[test]
+fn a_layout_of_two_counts_of_axes() {
+    let other_count = said(|| reshape_dim(&IxDyn(&[4]), &IxDyn(&[]), &Ix1(4), Order::C));
+    assert!(other_count.contains("as many strides as axes"));
 }
 
 #[test]
