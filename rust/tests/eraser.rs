@@ -1,31 +1,31 @@
 //! The eraser: what each form becomes, and that what it doesn't know is an error.
 #![allow(dead_code)]
 
-#[path = "../build/bounds.rs"]
+#[path = "../eraser/bounds.rs"]
 mod bounds;
-#[path = "../build/code.rs"]
+#[path = "../eraser/code.rs"]
 mod code;
-#[path = "../build/differences.rs"]
+#[path = "../eraser/differences.rs"]
 mod differences;
-#[path = "../build/docs.rs"]
+#[path = "../eraser/docs.rs"]
 mod docs;
-#[path = "../build/erase.rs"]
+#[path = "../eraser/erase.rs"]
 mod erase;
-#[path = "../build/errors.rs"]
+#[path = "../eraser/errors.rs"]
 mod errors;
-#[path = "../build/exports.rs"]
+#[path = "../eraser/exports.rs"]
 mod exports;
-#[path = "../build/library.rs"]
+#[path = "../eraser/library.rs"]
 mod library;
-#[path = "../build/modules.rs"]
+#[path = "../eraser/modules.rs"]
 mod modules;
-#[path = "../build/names.rs"]
+#[path = "../eraser/names.rs"]
 mod names;
-#[path = "../build/opened.rs"]
+#[path = "../eraser/opened.rs"]
 mod opened;
-#[path = "../build/proofs.rs"]
+#[path = "../eraser/proofs.rs"]
 mod proofs;
-#[path = "../build/tokens.rs"]
+#[path = "../eraser/tokens.rs"]
 mod tokens;
 
 use erase::{Names, erase};

@@ -14,7 +14,7 @@ fn main() -> Fallible<()> {
     let library = env::var_os("NDARRAY_LAYOUT_LIB_DIR").map_or(here.join("../proved"), PathBuf::from);
 
     let eraser = out.join("eraser");
-    let source = top.join("rust/build/main.rs");
+    let source = top.join("rust/eraser/main.rs");
     run(Command::new(env::var("RUSTC")?).args(["--edition", "2024", "-o"]).arg(&eraser).arg(&source))?;
     run(Command::new(&eraser).env("CARGO_MANIFEST_DIR", &top))?;
     let exports = fs::read_to_string(out.join("exports.rs"))?;
@@ -27,7 +27,7 @@ fn main() -> Fallible<()> {
 
     for read in [
         here.join("../ndarray_layout.h"),
-        top.join("rust/build"),
+        top.join("rust/eraser"),
         top.join("crates"),
         library.join("libndarray_layout.a"),
     ] {

@@ -9,10 +9,10 @@ fn main() -> Result<(), Box<dyn Error>> {
     let top = PathBuf::from(env::var("CARGO_MANIFEST_DIR")?).join("../../..");
     let out = PathBuf::from(env::var("OUT_DIR")?);
     let (eraser, crates) = (out.join("eraser"), top.join("crates/ndarray_layout_c/src"));
-    println!("cargo::rerun-if-changed={}", top.join("rust/build").display());
+    println!("cargo::rerun-if-changed={}", top.join("rust/eraser").display());
     println!("cargo::rerun-if-changed={}", crates.display());
 
-    let source = top.join("rust/build/main.rs");
+    let source = top.join("rust/eraser/main.rs");
     run(Command::new(env::var("RUSTC")?).args(["--edition", "2024", "-o"]).arg(&eraser).arg(source))?;
     fs::write(out.join("exports.rs"), run(Command::new(&eraser).arg("ndarray_layout_c").arg(crates))?)?;
     Ok(())

@@ -88,7 +88,7 @@ fn main() -> Fallible<()> {
     }
     let top = PathBuf::from(env::var("CARGO_MANIFEST_DIR")?);
     let out = PathBuf::from(env::var("OUT_DIR")?);
-    println!("cargo::rerun-if-changed=rust/build");
+    println!("cargo::rerun-if-changed=rust/eraser");
     fs::write(out.join("layer.rs"), crates_of(&top, LAYER, &[], "crate")?)?;
     fs::write(out.join("programs.rs"), crates_of(&top, PROGRAMS, &[], "crate")?)?;
     fs::write(out.join("tests.rs"), crates_of(&top, TESTS, TESTS, "::ndarray_layout")?)?;
