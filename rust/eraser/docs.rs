@@ -1,18 +1,39 @@
-//! What is written before an item once its head is read: its contract, as text in its documentation, and attributes.
+//! What is written before an item once its head is read: its conditions in words and its contract, folded away, in its
+//! documentation; and attributes.
 
+use crate::names::{CONDITIONS, OF_PROOFS};
+use crate::paragraphs::Paragraphs;
 use crate::tokens::{Token, Tree, text_of};
 
 /// What the documentation of a sealed trait says of that.
 const SEALED: &str = "Sealed: no type outside this package implements it.";
 
+/// When brackets panic.
+const PANICS: &str = "Where there is no such index.";
+
+/// How the sources tell a condition.
+const ENSURED: &str = "The caller ensures";
+
+/// How the sources tell what a contract sees of a value.
+const SEEN: &str = "A contract sees";
+
+/// What is said of a condition that is broken.
+const BROKEN: &str = "Otherwise the call panics or returns unspecified values.";
+
+/// The columns that a line of documentation takes at the most, where lines are broken here.
+const COLUMNS: usize = 120;
+
 /// The clauses of an item, and where in the output it begins: after its documentation, if it has some.
 #[derive(Default)]
 pub struct Contract {
     start: usize,
+    /// Where its documentation begins.
+    docs: usize,
     is_documented: bool,
     indent: String,
-    requires: Vec<String>,
-    ensures: Vec<String>,
+    /// Each condition.
+    conditions: Vec<String>,
+    clauses: Vec<String>,
     /// Whether callers can name the item.
     pub is_public: bool,
     /// Whether the item is a function.
@@ -21,32 +42,47 @@ pub struct Contract {
     pub must_use: bool,
     /// Whether the item is a trait that no caller implements.
     pub is_sealed: bool,
+    /// Whether the item is what brackets are of a value.
+    pub is_indexing: bool,
 }
 
 impl Contract {
     /// No clause yet of an item without documentation that begins at a byte of the output.
     pub fn at(start: usize) -> Self {
-        Contract { start, ..Contract::default() }
+        Contract { start, docs: start, ..Contract::default() }
     }
 
-    /// No clause yet of an item after a line of documentation that ends at a byte of the output.
-    pub fn after(start: usize, line: &Token) -> Self {
+    /// No clause yet of an item after a line of documentation that ends at a byte of the output, and may follow others.
+    pub fn after(self, start: usize, line: &Token) -> Self {
+        let follows = self.is_documented && self.start + line.lead.len() + line.text.len() == start;
+        let docs = if follows { self.docs } else { start - line.text.len() };
         let indent = line.lead.rsplit('\n').next().unwrap_or_default();
-        Contract { start, is_documented: true, indent: indent.to_string(), ..Contract::default() }
+        Contract { start, docs, is_documented: true, indent: indent.to_string(), ..Contract::default() }
     }
 
-    /// Adds a clause, from its keyword to its fact.
+    /// Adds a clause, from its keyword to its fact. Those that only proofs of callers need are left out.
     pub fn add(&mut self, clause: &[Tree]) {
         let Some((fact, head)) = clause.split_last() else {
             return;
         };
         let name: String = head[1..].iter().filter_map(Tree::word).collect();
         let text = fact.group("{").map_or(String::new(), |group| text_of(&group.trees));
+        if OF_PROOFS.iter().any(|word| text.contains(word)) {
+            return;
+        }
+        let keyword = if clause[0].is("requires") { "requires" } else { "ensures" };
+        if keyword == "requires" {
+            self.conditions.push(text.split_whitespace().collect::<Vec<_>>().join(" "));
+        }
+        let title = if name.is_empty() { keyword.to_string() } else { format!("{keyword} {name}:") };
         let lines: Vec<&str> = text.lines().map(str::trim).filter(|line| !line.is_empty()).collect();
-        let title = if name.is_empty() { String::new() } else { format!("{name}: ") };
-        let clauses = if clause[0].is("requires") { &mut self.requires } else { &mut self.ensures };
-        clauses.extend(lines.iter().enumerate().map(|(number, line)| match number {
-            0 => format!("{title}{line}"),
+        let whole = format!("{title} {}", lines.join(" "));
+        if self.indent.len() + "/// ".len() + whole.chars().count() <= COLUMNS {
+            self.clauses.push(whole);
+            return;
+        }
+        self.clauses.extend(lines.iter().enumerate().map(|(number, line)| match number {
+            0 => format!("{title} {line}"),
             _ => format!("    {line}"),
         }));
     }
@@ -73,26 +109,53 @@ impl Contract {
         out.insert_str(self.start + space.len(), &line);
     }
 
-    /// Writes the clauses to the end of the documentation, if there is one, and that a trait is sealed.
-    pub fn write_to(&self, out: &mut String) {
-        if self.is_documented {
-            let sealed = if self.is_sealed { self.lines(&["", SEALED]) } else { String::new() };
-            let conditions = self.section("Conditions", &self.requires);
-            let contract = self.section("Contract", &self.ensures);
-            out.insert_str(self.start, &(sealed + &conditions + &contract));
+    /// Writes to the documentation, if there is one, that a trait is sealed, the conditions in words and the clauses, and takes
+    /// from it what only contracts see. The error is a condition of a public item for which there are no words.
+    pub fn write_to(&self, out: &mut String, package: &str) -> Result<(), String> {
+        let docs = &out[self.docs..self.start];
+        if !self.is_documented || !docs.starts_with("///") {
+            return Ok(());
         }
+        let mut paragraphs = Paragraphs::of(docs, COLUMNS - self.indent.len() - "/// ".len());
+        let is_seen = paragraphs.take(SEEN).is_some();
+        if self.is_sealed {
+            paragraphs.push(SEALED);
+        }
+        if self.is_indexing {
+            paragraphs.push("# Panics");
+            paragraphs.push(PANICS);
+        }
+        if let Some(words) = self.conditions_in_words(&mut paragraphs)? {
+            paragraphs.push("# Conditions");
+            paragraphs.push(&words);
+        }
+        if !self.clauses.is_empty() {
+            let clauses: Vec<&str> = self.clauses.iter().map(String::as_str).collect();
+            let page = format!("[How to read it]({}::contracts)", package.trim_start_matches(':'));
+            paragraphs.push_lines(&["<details><summary>Contract (proved)</summary>"]);
+            paragraphs.push_lines(&[&["```text"], &clauses[..], &["```", &page, "</details>"]].concat());
+        }
+        if is_seen || self.is_sealed || self.is_indexing || !self.clauses.is_empty() {
+            let line = |line: &String| format!("{}/// {line}", self.indent).trim_end().to_string();
+            let lines: Vec<String> = paragraphs.lines().iter().map(line).collect();
+            out.replace_range(self.docs..self.start, lines.join("\n").trim_start());
+        }
+        Ok(())
     }
 
-    fn section(&self, title: &str, clauses: &[String]) -> String {
-        if clauses.is_empty() {
-            return String::new();
+    /// What the documentation says of the conditions, which is taken from it, or what is said of each such condition.
+    fn conditions_in_words(&self, docs: &mut Paragraphs) -> Result<Option<String>, String> {
+        let Some(first) = self.conditions.first() else {
+            return Ok(None);
+        };
+        if let Some(told) = docs.take(ENSURED) {
+            return Ok(Some(format!("{told} {BROKEN}")));
         }
-        let title = format!("# {title}");
-        let lines = ["", &title, "", "```text"].into_iter();
-        self.lines(&lines.chain(clauses.iter().map(String::as_str)).chain(["```"]).collect::<Vec<_>>())
-    }
-
-    fn lines(&self, lines: &[&str]) -> String {
-        lines.iter().map(|line| format!("\n{}/// {line}", self.indent).trim_end().to_string()).collect()
+        let is_known = |word: &str| self.conditions.iter().any(|condition| condition.contains(word));
+        match CONDITIONS.iter().find(|(word, _)| is_known(word)) {
+            _ if !self.is_public => Ok(None),
+            Some((_, words)) => Ok(Some(words.to_string())),
+            None => Err(format!("has a condition, `{first}`, that no words tell")),
+        }
     }
 }

@@ -85,7 +85,7 @@ pub(crate) struct Eraser<'a> {
 type Form<'a> = fn(&mut Eraser<'a>, &[Tree]) -> Result<Option<usize>, Fault>;
 
 impl<'a> Eraser<'a> {
-    const FORMS: [Form<'a>; 24] = [
+    const FORMS: [Form<'a>; 26] = [
         Self::doc,
         Self::clause,
         Self::ghost,
@@ -109,6 +109,8 @@ impl<'a> Eraser<'a> {
         Self::module,
         Self::allocator,
         Self::difference,
+        Self::chain,
+        Self::cast,
         Self::path,
         Self::call,
         Self::macro_call,
@@ -136,6 +138,7 @@ impl<'a> Eraser<'a> {
     fn note(&mut self, trees: &[Tree]) {
         let is_named = trees.get(1).and_then(Tree::word).is_some();
         self.contract.is_public |= is_named && trees[0].is("pub");
+        self.contract.is_indexing |= trees[0].is("impl") && indexes(trees);
         if is_named && trees[0].is("fn") {
             let is_public = self.contract.is_public || self.in_trait;
             self.contract.is_function = true;
@@ -156,10 +159,16 @@ impl<'a> Eraser<'a> {
         self.put(token.lead, token.text);
         if token.text == ";" {
             self.contract.must_use(&mut self.out);
-            self.contract.write_to(&mut self.out);
+            self.write_contract(token)?;
             self.contract = Contract::at(self.out.len());
         }
         Ok(())
+    }
+
+    /// Writes the contract of the item at hand, whose head ends at a token.
+    fn write_contract(&mut self, end: &Token) -> Result<(), Fault> {
+        self.contract.is_public &= self.names.is_packed();
+        self.contract.write_to(&mut self.out, self.names.package).map_err(|what| fault(end, &what))
     }
 
     pub(crate) fn put(&mut self, lead: &str, text: &str) {
@@ -174,7 +183,7 @@ impl<'a> Eraser<'a> {
             return Ok(None);
         }
         self.put(token.lead, token.text);
-        self.contract = Contract::after(self.out.len(), token);
+        self.contract = std::mem::take(&mut self.contract).after(self.out.len(), token);
         if token.text.starts_with("//!") && self.bracket.is_empty() {
             self.head = self.out.len();
         }
@@ -403,7 +412,7 @@ impl<'a> Eraser<'a> {
         if self.names.inlined {
             self.contract.inline(&mut self.out);
         }
-        self.contract.write_to(&mut self.out);
+        self.write_contract(&group.open)?;
         let outer = std::mem::replace(&mut self.in_trait, self.contract.is_sealed);
         self.brackets(group, &kept)?;
         self.in_trait = outer;
@@ -431,6 +440,12 @@ fn body_of_impl(trees: &[Tree], of: &str) -> Option<usize> {
     let body = trees.iter().position(|tree| tree.group("{").is_some())?;
     let is_of = trees[..body].windows(2).any(|pair| pair[0].is(of) && pair[1].is("for"));
     (trees[0].is("impl") && is_of).then_some(body)
+}
+
+/// Whether an impl is one of brackets, of a value that is indexed.
+fn indexes(trees: &[Tree]) -> bool {
+    let mut head = trees[1 + length_of_generics(&trees[1..])..].iter();
+    head.next().is_some_and(|tree| tree.is("Index") || tree.is("IndexMut"))
 }
 
 /// Whether a function returns something, of which nobody is told where it is dropped. That of a `Result` is told anyway, and a

@@ -1,5 +1,5 @@
-//! Makes plain Rust of the sources in `crates/` before the package is built: one file for the library, and one each for the
-//! libraries of its programs, the tests and the exports for C.
+//! Makes plain Rust of the sources in `crates/`: the modules of the package, of its programs, of its tests and of the exports
+//! for C, a file for each source, which `rust/erase` formats.
 
 mod bounds;
 mod code;
@@ -11,13 +11,15 @@ mod exports;
 mod library;
 mod modules;
 mod names;
+mod older;
 mod opened;
+mod paragraphs;
 mod proofs;
 mod tokens;
 
 use erase::Names;
-use modules::{Fallible, module_of};
-use std::path::{Path, PathBuf};
+use modules::{Fallible, files_of, module_of};
+use std::path::Path;
 use std::{env, fs};
 
 /// The crates of the layer, lowest first.
@@ -34,6 +36,21 @@ const EXAMPLES: &[&str] = &["example_callers"];
 
 /// The exports for C.
 const EXPORTS: &[&str] = &["ndarray_layout_c"];
+
+/// What is made: the folder, the crates whose modules it has, and those that are modules beside these.
+const FOLDERS: &[(&str, &[&str], &[&[&str]])] = &[
+    (LIBRARY, LAYER, &[]),
+    ("rust/programs", PROGRAMS, &[PROGRAMS]),
+    ("rust/tests/tables", TESTS, &[TESTS, PROGRAMS]),
+    ("rust/tests/examples", EXAMPLES, &[EXAMPLES]),
+    (FOR_C, EXPORTS, &[EXPORTS]),
+];
+
+/// The folder of the package's own modules.
+const LIBRARY: &str = "rust/src";
+
+/// The folder of the exports, which C calls as well.
+const FOR_C: &str = "bindings/c/exports";
 
 /// Lints that the sources don't keep to, and why.
 const ALLOWED: &[(&str, &[&str])] = &[
@@ -67,33 +84,51 @@ const ALLOWED: &[(&str, &[&str])] = &[
     ),
     ("a drop that ends what is lent, which the compiler does by itself", &["clippy::drop_non_drop"]),
     ("a sequence is never asked whether it is empty", &["clippy::len_without_is_empty"]),
+];
+
+/// Those of programs and tests.
+const ALLOWED_IN_TESTS: &[(&str, &[&str])] = &[
+    ("what one test or program calls, and not each", &["dead_code"]),
+    ("what the package's least rustc hasn't: programs and tests aren't packed", &["clippy::incompatible_msrv"]),
     (
         "what a test is about",
         &["clippy::len_zero", "clippy::reversed_empty_ranges", "clippy::unit_cmp", "mismatched_lifetime_syntaxes"],
     ),
 ];
 
-/// Writes what the package includes. With a crate as argument, one above the layer with exports for C, and the folder of its
-/// sources, prints that crate instead, and its exports as C calls them. With `--code` and files, prints their lines of code.
+/// With `--write`, the top of the repository and a folder, writes what is made of its sources into that folder. With `--code`
+/// and files, prints their lines of code. With a crate above the layer and the folder of its sources, prints that crate as one
+/// module, and its exports as C calls them.
 fn main() -> Fallible<()> {
     let arguments: Vec<String> = env::args().skip(1).collect();
-    if let [flag, files @ ..] = &arguments[..]
-        && flag == "--code"
-    {
-        return files.iter().try_for_each(|file| print_code(file));
+    let arguments: Vec<&str> = arguments.iter().map(String::as_str).collect();
+    match &arguments[..] {
+        ["--write", top, folder] => write(Path::new(top), Path::new(folder)),
+        ["--code", files @ ..] => files.iter().try_for_each(|file| print_code(file)),
+        [name, folder] => print_crate(name, Path::new(folder)),
+        _ => Err("what is to be erased?".into()),
     }
-    if let [name, folder] = &arguments[..] {
-        println!("{}", exporting(name, Path::new(folder))?);
-        return Ok(());
+}
+
+/// Writes what is made. What a copy of the repository leaves out is not made.
+fn write(top: &Path, into: &Path) -> Fallible<()> {
+    for (folder, crates, beside) in FOLDERS {
+        let beside = beside.concat();
+        let is_library = *folder == LIBRARY;
+        let package = if is_library { "crate" } else { "::ndarray_layout" };
+        for own in *crates {
+            let source = top.join("crates").join(own).join("src");
+            if !source.exists() {
+                continue;
+            }
+            let names = Names { own, beside: &beside, library: LAYER, package, inlined: is_library };
+            for (place, text) in files_of(&source, &names, &attributes("#!", is_library || *folder == FOR_C), *folder == FOR_C)? {
+                let file = into.join(folder).join(own).join(place);
+                fs::create_dir_all(file.parent().unwrap_or(into))?;
+                fs::write(file, text)?;
+            }
+        }
     }
-    let top = PathBuf::from(env::var("CARGO_MANIFEST_DIR")?);
-    let out = PathBuf::from(env::var("OUT_DIR")?);
-    println!("cargo::rerun-if-changed=rust/eraser");
-    fs::write(out.join("layer.rs"), crates_of(&top, LAYER, &[], "crate")?)?;
-    fs::write(out.join("programs.rs"), crates_of(&top, PROGRAMS, &[], "crate")?)?;
-    fs::write(out.join("tests.rs"), crates_of(&top, TESTS, TESTS, "::ndarray_layout")?)?;
-    fs::write(out.join("examples.rs"), crates_of(&top, EXAMPLES, EXAMPLES, "::ndarray_layout")?)?;
-    fs::write(out.join("exports.rs"), crates_of(&top, EXPORTS, EXPORTS, "::ndarray_layout")?)?;
     Ok(())
 }
 
@@ -107,34 +142,17 @@ fn print_code(file: &str) -> Fallible<()> {
     Ok(())
 }
 
-/// A crate above the package, and its exports.
-fn exporting(name: &str, folder: &Path) -> Fallible<String> {
-    let library: Vec<&str> = [LAYER, PROGRAMS].concat();
-    let names = Names { own: name, beside: &[], library: &library, package: "::ndarray_layout", inlined: false };
+/// Prints a crate above the package as one module, and its exports as C calls them.
+fn print_crate(name: &str, folder: &Path) -> Fallible<()> {
+    let names = Names { own: name, beside: &[], library: LAYER, package: "::ndarray_layout", inlined: false };
     let body = module_of(&folder.join("lib.rt"), folder, &names, true)?;
-    Ok(format!("#[allow({})]\npub mod {name} {{\n{body}\n}}\n", allowed()))
+    println!("{}pub mod {name} {{\n{body}\n}}", attributes("#", false));
+    Ok(())
 }
 
-/// The lints that the sources don't keep to, as an attribute lists them.
-fn allowed() -> String {
-    let lints: Vec<&str> = ALLOWED.iter().flat_map(|(_, lints)| lints.iter().copied()).collect();
-    lints.join(", ")
-}
-
-/// Crates as modules. What a package leaves out is no module. `ndarray_layout` is none for users: the root has its items, and a
-/// module of the package's name would stand in the way of `use ndarray_layout::*`.
-fn crates_of(top: &Path, crates: &[&str], beside: &[&str], package: &str) -> Fallible<String> {
-    let library: Vec<&str> = [LAYER, PROGRAMS].concat();
-    let mut text = String::new();
-    for own in crates {
-        let source = top.join("crates").join(own).join("src");
-        println!("cargo::rerun-if-changed={}", source.display());
-        if source.exists() {
-            let names = Names { own, beside, library: &library, package, inlined: crates == LAYER };
-            let body = module_of(&source.join("lib.rt"), &source, &names, false)?;
-            let visible = if *own == "ndarray_layout" { "" } else { "pub " };
-            text += &format!("#[allow({})]\n{visible}mod {own} {{\n{body}\n}}\n", allowed());
-        }
-    }
-    Ok(text)
+/// The lints that the sources don't keep to, as attributes: those of what others call, or of programs and tests.
+fn attributes(mark: &str, is_called: bool) -> String {
+    let line = |(why, lints): &(&str, &[&str])| format!("{mark}[allow({}, reason = {why:?})]\n", lints.join(", "));
+    let in_tests = if is_called { &[] } else { ALLOWED_IN_TESTS };
+    ALLOWED.iter().chain(in_tests).map(line).collect()
 }

@@ -179,3 +179,88 @@ pub const FOLDED: &[(&str, &str)] = &[("Items", "fold_items"), ("Iter", "fold_it
 
 /// Structs whose `Debug` files of `rust/src` have, for what is derived prints strides without their signs.
 pub const PRINTED: &[&str] = &["Strided"];
+
+/// The module of the package that has what the sources name without an import.
+pub const MEMORY_MODULE: &str = "memory::prelude";
+
+/// Each item of that module, and by which words a source uses it.
+pub const MEMORY: &[(&str, &[&str])] = &[
+    ("FallibleIterator", &["fallible_collect"]),
+    ("FallibleSlice", &["fallible_to_vec"]),
+    ("FallibleStr", &["fallible_repeat", "fallible_replace"]),
+    ("FallibleString", &["fallible_push_str"]),
+    ("FallibleToString", &["fallible_to_string"]),
+    (
+        "FallibleVec",
+        &[
+            "fallible_extend_from_slice",
+            "fallible_from_slice",
+            "fallible_push",
+            "fallible_split_off",
+            "fallible_with_capacity",
+            "push_reserved",
+        ],
+    ),
+    ("String", &["String"]),
+    ("Vec", &["Vec"]),
+];
+
+/// Words of clauses that say which reference it is whose items change: only proofs of callers need them, as rustc says it by
+/// lifetimes.
+pub const OF_PROOFS: &[&str] = &["ghost_name", "names_of", "𝓛"];
+
+/// A word of a condition that the docs of a source don't tell, and what is said of it.
+pub const CONDITIONS: &[(&str, &str)] = &[
+    (
+        "CallableInFold",
+        "The function may be called with any item of the array, after any result that it has returned. Where it panics, so does this call.",
+    ),
+    (
+        "CallableInForEach",
+        "The function may be called with any item of the array, whatever it was called with before. Where it panics, so does this call.",
+    ),
+    (
+        "CallableOnEachMut",
+        "The function may be called with any item of the array, whatever it was called with before. Where it panics, so does this call, and the items before keep what it wrote.",
+    ),
+    (
+        "CallableOnAllAt",
+        "The function may be called with any item of the array, whatever it was called with before. Where it panics, so does this call, and the items before keep what they were given.",
+    ),
+    (
+        "IsOwned",
+        "The caller ensures that each index of the view has an item to itself among so many. Otherwise the call panics or returns unspecified values.",
+    ),
+];
+
+/// Modules of files, in the order in which docs list the methods that they have; those that aren't named come after these.
+pub const IN_ORDER: &[&str] = &[
+    "constructors",
+    "making",
+    "readers",
+    "places",
+    "iter_places",
+    "iterating",
+    "rows",
+    "folding",
+    "mapping",
+    "writing",
+    "slicing",
+    "steps",
+    "cropping",
+    "indexing",
+    "inserting",
+    "splitting",
+    "inverting",
+    "axes",
+    "permuting",
+    "collapsing",
+    "merging",
+    "diagonal",
+    "windows",
+    "chunks",
+    "reshaping",
+    "broadcasting",
+    "stretch",
+    "intersecting",
+];

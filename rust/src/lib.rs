@@ -13,13 +13,31 @@
 //! # Ok::<(), ndarray_layout::ShapeError>(())
 //! ```
 //!
-//! [`guide`] has an example for each task. [`compat`] has the calls of ndarray's layer by its own signatures.
+//! # Where to start
 //!
-//! The sources of the modules [`nd_base`] to [`nd_owned`] have contracts, which are proved; this package is what is left
-//! of them without the contracts, made before it is built. The section `Contract` of an item has its clauses, and
-//! `Conditions` what a caller ensures. Where a condition is broken, a call panics or returns unspecified values: a loop
-//! over `all_indices(Ix2(1 << 32, 1 << 32))` panics with overflow checks, and ends at once without them. No behaviour is
-//! undefined, as the package has no `unsafe`.
+//! | You want | Start with |
+//! |---|---|
+//! | the places of elements that you keep yourself | [`Strided`]: [`new`](Strided::new), [`place`](Strided::place), [`iter_places`](Strided::iter_places), [`rows`](Strided::rows) |
+//! | a list of yours as an array, to read | [`ArrayView`]: [`from_shape`](ArrayView::from_shape), [`get`](ArrayView::get), [`rows`](ArrayView::rows), [`fold`](ArrayView::fold) |
+//! | .. to write, by threads as well | [`ArrayViewMut`]: [`from_shape`](ArrayViewMut::from_shape), [`set`](ArrayViewMut::set), [`map_in_place`](ArrayViewMut::map_in_place), [`multi_slice_mut`](ArrayViewMut::multi_slice_mut) |
+//! | an array that owns its items | [`OwnedArray`]: [`from_shape_vec`](OwnedArray::from_shape_vec), [`get`](OwnedArray::get), [`multi_set`](OwnedArray::multi_set) |
+//! | a part of one of these | [`s!`] and `sliced`; [`SliceInfoElem`], [`Slice`] and `slice` for bounds that are known at run time; [`Fit`] |
+//! | other axes, windows, another shape | the methods of [`Strided`], which [`ArrayView`] and [`ArrayViewMut`] have as well; [`run`] for several [`Step`]s |
+//! | a shape, an index or strides | [`Ix1`](fn@Ix1) to [`Ix6`](fn@Ix6), [`IxDyn`](fn@IxDyn), [`Dim`](fn@Dim); what these can do: [`Dimension`] |
+//! | whether a layout is accepted, and why not | [`accept`], [`CanIndexCheckMode`], [`ErrorKind`], [`LayoutError`] |
+//! | whether two slices share an index | [`Strided::meets`], [`first_intersection`] |
+//! | the shape that two broadcast to | [`co_broadcast`], [`DimMax`] |
+//! | the calls of ndarray's lowest layer, by its names | the functions below; [`compat`] has them by ndarray's own signatures |
+//!
+//! [`guide`] has an example for each task, and [`prelude`] the names that most programs need.
+//!
+//! # What is proved
+//!
+//! The sources of the layer have contracts, which are proved. The package is what is left of them without the contracts: a file of
+//! Rust for each. The docs of a call have its contract folded away, and [`contracts`] says how to read one. What a caller ensures
+//! stands under `Conditions`. Where it is broken, a call panics or returns unspecified values: a loop over
+//! `all_indices(Ix2(1 << 32, 1 << 32))` panics with overflow checks, and ends at once without them. No behaviour is undefined, as the
+//! package has no `unsafe`.
 //!
 //! The file `proved.txt` of the package has the checksums of the sources that the last whole check proved, and its date.
 //!
@@ -29,26 +47,41 @@
 #![forbid(unsafe_code)]
 
 #[cfg(not(target_pointer_width = "64"))]
-compile_error!("the proofs are about a usize of 64 bits");
+compile_error!(
+    "ndarray_layout needs a target of 64 bits: its proofs take `usize` and `isize` as numbers of 64 bits, and for another \
+     width each bound of theirs (a size below 2^64, lengths and spans up to 2^63 - 1) would have to be proved anew"
+);
 
 extern crate alloc;
 #[cfg(feature = "std")]
 extern crate std;
 
+// The layer, made of crates/ by `rust/erase`. Its items are documented where they are re-exported.
+#[doc(hidden)]
+pub mod nd_base;
+#[doc(hidden)]
+pub mod nd_dim;
+#[doc(hidden)]
+pub mod nd_lent;
+#[doc(hidden)]
+pub mod nd_owned;
+#[doc(hidden)]
+pub mod nd_shape;
+#[doc(hidden)]
+pub mod nd_slice;
+mod ndarray_layout;
+
 mod arrays;
 pub mod compat;
 mod convenience;
 pub mod memory;
-#[cfg(all(test, feature = "std"))]
-mod not_proved;
 mod num_traits;
 mod parts;
 mod sealed;
 mod smallvec;
 
-include!(concat!(env!("OUT_DIR"), "/layer.rs"));
-#[cfg(feature = "std")]
-include!(concat!(env!("OUT_DIR"), "/programs.rs"));
+#[doc = include_str!("../CONTRACTS.md")]
+pub mod contracts {}
 
 #[doc = include_str!("../GUIDE.md")]
 pub mod guide {}
@@ -83,6 +116,7 @@ pub use crate::arrays::{
     ViewIter,
 };
 pub use crate::convenience::*;
+#[doc(inline)]
 pub use crate::memory::AllocError;
 pub use crate::nd_owned::{ArrayView, ArrayViewMut, Items, Iter, LentRow, LentRows, OwnedArray, PartMut, SplitViews};
 pub use crate::ndarray_layout::*;

@@ -23,13 +23,17 @@ mod modules;
 mod names;
 #[path = "../eraser/opened.rs"]
 mod opened;
+#[path = "../eraser/older.rs"]
+mod older;
+#[path = "../eraser/paragraphs.rs"]
+mod paragraphs;
 #[path = "../eraser/proofs.rs"]
 mod proofs;
 #[path = "../eraser/tokens.rs"]
 mod tokens;
 
 use erase::{Names, erase};
-use modules::module_of;
+use modules::{files_of, module_of};
 use std::fs;
 use std::path::Path;
 use tokens::trees_of;
@@ -95,11 +99,22 @@ fn each_form_becomes_plain_rust() {
         ("format!(in alloc; \"{x}\")?", "crate::fallible_format!( \"{x}\")?"),
         ("assert!(rt; x == 1, \"x\");", "assert!( x == 1, \"x\");"),
         ("matches!(x, Some(_))", "matches!(x, Some(_))"),
+        ("if let [a] = b && !a.is_empty() { c(a) } d", "if let [a] = b { if !a.is_empty() { c(a) } } d"),
+        ("if let A = b & &c { d } else { e }", "if let A = b & &c { d } else { e }"),
+        ("{ n.cast_signed() }", "{ n as isize }"),
+        ("n.cast_signed() + m.cast_unsigned()", "(n as isize) + (m as usize)"),
         ("let c = 'a'; let s = \"ghost { requires\"; // ghost", "let c = 'a'; let s = \"ghost { requires\"; // ghost"),
     ];
     for (source, due) in ROWS {
         assert_eq!(line(source), *due, "{source}");
     }
+}
+
+/// The contract of an item that has these clauses, as it stands in its documentation.
+fn contract(clauses: &str) -> String {
+    format!(
+        "/// <details><summary>Contract (proved)</summary>\n///\n/// ```text\n{clauses}/// ```\n/// [How to read it](crate::contracts)\n/// </details>\n"
+    )
 }
 
 #[test]
@@ -135,9 +150,51 @@ fn what_the_package_adds_is_made_of_a_source() {
 
 #[test]
 fn a_contract_is_documentation() {
-    let source = "/// One more.\n#[inline]\nfn f(x: u8) -> u8\n    requires small { x < 255 }\n    ensures { result ≡\n        x + 1 }\n{\n    x + 1\n}\n\nfn g() ensures { 1 ≡ 1 } {}\n";
-    let due = "/// One more.\n///\n/// # Conditions\n///\n/// ```text\n/// small: x < 255\n/// ```\n///\n/// # Contract\n///\n/// ```text\n/// result ≡\n///     x + 1\n/// ```\n#[inline]\nfn f(x: u8) -> u8\n{\n    x + 1\n}\n\nfn g() {}\n";
+    let source = "/// One more.\n#[inline]\nfn f(x: u8) -> u8\n    requires small { x < 255 }\n    ensures { result ≡\n        x + 1 }\n    ensures same { x.ghost_name ≡ y.ghost_name }\n    ensures* back { sem 𝓛 (Lends x y) }\n{\n    x + 1\n}\n\nfn g() ensures { 1 ≡ 1 } {}\n";
+    let clauses = contract("/// requires small: x < 255\n/// ensures result ≡ x + 1\n");
+    let due = format!("/// One more.\n///\n{clauses}#[inline]\nfn f(x: u8) -> u8\n{{\n    x + 1\n}}\n\nfn g() {{}}\n");
     assert_eq!(erased(source), due);
+    // (a fact that takes more than a line keeps its lines)
+    let long = "x ≡ y + 1 ".repeat(8);
+    let source = format!("/// A.\nfn f() ensures all {{ {long}→\n  {long}}} {{}}");
+    let clauses = contract(&format!("/// ensures all: {long}→\n///     {}\n", long.trim_end()));
+    assert_eq!(erased(&source), format!("/// A.\n///\n{clauses}fn f() {{}}"));
+}
+
+#[test]
+fn a_condition_is_told_in_words() {
+    let broken = "Otherwise the call panics or returns unspecified values.";
+    let source = |docs: &str, item: &str| format!("/// A.\n{docs}{item}\n    requires {{ x < 2 }}\n{{}}");
+    let due = |docs: &str, words: &str, item: &str| {
+        let clauses = contract("/// requires x < 2\n");
+        format!("/// A.{docs}\n///\n/// # Conditions\n///\n/// {words}\n///\n{clauses}{item}\n{{}}")
+    };
+    let told = "/// B. The caller\n/// ensures that `x` is\n/// less than 2. C\n/// D.\n///\n/// E.\n";
+    let words = format!("The caller ensures that `x` is less than 2. {broken}");
+    for item in ["fn f(x: u8)", "pub fn f(x: u8)"] {
+        assert_eq!(
+            erased(&source(told, item)),
+            due("\n/// B. C D.\n///\n/// E.", &words, item).replacen("/// A.\n/// B.", "/// A. B.", 1)
+        );
+    }
+    let alone = "///\n/// The caller ensures that `x` is less than 2.\n";
+    assert_eq!(erased(&source(alone, "fn f(x: u8)")), due("", &words, "fn f(x: u8)"));
+    let seen = erased("/// A. A contract sees\n/// the list. B.\nstruct S { a: u8 }");
+    assert_eq!(seen, "/// A. B.\nstruct S { a: u8 }");
+    let indexed = erased("/// A.\nimpl<T, I: B<T>> Index<I> for S<T> {}");
+    assert_eq!(
+        indexed,
+        "/// A.\n///\n/// # Panics\n///\n/// Where there is no such index.\nimpl<T, I: B<T>> Index<I> for S<T> {}"
+    );
+    // what no docs tell is told for each such condition, or is an error where callers read it
+    let untold = "1: `{` has a condition, `x < 2`, that no words tell".replace("1:", "4:");
+    assert_eq!(erased(&source("", "pub fn f(x: u8)")), untold);
+    assert_eq!(
+        erased(&source("", "fn f(x: u8)")),
+        format!("/// A.\n///\n{}fn f(x: u8)\n{{}}", contract("/// requires x < 2\n"))
+    );
+    let closure = erased("/// A.\npub fn f<F: FnMut(u8)>(f: F) requires { CallableInFold f } {}");
+    assert!(closure.contains("\n/// # Conditions\n///\n/// The function may be called with any item"), "{closure}");
 }
 
 #[test]
@@ -153,7 +210,7 @@ fn a_function_of_the_layer_is_inlined() {
         ("static F: fn(u8) = g; mod m { fn f() {} }", "static F: fn(u8) = g; mod m { #[inline] fn f() {} }"),
         (
             "/// A.\npub fn f() -> u8 ensures { x } { 1 }",
-            "/// A. /// /// # Contract /// /// ```text /// x /// ``` #[inline] #[must_use] pub fn f() -> u8 { 1 }",
+            "/// A. /// /// <details><summary>Contract (proved)</summary> /// /// ```text /// ensures x /// ``` /// [How to read it](crate::contracts) /// </details> #[inline] #[must_use] pub fn f() -> u8 { 1 }",
         ),
     ];
     for (source, due) in ROWS {
@@ -183,7 +240,7 @@ fn a_result_that_nobody_is_told_of_must_be_used() {
         ("impl SliceElems for S { fn f(&self) -> u8 { 1 } }", ""),
         (
             "/// A.\npub fn f() -> u8 ensures { x };",
-            "/// A. /// /// # Contract /// /// ```text /// x /// ``` #[must_use] pub fn f() -> u8;",
+            "/// A. /// /// <details><summary>Contract (proved)</summary> /// /// ```text /// ensures x /// ``` /// [How to read it](crate::contracts) /// </details> #[must_use] pub fn f() -> u8;",
         ),
     ];
     for (source, due) in ROWS {
@@ -357,6 +414,10 @@ fn what_means_something_else_is_an_error_with_its_line() {
         ),
         ("text.write_str(x)", "1: `write_str` may fail for memory, and is named in a way that isn't known"),
         ("let r = 250u8.. else { return };", "1: `.` begins a range with no end, which may be iterated"),
+        ("if let A = b && c { d } else { e }", "1: `&` is one of several conditions that older Rust hasn't"),
+        ("if let A = b && c && d { e }", "1: `&` is one of several conditions that older Rust hasn't"),
+        ("a.b.cast_signed()", "1: `cast_signed` is called of more than a name"),
+        ("f(a).cast_signed()", "1: `cast_signed` is called of more than a name"),
         ("(alloc, x).1", "1: `(` opens a tuple with an allocator"),
         ("let pair = (1, rt.alloc());", "1: `(` opens a tuple with an allocator"),
         ("[alloc, alloc].len()", "1: `alloc` is no form that can be erased"),
@@ -403,10 +464,37 @@ fn file_of(name: &str, text: &str) -> std::path::PathBuf {
 fn a_file_is_a_module() {
     let folder =
         file_of("whole", "//! The docs.\n#![tactic(auto)]\n\npub mod a;\nconst S: &str = \"\n//! text\nmod b;\n\";\n");
-    fs::write(folder.join("a.rt"), "fn f() {}\n").expect("a file");
+    fs::create_dir_all(folder.join("a")).expect("a folder");
+    fs::write(folder.join("a.rt"), "mod b;\nuse super::c;\nfn f(x: Vec<u8>) {}\n").expect("a file");
+    fs::write(folder.join("a/b.rt"), "fn g() {}\n").expect("a file");
     let text = module_of(&folder.join("lib.rt"), &folder, &NAMES, false).expect("known forms");
-    let due = "//! The docs.\nuse crate::memory::prelude::*;\n\n\npub mod a {\n\nuse crate::memory::prelude::*;\nfn f() {}\n\n}\nconst S: &str = \"\n//! text\nmod b;\n\";\n";
-    assert_eq!(text, due);
+    let import = "use crate::memory::prelude::{Vec};";
+    let b = "mod b {\n\n\nfn g() {}\n\n}";
+    let a = format!("{{\n\n\n{import}\n{b}\nuse super::c;\nfn f(x: Vec<u8>) {{}}\n\n}}");
+    let string = "const S: &str = \"\n//! text\nmod b;\n\";\n";
+    assert_eq!(text, format!("//! The docs.\n\n\n\npub mod a {a}\n{string}"));
+
+    let files = files_of(&folder, &NAMES, "#![allow(a)]\n", false).expect("known forms");
+    let made = |of: &str| format!("// Made by `rust/erase` of `crates/upper/src/{of}`: edit that.\n");
+    let root = format!("{}//! The docs.\n\n#![allow(a)]\n\n\n\npub mod a;\n{string}", made("lib.rt"));
+    let a = format!("{}\n\n{import}\nmod b;\nuse super::c;\nfn f(x: Vec<u8>) {{}}\n", made("a.rt"));
+    let b = format!("{}\n\nfn g() {{}}\n", made("a/b.rt"));
+    let due = [("mod.rs", root), ("a.rs", a), ("a/b.rs", b)];
+    assert_eq!(files, due.map(|(place, text)| (place.into(), text)));
+}
+
+#[test]
+fn modules_stand_in_an_order_of_use() {
+    let folder = file_of("order", "mod a;\n");
+    fs::create_dir_all(folder.join("a")).expect("a folder");
+    fs::write(folder.join("a.rt"), "mod blocks;\nmod constructors;\nmod rows;\nuse a::b;\n").expect("a file");
+    for name in ["blocks", "constructors", "rows"] {
+        fs::write(folder.join("a").join(format!("{name}.rt")), "").expect("a file");
+    }
+    let files = files_of(&folder, &NAMES, "", false).expect("known forms");
+    assert!(files[1].1.ends_with("\nmod constructors;\nmod rows;\nmod blocks;\nuse a::b;\n"), "{}", files[1].1);
+    let exported = files_of(&folder, &NAMES, "", true).expect("known forms");
+    assert!(exported[0].1.ends_with("\npub mod a;\n"), "{}", exported[0].1);
 }
 
 #[test]

@@ -21,7 +21,7 @@ const ALIGN: usize = 16;
 // SAFETY: the blocks are C's. One that has to be aligned to more than C promises is refused, so none is grown or freed.
 unsafe impl GlobalAlloc for Heap {
     unsafe fn alloc(&self, layout: Layout) -> *mut u8 {
-        if layout.align() > ALIGN || !layout.size().is_multiple_of(layout.align()) {
+        if layout.align() > ALIGN || layout.size() % layout.align() != 0 {
             return null_mut();
         }
         unsafe { malloc(layout.size()).cast() }
@@ -32,7 +32,7 @@ unsafe impl GlobalAlloc for Heap {
     }
 
     unsafe fn realloc(&self, block: *mut u8, layout: Layout, size: usize) -> *mut u8 {
-        if !size.is_multiple_of(layout.align()) {
+        if size % layout.align() != 0 {
             return null_mut();
         }
         unsafe { realloc(block.cast(), size).cast() }

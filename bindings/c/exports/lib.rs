@@ -5,7 +5,7 @@
 
 mod heap;
 
-include!(concat!(env!("OUT_DIR"), "/exports.rs"));
+pub mod ndarray_layout_c;
 
 #[panic_handler]
 fn abort(_: &core::panic::PanicInfo<'_>) -> ! {

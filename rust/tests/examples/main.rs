@@ -1,6 +1,9 @@
 //! The callers that `docs/CALLING.md` lists, and the edits of `tiles`.
 
 mod blurs;
+mod example_callers;
+#[path = "../../programs/example_tiles_edits/mod.rs"]
+mod example_tiles_edits;
 mod foreign;
 mod pictures;
 mod tiles;
@@ -9,8 +12,6 @@ mod writes;
 
 use ndarray_layout::CanIndexCheckMode::OwnedMutable;
 use ndarray_layout::{ErrorKind, IxDyn, LayoutError, Strided, unsigned};
-
-include!(concat!(env!("OUT_DIR"), "/examples.rs"));
 
 /// Shape, strides, and how many elements they lie over.
 type Layout = (&'static [usize], &'static [isize], usize);

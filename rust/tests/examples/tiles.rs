@@ -1,6 +1,6 @@
 //! What `tiles` prints: the words that spell edits, the text of a picture, and the text or the message that is printed.
 
-use ndarray_layout::example_tiles_edits::{edited, print_picture, read_edits, read_picture};
+use crate::example_tiles_edits::{edited, print_picture, read_edits, read_picture};
 
 const PICTURES: &[(&str, &str, &str)] = &[
     ("", "P5 # a\n#b\n3 2\n# c\n126 abcdef", "P5\n3 2\n126\nabcdef"),

@@ -43,7 +43,7 @@ impl<'a> Call<'a> {
     /// One of its lists of numbers; strides below 0 become great ones.
     pub fn list(&self, place: usize) -> Vec<usize> {
         let word = self.given.split(' ').nth(place).unwrap_or("-");
-        let number = |text: &str| text.parse().or_else(|_| text.parse().map(isize::cast_unsigned));
+        let number = |text: &str| text.parse().or_else(|_| text.parse().map(ndarray_layout::unsigned));
         word.split(',').filter(|text| *text != "-").map(|text| number(text).expect("a number")).collect()
     }
 

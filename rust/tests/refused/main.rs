@@ -7,6 +7,8 @@ mod copies;
 mod dimensions;
 mod lent;
 mod lists;
+#[path = "../../programs/ndl_session/mod.rs"]
+mod ndl_session;
 mod parts;
 mod runs;
 mod sessions;

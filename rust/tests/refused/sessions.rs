@@ -1,7 +1,7 @@
 //! Sessions of the program.
 
 use crate::call::Call;
-use ndarray_layout::ndl_session::{Watched, session};
+use crate::ndl_session::{Watched, session};
 use std::io::{self, Read};
 
 /// A script, which gives 64 bytes a read at the most.

@@ -15,7 +15,7 @@ pub fn list(numbers: &[usize]) -> String {
     if numbers.is_empty() {
         return "-".to_owned();
     }
-    numbers.iter().map(|number| number.cast_signed().to_string()).collect::<Vec<_>>().join(",")
+    numbers.iter().map(|number| ndarray_layout::signed(*number).to_string()).collect::<Vec<_>>().join(",")
 }
 
 /// Types, and the text of a value of each.

@@ -24,7 +24,8 @@ mod texts;
 
 use std::collections::BTreeSet;
 
-include!(concat!(env!("OUT_DIR"), "/exports.rs"));
+#[path = "../../exports/ndarray_layout_c/mod.rs"]
+pub mod ndarray_layout_c;
 
 /// The exports of the package.
 mod erased {

@@ -2,7 +2,9 @@
 //! remain. The exit status is that of `session`.
 #![forbid(unsafe_code)]
 
-use ndarray_layout::ndl_session::{Watched, session};
+mod ndl_session;
+
+use ndl_session::{Watched, session};
 use std::io;
 use std::process::ExitCode;
 

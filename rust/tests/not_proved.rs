@@ -1,8 +1,5 @@
 //! Whether each public item that is written by hand says that it isn't proved: in its docs, or on the page of its module.
 
-use alloc::format;
-use alloc::string::{String, ToString};
-use alloc::vec::Vec;
 use std::fs::{read_dir, read_to_string};
 use std::path::Path;
 
@@ -15,7 +12,6 @@ const PRIVATE: &[&str] = &[
     "arrays/line_mut",
     "arrays/pairs",
     "arrays/pieces",
-    "not_proved",
     "num_traits",
     "sealed",
     "smallvec",
@@ -25,6 +21,9 @@ const PRIVATE: &[&str] = &[
 const SAID_BY_PAGE: &[&str] = &["memory"];
 
 const NOTE: &str = "Not proved";
+
+/// How a file begins that isn't written by hand.
+const MADE: &str = "// Made by `rust/erase` of ";
 
 const ITEMS: &[&str] = &["async", "const", "enum", "fn", "static", "struct", "trait", "type", "union", "unsafe"];
 
@@ -37,7 +36,7 @@ fn items_without_note(path: &Path) -> Vec<String> {
     let text = read_to_string(path).expect("a source");
     let file = path.strip_prefix(SOURCES).expect("a source").display().to_string();
     let module = file.trim_end_matches(".rs");
-    if module.starts_with("bin/") || PRIVATE.contains(&module) {
+    if text.starts_with(MADE) || PRIVATE.contains(&module) {
         return Vec::new();
     }
     let says = text.lines().any(|line| line.starts_with("//!") && line.contains(NOTE));
@@ -80,9 +79,9 @@ fn is_impl_of_trait(lines: &[&str]) -> bool {
 #[test]
 fn each_item_says_that_it_is_not_proved() {
     assert_eq!(items_without_note(Path::new(SOURCES)), [""; 0]);
-    let root = include_str!("lib.rs");
+    let root = include_str!("../src/lib.rs");
     for module in PRIVATE.iter().filter_map(|module| module.strip_prefix("arrays/")) {
-        let arrays = include_str!("arrays.rs");
+        let arrays = include_str!("../src/arrays.rs");
         assert!(!arrays.contains(&format!("\npub use {module}::")) && !arrays.contains("pub mod"), "{module}");
     }
     for module in PRIVATE {

@@ -2,7 +2,9 @@
 //! format.
 #![forbid(unsafe_code)]
 
-use ndarray_layout::example_tiles_edits::{edited, print_picture, read_edits, read_picture};
+mod example_tiles_edits;
+
+use example_tiles_edits::{edited, print_picture, read_edits, read_picture};
 use std::error::Error;
 use std::io::{Read, Write, stdin, stdout};
 use std::process::ExitCode;

@@ -1,3 +1,0 @@
-//! The crates of tests, over the package.
-
-include!(concat!(env!("OUT_DIR"), "/tests.rs"));
