@@ -138,18 +138,15 @@ def link_proved(room):
 
 def link_by_rustc(room):
     """Compiles the Rust package, and on it the crate in ffi/ without its contracts, under other names; returns how a program is linked."""
-    out, source = f"{room.folder}/package", f"{room.folder}/{BY_RUSTC}"
-    os.makedirs(out, exist_ok=True)
+    source = f"{room.folder}/{BY_RUSTC}"
     copy_own_crate(source, lambda text: text.replace(CRATE, BY_RUSTC))
     eraser, libraries = f"{room.folder}/erase", [f"{room.folder}/lib{name}.rlib" for name in ("ndarray_layout", BY_RUSTC)]
-    room.must([*RUSTC, f"{TOP}/rust/build/main.rs", "-o", eraser], room.folder, "package.log")
-    env = {**os.environ, "CARGO_MANIFEST_DIR": TOP, "OUT_DIR": out}
-    room.must([eraser], room.folder, "package.log", env=env)
+    room.must([*RUSTC, f"{TOP}/rust/eraser/main.rs", "-o", eraser], room.folder, "package.log")
     text = subprocess.run([eraser, BY_RUSTC, f"{source}/src"], capture_output=True, text=True, check=True).stdout
     with open(f"{room.folder}/{BY_RUSTC}.rs", "w", encoding="utf-8") as file:
         file.write(text)
     rlib, std = ["--crate-type", "rlib", "--cap-lints", "allow", "--crate-name"], ["--cfg", 'feature="std"']
-    room.must([*RUSTC, *rlib, "ndarray_layout", *std, f"{TOP}/rust/src/lib.rs", "-o", libraries[0]], room.folder, "package.log", env=env)
+    room.must([*RUSTC, *rlib, "ndarray_layout", *std, f"{TOP}/rust/src/lib.rs", "-o", libraries[0]], room.folder, "package.log")
     words = ["--extern", f"ndarray_layout={libraries[0]}", "-o", libraries[1]]
     room.must([*RUSTC, *rlib, BY_RUSTC, f"{room.folder}/{BY_RUSTC}.rs", *words], room.folder, "package.log")
     return ["-L", room.folder, "--extern", f"{BY_RUSTC}={libraries[1]}"]

@@ -39,7 +39,8 @@ impl Eraser<'_> {
             return Ok(None);
         };
         if name.word().is_none() || self.out.ends_with(['.', ':']) {
-            return Err(fault(call.first(), "is called of more than a name"));
+            // (clippy finds what the package's least rustc hasn't)
+            return Ok(None);
         }
         let text = format!("{} as {ty}", name.first().text);
         let is_alone = trees.len() == 4 && self.out.ends_with('{');

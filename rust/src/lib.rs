@@ -80,7 +80,7 @@ mod parts;
 mod sealed;
 mod smallvec;
 
-#[doc = include_str!("../CONTRACTS.md")]
+#[doc = include_str!("../NOTATION.md")]
 pub mod contracts {}
 
 #[doc = include_str!("../GUIDE.md")]

@@ -416,8 +416,6 @@ fn what_means_something_else_is_an_error_with_its_line() {
         ("let r = 250u8.. else { return };", "1: `.` begins a range with no end, which may be iterated"),
         ("if let A = b && c { d } else { e }", "1: `&` is one of several conditions that older Rust hasn't"),
         ("if let A = b && c && d { e }", "1: `&` is one of several conditions that older Rust hasn't"),
-        ("a.b.cast_signed()", "1: `cast_signed` is called of more than a name"),
-        ("f(a).cast_signed()", "1: `cast_signed` is called of more than a name"),
         ("(alloc, x).1", "1: `(` opens a tuple with an allocator"),
         ("let pair = (1, rt.alloc());", "1: `(` opens a tuple with an allocator"),
         ("[alloc, alloc].len()", "1: `alloc` is no form that can be erased"),
@@ -444,6 +442,7 @@ fn what_means_the_same_stays() {
         "impl<T> W<&Dim<T>> for V<T> {}",
         "S { a: 1, ..*self.s }",
         "f.write_str(x)",
+        "a.b.cast_signed() + f(a).cast_unsigned()",
         "impl From<RangeFrom<u8>> for S {}",
     ];
     for source in ROWS {
