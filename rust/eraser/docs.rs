@@ -14,8 +14,8 @@ const PANICS: &str = "Where there is no such index.";
 /// How the sources tell a condition.
 const ENSURED: &str = "The caller ensures";
 
-/// How the sources tell what a contract sees of a value.
-const SEEN: &str = "A contract sees";
+/// How sentences of the sources begin that only who writes proofs reads.
+const FOR_PROOFS: &[&str] = &["A contract sees", "No clause says", "(A proof", "A proof"];
 
 /// What is said of a condition that is broken.
 const BROKEN: &str = "Otherwise the call panics or returns unspecified values.";
@@ -110,14 +110,14 @@ impl Contract {
     }
 
     /// Writes to the documentation, if there is one, that a trait is sealed, the conditions in words and the clauses, and takes
-    /// from it what only contracts see. The error is a condition of a public item for which there are no words.
+    /// from it what only who writes proofs reads. The error is a condition of a public item for which there are no words.
     pub fn write_to(&self, out: &mut String, package: &str) -> Result<(), String> {
         let docs = &out[self.docs..self.start];
         if !self.is_documented || !docs.starts_with("///") {
             return Ok(());
         }
         let mut paragraphs = Paragraphs::of(docs, COLUMNS - self.indent.len() - "/// ".len());
-        let is_seen = paragraphs.take(SEEN).is_some();
+        let for_proofs = FOR_PROOFS.iter().filter_map(|words| paragraphs.take(words)).count();
         if self.is_sealed {
             paragraphs.push(SEALED);
         }
@@ -135,7 +135,7 @@ impl Contract {
             paragraphs.push_lines(&["<details><summary>Contract (proved)</summary>"]);
             paragraphs.push_lines(&[&["```text"], &clauses[..], &["```", &page, "</details>"]].concat());
         }
-        if is_seen || self.is_sealed || self.is_indexing || !self.clauses.is_empty() {
+        if for_proofs > 0 || self.is_sealed || self.is_indexing || !self.clauses.is_empty() {
             let line = |line: &String| format!("{}/// {line}", self.indent).trim_end().to_string();
             let lines: Vec<String> = paragraphs.lines().iter().map(line).collect();
             out.replace_range(self.docs..self.start, lines.join("\n").trim_start());

@@ -26,8 +26,13 @@ impl Paragraphs {
         self.lines.iter_mut().find_map(|lines| {
             let text = lines.join(" ");
             let start = text.find(words)?;
-            let end = text[start..].find(". ").map_or(text.len(), |end| start + end + 1);
-            *lines = broken(&format!("{} {}", &text[..start], &text[end..]), columns);
+            let ends = [". ", ".) "].iter().filter_map(|end| Some(start + text[start..].find(end)? + end.len() - 1));
+            let end = ends.min().unwrap_or(text.len());
+            // (another sentence may follow in the same brackets)
+            let goes_on = text[start..end].starts_with('(') && !text[start..end].ends_with(')');
+            let (before, after) = (&text[..start + usize::from(goes_on)], text[end..].trim_start());
+            let between = if goes_on { "" } else { " " };
+            *lines = broken(&format!("{before}{between}{after}"), columns);
             Some(text[start..end].to_string())
         })
     }

@@ -181,6 +181,9 @@ fn a_condition_is_told_in_words() {
     assert_eq!(erased(&source(alone, "fn f(x: u8)")), due("", &words, "fn f(x: u8)"));
     let seen = erased("/// A. A contract sees\n/// the list. B.\nstruct S { a: u8 }");
     assert_eq!(seen, "/// A. B.\nstruct S { a: u8 }");
+    let told = erased("/// A. No clause says b.\n///\n/// C. (A proof that needs d\n/// does e.) F.\nfn f();");
+    assert_eq!(told, "/// A.\n///\n/// C. F.\nfn f();");
+    assert_eq!(erased("/// A. (A proof does b. C.) D.\nfn f();"), "/// A. (C.) D.\nfn f();");
     let indexed = erased("/// A.\nimpl<T, I: B<T>> Index<I> for S<T> {}");
     assert_eq!(
         indexed,
