@@ -11,11 +11,8 @@
 //! # }
 //! ```
 
-pub use crate::nd_base::{Axis, LayoutError, Lengths, Order, ShapeError};
-pub use crate::nd_dim::Dimension;
-pub use crate::nd_shape::{CanIndexCheckMode, ShapeBuilder};
-pub use crate::nd_slice::{Fit, NewAxis, Slice, SliceInfoElem};
-pub use crate::ndarray_layout::Strided;
-pub use crate::s;
-pub use crate::{ArrayView, ArrayViewMut, OwnedArray};
-pub use crate::{Dim, Ix0, Ix1, Ix2, Ix3, Ix4, Ix5, Ix6, IxDyn};
+#[doc(no_inline)]
+pub use crate::{
+    ArrayView, ArrayViewMut, Axis, CanIndexCheckMode, Dim, Dimension, Fit, Ix0, Ix1, Ix2, Ix3, Ix4, Ix5, Ix6, IxDyn,
+    LayoutError, Lengths, NewAxis, Order, OwnedArray, ShapeBuilder, ShapeError, Slice, SliceInfoElem, Strided, s,
+};
