@@ -54,42 +54,41 @@ const FOR_C: &str = "bindings/c/exports";
 
 /// Lints that the sources don't keep to, and why.
 const ALLOWED: &[(&str, &[&str])] = &[
-    ("a name that only clauses use, or only the kit's prelude lacks", &["unused_imports", "unused_variables"]),
+    ("a name that only clauses use", &["unused_imports", "unused_variables"]),
     ("proofs name a loop by its label", &["unused_labels"]),
     (
         "a form that is proved with less",
         &[
-            "clippy::collapsible_if",
             "clippy::explicit_auto_deref",
             "clippy::manual_find",
-            "clippy::manual_is_multiple_of",
             "clippy::manual_map",
-            "clippy::needless_lifetimes",
             "clippy::needless_range_loop",
             "clippy::non_canonical_clone_impl",
+            "clippy::while_let_on_iterator",
+        ],
+    ),
+    ("what the kit has no form for", &["clippy::unused_unit"]),
+    ("a sequence is never asked whether it is empty", &["clippy::len_without_is_empty"]),
+];
+
+/// Those that programs and tests don't keep to either.
+const ALLOWED_IN_TESTS: &[(&str, &[&str])] = &[
+    ("what one test or program calls, and not each", &["dead_code"]),
+    ("what the package's least rustc hasn't: programs and tests aren't packed", &["clippy::incompatible_msrv"]),
+    (
+        "a form that is proved with less",
+        &[
+            "clippy::collapsible_if",
+            "clippy::needless_lifetimes",
             "clippy::question_mark",
             "clippy::redundant_pattern_matching",
             "clippy::type_complexity",
-            "clippy::while_let_on_iterator",
         ],
     ),
     (
         "what the kit has no form for",
-        &[
-            "clippy::comparison_to_empty",
-            "clippy::partialeq_to_none",
-            "clippy::unused_unit",
-            "clippy::unwrap_or_default",
-        ],
+        &["clippy::comparison_to_empty", "clippy::partialeq_to_none", "clippy::unwrap_or_default"],
     ),
-    ("a drop that ends what is lent, which the compiler does by itself", &["clippy::drop_non_drop"]),
-    ("a sequence is never asked whether it is empty", &["clippy::len_without_is_empty"]),
-];
-
-/// Those of programs and tests.
-const ALLOWED_IN_TESTS: &[(&str, &[&str])] = &[
-    ("what one test or program calls, and not each", &["dead_code"]),
-    ("what the package's least rustc hasn't: programs and tests aren't packed", &["clippy::incompatible_msrv"]),
     (
         "what a test is about",
         &["clippy::len_zero", "clippy::reversed_empty_ranges", "clippy::unit_cmp", "mismatched_lifetime_syntaxes"],
