@@ -85,7 +85,7 @@ pub(crate) struct Eraser<'a> {
 type Form<'a> = fn(&mut Eraser<'a>, &[Tree]) -> Result<Option<usize>, Fault>;
 
 impl<'a> Eraser<'a> {
-    const FORMS: [Form<'a>; 26] = [
+    const FORMS: [Form<'a>; 29] = [
         Self::doc,
         Self::clause,
         Self::ghost,

@@ -1,11 +1,8 @@
-//! What fixed counts of axes have, for shapes and views of any number of axes; and the ways from one to the other.
+//! The ways between views of a fixed count of axes and of any.
 
-use super::{IndexCopies, OUT_OF_MEMORY};
-use crate::arrays::into_parts;
-use crate::nd_base::{ErrorKind, IxDyn, LayoutError, Lengths, from_kind, index_offset, new_ixdyn};
-use crate::nd_shape::{IndexCursor, Indices};
+use super::OUT_OF_MEMORY;
+use crate::nd_base::{ErrorKind, IxDyn, LayoutError, Lengths, from_kind, new_ixdyn};
 use crate::ndarray_layout::Strided;
-use crate::{ArrayView, ArrayViewMut};
 
 /// The same lengths, or strides, as a list of any count.
 fn any_of<D: Lengths>(lens: &D) -> IxDyn {
@@ -66,125 +63,5 @@ impl<D: Lengths> Strided<D> {
     /// ```
     pub fn into_dimensionality<E: Lengths>(self) -> Result<Strided<E>, LayoutError> {
         Ok(Strided { start: self.start, dim: typed(&self.dim)?, strides: typed(&self.strides)? })
-    }
-}
-
-impl Strided<IxDyn> {
-    /// The view of the coordinates from `starts` to `ends`, one of each for each axis: what `crop` returns for a fixed count of
-    /// axes. `None` where there are more or fewer than axes, a start is greater than its end, or an end greater than the length
-    /// of its axis. Not proved.
-    ///
-    /// Takes time in proportion to the count of axes.
-    ///
-    /// # Panics
-    ///
-    /// Where an allocation fails, never for at most 4 axes.
-    ///
-    /// From (1,1) to (3,2) of `[4,3]`, `[3,1]` from 0: `[2,1]`, `[3,1]` from 4.
-    ///
-    /// ```
-    /// use ndarray_layout::{CanIndexCheckMode, IxDyn, LayoutError, Strided};
-    ///
-    /// # fn main() -> Result<(), LayoutError> {
-    /// let view = Strided::new(IxDyn(&[4, 3]), IxDyn(&[3, 1]), 1, 12, CanIndexCheckMode::ReadOnly)?;
-    /// let part = view.crop(&IxDyn(&[1, 1]), &IxDyn(&[3, 2])).expect("a part of the view");
-    /// assert_eq!((part.start(), part.dim()), (4, &IxDyn(&[2, 1])));
-    /// assert_eq!(view.crop(&IxDyn(&[1, 1]), &IxDyn(&[5, 2])), None);
-    /// # Ok(())
-    /// # }
-    /// ```
-    #[must_use]
-    pub fn crop(&self, starts: &IxDyn, ends: &IxDyn) -> Option<Self> {
-        let (lows, highs) = (starts.slice(), ends.slice());
-        let fits =
-            |lows: &[usize], highs: &[usize]| lows.len() == highs.len() && lows.iter().zip(highs).all(|(a, b)| a <= b);
-        if !fits(lows, highs) || !fits(highs, self.dim.slice()) {
-            return None;
-        }
-        let (mut dim, mut moved) = (ends.clone(), starts.clone());
-        for axis in 0..lows.len() {
-            dim[axis] = highs[axis] - lows[axis];
-            // (an axis without a coordinate doesn't move the start)
-            moved[axis] = if dim[axis] == 0 { 0 } else { lows[axis] };
-        }
-        let start = self.start.wrapping_add_signed(index_offset(moved.slice(), self.strides.slice()));
-        Some(Strided { start, dim, strides: self.strides.clone() })
-    }
-}
-
-impl<T> ArrayView<'_, T, IxDyn> {
-    /// The array of the coordinates from `starts` to `ends`, one of each for each axis: `Strided::crop`. Not proved.
-    ///
-    /// # Panics
-    ///
-    /// Where an allocation fails, never for at most 4 axes.
-    ///
-    /// From (1,0) to (2,2) of `[2,2]` over 5 6 7 8: 7 8.
-    ///
-    /// ```
-    /// use ndarray_layout::{ArrayView, IxDyn, LayoutError};
-    ///
-    /// # fn main() -> Result<(), LayoutError> {
-    /// let array = ArrayView::from_shape(IxDyn(&[2, 2]).into(), &[5, 6, 7, 8])?;
-    /// let row = array.crop(&IxDyn(&[1, 0]), &IxDyn(&[2, 2])).expect("a part of the array");
-    /// assert_eq!((row.dim(), row[[0, 1]]), (&IxDyn(&[1, 2]), 8));
-    /// # Ok(())
-    /// # }
-    /// ```
-    #[must_use]
-    pub fn crop(&self, starts: &IxDyn, ends: &IxDyn) -> Option<Self> {
-        Some(ArrayView::new(self.view.crop(starts, ends)?, self.items))
-    }
-}
-
-impl<T> ArrayViewMut<'_, T, IxDyn> {
-    /// The array of the coordinates from `starts` to `ends`, one of each for each axis: `Strided::crop`. Not proved.
-    ///
-    /// # Panics
-    ///
-    /// Where an allocation fails, never for at most 4 axes.
-    ///
-    /// From (1,0) to (2,2) of `[2,2]` over 5 6 7 8: 7 8.
-    ///
-    /// ```
-    /// use ndarray_layout::{ArrayViewMut, IxDyn, LayoutError};
-    ///
-    /// # fn main() -> Result<(), LayoutError> {
-    /// let mut items = [5, 6, 7, 8];
-    /// let array = ArrayViewMut::from_shape(IxDyn(&[2, 2]).into(), &mut items)?;
-    /// array.crop(&IxDyn(&[1, 0]), &IxDyn(&[2, 2])).expect("a part of the array").fill(9);
-    /// assert_eq!(items, [5, 6, 9, 9]);
-    /// # Ok(())
-    /// # }
-    /// ```
-    #[must_use]
-    pub fn crop(self, starts: &IxDyn, ends: &IxDyn) -> Option<Self> {
-        let (view, items) = into_parts(self);
-        Some(ArrayViewMut::new(view.crop(starts, ends)?, items))
-    }
-}
-
-/// Iterates over copies of all indices, in row-major order. Not proved.
-///
-/// # Panics
-///
-/// Where an allocation fails; never for at most 4 axes.
-///
-/// ```
-/// use ndarray_layout::{IxDyn, LayoutError, all_indices};
-///
-/// # fn main() -> Result<(), LayoutError> {
-/// let indices: Vec<IxDyn> = all_indices(IxDyn(&[2, 2]))?.into_iter().collect();
-/// assert_eq!(indices, [[0, 0], [0, 1], [1, 0], [1, 1]].map(|index| IxDyn(&index)));
-/// # Ok(())
-/// # }
-/// ```
-impl IntoIterator for Indices<IxDyn> {
-    type Item = IxDyn;
-
-    type IntoIter = IndexCopies<IndexCursor>;
-
-    fn into_iter(self) -> IndexCopies<IndexCursor> {
-        IndexCursor::new(self.dim).expect(OUT_OF_MEMORY).into_iter()
     }
 }

@@ -1,0 +1,217 @@
+// Made by `rust/erase` of `crates/ndarray_layout_c/src/blocks.rt`: edit that.
+//! All windows of a layout, and its chunks side by side.
+
+use crate::ndarray_layout_c::lists::{view, write_axes};
+use crate::ndarray_layout_c::statuses::{BAD_ARGUMENT, OUT_OF_MEMORY, status_of};
+use ::ndarray_layout::{IxDyn, LayoutError, Strided, new_ixdyn};
+
+/// All windows of a layout.
+///
+/// Errors: those of `view`, then those of `Strided::windows`; out of memory, never for at most four items and axes of the result.
+///
+/// <details><summary>Contract (proved)</summary>
+///
+/// ```text
+/// ensures fits: OnOk result (option_or (layout_fault shape.now (all_signed strides.now))
+///     (windows_fault None shape.now window.now) ≡ None)
+/// ensures fault: (kind : ErrorKind) → shape_fault result ≡ Some kind →
+///     option_or (layout_fault shape.now (all_signed strides.now))
+///     (windows_fault None shape.now window.now) ≡ Some kind
+/// ensures memory: NeedsNoMemory None (length shape.now + length shape.now) →
+///     NeedsNoMemory None (length strides.now) → NeedsNoMemory None (length window.now) →
+///     shape_fault result ≡ None → IsOk result
+/// ensures windows: IfOk result (λ v. v ≡ windows_of window.now (lowest_view shape.now strides.now))
+/// ensures count: IfOk result (λ v. length v.shape ≡ length shape.now + length shape.now)
+/// ```
+/// [How to read it](ndarray_layout::contracts)
+/// </details>
+fn windows(shape: &[usize], strides: &[usize], window: &[usize]) -> Result<Strided<IxDyn>, LayoutError> {
+    let view = view(shape, strides)?;
+    let window = new_ixdyn(window)?;
+    view.windows(&window)
+}
+
+/// Writes the shape and the strides of all windows of a layout: first the axes of the windows, then those in a window.
+///
+/// <details><summary>Contract (proved)</summary>
+///
+/// ```text
+/// ensures status: result ≢ out_of_memory → result ≡ status_where
+///     (not (length new_shape.old == length shape.now + length shape.now
+///     && length new_strides.old == length shape.now + length shape.now))
+///     (option_or (layout_fault shape.now (all_signed strides.now))
+///     (windows_fault None shape.now window.now))
+/// ensures bad: (length new_shape.old == length shape.now + length shape.now
+///     && length new_strides.old == length shape.now + length shape.now) ≡ false →
+///     result ≡ bad_argument
+/// ensures memory: NeedsNoMemory None (length shape.now + length shape.now) →
+///     NeedsNoMemory None (length strides.now) → NeedsNoMemory None (length window.now) →
+///     result ≢ out_of_memory
+/// ensures shape: result ≡ ok → new_shape.new ≡ (windows_of window.now (lowest_view shape.now strides.now)).shape
+/// ensures strides: result ≡ ok → all_signed new_strides.new ≡
+///     (windows_of window.now (lowest_view shape.now strides.now)).strides
+/// ensures kept: result ≡ ok → IsLayoutOf (window_source (length shape.now))
+///     shape.now strides.now new_shape.new new_strides.new
+/// ensures unchanged: result ≢ ok → (new_shape.new ≡ new_shape.old) × (new_strides.new ≡ new_strides.old)
+/// ```
+/// [How to read it](ndarray_layout::contracts)
+/// </details>
+pub fn nd_windows(
+    shape: &[usize],
+    strides: &[usize],
+    window: &[usize],
+    new_shape: &mut [usize],
+    new_strides: &mut [usize],
+) -> i32 {
+    if new_shape.len() != 2 * shape.len() || new_strides.len() != 2 * shape.len() {
+        return BAD_ARGUMENT;
+    }
+    match windows(shape, strides, window) {
+        Ok(windows) => write_axes(&windows, new_shape, new_strides),
+        Err(LayoutError::Shape(error)) => status_of(error.kind()),
+        Err(LayoutError::Memory(_)) => OUT_OF_MEMORY,
+    }
+}
+
+/// The chunks of a layout, side by side.
+///
+/// Errors: those of `view`, then those of `Strided::exact_chunks`; out of memory, never for at most four items and axes of the
+/// result.
+///
+/// <details><summary>Contract (proved)</summary>
+///
+/// ```text
+/// ensures fits: OnOk result (option_or (layout_fault shape.now (all_signed strides.now))
+///     (chunks_fault None shape.now chunk.now) ≡ None)
+/// ensures fault: (kind : ErrorKind) → shape_fault result ≡ Some kind →
+///     option_or (layout_fault shape.now (all_signed strides.now))
+///     (chunks_fault None shape.now chunk.now) ≡ Some kind
+/// ensures memory: NeedsNoMemory None (length shape.now + length shape.now) →
+///     NeedsNoMemory None (length strides.now) → NeedsNoMemory None (length chunk.now) →
+///     shape_fault result ≡ None → IsOk result
+/// ensures chunks: IfOk result (λ v. v ≡ chunks_of chunk.now (lowest_view shape.now strides.now))
+/// ensures count: IfOk result (λ v. length v.shape ≡ length shape.now + length shape.now)
+/// ```
+/// [How to read it](ndarray_layout::contracts)
+/// </details>
+fn exact_chunks(shape: &[usize], strides: &[usize], chunk: &[usize]) -> Result<Strided<IxDyn>, LayoutError> {
+    let view = view(shape, strides)?;
+    let chunk = new_ixdyn(chunk)?;
+    view.exact_chunks(&chunk)
+}
+
+/// Writes the shape and the strides of the chunks of a layout: first the axes of the chunks, then those in a chunk.
+///
+/// <details><summary>Contract (proved)</summary>
+///
+/// ```text
+/// ensures status: result ≢ out_of_memory → result ≡ status_where
+///     (not (length new_shape.old == length shape.now + length shape.now
+///     && length new_strides.old == length shape.now + length shape.now))
+///     (option_or (layout_fault shape.now (all_signed strides.now))
+///     (chunks_fault None shape.now chunk.now))
+/// ensures bad: (length new_shape.old == length shape.now + length shape.now
+///     && length new_strides.old == length shape.now + length shape.now) ≡ false →
+///     result ≡ bad_argument
+/// ensures memory: NeedsNoMemory None (length shape.now + length shape.now) →
+///     NeedsNoMemory None (length strides.now) → NeedsNoMemory None (length chunk.now) →
+///     result ≢ out_of_memory
+/// ensures shape: result ≡ ok → new_shape.new ≡ (chunks_of chunk.now (lowest_view shape.now strides.now)).shape
+/// ensures strides: result ≡ ok → all_signed new_strides.new ≡
+///     (chunks_of chunk.now (lowest_view shape.now strides.now)).strides
+/// ensures kept: result ≡ ok → DescendsInPlace (chunk_source chunk.now)
+///     shape.now strides.now new_shape.new new_strides.new
+/// ensures unchanged: result ≢ ok → (new_shape.new ≡ new_shape.old) × (new_strides.new ≡ new_strides.old)
+/// ```
+/// [How to read it](ndarray_layout::contracts)
+/// </details>
+pub fn nd_exact_chunks(
+    shape: &[usize],
+    strides: &[usize],
+    chunk: &[usize],
+    new_shape: &mut [usize],
+    new_strides: &mut [usize],
+) -> i32 {
+    if new_shape.len() != 2 * shape.len() || new_strides.len() != 2 * shape.len() {
+        return BAD_ARGUMENT;
+    }
+    match exact_chunks(shape, strides, chunk) {
+        Ok(chunks) => write_axes(&chunks, new_shape, new_strides),
+        Err(LayoutError::Shape(error)) => status_of(error.kind()),
+        Err(LayoutError::Memory(_)) => OUT_OF_MEMORY,
+    }
+}
+
+pub mod exported {
+    use super::*;
+
+    /// # Safety
+    ///
+    /// Each pointer is aligned and leads to as many items as its count says. That of an empty list isn't looked at.
+    #[unsafe(no_mangle)]
+    pub unsafe extern "C" fn nd_windows(
+        shape: *const usize,
+        shape_count: usize,
+        strides: *const usize,
+        strides_count: usize,
+        window: *const usize,
+        window_count: usize,
+        new_shape: *mut usize,
+        new_shape_count: usize,
+        new_strides: *mut usize,
+        new_strides_count: usize,
+    ) -> i32 {
+        unsafe {
+            super::nd_windows(
+                if shape_count == 0 { &[] } else { ::core::slice::from_raw_parts(shape, shape_count) },
+                if strides_count == 0 { &[] } else { ::core::slice::from_raw_parts(strides, strides_count) },
+                if window_count == 0 { &[] } else { ::core::slice::from_raw_parts(window, window_count) },
+                if new_shape_count == 0 {
+                    &mut []
+                } else {
+                    ::core::slice::from_raw_parts_mut(new_shape, new_shape_count)
+                },
+                if new_strides_count == 0 {
+                    &mut []
+                } else {
+                    ::core::slice::from_raw_parts_mut(new_strides, new_strides_count)
+                },
+            )
+        }
+    }
+
+    /// # Safety
+    ///
+    /// Each pointer is aligned and leads to as many items as its count says. That of an empty list isn't looked at.
+    #[unsafe(no_mangle)]
+    pub unsafe extern "C" fn nd_exact_chunks(
+        shape: *const usize,
+        shape_count: usize,
+        strides: *const usize,
+        strides_count: usize,
+        chunk: *const usize,
+        chunk_count: usize,
+        new_shape: *mut usize,
+        new_shape_count: usize,
+        new_strides: *mut usize,
+        new_strides_count: usize,
+    ) -> i32 {
+        unsafe {
+            super::nd_exact_chunks(
+                if shape_count == 0 { &[] } else { ::core::slice::from_raw_parts(shape, shape_count) },
+                if strides_count == 0 { &[] } else { ::core::slice::from_raw_parts(strides, strides_count) },
+                if chunk_count == 0 { &[] } else { ::core::slice::from_raw_parts(chunk, chunk_count) },
+                if new_shape_count == 0 {
+                    &mut []
+                } else {
+                    ::core::slice::from_raw_parts_mut(new_shape, new_shape_count)
+                },
+                if new_strides_count == 0 {
+                    &mut []
+                } else {
+                    ::core::slice::from_raw_parts_mut(new_strides, new_strides_count)
+                },
+            )
+        }
+    }
+}

@@ -1,0 +1,53 @@
+// Made by `rust/erase` of `crates/example_tiles_edits/src/lib.rt`: edit that.
+//! Pictures in grey in the binary format PGM (`P5`), edits of them, and the words that spell edits.
+
+#![allow(unused_imports, unused_variables, reason = "a name that only clauses use")]
+#![allow(unused_labels, reason = "proofs name a loop by its label")]
+#![allow(
+    clippy::explicit_auto_deref,
+    clippy::manual_find,
+    clippy::manual_map,
+    clippy::needless_range_loop,
+    clippy::non_canonical_clone_impl,
+    clippy::while_let_on_iterator,
+    reason = "a form that is proved with less"
+)]
+#![allow(clippy::unused_unit, reason = "what the kit has no form for")]
+#![allow(clippy::len_without_is_empty, reason = "a sequence is never asked whether it is empty")]
+#![allow(dead_code, reason = "what one test or program calls, and not each")]
+#![allow(clippy::incompatible_msrv, reason = "what the package's least rustc hasn't: programs and tests aren't packed")]
+#![allow(
+    clippy::collapsible_if,
+    clippy::needless_lifetimes,
+    clippy::question_mark,
+    clippy::redundant_pattern_matching,
+    clippy::type_complexity,
+    reason = "a form that is proved with less"
+)]
+#![allow(
+    clippy::comparison_to_empty,
+    clippy::partialeq_to_none,
+    clippy::unwrap_or_default,
+    reason = "what the kit has no form for"
+)]
+#![allow(
+    clippy::len_zero,
+    clippy::reversed_empty_ranges,
+    clippy::unit_cmp,
+    mismatched_lifetime_syntaxes,
+    reason = "what a test is about"
+)]
+
+mod edit;
+mod editing;
+mod picture;
+mod printing;
+mod reading;
+mod words;
+
+pub use edit::{Edit, Misfit, Span};
+pub use editing::{EditError, edited};
+pub use picture::{Extent, Picture};
+pub use printing::print_picture;
+pub use reading::{ReadError, read_picture};
+pub use words::{WordsError, read_edits};

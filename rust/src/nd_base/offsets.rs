@@ -1,0 +1,90 @@
+// Made by `rust/erase` of `crates/nd_base/src/offsets.rt`: edit that.
+//! Where the indices of a shape lie from its first index.
+
+use crate::nd_base::signed_strides::stride_offset;
+
+/// An offset, moved from coordinate 0 of an axis to another one.
+///
+/// <details><summary>Contract (proved)</summary>
+///
+/// ```text
+/// requires small: coordinate ≤ limit
+/// requires part: FitsSigned w64 (pos coordinate *ℤ signed stride)
+/// requires whole: FitsSigned w64 (offset +ℤ (pos coordinate *ℤ signed stride))
+/// ensures result ≡ offset +ℤ (pos coordinate *ℤ signed stride)
+/// ```
+/// [How to read it](crate::contracts)
+/// </details>
+#[inline(always)]
+fn moved(offset: isize, coordinate: usize, stride: usize) -> isize {
+    offset + stride_offset(coordinate, stride)
+}
+
+/// The sum of each coordinate times its stride, in elements.
+///
+/// Takes time in proportion to the count of axes.
+///
+/// (1,2) along the strides `[3,1]`: 5. The project's own.
+///
+/// # Conditions
+///
+/// The caller ensures that no coordinate is greater than `isize::MAX`, and that the coordinates times the magnitudes of
+/// their strides add up to at most that, as of an index of a valid layout (`is_index`). Otherwise the call panics or
+/// returns unspecified values.
+///
+/// <details><summary>Contract (proved)</summary>
+///
+/// ```text
+/// requires small: All (λ coordinate. coordinate ≤ limit) index.now
+/// requires fits: farthest_offset (all_signed strides.now) index.now ≤ limit
+/// ensures result ≡ offset_of (all_signed strides.now) index.now
+/// ```
+/// [How to read it](crate::contracts)
+/// </details>
+#[must_use]
+#[inline(always)]
+pub fn index_offset(index: &[usize], strides: &[usize]) -> isize {
+    // (by number, since a `zip` asks both lists for their end at each coordinate)
+    let axes = index.len().min(strides.len());
+    let mut offset = 0isize;
+    for axis in 0..axes {
+        offset = moved(offset, index[axis], strides[axis]);
+    }
+    offset
+}
+
+/// The offset in elements, with its sign, from the first index of the shape `dim` to this one;
+/// `None` where this is no index of the shape.
+///
+/// Takes time in proportion to the count of axes.
+///
+/// (1,2) of `[2,3]` with the strides `[-3,1]`: -1. ndarray's `stride_offset_checked`.
+///
+/// # Conditions
+///
+/// The caller ensures that the layout is valid: one stride for each axis, and neither the product of the lengths that
+/// are not 0 nor the span is greater than `isize::MAX`. Otherwise the call panics or returns unspecified values.
+///
+/// <details><summary>Contract (proved)</summary>
+///
+/// ```text
+/// requires IsValidLayout dim.now (all_signed strides.now)
+/// ensures result ≡ checked_offset dim.now (all_signed strides.now) index.now
+/// ```
+/// [How to read it](crate::contracts)
+/// </details>
+#[must_use]
+#[inline(always)]
+pub fn stride_offset_checked(dim: &[usize], strides: &[usize], index: &[usize]) -> Option<isize> {
+    if dim.len() != index.len() {
+        return None;
+    }
+    let mut offset = 0isize;
+    for axis in 0..dim.len() {
+        if index[axis] >= dim[axis] {
+            return None;
+        }
+        offset = moved(offset, index[axis], strides[axis]);
+    }
+    Some(offset)
+}

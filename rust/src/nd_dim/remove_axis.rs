@@ -1,0 +1,72 @@
+// Made by `rust/erase` of `crates/nd_dim/src/remove_axis.rt`: edit that.
+//! Lengths with an axis less, and the dimensions that have an axis to remove.
+
+use crate::memory::AllocError;
+use crate::nd_base::{Axis, Ix1, Ix2, Ix3, Ix4, Ix5, Ix6, IxDyn};
+use crate::nd_dim::dimension::Dimension;
+
+/// Writes the lengths without that of the axis `axis`.
+///
+/// <details><summary>Contract (proved)</summary>
+///
+/// ```text
+/// requires within: axis < length lens.now
+/// requires one_less: length smaller.old + 1 ≡ length lens.now
+/// ensures smaller.new ≡ remove lens.now axis
+/// ```
+/// [How to read it](crate::contracts)
+/// </details>
+#[inline]
+pub(crate) fn remove_axis_into(lens: &[usize], axis: usize, smaller: &mut [usize]) {
+    smaller[..axis].copy_from_slice(&lens[..axis]);
+    smaller[axis..].copy_from_slice(&lens[axis + 1..]);
+}
+
+/// A dimension type that can have an axis to remove: all but that of no axes. ndarray's
+/// `RemoveAxis`.
+///
+/// Sealed: no type outside this package implements it.
+pub trait RemoveAxis: Dimension + crate::sealed::Sealed {
+    /// The lengths without that of one axis.
+    ///
+    /// # Errors
+    ///
+    /// Out of memory; never where the result's type fixes the count or has at most 4 axes.
+    ///
+    /// Takes time in proportion to the count of axes.
+    ///
+    /// `[2,3]` without axis 0: `[3]`. ndarray's `remove_axis`.
+    ///
+    /// # Conditions
+    ///
+    /// The caller ensures that the shape has that axis (`has_axis`). Otherwise the call panics or returns unspecified
+    /// values.
+    ///
+    /// <details><summary>Contract (proved)</summary>
+    ///
+    /// ```text
+    /// requires axis.0 < length (Self.list self.now)
+    /// ensures list: IfOk result (λ smaller. Self.Smaller.list smaller ≡ remove (Self.list self.now) axis.0)
+    /// ensures memory: NeedsNoMemory Self.Smaller.NDIM (length (Self.list self.now) - 1) → IsOk result
+    /// ```
+    /// [How to read it](crate::contracts)
+    /// </details>
+    #[inline]
+    fn remove_axis(&self, axis: Axis) -> Result<Self::Smaller, AllocError> {
+        self.try_remove_axis(axis)
+    }
+}
+
+impl RemoveAxis for Ix1 {}
+
+impl RemoveAxis for Ix2 {}
+
+impl RemoveAxis for Ix3 {}
+
+impl RemoveAxis for Ix4 {}
+
+impl RemoveAxis for Ix5 {}
+
+impl RemoveAxis for Ix6 {}
+
+impl RemoveAxis for IxDyn {}

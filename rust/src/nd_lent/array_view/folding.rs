@@ -1,0 +1,125 @@
+// Made by `rust/erase` of `crates/nd_lent/src/array_view/folding.rt`: edit that.
+//! A function that is called at each item of an array in turn, row by row.
+
+use crate::nd_lent::array_view::{ArrayView, LentRow};
+use crate::ndarray_layout::Lengths;
+
+/// Folds the items of a slice, and hands back the function.
+///
+/// <details><summary>Contract (proved)</summary>
+///
+/// ```text
+/// requires CallableInFold lends F.FnMut (map Some items.now) f init
+/// ensures HasFolded F.FnMut (f, init) (map Some items.now) (result.1, result.0)
+/// ```
+/// [How to read it](crate::contracts)
+/// </details>
+#[inline(always)]
+fn fold_slice<T, B, F: FnMut(B, &T) -> B>(items: &[T], init: B, mut f: F) -> (B, F) {
+    let mut total = init;
+    for item in items {
+        total = f(total, item);
+    }
+    (total, f)
+}
+
+/// Folds the items of a row place by place, and hands back the function.
+///
+/// <details><summary>Contract (proved)</summary>
+///
+/// ```text
+/// requires CallableInFold lends F.FnMut (row_items row.now) f init
+/// ensures HasFolded F.FnMut (f, init) (row_items row.now) (result.1, result.0)
+/// ```
+/// [How to read it](crate::contracts)
+/// </details>
+#[inline(always)]
+fn fold_places<T, B, F: FnMut(B, &T) -> B>(row: &LentRow<'_, T>, init: B, mut f: F) -> (B, F) {
+    let mut total = init;
+    for coordinate in 0..row.len() {
+        let item = row.item(coordinate);
+        total = f(total, item);
+    }
+    (total, f)
+}
+
+/// Folds the items of a row, and hands back the function.
+///
+/// <details><summary>Contract (proved)</summary>
+///
+/// ```text
+/// requires CallableInFold lends F.FnMut (row_items row.now) f init
+/// ensures HasFolded F.FnMut (f, init) (row_items row.now) (result.1, result.0)
+/// ```
+/// [How to read it](crate::contracts)
+/// </details>
+#[inline(always)]
+fn fold_row<T, B, F: FnMut(B, &T) -> B>(row: &LentRow<'_, T>, init: B, f: F) -> (B, F) {
+    match row.as_slice() {
+        Some(items) => fold_slice(items, init, f),
+        None => fold_places(row, init, f),
+    }
+}
+
+impl<T, D: Lengths> ArrayView<'_, T, D> {
+    /// The last result of a function that is called at each item in turn, in row-major order, with the result before, first
+    /// with `init`.
+    ///
+    /// It is what `iter().fold(init, f)` returns, and faster: a row whose items follow one another is a loop over a slice.
+    ///
+    /// `a.fold(0, |sum, item| sum + item)` is 15. ndarray's `fold`.
+    ///
+    /// # Conditions
+    ///
+    /// The function may be called with any item of the array, after any result that it has returned. Where it panics,
+    /// so does this call.
+    ///
+    /// <details><summary>Contract (proved)</summary>
+    ///
+    /// ```text
+    /// requires callable: CallableInFold lends F.FnMut
+    ///     (map (item_at_place self.now.items) (view_places RowMajor self.now.view)) f init
+    /// ensures ran: FoldsItems lends F.FnMut
+    ///     (map (item_at_place self.now.items) (view_places RowMajor self.now.view))
+    ///     f init result
+    /// ```
+    /// [How to read it](crate::contracts)
+    /// </details>
+    #[inline]
+    pub fn fold<B, F: FnMut(B, &T) -> B>(&self, init: B, f: F) -> B {
+        let (mut total, mut f) = (init, f);
+        for row in self.rows() {
+            (total, f) = fold_row(&row, total, f);
+        }
+        total
+    }
+
+    /// Calls a function at each item in turn, in row-major order.
+    ///
+    /// It is what `iter().for_each(f)` does, and faster, as `fold` is.
+    ///
+    /// Of `a`: at 8, then at 7. ndarray's `for_each`.
+    ///
+    /// # Conditions
+    ///
+    /// The function may be called with any item of the array, whatever it was called with before. Where it panics, so
+    /// does this call.
+    ///
+    /// <details><summary>Contract (proved)</summary>
+    ///
+    /// ```text
+    /// requires callable: CallableInForEach lends F.FnMut
+    ///     (map (item_at_place self.now.items) (view_places RowMajor self.now.view)) f
+    /// ensures ran: CallsOnEach lends F.FnMut
+    ///     (map (item_at_place self.now.items) (view_places RowMajor self.now.view)) f
+    /// ```
+    /// [How to read it](crate::contracts)
+    /// </details>
+    #[inline]
+    pub fn for_each<F: FnMut(&T)>(&self, mut f: F) {
+        let each = move |(), item: &T| {
+            f(item);
+        };
+        self.fold((), each);
+    }
+}

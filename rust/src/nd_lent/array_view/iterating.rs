@@ -1,0 +1,89 @@
+// Made by `rust/erase` of `crates/nd_lent/src/array_view/iterating.rt`: edit that.
+//! The items of an array one after another, each lent, without a list of them.
+
+use crate::nd_lent::array_view::ArrayView;
+use crate::ndarray_layout::{Lengths, Order, Places};
+use core::iter::FusedIterator;
+
+/// The items of an array that are still to come, in row-major order of their indices, each lent.
+pub struct Iter<'a, T> {
+    pub(crate) stored: &'a [T],
+    pub(crate) places: Places<'a>,
+}
+
+impl<'a, T> Iter<'a, T> {
+    /// The items at places.
+    ///
+    /// The places 1 and 0 of 7 8 9: 8 7. The project's own.
+    ///
+    /// # Conditions
+    ///
+    /// The caller ensures that each is one of these items. Otherwise the call panics or returns unspecified values.
+    ///
+    /// <details><summary>Contract (proved)</summary>
+    ///
+    /// ```text
+    /// requires All (IsInBounds (length stored.now)) places
+    /// ensures result ≡ map (item_at_place stored.now) places.entry
+    /// ```
+    /// [How to read it](crate::contracts)
+    /// </details>
+    #[inline]
+    #[must_use]
+    pub fn new(stored: &'a [T], places: Places<'a>) -> Self {
+        Iter { stored, places }
+    }
+}
+
+impl<'a, T> Iterator for Iter<'a, T> {
+    type Item = &'a T;
+
+    #[inline]
+    fn next(&mut self) -> Option<&'a T> {
+        let place = self.places.next()?;
+        let stored = self.stored;
+        Some(&stored[place])
+    }
+
+    #[inline]
+    fn size_hint(&self) -> (usize, Option<usize>) {
+        self.places.size_hint()
+    }
+
+    crate::arrays::fold_iter!();
+}
+
+impl<T> ExactSizeIterator for Iter<'_, T> {
+    #[inline]
+    fn len(&self) -> usize {
+        self.places.len()
+    }
+}
+
+impl<T> FusedIterator for Iter<'_, T> {}
+
+impl<'a, T, D: Lengths> ArrayView<'a, T, D> {
+    /// An iterator over the items of all indices, in row-major order (the last axis moves fastest), which knows how many
+    /// are left. Spare items aren't among them.
+    ///
+    /// Takes no memory, and lists nothing. An item takes the time of its place (`Strided::iter_places`).
+    ///
+    /// `a.iter()` gives 8 7. ndarray's `iter`.
+    ///
+    /// <details><summary>Contract (proved)</summary>
+    ///
+    /// ```text
+    /// ensures items: result ≡ map (item_at_place self.now.items) (view_places RowMajor self.now.view)
+    /// ensures count: length result ≡ size self.now.view.shape
+    /// ensures in_order: EveryRun
+    ///     (YieldsFirstBy (λ (item : Bor T). Some item.now) (λ (left : List (Option T)). left))
+    ///     (λ run. ItemsMapTo run (λ (item : Bor T). Some item.now) run.from)
+    /// ```
+    /// [How to read it](crate::contracts)
+    /// </details>
+    #[inline]
+    #[must_use]
+    pub fn iter(&self) -> Iter<'_, T> {
+        Iter::new(self.stored(), self.view().iter_places(Order::RowMajor))
+    }
+}

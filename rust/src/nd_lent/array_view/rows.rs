@@ -1,0 +1,184 @@
+// Made by `rust/erase` of `crates/nd_lent/src/array_view/rows.rt`: edit that.
+//! The rows of an array one after another, each lent.
+
+use crate::nd_lent::array_view::ArrayView;
+use crate::ndarray_layout::{Lengths, Order, Row, Rows};
+use core::iter::FusedIterator;
+
+/// A row of an array: items that lie evenly among those that are lent. There is at least one. ndarray's one-dimensional
+/// `ArrayView`.
+pub struct LentRow<'a, T> {
+    pub(crate) items: &'a [T],
+    pub(crate) row: Row,
+}
+
+/// The place of a coordinate of a row.
+///
+/// # Conditions
+///
+/// The caller ensures that neither it nor the first place is past an `isize`. Otherwise the call panics or returns
+/// unspecified values.
+///
+/// <details><summary>Contract (proved)</summary>
+///
+/// ```text
+/// requires first: row.start < 2 ^ 63
+/// requires small: coordinate < 2 ^ 63
+/// requires in_bounds: IsInBounds (2 ^ 63) (pos row.start +ℤ (pos coordinate *ℤ row.stride))
+/// ensures pos result ≡ pos row.start +ℤ (pos coordinate *ℤ row.stride)
+/// ```
+/// [How to read it](crate::contracts)
+/// </details>
+#[inline(always)]
+fn place_in_row(row: Row, coordinate: usize) -> usize {
+    (row.start as isize + coordinate as isize * row.stride) as usize
+}
+
+/// Whether the places of a row lie side by side.
+///
+/// <details><summary>Contract (proved)</summary>
+///
+/// ```text
+/// ensures result ≡ is_contiguous row
+/// ```
+/// [How to read it](crate::contracts)
+/// </details>
+#[inline(always)]
+pub(crate) fn is_contiguous(row: Row) -> bool {
+    row.stride == 1 || row.len <= 1
+}
+
+impl<'a, T> LentRow<'a, T> {
+    /// How many items it has.
+    ///
+    /// <details><summary>Contract (proved)</summary>
+    ///
+    /// ```text
+    /// ensures len: result ≡ self.now.row.len
+    /// ensures count: result ≡ length (row_items self.now)
+    /// ```
+    /// [How to read it](crate::contracts)
+    /// </details>
+    #[must_use]
+    #[inline]
+    pub fn len(&self) -> usize {
+        self.row.len
+    }
+
+    /// The items as a slice, where they follow one another: by the stride 1, or if there is one; else `None`.
+    ///
+    /// Of `[2,2]` over 5 6 7 8 the second row is 7 8; the transpose has `None`. ndarray's `to_slice` of a row.
+    ///
+    /// <details><summary>Contract (proved)</summary>
+    ///
+    /// ```text
+    /// ensures found: IsSome result ↔ IsTrue (is_contiguous self.now.row)
+    /// ensures items: IfSome result (λ slice. map Some slice.now ≡ row_items self.now)
+    /// ```
+    /// [How to read it](crate::contracts)
+    /// </details>
+    #[must_use]
+    #[inline]
+    pub fn as_slice(&self) -> Option<&'a [T]> {
+        let (items, row) = (self.items, self.row);
+        if !is_contiguous(row) {
+            return None;
+        }
+        Some(&items[row.start..row.start + row.len])
+    }
+
+    /// The item of a coordinate.
+    ///
+    /// # Conditions
+    ///
+    /// The caller ensures that it is one of the row. Otherwise the call panics or returns unspecified values.
+    ///
+    /// <details><summary>Contract (proved)</summary>
+    ///
+    /// ```text
+    /// requires coordinate < self.now.row.len
+    /// ensures slice_index_or (row_items self.now) coordinate None ≡ Some result.now
+    /// ```
+    /// [How to read it](crate::contracts)
+    /// </details>
+    #[inline(always)]
+    pub(crate) fn item(&self, coordinate: usize) -> &'a T {
+        let (items, row) = (self.items, self.row);
+        &items[place_in_row(row, coordinate)]
+    }
+
+    /// The item of a coordinate; `None` where it is past the row.
+    ///
+    /// Of `[2,2]` over 5 6 7 8, the second row at 0: 7; at 2: `None`. ndarray's `get` of a row.
+    ///
+    /// <details><summary>Contract (proved)</summary>
+    ///
+    /// ```text
+    /// ensures found: IsSome result ↔ (coordinate < self.now.row.len)
+    /// ensures item: option_copied result ≡ slice_index_or (row_items self.now) coordinate None
+    /// ```
+    /// [How to read it](crate::contracts)
+    /// </details>
+    #[must_use]
+    #[inline]
+    pub fn get(&self, coordinate: usize) -> Option<&'a T> {
+        if coordinate >= self.row.len {
+            return None;
+        }
+        Some(self.item(coordinate))
+    }
+}
+
+/// The rows of an array that are still to come, in row-major order, each lent.
+pub struct LentRows<'a, T> {
+    items: &'a [T],
+    rows: Rows<'a>,
+}
+
+impl<'a, T> Iterator for LentRows<'a, T> {
+    type Item = LentRow<'a, T>;
+
+    #[inline]
+    fn next(&mut self) -> Option<LentRow<'a, T>> {
+        let row = self.rows.next()?;
+        Some(LentRow { items: self.items, row })
+    }
+
+    #[inline]
+    fn size_hint(&self) -> (usize, Option<usize>) {
+        self.rows.size_hint()
+    }
+}
+
+impl<T> ExactSizeIterator for LentRows<'_, T> {
+    #[inline]
+    fn len(&self) -> usize {
+        self.rows.len()
+    }
+}
+
+impl<T> FusedIterator for LentRows<'_, T> {}
+
+impl<'a, T, D: Lengths> ArrayView<'a, T, D> {
+    /// An iterator over the rows along the last axis, in row-major order, which knows how many are left. Each is lent. An
+    /// array without axes has one row, of one item; an array without indices has none.
+    ///
+    /// Takes no memory, and lists nothing. A row takes the time of its places (`Strided::rows`).
+    ///
+    /// `[2,2]` over 5 6 7 8: the rows 5 6 and 7 8; of the transpose 5 7 and 6 8. ndarray's `rows`.
+    ///
+    /// <details><summary>Contract (proved)</summary>
+    ///
+    /// ```text
+    /// ensures rows: result ≡ map (row_of self.now.items) (view_rows RowMajor self.now.view)
+    /// ensures items: rows_items result ≡ map (item_at_place self.now.items) (view_places RowMajor self.now.view)
+    /// ensures in_order: YieldsInOrder (YieldsFirst (λ (left : List (RowValue T)). left)) (λ left. left)
+    /// ```
+    /// [How to read it](crate::contracts)
+    /// </details>
+    #[inline]
+    #[must_use]
+    pub fn rows(&self) -> LentRows<'_, T> {
+        LentRows { items: self.stored(), rows: self.view().rows(Order::RowMajor) }
+    }
+}

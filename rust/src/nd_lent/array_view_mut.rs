@@ -1,0 +1,322 @@
+// Made by `rust/erase` of `crates/nd_lent/src/array_view_mut.rt`: edit that.
+//! Items that are kept elsewhere, lent as an array to be written.
+
+mod mapping;
+mod writing;
+mod steps;
+mod splitting;
+mod axes;
+
+use crate::memory::AllocError;
+use crate::nd_lent::array_view::ArrayView;
+use crate::ndarray_layout::{CanIndexCheckMode, LayoutError, Lengths, NdIndex, ShapeError, StrideShape, Strided};
+use core::mem::replace;
+pub use splitting::SplitViews;
+
+/// Items of any type that are kept elsewhere and lent to be written, with a view by which each index has one of them to
+/// itself. Items at no place of the view are spare ones, which no call writes. ndarray's `ArrayViewMut`.
+///
+/// In the examples `a` is `[2]` with the stride `[-1]` over 7 8 9: (0) is 8, (1) is 7, and 9 is spare.
+pub struct ArrayViewMut<'a, T, D: Lengths> {
+    pub(crate) items: &'a mut [T],
+    pub(crate) view: Strided<D>,
+}
+
+impl<'a, T: Sized, D: Lengths> ArrayViewMut<'a, T, D> {
+    /// The array of a view over items. `over` checks it.
+    ///
+    /// By this call a proof knows what the items are once the array is gone, as `fill` and the others left them.
+    ///
+    /// `[2]`, `[-1]` from 1 over 7 8 9 is `a`. The project's own.
+    ///
+    /// # Conditions
+    ///
+    /// The caller ensures that each place of it has an item, and that no two indices alias: that is so where
+    /// `Strided::from_shape`, `new` or `from_parts` accepted it in owned mode over as many elements. Otherwise the call
+    /// panics or returns unspecified values.
+    ///
+    /// <details><summary>Contract (proved)</summary>
+    ///
+    /// ```text
+    /// requires IsOwned (length items.old) view
+    /// ensures stored: (array_of result).items ≡ items.old
+    /// ensures view: (array_of result).view ≡ view
+    /// ```
+    /// [How to read it](crate::contracts)
+    /// </details>
+    #[inline]
+    #[must_use]
+    pub fn new(view: Strided<D>, items: &'a mut [T]) -> Self {
+        ArrayViewMut { items, view }
+    }
+
+    /// The array of a view over items, where each index has one of them to itself. The items may be fewer than those that the
+    /// view was made for.
+    ///
+    /// # Errors
+    ///
+    /// Those of `Strided::from_parts` in owned mode, over as many elements of one byte as there are items:
+    /// `OutOfBounds` where an index of the view lies past the items; a view without an index is out of bounds where it
+    /// reaches, by its span, past all of them; then `Unsupported` where two indices may alias.
+    ///
+    /// Takes no memory, and time by the square of the count of axes at most.
+    ///
+    /// `[2]`, `[-1]` from 1 over 7 8 9 is `a`; over 7 alone `OutOfBounds`. `[2,2]`, `[1,1]` from 0 over 7 8 9: `Unsupported`.
+    /// The project's own.
+    ///
+    /// <details><summary>Contract (proved)</summary>
+    ///
+    /// ```text
+    /// ensures fault: result_err result ≡
+    ///     acceptance_from view.start 1 (length items.old) OwnedMutable view.shape view.strides
+    /// ensures stored: IfOk result (λ a. (array_of a).items ≡ items.old)
+    /// ensures view: IfOk result (λ a. (array_of a).view ≡ view)
+    /// ensures owned: IfOk result (λ a. IsOwned (length (array_of a).items) (array_of a).view)
+    /// ```
+    /// [How to read it](crate::contracts)
+    /// </details>
+    #[inline]
+    pub fn over(view: Strided<D>, items: &'a mut [T]) -> Result<Self, ShapeError> {
+        let start = view.start();
+        let view = view.moved_to(start, 1, items.len(), CanIndexCheckMode::OwnedMutable)?;
+        Ok(ArrayViewMut { items, view })
+    }
+
+    /// The array of a shape, by its own strides or by given ones, over items.
+    ///
+    /// The lowest place of the layout is 0, the first item. Items past the layout, or between its places, are spare ones.
+    ///
+    /// # Errors
+    ///
+    /// Those of `Strided::from_shape` in owned mode, over as many elements of one byte as there are items.
+    ///
+    /// `[2]` with the stride `[-1]` over 7 8 9 is `a`. ndarray's `from_shape`.
+    ///
+    /// <details><summary>Contract (proved)</summary>
+    ///
+    /// ```text
+    /// ensures fault: shape_fault result ≡
+    ///     acceptance_by_strides D.list 1 (length items.old) OwnedMutable
+    ///     (D.list shape.dim) shape.strides
+    /// ensures given: shape_fault result ≡ None → IsSome (custom_strides shape.strides) → IsOk result
+    /// ensures memory: shape_fault result ≡ None → NeedsNoMemory D.NDIM (length (D.list shape.dim)) → IsOk result
+    /// ensures stored: IfOk result (λ a. (array_of a).items ≡ items.old)
+    /// ensures view: IfOk result (λ a. (array_of a).view ≡
+    ///     view_from_0 (D.list shape.dim)
+    ///     (strides_list D.list (D.list shape.dim) shape.strides))
+    /// ensures owned: IfOk result (λ a. IsOwned (length (array_of a).items) (array_of a).view)
+    /// ```
+    /// [How to read it](crate::contracts)
+    /// </details>
+    #[inline]
+    pub fn from_shape(shape: StrideShape<D>, items: &'a mut [T]) -> Result<Self, LayoutError> {
+        let len = items.len();
+        let view = Strided::from_shape(shape, 1, len, CanIndexCheckMode::OwnedMutable)?;
+        Ok(ArrayViewMut { items, view })
+    }
+
+    /// The view: the shape, the strides and the place of the first index. Each place of it has an item, and no two indices
+    /// alias.
+    ///
+    /// `a.view()` is `[2]`, `[-1]` from 1. The project's own.
+    ///
+    /// <details><summary>Contract (proved)</summary>
+    ///
+    /// ```text
+    /// ensures view: result.now ≡ (array_of self.now).view
+    /// ensures owned: IsOwned (length (array_of self.now).items) (array_of self.now).view
+    /// ```
+    /// [How to read it](crate::contracts)
+    /// </details>
+    #[must_use]
+    #[inline]
+    pub fn view(&self) -> &Strided<D> {
+        &self.view
+    }
+
+    /// The shape. ndarray's `raw_dim`, which copies it.
+    ///
+    /// <details><summary>Contract (proved)</summary>
+    ///
+    /// ```text
+    /// ensures list: D.list result.now ≡ (array_of self.now).view.shape
+    /// ```
+    /// [How to read it](crate::contracts)
+    /// </details>
+    #[must_use]
+    #[inline]
+    pub fn dim(&self) -> &D {
+        self.view.dim()
+    }
+
+    /// How many indices the shape has; spare items don't count.
+    ///
+    /// `a.len()` is 2. ndarray's `len`.
+    ///
+    /// <details><summary>Contract (proved)</summary>
+    ///
+    /// ```text
+    /// ensures result ≡ size (array_of self.now).view.shape
+    /// ```
+    /// [How to read it](crate::contracts)
+    /// </details>
+    #[inline]
+    #[must_use]
+    pub fn len(&self) -> usize {
+        self.view.len()
+    }
+
+    /// Whether the shape has no index. ndarray's `is_empty`.
+    ///
+    /// <details><summary>Contract (proved)</summary>
+    ///
+    /// ```text
+    /// ensures IsTrue result ↔ (size (array_of self.now).view.shape ≡ 0)
+    /// ```
+    /// [How to read it](crate::contracts)
+    /// </details>
+    #[inline]
+    #[must_use]
+    pub fn is_empty(&self) -> bool {
+        self.view.is_empty()
+    }
+
+    /// All items as they are stored, spare ones too.
+    ///
+    /// `a.stored()` is 7 8 9. ndarray's `as_slice_memory_order`, where no item is spare.
+    ///
+    /// <details><summary>Contract (proved)</summary>
+    ///
+    /// ```text
+    /// ensures items: result.now ≡ (array_of self.now).items
+    /// ensures owned: IsOwned (length (array_of self.now).items) (array_of self.now).view
+    /// ```
+    /// [How to read it](crate::contracts)
+    /// </details>
+    #[must_use]
+    #[inline]
+    pub fn stored(&self) -> &[T] {
+        &*self.items
+    }
+
+    /// The item of an index; `None` where it is no index of the shape.
+    ///
+    /// `a.get(&0)` is 8, and `a.get(&2)` is `None`. ndarray's `get`.
+    ///
+    /// <details><summary>Contract (proved)</summary>
+    ///
+    /// ```text
+    /// ensures found: IsSome result ↔ IsTrue (is_index (array_of self.now).view.shape (I.index_list index.now))
+    /// ensures item: option_copied result ≡ item_at (array_of self.now) (I.index_list index.now)
+    /// ```
+    /// [How to read it](crate::contracts)
+    /// </details>
+    #[must_use]
+    #[inline]
+    pub fn get<I: NdIndex<D>>(&self, index: &I) -> Option<&T> {
+        let place = self.view.place(index)?;
+        let items = self.stored();
+        Some(&items[place])
+    }
+
+    /// Replaces the item of an index, and returns whether it is an index of the shape; else the array is unchanged.
+    ///
+    /// `a.set(&1, 5)` makes it 5 8 9. ndarray's `get_mut`, with the write.
+    ///
+    /// <details><summary>Contract (proved)</summary>
+    ///
+    /// ```text
+    /// ensures is_index: result ≡ is_index (array_of self.old).view.shape (I.index_list index.now)
+    /// ensures written: array_of self.new ≡ with_item (array_of self.old) (I.index_list index.now) item
+    /// ```
+    /// [How to read it](crate::contracts)
+    /// </details>
+    #[must_use]
+    #[inline]
+    pub fn set<I: NdIndex<D>>(&mut self, index: &I, item: T) -> bool {
+        match self.view.place(index) {
+            Some(place) => {
+                self.items[place] = item;
+                true
+            }
+            None => false,
+        }
+    }
+
+    /// Replaces the item of an index by another one, and returns the one that was there; the given one comes back as the error
+    /// where it is no index of the shape, and the array is unchanged. So no item is dropped.
+    ///
+    /// `a.replace(&1, 5)` returns 7 and makes it 5 8 9, and `a.replace(&2, 5)` returns `Err(5)`. ndarray's `get_mut`, with
+    /// `std::mem::replace`.
+    ///
+    /// <details><summary>Contract (proved)</summary>
+    ///
+    /// ```text
+    /// ensures found: IsOk result ↔ IsTrue (is_index (array_of self.old).view.shape (I.index_list index.now))
+    /// ensures returned: IfOk result (λ old. item_at (array_of self.old) (I.index_list index.now) ≡ Some old)
+    /// ensures handed_back: IfErr result (λ given. given ≡ item)
+    /// ensures written: array_of self.new ≡ with_item (array_of self.old) (I.index_list index.now) item
+    /// ```
+    /// [How to read it](crate::contracts)
+    /// </details>
+    #[inline]
+    pub fn replace<I: NdIndex<D>>(&mut self, index: &I, item: T) -> Result<T, T> {
+        match self.view.place(index) {
+            Some(place) => {
+                let items = &mut *self.items;
+                Ok(replace(&mut items[place], item))
+            }
+            None => Err(item),
+        }
+    }
+
+    /// Swaps the items of two indices, and returns whether both are indices of the shape; else the array is unchanged.
+    ///
+    /// `a.swap(&0, &1)` makes it 8 7 9. ndarray's `swap`, which panics where one is no index.
+    ///
+    /// <details><summary>Contract (proved)</summary>
+    ///
+    /// ```text
+    /// ensures are_indices: result ≡
+    ///     (is_index (array_of self.old).view.shape (I.index_list index.now)
+    ///     && is_index (array_of self.old).view.shape (J.index_list other.now))
+    /// ensures swapped: array_of self.new ≡ with_swapped (array_of self.old)
+    ///     (I.index_list index.now) (J.index_list other.now)
+    /// ```
+    /// [How to read it](crate::contracts)
+    /// </details>
+    #[must_use]
+    #[inline]
+    pub fn swap<I: NdIndex<D>, J: NdIndex<D>>(&mut self, index: &I, other: &J) -> bool {
+        let view = &self.view;
+        match (view.place(index), view.place(other)) {
+            (Some(one), Some(other)) => {
+                self.items.swap(one, other);
+                true
+            }
+            _ => false,
+        }
+    }
+
+    /// The array, to be read for as long as this one isn't written.
+    ///
+    /// # Errors
+    ///
+    /// Out of memory; never where the type fixes the count of axes or there are at most 4.
+    ///
+    /// ndarray's `view`.
+    ///
+    /// <details><summary>Contract (proved)</summary>
+    ///
+    /// ```text
+    /// ensures array: IfOk result (λ a. a ≡ array_of self.now)
+    /// ensures memory: NeedsNoMemory D.NDIM (length (array_of self.now).view.shape) → IsOk result
+    /// ```
+    /// [How to read it](crate::contracts)
+    /// </details>
+    #[inline]
+    pub fn as_view(&self) -> Result<ArrayView<'_, T, D>, AllocError> {
+        let view = self.view.duplicate()?;
+        Ok(ArrayView::new(view, self.stored()))
+    }
+}

@@ -1,0 +1,195 @@
+// Made by `rust/erase` of `crates/nd_lent/src/array_view_mut/splitting.rt`: edit that.
+//! The two parts of an array along an axis, and those that slices pick, lent at once to be written.
+
+use crate::memory::prelude::Vec;
+use crate::nd_lent::array_view_mut::ArrayViewMut;
+use crate::nd_lent::parts_mut::PartMut;
+use crate::ndarray_layout::{
+    Axis, CanIndexCheckMode, ErrorKind, LayoutError, Lengths, ShapeError, SliceElems, Strided, from_kind,
+    max_abs_offset_check_overflow, offset_from_low_addr_ptr_to_logical_ptr,
+};
+
+/// The two parts of a view along an axis, each over items of its own: `cut` of the items are below it, and the part whose
+/// places are lower has those.
+pub struct SplitViews<D: Lengths> {
+    pub first: Strided<D>,
+    pub second: Strided<D>,
+    pub cut: usize,
+    pub first_is_lower: bool,
+}
+
+/// The lowest place and the highest one of a view with an index. Errors: none, since a view has a span.
+///
+/// <details><summary>Contract (proved)</summary>
+///
+/// ```text
+/// ensures none: IsOk result
+/// ensures lowest: IfOk result (λ (low, high). low ≡ lowest view.now)
+/// ensures highest: IfOk result (λ (low, high). high ≡ highest view.now)
+/// ensures is_view: IsView view.now
+/// ```
+/// [How to read it](crate::contracts)
+/// </details>
+#[inline]
+fn reach<D: Lengths>(view: &Strided<D>) -> Result<(usize, usize), ShapeError> {
+    let (dim, strides) = (view.dim(), view.strides());
+    let span = max_abs_offset_check_overflow(1, dim, strides)?;
+    let low = offset_from_low_addr_ptr_to_logical_ptr(dim, strides);
+    Ok((view.start() - low, view.start() + (span - low)))
+}
+
+/// A view over the `len` items that are left where so many before them are left out. Errors: none.
+///
+/// <details><summary>Contract (proved)</summary>
+///
+/// ```text
+/// requires some: is_empty view.shape ≡ false
+/// requires low: by + low_span view.shape view.strides ≤ view.start
+/// requires within: LiesWithin (by + len) view
+/// ensures none: IsOk result
+/// ensures moved: IfOk result (IsMoved by view)
+/// ensures within: IfOk result (LiesWithin len)
+/// ensures is_view: IfOk result IsView
+/// ```
+/// [How to read it](crate::contracts)
+/// </details>
+#[inline]
+fn moved<D: Lengths>(view: Strided<D>, by: usize, len: usize) -> Result<Strided<D>, ShapeError> {
+    let start = view.start() - by;
+    view.moved_to(start, 1, len, CanIndexCheckMode::ReadOnly)
+}
+
+impl<D: Lengths> SplitViews<D> {
+    /// The two parts of a view over `count` items along an axis, where the places of one are all below those of the other.
+    ///
+    /// Its `first` and `second` are those of `Strided::split_at`, each over items of its own: the part whose places are lower
+    /// has the `cut` items below, the other one has the items from there on, and its start is `cut` less. So `split_at_mut` of
+    /// the items at `cut` and two times `ArrayViewMut::new` lend both, and a proof knows what the items are in the end.
+    ///
+    /// # Errors
+    ///
+    /// `OutOfBounds` where there is no such axis or the index is greater than its length; then out of memory, never where the
+    /// type fixes the count of axes or there are at most 4; then `IncompatibleLayout` where the places of the parts interleave.
+    ///
+    /// Axis 0 of `[2,3]`, `[3,1]` from 1 at 1: `[1,3]` from 1 over 4 items, and `[1,3]` from 0 over the others. The project's
+    /// own.
+    ///
+    /// # Conditions
+    ///
+    /// The caller ensures that each index of the view has an item to itself among so many. Otherwise the call panics or
+    /// returns unspecified values.
+    ///
+    /// <details><summary>Contract (proved)</summary>
+    ///
+    /// ```text
+    /// requires IsOwned count view
+    /// ensures fault: (shape_fault result ≡ split_items_fault axis.0 index view) ⊎ IsMemory result
+    /// ensures in_bounds: IsMemory result → split_fault view.shape axis.0 index ≡ None
+    /// ensures memory: NeedsNoMemory D.NDIM (length view.shape) → IsMemory result → ⊥
+    /// ensures cut: IfOk result (λ parts. parts.cut ≤ count)
+    /// ensures first: IfOk result (λ parts.
+    ///     IsMoved (if parts.first_is_lower then 0 else parts.cut)
+    ///     (first_part_of axis.0 index view) parts.first)
+    /// ensures second: IfOk result (λ parts.
+    ///     IsMoved (if parts.first_is_lower then parts.cut else 0)
+    ///     (second_part_of axis.0 index view) parts.second)
+    /// ensures first_owned: IfOk result (λ parts.
+    ///     IsOwned (if parts.first_is_lower then parts.cut else count - parts.cut)
+    ///     parts.first)
+    /// ensures second_owned: IfOk result (λ parts.
+    ///     IsOwned (if parts.first_is_lower then count - parts.cut else parts.cut)
+    ///     parts.second)
+    /// ```
+    /// [How to read it](crate::contracts)
+    /// </details>
+    #[inline]
+    pub fn new(view: Strided<D>, count: usize, axis: Axis, index: usize) -> Result<Self, LayoutError> {
+        let (first, second) = view.split_at(axis, index)?;
+        if first.is_empty() {
+            return Ok(SplitViews { first, second, cut: 0, first_is_lower: true });
+        }
+        if second.is_empty() {
+            return Ok(SplitViews { first, second, cut: 0, first_is_lower: false });
+        }
+        let (first_low, first_high) = reach(&first)?;
+        let (second_low, second_high) = reach(&second)?;
+        if first_high < second_low {
+            let second = moved(second, second_low, count - second_low)?;
+            return Ok(SplitViews { first, second, cut: second_low, first_is_lower: true });
+        }
+        if second_high < first_low {
+            let first = moved(first, first_low, count - first_low)?;
+            return Ok(SplitViews { first, second, cut: first_low, first_is_lower: false });
+        }
+        Err(LayoutError::Shape(from_kind(ErrorKind::IncompatibleLayout)))
+    }
+}
+
+impl<'a, T: Sized, D: Lengths> ArrayViewMut<'a, T, D> {
+    /// The two parts along an axis, both lent at once: those of `SplitViews::new`, with its errors. A thread of its own may
+    /// write each.
+    ///
+    /// (`PartMut` lends parts whose places interleave, as the columns of a picture.)
+    ///
+    /// Axis 0 of `[3]` over 7 8 9 at 1: 7, and 8 9. ndarray's `split_at`.
+    ///
+    /// <details><summary>Contract (proved)</summary>
+    ///
+    /// ```text
+    /// ensures fault: (shape_fault result ≡
+    ///     split_items_fault axis.0 index (array_of self.entry).view) ⊎ IsMemory result
+    /// ensures in_bounds: IsMemory result → split_fault (array_of self.entry).view.shape axis.0 index ≡ None
+    /// ensures memory: NeedsNoMemory D.NDIM (length (array_of self.entry).view.shape) → IsMemory result → ⊥
+    /// ensures first_shape: IfOk result (λ (first, second). (array_of first).view.shape ≡
+    ///     (first_part_of axis.0 index (array_of self.entry).view).shape)
+    /// ensures second_shape: IfOk result (λ (first, second). (array_of second).view.shape ≡
+    ///     (second_part_of axis.0 index (array_of self.entry).view).shape)
+    /// ensures first_items: IfOk result (λ (first, second).
+    ///     ShowsPartOf (λ coordinates. coordinates) (array_of self.entry) (array_of first))
+    /// ensures second_items: IfOk result (λ (first, second).
+    ///     ShowsPartOf (second_source axis.0 index) (array_of self.entry) (array_of second))
+    /// ```
+    /// [How to read it](crate::contracts)
+    /// </details>
+    #[inline]
+    pub fn split_at_mut(self, axis: Axis, index: usize) -> Result<(Self, Self), LayoutError> {
+        let ArrayViewMut { items, view } = self;
+        let parts = SplitViews::new(view, items.len(), axis, index)?;
+        let SplitViews { first, second, cut, first_is_lower } = parts;
+        let (lower, upper) = items.split_at_mut(cut);
+        if first_is_lower {
+            return Ok((ArrayViewMut::new(first, lower), ArrayViewMut::new(second, upper)));
+        }
+        Ok((ArrayViewMut::new(first, upper), ArrayViewMut::new(second, lower)))
+    }
+
+    /// The parts that slices pick, all lent at once: those of `PartMut::of_slices`, with its errors. A thread of its own may
+    /// write each.
+    ///
+    /// `0,..` and `1,..;2` of `[2,3]` over 0 1 2 3 4 5: 0 1 2 in one row; 3 and 5, each in a row of its own.
+    ///
+    /// A picture of 2 rows of 3 pixels, with red, green and blue side by side: `[2,3,3]` over 0, 1, .. 17, with the strides
+    /// `[9,3,1]`. Its green plane `..,..,1` isn't 2 rows of 3 items, but 6 rows of one: 1, 4, 7, 10, 13 and 16. The row of pixel
+    /// (1,2) is 1 * 3 + 2, so `get(5, 0)` is 16. `get(1, 2)` is `None`, and `set(1, 2, ..)` returns `false` and writes nothing.
+    /// `set(1, 0, ..)` returns `true`, and writes pixel (0,1), whose row that is. Where the planes lie one after another, as in
+    /// `[3,2,3]`, row and column of `1,..,..` are those of the picture.
+    ///
+    /// ndarray's `multi_slice_mut`, which panics where two slices share an index.
+    ///
+    /// <details><summary>Contract (proved)</summary>
+    ///
+    /// ```text
+    /// ensures fault: IsFaultOfSlices (array_of self.entry).view.shape (map S.list slices.now) (shape_fault result)
+    /// ensures memory: slices.now ≡ [] → IsOk result
+    /// ensures rows: IfOk result (λ parts. map rows_of parts.items ≡
+    ///     map (picked_rows (array_of self.entry).items (array_of self.entry).view)
+    ///     (map S.list slices.now))
+    /// ```
+    /// [How to read it](crate::contracts)
+    /// </details>
+    #[inline]
+    pub fn multi_slice_mut<S: SliceElems>(self, slices: &[S]) -> Result<Vec<PartMut<'a, T>>, LayoutError> {
+        let ArrayViewMut { items, view } = self;
+        PartMut::of_slices(&view, items, slices)
+    }
+}

@@ -1,0 +1,55 @@
+// Made by `rust/erase` of `crates/nd_lent/src/array_view_mut/writing.rt`: edit that.
+//! Writes to all items of an array.
+
+use crate::nd_lent::array_view::ArrayView;
+use crate::nd_lent::array_view_mut::ArrayViewMut;
+use crate::ndarray_layout::{Lengths, ShapeError};
+
+impl<'a, T: Copy, D: Lengths> ArrayViewMut<'a, T, D> {
+    /// Writes an item at each index. Spare items are unchanged.
+    ///
+    /// Takes no memory, and for each index the time of its place (`Strided::iter_places`) and of a copy.
+    ///
+    /// 5 to `a`: 5 5 9. ndarray's `fill`.
+    ///
+    /// <details><summary>Contract (proved)</summary>
+    ///
+    /// ```text
+    /// ensures filled: HasItemsOf (λ index. Some item) (array_of self.old) (array_of self.new)
+    /// ```
+    /// [How to read it](crate::contracts)
+    /// </details>
+    #[inline]
+    pub fn fill(&mut self, item: T) {
+        let _view = self.view();
+        self.map_in_place(|stored: &mut T| {
+            *stored = item;
+        });
+    }
+
+    /// Writes at each index a copy of the item that another array of the same shape has there. Spare items are unchanged.
+    ///
+    /// Takes no memory, and for each index the time of its place in both and of a copy.
+    ///
+    /// # Errors
+    ///
+    /// `IncompatibleShape` where the shapes differ; the items are unchanged. (A shape that can be broadcast is an error
+    /// too: `ArrayView::broadcast` comes first.)
+    ///
+    /// 5 6 to `a`: 6 5 9. ndarray's `assign`.
+    ///
+    /// <details><summary>Contract (proved)</summary>
+    ///
+    /// ```text
+    /// ensures fits: IsOk result ↔ ((array_of self.old).view.shape ≡ other.now.view.shape)
+    /// ensures fault: OnErr result (result_err result ≡ Some IncompatibleShape)
+    /// ensures unchanged: OnErr result (array_of self.new ≡ array_of self.old)
+    /// ensures assigned: OnOk result (HasItemsOf (item_at other.now) (array_of self.old) (array_of self.new))
+    /// ```
+    /// [How to read it](crate::contracts)
+    /// </details>
+    #[inline]
+    pub fn assign(&mut self, other: &ArrayView<'_, T, D>) -> Result<(), ShapeError> {
+        other.map_into(self, |item: &T| *item)
+    }
+}

@@ -1,0 +1,25 @@
+// Made by `rust/erase` of `crates/nd_lent/src/lib.rt`: edit that.
+//! Items that are kept elsewhere, lent as an array or in parts, to be read or written by the places of a layout.
+
+#![allow(unused_imports, unused_variables, reason = "a name that only clauses use")]
+#![allow(unused_labels, reason = "proofs name a loop by its label")]
+#![allow(
+    clippy::explicit_auto_deref,
+    clippy::manual_find,
+    clippy::manual_map,
+    clippy::needless_range_loop,
+    clippy::non_canonical_clone_impl,
+    clippy::while_let_on_iterator,
+    reason = "a form that is proved with less"
+)]
+#![allow(clippy::unused_unit, reason = "what the kit has no form for")]
+#![allow(clippy::len_without_is_empty, reason = "a sequence is never asked whether it is empty")]
+
+mod array_view;
+mod array_view_mut;
+mod indexing;
+mod parts_mut;
+
+pub use array_view::{ArrayView, Iter, LentRow, LentRows};
+pub use array_view_mut::{ArrayViewMut, SplitViews};
+pub use parts_mut::PartMut;

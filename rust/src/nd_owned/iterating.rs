@@ -1,0 +1,63 @@
+// Made by `rust/erase` of `crates/nd_owned/src/iterating.rt`: edit that.
+//! The items of an array one after another, without a list of them.
+
+use crate::nd_lent::Iter;
+use crate::nd_owned::owned::OwnedArray;
+use crate::ndarray_layout::{Lengths, Order};
+use core::iter::FusedIterator;
+
+/// Copies of the items of an array that are still to come, in row-major order of their indices.
+pub struct Items<'a, T: Copy> {
+    pub(crate) lent: Iter<'a, T>,
+}
+
+impl<T: Copy> Iterator for Items<'_, T> {
+    type Item = T;
+
+    #[inline]
+    fn next(&mut self) -> Option<T> {
+        self.lent.next().copied()
+    }
+
+    #[inline]
+    fn size_hint(&self) -> (usize, Option<usize>) {
+        self.lent.size_hint()
+    }
+
+    crate::arrays::fold_items!();
+}
+
+impl<T: Copy> ExactSizeIterator for Items<'_, T> {
+    #[inline]
+    fn len(&self) -> usize {
+        self.lent.len()
+    }
+}
+
+impl<T: Copy> FusedIterator for Items<'_, T> {}
+
+impl<T: Copy, D: Lengths> OwnedArray<T, D> {
+    /// An iterator over copies of the items of all indices, in row-major order (the last axis moves fastest), which
+    /// knows how many are left. Spare items aren't among them.
+    ///
+    /// Takes no memory, and lists nothing. An item takes the time of its place (`Strided::iter_places`) and of a copy.
+    ///
+    /// `a.iter()` gives 8 7. ndarray's `iter`, which lends each item.
+    ///
+    /// <details><summary>Contract (proved)</summary>
+    ///
+    /// ```text
+    /// ensures items: result ≡ map (item_at_place self.now.items) (view_places RowMajor self.now.view)
+    /// ensures count: length result ≡ size self.now.view.shape
+    /// ensures in_order: EveryRun (YieldsFirstBy Some (λ (left : List (Option T)). left))
+    ///     (λ run. ItemsMapTo run Some run.from)
+    /// ensures owned: IsOwned (length self.now.items) self.now.view
+    /// ```
+    /// [How to read it](crate::contracts)
+    /// </details>
+    #[inline]
+    #[must_use]
+    pub fn iter(&self) -> Items<'_, T> {
+        Items { lent: Iter::new(self.stored(), self.view().iter_places(Order::RowMajor)) }
+    }
+}

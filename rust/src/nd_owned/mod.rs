@@ -1,0 +1,27 @@
+// Made by `rust/erase` of `crates/nd_owned/src/lib.rt`: edit that.
+//! Arrays that own their items, over the layout layer: parts of one array, picked by slices, are read and written by the places
+//! of its layout. What lends items is re-exported.
+
+#![allow(unused_imports, unused_variables, reason = "a name that only clauses use")]
+#![allow(unused_labels, reason = "proofs name a loop by its label")]
+#![allow(
+    clippy::explicit_auto_deref,
+    clippy::manual_find,
+    clippy::manual_map,
+    clippy::needless_range_loop,
+    clippy::non_canonical_clone_impl,
+    clippy::while_let_on_iterator,
+    reason = "a form that is proved with less"
+)]
+#![allow(clippy::unused_unit, reason = "what the kit has no form for")]
+#![allow(clippy::len_without_is_empty, reason = "a sequence is never asked whether it is empty")]
+
+mod iterating;
+mod multi_set;
+mod owned;
+mod picked_view;
+mod rows;
+
+pub use crate::nd_lent::{ArrayView, ArrayViewMut, Iter, LentRow, LentRows, PartMut, SplitViews};
+pub use iterating::Items;
+pub use owned::OwnedArray;

@@ -1,0 +1,388 @@
+// Made by `rust/erase` of `crates/nd_owned/src/owned.rt`: edit that.
+//! An array that owns its items.
+
+use crate::memory::prelude::Vec;
+
+mod mapping;
+
+use crate::memory::AllocError;
+use crate::nd_lent::{ArrayView, ArrayViewMut};
+use crate::nd_owned::multi_set::{check_apart, check_counts, picked_by_write, picked_views, write_all};
+use crate::nd_owned::picked_view::PickedView;
+use crate::ndarray_layout::{
+    CanIndexCheckMode, LayoutError, Lengths, NdIndex, SliceElems, SliceInfoElem, StrideShape, Strided,
+};
+
+/// An array that owns its items. Each index of its shape has an item, at its place in the list of the items, and no two
+/// indices alias. Items at no place of the layout are spare ones, and no call shows them but `stored`, `stored_mut` and
+/// `into_stored`.
+///
+/// In the examples `a` is `[2]` with the stride `[-1]` over 7 8 9: (0) is 8, (1) is 7, and 9 is spare.
+pub struct OwnedArray<T, D: Lengths> {
+    pub(crate) items: Vec<T>,
+    pub(crate) view: Strided<D>,
+}
+
+impl<T: Sized, D: Lengths> OwnedArray<T, D> {
+    /// The array of a shape, by its own strides or by given ones, over a list of items.
+    ///
+    /// The lowest place of the layout is 0, the first item of the list. Items past the layout, or between its places, are
+    /// kept as spare ones.
+    ///
+    /// # Errors
+    ///
+    /// Those of `Strided::from_shape` in owned mode, over as many elements of one byte as the list has items. The list
+    /// comes back with the error.
+    ///
+    /// `[2]` with the stride `[-1]` over 7 8 9 is `a`. ndarray's `from_shape_vec`.
+    ///
+    /// <details><summary>Contract (proved)</summary>
+    ///
+    /// ```text
+    /// ensures fault: shape_fault_of result ≡
+    ///     acceptance_by_strides D.list 1 (vec_len items) OwnedMutable
+    ///     (D.list shape.dim) shape.strides
+    /// ensures given: shape_fault_of result ≡ None → IsSome (custom_strides shape.strides) → IsOk result
+    /// ensures memory: shape_fault_of result ≡ None → NeedsNoMemory D.NDIM (length (D.list shape.dim)) → IsOk result
+    /// ensures stored: IfOk result (λ a. a.items ≡ items.items)
+    /// ensures view: IfOk result (λ a. a.view ≡
+    ///     view_from_0 (D.list shape.dim)
+    ///     (strides_list D.list (D.list shape.dim) shape.strides))
+    /// ensures owned: IfOk result (λ a. IsOwned (length a.items) a.view)
+    /// ensures handed_back: IfErr result (λ error. error.1 ≡ items)
+    /// ```
+    /// [How to read it](crate::contracts)
+    /// </details>
+    #[inline]
+    pub fn from_shape_vec(shape: StrideShape<D>, items: Vec<T>) -> Result<Self, (LayoutError, Vec<T>)> {
+        let len = items.len();
+        match Strided::from_shape(shape, 1, len, CanIndexCheckMode::OwnedMutable) {
+            Ok(view) => Ok(OwnedArray { items, view }),
+            Err(fault) => Err((fault, items)),
+        }
+    }
+
+    /// The view: the shape, the strides and the place of the first index. Each place of it has an item, and no two indices
+    /// alias.
+    ///
+    /// `a.view()` is `[2]`, `[-1]` from 1. ndarray's `view` lends the items as well.
+    ///
+    /// <details><summary>Contract (proved)</summary>
+    ///
+    /// ```text
+    /// ensures view: result.now ≡ self.now.view
+    /// ensures owned: IsOwned (length self.now.items) self.now.view
+    /// ```
+    /// [How to read it](crate::contracts)
+    /// </details>
+    #[must_use]
+    #[inline]
+    pub fn view(&self) -> &Strided<D> {
+        &self.view
+    }
+
+    /// The shape. ndarray's `raw_dim`, which copies it.
+    ///
+    /// <details><summary>Contract (proved)</summary>
+    ///
+    /// ```text
+    /// ensures list: D.list result.now ≡ self.now.view.shape
+    /// ```
+    /// [How to read it](crate::contracts)
+    /// </details>
+    #[must_use]
+    #[inline]
+    pub fn dim(&self) -> &D {
+        self.view.dim()
+    }
+
+    /// How many indices the shape has; spare items don't count.
+    ///
+    /// `a.len()` is 2. ndarray's `len`.
+    ///
+    /// <details><summary>Contract (proved)</summary>
+    ///
+    /// ```text
+    /// ensures result ≡ size self.now.view.shape
+    /// ```
+    /// [How to read it](crate::contracts)
+    /// </details>
+    #[inline]
+    #[must_use]
+    pub fn len(&self) -> usize {
+        self.view.len()
+    }
+
+    /// Whether the shape has no index. ndarray's `is_empty`.
+    ///
+    /// <details><summary>Contract (proved)</summary>
+    ///
+    /// ```text
+    /// ensures IsTrue result ↔ (size self.now.view.shape ≡ 0)
+    /// ```
+    /// [How to read it](crate::contracts)
+    /// </details>
+    #[inline]
+    #[must_use]
+    pub fn is_empty(&self) -> bool {
+        self.view.is_empty()
+    }
+
+    /// All items as they are stored, spare ones too.
+    ///
+    /// `a.stored()` is 7 8 9. ndarray's `as_slice_memory_order`, where no item is spare.
+    ///
+    /// <details><summary>Contract (proved)</summary>
+    ///
+    /// ```text
+    /// ensures items: result.now ≡ self.now.items
+    /// ensures owned: IsOwned (length self.now.items) self.now.view
+    /// ```
+    /// [How to read it](crate::contracts)
+    /// </details>
+    #[must_use]
+    #[inline]
+    pub fn stored(&self) -> &[T] {
+        self.items.as_slice()
+    }
+
+    /// All items as they are stored, spare ones too, to be written. Their count and the view are unchanged.
+    ///
+    /// Of `a`, 5 at the end of the list makes it 7 8 5, and (0) is 8 still. ndarray's `as_slice_memory_order_mut`, where no item
+    /// is spare.
+    ///
+    /// <details><summary>Contract (proved)</summary>
+    ///
+    /// ```text
+    /// ensures items: result.now ≡ self.old.items
+    /// ensures owned: IsOwned (length self.old.items) self.old.view
+    /// ```
+    /// [How to read it](crate::contracts)
+    /// </details>
+    #[must_use]
+    #[inline]
+    pub fn stored_mut(&mut self) -> &mut [T] {
+        self.items.as_mut_slice()
+    }
+
+    /// The view, and all items as they are stored, to be written by its places. Their count and the view are unchanged.
+    ///
+    /// The view of `a` starts at 1, and 5 at this place of the list makes it 7 5 9. The project's own.
+    ///
+    /// <details><summary>Contract (proved)</summary>
+    ///
+    /// ```text
+    /// ensures view: result.0.now ≡ self.old.view
+    /// ensures items: result.1.now ≡ self.old.items
+    /// ensures owned: IsOwned (length result.1.now) result.0.now
+    /// ```
+    /// [How to read it](crate::contracts)
+    /// </details>
+    #[must_use]
+    #[inline]
+    pub fn parts_mut(&mut self) -> (&Strided<D>, &mut [T]) {
+        let items = self.items.as_mut_slice();
+        (&self.view, items)
+    }
+
+    /// The list of all items as they are stored, spare ones too, and no copy of it. It ends the array.
+    ///
+    /// Of `a`: 7 8 9. ndarray's `into_raw_vec_and_offset`, whose offset the view's start is.
+    ///
+    /// <details><summary>Contract (proved)</summary>
+    ///
+    /// ```text
+    /// ensures result.items ≡ self.items
+    /// ```
+    /// [How to read it](crate::contracts)
+    /// </details>
+    #[must_use]
+    #[inline]
+    pub fn into_stored(self) -> Vec<T> {
+        let OwnedArray { items, view: _ } = self;
+        items
+    }
+
+    /// Replaces the item of an index, and returns whether it is an index of the shape; else the array is unchanged.
+    ///
+    /// `a.set(&1, 5)` makes it 5 8 9. ndarray's `get_mut`, with the write.
+    ///
+    /// <details><summary>Contract (proved)</summary>
+    ///
+    /// ```text
+    /// ensures is_index: result ≡ is_index self.old.view.shape (I.index_list index.now)
+    /// ensures written: self.new ≡ with_item self.old (I.index_list index.now) item
+    /// ```
+    /// [How to read it](crate::contracts)
+    /// </details>
+    #[inline]
+    #[must_use]
+    pub fn set<I: NdIndex<D>>(&mut self, index: &I, item: T) -> bool {
+        match self.view.place(index) {
+            Some(place) => {
+                self.items[place] = item;
+                true
+            }
+            None => false,
+        }
+    }
+
+    /// The array with its items lent, for the calls of `ArrayView`.
+    ///
+    /// # Errors
+    ///
+    /// Out of memory; never where the type fixes the count of axes or there are at most 4.
+    ///
+    /// `(0)` of it is 8, as of `a`. ndarray's `view`.
+    ///
+    /// <details><summary>Contract (proved)</summary>
+    ///
+    /// ```text
+    /// ensures array: IfOk result (λ a. a ≡ self.now)
+    /// ensures memory: NeedsNoMemory D.NDIM (length self.now.view.shape) → IsOk result
+    /// ```
+    /// [How to read it](crate::contracts)
+    /// </details>
+    #[inline]
+    pub fn as_view(&self) -> Result<ArrayView<'_, T, D>, AllocError> {
+        let view = self.view.duplicate()?;
+        Ok(ArrayView::new(view, self.items.as_slice()))
+    }
+
+    /// The array with its items lent to be written, for the calls of `ArrayViewMut`.
+    ///
+    /// # Errors
+    ///
+    /// Out of memory; never where the type fixes the count of axes or there are at most 4.
+    ///
+    /// 5 at (1) of that of `a` makes it 5 8 9. ndarray's `view_mut`.
+    ///
+    /// <details><summary>Contract (proved)</summary>
+    ///
+    /// ```text
+    /// ensures array: IfOk result (λ a. array_of a ≡ self.old)
+    /// ensures memory: NeedsNoMemory D.NDIM (length self.old.view.shape) → IsOk result
+    /// ```
+    /// [How to read it](crate::contracts)
+    /// </details>
+    #[inline]
+    pub fn as_view_mut(&mut self) -> Result<ArrayViewMut<'_, T, D>, AllocError> {
+        let view = self.view.duplicate()?;
+        Ok(ArrayViewMut::new(view, self.items.as_mut_slice()))
+    }
+}
+
+impl<T: Copy, D: Lengths> OwnedArray<T, D> {
+    /// A copy of the item of an index; `None` where it is no index of the shape.
+    ///
+    /// `a.get(&0)` is 8, and `a.get(&2)` is `None`. ndarray's `get`.
+    ///
+    /// <details><summary>Contract (proved)</summary>
+    ///
+    /// ```text
+    /// ensures found: IsSome result ↔ IsTrue (is_index self.now.view.shape (I.index_list index.now))
+    /// ensures item: result ≡ item_at self.now (I.index_list index.now)
+    /// ```
+    /// [How to read it](crate::contracts)
+    /// </details>
+    #[inline]
+    #[must_use]
+    pub fn get<I: NdIndex<D>>(&self, index: &I) -> Option<T> {
+        let place = self.view.place(index)?;
+        Some(self.items[place])
+    }
+
+    /// Copies of the items that a slice picks, in row-major order.
+    ///
+    /// Each row of neighbours is copied as a whole, and neighbouring rows as one where the whole part lies in order.
+    ///
+    /// # Errors
+    ///
+    /// Those of `check_slice` on the shape, then out of memory; none of memory where the slice picks nothing and leaves at
+    /// most 4 axes.
+    ///
+    /// `..;-1,1..` of `[2,3]` over 0 1 2 3 4 5: 4 5 1 2. The project's own.
+    ///
+    /// <details><summary>Contract (proved)</summary>
+    ///
+    /// ```text
+    /// ensures fault: shape_fault result ≡ argument_fault Strict self.now.view.shape (S.list slices.now)
+    /// ensures items: IfOk result (λ v. map Some v.items ≡ map (item_at_place self.now.items)
+    ///     (view_places RowMajor (slice_of Strict (S.list slices.now) self.now.view)))
+    /// ensures memory: IsOfNone self.now.view.shape (S.list slices.now) → IsOk result
+    /// ```
+    /// [How to read it](crate::contracts)
+    /// </details>
+    #[inline]
+    pub fn items<S: SliceElems>(&self, slices: &S) -> Result<Vec<T>, LayoutError> {
+        let part = PickedView::new(&self.view, slices)?;
+        Ok(part.read(self.items.as_slice())?)
+    }
+
+    /// Writes items at several slices at once, all of them or none.
+    ///
+    /// Each slice comes with the items for its indices, in row-major order. All other items are unchanged, spare ones too.
+    /// A slice that picks nothing intersects no other, and an empty list of writes is no error.
+    ///
+    /// The slices are compared as `first_intersection` does: of `k` slices `k * (k - 1) / 2` pairs, each up to an axis on
+    /// which their ranges are apart. Where the slices begin in their order along an axis, or in the reverse order, as the
+    /// rows of an array or its tiles row by row, a slice is compared only with those that begin before it ends; of rows that
+    /// is none. Before the first write the parts that the slices pick are listed if there are several.
+    ///
+    /// # Errors
+    ///
+    /// That of `check_slice` on the shape for the first slice that doesn't fit; then `IncompatibleShape` where a list has
+    /// more items or fewer than its slice picks; then `Unsupported` where two slices share an index; then out of memory,
+    /// never where no list has an item, as where each slice picks nothing. The array is unchanged after an error.
+    ///
+    /// `0,..` with 7 8 9 and `1,..;2` with 5 6 make 7 8 9 5 4 6 of `[2,3]` over 0 1 2 3 4 5; `0,..` and `..,0` share
+    /// (0,0). ndarray's `multi_slice_move`, with the writes.
+    ///
+    /// <details><summary>Contract (proved)</summary>
+    ///
+    /// ```text
+    /// ensures fault: IsFaultOfWrites self.old.view.shape (map write_of writes.now) (shape_fault result)
+    /// ensures memory: shape_fault result ≡ None → HaveNoItems (map write_of writes.now) → IsOk result
+    /// ensures unchanged: OnErr result (self.new ≡ self.old)
+    /// ensures view: self.new.view ≡ self.old.view
+    /// ensures count: length self.new.items ≡ length self.old.items
+    /// ensures written: OnOk result (All (IsWritten self.old.view self.new.items) (map write_of writes.now))
+    /// ensures others: OnOk result (KeepsOthers self.old.view (map write_of writes.now) self.old.items self.new.items)
+    /// ```
+    /// [How to read it](crate::contracts)
+    /// </details>
+    #[inline]
+    pub fn multi_set(&mut self, writes: &[(Vec<SliceInfoElem>, Vec<T>)]) -> Result<(), LayoutError> {
+        if let [write] = writes {
+            if !write.1.is_empty() {
+                return self.set_one(write);
+            }
+        }
+        check_counts(&self.view, writes)?;
+        check_apart(&self.view, writes)?;
+        let parts = picked_views(&self.view, writes)?;
+        write_all(self.items.as_mut_slice(), parts.as_slice());
+        Ok(())
+    }
+
+    /// Writes items at one slice, as `multi_set` does with a list of this write, which takes no memory to list.
+    ///
+    /// <details><summary>Contract (proved)</summary>
+    ///
+    /// ```text
+    /// ensures fault: shape_fault result ≡ counts_fault self.old.view.shape (write_of write.now ∷ [])
+    /// ensures unchanged: OnErr result (self.new ≡ self.old)
+    /// ensures view: self.new.view ≡ self.old.view
+    /// ensures count: length self.new.items ≡ length self.old.items
+    /// ensures written: OnOk result (HasWritten (write_places self.old.view (write_of write.now))
+    ///     write.now.1.items self.old.items self.new.items)
+    /// ```
+    /// [How to read it](crate::contracts)
+    /// </details>
+    #[inline]
+    fn set_one(&mut self, write: &(Vec<SliceInfoElem>, Vec<T>)) -> Result<(), LayoutError> {
+        let part = picked_by_write(&self.view, write)?;
+        part.write(self.items.as_mut_slice(), write.1.as_slice());
+        Ok(())
+    }
+}

@@ -1,0 +1,208 @@
+// Made by `rust/erase` of `crates/nd_owned/src/rows.rt`: edit that.
+//! The items at the places of a view, read and written row by row.
+
+use crate::memory::AllocError;
+use crate::memory::prelude::{FallibleVec, Vec};
+use crate::ndarray_layout::{Lengths, Order, Places, Row, Strided, is_layout_c};
+
+/// How many neighbours are worth the call of a copy.
+const WORTH_A_COPY: usize = 16;
+
+/// The places of a view as one row that is copied, where they are neighbours.
+///
+/// <details><summary>Contract (proved)</summary>
+///
+/// ```text
+/// ensures places: IfSome result (λ row. row_places row.start row.stride row.len ≡ view_places RowMajor view.now)
+/// ensures is_view: IsView view.now
+/// ```
+/// [How to read it](crate::contracts)
+/// </details>
+#[inline]
+fn one_row<D: Lengths>(view: &Strided<D>) -> Option<Row> {
+    let len = view.len();
+    if len < WORTH_A_COPY || !is_layout_c(view.dim(), view.strides()) {
+        return None;
+    }
+    Some(Row { start: view.start(), stride: 1, len })
+}
+
+/// Copies of the items at the places of a view, in row-major order. Rows that are neighbours are copied as one, and
+/// short rows are read place by place.
+///
+/// <details><summary>Contract (proved)</summary>
+///
+/// ```text
+/// requires LiesWithin (length stored.now) view.now
+/// ensures items: IfOk result (λ v. map Some v.items ≡ map (item_at_place stored.now) (view_places RowMajor view.now))
+/// ensures memory: size view.now.shape ≡ 0 → IsOk result
+/// ```
+/// [How to read it](crate::contracts)
+/// </details>
+#[inline]
+pub(crate) fn read_view<T: Copy, D: Lengths>(view: &Strided<D>, stored: &[T]) -> Result<Vec<T>, AllocError> {
+    let mut items = Vec::fallible_with_capacity(view.len())?;
+    if let Some(row) = one_row(view) {
+        return Ok(read_row(items, stored, row));
+    }
+    if has_short_rows(view) {
+        return Ok(read_places(items, stored, view.iter_places(Order::RowMajor)));
+    }
+    for row in view.rows(Order::RowMajor) {
+        items = read_row(items, stored, row);
+    }
+    Ok(items)
+}
+
+/// Writes an item at each place of a view, in row-major order. Rows that are neighbours are written as one.
+///
+/// <details><summary>Contract (proved)</summary>
+///
+/// ```text
+/// requires within: LiesWithin (length stored.old) view.now
+/// requires count: size view.now.shape ≡ length items.now
+/// ensures AllPairs (λ one other. one ≢ other) (view_places RowMajor view.now) →
+///     HasWritten (view_places RowMajor view.now) items.now stored.old stored.new
+/// ```
+/// [How to read it](crate::contracts)
+/// </details>
+#[inline]
+pub(crate) fn write_view<T: Copy, D: Lengths>(stored: &mut [T], view: &Strided<D>, items: &[T]) {
+    if let Some(row) = one_row(view) {
+        write_row(stored, row, items);
+        return;
+    }
+    let mut left = items;
+    for row in view.rows(Order::RowMajor) {
+        let (these, others) = left.split_at(row.len);
+        write_row(stored, row, these);
+        left = others;
+    }
+}
+
+/// Whether the rows of a view have few places: then its places are read one by one.
+#[inline]
+fn has_short_rows<D: Lengths>(view: &Strided<D>) -> bool {
+    match view.dim().slice().last() {
+        Some(len) => *len < WORTH_A_COPY,
+        None => true,
+    }
+}
+
+/// Appends the items at places to a list with room for them.
+///
+/// <details><summary>Contract (proved)</summary>
+///
+/// ```text
+/// requires in_bounds: All (IsInBounds (length stored.now)) places
+/// requires room: vec_len items + length places ≤ vec_capacity items
+/// ensures items: map Some result.items ≡ map Some items.items ++ map (item_at_place stored.now) places.entry
+/// ```
+/// [How to read it](crate::contracts)
+/// </details>
+#[inline(always)]
+fn read_places<T: Copy>(mut items: Vec<T>, stored: &[T], places: Places<'_>) -> Vec<T> {
+    for place in places {
+        items.push_reserved(stored[place]);
+    }
+    items
+}
+
+/// Whether a row is copied as a whole: its places are neighbours, and enough of them.
+///
+/// <details><summary>Contract (proved)</summary>
+///
+/// ```text
+/// ensures IsTrue result → row.stride ≡ pos 1
+/// ```
+/// [How to read it](crate::contracts)
+/// </details>
+#[inline]
+fn is_copied(row: Row) -> bool {
+    row.stride == 1 && row.len >= WORTH_A_COPY
+}
+
+/// The place of a row after another one.
+///
+/// <details><summary>Contract (proved)</summary>
+///
+/// ```text
+/// requires first: place < 2 ^ 63
+/// requires in_bounds: IsInBounds (2 ^ 63) (pos place +ℤ row.stride)
+/// ensures pos result ≡ pos place +ℤ row.stride
+/// ```
+/// [How to read it](crate::contracts)
+/// </details>
+#[inline]
+fn place_after(row: Row, place: usize) -> usize {
+    (place as isize + row.stride) as usize
+}
+
+/// Appends the items at the places of a row to a list with room for them. The list is passed by value: through a
+/// reference its length would be written at each place. It stays a call, so that its loop keeps more in registers.
+///
+/// <details><summary>Contract (proved)</summary>
+///
+/// ```text
+/// requires in_bounds: AreInBounds (length stored.now) (row_places row.start row.stride row.len)
+/// requires room: vec_len items + row.len ≤ vec_capacity items
+/// ensures items: map Some result.items ≡ map Some items.items
+///     ++ map (item_at_place stored.now) (row_places row.start row.stride row.len)
+/// ensures len: vec_len result ≡ vec_len items + row.len
+/// ensures capacity: vec_capacity items ≤ vec_capacity result
+/// ```
+/// [How to read it](crate::contracts)
+/// </details>
+#[inline(never)]
+fn read_row<T: Copy>(mut items: Vec<T>, stored: &[T], row: Row) -> Vec<T> {
+    let start = row.start;
+    let len = row.len;
+    if len == 0 {
+        return items;
+    }
+    if is_copied(row) {
+        // No allocation, since the list has room.
+        let _ = items.fallible_extend_from_slice(&stored[start..start + len]);
+        return items;
+    }
+    // The first item apart: so no step is taken from the last one, past which there may be no place.
+    items.push_reserved(stored[start]);
+    let mut place = start;
+    for _coordinate in 1..len {
+        place = place_after(row, place);
+        items.push_reserved(stored[place]);
+    }
+    items
+}
+
+/// Writes items at the first places of a row, which has as many or more.
+///
+/// <details><summary>Contract (proved)</summary>
+///
+/// ```text
+/// requires AreInBounds (length stored.old) (row_places row.start row.stride (length items.now))
+/// ensures AllPairs (λ one other. one ≢ other)
+///     (row_places row.start row.stride (length items.now)) →
+///     HasWritten (row_places row.start row.stride (length items.now))
+///     items.now stored.old stored.new
+/// ```
+/// [How to read it](crate::contracts)
+/// </details>
+#[inline(always)]
+fn write_row<T: Copy>(stored: &mut [T], row: Row, items: &[T]) {
+    let start = row.start;
+    let Some((first, others)) = items.split_first() else {
+        return;
+    };
+    if is_copied(row) {
+        stored[start..start + items.len()].copy_from_slice(items);
+        return;
+    }
+    // The first item apart, as they are read.
+    stored[start] = *first;
+    let mut place = start;
+    for item in others {
+        place = place_after(row, place);
+        stored[place] = *item;
+    }
+}

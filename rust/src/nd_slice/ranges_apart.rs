@@ -1,0 +1,87 @@
+// Made by `rust/erase` of `crates/nd_slice/src/ranges_apart.rt`: edit that.
+//! Where slices lie along an axis of a shape.
+
+use crate::nd_slice::elem::SliceInfoElem;
+use crate::nd_slice::fit::Fit;
+use crate::nd_slice::picks::resolve_elem;
+
+/// Where the range of an element begins on an axis, and what it stops before. `None` for an element that doesn't fit.
+///
+/// <details><summary>Contract (proved)</summary>
+///
+/// ```text
+/// ensures start: IfSome result (λ (start, end). start ≡ elem_start fit len elem)
+/// ensures end: IfSome result (λ (start, end). end ≡ elem_end fit len elem)
+/// ```
+/// [How to read it](crate::contracts)
+/// </details>
+#[inline]
+fn range_of(len: usize, elem: SliceInfoElem, fit: Fit) -> Option<(usize, usize)> {
+    match resolve_elem(len, elem, fit) {
+        Ok(picks) => Some((picks.start, picks.end)),
+        Err(_) => None,
+    }
+}
+
+/// Where the range of a slice that fits begins on an axis, and what it stops before. `None` for a slice with new axes,
+/// and where there is no such axis.
+///
+/// <details><summary>Contract (proved)</summary>
+///
+/// ```text
+/// requires fits: argument_fault fit shape.now slice.now ≡ None
+/// ensures there: IfSome result (λ (start, end). axis < length shape.now)
+/// ensures start: IfSome result (λ (start, end). start ≡ start_on fit shape.now axis slice.now)
+/// ensures end: IfSome result (λ (start, end). end ≡ end_on fit shape.now axis slice.now)
+/// ```
+/// [How to read it](crate::contracts)
+/// </details>
+#[inline]
+pub(crate) fn range_on(shape: &[usize], axis: usize, slice: &[SliceInfoElem], fit: Fit) -> Option<(usize, usize)> {
+    if axis >= shape.len() || slice.len() != shape.len() {
+        return None;
+    }
+    range_of(shape[axis], slice[axis], fit)
+}
+
+/// Whether the ranges of two slices are apart on an axis.
+///
+/// <details><summary>Contract (proved)</summary>
+///
+/// ```text
+/// requires fits: argument_fault fit shape.now slice.now ≡ None
+/// requires other_fits: argument_fault fit shape.now other.now ≡ None
+/// ensures IsTrue result → IsPast fit shape.now axis slice.now other.now
+///     ⊎ IsPast fit shape.now axis other.now slice.now
+/// ```
+/// [How to read it](crate::contracts)
+/// </details>
+#[inline]
+fn ranges_are_apart(shape: &[usize], axis: usize, slice: &[SliceInfoElem], other: &[SliceInfoElem], fit: Fit) -> bool {
+    match (range_on(shape, axis, slice, fit), range_on(shape, axis, other, fit)) {
+        (Some((start, end)), Some((other_start, other_end))) => end <= other_start || other_end <= start,
+        _ => false,
+    }
+}
+
+/// Whether the ranges of two slices that fit a shape are apart on some axis. Then they share no index. The last axis comes
+/// first, since slices that are near one another on the first axes are apart there.
+///
+/// <details><summary>Contract (proved)</summary>
+///
+/// ```text
+/// requires fits: argument_fault fit shape.now slice.now ≡ None
+/// requires other_fits: argument_fault fit shape.now other.now ≡ None
+/// ensures IsTrue result → ¬ Intersect fit shape.now slice.now other.now
+/// ```
+/// [How to read it](crate::contracts)
+/// </details>
+#[inline]
+pub(crate) fn have_ranges_apart(shape: &[usize], slice: &[SliceInfoElem], other: &[SliceInfoElem], fit: Fit) -> bool {
+    for number in 0..shape.len() {
+        if ranges_are_apart(shape, shape.len() - 1 - number, slice, other, fit) {
+            return true;
+        }
+    }
+    false
+}

@@ -1,0 +1,171 @@
+// Made by `rust/erase` of `crates/nd_slice/src/slices_in_order.rt`: edit that.
+//! Slices that begin in their order along an axis, where they are read from the first one on or from the last one back.
+
+use crate::nd_slice::elem::SliceInfoElem;
+use crate::nd_slice::elems::SliceElems;
+use crate::nd_slice::fit::Fit;
+use crate::nd_slice::ranges_apart::range_on;
+
+/// From which end a list of slices is read.
+pub(crate) trait Direction {
+    /// The position in a list of `count` slices of the one that is read after `place` others.
+    ///
+    /// <details><summary>Contract (proved)</summary>
+    ///
+    /// ```text
+    /// requires place < count
+    /// ensures result ≡ position_of backwards count place
+    /// ```
+    /// [How to read it](crate::contracts)
+    /// </details>
+    fn position(count: usize, place: usize) -> usize;
+}
+
+/// From the first slice on.
+pub(crate) struct FromFirst;
+
+/// From the last slice back.
+pub(crate) struct FromLast;
+
+impl Direction for FromFirst {
+    #[inline(always)]
+    fn position(_count: usize, place: usize) -> usize {
+        place
+    }
+}
+
+impl Direction for FromLast {
+    #[inline(always)]
+    fn position(count: usize, place: usize) -> usize {
+        count - 1 - place
+    }
+}
+
+/// The elements of the slice that is read after `place` others.
+///
+/// <details><summary>Contract (proved)</summary>
+///
+/// ```text
+/// requires place < length slices.now
+/// ensures slice: result.now ≡ slice_at (map S.list slices.now) R.backwards place
+/// ensures fits: (fit : Fit) (shape : List ℕ) → slices_fault fit shape (map S.list slices.now)
+///     ≡ None → argument_fault fit shape result.now ≡ None
+/// ```
+/// [How to read it](crate::contracts)
+/// </details>
+#[inline(always)]
+pub(crate) fn elems_at<S: SliceElems, R: Direction>(slices: &[S], place: usize) -> &[SliceInfoElem] {
+    slices[R::position(slices.len(), place)].elems()
+}
+
+/// The axis on which slices are in order, and where a slice stops there. `None` where one of them isn't known.
+///
+/// <details><summary>Contract (proved)</summary>
+///
+/// ```text
+/// requires fits: argument_fault fit shape.now slice.now ≡ None
+/// ensures IfSome result (λ (number, end). (axis ≡ Some number)
+///     × (number < length shape.now) × (end ≡ end_on fit shape.now number slice.now))
+/// ```
+/// [How to read it](crate::contracts)
+/// </details>
+#[inline]
+pub(crate) fn end_in_order(
+    shape: &[usize],
+    axis: Option<usize>,
+    slice: &[SliceInfoElem],
+    fit: Fit,
+) -> Option<(usize, usize)> {
+    let axis = axis?;
+    let (_, end) = range_on(shape, axis, slice, fit)?;
+    Some((axis, end))
+}
+
+/// Whether a slice begins on an axis where another one stops, or later. False where that isn't known.
+///
+/// <details><summary>Contract (proved)</summary>
+///
+/// ```text
+/// requires fits: argument_fault fit shape.now slice.now ≡ None
+/// ensures IsTrue result → IsSomeAnd end (λ (axis, end).
+///     (axis < length shape.now) × (end ≤ start_on fit shape.now axis slice.now))
+/// ```
+/// [How to read it](crate::contracts)
+/// </details>
+#[inline]
+pub(crate) fn begins_past(shape: &[usize], end: Option<(usize, usize)>, slice: &[SliceInfoElem], fit: Fit) -> bool {
+    let Some((axis, end)) = end else {
+        return false;
+    };
+    match range_on(shape, axis, slice, fit) {
+        Some((start, _)) => end <= start,
+        None => false,
+    }
+}
+
+/// Whether no slice begins on an axis before one that is read earlier.
+///
+/// <details><summary>Contract (proved)</summary>
+///
+/// ```text
+/// requires fit: slices_fault fit shape.now (map S.list slices.now) ≡ None
+/// ensures IsTrue result → AreInOrder fit shape.now axis (map S.list slices.now) R.backwards
+/// ```
+/// [How to read it](crate::contracts)
+/// </details>
+#[inline]
+fn are_in_order<S: SliceElems, R: Direction>(shape: &[usize], axis: usize, slices: &[S], fit: Fit) -> bool {
+    let mut last = 0;
+    for place in 0..slices.len() {
+        let Some((start, _)) = range_on(shape, axis, elems_at::<S, R>(slices, place), fit) else {
+            return false;
+        };
+        if start < last {
+            return false;
+        }
+        last = start;
+    }
+    true
+}
+
+/// The same, and the one that is read last begins where the first has ended or later: else each would be compared with each.
+///
+/// <details><summary>Contract (proved)</summary>
+///
+/// ```text
+/// requires fit: slices_fault fit shape.now (map S.list slices.now) ≡ None
+/// requires some: 0 < length slices.now
+/// ensures IsTrue result → AreInOrder fit shape.now axis (map S.list slices.now) R.backwards
+/// ```
+/// [How to read it](crate::contracts)
+/// </details>
+#[inline]
+fn can_sweep<S: SliceElems, R: Direction>(shape: &[usize], axis: usize, slices: &[S], fit: Fit) -> bool {
+    let end = end_in_order(shape, Some(axis), elems_at::<S, R>(slices, 0), fit);
+    let last = elems_at::<S, R>(slices, slices.len() - 1);
+    begins_past(shape, end, last, fit) && are_in_order::<S, R>(shape, axis, slices, fit)
+}
+
+/// The first axis along which slices are in order. `None` where there is none, and for one or two slices, which are compared
+/// as fast.
+///
+/// <details><summary>Contract (proved)</summary>
+///
+/// ```text
+/// requires fit: slices_fault fit shape.now (map S.list slices.now) ≡ None
+/// ensures IfSome result (λ axis. AreInOrder fit shape.now axis (map S.list slices.now) R.backwards)
+/// ```
+/// [How to read it](crate::contracts)
+/// </details>
+#[inline]
+pub(crate) fn axis_in_order<S: SliceElems, R: Direction>(shape: &[usize], slices: &[S], fit: Fit) -> Option<usize> {
+    if slices.len() < 3 {
+        return None;
+    }
+    for axis in 0..shape.len() {
+        if can_sweep::<S, R>(shape, axis, slices, fit) {
+            return Some(axis);
+        }
+    }
+    None
+}

@@ -1,0 +1,40 @@
+// Made by `rust/erase` of `crates/ndarray_layout/src/strided.rt`: edit that.
+//! Views of data: a shape and strides that were accepted, with the place of the first index.
+
+mod constructors;
+mod readers;
+mod places;
+mod iter_places;
+mod rows;
+mod slicing;
+mod cropping;
+mod indexing;
+mod inserting;
+mod splitting;
+mod inverting;
+mod permuting;
+mod collapsing;
+mod merging;
+mod diagonal;
+mod windows;
+mod chunks;
+mod reshaping;
+mod broadcasting;
+mod stretch;
+mod intersecting;
+mod blocks;
+mod moving;
+mod picked_size;
+
+use crate::nd_base::Lengths;
+pub use iter_places::Places;
+pub use rows::{Row, Rows};
+
+/// A view of data: a shape, a stride for each axis, and the place of the first index. The place of
+/// an index is its buffer index, its number of elements from the start of the data, from 0 to
+/// `isize::MAX`. The layout of ndarray's `ArrayView`.
+pub struct Strided<D: Lengths> {
+    pub(crate) start: usize,
+    pub(crate) dim: D,
+    pub(crate) strides: D,
+}

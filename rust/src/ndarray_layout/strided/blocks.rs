@@ -1,0 +1,224 @@
+// Made by `rust/erase` of `crates/ndarray_layout/src/strided/blocks.rt`: edit that.
+//! Blocks of a shape at steps: what windows and chunks have in common.
+
+use crate::nd_base::{ErrorKind, LayoutError, Lengths, ShapeError, from_kind, new_ix2, stride_offset, unsigned};
+use crate::nd_shape::size_of_shape_checked;
+
+/// Which blocks of a shape a view has.
+#[derive(Clone, Copy)]
+pub(crate) enum Blocks {
+    /// All of them.
+    Windows,
+    /// Those side by side from the first index on.
+    Chunks,
+}
+
+impl Blocks {
+    /// How many blocks of a length an axis has.
+    ///
+    /// <details><summary>Contract (proved)</summary>
+    ///
+    /// ```text
+    /// requires len_fits: len ≤ limit
+    /// requires some: 0 < size
+    /// ensures result ≡ block_count self len size
+    /// ```
+    /// [How to read it](crate::contracts)
+    /// </details>
+    #[inline(always)]
+    fn count(self, len: usize, size: usize) -> usize {
+        match self {
+            Blocks::Windows => (len + 1).saturating_sub(size),
+            Blocks::Chunks => len / size,
+        }
+    }
+
+    /// The stride from one block of an axis to the next.
+    ///
+    /// <details><summary>Contract (proved)</summary>
+    ///
+    /// ```text
+    /// requires len_fits: len ≤ limit
+    /// requires span_fits: reach len (signed_reading stride) ≤ limit
+    /// requires some: 0 < size
+    /// ensures signed_reading result ≡ block_stride self len size (signed_reading stride)
+    /// ```
+    /// [How to read it](crate::contracts)
+    /// </details>
+    #[inline(always)]
+    fn stride(self, len: usize, size: usize, stride: usize) -> usize {
+        match self {
+            Blocks::Windows => stride,
+            // (a chunk without a next one may be longer than its axis)
+            Blocks::Chunks if len / size < 2 => 0,
+            Blocks::Chunks => unsigned(stride_offset(size, stride)),
+        }
+    }
+}
+
+/// Whether a block has as many axes as a shape, and twice as many are those that a type fixes, if it
+/// fixes a count.
+///
+/// <details><summary>Contract (proved)</summary>
+///
+/// ```text
+/// ensures result ≡ (length block.now == length shape.now
+///     && option_map_or (λ count. count == length shape.now + length shape.now) fixed true)
+/// ```
+/// [How to read it](crate::contracts)
+/// </details>
+#[inline(always)]
+fn has_counts(fixed: Option<usize>, shape: &[usize], block: &[usize]) -> bool {
+    block.len() == shape.len() && !matches!(fixed, Some(ndim) if ndim != 2 * shape.len())
+}
+
+/// Checks that blocks of so many indices each have at most the greatest `isize` of indices together,
+/// where an axis without a block counts as one with one. Errors: `Overflow`.
+///
+/// <details><summary>Contract (proved)</summary>
+///
+/// ```text
+/// requires lens_fit: (k : ℕ) → slice_index shape.now k ≤ limit
+/// requires some: is_empty block.now ≡ false
+/// requires counts: length block.now ≡ length shape.now
+/// requires size_fits: size ≤ limit
+/// requires has_index: 0 < size
+/// ensures result_err result ≡
+///     (if nat_lt limit (nonzero_size (block_counts blocks shape.now block.now) * size)
+///     then Some Overflow else None)
+/// ```
+/// [How to read it](crate::contracts)
+/// </details>
+#[inline(always)]
+fn check_total(blocks: Blocks, shape: &[usize], block: &[usize], size: usize) -> Result<(), ShapeError> {
+    let mut total = size;
+    for axis in 0..shape.len() {
+        let count = blocks.count(shape[axis], block[axis]);
+        if count != 0 {
+            let product = size_of_shape_checked(&new_ix2(total, count))?;
+            total = product;
+        }
+    }
+    Ok(())
+}
+
+/// Checks that the blocks of a shape make a shape of a type that may fix a count of axes. Errors: those of
+/// `Strided::windows`, but out of memory.
+///
+/// # Conditions
+///
+/// The caller ensures that each length is at most the greatest `isize`. Otherwise the call panics or returns
+/// unspecified values.
+///
+/// <details><summary>Contract (proved)</summary>
+///
+/// ```text
+/// requires lens_fit: (k : ℕ) → slice_index shape.now k ≤ limit
+/// ensures result_err result ≡ blocks_fault fixed shape.now
+///     (block_counts blocks shape.now (D.list block.now)) (D.list block.now)
+/// ```
+/// [How to read it](crate::contracts)
+/// </details>
+#[inline(always)]
+fn check_blocks<D: Lengths>(
+    blocks: Blocks,
+    fixed: Option<usize>,
+    shape: &[usize],
+    block: &D,
+) -> Result<(), ShapeError> {
+    let lens = block.slice();
+    if !has_counts(fixed, shape, lens) {
+        return Err(from_kind(ErrorKind::IncompatibleShape));
+    }
+    if lens.contains(&0) {
+        return Err(from_kind(ErrorKind::Unsupported));
+    }
+    let size = size_of_shape_checked(block)?;
+    check_total(blocks, shape, lens, size)
+}
+
+/// Writes how many blocks there are along each axis, and then the lengths of a block.
+///
+/// <details><summary>Contract (proved)</summary>
+///
+/// ```text
+/// requires lens_fit: (k : ℕ) → slice_index shape.now k ≤ limit
+/// requires some: is_empty block.now ≡ false
+/// requires counts: length block.now ≡ length shape.now
+/// requires room: length new_shape.old ≡ length shape.now + length shape.now
+/// ensures new_shape.new ≡ block_counts blocks shape.now block.now ++ block.now
+/// ```
+/// [How to read it](crate::contracts)
+/// </details>
+#[inline(always)]
+fn write_lengths(blocks: Blocks, shape: &[usize], block: &[usize], new_shape: &mut [usize]) {
+    for axis in 0..shape.len() {
+        new_shape[axis] = blocks.count(shape[axis], block[axis]);
+    }
+    new_shape[shape.len()..].copy_from_slice(block);
+}
+
+/// Writes the strides from one block of each axis to the next, and then those in a block.
+///
+/// <details><summary>Contract (proved)</summary>
+///
+/// ```text
+/// requires valid: IsValidLayout shape.now (all_signed strides.now)
+/// requires some: is_empty block.now ≡ false
+/// requires counts: length block.now ≡ length shape.now
+/// requires room: length new_strides.old ≡ length shape.now + length shape.now
+/// ensures all_signed new_strides.new ≡
+///     block_strides blocks shape.now block.now (all_signed strides.now)
+///     ++ all_signed strides.now
+/// ```
+/// [How to read it](crate::contracts)
+/// </details>
+#[inline(always)]
+fn write_strides(blocks: Blocks, shape: &[usize], strides: &[usize], block: &[usize], new_strides: &mut [usize]) {
+    for axis in 0..shape.len() {
+        new_strides[axis] = blocks.stride(shape[axis], block[axis], strides[axis]);
+    }
+    new_strides[shape.len()..].copy_from_slice(strides);
+}
+
+/// The lengths and the strides of the view of all indices of all blocks of a shape. Errors: those of
+/// `Strided::windows`.
+///
+/// # Conditions
+///
+/// The caller ensures that the layout is valid. Otherwise the call panics or returns unspecified values.
+///
+/// <details><summary>Contract (proved)</summary>
+///
+/// ```text
+/// requires IsValidLayout shape.now (all_signed strides.now)
+/// ensures fault: shape_fault result ≡ blocks_fault E.NDIM shape.now
+///     (block_counts blocks shape.now (D.list block.now)) (D.list block.now)
+/// ensures memory: shape_fault result ≡ None → NeedsNoMemory E.NDIM (length shape.now + length shape.now) → IsOk result
+/// ensures shape: IfOk result (λ (dim, kept). E.list dim ≡
+///     block_counts blocks shape.now (D.list block.now) ++ D.list block.now)
+/// ensures strides: IfOk result (λ (dim, kept). all_signed (E.list kept) ≡
+///     strides_of_blocks
+///     (block_counts blocks shape.now (D.list block.now) ++ D.list block.now)
+///     (block_strides blocks shape.now (D.list block.now) (all_signed strides.now)
+///     ++ all_signed strides.now))
+/// ```
+/// [How to read it](crate::contracts)
+/// </details>
+#[inline(always)]
+pub(crate) fn block_axes<D: Lengths, E: Lengths>(
+    blocks: Blocks,
+    shape: &[usize],
+    strides: &[usize],
+    block: &D,
+) -> Result<(E, E), LayoutError> {
+    check_blocks(blocks, E::NDIM, shape, block)?;
+    let ndim = 2 * shape.len();
+    let mut dim = E::zeros(ndim)?;
+    let mut kept = E::zeros(ndim)?;
+    write_lengths(blocks, shape, block.slice(), dim.slice_mut());
+    if !dim.slice().contains(&0) {
+        write_strides(blocks, shape, strides, block.slice(), kept.slice_mut());
+    }
+    Ok((dim, kept))
+}

@@ -1,0 +1,316 @@
+// Made by `rust/erase` of `crates/ndarray_layout/src/strided/rows.rt`: edit that.
+//! The rows of a view one after another, without a list of them.
+
+use crate::nd_base::{Lengths, Order, signed, stride_offset};
+use crate::nd_dim::product;
+use crate::ndarray_layout::strided::Strided;
+use crate::ndarray_layout::strided::places::offset_place;
+use core::iter::FusedIterator;
+
+/// A row of a view: places that lie evenly. Its place `i` is `start + i * stride`, for each `i` below `len`.
+#[derive(Clone, Copy, Debug)]
+pub struct Row {
+    /// The first place.
+    pub start: usize,
+    /// From one place to the next, in elements: an `isize`, as the strides of ndarray's `strides` and `axes` are.
+    pub stride: isize,
+    /// How many places it has.
+    pub len: usize,
+}
+
+/// An axis of a layout, and the axes that move slower.
+pub(crate) struct Fastest<'a> {
+    pub(crate) len: usize,
+    pub(crate) stride: usize,
+    pub(crate) lens: &'a [usize],
+    pub(crate) strides: &'a [usize],
+}
+
+/// The axis that moves fastest; `None` without axes.
+///
+/// # Conditions
+///
+/// The caller ensures that each axis has a stride. Otherwise the call panics or returns unspecified values.
+///
+/// <details><summary>Contract (proved)</summary>
+///
+/// ```text
+/// requires length lens.now ≡ length strides.now
+/// ensures MatchOption result (lens.now ≡ []) (λ axis.
+///     EndsIn order lens.now axis.lens.now axis.len
+///     × EndsIn order strides.now axis.strides.now axis.stride)
+/// ```
+/// [How to read it](crate::contracts)
+/// </details>
+#[inline]
+fn split_fastest<'a>(order: Order, lens: &'a [usize], strides: &'a [usize]) -> Option<Fastest<'a>> {
+    let ((len, lens), (stride, strides)) = match order {
+        Order::RowMajor => (lens.split_last()?, strides.split_last()?),
+        Order::ColumnMajor => (lens.split_first()?, strides.split_first()?),
+    };
+    Some(Fastest { len: *len, stride: *stride, lens, strides })
+}
+
+/// The axis that moves fastest, or one of length 1 where there is no axis: the rows along it are those of the view.
+///
+/// <details><summary>Contract (proved)</summary>
+///
+/// ```text
+/// requires length lens.now ≡ length strides.now
+/// ensures HasRows order lens.now strides.now result
+/// ```
+/// [How to read it](crate::contracts)
+/// </details>
+#[inline]
+fn fastest_axis<'a>(order: Order, lens: &'a [usize], strides: &'a [usize]) -> Fastest<'a> {
+    match split_fastest(order, lens, strides) {
+        Some(axis) => axis,
+        None => Fastest { len: 1, stride: 0, lens, strides },
+    }
+}
+
+/// The axis that moves fastest of those with another length than 1, or one of length 1 where there is none: the axes
+/// that are left out move no place.
+///
+/// <details><summary>Contract (proved)</summary>
+///
+/// ```text
+/// requires length lens.now ≡ length strides.now
+/// ensures HasPlaces order lens.now strides.now result
+/// ```
+/// [How to read it](crate::contracts)
+/// </details>
+#[inline]
+fn longer_axis<'a>(order: Order, lens: &'a [usize], strides: &'a [usize]) -> Fastest<'a> {
+    let (mut lens, mut strides) = (lens, strides);
+    'axes: while let Some(axis) = split_fastest(order, lens, strides) {
+        if axis.len != 1 {
+            return axis;
+        }
+        (lens, strides) = (axis.lens, axis.strides);
+    }
+    Fastest { len: 1, stride: 0, lens, strides }
+}
+
+/// How many columns there are: one for each index of the axes that move slower than a column. None where rows, which
+/// have this length, have no place, or where a column has no row.
+///
+/// <details><summary>Contract (proved)</summary>
+///
+/// ```text
+/// requires size column.now.lens.now < 2 ^ 64
+/// ensures result ≡ (if len == 0 || column.now.len == 0 then 0 else size column.now.lens.now)
+/// ```
+/// [How to read it](crate::contracts)
+/// </details>
+#[inline]
+fn count_of_columns(len: usize, column: &Fastest<'_>) -> usize {
+    if len == 0 || column.len == 0 {
+        return 0;
+    }
+    product(column.lens)
+}
+
+/// How far the index at a flat index lies from the one before it: a stride along the fastest axis that was not at its
+/// end, less what the axes that move faster had gone. It stays a call, which takes numbers and slices alone, so that a
+/// loop over rows keeps the iterator in registers.
+///
+/// <details><summary>Contract (proved)</summary>
+///
+/// ```text
+/// requires valid: IsValidLayout lens.now (all_signed strides.now)
+/// requires some: 0 < flat_index
+/// requires index: flat_index < size lens.now
+/// ensures offset_of (all_signed strides.now) (index_of_flat_in order lens.now (flat_index - 1)) +ℤ result
+///     ≡ offset_of (all_signed strides.now) (index_of_flat_in order lens.now flat_index)
+/// ```
+/// [How to read it](crate::contracts)
+/// </details>
+#[inline(never)]
+fn offset_from_previous(order: Order, lens: &[usize], strides: &[usize], flat_index: usize) -> isize {
+    let (mut lens, mut strides) = (lens, strides);
+    let (mut offset, mut left) = (0isize, flat_index);
+    'axes: while let Some(axis) = split_fastest(order, lens, strides) {
+        if axis.len > 1 {
+            if left % axis.len > 0 {
+                return offset + signed(axis.stride);
+            }
+            offset -= stride_offset(axis.len - 1, axis.stride);
+            left /= axis.len;
+        }
+        (lens, strides) = (axis.lens, axis.strides);
+    }
+    offset
+}
+
+/// Where the first row of a column begins: the one of this number. The last row before it begins at the place `last`.
+///
+/// <details><summary>Contract (proved)</summary>
+///
+/// ```text
+/// requires column: IsColumn order start column.now number
+/// requires last: 0 < number → pos last ≡ row_place order start column.now (number * column.now.len - 1)
+/// ensures pos result ≡ row_place order start column.now (number * column.now.len)
+/// ```
+/// [How to read it](crate::contracts)
+/// </details>
+#[inline(always)]
+fn first_of_column(order: Order, start: usize, column: &Fastest<'_>, number: usize, last: usize) -> usize {
+    if number == 0 {
+        return start;
+    }
+    let offset = offset_from_previous(order, column.lens, column.strides, number);
+    offset_place(last, offset - stride_offset(column.len - 1, column.stride))
+}
+
+/// The rows of a view that are still to come, in an order.
+pub struct Rows<'a> {
+    pub(crate) order: Order,
+    // The row that came last.
+    pub(crate) row: Row,
+    // Of the axes that move slower than the rows, the fastest: rows that follow one another along it are a column. How
+    // many are left of the column of the last row, how many columns have begun, and how many are left.
+    pub(crate) column: Fastest<'a>,
+    pub(crate) left_in_column: usize,
+    pub(crate) columns: usize,
+    pub(crate) columns_left: usize,
+    // The place of the first row.
+    pub(crate) start: usize,
+}
+
+impl<'a> Rows<'a> {
+    /// The rows along the fastest axis of a view, from each place of its other axes.
+    ///
+    /// <details><summary>Contract (proved)</summary>
+    ///
+    /// ```text
+    /// requires IsView (axis_view order start axis)
+    /// ensures result ≡ view_rows order (axis_view order start axis.entry)
+    /// ```
+    /// [How to read it](crate::contracts)
+    /// </details>
+    #[inline]
+    fn along(order: Order, start: usize, axis: Fastest<'a>) -> Self {
+        let column = longer_axis(order, axis.lens, axis.strides);
+        let columns_left = count_of_columns(axis.len, &column);
+        Rows {
+            order,
+            row: Row { start, stride: signed(axis.stride), len: axis.len },
+            column,
+            left_in_column: 0,
+            columns: 0,
+            columns_left,
+            start,
+        }
+    }
+
+    /// The rows of a view.
+    ///
+    /// <details><summary>Contract (proved)</summary>
+    ///
+    /// ```text
+    /// requires IsView (view_of start lens.now strides.now)
+    /// ensures result ≡ view_rows order (view_of start lens.now strides.now)
+    /// ```
+    /// [How to read it](crate::contracts)
+    /// </details>
+    #[inline]
+    fn new(order: Order, start: usize, lens: &'a [usize], strides: &'a [usize]) -> Self {
+        Rows::along(order, start, fastest_axis(order, lens, strides))
+    }
+
+    /// The places of a view as rows along an axis of length greater than 1, where it has one.
+    ///
+    /// <details><summary>Contract (proved)</summary>
+    ///
+    /// ```text
+    /// requires IsView (view_of start lens.now strides.now)
+    /// ensures places: rows_places result ≡ view_places order (view_of start lens.now strides.now)
+    /// ensures some: All (λ row. 0 < row.len) result
+    /// ```
+    /// [How to read it](crate::contracts)
+    /// </details>
+    #[inline]
+    pub(super) fn of_places(order: Order, start: usize, lens: &'a [usize], strides: &'a [usize]) -> Self {
+        Rows::along(order, start, longer_axis(order, lens, strides))
+    }
+
+    /// How many places the rows have that are left.
+    ///
+    /// <details><summary>Contract (proved)</summary>
+    ///
+    /// ```text
+    /// ensures result ≡ length (rows_places self.now)
+    /// ```
+    /// [How to read it](crate::contracts)
+    /// </details>
+    #[inline]
+    pub(super) fn count_of_places(&self) -> usize {
+        self.len() * self.row.len
+    }
+}
+
+impl Iterator for Rows<'_> {
+    type Item = Row;
+
+    #[inline(always)]
+    fn next(&mut self) -> Option<Row> {
+        if self.left_in_column > 0 {
+            self.left_in_column -= 1;
+            self.row.start = offset_place(self.row.start, signed(self.column.stride));
+            return Some(self.row);
+        }
+        if self.columns_left == 0 {
+            return None;
+        }
+        self.row.start = first_of_column(self.order, self.start, &self.column, self.columns, self.row.start);
+        self.left_in_column = self.column.len - 1;
+        self.columns += 1;
+        self.columns_left -= 1;
+        Some(self.row)
+    }
+
+    #[inline]
+    fn size_hint(&self) -> (usize, Option<usize>) {
+        let left = self.len();
+        (left, Some(left))
+    }
+}
+
+impl ExactSizeIterator for Rows<'_> {
+    #[inline]
+    fn len(&self) -> usize {
+        self.columns_left * self.column.len + self.left_in_column
+    }
+}
+
+impl FusedIterator for Rows<'_> {}
+
+impl<D: Lengths> Strided<D> {
+    /// An iterator over the rows of the view, which knows how many are left: for each index of the other axes the
+    /// places along the axis that moves fastest, the last one in row-major order, the first one in column-major order.
+    ///
+    /// The rows come in that order, so their places one after another are those of `iter_places`. A view without axes
+    /// has one row, of one place; a view without indices has none.
+    ///
+    /// Takes no memory. A row costs an addition. Past the end of the second axis it costs a division for the third one
+    /// as well, and for the axis after each one that is at its end too. An axis of length 1 costs none.
+    ///
+    /// `[2,3]` with strides `[-3,1]` from 3: in row-major order 3 places from 3 and 3 places from 0, by the stride 1;
+    /// in column-major order 2 places from 3, from 4 and from 5, by -3. ndarray's `rows`, of places.
+    ///
+    /// <details><summary>Contract (proved)</summary>
+    ///
+    /// ```text
+    /// ensures items: result ≡ view_rows order self.now
+    /// ensures in_order: YieldsInOrder (YieldsFirst (λ (left : List Row). left)) (λ left. left)
+    /// ensures is_view: IsView self.now
+    /// ```
+    /// [How to read it](crate::contracts)
+    /// </details>
+    #[inline]
+    #[must_use]
+    pub fn rows(&self, order: Order) -> Rows<'_> {
+        Rows::new(order, self.start, self.dim.slice(), self.strides.slice())
+    }
+}

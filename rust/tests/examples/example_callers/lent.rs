@@ -1,0 +1,85 @@
+// Made by `rust/erase` of `crates/example_callers/src/lent.rt`: edit that.
+//! Pixels that are kept elsewhere, read and written as a picture.
+
+use ::ndarray_layout::memory::AllocError;
+use ::ndarray_layout::nd_owned::{ArrayViewMut, OwnedArray};
+use ::ndarray_layout::{CanIndexCheckMode, Ix2, LayoutError, Lengths, StrideShape, Strided};
+
+/// Paints each pixel of a picture, whose pixels lie in a list by the strides of its shape. The list's other pixels are
+/// unchanged. Errors: those of `Strided::from_shape`; then all pixels are unchanged.
+///
+/// <details><summary>Contract (proved)</summary>
+///
+/// ```text
+/// ensures painted: OnOk result (
+///     let lens = D.list shape.dim in
+///     let strides = strides_list D.list lens shape.strides in
+///     let view = view_of (low_span lens (all_signed strides)) lens strides in
+///     HasItemsOf (λ index. Some pixel)
+///     (record { items = pixels.old; view = view })
+///     (record { items = pixels.new; view = view }))
+/// ensures unchanged: OnErr result (pixels.new ≡ pixels.old)
+/// ```
+/// [How to read it](ndarray_layout::contracts)
+/// </details>
+pub fn paint<D: Lengths>(pixels: &mut [u8], shape: StrideShape<D>, pixel: u8) -> Result<(), LayoutError> {
+    let mode = CanIndexCheckMode::OwnedMutable;
+    let view = Strided::from_shape(shape, 1, pixels.len(), mode)?;
+    let mut picture = ArrayViewMut::new(view, pixels);
+    picture.fill(pixel);
+    Ok(())
+}
+
+/// Paints each pixel of a view over pixels.
+///
+/// <details><summary>Contract (proved)</summary>
+///
+/// ```text
+/// requires IsOwned (length pixels.old) view
+/// ensures HasItemsOf (λ index. Some pixel)
+///     (record { items = pixels.old; view = view })
+///     (record { items = pixels.new; view = view })
+/// ```
+/// [How to read it](ndarray_layout::contracts)
+/// </details>
+fn paint_view(view: Strided<Ix2>, pixels: &mut [u8], pixel: u8) {
+    let mut picture = ArrayViewMut::new(view, pixels);
+    picture.fill(pixel);
+}
+
+/// Paints each pixel of a picture that owns its pixels; spare ones are unchanged. Errors: out of memory, for a copy of its view.
+///
+/// <details><summary>Contract (proved)</summary>
+///
+/// ```text
+/// ensures OnOk result (HasItemsOf (λ index. Some pixel) picture.old picture.new)
+/// ```
+/// [How to read it](ndarray_layout::contracts)
+/// </details>
+pub fn paint_owned(picture: &mut OwnedArray<u8, Ix2>, pixel: u8) -> Result<(), AllocError> {
+    let view = picture.view().duplicate()?;
+    paint_view(view, picture.stored_mut(), pixel);
+    Ok(())
+}
+
+/// Makes each pixel of a picture brighter by 1. The picture's other pixels are unchanged.
+///
+/// # Conditions
+///
+/// The caller ensures that none is the brightest one. Otherwise the call panics or returns unspecified values.
+///
+/// <details><summary>Contract (proved)</summary>
+///
+/// ```text
+/// requires All (λ item. IfSome item (λ pixel. pixel < 255)) (row_major_items (array_of picture.old))
+/// ensures HasItemsOf
+///     (λ index. option_map (λ pixel. pixel + 1) (item_at (array_of picture.old) index))
+///     (array_of picture.old) (array_of picture.new)
+/// ```
+/// [How to read it](ndarray_layout::contracts)
+/// </details>
+pub fn brighten<D: Lengths>(picture: &mut ArrayViewMut<'_, u8, D>) {
+    picture.map_in_place(|pixel: &mut u8| {
+        *pixel += 1;
+    });
+}

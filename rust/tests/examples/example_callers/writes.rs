@@ -1,0 +1,68 @@
+// Made by `rust/erase` of `crates/example_callers/src/writes.rt`: edit that.
+//! Writes several parts of an owned array at once, all of them or none.
+
+use ::ndarray_layout::memory::AllocError;
+use ::ndarray_layout::memory::prelude::Vec;
+use ::ndarray_layout::nd_owned::OwnedArray;
+use ::ndarray_layout::{LayoutError, Lengths, SliceInfoElem};
+
+/// Writes pixels at several parts of a picture, and returns whether it did. It doesn't where a part doesn't fit, where its
+/// count of pixels isn't the given one, or where two parts share an index. Then the picture is unchanged.
+///
+/// Errors: out of memory; never where no part has a pixel, or where nothing is written. The picture is unchanged.
+///
+/// <details><summary>Contract (proved)</summary>
+///
+/// ```text
+/// ensures fits: IfOk result (λ done. IsTrue done →
+///     IsFaultOfWrites picture.old.view.shape (map write_of parts.now) None)
+/// ensures fault: IfOk result (λ done. done ≡ false →
+///     (kind : ErrorKind) × IsFaultOfWrites picture.old.view.shape (map write_of parts.now)
+///     (Some kind))
+/// ensures written: IfOk result (λ done. IsTrue done →
+///     All (IsWritten picture.old.view picture.new.items) (map write_of parts.now))
+/// ensures kept: IfOk result (λ done. IsTrue done →
+///     KeepsOthers picture.old.view (map write_of parts.now) picture.old.items picture.new.items)
+/// ensures failed: IfOk result (λ done. done ≡ false → picture.new ≡ picture.old)
+/// ensures view: picture.new.view ≡ picture.old.view
+/// ensures no_memory: OnErr result (picture.new ≡ picture.old)
+/// ensures asked: OnErr result (IsFaultOfWrites picture.old.view.shape (map write_of parts.now) None)
+/// ensures memory: HaveNoItems (map write_of parts.now) → IsOk result
+/// ```
+/// [How to read it](ndarray_layout::contracts)
+/// </details>
+pub fn write_parts<D: Lengths>(
+    picture: &mut OwnedArray<u8, D>,
+    parts: &[(Vec<SliceInfoElem>, Vec<u8>)],
+) -> Result<bool, AllocError> {
+    match picture.multi_set(parts) {
+        Ok(()) => Ok(true),
+        Err(LayoutError::Shape(_)) => Ok(false),
+        Err(LayoutError::Memory(failed)) => Err(failed),
+    }
+}
+
+/// The pixels of a picture, as they are stored, after two parts of it were written. The picture comes back unchanged with the
+/// error of a part that doesn't fit, of a count of pixels, of two parts that share an index, or of memory.
+///
+/// <details><summary>Contract (proved)</summary>
+///
+/// ```text
+/// ensures fault: IsFaultOfWrites picture.view.shape (map write_of parts.now) (shape_fault_of result)
+/// ensures written: IfOk result (λ pixels. All (IsWritten picture.view pixels.items) (map write_of parts.now))
+/// ensures kept: IfOk result (λ pixels. KeepsOthers picture.view (map write_of parts.now) picture.items pixels.items)
+/// ensures count: IfOk result (λ pixels. length pixels.items ≡ length picture.items)
+/// ensures handed_back: IfErr result (λ error. error.1 ≡ picture)
+/// ```
+/// [How to read it](ndarray_layout::contracts)
+/// </details>
+pub fn with_two_parts<D: Lengths>(
+    picture: OwnedArray<u8, D>,
+    parts: &[(Vec<SliceInfoElem>, Vec<u8>); 2],
+) -> Result<Vec<u8>, (LayoutError, OwnedArray<u8, D>)> {
+    let mut picture = picture;
+    match picture.multi_set(parts) {
+        Ok(()) => Ok(picture.into_stored()),
+        Err(fault) => Err((fault, picture)),
+    }
+}

@@ -1,0 +1,62 @@
+// Made by `rust/erase` of `crates/nd_shape_tests/src/lib.rt`: edit that.
+//! Tests of `nd_base`, `nd_dim` and `nd_shape`, by their public calls. They stand in one crate, since a crate of tests
+//! costs the check some 20 seconds before its first test.
+//!
+//! A row is a call, what it takes as lists, and its answer: `calls` reads it, and `rows` has the worked rows. Further
+//! rows, at each dimension type, are in `rust/tests/rows/shapes`, where nothing is proved of a test.
+
+#![allow(unused_imports, unused_variables, reason = "a name that only clauses use")]
+#![allow(unused_labels, reason = "proofs name a loop by its label")]
+#![allow(
+    clippy::explicit_auto_deref,
+    clippy::manual_find,
+    clippy::manual_map,
+    clippy::needless_range_loop,
+    clippy::non_canonical_clone_impl,
+    clippy::while_let_on_iterator,
+    reason = "a form that is proved with less"
+)]
+#![allow(clippy::unused_unit, reason = "what the kit has no form for")]
+#![allow(clippy::len_without_is_empty, reason = "a sequence is never asked whether it is empty")]
+#![allow(dead_code, reason = "what one test or program calls, and not each")]
+#![allow(clippy::incompatible_msrv, reason = "what the package's least rustc hasn't: programs and tests aren't packed")]
+#![allow(
+    clippy::collapsible_if,
+    clippy::needless_lifetimes,
+    clippy::question_mark,
+    clippy::redundant_pattern_matching,
+    clippy::type_complexity,
+    reason = "a form that is proved with less"
+)]
+#![allow(
+    clippy::comparison_to_empty,
+    clippy::partialeq_to_none,
+    clippy::unwrap_or_default,
+    reason = "what the kit has no form for"
+)]
+#![allow(
+    clippy::len_zero,
+    clippy::reversed_empty_ranges,
+    clippy::unit_cmp,
+    mismatched_lifetime_syntaxes,
+    reason = "what a test is about"
+)]
+
+#[cfg(test)]
+mod calls;
+#[cfg(test)]
+mod dims;
+#[cfg(test)]
+mod iterators;
+#[cfg(test)]
+mod layouts;
+#[cfg(test)]
+mod own_strides;
+#[cfg(test)]
+mod rows;
+#[cfg(test)]
+mod small_layouts;
+#[cfg(test)]
+mod texts;
+#[cfg(test)]
+mod values;

@@ -1,0 +1,59 @@
+// Made by `rust/erase` of `crates/ndarray_layout_tests/src/calls.rt`: edit that.
+//! The calls of rows, by their names.
+
+use crate::ndarray_layout_tests::arrays::{OfArray, array_holds};
+use crate::ndarray_layout_tests::reshapes::reshape_holds;
+use crate::ndarray_layout_tests::runs::run_holds;
+use crate::ndarray_layout_tests::views::{OfView, view_holds};
+use crate::test_tables::{Asked, Row, first_failing, meaning};
+use ::ndarray_layout::Order;
+use Call::{Array, Reshape, Run, View};
+use Order::{ColumnMajor, RowMajor};
+
+/// A call. A view is told by its shape, its strides, its start, and its places by rows.
+#[derive(Clone, Copy)]
+enum Call {
+    /// `TYPE ..`: of a view.
+    View(OfView),
+    /// A run of steps.
+    Run,
+    /// `SHAPE STRIDES SHAPE => STRIDES`, or the fault.
+    Reshape(Order),
+    /// `TYPE SHAPE C|F|STRIDES COUNT ..`: of an array of the items 0 and so on, with the items that it then has.
+    Array(OfArray),
+}
+
+static CALLS: [(&str, Call); 10] = [
+    ("new", View(OfView::New)),
+    ("from_shape", View(OfView::FromShape)),
+    ("slice_in_order", View(OfView::SliceInOrder)),
+    ("run", Run),
+    ("reshape_dim_C", Reshape(RowMajor)),
+    ("reshape_dim_F", Reshape(ColumnMajor)),
+    ("from_shape_vec", Array(OfArray::FromShapeVec)),
+    ("items", Array(OfArray::Items)),
+    ("set", Array(OfArray::Set)),
+    ("multi_set", Array(OfArray::MultiSet)),
+];
+
+/// Rows of calls.
+struct Calls;
+
+impl Asked for Calls {
+    fn holds(&self, row: &Row<'_>) -> Option<bool> {
+        let reading = &mut row.reading();
+        match meaning(&CALLS, row.call)? {
+            View(asked) => view_holds(reading, asked),
+            Run => run_holds(reading),
+            Reshape(order) => reshape_holds(reading, order),
+            Array(asked) => array_holds(reading, asked),
+        }
+    }
+}
+
+/// All rows of a table hold, and there is one at least. The first that doesn't is named.
+pub(crate) fn hold(table: &str) {
+    if let Some(line) = first_failing(table, &Calls) {
+        panic!("{line}");
+    }
+}
