@@ -167,7 +167,7 @@ impl<T, D: Lengths, I: NdIndex<D>> Index<I> for LentPart<'_, T, D> {
     fn index(&self, index: I) -> &T {
         match self.placement.of(&index) {
             Some((row, column)) => &self.rows[row][column],
-            None => no_such_index(&index, self.dim()),
+            None => no_such_index(index, self.dim()),
         }
     }
 }
@@ -183,7 +183,7 @@ impl<T, D: Lengths, I: NdIndex<D>> IndexMut<I> for LentPart<'_, T, D> {
     fn index_mut(&mut self, index: I) -> &mut T {
         match self.placement.of(&index) {
             Some((row, column)) => &mut self.rows[row][column],
-            None => no_such_index(&index, self.dim()),
+            None => no_such_index(index, self.dim()),
         }
     }
 }
@@ -224,9 +224,9 @@ impl<'a, T, D: Lengths> ArrayViewMut<'a, T, D> {
     pub fn into_part(self) -> Result<LentPart<'a, T, D>, LayoutError> {
         let (view, items) = into_parts(self);
         let mut plan = Plan::with_room(1)?;
-        let placement = plan.add(view)?;
-        let rows = plan.cut(items)?.pop().unwrap_or_default();
-        Ok(LentPart { rows, placement })
+        let mut part = plan.part(view)?;
+        plan.cut(items, |_, number, row| part.put(number, row))?;
+        Ok(part)
     }
 
     /// The parts that slices pick, all lent at once: for a tuple of slices a tuple of parts, for an array or a list of slices of

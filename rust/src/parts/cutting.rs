@@ -1,20 +1,13 @@
 //! The rows of parts, cut from the items.
 
-use super::Placement;
 use super::runs::{Run, each_by_heap, each_in_turn, take_turns};
+use super::{LentPart, Placement};
 use crate::memory::{AllocError, FallibleVec};
 use crate::nd_base::{ErrorKind, LayoutError, Lengths, Order, from_kind, signed};
 use crate::nd_dim::product;
 use crate::ndarray_layout::Strided;
 use alloc::vec::Vec;
 use core::mem::{replace, take};
-
-/// How many rows a part has, how many items each, and whether each row lies above the one before.
-struct Rows {
-    count: usize,
-    width: usize,
-    ascend: bool,
-}
 
 /// Items from a place on that no row has taken yet.
 struct Left<'a, T> {
@@ -44,85 +37,74 @@ fn cut_last_axis<D: Lengths>(firsts: &mut Strided<D>) -> (usize, isize) {
     }
 }
 
-/// The rows of the parts that are to be lent.
+/// The rows of the parts that are to be lent, and how many parts there are.
 pub(super) struct Plan {
     runs: Vec<Run>,
-    parts: Vec<Rows>,
+    parts: usize,
 }
 
 impl Plan {
-    /// No rows, with room for so many parts.
+    /// No part, with room for so many.
     pub(super) fn with_room(count: usize) -> Result<Self, AllocError> {
-        Ok(Plan { runs: Vec::fallible_with_capacity(count)?, parts: Vec::fallible_with_capacity(count)? })
+        Ok(Plan { runs: Vec::fallible_with_capacity(count)?, parts: 0 })
     }
 
-    /// Adds the rows of a view of the items, in which no two indices alias.
-    pub(super) fn add<D: Lengths>(&mut self, view: Strided<D>) -> Result<Placement<D>, AllocError> {
+    /// Adds a view of the items, in which no two indices alias, as a part that has room for its rows: those that don't come one
+    /// after another are slices of no item until they are cut.
+    pub(super) fn part<'a, T, D: Lengths>(&mut self, view: Strided<D>) -> Result<LentPart<'a, T, D>, AllocError> {
         let placement = Placement::of_view(&view)?;
         let mut firsts = view;
         placement.cut_rows(&mut firsts);
         let count = product(firsts.dim.slice());
+        let ascends = self.add_runs(firsts, placement.width())?;
+        let mut rows: Vec<&'a mut [T]> = Vec::fallible_with_capacity(count)?;
+        if !ascends {
+            rows.resize_with(count, Default::default);
+        }
+        self.parts += 1;
+        Ok(LentPart { rows, placement })
+    }
+
+    /// Adds the runs of the next part, by the view of the first items of its rows. Returns whether each row lies above the one
+    /// before.
+    fn add_runs<D: Lengths>(&mut self, mut firsts: Strided<D>, width: usize) -> Result<bool, AllocError> {
         let (len, stride) = cut_last_axis(&mut firsts);
-        let runs = product(firsts.dim.slice());
-        self.runs.try_reserve(runs)?;
-        let rows = Rows { count, width: placement.width(), ascend: stride >= 0 };
-        self.parts.fallible_push(rows)?;
-        if runs == 1 {
-            self.add_run(firsts.start, len, stride, 0);
+        let (part, old, count) = (self.parts, self.runs.len(), product(firsts.dim.slice()));
+        self.runs.try_reserve(count)?;
+        let mut add =
+            |number: usize, first: usize| self.runs.push_reserved(Run::new(part, width, first, stride, len, number));
+        if count == 1 {
+            add(0, firsts.start);
         } else {
-            let places = firsts.iter_places(Order::RowMajor);
-            places.enumerate().for_each(|(number, first)| self.add_run(first, len, stride, number * len));
+            firsts.iter_places(Order::RowMajor).enumerate().for_each(|(number, first)| add(number, first));
         }
-        Ok(placement)
+        Ok(stride >= 0 && self.runs[old..].windows(2).all(|pair| pair[0].last() < pair[1].start))
     }
 
-    /// Adds a run to the last part: the place of the row at the first coordinate, how many rows there are, how far it is from each
-    /// to the next, and the number of the first one.
-    #[inline]
-    fn add_run(&mut self, first: usize, len: usize, stride: isize, row: usize) {
-        let (step, ascends, part) = (stride.unsigned_abs(), stride >= 0, self.parts.len() - 1);
-        let reach = step * (len - 1);
-        let (start, row) = if ascends { (first, row) } else { (first - reach, row + len - 1) };
-        if let (Some(rows), Some(last)) = (self.parts.last_mut(), self.runs.last()) {
-            rows.ascend &= last.part < part || last.last() < start;
-        }
-        let (width, row_step) = (self.parts[part].width, if ascends { 1 } else { -1 });
-        self.runs.push_reserved(Run { start, step, left: len, part, row, row_step, width });
-    }
-
-    /// For each part a list with room for its rows, with slices of no item for rows that don't come one after another.
-    fn room<'a, T>(&self) -> Result<Vec<Vec<&'a mut [T]>>, AllocError> {
-        let mut lent = Vec::fallible_with_capacity(self.parts.len())?;
-        for part in &self.parts {
-            let mut rows: Vec<&'a mut [T]> = Vec::fallible_with_capacity(part.count)?;
-            if !part.ascend {
-                rows.resize_with(part.count, Default::default);
-            }
-            lent.push(rows);
-        }
-        Ok(lent)
-    }
-
-    /// The rows of each part, cut from the lowest on. Errors: `Unsupported` where two have an item in common; then out of memory,
-    /// which may come before.
-    pub(super) fn cut<T>(mut self, items: &mut [T]) -> Result<Vec<Vec<&mut [T]>>, LayoutError> {
+    /// Cuts the rows of the parts, from the lowest on, and calls a function with the number of the part and the row of each.
+    /// Errors: `Unsupported` where two rows have an item in common; then out of memory, which may come before.
+    pub(super) fn cut<'a, T>(
+        mut self,
+        items: &'a mut [T],
+        mut put: impl FnMut(usize, usize, &'a mut [T]),
+    ) -> Result<(), LayoutError> {
         self.runs.sort_unstable_by_key(|run| run.start);
-        let mut lent = self.room()?;
         let mut left = Left { items, start: 0 };
         let cut = |run: &Run| {
-            let row = left.take(run.start, run.width)?;
-            let rows = &mut lent[run.part];
-            match rows.get_mut(run.row) {
-                Some(place) => *place = row,
-                None => rows.push_reserved(row),
-            }
-            Ok::<(), LayoutError>(())
+            put(run.part, run.row, left.take(run.start, run.width)?);
+            Ok(())
         };
-        if take_turns(&self.runs) {
-            each_in_turn(&mut self.runs, cut)?
-        } else {
-            each_by_heap(&mut self.runs, cut)?
+        if take_turns(&self.runs) { each_in_turn(&mut self.runs, cut) } else { each_by_heap(&mut self.runs, cut) }
+    }
+}
+
+impl<'a, T, D: Lengths> LentPart<'a, T, D> {
+    /// Puts a row at its number, or at the end, where there is room.
+    #[inline]
+    pub(super) fn put(&mut self, number: usize, row: &'a mut [T]) {
+        match self.rows.get_mut(number) {
+            Some(place) => *place = row,
+            None => self.rows.push_reserved(row),
         }
-        Ok(lent)
     }
 }

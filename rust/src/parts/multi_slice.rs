@@ -1,8 +1,8 @@
 //! Several slices of one array as one argument.
 
+use super::LentPart;
 use super::cutting::Plan;
-use super::{LentPart, Placement};
-use crate::memory::{AllocError, FallibleVec};
+use crate::memory::FallibleVec;
 use crate::nd_base::{LayoutError, Lengths};
 use crate::nd_slice::{Fit, SliceArg};
 use crate::ndarray_layout::Strided;
@@ -26,14 +26,14 @@ pub trait MultiSliceArg<D: Lengths>: Sealed {
     fn lend<'a, T>(&self, view: &Strided<D>, items: &'a mut [T]) -> Result<Self::Parts<'a, T>, LayoutError>;
 }
 
-/// Adds the rows of a slice to a plan.
-fn add<D: Lengths, S: SliceArg<D>>(
+/// The part that a slice picks, without its rows, which a plan has.
+fn part_of<'a, T, D: Lengths, S: SliceArg<D>>(
     plan: &mut Plan,
     view: &Strided<D>,
     slice: &S,
-) -> Result<Placement<S::OutDim>, LayoutError> {
+) -> Result<LentPart<'a, T, S::OutDim>, LayoutError> {
     let part: Strided<S::OutDim> = view.slice(slice, Fit::Strict)?;
-    Ok(plan.add(part)?)
+    Ok(plan.part(part)?)
 }
 
 /// Not proved.
@@ -42,13 +42,11 @@ impl<D: Lengths, S: SliceArg<D>> MultiSliceArg<D> for [S] {
 
     fn lend<'a, T>(&self, view: &Strided<D>, items: &'a mut [T]) -> Result<Self::Parts<'a, T>, LayoutError> {
         let mut plan = Plan::with_room(self.len())?;
-        let mut placements = Vec::fallible_with_capacity(self.len())?;
-        for slice in self {
-            placements.push(add(&mut plan, view, slice)?);
-        }
         let mut parts = Vec::fallible_with_capacity(self.len())?;
-        let rows = plan.cut(items)?;
-        parts.extend(rows.into_iter().zip(placements).map(|(rows, placement)| LentPart { rows, placement }));
+        for slice in self {
+            parts.push(part_of(&mut plan, view, slice)?);
+        }
+        plan.cut(items, |part, number, row| parts[part].put(number, row))?;
         Ok(parts)
     }
 }
@@ -89,10 +87,13 @@ macro_rules! tuples {
             type Parts<'a, T: 'a> = ($(LentPart<'a, T, $slice::OutDim>,)*);
 
             fn lend<'a, T>(&self, view: &Strided<D>, items: &'a mut [T]) -> Result<Self::Parts<'a, T>, LayoutError> {
-                let mut plan = Plan::with_room(6)?;
-                let placements = ($(add(&mut plan, view, &self.$at)?,)*);
-                let mut rows = plan.cut(items)?.into_iter();
-                Ok(($(LentPart { rows: rows.next().ok_or(AllocError)?, placement: placements.$at },)*))
+                let mut plan = Plan::with_room([$($at),*].len())?;
+                let mut parts = ($(part_of(&mut plan, view, &self.$at)?,)*);
+                plan.cut(items, |part, number, row| match part {
+                    $($at => parts.$at.put(number, row),)*
+                    _ => unreachable!("each part has a slice"),
+                })?;
+                Ok(parts)
             }
         }
     )*};

@@ -18,6 +18,18 @@ pub(super) struct Run {
 }
 
 impl Run {
+    /// The run of a part of which each row has so many items: the place of the row at the first coordinate, how far it is to that
+    /// at the next one, how many there are, and how many such runs of the part come before.
+    #[inline]
+    pub(super) fn new(part: usize, width: usize, first: usize, stride: isize, left: usize, number: usize) -> Self {
+        let (step, row) = (stride.unsigned_abs(), number * left);
+        if stride < 0 {
+            let (start, row) = (first - step * (left - 1), row + left - 1);
+            return Run { part, start, step, left, width, row, row_step: -1 };
+        }
+        Run { part, start: first, step, left, width, row, row_step: 1 }
+    }
+
     /// Where the highest row begins.
     pub(super) fn last(&self) -> usize {
         self.start + self.step * (self.left - 1)

@@ -16,18 +16,18 @@ fn refuses_each(allocations: usize, call: impl Fn() -> Result<(), LayoutError>) 
 
 #[test]
 fn lending_returns_that_memory_ran_out() {
-    refuses_each(7, || {
+    refuses_each(4, || {
         let mut numbers = NUMBERS;
         let mut rows = rows_mut(&mut numbers);
         rows.multi_sliced_mut([s![0, ..], s![1, ..]]).map(drop)
     });
-    refuses_each(5, || {
+    refuses_each(3, || {
         let mut numbers = NUMBERS;
         let mut rows = rows_mut(&mut numbers);
         rows.multi_sliced_mut((s![0, ..], s![1, ..])).map(drop)
     });
     // rows that don't take turns are put in order by a heap
-    refuses_each(6, || {
+    refuses_each(4, || {
         let mut numbers = NUMBERS;
         let mut rows = rows_mut(&mut numbers);
         rows.multi_sliced_mut((s![.., 0], s![0, 1..])).map(drop)
@@ -36,15 +36,15 @@ fn lending_returns_that_memory_ran_out() {
 
 #[test]
 fn cutting_and_taking_apart_return_that_memory_ran_out() {
-    refuses_each(4 + 2, || {
+    refuses_each(2 + 2, || {
         let mut numbers = NUMBERS;
         rows_mut(&mut numbers).into_part()?.split_at(Axis(1), 1).map(drop)
     });
-    refuses_each(4 + 2, || {
+    refuses_each(2 + 2, || {
         let mut numbers = NUMBERS;
         rows_mut(&mut numbers).into_part()?.split_at(Axis(0), 1).map(drop)
     });
-    refuses_each(4 + 2, || {
+    refuses_each(2 + 2, || {
         let mut numbers = NUMBERS;
         Ok(rows_mut(&mut numbers).reversed_axes().into_part()?.into_rows().map(drop)?)
     });
