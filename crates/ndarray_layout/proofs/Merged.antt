@@ -56,11 +56,10 @@ of_both {least} t n {taken_stride} {into_stride} {stride} j serves few below = e
 ]
 
 -- ---- two axes of a layout
-pub record TwoAxes (shape : List ℕ) (strides : List ℤ) (taken into : ℕ) : Type 0 where
-  pub counts : length shape ≡ length strides
-  pub taken_there : taken < length shape
+pub record AreTwoAxes (shape : List ℕ) (take into : ℕ) : Type 0 where
+  pub take_there : take < length shape
   pub into_there : into < length shape
-  pub apart : taken ≢ into
+  pub apart : take ≢ into
 
 -- an offset changes with the stride of an axis and with the coordinate on it
 offset-set : (strides : List ℤ) (index : List ℕ) (axis : ℕ) (stride : ℤ) (i : ℕ) → length strides ≡ length index → axis < length index
@@ -73,7 +72,8 @@ offset-set (s ∷ strides) (c ∷ index) zero stride i e h = omega (arith, ints)
 offset-set (s ∷ strides) (c ∷ index) (suc axis) stride i e h =
     omega (arith, ints, offset-set strides index axis stride i (omega arith) (omega arith))
 
-module _ (shape : List ℕ) (strides : List ℤ) (taken into : ℕ) (stride : ℤ) (two : TwoAxes shape strides taken into)
+module _ (shape : List ℕ) (strides : List ℤ) (taken into : ℕ) (stride : ℤ) (equal : length shape ≡ length strides)
+    (two : AreTwoAxes shape taken into)
     (serves : IsMergedStride (get_or shape taken 0) (get_or strides taken (pos 0)) (get_or shape into 0) (get_or strides into (pos 0))
     stride)
   where
@@ -101,13 +101,13 @@ module _ (shape : List ℕ) (strides : List ℤ) (taken into : ℕ) (stride : �
         (coordinate_of_index (at_least least lens) index axis here (omega (arith, length-map lens (max least), merged_count))) in
         let on_taken : get_or lens taken 0 ≡ left_on (n * t) =
         get_or-set_same (set shape into (n * t)) taken (left_on (n * t)) 0
-        (omega (arith, length-set shape into (n * t), two.taken_there)) in
+        (omega (arith, length-set shape into (n * t), two.take_there)) in
         let on_into : get_or lens into 0 ≡ n * t =
         get_or-set_other (set shape into (n * t)) taken into (left_on (n * t)) 0 (λ e. two.apart (sym e))
         ∙ get_or-set_same shape into (n * t) 0 two.into_there in
         record {
           count = length_of_index (at_least least lens) index here ∙ length-map lens (max least) ∙ merged_count;
-          none = omega (arith, coordinate taken two.taken_there, on_taken, left_le (n * t));
+          none = omega (arith, coordinate taken two.take_there, on_taken, left_le (n * t));
           both = of_both t n (get_or index into 0) serves few (rw on_into at (coordinate into two.into_there));
         }
 
@@ -125,11 +125,11 @@ module _ (shape : List ℕ) (strides : List ℤ) (taken into : ℕ) (stride : �
         ∙ ap (λ xs. set xs taken u) (map-set (max least) shape into (n * t)) in
         let count = length-map shape (max least) in
         let on_taken = is_index-set (set (set lens into m) taken u) index (rw merged at here) taken (max least t) q
-        (omega (arith, length-set (set lens into m) taken u, length-set lens into m, count, two.taken_there)) left.both.quotient in
+        (omega (arith, length-set (set lens into m) taken u, length-set lens into m, count, two.take_there)) left.both.quotient in
         let middle : set (set (set lens into m) taken u) taken (max least t) ≡ set lens into m =
         set-set (set lens into m) taken u (max least t)
         ∙ ap (set (set lens into m) taken) (sym (get_or-set_other lens into taken m 0 two.apart
-        ∙ get_or-map (max least) shape taken 0 0 two.taken_there)) ∙ set-get_or (set lens into m) taken 0 in
+        ∙ get_or-map (max least) shape taken 0 0 two.take_there)) ∙ set-get_or (set lens into m) taken 0 in
         let on_into = is_index-set (set lens into m) (set index taken q) (rw middle at on_taken) into (max least n) r
         (omega (arith, length-set lens into m, count, two.into_there)) left.both.remainder in
         let whole : set (set lens into m) into (max least n) ≡ lens =
@@ -144,10 +144,10 @@ module _ (shape : List ℕ) (strides : List ℤ) (taken into : ℕ) (stride : �
         let j = get_or index into 0 in
         let q = j / n in
         let r = j % n in
-        let count : length strides ≡ length index = omega (arith, left.count, two.counts) in
+        let count : length strides ≡ length index = omega (arith, left.count, equal) in
         let on_into = offset-set strides index into stride r count (omega (arith, left.count, two.into_there)) in
         let moved = offset-set strides (set index into r) taken (get_or strides taken (pos 0)) q (count ∙ sym (length-set index into r))
-        (omega (arith, length-set index into r, left.count, two.taken_there)) in
+        (omega (arith, length-set index into r, left.count, two.take_there)) in
         let first : get_or (set index into r) taken 0 ≡ 0 = get_or-set_other index into taken r 0 two.apart ∙ left.none in
         let on_taken = rw (set-get_or strides taken (pos 0), first, zero-*ℤ (get_or strides taken (pos 0))) at moved in
         let turned = ap (offset_of strides) (set_comm index taken into q r two.apart) in
@@ -163,7 +163,7 @@ module _ (shape : List ℕ) (strides : List ℤ) (taken into : ℕ) (stride : �
         let middle = set index taken (j / n) in
         let on_taken : get_or (set middle into (j % n)) taken 0 ≡ j / n =
         get_or-set_other middle into taken (j % n) 0 two.apart
-        ∙ get_or-set_same index taken (j / n) 0 (omega (arith, left.count, two.taken_there)) in
+        ∙ get_or-set_same index taken (j / n) 0 (omega (arith, left.count, two.take_there)) in
         let on_into = get_or-set_same middle into (j % n) 0 (omega (arith, length-set index taken (j / n), left.count, two.into_there)) in
         rw (on_taken, on_into, div-add-mod j n)
         (ap (λ xs. set xs taken 0) (set-set middle into (j % n) j
@@ -174,7 +174,7 @@ module _ (shape : List ℕ) (strides : List ℤ) (taken into : ℕ) (stride : �
         (set strides into stride)
     merged_sources = record {
       sources = record {
-        counts = merged_count ∙ two.counts ∙ sym (length-set strides into stride);
+        counts = merged_count ∙ equal ∙ sym (length-set strides into stride);
         within = within;
         offset = offset;
       };

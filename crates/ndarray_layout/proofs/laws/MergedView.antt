@@ -1,5 +1,5 @@
 -- Laws of views in which an axis was merged into another.
-use Rattle.std.proofs.Common.{◌≡◌, ◌↔◌, ◌≢◌, ℕ, ◌<◌, ℤ, pos, Bool, true, false, not, cond, eqb, ltb, leb, Option, Some, None, List, length}
+use Rattle.std.proofs.Common.{◌≡◌, ◌↔◌, ℕ, ℤ, pos, Bool, true, false, not, cond, eqb, ltb, leb, Option, Some, None, List, length}
 use Rattle.std.proofs.Common.{get_or, nat_lt, refl}
 use Rattle.std.proofs.lemmas.Bool.{and_parts, ltb-true, eqb-false}
 use Rattle.std.proofs.lemmas.Bool.Decides.{same_from_decides}
@@ -14,7 +14,7 @@ use Rattle.ndarray_layout.specs.Descends.{Descends}
 use Rattle.ndarray_layout.specs.MergedView.{axes_fault, HasMergedStride, has_merged_stride, merge_fault, lasting_axis, merge_of}
 use Rattle.ndarray_layout.specs.MergedView.{merge_source}
 use Rattle.ndarray_layout.specs.View.{View, IsView}
-use Rattle.ndarray_layout.proofs.Merged.{TwoAxes, merged_sources}
+use Rattle.ndarray_layout.proofs.Merged.{AreTwoAxes, merged_sources}
 use Rattle.ndarray_layout.proofs.laws.Sources.{Descends-from_start}
 
 -- the test says where some stride has the coordinates of both axes
@@ -23,11 +23,6 @@ has_merged_stride-Decides take into view = merge_fits-Decides (get_or view.shape
     (get_or view.shape into 0) (get_or view.strides into (pos 0))
 
 -- axes without fault are two that there are
-pub record AreTwoAxes (shape : List ℕ) (take into : ℕ) : Type 0 where
-  pub take_there : take < length shape
-  pub into_there : into < length shape
-  pub apart : take ≢ into
-
 pub axes_of_no_fault : (shape : List ℕ) (take into : ℕ) → axes_fault shape take into ≡ None → AreTwoAxes shape take into
 axes_of_no_fault shape take into none =
     let parts = by (nat_lt take (length shape) && nat_lt into (length shape)) (eqb take into) none in
@@ -70,11 +65,6 @@ merge_fault_of_answer take into view {merged} none fits =
     (has_merged_stride-Decides take into view) fits in
     rw (none, same) refl
 
-two_axes : {take into : ℕ} {view : View} → IsView view → axes_fault view.shape take into ≡ None → TwoAxes view.shape view.strides take into
-two_axes {take} {into} {view} v none =
-    let axes = axes_of_no_fault view.shape take into none in
-    record { counts = v.valid.same_count; taken_there = axes.take_there; into_there = axes.into_there; apart = axes.apart }
-
 -- the stride of the axis that lasts is the one that has them
 stride_of : (strides : List ℤ) (take into : ℕ) (taken : Bool)
     → get_or strides (cond taken take into) (pos 0) ≡ cond taken (get_or strides take (pos 0)) (get_or strides into (pos 0))
@@ -97,4 +87,5 @@ module _ (take into : ℕ) (view : View) (v : IsView view) (none : merge_fault t
 
   -- the view is one of the same data, whose indices lie where their sources do
   pub Descends-merge_of : Descends (merge_source take into view.shape) view (merge_of take into view)
-  Descends-merge_of = Descends-from_start v (merged_sources view.shape view.strides take into _ (two_axes v can.axes) serves)
+  Descends-merge_of = Descends-from_start v (merged_sources view.shape view.strides take into _ v.valid.same_count
+      (axes_of_no_fault view.shape take into can.axes) serves)
