@@ -1,6 +1,6 @@
 -- Layouts that have an index, and axes with the places of others.
-use Rattle.std.proofs.Common.{◌≡◌, ℕ, zero, suc, ◌*◌, ◌<◌, ◌≤◌, ◌==◌, false, ℤ, List, [], ◌∷◌, length, take, arith}
-use Rattle.std.proofs.Math.Nat.{mul-le-mul_left}
+use Rattle.std.proofs.Common.{◌≡◌, ℕ, zero, suc, ◌<◌, ◌==◌, false, ℤ, List, [], ◌∷◌, length, take, arith}
+use Rattle.std.proofs.Math.Nat.{mul-pos}
 use Rattle.std.proofs.lemmas.Bool.{false_from_ne_true, ne_eqb, or_from, or_parts}
 use Rattle.nd_base.proofs.laws.Size.{size_of_empty}
 use Rattle.nd_base.proofs.laws.Definitions.{index_of_flat, is_empty, offset_of, size, IsValidLayout}
@@ -21,20 +21,11 @@ size-some lens some = false_from_ne_true (is_empty lens) (λ e. let none = size_
 pub filled : {len : ℕ} (lens : List ℕ) → 0 < len → is_empty lens ≡ false → is_empty (len ∷ lens) ≡ false
 filled {len} lens some rest = or_from (len == 0) (is_empty lens) (ne_eqb len 0 (λ e. omega arith)) rest
 
--- more axes have more indices
-pub take-mono : (lens : List ℕ) (j k : ℕ) → is_empty lens ≡ false → j ≤ k → size (take j lens) ≤ size (take k lens)
-take-mono [] zero zero h l = omega arith
-take-mono [] zero (suc k) h l = omega arith
-take-mono [] (suc j) zero h l = omega arith
-take-mono [] (suc j) (suc k) h l = omega arith
-take-mono (len ∷ lens) zero zero h l = omega arith
-take-mono (len ∷ lens) zero (suc k) h l =
-    let rest = take-mono lens 0 k (is_empty-rest len lens h) (omega arith) in
-    let some = some-len len lens h in
-    let more : len * 1 ≤ len * size (take k lens) = mul-le-mul_left len rest in
-    omega arith
-take-mono (len ∷ lens) (suc j) zero h l = absurd (omega arith)
-take-mono (len ∷ lens) (suc j) (suc k) h l = mul-le-mul_left len (take-mono lens j k (is_empty-rest len lens h) (omega arith))
+-- some of its first axes have an index
+pub take-some : (lens : List ℕ) (k : ℕ) → is_empty lens ≡ false → 0 < size (take k lens)
+take-some lens zero some = omega arith
+take-some [] (suc k) some = omega arith
+take-some (len ∷ lens) (suc k) some = mul-pos (some-len len lens some) (take-some lens k (is_empty-rest len lens some))
 
 -- a stride for each axis, and no axis of length 0
 pub record HasIndex (lens : List ℕ) (strides : List ℤ) : Type 0 where

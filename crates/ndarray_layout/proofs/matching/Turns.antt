@@ -1,8 +1,8 @@
 -- What a turn of the matching of two shapes leaves: the same fault, and the strides of the axes that are left.
-use Rattle.std.proofs.Common.{◌≡◌, ◌≢◌, ℕ, suc, ◌+◌, ◌*◌, ◌<◌, ◌≤◌, ◌==◌, ◌&&◌, Bool, true, false, ℤ, pos, List, [], ◌∷◌, ◌++◌}
+use Rattle.std.proofs.Common.{◌≡◌, ◌≢◌, ℕ, zero, suc, ◌+◌, ◌*◌, ◌<◌, ◌≤◌, ◌==◌, ◌&&◌, Bool, true, false, ℤ, pos, List, [], ◌∷◌, ◌++◌}
 use Rattle.std.proofs.Common.{length, get_or, take, drop, refl, sym, ap, ap₂, ◌∙◌, inl, inr, arith, subst, add-one, None}
 use Rattle.std.specs.Prelude.{if◌then◌else◌}
-use Rattle.std.proofs.Math.Nat.{eq_of_mul-eq-mul_left, mul-le-mul_right, one-mul}
+use Rattle.std.proofs.Math.Nat.{eq_of_mul-eq-mul_left, mul-le-mul_left, mul-le-mul_right, one-mul}
 use Rattle.std.proofs.lemmas.Bool.{cases_Bool, cases_eq, cond-true, eqb-true, ne_eqb}
 use Rattle.std.proofs.lemmas.Int.{ints}
 use Rattle.nd_base.proofs.laws.Definitions.{is_empty, size}
@@ -15,7 +15,7 @@ use Rattle.ndarray_layout.proofs.matching.BadJoints.{product-none, product-times
 use Rattle.ndarray_layout.proofs.matching.Faults.{fault-same, none-parts}
 use Rattle.ndarray_layout.proofs.matching.FlatOffsets.{offset-one, offset-whole, offset-within}
 use Rattle.ndarray_layout.proofs.matching.Forced.{size_after-below, stride_at-long}
-use Rattle.ndarray_layout.proofs.matching.HasIndex.{is_empty-rest, some-len, take-mono}
+use Rattle.ndarray_layout.proofs.matching.HasIndex.{is_empty-rest, some-len, take-some}
 use Rattle.ndarray_layout.proofs.matching.OnesRead.{ones-none, ones-past, ones_before-past}
 use Rattle.ndarray_layout.proofs.matching.StridesAt.{AreDecidedAlike, forced-next, forced-same}
 
@@ -120,10 +120,11 @@ turn-both {len} {s} {rest} can = record {
 product-more : (lens : List ℕ) (axis : ℕ) → is_empty lens ≡ false → get_or lens 0 0 ≢ 1 → 0 < axis → axis < length lens
     → 1 < size (take axis lens)
 product-more [] axis some longer after l = absurd (omega arith)
-product-more (len ∷ lens) axis some longer after l =
+product-more (len ∷ lens) zero some longer after l = absurd (omega arith)
+product-more (len ∷ lens) (suc axis) some longer after l =
     let here = some-len len lens some in
-    let more = take-mono (len ∷ lens) 1 axis some after in
-    let one : get_or (len ∷ lens) 0 0 ≢ 1 = longer in
+    let more : len * 1 ≤ len * size (take axis lens) = mul-le-mul_left len (take-some lens axis (is_empty-rest len lens some)) in
+    let one : len ≢ 1 = longer in
     omega arith
 
 pub turn-from-one : {s : ℤ} {rest : Layouts} → CanMatch (with_from 1 s rest) → get_or rest.to 0 0 ≢ 1
