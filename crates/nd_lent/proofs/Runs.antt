@@ -15,7 +15,8 @@ use Rattle.nd_lent.specs.Mapped.{Makes, gives, RunsOver, row_major_items}
 use Rattle.nd_lent.specs.Items.{ArrayValue, item_at, item_at_place}
 use Rattle.nd_lent.specs.Written.{HasRun}
 use Rattle.nd_lent.proofs.laws.Lists.{other_default, set_other, set_same}
-use Rattle.nd_lent.proofs.Sets.{Distinct, alone, has_items, items_in_order}
+use Rattle.nd_lent.proofs.Sets.{Distinct, alone, has_items}
+use Rattle.nd_lent.proofs.laws.IndexItems.{items_in_order}
 
 -- ---- one call after another
 pub none_run : {F X Y : Type 0} {call : F → X → Y → F → Type 0} {f : F} {stored : List Y} → HasRun call f [] [] stored stored

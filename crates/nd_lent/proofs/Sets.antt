@@ -12,8 +12,7 @@ use Rattle.ndarray_layout.specs.Bounds.{IsInBounds}
 use Rattle.ndarray_layout.specs.Indices.{indices_in, is_index}
 use Rattle.ndarray_layout.specs.View.{View, LiesWithin, place_at, view_places}
 use Rattle.ndarray_layout.proofs.laws.DistinctPlaces.{AllPairs-view_places}
-use Rattle.ndarray_layout.proofs.laws.Indices.{All-indices_in, Contains-indices_in}
-use Rattle.ndarray_layout.proofs.laws.Lists.{map_same}
+use Rattle.ndarray_layout.proofs.laws.Indices.{Contains-indices_in}
 use Rattle.nd_lent.specs.ArrayViewMut.{HasItemsOf}
 use Rattle.nd_lent.specs.Items.{ArrayValue, IsOwned, item_at, item_at_place}
 use Rattle.nd_lent.specs.Written.{HasSet}
@@ -82,17 +81,6 @@ overwritten {T} item {old} within has = record {
     there : (z : ℤ) → IsInBounds (length old.items) z → option_map (λ x. item) (item_at_place old.items z) ≡ Some item
     there (pos place) below = ap (option_map (λ x. item)) (slice_get-get_or old.items place item below)
     there (negsuc n) below = absurd below
-
--- the items at the places of a view are those of its indices
-pub items_in_order : {T : Type 0} (array : ArrayValue T)
-    → map (item_at_place array.items) (view_places RowMajor array.view) ≡ map (item_at array) (indices_in RowMajor array.view.shape)
-items_in_order {T} array =
-    let indices = indices_in RowMajor array.view.shape in
-    let at : List ℕ → Option T = λ index. item_at_place array.items (place_at array.view index) in
-    map-map (item_at_place array.items) (place_at array.view) indices
-    ∙ map_same at (item_at array) indices (λ k d below.
-    sym (cond-true (is_index array.view.shape (get_or indices k d)) (at (get_or indices k d)) None
-    (All-indices_in RowMajor array.view.shape k d below)))
 
 -- ---- all places of an array that owns its items
 pub record AreAll (len : ℕ) (view : View) (places : List ℤ) : Type 0 where

@@ -1,7 +1,10 @@
 pub mod Faults
+pub mod Folds
+pub mod IndexItems
 pub mod ItemPlaces
 pub mod Lists
 pub mod OwnedViews
+pub mod PartItems
 pub mod RowItems
 pub mod SlicePlaces
 pub mod Written

@@ -9,6 +9,7 @@ pub mod MultiSlice
 pub mod PartMut
 pub mod SplitItems
 pub mod Written
+pub mod WrittenPart
 pub mod private
 pub use Rattle.ndarray_layout.specs.AcceptanceByStrides
 pub use Rattle.ndarray_layout.specs.Memory

@@ -21,7 +21,7 @@ use Rattle.nd_lent.proofs.laws.Faults.{slices_fit}
 use Rattle.nd_lent.proofs.laws.Lists.{none_of_all, pairs_append, pairs_head, pairs_tail}
 
 -- a place that is listed is that of an index
-listed : (order : Order) (view : View) (place : ℤ) → Contains (view_places order view) place
+pub listed : (order : Order) (view : View) (place : ℤ) → Contains (view_places order view) place
     → (index : List ℕ) × (is_index view.shape index ≡ true) × (place_at view index ≡ place)
 listed order view place here =
     let indices = indices_in order view.shape in

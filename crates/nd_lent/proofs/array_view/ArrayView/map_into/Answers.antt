@@ -5,7 +5,8 @@ use Rattle.std.specs.Iterator.{CallableOnAllAt}
 use Rattle.nd_lent.specs.Lender.{array_of}
 use Rattle.nd_lent.specs.Mapped.{gives}
 use Rattle.nd_lent.proofs.Runs.{mapped, ran_over, spare}
-use Rattle.nd_lent.proofs.Sets.{all_of_owned, items_in_order}
+use Rattle.nd_lent.proofs.Sets.{all_of_owned}
+use Rattle.nd_lent.proofs.laws.IndexItems.{items_in_order}
 use Rattle.nd_lent.proofs.array_view.ArrayView.map_into.Goals as goal
 
 pub write_mapped-requires-clause-within : goal.write_mapped-requires-clause-within

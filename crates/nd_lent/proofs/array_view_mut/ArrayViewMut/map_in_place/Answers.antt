@@ -5,7 +5,8 @@ use Rattle.nd_lent.specs.Lender.{array_of}
 use Rattle.nd_lent.specs.Mapped.{CallableOnEachMut}
 use Rattle.nd_lent.specs.Items.{item_at_place}
 use Rattle.nd_lent.proofs.Runs.{mapped, ran_over, spare}
-use Rattle.nd_lent.proofs.Sets.{all_of_owned, items_in_order}
+use Rattle.nd_lent.proofs.Sets.{all_of_owned}
+use Rattle.nd_lent.proofs.laws.IndexItems.{items_in_order}
 use Rattle.nd_lent.proofs.array_view_mut.ArrayViewMut.map_in_place.Goals as goal
 
 pub map_places-requires-clause-in_bounds : goal.map_places-requires-clause-in_bounds
