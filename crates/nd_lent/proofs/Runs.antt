@@ -1,5 +1,6 @@
 -- Calls of a closure at one place after another, where no place is listed twice, and what they leave at the indices of a view.
-use Rattle.std.proofs.Common.{◌≡◌, ℕ, suc, ◌<◌, ℤ, pos, negsuc, Option, Some, None, List, [], ◌∷◌, length, get_or, set, map, refl, sym, ap, subst, ◌∙◌, arith}
+use Rattle.std.proofs.Common.{◌≡◌, ℕ, suc, ◌<◌, ℤ, pos, negsuc, Option, Some, None, List, [], ◌∷◌, length, get_or, set, map, refl, sym, ap}
+use Rattle.std.proofs.Common.{subst, ◌∙◌, arith}
 use Rattle.std.specs.Prelude.{zip}
 use Rattle.std.specs.Iterator.{CallableAtEachTurn}
 use Rattle.std.specs.List.{Contains, FoldsTo}

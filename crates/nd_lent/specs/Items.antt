@@ -1,5 +1,6 @@
 -- What a contract sees of an array: its items, and a view that has places among them.
-use Rattle.std.specs.Prelude.{◌≡◌, ℕ, ℤ, pos, negsuc, Option, Some, None, if◌then◌else◌, List, [], ◌∷◌, nat_eq, slice_get, slice_index, slice_set, refl}
+use Rattle.std.specs.Prelude.{◌≡◌, ℕ, ℤ, pos, negsuc, Option, Some, None, if◌then◌else◌, List, [], ◌∷◌, nat_eq, slice_get, slice_index}
+use Rattle.std.specs.Prelude.{slice_set, refl}
 use Rattle.std.proofs.Common.{ap, eq-eqb}
 use Rattle.std.proofs.lemmas.Bool.{both_ways}
 use Rattle.std.proofs.Props.{props}

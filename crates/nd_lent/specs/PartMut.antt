@@ -1,6 +1,7 @@
 -- Rows of items that are lent to be written: what a contract sees of them, which views have such rows, and what a part of them is.
 use Prim.Native.Nat.{zero, suc}
-use Rattle.std.specs.Prelude.{◌≡◌, ℕ, ◌+◌, pos, negsuc, Bool, true, false, ◌&&◌, ◌||◌, nat_eq, nat_le, nat_lt, List, [], ◌∷◌, length, map, take, drop, refl}
+use Rattle.std.specs.Prelude.{◌≡◌, ℕ, ◌+◌, pos, negsuc, Bool, true, false, ◌&&◌, ◌||◌, nat_eq, nat_le, nat_lt, List, [], ◌∷◌, length, map}
+use Rattle.std.specs.Prelude.{take, drop, refl}
 use Rattle.std.specs.Borrow.{GName}
 use Rattle.std.specs.List.{list_all}
 use Rattle.ndarray_layout.specs.declared.Row.{Row}

@@ -10,12 +10,14 @@ use Rattle.nd_lent.specs.Items.{ArrayValue, item_at}
 abbrev pub IsOutside : (List ℕ → List ℕ) → List ℕ → List ℕ → Type 0
 IsOutside source part_shape index = (of_part : List ℕ) → is_index part_shape of_part ≡ true → source of_part ≢ index
 
--- the view is the same one; each index of the part has, at the index of the array that it stands for, its source, the item that is given for it; and each
--- index of the array that no index of the part stands for, and each spare place, has the item that it had
-pub record HasWrittenPart {T : Type 0} (source : List ℕ → List ℕ) (part_shape : List ℕ) (given : List ℕ → Option T) (old new : ArrayValue T) : Type 0 where
+-- the view is the same one; each index of the part has, at the index of the array that it stands for, its source, the item that is given
+-- for it; and each index of the array that no index of the part stands for, and each spare place, has the item that it had
+pub record HasWrittenPart {T : Type 0} (source : List ℕ → List ℕ) (part_shape : List ℕ) (given : List ℕ → Option T)
+    (old new : ArrayValue T) : Type 0 where
   pub view : new.view ≡ old.view
   pub inside : (of_part : List ℕ) → is_index part_shape of_part ≡ true → item_at new (source of_part) ≡ given of_part
-  pub outside : (index : List ℕ) → is_index old.view.shape index ≡ true → IsOutside source part_shape index → item_at new index ≡ item_at old index
+  pub outside : (index : List ℕ) → is_index old.view.shape index ≡ true → IsOutside source part_shape index
+      → item_at new index ≡ item_at old index
   pub spare : KeepsSpare old new
 
 -- examples

@@ -1,5 +1,5 @@
--- A law of `fold` over items that are lent: what holds at first, and is kept by each call, lets the function be called, and holds in the end. It says what
--- a loop's invariant says of a loop.
+-- A law of `fold` over items that are lent: what holds at first, and is kept by each call, lets the function be called, and holds in the
+-- end. It says what a loop's invariant says of a loop.
 use Rattle.std.proofs.Common.{Option, Some, List, [], ◌∷◌, subst, Bor}
 use Rattle.std.specs.Fn.{Called, Mut, Takes}
 use Rattle.std.specs.Iterator.{CallableInFold, FoldTurn, FoldsItems, Yields}
@@ -9,7 +9,8 @@ use Rattle.nd_lent.specs.Lending.{lends}
 module _ {F B T : Type 0} (g : Mut F (B × (Bor T × Unit {0})) B) (Holds : List (Option T) → F → B → Type 0) where
   -- of the items that are left, of the function and of the total so far it holds; then the function may be called at the first of them
   pub record IsKept : Type 0 where
-    pub takes : (item : Bor T) (left : List (Option T)) (f : F) (total : B) → Holds (Some item.now ∷ left) f total → Takes g f (total, (item, tt))
+    pub takes : (item : Bor T) (left : List (Option T)) (f : F) (total : B) → Holds (Some item.now ∷ left) f total
+        → Takes g f (total, (item, tt))
     pub keeps : (item : Bor T) (left : List (Option T)) (f h : F) (total next : B) → Holds (Some item.now ∷ left) f total
         → Called g f (total, (item, tt)) next h → Holds left h next
 
@@ -28,7 +29,8 @@ module _ {F B T : Type 0} (g : Mut F (B × (Bor T × Unit {0})) B) (Holds : List
         (subst (λ left. Holds left p.0 p.1) step (after_calls kept items left lent f p.0 init p.1 first yields calls));
   }
 
-  pub after_fold : IsKept → {items : List (Option T)} {f : F} {init result : B} → Holds items f init → FoldsItems lends g items f init result
+  pub after_fold : IsKept → {items : List (Option T)} {f : F} {init result : B} → Holds items f init
+      → FoldsItems lends g items f init result
       → (h : F) × Holds [] h result
   after_fold kept {items} {f} {init} {result} first ran = (
     ran.1,

@@ -61,6 +61,8 @@ All-by_index P array each =
 
 -- and the other way round
 pub of_each_index : {T : Type 0} (P : Option T → Type 0) (array : ArrayValue T) (index : List ℕ)
-    → All P (map (item_at_place array.items) (view_places RowMajor array.view)) → is_index array.view.shape index ≡ true → P (item_at array index)
+    → All P (map (item_at_place array.items) (view_places RowMajor array.view)) → is_index array.view.shape index ≡ true
+    → P (item_at array index)
 of_each_index P array index all here =
-    All-contains P (map (item_at_place array.items) (view_places RowMajor array.view)) (item_at array index) all (Contains-item_at array index here)
+    All-contains P (map (item_at_place array.items) (view_places RowMajor array.view)) (item_at array index) all
+    (Contains-item_at array index here)

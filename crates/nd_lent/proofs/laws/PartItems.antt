@@ -17,8 +17,10 @@ use Rattle.nd_lent.specs.Written.{KeepsOthers}
 use Rattle.nd_lent.proofs.laws.SlicePlaces.{listed}
 
 module _ {T : Type 0} {source : List ℕ → List ℕ} {given : List ℕ → Option T} {before after : List T} {whole part : View}
-    (kept : Descends source whole part) (has : HasItemsOf given (record { items = before; view = part }) (record { items = after; view = part })) where
-  in_part : (index : List ℕ) → is_index part.shape index ≡ true → item_at (record { items = after; view = whole }) (source index) ≡ given index
+    (kept : Descends source whole part)
+    (has : HasItemsOf given (record { items = before; view = part }) (record { items = after; view = part })) where
+  in_part : (index : List ℕ) → is_index part.shape index ≡ true
+      → item_at (record { items = after; view = whole }) (source index) ≡ given index
   in_part index here =
       let there = kept.places index here in
       cond-true (is_index whole.shape (source index)) (item_at_place after (place_at whole (source index))) None there.0

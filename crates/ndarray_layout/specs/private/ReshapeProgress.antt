@@ -1,6 +1,7 @@
 -- Words of private contracts alone, of the calls below `reshape_dim`: what is left of two shapes, and what it has to do with all of
 -- them. All lists are in the order of reading.
-use Rattle.std.specs.Prelude.{◌≡◌, ℕ, ◌+◌, ◌-◌, ◌<◌, ◌≤◌, false, ℤ, pos, negsuc, ◌*ℤ◌, Option, Some, None, List, [], ◌∷◌, ◌++◌, drop, length, map, slice_index, take, refl}
+use Rattle.std.specs.Prelude.{◌≡◌, ℕ, ◌+◌, ◌-◌, ◌<◌, ◌≤◌, false, ℤ, pos, negsuc, ◌*ℤ◌, Option, Some, None, List, [], ◌∷◌, ◌++◌, drop}
+use Rattle.std.specs.Prelude.{length, map, slice_index, take, refl}
 use Rattle.std.specs.Int.{w64}
 use Rattle.std.specs.Int.RustNames.{FitsSigned}
 use Rattle.std.specs.List.{All}

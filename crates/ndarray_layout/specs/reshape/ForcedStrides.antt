@@ -1,5 +1,6 @@
 -- The strides that a reshape gives the axes of the new shape.
-use Rattle.std.specs.Prelude.{◌≡◌, ℕ, zero, suc, ◌==◌, ◌&&◌, Bool, nat_lt, ℤ, pos, negsuc, if◌then◌else◌, List, [], ◌∷◌, length, map, slice_index, slice_index_or, refl}
+use Rattle.std.specs.Prelude.{◌≡◌, ℕ, zero, suc, ◌==◌, ◌&&◌, Bool, nat_lt, ℤ, pos, negsuc, if◌then◌else◌, List, [], ◌∷◌, length, map}
+use Rattle.std.specs.Prelude.{slice_index, slice_index_or, refl}
 use Rattle.std.specs.List.{filter, list_any}
 use Rattle.nd_base.specs.declared.order.Order.{Order}
 use Rattle.nd_base.specs.declared.order.Order.TheVariants.{RowMajor, ColumnMajor}
@@ -20,7 +21,8 @@ is_one_at lens product axis = slice_index lens axis == 1 && size_until lens axis
 
 -- the strides of all such axes
 abbrev pub strides_of_ones : List ℕ → List ℤ → ℕ → List ℤ
-strides_of_ones lens strides product = map (λ axis. slice_index_or strides axis (pos 0)) (filter (is_one_at lens product) (below (length lens)))
+strides_of_ones lens strides product =
+    map (λ axis. slice_index_or strides axis (pos 0)) (filter (is_one_at lens product) (below (length lens)))
 
 -- how many such axes are read before an axis
 abbrev pub ones_before : List ℕ → ℕ → ℕ → ℕ
@@ -37,7 +39,9 @@ stride_of_one from strides to axis previous =
 -- the stride of an axis longer than 1 is as far as the old layout goes over as many indices as the axes read after it have
 abbrev pub stride_of_axis : List ℕ → List ℤ → List ℕ → ℕ → ℤ → ℤ
 stride_of_axis from strides to axis previous =
-    (if nat_lt 1 (slice_index to axis) then offset_at_flat_index from strides (size_after to axis) else stride_of_one from strides to axis previous)
+    (if nat_lt 1 (slice_index to axis)
+    then offset_at_flat_index from strides (size_after to axis)
+    else stride_of_one from strides to axis previous)
 
 -- the stride of the axis of a number of the new shape
 abbrev pub stride_at : List ℕ → List ℤ → List ℕ → ℕ → ℤ
@@ -46,7 +50,8 @@ stride_at from strides to (suc axis) = stride_of_axis from strides to (suc axis)
 
 -- the strides of all axes of the new shape, as it is read in the order
 abbrev pub forced_strides : Order → List ℕ → List ℤ → List ℕ → List ℤ
-forced_strides order from strides to = as_read order (map (stride_at (as_read order from) (as_read order strides) (as_read order to)) (below (length to)))
+forced_strides order from strides to =
+    as_read order (map (stride_at (as_read order from) (as_read order strides) (as_read order to)) (below (length to)))
 
 -- examples
 through_a_gap : forced_strides RowMajor (6 ∷ 2 ∷ []) (pos 2 ∷ pos 1 ∷ []) (4 ∷ 1 ∷ 3 ∷ []) ≡ pos 3 ∷ pos 3 ∷ pos 1 ∷ []
@@ -58,8 +63,10 @@ rows_in_halves = refl
 back_by_columns : forced_strides ColumnMajor (16 ∷ []) (negsuc 3 ∷ []) (2 ∷ 2 ∷ 4 ∷ []) ≡ negsuc 3 ∷ negsuc 7 ∷ negsuc 15 ∷ []
 back_by_columns = refl
 
-axes_of_one : forced_strides RowMajor (1 ∷ 10 ∷ []) (pos 10 ∷ pos 1 ∷ []) (1 ∷ 10 ∷ 1 ∷ 1 ∷ 1 ∷ []) ≡ pos 10 ∷ pos 1 ∷ pos 1 ∷ pos 1 ∷ pos 1 ∷ []
+axes_of_one : forced_strides RowMajor (1 ∷ 10 ∷ []) (pos 10 ∷ pos 1 ∷ []) (1 ∷ 10 ∷ 1 ∷ 1 ∷ 1 ∷ [])
+    ≡ pos 10 ∷ pos 1 ∷ pos 1 ∷ pos 1 ∷ pos 1 ∷ []
 axes_of_one = refl
 
-large : forced_strides RowMajor (4 ∷ []) (pos 3074457345618258602 ∷ []) (2 ∷ 2 ∷ []) ≡ pos 6148914691236517204 ∷ pos 3074457345618258602 ∷ []
+large : forced_strides RowMajor (4 ∷ []) (pos 3074457345618258602 ∷ []) (2 ∷ 2 ∷ [])
+    ≡ pos 6148914691236517204 ∷ pos 3074457345618258602 ∷ []
 large = refl

@@ -1,6 +1,7 @@
 -- Where the axes of a layout, as they are read in an order, can't be iterated over as one axis. All lists are in the order of reading,
 -- so that the axis read first is the slowest.
-use Rattle.std.specs.Prelude.{◌≡◌, ℕ, ◌*◌, ◌==◌, ◌&&◌, Bool, true, false, not, nat_lt, ℤ, pos, ◌*ℤ◌, if◌then◌else◌, Option, Some, None, List, [], ◌∷◌, ◌++◌, map, refl}
+use Rattle.std.specs.Prelude.{◌≡◌, ℕ, ◌*◌, ◌==◌, ◌&&◌, Bool, true, false, not, nat_lt, ℤ, pos, ◌*ℤ◌, if◌then◌else◌, Option, Some, None}
+use Rattle.std.specs.Prelude.{List, [], ◌∷◌, ◌++◌, map, refl}
 use Rattle.std.specs.List.{list_any}
 use Rattle.std.specs.Ordering.{int_eq}
 use Rattle.nd_base.specs.Size.{size}
@@ -20,7 +21,9 @@ is_loose stride (Some next) = not (int_eq stride (pos next.0 *ℤ next.1))
 abbrev pub loose_joints : List ℕ → List ℤ → List ℕ
 loose_joints [] strides = []
 loose_joints (len ∷ lens) [] = []
-loose_joints (len ∷ lens) (stride ∷ strides) = (if nat_lt 1 len && is_loose stride (first_longer lens strides) then len ∷ [] else []) ++ map (λ joint. len * joint) (loose_joints lens strides)
+loose_joints (len ∷ lens) (stride ∷ strides) =
+    (if nat_lt 1 len && is_loose stride (first_longer lens strides) then len ∷ [] else [])
+    ++ map (λ joint. len * joint) (loose_joints lens strides)
 
 -- the products of the first lengths, of none of them up to all
 abbrev pub cumulative_products : List ℕ → List ℕ

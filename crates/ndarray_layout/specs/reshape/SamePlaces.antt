@@ -15,7 +15,8 @@ pub record Keeps (order : Order) (from : List ℕ) (strides : List ℤ) (to : Li
 
 -- two lists of strides have the same stride on each axis longer than 1
 abbrev pub AgreeOnLonger : List ℕ → List ℤ → List ℤ → Type 0
-AgreeOnLonger shape strides others = (axis : ℕ) → 1 < slice_index shape axis → slice_index_or strides axis (pos 0) ≡ slice_index_or others axis (pos 0)
+AgreeOnLonger shape strides others = (axis : ℕ) → 1 < slice_index shape axis
+    → slice_index_or strides axis (pos 0) ≡ slice_index_or others axis (pos 0)
 
 -- examples
 rows_as_one : Keeps RowMajor (2 ∷ 3 ∷ []) (pos 3 ∷ pos 1 ∷ []) (6 ∷ []) (pos 1 ∷ [])
