@@ -306,7 +306,7 @@ fn a_bound_of_the_list_is_added() {
         ),
         ("impl<T: Copy> ArrayViewMut<T> {} impl<D> Strided<D> { fn f() { self.strides; } }", ""),
         (
-            "impl<D: A + Copy> Copy for Indices<D> {} impl<T: Copy> Iterator for Places<T> { fn f() { self.index; } }",
+            "impl<D: A + Copy> Copy for Indices<D> {} impl<T: Copy> Iterator for Others<T> { fn f() { self.index; } }",
             "",
         ),
     ];

@@ -144,19 +144,19 @@ fn common_of<Output: Lengths>(
 ///
 /// `[2,3]` and `[4,1,3]`: `[4,2,3]`. ndarray's `co_broadcast`.
 #[inline]
-pub fn co_broadcast<D1: Lengths, D2: Lengths, Output: Lengths>(
+pub fn co_broadcast<First: Lengths, Second: Lengths, Output: Lengths>(
     alloc: Global,
-    shape1: &D1,
-    shape2: &D2,
+    shape1: &First,
+    shape2: &Second,
 ) -> Result<Output, LayoutError>
     requires { IsCount Output.NDIM
-        (max (length (D1.list shape1.now)) (length (D2.list shape2.now))) }
+        (max (length (First.list shape1.now)) (length (Second.list shape2.now))) }
     ensures fault { shape_fault result ≡
-        common_shape_fault (D1.list shape1.now) (D2.list shape2.now) }
+        common_shape_fault (First.list shape1.now) (Second.list shape2.now) }
     ensures common { IfOk result (λ common.
-        common_shape (D1.list shape1.now) (D2.list shape2.now) ≡ Some (Output.list common)) }
-    ensures memory { common_shape_fault (D1.list shape1.now) (D2.list shape2.now) ≡ None →
-        NeedsNoMemory Output.NDIM (max (length (D1.list shape1.now)) (length (D2.list shape2.now)))
+        common_shape (First.list shape1.now) (Second.list shape2.now) ≡ Some (Output.list common)) }
+    ensures memory { common_shape_fault (First.list shape1.now) (Second.list shape2.now) ≡ None →
+        NeedsNoMemory Output.NDIM (max (length (First.list shape1.now)) (length (Second.list shape2.now)))
         → IsOk result }
 {
     let (lens, others) = (shape1.slice(), shape2.slice());

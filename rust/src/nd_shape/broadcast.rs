@@ -187,20 +187,20 @@ fn common_of<Output: Lengths>(longer: &[usize], shorter: &[usize]) -> Result<Out
 /// <details><summary>Contract (proved)</summary>
 ///
 /// ```text
-/// requires IsCount Output.NDIM (max (length (D1.list shape1.now)) (length (D2.list shape2.now)))
-/// ensures fault: shape_fault result ≡ common_shape_fault (D1.list shape1.now) (D2.list shape2.now)
+/// requires IsCount Output.NDIM (max (length (First.list shape1.now)) (length (Second.list shape2.now)))
+/// ensures fault: shape_fault result ≡ common_shape_fault (First.list shape1.now) (Second.list shape2.now)
 /// ensures common: IfOk result (λ common.
-///     common_shape (D1.list shape1.now) (D2.list shape2.now) ≡ Some (Output.list common))
-/// ensures memory: common_shape_fault (D1.list shape1.now) (D2.list shape2.now) ≡ None →
-///     NeedsNoMemory Output.NDIM (max (length (D1.list shape1.now)) (length (D2.list shape2.now)))
+///     common_shape (First.list shape1.now) (Second.list shape2.now) ≡ Some (Output.list common))
+/// ensures memory: common_shape_fault (First.list shape1.now) (Second.list shape2.now) ≡ None →
+///     NeedsNoMemory Output.NDIM (max (length (First.list shape1.now)) (length (Second.list shape2.now)))
 ///     → IsOk result
 /// ```
 /// [How to read it](crate::contracts)
 /// </details>
 #[inline]
-pub fn co_broadcast<D1: Lengths, D2: Lengths, Output: Lengths>(
-    shape1: &D1,
-    shape2: &D2,
+pub fn co_broadcast<First: Lengths, Second: Lengths, Output: Lengths>(
+    shape1: &First,
+    shape2: &Second,
 ) -> Result<Output, LayoutError> {
     let (lens, others) = (shape1.slice(), shape2.slice());
     if lens.len() < others.len() { common_of(others, lens) } else { common_of(lens, others) }

@@ -32,6 +32,7 @@ abbrev pub left_in : Shapes → ℕ → ℕ → Layouts
 left_in both from_axes to_axes = layouts (drop from_axes (as_read both.order both.from.now))
     (drop from_axes (as_read both.order both.strides.now)) (drop to_axes (as_read both.order both.to.now))
 
+-- the same, for both counts as one value
 abbrev pub left_at : Shapes → Reached → Layouts
 left_at both at = left_in both at.from_axes at.to_axes
 
@@ -39,10 +40,11 @@ left_at both at = left_in both at.from_axes at.to_axes
 abbrev pub fault_of : Layouts → Option ErrorKind
 fault_of both = fault_as_read both.from both.strides both.to
 
--- the stride of an axis of the new shape, and those of all its axes
+-- the stride of an axis of the new shape
 abbrev pub forced_at : Layouts → ℕ → ℤ
 forced_at both axis = stride_at both.from both.strides both.to axis
 
+-- the strides of all its axes
 abbrev pub forced : Layouts → List ℤ
 forced both = map (forced_at both) (below (length both.to))
 
@@ -55,10 +57,11 @@ pub record CanMatch (both : Layouts) : Type 0 where
   pub to_fits : size both.to ≤ limit
   pub span_fits : span both.from both.strides ≤ limit
 
--- with an axis in front of the old shape, or of the new one
+-- with an axis in front of the old shape
 abbrev pub with_from : ℕ → ℤ → Layouts → Layouts
 with_from len stride both = record { from = len ∷ both.from; strides = stride ∷ both.strides; to = both.to }
 
+-- with an axis in front of the new shape
 abbrev pub with_to : ℕ → Layouts → Layouts
 with_to len both = record { from = both.from; strides = both.strides; to = len ∷ both.to }
 
@@ -89,6 +92,7 @@ abbrev pub block_strides : List ℕ → ℤ → List ℤ
 block_strides [] stride = []
 block_strides (len ∷ lens) stride = (pos (size lens) *ℤ stride) ∷ block_strides lens stride
 
+-- the strides of a block are written in front of so many others
 pub record WritesBlock (after : ℕ) (strides : List ℤ) (out others : List ℕ) : Type 0 where
   pub news : List ℕ
   pub strides_are : all_signed news ≡ strides
