@@ -13,7 +13,7 @@ use Rattle.ndarray_layout.proofs.laws.Lists.{Contains-map}
 use Rattle.nd_lent.specs.ArrayViewMut.{HasItemsOf}
 use Rattle.nd_lent.specs.Items.{item_at, item_at_place}
 use Rattle.nd_lent.specs.WrittenPart.{HasWrittenPart, IsOutside}
-use Rattle.nd_lent.specs.Written.{KeepsOthers}
+use Rattle.nd_lent.specs.Written.{KeepsAllBut}
 use Rattle.nd_lent.proofs.laws.SlicePlaces.{listed}
 
 module _ {T : Type 0} {source : List ℕ → List ℕ} {given : List ℕ → Option T} {before after : List T} {whole part : View}
@@ -44,7 +44,7 @@ module _ {T : Type 0} {source : List ℕ → List ℕ} {given : List ℕ → Opt
       ∙ sym (cond-true (is_index whole.shape index) (item_at_place before (place_at whole index)) None here)
 
   -- a place of the part is one of the whole
-  spare_kept : KeepsOthers (view_places RowMajor whole) before after
+  spare_kept : KeepsAllBut (view_places RowMajor whole) before after
   spare_kept place none = has.spare place (λ of_part. none
       (let at = listed RowMajor part (pos place) of_part in
       let there = kept.places at.0 at.1 in
