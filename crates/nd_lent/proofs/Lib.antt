@@ -9,5 +9,6 @@ pub mod Sets
 pub mod SliceParts
 pub mod SplitItems
 pub mod Steps
+pub mod Sums
 pub mod Within
 pub mod laws

@@ -17,6 +17,7 @@ mod folding;
 mod iterating;
 mod rows;
 mod steps;
+mod totals;
 
 pub use iterating::Iter;
 use ndarray_layout::{
@@ -26,6 +27,7 @@ pub(crate) use rows::is_contiguous;
 pub use rows::{LentRow, LentRows};
 use std::alloc::{AllocError, Global};
 use std::marker::Model;
+pub use totals::Unsigned;
 
 /// Items of any type that are kept elsewhere and lent, with a view that has a place among them for each index. Two indices
 /// may have one item, as after a broadcast. Items at no place of the view are spare ones, and no call shows them but
