@@ -121,6 +121,7 @@ pub const SEALED: &[&str] = &[
     "SequenceMut",
     "SliceArg",
     "SliceElems",
+    "Unsigned",
 ];
 
 /// Public traits that stay open: conversions, whose values are checked as any are, and traits that no caller can name.
@@ -222,6 +223,10 @@ pub const CONDITIONS: &[(&str, &str)] = &[
     (
         "CallableOnEachMut",
         "The function may be called with any item of the array, whatever it was called with before. Where it panics, so does this call, and the items before keep what it wrote.",
+    ),
+    (
+        "CallableWhile",
+        "The function may be called with any item of the array, whatever it was called with before. Where it panics, so does this call.",
     ),
     (
         "CallableOnAllAt",

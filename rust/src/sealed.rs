@@ -44,6 +44,14 @@ impl<T, const N: usize> Sealed for [T; N] {}
 
 impl<T: Sealed + ?Sized> Sealed for &T {}
 
+impl Sealed for u8 {}
+
+impl Sealed for u16 {}
+
+impl Sealed for u32 {}
+
+impl Sealed for u64 {}
+
 impl Sealed for usize {}
 
 /// Tuples: indices, and a slice argument with what goes with it.

@@ -1,5 +1,6 @@
 -- A sum that is kept as far as it fits: so far, with the items that are left, it is the sum of all.
-use Rattle.std.proofs.Common.{◌≡◌, ℕ, ◌+◌, ◌<◌, ◌≤◌, ◌^◌, ◌↔◌, Bool, true, false, nat_lt, Option, Some, None, List, ◌∷◌, IfSome, IsSome, refl, sym, ◌∙◌}
+use Rattle.std.proofs.Common.{◌≡◌, ℕ, ◌+◌, ◌<◌, ◌≤◌, ◌^◌, ◌↔◌, Bool, true, false, nat_lt, Option, Some, None, List, ◌∷◌, IfSome, IsSome}
+use Rattle.std.proofs.Common.{refl, sym, ◌∙◌}
 use Rattle.std.proofs.Common.{subst, Bor, arith}
 use Rattle.std.specs.List.{sum_by}
 use Rattle.std.specs.Fn.{Called, Mut, Takes}
@@ -30,10 +31,12 @@ pub record IsSum (all : ℕ) (total : Option ℕ) : Type 0 where
   pub sum : IfSome total (λ sum. sum ≡ all)
 
 at_end : (all : ℕ) (total : Option ℕ) → IsSumSoFar all 0 total → IsSum all total
-at_end all None past = record { fits = (λ some. let wrong : false ≡ true = some in absurd (cc), λ small. absurd (omega (arith, past, small))); sum = tt }
+at_end all None past =
+    record { fits = (λ some. let wrong : false ≡ true = some in absurd (cc), λ small. absurd (omega (arith, past, small))); sum = tt }
 at_end all (Some sum) (fits, is) = record { fits = (λ some. omega (arith, fits, is), λ small. refl); sum = omega (arith, is) }
 
-pub summed : {F T : Type 0} (g : Mut F (Option ℕ × (Bor T × Unit {0})) (Option ℕ)) (number : T → ℕ) {items : List (Option T)} {f : F} {result : Option ℕ}
+pub summed : {F T : Type 0} (g : Mut F (Option ℕ × (Bor T × Unit {0})) (Option ℕ))
+    (number : T → ℕ) {items : List (Option T)} {f : F} {result : Option ℕ}
     → ((item : Bor T) (f : F) (total : Option ℕ) → Takes g f (total, (item, tt)))
     → ((item : Bor T) (f h : F) (total next : Option ℕ) → Called g f (total, (item, tt)) next h → next ≡ sum_with total (number item.now))
     → FoldsItems lends g items f (Some 0) result → IsSum (sum_by (λ item. option_map_or number item 0) items) result

@@ -5,12 +5,14 @@ mod iterating;
 mod rows;
 mod folding;
 mod steps;
+mod totals;
 
 use crate::memory::AllocError;
 use crate::ndarray_layout::{CanIndexCheckMode, LayoutError, Lengths, NdIndex, ShapeError, StrideShape, Strided};
 pub use iterating::Iter;
 pub(crate) use rows::is_contiguous;
 pub use rows::{LentRow, LentRows};
+pub use totals::Unsigned;
 
 /// Items of any type that are kept elsewhere and lent, with a view that has a place among them for each index. Two indices
 /// may have one item, as after a broadcast. Items at no place of the view are spare ones, and no call shows them but

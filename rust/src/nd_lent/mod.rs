@@ -20,6 +20,6 @@ mod array_view_mut;
 mod indexing;
 mod parts_mut;
 
-pub use array_view::{ArrayView, Iter, LentRow, LentRows};
+pub use array_view::{ArrayView, Iter, LentRow, LentRows, Unsigned};
 pub use array_view_mut::{ArrayViewMut, SplitViews};
 pub use parts_mut::PartMut;

@@ -5,8 +5,10 @@ use Rattle.nd_lent.proofs.array_view.ArrayView.sum.Goals as goal
 
 pub returns-clause-fits : goal.returns-clause-fits
 returns-clause-fits g c =
-    (summed _ g.T.Unsigned.number (λ item f total. search rules) (λ item f h total next called. search (rules, called)) c.fold.ensures.ran).fits
+    (summed _ g.T.Unsigned.number (λ item f total. search rules)
+    (λ item f h total next called. search (rules, called)) c.fold.ensures.ran).fits
 
 pub returns-clause-sum : goal.returns-clause-sum
 returns-clause-sum g c =
-    (summed _ g.T.Unsigned.number (λ item f total. search rules) (λ item f h total next called. search (rules, called)) c.fold.ensures.ran).sum
+    (summed _ g.T.Unsigned.number (λ item f total. search rules)
+    (λ item f h total next called. search (rules, called)) c.fold.ensures.ran).sum

@@ -1,0 +1,133 @@
+// Made by `rust/erase` of `crates/nd_lent/src/array_view/totals.rt`: edit that.
+//! What is known of all items of an array at once: their sum, and whether some or all of them pass a test.
+
+use crate::nd_lent::array_view::ArrayView;
+use crate::ndarray_layout::Lengths;
+
+/// An unsigned number of any of the widths. num_traits' `Unsigned`.
+///
+/// Sealed: no type outside this package implements it.
+pub trait Unsigned: Copy + crate::sealed::Sealed {
+    /// The number, by the greatest width. `3_u8` as a `u64`: 3. num_traits' `to_u64`.
+    ///
+    /// <details><summary>Contract (proved)</summary>
+    ///
+    /// ```text
+    /// ensures result ≡ number self
+    /// ```
+    /// [How to read it](crate::contracts)
+    /// </details>
+    #[must_use]
+    fn to_u64(self) -> u64;
+}
+
+impl Unsigned for u8 {
+    #[inline(always)]
+    fn to_u64(self) -> u64 {
+        u64::from(self)
+    }
+}
+
+impl Unsigned for u16 {
+    #[inline(always)]
+    fn to_u64(self) -> u64 {
+        u64::from(self)
+    }
+}
+
+impl Unsigned for u32 {
+    #[inline(always)]
+    fn to_u64(self) -> u64 {
+        u64::from(self)
+    }
+}
+
+impl Unsigned for u64 {
+    #[inline(always)]
+    fn to_u64(self) -> u64 {
+        self
+    }
+}
+
+impl Unsigned for usize {
+    #[inline(always)]
+    fn to_u64(self) -> u64 {
+        self as u64
+    }
+}
+
+impl<T: Unsigned, D: Lengths> ArrayView<'_, T, D> {
+    /// The sum of the items, an item as often as the array has indices for it; `None` where it passes the greatest `u64`.
+    ///
+    /// Time in proportion to the indices, by `fold`.
+    ///
+    /// `[2]` with the stride `[-1]` over 7 8 9: 15; of `u8` items too, since they are added as `u64`. ndarray's `sum`.
+    ///
+    /// <details><summary>Contract (proved)</summary>
+    ///
+    /// ```text
+    /// ensures fits: IsSome result ↔ (sum_by (λ item. option_map_or T.number item 0)
+    ///     (map (item_at_place self.now.items) (view_places RowMajor self.now.view)) < 2 ^ 64)
+    /// ensures sum: IfSome result (λ total. total ≡ sum_by (λ item. option_map_or T.number item 0)
+    ///     (map (item_at_place self.now.items) (view_places RowMajor self.now.view)))
+    /// ```
+    /// [How to read it](crate::contracts)
+    /// </details>
+    #[inline]
+    #[must_use]
+    pub fn sum(&self) -> Option<u64> {
+        self.fold(Some(0), |total: Option<u64>, item: &T| total?.checked_add(item.to_u64()))
+    }
+}
+
+impl<T, D: Lengths> ArrayView<'_, T, D> {
+    /// Whether a function returns `true` at some item. It is called at one item after another, in row-major order, and at none
+    /// after the first one that passes. Without items `false`.
+    ///
+    /// `[2]` with the stride `[-1]` over 7 8 9, by `any(|item| *item > 8)`: `false`. std's `any` of `iter()`.
+    ///
+    /// # Conditions
+    ///
+    /// The function may be called with any item of the array, whatever it was called with before. Where it panics, so
+    /// does this call.
+    ///
+    /// <details><summary>Contract (proved)</summary>
+    ///
+    /// ```text
+    /// requires callable: CallableWhile lends F.FnMut false
+    ///     (map (item_at_place self.now.items) (view_places RowMajor self.now.view)) f
+    /// ensures ran: (left : List (Option T)) × ChecksAny lends F.FnMut
+    ///     (map (item_at_place self.now.items) (view_places RowMajor self.now.view)) f result left
+    /// ```
+    /// [How to read it](crate::contracts)
+    /// </details>
+    #[inline]
+    pub fn any<F: FnMut(&T) -> bool>(&self, f: F) -> bool {
+        self.iter().any(f)
+    }
+
+    /// Whether a function returns `true` at each item. It is called at one item after another, in row-major order, and at none
+    /// after the first one that fails. Without items `true`.
+    ///
+    /// `[2]` with the stride `[-1]` over 7 8 9, by `all(|item| *item > 6)`: `true`. std's `all` of `iter()`.
+    ///
+    /// # Conditions
+    ///
+    /// The function may be called with any item of the array, whatever it was called with before. Where it panics, so
+    /// does this call.
+    ///
+    /// <details><summary>Contract (proved)</summary>
+    ///
+    /// ```text
+    /// requires callable: CallableWhile lends F.FnMut true
+    ///     (map (item_at_place self.now.items) (view_places RowMajor self.now.view)) f
+    /// ensures ran: (left : List (Option T)) × ChecksAll lends F.FnMut
+    ///     (map (item_at_place self.now.items) (view_places RowMajor self.now.view)) f result left
+    /// ```
+    /// [How to read it](crate::contracts)
+    /// </details>
+    #[inline]
+    pub fn all<F: FnMut(&T) -> bool>(&self, f: F) -> bool {
+        self.iter().all(f)
+    }
+}
