@@ -1,0 +1,10 @@
+pub mod Crosses
+pub mod Held
+pub mod Lends
+pub mod One
+pub mod Parted
+pub mod Places
+pub mod Shared
+pub mod Stretch
+pub mod Taken
+pub mod Where

@@ -1,0 +1,4 @@
+//! Parts of an array that are lent at once.
+#![tactic(auto)]
+
+pub mod part;

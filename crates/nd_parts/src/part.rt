@@ -1,0 +1,125 @@
+//! A part of an array: a view, and the right to its items alone.
+ghost use Rattle.std.specs.Option.{IsSome};
+ghost use Rattle.std.specs.Prelude.{◌≡◌, ◌↔◌, IsTrue, IfOk, IsOk, None, length, option_copied, replicate, true};
+ghost use Rattle.ndarray_layout.specs.Indices.{is_index};
+ghost use Rattle.ndarray_layout.specs.Memory.{NeedsNoMemory};
+ghost use Rattle.ndarray_layout.specs.ShapeFault.{shape_fault};
+ghost use Rattle.ndarray_layout.specs.SplitView.{first_part_of, second_part_of, split_fault};
+ghost use Rattle.ndarray_layout.specs.DistinctPlaces.{HasDistinctPlaces};
+ghost use Rattle.ndarray_layout.specs.View.{IsView};
+ghost use Rattle.nd_lent.specs.Items.{IsOwned};
+ghost use Rattle.nd_parts.specs.Part.{IsPart};
+
+use nd_cells::cells::Cells;
+use ndarray_layout::{Axis, LayoutError, Lengths, NdIndex, Strided};
+use std::alloc::Global;
+
+/// A part of an array, to be read and written beside other parts of the same items: a view, and the right to the items at its
+/// places, at the price of a pointer. Nothing else of the items is read or written.
+///
+/// The rows 0 and 1 of 7 8 9 10 by two: one part has 7 8, the other 9 10. The project's own.
+#[derive(Drop)]
+pub struct PartMut<'a, T, D: Lengths> {
+    cells: Cells<'a, T>,
+    view: Strided<D>,
+    ghost fits: { IsPart cells.marks view },
+    ghost is_view: { IsView view },
+    ghost distinct: { HasDistinctPlaces view },
+}
+
+impl<'a, T: Drop, D: Lengths> PartMut<'a, T, D> {
+    ghost use Rattle.nd_lent.specs.Items.{item_at, with_item};
+    ghost use Rattle.nd_parts.specs.Lent.{array_of};
+
+    /// The part of all indices of a view. The caller ensures that each index has an item to itself, as
+    /// `Strided::from_shape`, `new` and `from_parts` check it in owned mode. Takes no memory.
+    ///
+    /// `[2]`, `[-1]` from 1 over 7 8 9: (0) is 8, (1) is 7, and 9 is no part of it. The project's own.
+    pub fn new(view: Strided<D>, items: &'a mut [T]) -> Self
+        requires { IsOwned (length items.old) view }
+        ensures items { (array_of result).items ≡ items.old }
+        ensures view { (array_of result).view ≡ view }
+    {
+        let cells = Cells::new(items);
+        PartMut { cells, view }
+    }
+
+    /// The view, by which each index of the part has its place among all items. The project's own.
+    pub fn view(&self) -> &Strided<D>
+        ensures { result.now ≡ (array_of self.now).view }
+    {
+        &self.view
+    }
+
+    /// The item of an index; `None` where it is no index of the shape.
+    ///
+    /// `[2]`, `[-1]` from 1 over 7 8 9: (0) is 8, and (2) is `None`. ndarray's `get`.
+    pub fn get<I: NdIndex<D>>(&self, index: &I) -> Option<&T>
+        ensures found { IsSome result ↔
+            IsTrue (is_index (array_of self.now).view.shape (I.index_list index.now)) }
+        ensures item { option_copied result ≡
+            item_at (array_of self.now) (I.index_list index.now) }
+    {
+        let place = self.view.place(index)?;
+        Some(self.cells.get(place))
+    }
+
+    /// Replaces the item of an index, and returns whether it is an index of the shape; else the part is unchanged.
+    ///
+    /// `[2]`, `[-1]` from 1 over 7 8 9: 5 at (1) makes the items 5 8 9. ndarray's `get_mut`, with the write.
+    pub fn set<I: NdIndex<D>>(&mut self, index: &I, item: T) -> bool
+        ensures is_index { result ≡
+            is_index (array_of self.old).view.shape (I.index_list index.now) }
+        ensures written { array_of self.new ≡
+            with_item (array_of self.old) (I.index_list index.now) item }
+    {
+        match self.view.place(index) {
+            Some(place) => {
+                *self.cells.get_mut(place) = item;
+                true
+            },
+            None => false,
+        }
+    }
+
+    /// The parts of the coordinates below `index` on an axis, and of those from `index` on; both may be used at once, and in
+    /// threads, whatever the strides are.
+    ///
+    /// # Errors
+    ///
+    /// Those of `Strided::split_at`: `OutOfBounds` where there is no such axis or the index is greater than its length; then out
+    /// of memory, never where the type fixes the count of axes or there are at most 4. The part is gone then.
+    ///
+    /// Columns of `[2,2]`, `[2,1]` from 0 over 7 8 9 10, at 1: one part has 7 9, the other 8 10. ndarray's `split_at`.
+    pub fn split_at(
+        self,
+        alloc: Global,
+        axis: Axis,
+        index: usize,
+    ) -> Result<(Self, Self), LayoutError>
+        ensures fault { shape_fault result ≡ split_fault (array_of self.entry).view.shape axis.0 index }
+        ensures memory { shape_fault result ≡ None →
+            NeedsNoMemory D.NDIM (length (array_of self.entry).view.shape) → IsOk result }
+        ensures items { IfOk result (λ (first, second).
+            ((array_of first).items ≡ (array_of self.entry).items)
+            × ((array_of second).items ≡ (array_of self.entry).items)) }
+        ensures first { IfOk result (λ (first, second).
+            (array_of first).view ≡ first_part_of axis.0 index (array_of self.entry).view) }
+        ensures second { IfOk result (λ (first, second).
+            (array_of second).view ≡ second_part_of axis.0 index (array_of self.entry).view) }
+    {
+        let PartMut { cells, view } = self;
+        let (first, second) = view.split_at(alloc, axis, index)?;
+        let (one, other) = cells.split(&first);
+        Ok((
+            PartMut {
+                cells: one,
+                view: first,
+            },
+            PartMut {
+                cells: other,
+                view: second,
+            },
+        ))
+    }
+}
