@@ -1,5 +1,6 @@
 pub mod Apart
 pub mod ContiguousRows
+pub mod Extremes
 pub mod Folding
 pub mod Lent
 pub mod Pieces

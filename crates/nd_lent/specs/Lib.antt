@@ -1,5 +1,6 @@
 pub mod ArrayView
 pub mod ArrayViewMut
+pub mod Extremes
 pub mod Items
 pub mod Lender
 pub mod Lending

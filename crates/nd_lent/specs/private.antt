@@ -1,3 +1,4 @@
 pub mod Folded
+pub mod Picked
 pub mod Pieces
 pub mod Summed

@@ -13,6 +13,7 @@ ghost use Rattle.ndarray_layout.specs.Size.{size};
 ghost use Rattle.nd_lent.specs.ArrayView.{HasItems};
 ghost use Rattle.nd_lent.specs.Items.{item_at, view_from_0};
 
+mod extremes;
 mod folding;
 mod iterating;
 mod rows;
