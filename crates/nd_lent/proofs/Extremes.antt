@@ -1,5 +1,7 @@
--- The best of items by an order, one item after another: it is one of them, and whatever comes first of it and of those that are left comes first of all.
-use Rattle.std.proofs.Common.{◌≡◌, suc, ◌<◌, ◌↔◌, ◌⊎◌, inl, inr, Bool, true, false, cond, Option, Some, None, List, [], ◌∷◌, length, IfSome, IsSome, refl, sym, ap}
+-- The best of items by an order, one item after another: it is one of them, and whatever comes first of it and of those that are left
+-- comes first of all.
+use Rattle.std.proofs.Common.{◌≡◌, suc, ◌<◌, ◌↔◌, ◌⊎◌, inl, inr, Bool, true, false, cond, Option, Some, None, List, [], ◌∷◌, length, IfSome}
+use Rattle.std.proofs.Common.{IsSome, refl, sym, ap}
 use Rattle.std.proofs.Common.{subst, ◌∙◌, Bor, arith}
 use Rattle.std.specs.Cmp.{IsTotalOrder}
 use Rattle.std.specs.List.{All, Contains}
@@ -88,7 +90,8 @@ module _ {K : Type 0} {R : K → K → Ordering} (total : IsTotalOrder R) where
           let first : is_gt (R other best) ≡ false = sym (less_is_greater best other) ∙ none in
           (none, less_is_greater item other ∙ upto total other best item first (sym (less_is_greater item best) ∙ more))
 
-module _ {F T : Type 0} (g : Mut F (Option T × (Bor T × Unit {0})) (Option T)) {comes_before : T → T → Bool} {pick : T → T → T} (picks : Picks comes_before pick)
+module _ {F T : Type 0} (g : Mut F (Option T × (Bor T × Unit {0})) (Option T)) {comes_before : T → T → Bool} {pick : T → T → T}
+    (picks : Picks comes_before pick)
     (items : List (Option T)) where
   abbrev NotBefore : T → Option T → Type 0
   NotBefore first item = option_map_or (λ other. comes_before other first) item false ≡ false

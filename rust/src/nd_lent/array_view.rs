@@ -5,6 +5,7 @@ mod iterating;
 mod rows;
 mod folding;
 mod steps;
+mod extremes;
 mod totals;
 
 use crate::memory::AllocError;

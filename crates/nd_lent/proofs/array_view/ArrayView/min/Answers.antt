@@ -13,7 +13,8 @@ pub returns-clause-found : goal.returns-clause-found
 returns-clause-found g c =
     let view = c.args.self.now.view in
     let items = map (item_at_place c.args.self.now.items) (view_places RowMajor view) in
-    let best = picked _ (picks_less g.met.T.Ord.total) items (λ item f best. search rules) (λ item f h best next called. search (rules, called))
+    let best = picked _ (picks_less g.met.T.Ord.total) items (λ item f best. search rules)
+    (λ item f h best next called. search (rules, called))
     c.fold.ensures.ran in
     let count : length items ≡ size view.shape =
     length-map (view_places RowMajor view) (item_at_place c.args.self.now.items) ∙ length-view_places RowMajor view in
@@ -21,5 +22,6 @@ returns-clause-found g c =
 
 pub returns-clause-least : goal.returns-clause-least
 returns-clause-least g c =
-    (picked _ (picks_less g.met.T.Ord.total) (map (item_at_place c.args.self.now.items) (view_places RowMajor c.args.self.now.view)) (λ item f best. search rules)
+    (picked _ (picks_less g.met.T.Ord.total) (map (item_at_place c.args.self.now.items) (view_places RowMajor c.args.self.now.view))
+    (λ item f best. search rules)
     (λ item f h best next called. search (rules, called)) c.fold.ensures.ran).first

@@ -1,0 +1,57 @@
+// Made by `rust/erase` of `crates/nd_lent/src/array_view/extremes.rt`: edit that.
+//! The least and the greatest item of an array.
+
+use crate::nd_lent::array_view::ArrayView;
+use crate::ndarray_layout::Lengths;
+
+impl<T: Copy + Ord, D: Lengths> ArrayView<'_, T, D> {
+    /// The greatest item; `None` where the array has no index.
+    ///
+    /// Time in proportion to the indices, by `fold`.
+    ///
+    /// `[2]` with the stride `[-1]` over 7 8 9: 8. std's `max` of `iter()`.
+    ///
+    /// <details><summary>Contract (proved)</summary>
+    ///
+    /// ```text
+    /// ensures found: IsSome result ↔ (0 < size self.now.view.shape)
+    /// ensures greatest: IfSome result (IsFirstOf (λ one other. is_gt (T.cmp one other))
+    ///     (map (item_at_place self.now.items) (view_places RowMajor self.now.view)))
+    /// ```
+    /// [How to read it](crate::contracts)
+    /// </details>
+    #[inline]
+    #[must_use]
+    pub fn max(&self) -> Option<T> {
+        let greater = |greatest: Option<T>, item: &T| match greatest {
+            Some(greatest) => Some(greatest.max(*item)),
+            None => Some(*item),
+        };
+        self.fold(None, greater)
+    }
+
+    /// The least item; `None` where the array has no index.
+    ///
+    /// Time in proportion to the indices, by `fold`.
+    ///
+    /// `[2]` with the stride `[-1]` over 7 8 9: 7. std's `min` of `iter()`.
+    ///
+    /// <details><summary>Contract (proved)</summary>
+    ///
+    /// ```text
+    /// ensures found: IsSome result ↔ (0 < size self.now.view.shape)
+    /// ensures least: IfSome result (IsFirstOf (λ one other. is_lt (T.cmp one other))
+    ///     (map (item_at_place self.now.items) (view_places RowMajor self.now.view)))
+    /// ```
+    /// [How to read it](crate::contracts)
+    /// </details>
+    #[inline]
+    #[must_use]
+    pub fn min(&self) -> Option<T> {
+        let less = |least: Option<T>, item: &T| match least {
+            Some(least) => Some(least.min(*item)),
+            None => Some(*item),
+        };
+        self.fold(None, less)
+    }
+}
