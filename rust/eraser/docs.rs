@@ -3,7 +3,7 @@
 
 use crate::names::{CONDITIONS, OF_PROOFS};
 use crate::paragraphs::Paragraphs;
-use crate::tokens::{Token, Tree, text_of};
+use crate::tokens::{Token, Tree, length_of_generics, text_of};
 
 /// What the documentation of a sealed trait says of that.
 const SEALED: &str = "Sealed: no type outside this package implements it.";
@@ -36,6 +36,8 @@ pub struct Contract {
     clauses: Vec<String>,
     /// Whether callers can name the item.
     pub is_public: bool,
+    /// The name of the item, where it is a function.
+    pub name: String,
     /// Whether the item is a function.
     pub is_function: bool,
     /// Whether the item is a function whose result has to be used.
@@ -109,9 +111,9 @@ impl Contract {
         out.insert_str(self.start + space.len(), &line);
     }
 
-    /// Writes to the documentation, if there is one, that a trait is sealed, the conditions in words and the clauses, and takes
-    /// from it what only who writes proofs reads. The error is a condition of a public item for which there are no words.
-    pub fn write_to(&self, out: &mut String, package: &str) -> Result<(), String> {
+    /// Writes to the documentation, if there is one, that a trait is sealed, the conditions in words, an example and the clauses, and
+    /// takes from it what only who writes proofs reads. The error is a condition of a public item for which there are no words.
+    pub fn write_to(&self, out: &mut String, example: &[String], package: &str) -> Result<(), String> {
         let docs = &out[self.docs..self.start];
         if !self.is_documented || !docs.starts_with("///") {
             return Ok(());
@@ -129,13 +131,18 @@ impl Contract {
             paragraphs.push("# Conditions");
             paragraphs.push(&words);
         }
+        if !example.is_empty() {
+            paragraphs.push("# Examples");
+            paragraphs.push_lines(&example.iter().map(String::as_str).collect::<Vec<_>>());
+        }
         if !self.clauses.is_empty() {
             let clauses: Vec<&str> = self.clauses.iter().map(String::as_str).collect();
             let page = format!("[How to read it]({}::contracts)", package.trim_start_matches(':'));
             paragraphs.push_lines(&["<details><summary>Contract (proved)</summary>"]);
             paragraphs.push_lines(&[&["```text"], &clauses[..], &["```", &page, "</details>"]].concat());
         }
-        if for_proofs > 0 || self.is_sealed || self.is_indexing || !self.clauses.is_empty() {
+        let has_more = !self.clauses.is_empty() || !example.is_empty();
+        if for_proofs > 0 || self.is_sealed || self.is_indexing || has_more {
             let line = |line: &String| format!("{}/// {line}", self.indent).trim_end().to_string();
             let lines: Vec<String> = paragraphs.lines().iter().map(line).collect();
             out.replace_range(self.docs..self.start, lines.join("\n").trim_start());
@@ -158,4 +165,19 @@ impl Contract {
             None => Err(format!("has a condition, `{first}`, that no words tell")),
         }
     }
+}
+
+/// Whether an impl is one of brackets, of a value that is indexed.
+pub fn indexes(trees: &[Tree]) -> bool {
+    let mut head = trees[1 + length_of_generics(&trees[1..])..].iter();
+    head.next().is_some_and(|tree| tree.is("Index") || tree.is("IndexMut"))
+}
+
+/// Whether a function returns something, of which nobody is told where it is dropped. That of a `Result` is told anyway, and a
+/// function may be called for what a closure of its caller does. The trees begin after its name.
+pub fn is_called_for_its_result(trees: &[Tree]) -> bool {
+    let (generics, rest) = trees.split_at(length_of_generics(trees));
+    let calls_closure = generics.iter().any(|tree| tree.is("FnMut"));
+    matches!(rest, [_, minus, arrow, result, ..] if minus.is("-") && arrow.is(">") && !result.is("Result"))
+        && !calls_closure
 }

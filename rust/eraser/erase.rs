@@ -3,8 +3,9 @@
 
 use crate::bounds::{Replaced, added_to};
 use crate::differences::ends_value;
-use crate::docs::Contract;
+use crate::docs::{Contract, indexes, is_called_for_its_result};
 use crate::errors;
+use crate::examples::Example;
 use crate::library::without_memory;
 use crate::names::{ATTRIBUTES, DERIVES, OPEN, PRINTED, REFUSED, SEALED};
 use crate::proofs;
@@ -20,6 +21,8 @@ pub struct Names<'a> {
     pub library: &'a [&'a str],
     /// The path of the package: `crate` or `::ndarray_layout`.
     pub package: &'a str,
+    /// What its calls have as examples.
+    pub examples: &'a [Example],
     /// Whether each function is made `#[inline]`: the kit compiles a program whole, and rustc crate by crate.
     pub inlined: bool,
 }
@@ -49,6 +52,7 @@ pub fn erase(trees: &[Tree], names: &Names) -> Result<Erased, Fault> {
         head: 0,
         modules: Vec::new(),
         contract: Contract::default(),
+        of_impl: String::new(),
         in_trait: false,
         replaced: Vec::new(),
         bracket: "",
@@ -67,6 +71,8 @@ pub(crate) struct Eraser<'a> {
     modules: Vec<(usize, String)>,
     /// The clauses of the item at hand.
     pub(crate) contract: Contract,
+    /// The type whose calls the impl at hand has.
+    pub(crate) of_impl: String,
     /// Whether that is an item of a sealed trait.
     pub(crate) in_trait: bool,
     /// What is replaced in the impl at hand.
@@ -136,12 +142,14 @@ impl<'a> Eraser<'a> {
 
     /// Notes of the item at hand what its next token says.
     fn note(&mut self, trees: &[Tree]) {
+        self.note_impl(trees);
         let is_named = trees.get(1).and_then(Tree::word).is_some();
         self.contract.is_public |= is_named && trees[0].is("pub");
         self.contract.is_indexing |= trees[0].is("impl") && indexes(trees);
         if is_named && trees[0].is("fn") {
             let is_public = self.contract.is_public || self.in_trait;
             self.contract.is_function = true;
+            self.contract.name = trees[1].first().text.to_string();
             self.contract.must_use = self.names.is_packed() && is_public && is_called_for_its_result(&trees[2..]);
         }
     }
@@ -168,7 +176,8 @@ impl<'a> Eraser<'a> {
     /// Writes the contract of the item at hand, whose head ends at a token.
     fn write_contract(&mut self, end: &Token) -> Result<(), Fault> {
         self.contract.is_public &= self.names.is_packed();
-        self.contract.write_to(&mut self.out, self.names.package).map_err(|what| fault(end, &what))
+        let example = self.example().map_err(|what| fault(end, &what))?.to_vec();
+        self.contract.write_to(&mut self.out, &example, self.names.package).map_err(|what| fault(end, &what))
     }
 
     pub(crate) fn put(&mut self, lead: &str, text: &str) {
@@ -440,21 +449,6 @@ fn body_of_impl(trees: &[Tree], of: &str) -> Option<usize> {
     let body = trees.iter().position(|tree| tree.group("{").is_some())?;
     let is_of = trees[..body].windows(2).any(|pair| pair[0].is(of) && pair[1].is("for"));
     (trees[0].is("impl") && is_of).then_some(body)
-}
-
-/// Whether an impl is one of brackets, of a value that is indexed.
-fn indexes(trees: &[Tree]) -> bool {
-    let mut head = trees[1 + length_of_generics(&trees[1..])..].iter();
-    head.next().is_some_and(|tree| tree.is("Index") || tree.is("IndexMut"))
-}
-
-/// Whether a function returns something, of which nobody is told where it is dropped. That of a `Result` is told anyway, and a
-/// function may be called for what a closure of its caller does. The trees begin after its name.
-fn is_called_for_its_result(trees: &[Tree]) -> bool {
-    let (generics, rest) = trees.split_at(length_of_generics(trees));
-    let calls_closure = generics.iter().any(|tree| tree.is("FnMut"));
-    matches!(rest, [_, minus, arrow, result, ..] if minus.is("-") && arrow.is(">") && !result.is("Result"))
-        && !calls_closure
 }
 
 /// The bracket that a group opens with.

@@ -7,6 +7,7 @@ mod differences;
 mod docs;
 mod erase;
 mod errors;
+mod examples;
 mod exports;
 mod library;
 mod modules;
@@ -18,6 +19,7 @@ mod proofs;
 mod tokens;
 
 use erase::Names;
+use examples::examples_in;
 use modules::{Fallible, files_of, module_of};
 use std::path::Path;
 use std::{env, fs};
@@ -45,6 +47,9 @@ const FOLDERS: &[(&str, &[&str], &[&[&str]])] = &[
     ("rust/tests/examples", EXAMPLES, &[EXAMPLES]),
     (FOR_C, EXPORTS, &[EXPORTS]),
 ];
+
+/// The pages of examples.
+const OF_CALLS: &str = "rust/eraser/examples";
 
 /// The folder of the package's own modules.
 const LIBRARY: &str = "rust/src";
@@ -111,6 +116,7 @@ fn main() -> Fallible<()> {
 
 /// Writes what is made. What a copy of the repository leaves out is not made.
 fn write(top: &Path, into: &Path) -> Fallible<()> {
+    let of_calls = examples_in(&top.join(OF_CALLS))?;
     for (folder, crates, beside) in FOLDERS {
         let beside = beside.concat();
         let is_library = *folder == LIBRARY;
@@ -120,7 +126,7 @@ fn write(top: &Path, into: &Path) -> Fallible<()> {
             if !source.exists() {
                 continue;
             }
-            let names = Names { own, beside: &beside, library: LAYER, package, inlined: is_library };
+            let names = Names { own, beside: &beside, library: LAYER, package, examples: if is_library { &of_calls } else { &[] }, inlined: is_library };
             for (place, text) in files_of(&source, &names, &attributes("#!", is_library || *folder == FOR_C), *folder == FOR_C)? {
                 let file = into.join(folder).join(own).join(place);
                 fs::create_dir_all(file.parent().unwrap_or(into))?;
@@ -128,7 +134,10 @@ fn write(top: &Path, into: &Path) -> Fallible<()> {
             }
         }
     }
-    Ok(())
+    match of_calls.iter().find(|example| !example.is_placed.get()) {
+        Some(example) => Err(format!("{OF_CALLS}: {} is no call that others see", example.name).into()),
+        None => Ok(()),
+    }
 }
 
 /// Prints the lines of code of a file, each with its place.
@@ -143,7 +152,7 @@ fn print_code(file: &str) -> Fallible<()> {
 
 /// Prints a crate above the package as one module, and its exports as C calls them.
 fn print_crate(name: &str, folder: &Path) -> Fallible<()> {
-    let names = Names { own: name, beside: &[], library: LAYER, package: "::ndarray_layout", inlined: false };
+    let names = Names { own: name, beside: &[], library: LAYER, package: "::ndarray_layout", examples: &[], inlined: false };
     let body = module_of(&folder.join("lib.rt"), folder, &names, true)?;
     println!("{}pub mod {name} {{\n{body}\n}}", attributes("#", false));
     Ok(())

@@ -20,11 +20,9 @@ pub record ShowsItemsOf {T : Type 0} (source : List ℕ → List ℕ) (old new :
       → (is_index old.view.shape (source index) ≡ true) × (item_at new index ≡ item_at old (source index))
 
 -- an array with the items of another one, by the view that a step makes of its view: each index has the item of its source, and the new
--- view keeps what
--- the step keeps of the old one
+-- view keeps what the step keeps of the old one
 pub record IsArrayOfStep {T : Type 0} (keeps : (List ℕ → List ℕ) → View → View → Type 0) (source : List ℕ → List ℕ) (step : View → View)
-    (old new : ArrayValue T)
-    : Type 0 where
+    (old new : ArrayValue T) : Type 0 where
   pub view : new.view ≡ step old.view
   pub items : ShowsItemsOf source old new
   pub kept : keeps source old.view new.view

@@ -8,5 +8,4 @@ pub use Rattle.nd_lent.proofs.laws.PartItems
 pub use Rattle.nd_lent.proofs.laws.RowItems
 pub use Rattle.nd_lent.proofs.laws.SlicePlaces
 pub use Rattle.nd_lent.proofs.laws.Written
-
 pub mod Writes

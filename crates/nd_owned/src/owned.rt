@@ -2,33 +2,28 @@
 ghost use Rattle.std.specs.Borrow.{Array, Lends, sem};
 ghost use Rattle.std.specs.List.{All};
 ghost use Rattle.std.specs.Option.{IsSome};
-ghost use Rattle.std.specs.Prelude.{◌≡◌, ◌↔◌, ◌∷◌, [], IsTrue, Some, None, IfErr, IfOk, IsOk, OnErr, OnOk, length, map, slice_get, vec_len};
-ghost use Rattle.ndarray_layout.specs.declared.CanIndexCheckMode.TheVariants.{OwnedMutable};
+ghost use Rattle.std.specs.Prelude.{◌≡◌, ◌↔◌, ◌∷◌, [], IsTrue, Some, None, IfOk, IsOk, OnErr, OnOk, length, map, slice_get};
 ghost use Rattle.ndarray_layout.specs.declared.Fit.TheVariants.{Strict};
 ghost use Rattle.ndarray_layout.specs.declared.Order.TheVariants.{RowMajor};
-ghost use Rattle.ndarray_layout.specs.AcceptanceByStrides.{acceptance_by_strides};
 ghost use Rattle.ndarray_layout.specs.SliceFault.{argument_fault};
 ghost use Rattle.ndarray_layout.specs.Indices.{is_index};
 ghost use Rattle.ndarray_layout.specs.Memory.{NeedsNoMemory};
-ghost use Rattle.ndarray_layout.specs.ShapeBuilder.{custom_strides, strides_list};
 ghost use Rattle.ndarray_layout.specs.ShapeFault.{shape_fault};
 ghost use Rattle.ndarray_layout.specs.Size.{size};
 ghost use Rattle.ndarray_layout.specs.SlicedView.{slice_of};
 ghost use Rattle.ndarray_layout.specs.View.{view_places};
-ghost use Rattle.nd_owned.specs.Owned.{IsOfNone, shape_fault_of, with_items};
-ghost use Rattle.nd_lent.specs.Items.{IsOwned, item_at, item_at_place, view_from_0, with_item};
+ghost use Rattle.nd_owned.specs.Owned.{IsOfNone, with_items};
+ghost use Rattle.nd_lent.specs.Items.{IsOwned, item_at, item_at_place, with_item};
 ghost use Rattle.nd_owned.specs.MultiSet.{HaveNoItems, IsFaultOfWrites, IsWritten, KeepsOthers, counts_fault, write_of, write_places};
 ghost use Rattle.nd_owned.specs.private.Written.{HasWritten};
 
+mod making;
 mod mapping;
 
 use crate::multi_set::{check_apart, check_counts, picked_by_write, picked_views, write_all};
 use crate::picked_view::PickedView;
 use nd_lent::{ArrayView, ArrayViewMut};
-use ndarray_layout::{
-    CanIndexCheckMode, LayoutError, Lengths, NdIndex, SliceElems, SliceInfoElem, StrideShape,
-    Strided,
-};
+use ndarray_layout::{LayoutError, Lengths, NdIndex, SliceElems, SliceInfoElem, Strided};
 use std::alloc::{AllocError, Global};
 use std::marker::Model;
 
@@ -57,43 +52,6 @@ impl<T, D: Lengths> Model for OwnedArray<T, D> {
 impl<T: Drop, D: Lengths> OwnedArray<T, D> {
     ghost use Rattle.nd_owned.specs.contracts.owned.OwnedArray.{the_row};
     ghost use Rattle.nd_lent.specs.Lender.{array_of};
-
-    /// The array of a shape, by its own strides or by given ones, over a list of items.
-    ///
-    /// The lowest place of the layout is 0, the first item of the list. Items past the layout, or between its places, are
-    /// kept as spare ones.
-    ///
-    /// # Errors
-    ///
-    /// Those of `Strided::from_shape` in owned mode, over as many elements of one byte as the list has items. The list
-    /// comes back with the error.
-    ///
-    /// `[2]` with the stride `[-1]` over 7 8 9 is `a`. ndarray's `from_shape_vec`.
-    pub fn from_shape_vec(
-        alloc: Global,
-        shape: StrideShape<D>,
-        items: Vec<T>,
-    ) -> Result<Self, (LayoutError, Vec<T>)>
-        ensures fault { shape_fault_of result ≡
-            acceptance_by_strides D.list 1 (vec_len items) OwnedMutable
-            (D.list shape.dim) shape.strides }
-        ensures given { shape_fault_of result ≡ None → IsSome (custom_strides shape.strides) →
-            IsOk result }
-        ensures memory { shape_fault_of result ≡ None →
-            NeedsNoMemory D.NDIM (length (D.list shape.dim)) → IsOk result }
-        ensures stored { IfOk result (λ a. a.items ≡ items.items) }
-        ensures view { IfOk result (λ a. a.view ≡
-            view_from_0 (D.list shape.dim)
-            (strides_list D.list (D.list shape.dim) shape.strides)) }
-        ensures owned { IfOk result (λ a. IsOwned (length a.items) a.view) }
-        ensures handed_back { IfErr result (λ error. error.1 ≡ items) }
-    {
-        let len = items.len();
-        match Strided::from_shape(alloc, shape, 1, len, CanIndexCheckMode::OwnedMutable) {
-            Ok(view) => Ok(OwnedArray { items, view }),
-            Err(fault) => Err((fault, items)),
-        }
-    }
 
     /// The view: the shape, the strides and the place of the first index. Each place of it has an item, and no two indices
     /// alias.

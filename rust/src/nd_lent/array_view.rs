@@ -1,6 +1,7 @@
 // Made by `rust/erase` of `crates/nd_lent/src/array_view.rt`: edit that.
 //! Items that are kept elsewhere, lent as an array.
 
+mod making;
 mod iterating;
 mod rows;
 mod folding;
@@ -9,7 +10,7 @@ mod extremes;
 mod totals;
 
 use crate::memory::AllocError;
-use crate::ndarray_layout::{CanIndexCheckMode, LayoutError, Lengths, NdIndex, ShapeError, StrideShape, Strided};
+use crate::ndarray_layout::{Lengths, NdIndex, Strided};
 pub use iterating::Iter;
 pub(crate) use rows::is_contiguous;
 pub use rows::{LentRow, LentRows};
@@ -26,92 +27,6 @@ pub struct ArrayView<'a, T, D: Lengths> {
 }
 
 impl<'a, T, D: Lengths> ArrayView<'a, T, D> {
-    /// The array of a view over items.
-    ///
-    /// `[2]`, `[-1]` from 1 over 7 8 9 is `a`. The project's own.
-    ///
-    /// # Conditions
-    ///
-    /// The caller ensures that each place of it has an item; `over` checks it. Otherwise the call panics or returns
-    /// unspecified values.
-    ///
-    /// <details><summary>Contract (proved)</summary>
-    ///
-    /// ```text
-    /// requires HasItems (length items.now) view
-    /// ensures items: result.items ≡ items.now
-    /// ensures view: result.view ≡ view
-    /// ```
-    /// [How to read it](crate::contracts)
-    /// </details>
-    #[inline]
-    #[must_use]
-    pub fn new(view: Strided<D>, items: &'a [T]) -> Self {
-        ArrayView { items, view }
-    }
-
-    /// The array of a shape, by its own strides or by given ones, over items.
-    ///
-    /// The lowest place of the layout is 0, the first item. Items past the layout, or between its places, are spare ones.
-    ///
-    /// # Errors
-    ///
-    /// Those of `Strided::from_shape` in read-only mode, over as many elements of one byte as there are items.
-    ///
-    /// `[2]` with the stride `[-1]` over 7 8 9 is `a`. ndarray's `from_shape`.
-    ///
-    /// <details><summary>Contract (proved)</summary>
-    ///
-    /// ```text
-    /// ensures fault: shape_fault result ≡
-    ///     acceptance_by_strides D.list 1 (length items.now) ReadOnly
-    ///     (D.list shape.dim) shape.strides
-    /// ensures given: shape_fault result ≡ None → IsSome (custom_strides shape.strides) → IsOk result
-    /// ensures memory: shape_fault result ≡ None → NeedsNoMemory D.NDIM (length (D.list shape.dim)) → IsOk result
-    /// ensures stored: IfOk result (λ a. a.items ≡ items.now)
-    /// ensures view: IfOk result (λ a. a.view ≡
-    ///     view_from_0 (D.list shape.dim)
-    ///     (strides_list D.list (D.list shape.dim) shape.strides))
-    /// ensures has_items: IfOk result (λ a. HasItems (length a.items) a.view)
-    /// ```
-    /// [How to read it](crate::contracts)
-    /// </details>
-    #[inline]
-    pub fn from_shape(shape: StrideShape<D>, items: &'a [T]) -> Result<Self, LayoutError> {
-        let len = items.len();
-        let view = Strided::from_shape(shape, 1, len, CanIndexCheckMode::ReadOnly)?;
-        Ok(ArrayView { items, view })
-    }
-
-    /// The array of a view over items, which may be fewer than those that the view was made for.
-    ///
-    /// # Errors
-    ///
-    /// `OutOfBounds` where an index of the view lies past the items; a view without an index is out of bounds where it
-    /// reaches, by its span, past all of them. Those of `Strided::from_parts` in read-only mode, over elements of one byte.
-    ///
-    /// Takes no memory, and time in proportion to the count of axes.
-    ///
-    /// `[2]`, `[-1]` from 1 over 7 8 9 is `a`; over 7 alone `OutOfBounds`. The project's own.
-    ///
-    /// <details><summary>Contract (proved)</summary>
-    ///
-    /// ```text
-    /// ensures fault: result_err result ≡
-    ///     acceptance_from view.start 1 (length items.now) ReadOnly view.shape view.strides
-    /// ensures stored: IfOk result (λ a. a.items ≡ items.now)
-    /// ensures view: IfOk result (λ a. a.view ≡ view)
-    /// ensures has_items: IfOk result (λ a. HasItems (length a.items) a.view)
-    /// ```
-    /// [How to read it](crate::contracts)
-    /// </details>
-    #[inline]
-    pub fn over(view: Strided<D>, items: &'a [T]) -> Result<Self, ShapeError> {
-        let start = view.start();
-        let view = view.moved_to(start, 1, items.len(), CanIndexCheckMode::ReadOnly)?;
-        Ok(ArrayView { items, view })
-    }
-
     /// The view: the shape, the strides and the place of the first index. Each place of it has an item.
     ///
     /// `a.view()` is `[2]`, `[-1]` from 1. The project's own.

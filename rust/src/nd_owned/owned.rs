@@ -3,15 +3,14 @@
 
 use crate::memory::prelude::Vec;
 
+mod making;
 mod mapping;
 
 use crate::memory::AllocError;
 use crate::nd_lent::{ArrayView, ArrayViewMut};
 use crate::nd_owned::multi_set::{check_apart, check_counts, picked_by_write, picked_views, write_all};
 use crate::nd_owned::picked_view::PickedView;
-use crate::ndarray_layout::{
-    CanIndexCheckMode, LayoutError, Lengths, NdIndex, SliceElems, SliceInfoElem, StrideShape, Strided,
-};
+use crate::ndarray_layout::{LayoutError, Lengths, NdIndex, SliceElems, SliceInfoElem, Strided};
 
 /// An array that owns its items. Each index of its shape has an item, at its place in the list of the items, and no two
 /// indices alias. Items at no place of the layout are spare ones, and no call shows them but `stored`, `stored_mut` and
@@ -24,44 +23,6 @@ pub struct OwnedArray<T, D: Lengths> {
 }
 
 impl<T: Sized, D: Lengths> OwnedArray<T, D> {
-    /// The array of a shape, by its own strides or by given ones, over a list of items.
-    ///
-    /// The lowest place of the layout is 0, the first item of the list. Items past the layout, or between its places, are
-    /// kept as spare ones.
-    ///
-    /// # Errors
-    ///
-    /// Those of `Strided::from_shape` in owned mode, over as many elements of one byte as the list has items. The list
-    /// comes back with the error.
-    ///
-    /// `[2]` with the stride `[-1]` over 7 8 9 is `a`. ndarray's `from_shape_vec`.
-    ///
-    /// <details><summary>Contract (proved)</summary>
-    ///
-    /// ```text
-    /// ensures fault: shape_fault_of result ≡
-    ///     acceptance_by_strides D.list 1 (vec_len items) OwnedMutable
-    ///     (D.list shape.dim) shape.strides
-    /// ensures given: shape_fault_of result ≡ None → IsSome (custom_strides shape.strides) → IsOk result
-    /// ensures memory: shape_fault_of result ≡ None → NeedsNoMemory D.NDIM (length (D.list shape.dim)) → IsOk result
-    /// ensures stored: IfOk result (λ a. a.items ≡ items.items)
-    /// ensures view: IfOk result (λ a. a.view ≡
-    ///     view_from_0 (D.list shape.dim)
-    ///     (strides_list D.list (D.list shape.dim) shape.strides))
-    /// ensures owned: IfOk result (λ a. IsOwned (length a.items) a.view)
-    /// ensures handed_back: IfErr result (λ error. error.1 ≡ items)
-    /// ```
-    /// [How to read it](crate::contracts)
-    /// </details>
-    #[inline]
-    pub fn from_shape_vec(shape: StrideShape<D>, items: Vec<T>) -> Result<Self, (LayoutError, Vec<T>)> {
-        let len = items.len();
-        match Strided::from_shape(shape, 1, len, CanIndexCheckMode::OwnedMutable) {
-            Ok(view) => Ok(OwnedArray { items, view }),
-            Err(fault) => Err((fault, items)),
-        }
-    }
-
     /// The view: the shape, the strides and the place of the first index. Each place of it has an item, and no two indices
     /// alias.
     ///

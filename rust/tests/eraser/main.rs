@@ -1,35 +1,40 @@
 //! The eraser: what each form becomes, and that what it doesn't know is an error.
 #![allow(dead_code)]
 
-#[path = "../eraser/bounds.rs"]
+mod attributes;
+mod documented;
+
+#[path = "../../eraser/bounds.rs"]
 mod bounds;
-#[path = "../eraser/code.rs"]
+#[path = "../../eraser/code.rs"]
 mod code;
-#[path = "../eraser/differences.rs"]
+#[path = "../../eraser/differences.rs"]
 mod differences;
-#[path = "../eraser/docs.rs"]
+#[path = "../../eraser/docs.rs"]
 mod docs;
-#[path = "../eraser/erase.rs"]
+#[path = "../../eraser/erase.rs"]
 mod erase;
-#[path = "../eraser/errors.rs"]
+#[path = "../../eraser/errors.rs"]
 mod errors;
-#[path = "../eraser/exports.rs"]
+#[path = "../../eraser/examples.rs"]
+mod examples;
+#[path = "../../eraser/exports.rs"]
 mod exports;
-#[path = "../eraser/library.rs"]
+#[path = "../../eraser/library.rs"]
 mod library;
-#[path = "../eraser/modules.rs"]
+#[path = "../../eraser/modules.rs"]
 mod modules;
-#[path = "../eraser/names.rs"]
+#[path = "../../eraser/names.rs"]
 mod names;
-#[path = "../eraser/opened.rs"]
+#[path = "../../eraser/opened.rs"]
 mod opened;
-#[path = "../eraser/older.rs"]
+#[path = "../../eraser/older.rs"]
 mod older;
-#[path = "../eraser/paragraphs.rs"]
+#[path = "../../eraser/paragraphs.rs"]
 mod paragraphs;
-#[path = "../eraser/proofs.rs"]
+#[path = "../../eraser/proofs.rs"]
 mod proofs;
-#[path = "../eraser/tokens.rs"]
+#[path = "../../eraser/tokens.rs"]
 mod tokens;
 
 use erase::{Names, erase};
@@ -38,7 +43,8 @@ use std::fs;
 use std::path::Path;
 use tokens::trees_of;
 
-const NAMES: Names = Names { own: "upper", beside: &["tables"], library: &["lower"], package: "crate", inlined: false };
+const NAMES: Names =
+    Names { own: "upper", beside: &["tables"], library: &["lower"], package: "crate", examples: &[], inlined: false };
 
 /// What is left of a source, or what is said of it.
 fn erased(source: &str) -> String {
@@ -110,13 +116,6 @@ fn each_form_becomes_plain_rust() {
     }
 }
 
-/// The contract of an item that has these clauses, as it stands in its documentation.
-fn contract(clauses: &str) -> String {
-    format!(
-        "/// <details><summary>Contract (proved)</summary>\n///\n/// ```text\n{clauses}/// ```\n/// [How to read it](crate::contracts)\n/// </details>\n"
-    )
-}
-
 #[test]
 fn what_the_package_adds_is_made_of_a_source() {
     const ROWS: &[(&str, &str)] = &[
@@ -145,137 +144,6 @@ fn what_the_package_adds_is_made_of_a_source() {
     ];
     for (source, due) in ROWS {
         assert_eq!(line(source), *due, "{source}");
-    }
-}
-
-#[test]
-fn a_contract_is_documentation() {
-    let source = "/// One more.\n#[inline]\nfn f(x: u8) -> u8\n    requires small { x < 255 }\n    ensures { result ≡\n        x + 1 }\n    ensures same { x.ghost_name ≡ y.ghost_name }\n    ensures* back { sem 𝓛 (Lends x y) }\n{\n    x + 1\n}\n\nfn g() ensures { 1 ≡ 1 } {}\n";
-    let clauses = contract("/// requires small: x < 255\n/// ensures result ≡ x + 1\n");
-    let due = format!("/// One more.\n///\n{clauses}#[inline]\nfn f(x: u8) -> u8\n{{\n    x + 1\n}}\n\nfn g() {{}}\n");
-    assert_eq!(erased(source), due);
-    // (a fact that takes more than a line keeps its lines)
-    let long = "x ≡ y + 1 ".repeat(8);
-    let source = format!("/// A.\nfn f() ensures all {{ {long}→\n  {long}}} {{}}");
-    let clauses = contract(&format!("/// ensures all: {long}→\n///     {}\n", long.trim_end()));
-    assert_eq!(erased(&source), format!("/// A.\n///\n{clauses}fn f() {{}}"));
-}
-
-#[test]
-fn a_condition_is_told_in_words() {
-    let broken = "Otherwise the call panics or returns unspecified values.";
-    let source = |docs: &str, item: &str| format!("/// A.\n{docs}{item}\n    requires {{ x < 2 }}\n{{}}");
-    let due = |docs: &str, words: &str, item: &str| {
-        let clauses = contract("/// requires x < 2\n");
-        format!("/// A.{docs}\n///\n/// # Conditions\n///\n/// {words}\n///\n{clauses}{item}\n{{}}")
-    };
-    let told = "/// B. The caller\n/// ensures that `x` is\n/// less than 2. C\n/// D.\n///\n/// E.\n";
-    let words = format!("The caller ensures that `x` is less than 2. {broken}");
-    for item in ["fn f(x: u8)", "pub fn f(x: u8)"] {
-        assert_eq!(
-            erased(&source(told, item)),
-            due("\n/// B. C D.\n///\n/// E.", &words, item).replacen("/// A.\n/// B.", "/// A. B.", 1)
-        );
-    }
-    let alone = "///\n/// The caller ensures that `x` is less than 2.\n";
-    assert_eq!(erased(&source(alone, "fn f(x: u8)")), due("", &words, "fn f(x: u8)"));
-    let seen = erased("/// A. A contract sees\n/// the list. B.\nstruct S { a: u8 }");
-    assert_eq!(seen, "/// A. B.\nstruct S { a: u8 }");
-    let told = erased("/// A. No clause says b.\n///\n/// C. (A proof that needs d\n/// does e.) F.\nfn f();");
-    assert_eq!(told, "/// A.\n///\n/// C. F.\nfn f();");
-    assert_eq!(erased("/// A. (A proof does b. C.) D.\nfn f();"), "/// A. (C.) D.\nfn f();");
-    let indexed = erased("/// A.\nimpl<T, I: B<T>> Index<I> for S<T> {}");
-    assert_eq!(
-        indexed,
-        "/// A.\n///\n/// # Panics\n///\n/// Where there is no such index.\nimpl<T, I: B<T>> Index<I> for S<T> {}"
-    );
-    // what no docs tell is told for each such condition, or is an error where callers read it
-    let untold = "1: `{` has a condition, `x < 2`, that no words tell".replace("1:", "4:");
-    assert_eq!(erased(&source("", "pub fn f(x: u8)")), untold);
-    assert_eq!(
-        erased(&source("", "fn f(x: u8)")),
-        format!("/// A.\n///\n{}fn f(x: u8)\n{{}}", contract("/// requires x < 2\n"))
-    );
-    let closure = erased("/// A.\npub fn f<F: FnMut(u8)>(f: F) requires { CallableInFold f } {}");
-    assert!(closure.contains("\n/// # Conditions\n///\n/// The function may be called with any item"), "{closure}");
-}
-
-#[test]
-fn a_function_of_the_layer_is_inlined() {
-    const ROWS: &[(&str, &str)] = &[
-        ("use a::b; fn f() {} struct S {}", "use a::b; #[inline] fn f() {} struct S {}"),
-        ("#[inline(always)] fn f() {}", "#[inline(always)] fn f() {}"),
-        (
-            "impl T for S { type A = B; final fn f() { g() } const N: u8 = 1; fn h() {} }",
-            "impl T for S { type A = B; #[inline] fn f() { g() } const N: u8 = 1; #[inline] fn h() {} }",
-        ),
-        ("trait T { fn f(); fn g() {} }", "trait T { fn f(); #[inline] fn g() {} }"),
-        ("static F: fn(u8) = g; mod m { fn f() {} }", "static F: fn(u8) = g; mod m { #[inline] fn f() {} }"),
-        (
-            "/// A.\npub fn f() -> u8 ensures { x } { 1 }",
-            "/// A. /// /// <details><summary>Contract (proved)</summary> /// /// ```text /// ensures x /// ``` /// [How to read it](crate::contracts) /// </details> #[inline] #[must_use] pub fn f() -> u8 { 1 }",
-        ),
-    ];
-    for (source, due) in ROWS {
-        let names = Names { inlined: true, ..NAMES };
-        let text = trees_of(source).and_then(|(trees, _)| erase(&trees, &names)).expect("known forms").text;
-        assert_eq!(text.split_whitespace().collect::<Vec<_>>().join(" "), *due, "{source}");
-    }
-}
-
-#[test]
-fn a_result_that_nobody_is_told_of_must_be_used() {
-    const ROWS: &[(&str, &str)] = &[
-        ("pub fn f(&mut self) -> bool { x }", "#[must_use] pub fn f(&mut self) -> bool { x }"),
-        (
-            "#[inline] pub final fn f<A: B<C>>(a: A) -> A { a }",
-            "#[must_use] #[inline] pub fn f<A: B<C>>(a: A) -> A { a }",
-        ),
-        ("pub fn f() {} pub fn g() -> Result<u8, E> { x } fn h() -> u8 { 1 }", ""),
-        ("pub fn f() -> Result<A, E> where B: FnOnce() -> bool { x }", ""),
-        ("pub fn f<B, F: FnMut(B) -> B>(each: F) -> B { x }", ""),
-        ("pub struct S { a: fn() -> u8 } fn g() -> u8 { 1 } pub const N: u8 = 1; fn h() -> u8 { 1 }", ""),
-        ("pub trait Convert { fn f(&self) -> u8; }", ""),
-        (
-            "mod m { pub trait SliceElems { fn f(&self) -> u8; fn g() -> bool { x } fn h(); } fn k() -> u8 { 1 } }",
-            "mod m { pub trait SliceElems: crate::sealed::Sealed { #[must_use] fn f(&self) -> u8; #[must_use] fn g() -> bool { x } fn h(); } fn k() -> u8 { 1 } }",
-        ),
-        ("impl SliceElems for S { fn f(&self) -> u8 { 1 } }", ""),
-        (
-            "/// A.\npub fn f() -> u8 ensures { x };",
-            "/// A. /// /// <details><summary>Contract (proved)</summary> /// /// ```text /// ensures x /// ``` /// [How to read it](crate::contracts) /// </details> #[must_use] pub fn f() -> u8;",
-        ),
-    ];
-    for (source, due) in ROWS {
-        assert_eq!(line(source), *if due.is_empty() { source } else { due }, "{source}");
-    }
-    let names = Names { package: "::ndarray_layout", ..NAMES };
-    let text = trees_of("pub fn f() -> u8;").and_then(|(trees, _)| erase(&trees, &names));
-    assert_eq!(text.expect("known forms").text, "pub fn f() -> u8;");
-}
-
-#[test]
-fn a_trait_that_leads_to_places_is_sealed() {
-    const ROWS: &[(&str, &str)] = &[
-        ("pub trait FixedCount { const N: u8; }", "pub trait FixedCount: crate::sealed::Sealed { const N: u8; }"),
-        (
-            "pub trait RemoveAxis: A<B = C> + Drop { ghost a: { b }; }",
-            "pub trait RemoveAxis: A<B = C> + Sized + crate::sealed::Sealed { }",
-        ),
-        ("pub trait NdIndex<E: Lengths> {}", "pub trait NdIndex<E: Lengths>: crate::sealed::Sealed {}"),
-        (
-            "pub trait SliceArg<D: A>: B where Self: C {}",
-            "pub trait SliceArg<D: A>: B + crate::sealed::Sealed where Self: C {}",
-        ),
-        (
-            "/// A.\npub trait Sequence {}",
-            "/// A. /// /// Sealed: no type outside this package implements it. pub trait Sequence: crate::sealed::Sealed {}",
-        ),
-        ("pub trait IntoDimension {} trait Lengths {} trait Other {}", ""),
-        ("pub trait Other {}", "1: `Other` is a trait, and isn't known to be sealed or open to callers"),
-    ];
-    for (source, due) in ROWS {
-        assert_eq!(line(source), *if due.is_empty() { source } else { due }, "{source}");
     }
 }
 
