@@ -1,4 +1,5 @@
 pub mod Faults
+pub mod FirstItems
 pub mod Folds
 pub mod IndexItems
 pub mod ItemPlaces
@@ -7,4 +8,5 @@ pub mod OwnedViews
 pub mod PartItems
 pub mod RowItems
 pub mod SlicePlaces
+pub mod StepItems
 pub mod Written
