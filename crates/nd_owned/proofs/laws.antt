@@ -1,4 +1,5 @@
 pub use Rattle.nd_lent.proofs.laws.Faults
+pub use Rattle.nd_lent.proofs.laws.FirstItems
 pub use Rattle.nd_lent.proofs.laws.Folds
 pub use Rattle.nd_lent.proofs.laws.IndexItems
 pub use Rattle.nd_lent.proofs.laws.ItemPlaces
@@ -7,5 +8,6 @@ pub use Rattle.nd_lent.proofs.laws.OwnedViews
 pub use Rattle.nd_lent.proofs.laws.PartItems
 pub use Rattle.nd_lent.proofs.laws.RowItems
 pub use Rattle.nd_lent.proofs.laws.SlicePlaces
+pub use Rattle.nd_lent.proofs.laws.StepItems
 pub use Rattle.nd_lent.proofs.laws.Written
 pub mod Writes

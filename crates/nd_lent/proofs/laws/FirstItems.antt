@@ -13,7 +13,8 @@ use Rattle.nd_lent.proofs.laws.IndexItems.{index_of_item, of_each_index}
 
 module _ {T : Type 0} (comes_before : T → T → Bool) (array : ArrayValue T) where
   -- an index has it
-  pub index_of_first : (found : Option T) → IfSome found (IsFirstOf comes_before (map (item_at_place array.items) (view_places RowMajor array.view)))
+  pub index_of_first : (found : Option T)
+      → IfSome found (IsFirstOf comes_before (map (item_at_place array.items) (view_places RowMajor array.view)))
       → IfSome found (λ first. (index : List ℕ) × (is_index array.view.shape index ≡ true) × (item_at array index ≡ Some first))
   index_of_first None is = tt
   index_of_first (Some first) is =
@@ -21,7 +22,8 @@ module _ {T : Type 0} (comes_before : T → T → Bool) (array : ArrayValue T) w
       (here.0, here.1.of_shape, here.1.item)
 
   -- no index has one that comes before it
-  pub none_before_first : (found : Option T) → IfSome found (IsFirstOf comes_before (map (item_at_place array.items) (view_places RowMajor array.view)))
+  pub none_before_first : (found : Option T)
+      → IfSome found (IsFirstOf comes_before (map (item_at_place array.items) (view_places RowMajor array.view)))
       → IfSome found (λ first. (index : List ℕ) → is_index array.view.shape index ≡ true
       → option_map_or (λ other. comes_before other first) (item_at array index) false ≡ false)
   none_before_first None is = tt
@@ -37,6 +39,7 @@ none_above_greatest array None is = tt
 none_above_greatest array (Some greatest) is = λ index here.
     by (item_at array index) (none_before_first (λ one other. is_gt (nat_cmp one other)) array (Some greatest) is index here)
   where
-    by : (item : Option ℕ) → option_map_or (λ other. is_gt (nat_cmp other greatest)) item false ≡ false → option_map_or (λ n. n) item 0 ≤ greatest
+    by : (item : Option ℕ) → option_map_or (λ other. is_gt (nat_cmp other greatest)) item false ≡ false
+        → option_map_or (λ n. n) item 0 ≤ greatest
     by None none = omega arith
     by (Some n) none = le_from_not_gt n greatest none
