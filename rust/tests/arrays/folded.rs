@@ -72,3 +72,18 @@ fn copies_are_folded_as_the_models() {
         assert!(gives(numbers, array.iter(), &due));
     });
 }
+
+#[test]
+fn totals_are_the_models() {
+    rounds(10_000, 6, |numbers| {
+        let layout = if numbers.once_in(2) { Layout::random(numbers) } else { Layout::shared(numbers) };
+        let items: Vec<usize> = (0..layout.count).map(|_| numbers.below(50)).collect();
+        let (array, due) = (layout.array(&items), layout.places());
+        let due = || due.iter().map(|place| items[*place]);
+        assert_eq!(array.sum(), Some(due().sum::<usize>() as u64), "{layout:?}");
+        assert_eq!((array.min(), array.max()), (due().min(), due().max()), "{layout:?}");
+        let least = numbers.below(50);
+        assert_eq!(array.any(|item| *item > least), due().any(|item| item > least), "{layout:?}");
+        assert_eq!(array.all(|item| *item > least), due().all(|item| item > least), "{layout:?}");
+    });
+}

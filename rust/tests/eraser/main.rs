@@ -322,9 +322,9 @@ fn what_means_the_same_stays() {
     }
 }
 
-/// A folder with a file of this text, `lib.rt`.
+/// A folder with a file of this text, `lib.rt`, outside the repository: the gate fails at a source that no crate has.
 fn file_of(name: &str, text: &str) -> std::path::PathBuf {
-    let folder = Path::new(env!("CARGO_TARGET_TMPDIR")).join(name);
+    let folder = std::env::temp_dir().join(format!("ndarray_layout-{}-{name}", std::process::id()));
     fs::create_dir_all(&folder).expect("a folder");
     fs::write(folder.join("lib.rt"), text).expect("a file");
     folder
@@ -351,6 +351,7 @@ fn a_file_is_a_module() {
     let b = format!("{}\n\nfn g() {{}}\n", made("a/b.rt"));
     let due = [("mod.rs", root), ("a.rs", a), ("a/b.rs", b)];
     assert_eq!(files, due.map(|(place, text)| (place.into(), text)));
+    fs::remove_dir_all(folder).expect("a folder");
 }
 
 #[test]
@@ -365,6 +366,7 @@ fn modules_stand_in_an_order_of_use() {
     assert!(files[1].1.ends_with("\nmod constructors;\nmod rows;\nmod blocks;\nuse a::b;\n"), "{}", files[1].1);
     let exported = files_of(&folder, &NAMES, "", true).expect("known forms");
     assert!(exported[0].1.ends_with("\npub mod a;\n"), "{}", exported[0].1);
+    fs::remove_dir_all(folder).expect("a folder");
 }
 
 #[test]
@@ -374,6 +376,7 @@ fn a_fault_names_the_file() {
     let fault = module_of(&folder.join("lib.rt"), &folder, &NAMES, false).expect_err("no form");
     let due = format!("{}:2: `unsafe` is no form that can be erased", folder.join("a.rt").display());
     assert_eq!(fault.to_string(), due);
+    fs::remove_dir_all(folder).expect("a folder");
 }
 
 #[test]

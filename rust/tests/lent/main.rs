@@ -6,6 +6,7 @@ mod parts;
 mod reads;
 mod rows;
 mod slices;
+mod totals;
 mod writes;
 
 use ndarray_layout::CanIndexCheckMode::OwnedMutable;
