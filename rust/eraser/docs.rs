@@ -18,7 +18,7 @@ const ENSURED: &str = "The caller ensures";
 const FOR_PROOFS: &[&str] = &["A contract sees", "No clause says", "(A proof", "A proof"];
 
 /// What is said of a condition that is broken.
-const BROKEN: &str = "Otherwise the call, or a later one on what it returns, panics or returns unspecified values.";
+const BROKEN: &str = "Otherwise this call or a later one panics or returns unspecified values.";
 
 /// The columns that a line of documentation takes at the most, where lines are broken here.
 const COLUMNS: usize = 120;

@@ -234,7 +234,7 @@ pub const CONDITIONS: &[(&str, &str)] = &[
     ),
     (
         "IsOwned",
-        "The caller ensures that each index of the view has an item to itself among so many. Otherwise the call, or a later one on what it returns, panics or returns unspecified values.",
+        "The caller ensures that each index of the view has an item to itself among so many. Otherwise this call or a later one panics or returns unspecified values.",
     ),
 ];
 

@@ -50,7 +50,7 @@ fn an_example_is_documentation() {
 
 #[test]
 fn a_condition_is_told_in_words() {
-    let broken = "Otherwise the call, or a later one on what it returns, panics or returns unspecified values.";
+    let broken = "Otherwise this call or a later one panics or returns unspecified values.";
     let source = |docs: &str, item: &str| format!("/// A.\n{docs}{item}\n    requires {{ x < 2 }}\n{{}}");
     let due = |docs: &str, words: &str, item: &str| {
         let clauses = contract("/// requires x < 2\n");
