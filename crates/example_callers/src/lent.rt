@@ -1,7 +1,9 @@
 //! Pixels that are kept elsewhere, read and written as a picture.
 ghost use Rattle.std.specs.List.{All};
 ghost use Rattle.std.specs.Option.{option_map};
-ghost use Rattle.std.specs.Prelude.{◌≡◌, ◌+◌, ◌<◌, IfOk, IfSome, OnErr, OnOk, Some, length};
+ghost use Rattle.std.specs.Prelude.{◌≡◌, ◌+◌, ◌<◌, ◌↔◌, false, IfOk, IfSome, IsTrue, OnErr, OnOk, Some, length};
+ghost use Rattle.ndarray_layout.specs.CroppedView.{RangesFit, crop_source, cropped_of};
+ghost use Rattle.ndarray_layout.specs.Dim.{lengths};
 ghost use Rattle.ndarray_layout.specs.ShapeBuilder.{strides_list};
 ghost use Rattle.ndarray_layout.specs.Signed.{all_signed};
 ghost use Rattle.ndarray_layout.specs.Span.{low_span};
@@ -10,6 +12,7 @@ ghost use Rattle.nd_owned.specs.ArrayViewMut.{HasItemsOf};
 ghost use Rattle.nd_owned.specs.Lender.{array_of};
 ghost use Rattle.nd_owned.specs.Mapped.{row_major_items};
 ghost use Rattle.nd_owned.specs.Owned.{IsOwned, item_at};
+ghost use Rattle.nd_owned.specs.WrittenPart.{HasWrittenPart};
 
 use nd_owned::{ArrayViewMut, OwnedArray};
 use ndarray_layout::{CanIndexCheckMode, Ix2, LayoutError, Lengths, StrideShape, Strided};
@@ -48,6 +51,32 @@ fn paint_view(view: Strided<Ix2>, pixels: &mut [u8], pixel: u8)
 {
     let mut picture = ArrayViewMut::new(view, pixels);
     picture.fill(pixel);
+}
+
+/// Paints a part of a picture, whose pixels lie in a list by a view, and returns whether it did: it doesn't where the part isn't one
+/// of the picture. The list's other pixels are unchanged. The caller ensures that each index has a pixel to itself.
+pub fn paint_part(
+    view: Strided<Ix2>,
+    pixels: &mut [u8],
+    starts: &Ix2,
+    ends: &Ix2,
+    pixel: u8,
+) -> bool
+    requires { IsOwned (length pixels.old) view }
+    ensures fits { IsTrue result ↔ RangesFit view.shape (lengths starts.now) (lengths ends.now) }
+    ensures painted { IsTrue result → HasWrittenPart (crop_source (lengths starts.now))
+        (cropped_of (lengths starts.now) (lengths ends.now) view).shape (λ index. Some pixel)
+        (record { items = pixels.old; view = view })
+        (record { items = pixels.new; view = view }) }
+    ensures unchanged { result ≡ false → pixels.new ≡ pixels.old }
+{
+    match view.crop(starts, ends) {
+        Some(part) => {
+            paint_view(part, pixels, pixel);
+            true
+        },
+        None => false,
+    }
 }
 
 /// Paints each pixel of a picture that owns its pixels; spare ones are unchanged. Errors: out of memory, for a copy of its view.

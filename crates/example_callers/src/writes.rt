@@ -1,7 +1,9 @@
 //! Writes several parts of an owned array at once, all of them or none.
-ghost use Rattle.std.specs.Prelude.{◌≡◌, IfErr, IfOk, IsOk, IsTrue, None, OnErr, Some, false, length, map};
+ghost use Rattle.std.specs.Prelude.{◌≡◌, IfErr, IfOk, IsOk, IsTrue, None, OnErr, OnOk, Some, [], ◌∷◌, false, length, map};
 ghost use Rattle.std.specs.List.{All};
 ghost use Rattle.ndarray_layout.specs.declared.ErrorKind.{ErrorKind};
+ghost use Rattle.ndarray_layout.specs.declared.Fit.TheVariants.{Strict};
+ghost use Rattle.ndarray_layout.specs.Intersections.{AreApart};
 ghost use Rattle.nd_owned.specs.Owned.{shape_fault_of};
 ghost use Rattle.nd_owned.specs.MultiSet.{HaveNoItems, IsFaultOfWrites, IsWritten, KeepsOthers, write_of};
 
@@ -62,4 +64,25 @@ pub fn with_two_parts<D: Lengths>(
         Ok(()) => Ok(picture.into_stored()),
         Err(fault) => Err((fault, picture)),
     }
+}
+
+/// Writes pixels at two parts of a picture, both or none. After an error the picture is unchanged.
+///
+/// Errors: those of `multi_set`: that of a part that doesn't fit, of a count of pixels, of two parts that share an index, or of
+/// memory.
+pub fn write_two_parts<D: Lengths>(
+    alloc: Global,
+    picture: &mut OwnedArray<u8, D>,
+    one: (Vec<SliceInfoElem>, Vec<u8>),
+    other: (Vec<SliceInfoElem>, Vec<u8>),
+) -> Result<(), LayoutError>
+    ensures apart { OnOk result
+        (AreApart Strict picture.old.view.shape one.0.items other.0.items) }
+    ensures one { OnOk result (IsWritten picture.old.view picture.new.items (write_of one)) }
+    ensures other { OnOk result (IsWritten picture.old.view picture.new.items (write_of other)) }
+    ensures kept { OnOk result (KeepsOthers picture.old.view (write_of one ∷ write_of other ∷ [])
+        picture.old.items picture.new.items) }
+    ensures unchanged { OnErr result (picture.new ≡ picture.old) }
+{
+    picture.multi_set(alloc, &[one, other])
 }

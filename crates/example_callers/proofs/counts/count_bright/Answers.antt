@@ -1,5 +1,5 @@
 -- At first all indices are to come, as many as the picture's size.
-use Rattle.std.proofs.Common.{◌≡◌, ◌+◌, length, ap, arith}
+use Rattle.std.proofs.Common.{◌≡◌, length, ap, arith}
 use Rattle.std.proofs.Common.{rules}
 use Rattle.ndarray_layout.specs.declared.Order.TheVariants.{RowMajor}
 use Rattle.ndarray_layout.specs.Indices.{indices_in}
