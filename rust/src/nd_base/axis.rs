@@ -46,8 +46,8 @@ pub fn has_axis(lens: &[usize], axis: Axis) -> bool {
 ///
 /// # Conditions
 ///
-/// The caller ensures that the shape has that axis (`has_axis`). Otherwise the call panics or returns unspecified
-/// values.
+/// The caller ensures that the shape has that axis (`has_axis`). Otherwise this call or a later one panics or returns
+/// unspecified values.
 ///
 /// <details><summary>Contract (proved)</summary>
 ///
@@ -71,8 +71,8 @@ pub fn axis_of(lens: &[usize], axis: Axis) -> usize {
 ///
 /// # Conditions
 ///
-/// The caller ensures that the shape has that axis (`has_axis`). Otherwise the call panics or returns unspecified
-/// values.
+/// The caller ensures that the shape has that axis (`has_axis`). Otherwise this call or a later one panics or returns
+/// unspecified values.
 ///
 /// <details><summary>Contract (proved)</summary>
 ///

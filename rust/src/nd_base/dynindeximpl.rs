@@ -102,7 +102,8 @@ impl IxDynImpl {
     ///
     /// # Conditions
     ///
-    /// The caller ensures that `i` is at most their count. Otherwise the call panics or returns unspecified values.
+    /// The caller ensures that `i` is at most their count. Otherwise this call or a later one panics or returns
+    /// unspecified values.
     ///
     /// <details><summary>Contract (proved)</summary>
     ///
@@ -135,8 +136,8 @@ impl IxDynImpl {
     ///
     /// # Conditions
     ///
-    /// The caller ensures that there is that axis, or none at all. Otherwise the call panics or returns unspecified
-    /// values.
+    /// The caller ensures that there is that axis, or none at all. Otherwise this call or a later one panics or returns
+    /// unspecified values.
     ///
     /// <details><summary>Contract (proved)</summary>
     ///

@@ -87,7 +87,8 @@ pub trait Lengths:
     ///
     /// # Conditions
     ///
-    /// The caller ensures that the type allows `n` axes. Otherwise the call panics or returns unspecified values.
+    /// The caller ensures that the type allows `n` axes. Otherwise this call or a later one panics or returns
+    /// unspecified values.
     ///
     /// <details><summary>Contract (proved)</summary>
     ///

@@ -29,8 +29,8 @@ fn moved(offset: isize, coordinate: usize, stride: usize) -> isize {
 /// # Conditions
 ///
 /// The caller ensures that no coordinate is greater than `isize::MAX`, and that the coordinates times the magnitudes of
-/// their strides add up to at most that, as of an index of a valid layout (`is_index`). Otherwise the call panics or
-/// returns unspecified values.
+/// their strides add up to at most that, as of an index of a valid layout (`is_index`). Otherwise this call or a later
+/// one panics or returns unspecified values.
 ///
 /// <details><summary>Contract (proved)</summary>
 ///
@@ -63,7 +63,8 @@ pub fn index_offset(index: &[usize], strides: &[usize]) -> isize {
 /// # Conditions
 ///
 /// The caller ensures that the layout is valid: one stride for each axis, and neither the product of the lengths that
-/// are not 0 nor the span is greater than `isize::MAX`. Otherwise the call panics or returns unspecified values.
+/// are not 0 nor the span is greater than `isize::MAX`. Otherwise this call or a later one panics or returns
+/// unspecified values.
 ///
 /// <details><summary>Contract (proved)</summary>
 ///

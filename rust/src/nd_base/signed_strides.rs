@@ -35,8 +35,8 @@ pub const fn unsigned(stride: isize) -> usize {
 ///
 /// # Conditions
 ///
-/// The caller ensures that `n` is below 2^63 and that the product fits an `isize`. Otherwise the call panics or returns
-/// unspecified values.
+/// The caller ensures that `n` is below 2^63 and that the product fits an `isize`. Otherwise this call or a later one
+/// panics or returns unspecified values.
 ///
 /// <details><summary>Contract (proved)</summary>
 ///
@@ -59,7 +59,7 @@ pub fn stride_offset(n: usize, stride: usize) -> isize {
 ///
 /// # Conditions
 ///
-/// The caller ensures that `n` is below 2^63. Otherwise the call panics or returns unspecified values.
+/// The caller ensures that `n` is below 2^63. Otherwise this call or a later one panics or returns unspecified values.
 ///
 /// <details><summary>Contract (proved)</summary>
 ///

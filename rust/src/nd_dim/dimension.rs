@@ -96,8 +96,8 @@ pub trait Dimension:
     ///
     /// # Conditions
     ///
-    /// The caller ensures that it is below 2^64 (`size_checked`). Otherwise the call panics or returns unspecified
-    /// values.
+    /// The caller ensures that it is below 2^64 (`size_checked`). Otherwise this call or a later one panics or returns
+    /// unspecified values.
     ///
     /// <details><summary>Contract (proved)</summary>
     ///
@@ -146,8 +146,8 @@ pub trait Dimension:
     ///
     /// # Conditions
     ///
-    /// The caller ensures that the size is below 2^64 (`size_checked`). Otherwise the call panics or returns
-    /// unspecified values.
+    /// The caller ensures that the size is below 2^64 (`size_checked`). Otherwise this call or a later one panics or
+    /// returns unspecified values.
     ///
     /// <details><summary>Contract (proved)</summary>
     ///
@@ -179,8 +179,8 @@ pub trait Dimension:
     ///
     /// # Conditions
     ///
-    /// The caller ensures that the size is below 2^64 (`size_checked`). Otherwise the call panics or returns
-    /// unspecified values.
+    /// The caller ensures that the size is below 2^64 (`size_checked`). Otherwise this call or a later one panics or
+    /// returns unspecified values.
     ///
     /// <details><summary>Contract (proved)</summary>
     ///
@@ -243,8 +243,8 @@ pub trait Dimension:
     ///
     /// # Conditions
     ///
-    /// The caller ensures that `index` is an index of the shape (`is_index`). Otherwise the call panics or returns
-    /// unspecified values.
+    /// The caller ensures that `index` is an index of the shape (`is_index`). Otherwise this call or a later one panics
+    /// or returns unspecified values.
     ///
     /// <details><summary>Contract (proved)</summary>
     ///
@@ -281,8 +281,8 @@ pub trait Dimension:
     ///
     /// # Conditions
     ///
-    /// The caller ensures that `index` is an index of the shape (`is_index`). Otherwise the call panics or returns
-    /// unspecified values.
+    /// The caller ensures that `index` is an index of the shape (`is_index`). Otherwise this call or a later one panics
+    /// or returns unspecified values.
     ///
     /// <details><summary>Contract (proved)</summary>
     ///
@@ -362,7 +362,7 @@ pub trait Dimension:
     ///
     /// The caller ensures that there is a stride for each coordinate, that no coordinate is greater than `isize::MAX`,
     /// and that the coordinates times the magnitudes of their strides add up to at most that, as of an index of a valid
-    /// layout. Otherwise the call panics or returns unspecified values.
+    /// layout. Otherwise this call or a later one panics or returns unspecified values.
     ///
     /// <details><summary>Contract (proved)</summary>
     ///
@@ -390,8 +390,8 @@ pub trait Dimension:
     /// # Conditions
     ///
     /// The caller ensures that the layout is valid: one stride for each axis, and neither the product of the lengths
-    /// that are not 0 nor the span is greater than `isize::MAX`. Otherwise the call panics or returns unspecified
-    /// values.
+    /// that are not 0 nor the span is greater than `isize::MAX`. Otherwise this call or a later one panics or returns
+    /// unspecified values.
     ///
     /// <details><summary>Contract (proved)</summary>
     ///
@@ -428,7 +428,8 @@ pub trait Dimension:
     ///
     /// # Conditions
     ///
-    /// The caller ensures that there is an axis. Otherwise the call panics or returns unspecified values.
+    /// The caller ensures that there is an axis. Otherwise this call or a later one panics or returns unspecified
+    /// values.
     ///
     /// <details><summary>Contract (proved)</summary>
     ///
@@ -460,7 +461,7 @@ pub trait Dimension:
     /// # Conditions
     ///
     /// The caller ensures that there is a stride for each axis and that the product of the lengths that are not 0 is at
-    /// most `isize::MAX`. Otherwise the call panics or returns unspecified values.
+    /// most `isize::MAX`. Otherwise this call or a later one panics or returns unspecified values.
     ///
     /// <details><summary>Contract (proved)</summary>
     ///
@@ -515,8 +516,8 @@ pub trait Dimension:
     ///
     /// # Conditions
     ///
-    /// The caller ensures that there is an axis, and a stride for each. Otherwise the call panics or returns
-    /// unspecified values.
+    /// The caller ensures that there is an axis, and a stride for each. Otherwise this call or a later one panics or
+    /// returns unspecified values.
     ///
     /// <details><summary>Contract (proved)</summary>
     ///
@@ -542,8 +543,8 @@ pub trait Dimension:
     ///
     /// # Conditions
     ///
-    /// The caller ensures that there is an axis, and a stride for each. Otherwise the call panics or returns
-    /// unspecified values.
+    /// The caller ensures that there is an axis, and a stride for each. Otherwise this call or a later one panics or
+    /// returns unspecified values.
     ///
     /// <details><summary>Contract (proved)</summary>
     ///
@@ -603,8 +604,8 @@ pub trait Dimension:
     ///
     /// # Conditions
     ///
-    /// The caller ensures that `axis` is at most the count of axes. Otherwise the call panics or returns unspecified
-    /// values.
+    /// The caller ensures that `axis` is at most the count of axes. Otherwise this call or a later one panics or
+    /// returns unspecified values.
     ///
     /// <details><summary>Contract (proved)</summary>
     ///
@@ -635,8 +636,8 @@ pub trait Dimension:
     ///
     /// # Conditions
     ///
-    /// The caller ensures that the shape has that axis (`has_axis`), or none at all. Otherwise the call panics or
-    /// returns unspecified values.
+    /// The caller ensures that the shape has that axis (`has_axis`), or none at all. Otherwise this call or a later one
+    /// panics or returns unspecified values.
     ///
     /// <details><summary>Contract (proved)</summary>
     ///

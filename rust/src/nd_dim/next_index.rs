@@ -47,8 +47,8 @@ fn advance<S: Sequence, I: SequenceMut>(shape: &S, index: &mut I) -> bool {
 ///
 /// # Conditions
 ///
-/// The caller ensures that `index` is an index of the shape (`is_index`). Otherwise the call panics or returns
-/// unspecified values.
+/// The caller ensures that `index` is an index of the shape (`is_index`). Otherwise this call or a later one panics or
+/// returns unspecified values.
 ///
 /// <details><summary>Contract (proved)</summary>
 ///
@@ -77,8 +77,8 @@ pub fn advance_row_major(shape: &[usize], index: &mut [usize]) -> bool {
 ///
 /// # Conditions
 ///
-/// The caller ensures that `index` is an index of the shape (`is_index`). Otherwise the call panics or returns
-/// unspecified values.
+/// The caller ensures that `index` is an index of the shape (`is_index`). Otherwise this call or a later one panics or
+/// returns unspecified values.
 ///
 /// <details><summary>Contract (proved)</summary>
 ///

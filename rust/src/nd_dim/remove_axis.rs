@@ -39,8 +39,8 @@ pub trait RemoveAxis: Dimension + crate::sealed::Sealed {
     ///
     /// # Conditions
     ///
-    /// The caller ensures that the shape has that axis (`has_axis`). Otherwise the call panics or returns unspecified
-    /// values.
+    /// The caller ensures that the shape has that axis (`has_axis`). Otherwise this call or a later one panics or
+    /// returns unspecified values.
     ///
     /// <details><summary>Contract (proved)</summary>
     ///

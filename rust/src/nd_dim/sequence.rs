@@ -34,7 +34,7 @@ pub trait Sequence: Index<usize, Output = usize> + crate::sealed::Sealed {
 ///
 /// # Conditions
 ///
-/// The caller ensures that there is one. Otherwise the call panics or returns unspecified values.
+/// The caller ensures that there is one. Otherwise this call or a later one panics or returns unspecified values.
 ///
 /// <details><summary>Contract (proved)</summary>
 ///
@@ -62,7 +62,7 @@ pub trait SequenceMut: Sequence + IndexMut<usize> + crate::sealed::Sealed {
     ///
     /// # Conditions
     ///
-    /// The caller ensures that there is one. Otherwise the call panics or returns unspecified values.
+    /// The caller ensures that there is one. Otherwise this call or a later one panics or returns unspecified values.
     ///
     /// <details><summary>Contract (proved)</summary>
     ///

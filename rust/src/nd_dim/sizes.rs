@@ -22,7 +22,7 @@ pub(crate) fn checked_size(lens: &[usize]) -> Option<usize> {
 ///
 /// # Conditions
 ///
-/// The caller ensures that it is below 2^64. Otherwise the call panics or returns unspecified values.
+/// The caller ensures that it is below 2^64. Otherwise this call or a later one panics or returns unspecified values.
 ///
 /// <details><summary>Contract (proved)</summary>
 ///

@@ -84,8 +84,8 @@ fn write_strides<S: Sequence, O: SequenceMut>(lens: &S, strides: &mut O) {
 ///
 /// # Conditions
 ///
-/// The caller ensures that the size is below 2^64 (`Dimension::size_checked`). Otherwise the call panics or returns
-/// unspecified values.
+/// The caller ensures that the size is below 2^64 (`Dimension::size_checked`). Otherwise this call or a later one
+/// panics or returns unspecified values.
 ///
 /// <details><summary>Contract (proved)</summary>
 ///
@@ -119,8 +119,8 @@ pub fn default_strides<D: Lengths>(dim: &D) -> Result<D, AllocError> {
 ///
 /// # Conditions
 ///
-/// The caller ensures that the size is below 2^64 (`Dimension::size_checked`). Otherwise the call panics or returns
-/// unspecified values.
+/// The caller ensures that the size is below 2^64 (`Dimension::size_checked`). Otherwise this call or a later one
+/// panics or returns unspecified values.
 ///
 /// <details><summary>Contract (proved)</summary>
 ///

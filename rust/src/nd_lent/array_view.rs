@@ -31,6 +31,19 @@ impl<'a, T, D: Lengths> ArrayView<'a, T, D> {
     ///
     /// `a.view()` is `[2]`, `[-1]` from 1. The project's own.
     ///
+    /// # Examples
+    ///
+    /// ```
+    /// use ndarray_layout::{ArrayView, Ix1, LayoutError, ShapeBuilder, unsigned};
+    ///
+    /// # fn main() -> Result<(), LayoutError> {
+    /// let a = ArrayView::from_shape(Ix1(2).strides(Ix1(unsigned(-1)))?, &[7, 8, 9])?;
+    /// assert_eq!(a.view().start(), 1);
+    /// assert_eq!((a.view().dim(), a.view().strides()), (&Ix1(2), &Ix1(unsigned(-1))));
+    /// # Ok(())
+    /// # }
+    /// ```
+    ///
     /// <details><summary>Contract (proved)</summary>
     ///
     /// ```text
@@ -46,6 +59,18 @@ impl<'a, T, D: Lengths> ArrayView<'a, T, D> {
     }
 
     /// The shape. ndarray's `raw_dim`, which copies it.
+    ///
+    /// # Examples
+    ///
+    /// ```
+    /// use ndarray_layout::{ArrayView, Ix1, LayoutError, ShapeBuilder, unsigned};
+    ///
+    /// # fn main() -> Result<(), LayoutError> {
+    /// let a = ArrayView::from_shape(Ix1(2).strides(Ix1(unsigned(-1)))?, &[7, 8, 9])?;
+    /// assert_eq!(a.dim(), &Ix1(2));
+    /// # Ok(())
+    /// # }
+    /// ```
     ///
     /// <details><summary>Contract (proved)</summary>
     ///
@@ -64,6 +89,18 @@ impl<'a, T, D: Lengths> ArrayView<'a, T, D> {
     ///
     /// `a.len()` is 2. ndarray's `len`.
     ///
+    /// # Examples
+    ///
+    /// ```
+    /// use ndarray_layout::{ArrayView, Ix1, LayoutError, ShapeBuilder, unsigned};
+    ///
+    /// # fn main() -> Result<(), LayoutError> {
+    /// let a = ArrayView::from_shape(Ix1(2).strides(Ix1(unsigned(-1)))?, &[7, 8, 9])?;
+    /// assert_eq!((a.len(), a.stored().len()), (2, 3));
+    /// # Ok(())
+    /// # }
+    /// ```
+    ///
     /// <details><summary>Contract (proved)</summary>
     ///
     /// ```text
@@ -78,6 +115,18 @@ impl<'a, T, D: Lengths> ArrayView<'a, T, D> {
     }
 
     /// Whether the shape has no index. ndarray's `is_empty`.
+    ///
+    /// # Examples
+    ///
+    /// ```
+    /// use ndarray_layout::{ArrayView, Ix2, LayoutError};
+    ///
+    /// # fn main() -> Result<(), LayoutError> {
+    /// assert!(!ArrayView::from_shape(Ix2(1, 3).into(), &[7, 8, 9])?.is_empty());
+    /// assert!(ArrayView::from_shape(Ix2(0, 3).into(), &[7, 8, 9])?.is_empty());
+    /// # Ok(())
+    /// # }
+    /// ```
     ///
     /// <details><summary>Contract (proved)</summary>
     ///
@@ -96,6 +145,19 @@ impl<'a, T, D: Lengths> ArrayView<'a, T, D> {
     ///
     /// `a.stored()` is 7 8 9. ndarray's `as_slice_memory_order`, where no item is spare.
     ///
+    /// # Examples
+    ///
+    /// ```
+    /// use ndarray_layout::{ArrayView, Ix1, LayoutError, ShapeBuilder, unsigned};
+    ///
+    /// # fn main() -> Result<(), LayoutError> {
+    /// let a = ArrayView::from_shape(Ix1(2).strides(Ix1(unsigned(-1)))?, &[7, 8, 9])?;
+    /// assert_eq!(a.stored(), [7, 8, 9]);
+    /// assert_eq!(a.to_vec()?, [8, 7]);
+    /// # Ok(())
+    /// # }
+    /// ```
+    ///
     /// <details><summary>Contract (proved)</summary>
     ///
     /// ```text
@@ -113,6 +175,19 @@ impl<'a, T, D: Lengths> ArrayView<'a, T, D> {
     /// The item of an index; `None` where it is no index of the shape.
     ///
     /// `a.get(&0)` is 8, and `a.get(&2)` is `None`. ndarray's `get`.
+    ///
+    /// # Examples
+    ///
+    /// ```
+    /// use ndarray_layout::{ArrayView, Ix1, LayoutError, ShapeBuilder, unsigned};
+    ///
+    /// # fn main() -> Result<(), LayoutError> {
+    /// let a = ArrayView::from_shape(Ix1(2).strides(Ix1(unsigned(-1)))?, &[7, 8, 9])?;
+    /// assert_eq!(a.get(&0), Some(&8));
+    /// assert_eq!(a.get(&2), None);
+    /// # Ok(())
+    /// # }
+    /// ```
     ///
     /// <details><summary>Contract (proved)</summary>
     ///
@@ -137,6 +212,20 @@ impl<'a, T, D: Lengths> ArrayView<'a, T, D> {
     /// Out of memory; never where the type fixes the count of axes or there are at most 4.
     ///
     /// In place of ndarray's `Clone`.
+    ///
+    /// # Examples
+    ///
+    /// ```
+    /// use ndarray_layout::{ArrayView, Axis, Ix1, LayoutError, ShapeBuilder, unsigned};
+    ///
+    /// # fn main() -> Result<(), LayoutError> {
+    /// let a = ArrayView::from_shape(Ix1(2).strides(Ix1(unsigned(-1)))?, &[7, 8, 9])?;
+    /// let mut inverted = a.duplicate()?;
+    /// inverted.invert_axis(Axis(0))?;
+    /// assert_eq!((inverted.to_vec()?, a.to_vec()?), (vec![7, 8], vec![8, 7]));
+    /// # Ok(())
+    /// # }
+    /// ```
     ///
     /// <details><summary>Contract (proved)</summary>
     ///

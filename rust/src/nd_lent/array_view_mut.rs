@@ -29,6 +29,20 @@ impl<'a, T: Sized, D: Lengths> ArrayViewMut<'a, T, D> {
     ///
     /// `a.view()` is `[2]`, `[-1]` from 1. The project's own.
     ///
+    /// # Examples
+    ///
+    /// ```
+    /// use ndarray_layout::{ArrayViewMut, Ix1, LayoutError, ShapeBuilder, signed, unsigned};
+    ///
+    /// # fn main() -> Result<(), LayoutError> {
+    /// let mut items = [7, 8, 9];
+    /// let a = ArrayViewMut::from_shape(Ix1(2).strides(Ix1(unsigned(-1)))?, &mut items)?;
+    /// assert_eq!((a.view().dim(), a.view().start()), (&Ix1(2), 1));
+    /// assert_eq!(signed(a.view().strides()[0]), -1);
+    /// # Ok(())
+    /// # }
+    /// ```
+    ///
     /// <details><summary>Contract (proved)</summary>
     ///
     /// ```text
@@ -44,6 +58,19 @@ impl<'a, T: Sized, D: Lengths> ArrayViewMut<'a, T, D> {
     }
 
     /// The shape. ndarray's `raw_dim`, which copies it.
+    ///
+    /// # Examples
+    ///
+    /// ```
+    /// use ndarray_layout::{ArrayViewMut, Ix2, LayoutError};
+    ///
+    /// # fn main() -> Result<(), LayoutError> {
+    /// let mut items = [0, 1, 2, 3, 4, 5];
+    /// let table = ArrayViewMut::from_shape(Ix2(2, 3).into(), &mut items)?;
+    /// assert_eq!(table.dim(), &Ix2(2, 3));
+    /// # Ok(())
+    /// # }
+    /// ```
     ///
     /// <details><summary>Contract (proved)</summary>
     ///
@@ -62,6 +89,19 @@ impl<'a, T: Sized, D: Lengths> ArrayViewMut<'a, T, D> {
     ///
     /// `a.len()` is 2. ndarray's `len`.
     ///
+    /// # Examples
+    ///
+    /// ```
+    /// use ndarray_layout::{ArrayViewMut, Ix1, LayoutError, ShapeBuilder, unsigned};
+    ///
+    /// # fn main() -> Result<(), LayoutError> {
+    /// let mut items = [7, 8, 9];
+    /// let a = ArrayViewMut::from_shape(Ix1(2).strides(Ix1(unsigned(-1)))?, &mut items)?;
+    /// assert_eq!((a.len(), a.stored().len()), (2, 3));
+    /// # Ok(())
+    /// # }
+    /// ```
+    ///
     /// <details><summary>Contract (proved)</summary>
     ///
     /// ```text
@@ -76,6 +116,19 @@ impl<'a, T: Sized, D: Lengths> ArrayViewMut<'a, T, D> {
     }
 
     /// Whether the shape has no index. ndarray's `is_empty`.
+    ///
+    /// # Examples
+    ///
+    /// ```
+    /// use ndarray_layout::{ArrayViewMut, Ix2, LayoutError};
+    ///
+    /// # fn main() -> Result<(), LayoutError> {
+    /// let mut items = [7, 8, 9];
+    /// assert!(!ArrayViewMut::from_shape(Ix2(1, 3).into(), &mut items)?.is_empty());
+    /// assert!(ArrayViewMut::from_shape(Ix2(0, 3).into(), &mut items)?.is_empty());
+    /// # Ok(())
+    /// # }
+    /// ```
     ///
     /// <details><summary>Contract (proved)</summary>
     ///
@@ -94,6 +147,20 @@ impl<'a, T: Sized, D: Lengths> ArrayViewMut<'a, T, D> {
     ///
     /// `a.stored()` is 7 8 9. ndarray's `as_slice_memory_order`, where no item is spare.
     ///
+    /// # Examples
+    ///
+    /// ```
+    /// use ndarray_layout::{ArrayViewMut, Ix1, LayoutError, ShapeBuilder, unsigned};
+    ///
+    /// # fn main() -> Result<(), LayoutError> {
+    /// let mut items = [7, 8, 9];
+    /// let a = ArrayViewMut::from_shape(Ix1(2).strides(Ix1(unsigned(-1)))?, &mut items)?;
+    /// assert_eq!(a.stored(), [7, 8, 9]);
+    /// assert_eq!(a.as_view()?.to_vec()?, [8, 7]);
+    /// # Ok(())
+    /// # }
+    /// ```
+    ///
     /// <details><summary>Contract (proved)</summary>
     ///
     /// ```text
@@ -111,6 +178,20 @@ impl<'a, T: Sized, D: Lengths> ArrayViewMut<'a, T, D> {
     /// The item of an index; `None` where it is no index of the shape.
     ///
     /// `a.get(&0)` is 8, and `a.get(&2)` is `None`. ndarray's `get`.
+    ///
+    /// # Examples
+    ///
+    /// ```
+    /// use ndarray_layout::{ArrayViewMut, Ix1, LayoutError, ShapeBuilder, unsigned};
+    ///
+    /// # fn main() -> Result<(), LayoutError> {
+    /// let mut items = [7, 8, 9];
+    /// let a = ArrayViewMut::from_shape(Ix1(2).strides(Ix1(unsigned(-1)))?, &mut items)?;
+    /// assert_eq!(a.get(&0), Some(&8));
+    /// assert_eq!(a.get(&2), None);
+    /// # Ok(())
+    /// # }
+    /// ```
     ///
     /// <details><summary>Contract (proved)</summary>
     ///
@@ -131,6 +212,21 @@ impl<'a, T: Sized, D: Lengths> ArrayViewMut<'a, T, D> {
     /// Replaces the item of an index, and returns whether it is an index of the shape; else the array is unchanged.
     ///
     /// `a.set(&1, 5)` makes it 5 8 9. ndarray's `get_mut`, with the write.
+    ///
+    /// # Examples
+    ///
+    /// ```
+    /// use ndarray_layout::{ArrayViewMut, Ix1, LayoutError, ShapeBuilder, unsigned};
+    ///
+    /// # fn main() -> Result<(), LayoutError> {
+    /// let mut items = [7, 8, 9];
+    /// let mut a = ArrayViewMut::from_shape(Ix1(2).strides(Ix1(unsigned(-1)))?, &mut items)?;
+    /// assert!(a.set(&1, 5));
+    /// assert!(!a.set(&2, 6));
+    /// assert_eq!(items, [5, 8, 9]);
+    /// # Ok(())
+    /// # }
+    /// ```
     ///
     /// <details><summary>Contract (proved)</summary>
     ///
@@ -158,6 +254,21 @@ impl<'a, T: Sized, D: Lengths> ArrayViewMut<'a, T, D> {
     /// `a.replace(&1, 5)` returns 7 and makes it 5 8 9, and `a.replace(&2, 5)` returns `Err(5)`. ndarray's `get_mut`, with
     /// `std::mem::replace`.
     ///
+    /// # Examples
+    ///
+    /// ```
+    /// use ndarray_layout::{ArrayViewMut, Ix1, LayoutError, ShapeBuilder, unsigned};
+    ///
+    /// # fn main() -> Result<(), LayoutError> {
+    /// let mut items = [7, 8, 9];
+    /// let mut a = ArrayViewMut::from_shape(Ix1(2).strides(Ix1(unsigned(-1)))?, &mut items)?;
+    /// assert_eq!(a.replace(&1, 5), Ok(7));
+    /// assert_eq!(a.replace(&2, 5), Err(5));
+    /// assert_eq!(items, [5, 8, 9]);
+    /// # Ok(())
+    /// # }
+    /// ```
+    ///
     /// <details><summary>Contract (proved)</summary>
     ///
     /// ```text
@@ -182,6 +293,21 @@ impl<'a, T: Sized, D: Lengths> ArrayViewMut<'a, T, D> {
     /// Swaps the items of two indices, and returns whether both are indices of the shape; else the array is unchanged.
     ///
     /// `a.swap(&0, &1)` makes it 8 7 9. ndarray's `swap`, which panics where one is no index.
+    ///
+    /// # Examples
+    ///
+    /// ```
+    /// use ndarray_layout::{ArrayViewMut, Ix1, LayoutError, ShapeBuilder, unsigned};
+    ///
+    /// # fn main() -> Result<(), LayoutError> {
+    /// let mut items = [7, 8, 9];
+    /// let mut a = ArrayViewMut::from_shape(Ix1(2).strides(Ix1(unsigned(-1)))?, &mut items)?;
+    /// assert!(a.swap(&0, &1));
+    /// assert!(!a.swap(&0, &2));
+    /// assert_eq!(items, [8, 7, 9]);
+    /// # Ok(())
+    /// # }
+    /// ```
     ///
     /// <details><summary>Contract (proved)</summary>
     ///
@@ -214,6 +340,21 @@ impl<'a, T: Sized, D: Lengths> ArrayViewMut<'a, T, D> {
     /// Out of memory; never where the type fixes the count of axes or there are at most 4.
     ///
     /// ndarray's `view`.
+    ///
+    /// # Examples
+    ///
+    /// ```
+    /// use ndarray_layout::{ArrayViewMut, Ix1, LayoutError, ShapeBuilder, unsigned};
+    ///
+    /// # fn main() -> Result<(), LayoutError> {
+    /// let mut items = [7, 8, 9];
+    /// let mut a = ArrayViewMut::from_shape(Ix1(2).strides(Ix1(unsigned(-1)))?, &mut items)?;
+    /// assert_eq!(a.as_view()?.to_vec()?, [8, 7]);
+    /// a.fill(5);
+    /// assert_eq!(a.as_view()?.to_vec()?, [5, 5]);
+    /// # Ok(())
+    /// # }
+    /// ```
     ///
     /// <details><summary>Contract (proved)</summary>
     ///

@@ -18,6 +18,20 @@ pub struct PartMut<'a, T> {
 impl<'a, T: Sized> PartMut<'a, T> {
     /// How many rows there are. ndarray's `nrows`.
     ///
+    /// # Examples
+    ///
+    /// ```
+    /// use ndarray_layout::{CanIndexCheckMode, Ix2, LayoutError, PartMut, Strided};
+    ///
+    /// # fn main() -> Result<(), LayoutError> {
+    /// let mut items = [1, 2, 3, 4, 5, 6];
+    /// let view = Strided::from_shape(Ix2(2, 3).into(), 1, 6, CanIndexCheckMode::OwnedMutable)?;
+    /// let part = PartMut::new(&view, &mut items)?;
+    /// assert_eq!(part.nrows(), 2);
+    /// # Ok(())
+    /// # }
+    /// ```
+    ///
     /// <details><summary>Contract (proved)</summary>
     ///
     /// ```text
@@ -34,6 +48,21 @@ impl<'a, T: Sized> PartMut<'a, T> {
     /// The items of a row; `None` where there is no such row.
     ///
     /// Row 1 of 1 2 3 over 4 5 6: 4 5 6. ndarray's `row`.
+    ///
+    /// # Examples
+    ///
+    /// ```
+    /// use ndarray_layout::{CanIndexCheckMode, Ix2, LayoutError, PartMut, Strided};
+    ///
+    /// # fn main() -> Result<(), LayoutError> {
+    /// let mut items = [1, 2, 3, 4, 5, 6];
+    /// let view = Strided::from_shape(Ix2(2, 3).into(), 1, 6, CanIndexCheckMode::OwnedMutable)?;
+    /// let part = PartMut::new(&view, &mut items)?;
+    /// assert_eq!(part.row(1), Some(&[4, 5, 6][..]));
+    /// assert_eq!(part.row(2), None);
+    /// # Ok(())
+    /// # }
+    /// ```
     ///
     /// <details><summary>Contract (proved)</summary>
     ///
@@ -53,6 +82,22 @@ impl<'a, T: Sized> PartMut<'a, T> {
     }
 
     /// The items of a row, to be written; `None` where there is no such row. ndarray's `row_mut`.
+    ///
+    /// # Examples
+    ///
+    /// ```
+    /// use ndarray_layout::{CanIndexCheckMode, Ix2, LayoutError, PartMut, Strided};
+    ///
+    /// # fn main() -> Result<(), LayoutError> {
+    /// let mut items = [1, 2, 3, 4, 5, 6];
+    /// let view = Strided::from_shape(Ix2(2, 3).into(), 1, 6, CanIndexCheckMode::OwnedMutable)?;
+    /// let mut part = PartMut::new(&view, &mut items)?;
+    /// part.row_mut(1).expect("a row").fill(9);
+    /// assert_eq!(part.row_mut(2), None);
+    /// assert_eq!(items, [1, 2, 3, 9, 9, 9]);
+    /// # Ok(())
+    /// # }
+    /// ```
     ///
     /// <details><summary>Contract (proved)</summary>
     ///
@@ -75,6 +120,21 @@ impl<'a, T: Sized> PartMut<'a, T> {
     ///
     /// Row 1, column 2 of 1 2 3 over 4 5 6: 6. ndarray's `get`.
     ///
+    /// # Examples
+    ///
+    /// ```
+    /// use ndarray_layout::{CanIndexCheckMode, Ix2, LayoutError, PartMut, Strided};
+    ///
+    /// # fn main() -> Result<(), LayoutError> {
+    /// let mut items = [1, 2, 3, 4, 5, 6];
+    /// let view = Strided::from_shape(Ix2(2, 3).into(), 1, 6, CanIndexCheckMode::OwnedMutable)?;
+    /// let part = PartMut::new(&view, &mut items)?;
+    /// assert_eq!(part.get(1, 2), Some(&6));
+    /// assert_eq!((part.get(1, 3), part.get(2, 0)), (None, None));
+    /// # Ok(())
+    /// # }
+    /// ```
+    ///
     /// <details><summary>Contract (proved)</summary>
     ///
     /// ```text
@@ -94,6 +154,22 @@ impl<'a, T: Sized> PartMut<'a, T> {
     /// Replaces the item of a row and a column, and returns whether there is one; else the part is unchanged.
     ///
     /// 9 at (0,1) of 1 2 3 over 4 5 6 makes it 1 9 3 over 4 5 6. ndarray's `get_mut`, with the write.
+    ///
+    /// # Examples
+    ///
+    /// ```
+    /// use ndarray_layout::{CanIndexCheckMode, Ix2, LayoutError, PartMut, Strided};
+    ///
+    /// # fn main() -> Result<(), LayoutError> {
+    /// let mut items = [1, 2, 3, 4, 5, 6];
+    /// let view = Strided::from_shape(Ix2(2, 3).into(), 1, 6, CanIndexCheckMode::OwnedMutable)?;
+    /// let mut part = PartMut::new(&view, &mut items)?;
+    /// assert!(part.set(0, 1, 9));
+    /// assert!(!part.set(0, 3, 9));
+    /// assert_eq!(items, [1, 9, 3, 4, 5, 6]);
+    /// # Ok(())
+    /// # }
+    /// ```
     ///
     /// <details><summary>Contract (proved)</summary>
     ///
@@ -118,6 +194,22 @@ impl<'a, T: Sized> PartMut<'a, T> {
     }
 
     /// The rows, each lent on its own, and the end of this value. ndarray's `rows_mut`.
+    ///
+    /// # Examples
+    ///
+    /// ```
+    /// use ndarray_layout::{CanIndexCheckMode, Ix2, LayoutError, PartMut, Strided};
+    ///
+    /// # fn main() -> Result<(), LayoutError> {
+    /// let mut items = [1, 2, 3, 4, 5, 6];
+    /// let view = Strided::from_shape(Ix2(2, 3).into(), 1, 6, CanIndexCheckMode::OwnedMutable)?;
+    /// let part = PartMut::new(&view, &mut items)?;
+    /// let mut rows = part.into_rows();
+    /// rows[1].fill(9);
+    /// assert_eq!(items, [1, 2, 3, 9, 9, 9]);
+    /// # Ok(())
+    /// # }
+    /// ```
     ///
     /// <details><summary>Contract (proved)</summary>
     ///

@@ -1,6 +1,7 @@
 // Made by `rust/erase` of `crates/nd_owned/src/iterating.rt`: edit that.
 //! The items of an array one after another, without a list of them.
 
+use crate::memory::prelude::Vec;
 use crate::nd_lent::Iter;
 use crate::nd_owned::owned::OwnedArray;
 use crate::ndarray_layout::{Lengths, Order};
@@ -43,6 +44,19 @@ impl<T: Copy, D: Lengths> OwnedArray<T, D> {
     /// Takes no memory, and lists nothing. An item takes the time of its place (`Strided::iter_places`) and of a copy.
     ///
     /// `a.iter()` gives 8 7. ndarray's `iter`, which lends each item.
+    ///
+    /// # Examples
+    ///
+    /// ```
+    /// use ndarray_layout::{Ix1, LayoutError, OwnedArray, ShapeBuilder, unsigned};
+    ///
+    /// # fn main() -> Result<(), LayoutError> {
+    /// let a = OwnedArray::from_shape_vec(Ix1(2).strides(Ix1(unsigned(-1)))?, vec![7, 8, 9])?;
+    /// assert_eq!(a.iter().len(), 2);
+    /// assert_eq!(a.iter().collect::<Vec<_>>(), [8, 7]);
+    /// # Ok(())
+    /// # }
+    /// ```
     ///
     /// <details><summary>Contract (proved)</summary>
     ///

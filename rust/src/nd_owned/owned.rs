@@ -28,6 +28,19 @@ impl<T: Sized, D: Lengths> OwnedArray<T, D> {
     ///
     /// `a.view()` is `[2]`, `[-1]` from 1. ndarray's `view` lends the items as well.
     ///
+    /// # Examples
+    ///
+    /// ```
+    /// use ndarray_layout::{Ix1, LayoutError, OwnedArray, ShapeBuilder, signed, unsigned};
+    ///
+    /// # fn main() -> Result<(), LayoutError> {
+    /// let a = OwnedArray::from_shape_vec(Ix1(2).strides(Ix1(unsigned(-1)))?, vec![7, 8, 9])?;
+    /// assert_eq!((a.view().dim(), a.view().start()), (&Ix1(2), 1));
+    /// assert_eq!(signed(a.view().strides()[0]), -1);
+    /// # Ok(())
+    /// # }
+    /// ```
+    ///
     /// <details><summary>Contract (proved)</summary>
     ///
     /// ```text
@@ -43,6 +56,18 @@ impl<T: Sized, D: Lengths> OwnedArray<T, D> {
     }
 
     /// The shape. ndarray's `raw_dim`, which copies it.
+    ///
+    /// # Examples
+    ///
+    /// ```
+    /// use ndarray_layout::{Ix2, LayoutError, OwnedArray};
+    ///
+    /// # fn main() -> Result<(), LayoutError> {
+    /// let table = OwnedArray::from_shape_vec(Ix2(2, 3).into(), vec![0, 1, 2, 3, 4, 5])?;
+    /// assert_eq!(table.dim(), &Ix2(2, 3));
+    /// # Ok(())
+    /// # }
+    /// ```
     ///
     /// <details><summary>Contract (proved)</summary>
     ///
@@ -61,6 +86,18 @@ impl<T: Sized, D: Lengths> OwnedArray<T, D> {
     ///
     /// `a.len()` is 2. ndarray's `len`.
     ///
+    /// # Examples
+    ///
+    /// ```
+    /// use ndarray_layout::{Ix1, LayoutError, OwnedArray, ShapeBuilder, unsigned};
+    ///
+    /// # fn main() -> Result<(), LayoutError> {
+    /// let a = OwnedArray::from_shape_vec(Ix1(2).strides(Ix1(unsigned(-1)))?, vec![7, 8, 9])?;
+    /// assert_eq!((a.len(), a.stored().len()), (2, 3));
+    /// # Ok(())
+    /// # }
+    /// ```
+    ///
     /// <details><summary>Contract (proved)</summary>
     ///
     /// ```text
@@ -75,6 +112,18 @@ impl<T: Sized, D: Lengths> OwnedArray<T, D> {
     }
 
     /// Whether the shape has no index. ndarray's `is_empty`.
+    ///
+    /// # Examples
+    ///
+    /// ```
+    /// use ndarray_layout::{Ix2, LayoutError, OwnedArray};
+    ///
+    /// # fn main() -> Result<(), LayoutError> {
+    /// assert!(!OwnedArray::from_shape_vec(Ix2(1, 3).into(), vec![7, 8, 9])?.is_empty());
+    /// assert!(OwnedArray::from_shape_vec(Ix2(0, 3).into(), vec![7, 8, 9])?.is_empty());
+    /// # Ok(())
+    /// # }
+    /// ```
     ///
     /// <details><summary>Contract (proved)</summary>
     ///
@@ -92,6 +141,19 @@ impl<T: Sized, D: Lengths> OwnedArray<T, D> {
     /// All items as they are stored, spare ones too.
     ///
     /// `a.stored()` is 7 8 9. ndarray's `as_slice_memory_order`, where no item is spare.
+    ///
+    /// # Examples
+    ///
+    /// ```
+    /// use ndarray_layout::{Ix1, LayoutError, OwnedArray, ShapeBuilder, unsigned};
+    ///
+    /// # fn main() -> Result<(), LayoutError> {
+    /// let a = OwnedArray::from_shape_vec(Ix1(2).strides(Ix1(unsigned(-1)))?, vec![7, 8, 9])?;
+    /// assert_eq!(a.stored(), [7, 8, 9]);
+    /// assert_eq!(a.as_view()?.to_vec()?, [8, 7]);
+    /// # Ok(())
+    /// # }
+    /// ```
     ///
     /// <details><summary>Contract (proved)</summary>
     ///
@@ -112,6 +174,20 @@ impl<T: Sized, D: Lengths> OwnedArray<T, D> {
     /// Of `a`, 5 at the end of the list makes it 7 8 5, and (0) is 8 still. ndarray's `as_slice_memory_order_mut`, where no item
     /// is spare.
     ///
+    /// # Examples
+    ///
+    /// ```
+    /// use ndarray_layout::{Ix1, LayoutError, OwnedArray, ShapeBuilder, unsigned};
+    ///
+    /// # fn main() -> Result<(), LayoutError> {
+    /// let mut a = OwnedArray::from_shape_vec(Ix1(2).strides(Ix1(unsigned(-1)))?, vec![7, 8, 9])?;
+    /// a.stored_mut()[2] = 5;
+    /// assert_eq!(a.stored(), [7, 8, 5]);
+    /// assert_eq!(a.get(&0), Some(8));
+    /// # Ok(())
+    /// # }
+    /// ```
+    ///
     /// <details><summary>Contract (proved)</summary>
     ///
     /// ```text
@@ -129,6 +205,20 @@ impl<T: Sized, D: Lengths> OwnedArray<T, D> {
     /// The view, and all items as they are stored, to be written by its places. Their count and the view are unchanged.
     ///
     /// The view of `a` starts at 1, and 5 at this place of the list makes it 7 5 9. The project's own.
+    ///
+    /// # Examples
+    ///
+    /// ```
+    /// use ndarray_layout::{Ix1, LayoutError, OwnedArray, ShapeBuilder, unsigned};
+    ///
+    /// # fn main() -> Result<(), LayoutError> {
+    /// let mut a = OwnedArray::from_shape_vec(Ix1(2).strides(Ix1(unsigned(-1)))?, vec![7, 8, 9])?;
+    /// let (view, items) = a.parts_mut();
+    /// items[view.start()] = 5;
+    /// assert_eq!(a.stored(), [7, 5, 9]);
+    /// # Ok(())
+    /// # }
+    /// ```
     ///
     /// <details><summary>Contract (proved)</summary>
     ///
@@ -150,6 +240,18 @@ impl<T: Sized, D: Lengths> OwnedArray<T, D> {
     ///
     /// Of `a`: 7 8 9. ndarray's `into_raw_vec_and_offset`, whose offset the view's start is.
     ///
+    /// # Examples
+    ///
+    /// ```
+    /// use ndarray_layout::{Ix1, LayoutError, OwnedArray, ShapeBuilder, unsigned};
+    ///
+    /// # fn main() -> Result<(), LayoutError> {
+    /// let a = OwnedArray::from_shape_vec(Ix1(2).strides(Ix1(unsigned(-1)))?, vec![7, 8, 9])?;
+    /// assert_eq!(a.into_stored(), [7, 8, 9]);
+    /// # Ok(())
+    /// # }
+    /// ```
+    ///
     /// <details><summary>Contract (proved)</summary>
     ///
     /// ```text
@@ -167,6 +269,20 @@ impl<T: Sized, D: Lengths> OwnedArray<T, D> {
     /// Replaces the item of an index, and returns whether it is an index of the shape; else the array is unchanged.
     ///
     /// `a.set(&1, 5)` makes it 5 8 9. ndarray's `get_mut`, with the write.
+    ///
+    /// # Examples
+    ///
+    /// ```
+    /// use ndarray_layout::{Ix1, LayoutError, OwnedArray, ShapeBuilder, unsigned};
+    ///
+    /// # fn main() -> Result<(), LayoutError> {
+    /// let mut a = OwnedArray::from_shape_vec(Ix1(2).strides(Ix1(unsigned(-1)))?, vec![7, 8, 9])?;
+    /// assert!(a.set(&1, 5));
+    /// assert!(!a.set(&2, 6));
+    /// assert_eq!(a.stored(), [5, 8, 9]);
+    /// # Ok(())
+    /// # }
+    /// ```
     ///
     /// <details><summary>Contract (proved)</summary>
     ///
@@ -196,6 +312,19 @@ impl<T: Sized, D: Lengths> OwnedArray<T, D> {
     ///
     /// `(0)` of it is 8, as of `a`. ndarray's `view`.
     ///
+    /// # Examples
+    ///
+    /// ```
+    /// use ndarray_layout::{Ix1, LayoutError, OwnedArray, ShapeBuilder, unsigned};
+    ///
+    /// # fn main() -> Result<(), LayoutError> {
+    /// let a = OwnedArray::from_shape_vec(Ix1(2).strides(Ix1(unsigned(-1)))?, vec![7, 8, 9])?;
+    /// let view = a.as_view()?;
+    /// assert_eq!((view.get(&0), view.get(&2)), (Some(&8), None));
+    /// # Ok(())
+    /// # }
+    /// ```
+    ///
     /// <details><summary>Contract (proved)</summary>
     ///
     /// ```text
@@ -218,6 +347,19 @@ impl<T: Sized, D: Lengths> OwnedArray<T, D> {
     ///
     /// 5 at (1) of that of `a` makes it 5 8 9. ndarray's `view_mut`.
     ///
+    /// # Examples
+    ///
+    /// ```
+    /// use ndarray_layout::{Ix1, LayoutError, OwnedArray, ShapeBuilder, unsigned};
+    ///
+    /// # fn main() -> Result<(), LayoutError> {
+    /// let mut a = OwnedArray::from_shape_vec(Ix1(2).strides(Ix1(unsigned(-1)))?, vec![7, 8, 9])?;
+    /// assert!(a.as_view_mut()?.set(&1, 5));
+    /// assert_eq!(a.stored(), [5, 8, 9]);
+    /// # Ok(())
+    /// # }
+    /// ```
+    ///
     /// <details><summary>Contract (proved)</summary>
     ///
     /// ```text
@@ -237,6 +379,19 @@ impl<T: Copy, D: Lengths> OwnedArray<T, D> {
     /// A copy of the item of an index; `None` where it is no index of the shape.
     ///
     /// `a.get(&0)` is 8, and `a.get(&2)` is `None`. ndarray's `get`.
+    ///
+    /// # Examples
+    ///
+    /// ```
+    /// use ndarray_layout::{Ix1, LayoutError, OwnedArray, ShapeBuilder, unsigned};
+    ///
+    /// # fn main() -> Result<(), LayoutError> {
+    /// let a = OwnedArray::from_shape_vec(Ix1(2).strides(Ix1(unsigned(-1)))?, vec![7, 8, 9])?;
+    /// assert_eq!(a.get(&0), Some(8));
+    /// assert_eq!(a.get(&2), None);
+    /// # Ok(())
+    /// # }
+    /// ```
     ///
     /// <details><summary>Contract (proved)</summary>
     ///
@@ -263,6 +418,20 @@ impl<T: Copy, D: Lengths> OwnedArray<T, D> {
     /// most 4 axes.
     ///
     /// `..;-1,1..` of `[2,3]` over 0 1 2 3 4 5: 4 5 1 2. The project's own.
+    ///
+    /// # Examples
+    ///
+    /// ```
+    /// use ndarray_layout::{ErrorKind, Ix2, LayoutError, OwnedArray, from_kind, s};
+    ///
+    /// # fn main() -> Result<(), LayoutError> {
+    /// let table = OwnedArray::from_shape_vec(Ix2(2, 3).into(), vec![0, 1, 2, 3, 4, 5])?;
+    /// assert_eq!(table.items(&s![..;-1, 1..])?, [4, 5, 1, 2]);
+    /// let past = table.items(&s![.., 1..4]);
+    /// assert_eq!(past, Err(from_kind(ErrorKind::OutOfBounds).into()));
+    /// # Ok(())
+    /// # }
+    /// ```
     ///
     /// <details><summary>Contract (proved)</summary>
     ///
@@ -298,6 +467,22 @@ impl<T: Copy, D: Lengths> OwnedArray<T, D> {
     ///
     /// `0,..` with 7 8 9 and `1,..;2` with 5 6 make 7 8 9 5 4 6 of `[2,3]` over 0 1 2 3 4 5; `0,..` and `..,0` share
     /// (0,0). ndarray's `multi_slice_move`, with the writes.
+    ///
+    /// # Examples
+    ///
+    /// ```
+    /// use ndarray_layout::{ErrorKind, Ix2, LayoutError, OwnedArray, from_kind, s};
+    ///
+    /// # fn main() -> Result<(), LayoutError> {
+    /// let mut table = OwnedArray::from_shape_vec(Ix2(2, 3).into(), vec![0, 1, 2, 3, 4, 5])?;
+    /// let (row, column) = (s![0, ..].to_vec(), s![.., 0].to_vec());
+    /// table.multi_set(&[(row.clone(), vec![7, 8, 9]), (s![1, ..;2].to_vec(), vec![5, 6])])?;
+    /// let crossed = table.multi_set(&[(row, vec![0; 3]), (column, vec![0; 2])]);
+    /// assert_eq!(crossed, Err(from_kind(ErrorKind::Unsupported).into()));
+    /// assert_eq!(table.stored(), [7, 8, 9, 5, 4, 6]);
+    /// # Ok(())
+    /// # }
+    /// ```
     ///
     /// <details><summary>Contract (proved)</summary>
     ///

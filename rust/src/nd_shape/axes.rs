@@ -13,7 +13,8 @@ pub use crate::nd_shape::axes_iter::{Axes, AxisDescription};
 ///
 /// # Conditions
 ///
-/// The caller ensures that there are as many strides as axes. Otherwise the call panics or returns unspecified values.
+/// The caller ensures that there are as many strides as axes. Otherwise this call or a later one panics or returns
+/// unspecified values.
 ///
 /// <details><summary>Contract (proved)</summary>
 ///

@@ -26,8 +26,8 @@ fn go_together(len: usize, other: usize) -> bool {
 ///
 /// # Conditions
 ///
-/// The caller ensures that the second list is no longer than the first. Otherwise the call panics or returns
-/// unspecified values.
+/// The caller ensures that the second list is no longer than the first. Otherwise this call or a later one panics or
+/// returns unspecified values.
 ///
 /// <details><summary>Contract (proved)</summary>
 ///
@@ -74,7 +74,8 @@ fn stretched(len: usize, other: usize) -> usize {
 /// # Conditions
 ///
 /// The caller ensures that the shapes have one (`have_common_shape`), that the second list is no longer than the first,
-/// and that `common` has as many lengths as the first. Otherwise the call panics or returns unspecified values.
+/// and that `common` has as many lengths as the first. Otherwise this call or a later one panics or returns unspecified
+/// values.
 ///
 /// <details><summary>Contract (proved)</summary>
 ///
@@ -181,8 +182,8 @@ fn common_of<Output: Lengths>(longer: &[usize], shorter: &[usize]) -> Result<Out
 ///
 /// # Conditions
 ///
-/// The caller ensures that `Output` has as many axes as the shape of the greater count. Otherwise the call panics or
-/// returns unspecified values.
+/// The caller ensures that `Output` has as many axes as the shape of the greater count. Otherwise this call or a later
+/// one panics or returns unspecified values.
 ///
 /// <details><summary>Contract (proved)</summary>
 ///

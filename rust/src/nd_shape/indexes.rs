@@ -25,8 +25,8 @@ pub use indices_iter::{IndicesIter, IndicesIterF};
 ///
 /// # Conditions
 ///
-/// The caller ensures that the product of the lengths is less than 2^64 (`size_checked`). Otherwise the call panics or
-/// returns unspecified values.
+/// The caller ensures that the product of the lengths is less than 2^64 (`size_checked`). Otherwise this call or a
+/// later one panics or returns unspecified values.
 ///
 /// <details><summary>Contract (proved)</summary>
 ///
@@ -53,8 +53,8 @@ pub fn all_indices<D: Lengths, T: IntoDimension<Dim = D>>(shape: T) -> Result<In
 ///
 /// # Conditions
 ///
-/// The caller ensures that the product of the lengths is less than 2^64 (`size_checked`). Otherwise the call panics or
-/// returns unspecified values.
+/// The caller ensures that the product of the lengths is less than 2^64 (`size_checked`). Otherwise this call or a
+/// later one panics or returns unspecified values.
 ///
 /// <details><summary>Contract (proved)</summary>
 ///

@@ -31,8 +31,8 @@ fn reach_down(len: usize, stride: usize) -> usize {
 ///
 /// # Conditions
 ///
-/// The caller ensures that the span is at most `isize::MAX` (`span_of_lengths`). Otherwise the call panics or returns
-/// unspecified values.
+/// The caller ensures that the span is at most `isize::MAX` (`span_of_lengths`). Otherwise this call or a later one
+/// panics or returns unspecified values.
 ///
 /// <details><summary>Contract (proved)</summary>
 ///
@@ -61,8 +61,8 @@ pub fn low_span(shape: &[usize], strides: &[usize]) -> usize {
 ///
 /// # Conditions
 ///
-/// The caller ensures that the layout is valid (`max_abs_offset_check_overflow`). Otherwise the call panics or returns
-/// unspecified values.
+/// The caller ensures that the layout is valid (`max_abs_offset_check_overflow`). Otherwise this call or a later one
+/// panics or returns unspecified values.
 ///
 /// <details><summary>Contract (proved)</summary>
 ///

@@ -40,7 +40,8 @@ fn has_strides<S: Sequence>(lens: &S, strides: &S) -> bool {
 /// # Conditions
 ///
 /// The caller ensures that there are as many strides as axes, and that the product of the lengths that are not 0 is at
-/// most `isize::MAX` (`size_of_shape_checked`). Otherwise the call panics or returns unspecified values.
+/// most `isize::MAX` (`size_of_shape_checked`). Otherwise this call or a later one panics or returns unspecified
+/// values.
 ///
 /// <details><summary>Contract (proved)</summary>
 ///
@@ -71,7 +72,8 @@ pub fn is_layout_c<D: Lengths>(dim: &D, strides: &D) -> bool {
 /// # Conditions
 ///
 /// The caller ensures that there are as many strides as axes, and that the product of the lengths that are not 0 is at
-/// most `isize::MAX` (`size_of_shape_checked`). Otherwise the call panics or returns unspecified values.
+/// most `isize::MAX` (`size_of_shape_checked`). Otherwise this call or a later one panics or returns unspecified
+/// values.
 ///
 /// <details><summary>Contract (proved)</summary>
 ///

@@ -34,7 +34,7 @@ fn goes_on(stride: usize, len: usize, other: usize) -> bool {
 /// # Conditions
 ///
 /// The caller ensures that the layout is valid (`span_of_lengths`), and that the axes are two different ones that it
-/// has. Otherwise the call panics or returns unspecified values.
+/// has. Otherwise this call or a later one panics or returns unspecified values.
 ///
 /// <details><summary>Contract (proved)</summary>
 ///
@@ -87,7 +87,7 @@ pub fn merge_fitting(shape: &mut [usize], strides: &mut [usize], take: usize, in
 /// # Conditions
 ///
 /// The caller ensures that the layout is valid (`max_abs_offset_check_overflow`), and that the axes are two different
-/// ones that it has. Otherwise the call panics or returns unspecified values.
+/// ones that it has. Otherwise this call or a later one panics or returns unspecified values.
 ///
 /// <details><summary>Contract (proved)</summary>
 ///

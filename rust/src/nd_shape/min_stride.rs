@@ -73,7 +73,8 @@ fn axis_to_move(lens: &[usize], strides: &[usize]) -> usize {
 ///
 /// # Conditions
 ///
-/// The caller ensures that there are as many strides as axes. Otherwise the call panics or returns unspecified values.
+/// The caller ensures that there are as many strides as axes. Otherwise this call or a later one panics or returns
+/// unspecified values.
 ///
 /// <details><summary>Contract (proved)</summary>
 ///

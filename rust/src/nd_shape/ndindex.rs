@@ -16,7 +16,7 @@ pub trait NdIndex<E: Lengths>: Debug + crate::sealed::Sealed {
     /// # Conditions
     ///
     /// The caller ensures that the layout is valid, as it is where `max_abs_offset_check_overflow` succeeds. Otherwise
-    /// the call panics or returns unspecified values.
+    /// this call or a later one panics or returns unspecified values.
     ///
     /// <details><summary>Contract (proved)</summary>
     ///
@@ -38,8 +38,8 @@ pub trait NdIndex<E: Lengths>: Debug + crate::sealed::Sealed {
     /// # Conditions
     ///
     /// The caller ensures that there are as many coordinates as strides, that each coordinate is at most `isize::MAX`,
-    /// and so is the sum of each coordinate times the magnitude of its stride. Otherwise the call panics or returns
-    /// unspecified values.
+    /// and so is the sum of each coordinate times the magnitude of its stride. Otherwise this call or a later one
+    /// panics or returns unspecified values.
     ///
     /// <details><summary>Contract (proved)</summary>
     ///

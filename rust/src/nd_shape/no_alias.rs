@@ -187,7 +187,7 @@ fn breaks_no_alias_rule(shape: &[usize], strides: &[usize]) -> bool {
 /// # Conditions
 ///
 /// The caller ensures that there are as many strides as lengths, and that the span is at most `isize::MAX`
-/// (`span_of_lengths`). Otherwise the call panics or returns unspecified values.
+/// (`span_of_lengths`). Otherwise this call or a later one panics or returns unspecified values.
 ///
 /// <details><summary>Contract (proved)</summary>
 ///
@@ -220,8 +220,8 @@ pub fn has_overlap(shape: &[usize], strides: &[usize]) -> bool {
 ///
 /// # Conditions
 ///
-/// The caller ensures that the layout is valid (`max_abs_offset_check_overflow`). Otherwise the call panics or returns
-/// unspecified values.
+/// The caller ensures that the layout is valid (`max_abs_offset_check_overflow`). Otherwise this call or a later one
+/// panics or returns unspecified values.
 ///
 /// <details><summary>Contract (proved)</summary>
 ///

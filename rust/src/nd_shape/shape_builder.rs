@@ -39,8 +39,8 @@ impl<D: Lengths> Shape<D> {
     ///
     /// # Conditions
     ///
-    /// The caller ensures that the product of the lengths is less than 2^64 (`size_of_shape_checked`). Otherwise the
-    /// call panics or returns unspecified values.
+    /// The caller ensures that the product of the lengths is less than 2^64 (`size_of_shape_checked`). Otherwise this
+    /// call or a later one panics or returns unspecified values.
     ///
     /// <details><summary>Contract (proved)</summary>
     ///
@@ -146,8 +146,8 @@ impl<D: Lengths> StrideShape<D> {
     ///
     /// # Conditions
     ///
-    /// The caller ensures that the product of the lengths is less than 2^64 (`size_of_shape_checked`). Otherwise the
-    /// call panics or returns unspecified values.
+    /// The caller ensures that the product of the lengths is less than 2^64 (`size_of_shape_checked`). Otherwise this
+    /// call or a later one panics or returns unspecified values.
     ///
     /// <details><summary>Contract (proved)</summary>
     ///
@@ -180,7 +180,7 @@ impl<D> Strides<D> {
     /// # Conditions
     ///
     /// The caller ensures that the product of the lengths is less than 2^64 (`size_of_shape_checked`), and that strides
-    /// that are given are as many as the axes. Otherwise the call panics or returns unspecified values.
+    /// that are given are as many as the axes. Otherwise this call or a later one panics or returns unspecified values.
     ///
     /// <details><summary>Contract (proved)</summary>
     ///

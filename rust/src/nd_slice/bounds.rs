@@ -13,8 +13,8 @@ use crate::num_traits::clamp;
 ///
 /// # Conditions
 ///
-/// The caller ensures that the index is at least `-len`; the result may be past the axis. Otherwise the call panics or
-/// returns unspecified values.
+/// The caller ensures that the index is at least `-len`; the result may be past the axis. Otherwise this call or a
+/// later one panics or returns unspecified values.
 ///
 /// <details><summary>Contract (proved)</summary>
 ///

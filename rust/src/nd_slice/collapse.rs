@@ -15,7 +15,7 @@ use crate::nd_base::{Axis, Lengths, set_axis_of, stride_offset};
 /// # Conditions
 ///
 /// The caller ensures that the layout is valid, that there is the axis, and that `index` is below its length. Otherwise
-/// the call panics or returns unspecified values.
+/// this call or a later one panics or returns unspecified values.
 ///
 /// <details><summary>Contract (proved)</summary>
 ///

@@ -34,8 +34,8 @@ impl SliceInfoElem {
     ///
     /// # Conditions
     ///
-    /// The caller ensures that `index` is at most `isize::MAX`. Otherwise the call panics or returns unspecified
-    /// values.
+    /// The caller ensures that `index` is at most `isize::MAX`. Otherwise this call or a later one panics or returns
+    /// unspecified values.
     ///
     /// <details><summary>Contract (proved)</summary>
     ///

@@ -22,7 +22,8 @@ pub use sequence::arith_seq_intersect;
 ///
 /// # Conditions
 ///
-/// The caller ensures that `len` is below 2^63. Otherwise the call panics or returns unspecified values.
+/// The caller ensures that `len` is below 2^63. Otherwise this call or a later one panics or returns unspecified
+/// values.
 ///
 /// <details><summary>Contract (proved)</summary>
 ///
@@ -72,8 +73,8 @@ fn elems_share_all(shape: &[usize], first: &[SliceInfoElem], second: &[SliceInfo
 ///
 /// # Conditions
 ///
-/// The caller ensures that both fit, and that each length is below 2^63. Otherwise the call panics or returns
-/// unspecified values.
+/// The caller ensures that both fit, and that each length is below 2^63. Otherwise this call or a later one panics or
+/// returns unspecified values.
 ///
 /// <details><summary>Contract (proved)</summary>
 ///
@@ -108,7 +109,8 @@ pub fn elems_intersect(shape: &[usize], first: &[SliceInfoElem], second: &[Slice
 ///
 /// # Conditions
 ///
-/// The caller ensures that each length is below 2^63. Otherwise the call panics or returns unspecified values.
+/// The caller ensures that each length is below 2^63. Otherwise this call or a later one panics or returns unspecified
+/// values.
 ///
 /// <details><summary>Contract (proved)</summary>
 ///

@@ -102,8 +102,8 @@ fn first_in_direction<S: SliceElems, R: Direction>(
 ///
 /// # Conditions
 ///
-/// The caller ensures that each fits, and that each length is below 2^63. Otherwise the call panics or returns
-/// unspecified values.
+/// The caller ensures that each fits, and that each length is below 2^63. Otherwise this call or a later one panics or
+/// returns unspecified values.
 ///
 /// <details><summary>Contract (proved)</summary>
 ///
@@ -146,7 +146,8 @@ pub fn first_elems_intersection<S: SliceElems>(shape: &[usize], slices: &[S], fi
 ///
 /// # Conditions
 ///
-/// The caller ensures that each length is below 2^63. Otherwise the call panics or returns unspecified values.
+/// The caller ensures that each length is below 2^63. Otherwise this call or a later one panics or returns unspecified
+/// values.
 ///
 /// <details><summary>Contract (proved)</summary>
 ///

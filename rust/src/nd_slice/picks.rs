@@ -46,7 +46,7 @@ impl AxisPicks {
     ///
     /// # Conditions
     ///
-    /// The caller ensures that there is one. Otherwise the call panics or returns unspecified values.
+    /// The caller ensures that there is one. Otherwise this call or a later one panics or returns unspecified values.
     ///
     /// <details><summary>Contract (proved)</summary>
     ///
@@ -65,7 +65,7 @@ impl AxisPicks {
     ///
     /// # Conditions
     ///
-    /// The caller ensures that there is one. Otherwise the call panics or returns unspecified values.
+    /// The caller ensures that there is one. Otherwise this call or a later one panics or returns unspecified values.
     ///
     /// <details><summary>Contract (proved)</summary>
     ///
@@ -85,7 +85,7 @@ impl AxisPicks {
     ///
     /// # Conditions
     ///
-    /// The caller ensures that there is one. Otherwise the call panics or returns unspecified values.
+    /// The caller ensures that there is one. Otherwise this call or a later one panics or returns unspecified values.
     ///
     /// <details><summary>Contract (proved)</summary>
     ///
@@ -111,8 +111,8 @@ impl AxisPicks {
     ///
     /// # Conditions
     ///
-    /// The caller ensures that `end` and (`end` - 1) * |stride| are at most `isize::MAX`. Otherwise the call panics or
-    /// returns unspecified values.
+    /// The caller ensures that `end` and (`end` - 1) * |stride| are at most `isize::MAX`. Otherwise this call or a
+    /// later one panics or returns unspecified values.
     ///
     /// <details><summary>Contract (proved)</summary>
     ///
@@ -136,8 +136,8 @@ impl AxisPicks {
     ///
     /// # Conditions
     ///
-    /// The caller ensures that (`end` - 1) * |stride| is at most `isize::MAX`. Otherwise the call panics or returns
-    /// unspecified values.
+    /// The caller ensures that (`end` - 1) * |stride| is at most `isize::MAX`. Otherwise this call or a later one
+    /// panics or returns unspecified values.
     ///
     /// <details><summary>Contract (proved)</summary>
     ///
@@ -182,8 +182,8 @@ impl AxisPicks {
     ///
     /// # Conditions
     ///
-    /// The caller ensures that both ends are at most `isize::MAX`. Otherwise the call panics or returns unspecified
-    /// values.
+    /// The caller ensures that both ends are at most `isize::MAX`. Otherwise this call or a later one panics or returns
+    /// unspecified values.
     ///
     /// <details><summary>Contract (proved)</summary>
     ///
@@ -271,7 +271,8 @@ pub fn resolve_elem(len: usize, elem: SliceInfoElem, fit: Fit) -> Result<AxisPic
 ///
 /// # Conditions
 ///
-/// The caller ensures that the slice fits the axis. Otherwise the call panics or returns unspecified values.
+/// The caller ensures that the slice fits the axis. Otherwise this call or a later one panics or returns unspecified
+/// values.
 ///
 /// <details><summary>Contract (proved)</summary>
 ///

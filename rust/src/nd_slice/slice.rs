@@ -27,7 +27,8 @@ impl Slice {
     ///
     /// # Conditions
     ///
-    /// The caller ensures that `step` is not 0. Otherwise the call panics or returns unspecified values.
+    /// The caller ensures that `step` is not 0. Otherwise this call or a later one panics or returns unspecified
+    /// values.
     ///
     /// <details><summary>Contract (proved)</summary>
     ///
@@ -49,8 +50,8 @@ impl Slice {
     ///
     /// # Conditions
     ///
-    /// The caller ensures that `step` is not 0, and that the product fits an `isize`. Otherwise the call panics or
-    /// returns unspecified values.
+    /// The caller ensures that `step` is not 0, and that the product fits an `isize`. Otherwise this call or a later
+    /// one panics or returns unspecified values.
     ///
     /// <details><summary>Contract (proved)</summary>
     ///

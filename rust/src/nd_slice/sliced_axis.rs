@@ -21,8 +21,8 @@ use crate::nd_slice::slice::Slice;
 ///
 /// # Conditions
 ///
-/// The caller ensures that the length and (length - 1) * |stride| are at most `isize::MAX`. Otherwise the call panics
-/// or returns unspecified values.
+/// The caller ensures that the length and (length - 1) * |stride| are at most `isize::MAX`. Otherwise this call or a
+/// later one panics or returns unspecified values.
 ///
 /// <details><summary>Contract (proved)</summary>
 ///

@@ -334,7 +334,21 @@ fn fill_reshaped(
 /// # Conditions
 ///
 /// The caller ensures that the layout is valid, that the size of `to` is at most `isize::MAX`, and that no length is 0.
-/// Otherwise the call panics or returns unspecified values.
+/// Otherwise this call or a later one panics or returns unspecified values.
+///
+/// # Examples
+///
+/// ```
+/// use ndarray_layout::{ErrorKind, Ix2, LayoutError, Order, from_kind, reshape_dim};
+///
+/// # fn main() -> Result<(), LayoutError> {
+/// let (shape, strides) = (Ix2(2, 3), Ix2(3, 1));
+/// assert_eq!(reshape_dim(&shape, &strides, &Ix2(3, 2), Order::RowMajor)?, Ix2(2, 1));
+/// let refused = reshape_dim(&shape, &strides, &Ix2(3, 2), Order::ColumnMajor);
+/// assert_eq!(refused.err(), Some(from_kind(ErrorKind::IncompatibleLayout).into()));
+/// # Ok(())
+/// # }
+/// ```
 ///
 /// <details><summary>Contract (proved)</summary>
 ///

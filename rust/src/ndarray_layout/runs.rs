@@ -70,7 +70,7 @@ fn step_to(view: &mut Strided<IxDyn>, next: Strided<IxDyn>) {
 ///
 /// # Conditions
 ///
-/// The caller ensures that the view is one. Otherwise the call panics or returns unspecified values.
+/// The caller ensures that the view is one. Otherwise this call or a later one panics or returns unspecified values.
 ///
 /// <details><summary>Contract (proved)</summary>
 ///
@@ -128,6 +128,22 @@ fn take_step(view: &mut Strided<IxDyn>, step: &Step) -> Result<(), LayoutError> 
 ///
 /// Coordinate 1 of axis 0, then axis 0 into axis 1, of `[2,3]`, `[3,1]` from 0: `[1,3]`, `[3,1]`
 /// from 3. The project's own.
+///
+/// # Examples
+///
+/// ```
+/// use ndarray_layout::{Axis, CanIndexCheckMode, Ix2, IxDyn, Step, Strided, run};
+///
+/// # fn main() -> Result<(), Box<dyn std::error::Error>> {
+/// let whole = Strided::new(Ix2(2, 3), Ix2(3, 1), 1, 6, CanIndexCheckMode::ReadOnly)?.into_dyn();
+/// let steps = [Step::Collapse(Axis(0), 1), Step::Merge(Axis(0), Axis(1))];
+/// let left = run(whole.clone(), &steps)?;
+/// assert_eq!((left.start(), left.dim(), left.strides()), (3, &IxDyn(&[1, 3]), &IxDyn(&[3, 1])));
+/// let stopped = run(whole, &[Step::Collapse(Axis(0), 1), Step::Collapse(Axis(0), 1)]);
+/// assert_eq!(stopped.map_err(|stopped| (stopped.at, stopped.view)), Err((1, left)));
+/// # Ok(())
+/// # }
+/// ```
 ///
 /// <details><summary>Contract (proved)</summary>
 ///

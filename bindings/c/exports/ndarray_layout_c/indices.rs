@@ -112,7 +112,8 @@ pub fn nd_place(start: usize, shape: &[usize], strides: &[usize], index: &[usize
 ///
 /// # Conditions
 ///
-/// The caller ensures that there is room for just as many. Otherwise the call panics or returns unspecified values.
+/// The caller ensures that there is room for just as many. Otherwise this call or a later one panics or returns
+/// unspecified values.
 ///
 /// <details><summary>Contract (proved)</summary>
 ///

@@ -139,7 +139,8 @@ fn shape_intersection(
 ///
 /// # Conditions
 ///
-/// The caller ensures that there is room for two. Otherwise the call panics or returns unspecified values.
+/// The caller ensures that there is room for two. Otherwise this call or a later one panics or returns unspecified
+/// values.
 ///
 /// <details><summary>Contract (proved)</summary>
 ///

@@ -30,7 +30,8 @@ fn fastest_item(order: Order, items: &[usize], other: usize) -> usize {
 ///
 /// # Conditions
 ///
-/// The caller ensures that there is room for just as many. Otherwise the call panics or returns unspecified values.
+/// The caller ensures that there is room for just as many. Otherwise this call or a later one panics or returns
+/// unspecified values.
 ///
 /// <details><summary>Contract (proved)</summary>
 ///

@@ -40,8 +40,8 @@ const PIECE_LEN: usize = 8192;
 ///
 /// # Conditions
 ///
-/// The caller ensures that no read or write of the device has failed before. Otherwise the call panics or returns
-/// unspecified values.
+/// The caller ensures that no read or write of the device has failed before. Otherwise this call or a later one panics
+/// or returns unspecified values.
 ///
 /// <details><summary>Contract (proved)</summary>
 ///
@@ -75,8 +75,8 @@ pub(super) fn read_whole<R: io::Read>(reader: &mut Watched<R>) -> Result<Vec<u8>
 ///
 /// # Conditions
 ///
-/// The caller ensures that no read or write of the device has failed before. Otherwise the call panics or returns
-/// unspecified values.
+/// The caller ensures that no read or write of the device has failed before. Otherwise this call or a later one panics
+/// or returns unspecified values.
 ///
 /// <details><summary>Contract (proved)</summary>
 ///

@@ -39,8 +39,8 @@ const DEVICE_FAILED: u8 = 4;
 ///
 /// # Conditions
 ///
-/// The caller ensures that no read or write of either device has failed before. Otherwise the call panics or returns
-/// unspecified values.
+/// The caller ensures that no read or write of either device has failed before. Otherwise this call or a later one
+/// panics or returns unspecified values.
 ///
 /// <details><summary>Contract (proved)</summary>
 ///

@@ -158,8 +158,8 @@ impl<R: Read> Watched<R> {
     ///
     /// # Conditions
     ///
-    /// The caller ensures that no read or write of it has failed before. Otherwise the call panics or returns
-    /// unspecified values.
+    /// The caller ensures that no read or write of it has failed before. Otherwise this call or a later one panics or
+    /// returns unspecified values.
     ///
     /// <details><summary>Contract (proved)</summary>
     ///
@@ -187,8 +187,8 @@ impl<W: Write> Watched<W> {
     ///
     /// # Conditions
     ///
-    /// The caller ensures that no read or write of it has failed before. Otherwise the call panics or returns
-    /// unspecified values.
+    /// The caller ensures that no read or write of it has failed before. Otherwise this call or a later one panics or
+    /// returns unspecified values.
     ///
     /// <details><summary>Contract (proved)</summary>
     ///

@@ -42,8 +42,8 @@ fn first_line(text: &[u8]) -> Option<(&[u8], &[u8])> {
 ///
 /// # Conditions
 ///
-/// The caller ensures that this number and the text's length in bytes are together below 2^64. Otherwise the call
-/// panics or returns unspecified values.
+/// The caller ensures that this number and the text's length in bytes are together below 2^64. Otherwise this call or a
+/// later one panics or returns unspecified values.
 ///
 /// <details><summary>Contract (proved)</summary>
 ///

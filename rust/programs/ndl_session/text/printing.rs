@@ -67,8 +67,8 @@ fn push_list<T: Display + Copy, I: Iterator<Item = T>>(
 ///
 /// # Conditions
 ///
-/// The caller ensures that the numbers come to an end, and that it is known what each prints. Otherwise the call panics
-/// or returns unspecified values.
+/// The caller ensures that the numbers come to an end, and that it is known what each prints. Otherwise this call or a
+/// later one panics or returns unspecified values.
 ///
 /// <details><summary>Contract (proved)</summary>
 ///
@@ -121,7 +121,8 @@ fn push_place(text: &mut Vec<u8>, place: usize) -> Result<(), AllocError> {
 ///
 /// # Conditions
 ///
-/// The caller ensures that the places come to an end. Otherwise the call panics or returns unspecified values.
+/// The caller ensures that the places come to an end. Otherwise this call or a later one panics or returns unspecified
+/// values.
 ///
 /// <details><summary>Contract (proved)</summary>
 ///

@@ -11,6 +11,19 @@ impl<T: Copy + Ord, D: Lengths> ArrayView<'_, T, D> {
     ///
     /// `[2]` with the stride `[-1]` over 7 8 9: 8. std's `max` of `iter()`.
     ///
+    /// # Examples
+    ///
+    /// ```
+    /// use ndarray_layout::{ArrayView, Ix1, LayoutError, ShapeBuilder, unsigned};
+    ///
+    /// # fn main() -> Result<(), LayoutError> {
+    /// let a = ArrayView::from_shape(Ix1(2).strides(Ix1(unsigned(-1)))?, &[7, 8, 9])?;
+    /// assert_eq!(a.max(), Some(8));
+    /// assert_eq!(ArrayView::from_shape(Ix1(0).into(), &[7, 8, 9])?.max(), None);
+    /// # Ok(())
+    /// # }
+    /// ```
+    ///
     /// <details><summary>Contract (proved)</summary>
     ///
     /// ```text
@@ -35,6 +48,19 @@ impl<T: Copy + Ord, D: Lengths> ArrayView<'_, T, D> {
     /// Time in proportion to the indices, by `fold`.
     ///
     /// `[2]` with the stride `[-1]` over 7 8 9: 7. std's `min` of `iter()`.
+    ///
+    /// # Examples
+    ///
+    /// ```
+    /// use ndarray_layout::{ArrayView, Ix1, LayoutError, ShapeBuilder, unsigned};
+    ///
+    /// # fn main() -> Result<(), LayoutError> {
+    /// let a = ArrayView::from_shape(Ix1(2).strides(Ix1(unsigned(-1)))?, &[7, 8, 9])?;
+    /// assert_eq!(a.min(), Some(7));
+    /// assert_eq!(ArrayView::from_shape(Ix1(0).into(), &[7, 8, 9])?.min(), None);
+    /// # Ok(())
+    /// # }
+    /// ```
     ///
     /// <details><summary>Contract (proved)</summary>
     ///

@@ -1,6 +1,7 @@
 // Made by `rust/erase` of `crates/nd_lent/src/array_view/folding.rt`: edit that.
 //! A function that is called at each item of an array in turn, row by row.
 
+use crate::memory::prelude::Vec;
 use crate::nd_lent::array_view::{ArrayView, LentRow};
 use crate::ndarray_layout::Lengths;
 
@@ -74,6 +75,19 @@ impl<T, D: Lengths> ArrayView<'_, T, D> {
     /// The function may be called with any item of the array, after any result that it has returned. Where it panics,
     /// so does this call.
     ///
+    /// # Examples
+    ///
+    /// ```
+    /// use ndarray_layout::{ArrayView, Ix1, LayoutError, ShapeBuilder, unsigned};
+    ///
+    /// # fn main() -> Result<(), LayoutError> {
+    /// let a = ArrayView::from_shape(Ix1(2).strides(Ix1(unsigned(-1)))?, &[7, 8, 9])?;
+    /// assert_eq!(a.fold(0, |sum, item| sum + item), 15);
+    /// assert_eq!(a.fold(0, |number, item| 10 * number + item), 87);
+    /// # Ok(())
+    /// # }
+    /// ```
+    ///
     /// <details><summary>Contract (proved)</summary>
     ///
     /// ```text
@@ -104,6 +118,20 @@ impl<T, D: Lengths> ArrayView<'_, T, D> {
     ///
     /// The function may be called with any item of the array, whatever it was called with before. Where it panics, so
     /// does this call.
+    ///
+    /// # Examples
+    ///
+    /// ```
+    /// use ndarray_layout::{ArrayView, Ix1, LayoutError, ShapeBuilder, unsigned};
+    ///
+    /// # fn main() -> Result<(), LayoutError> {
+    /// let a = ArrayView::from_shape(Ix1(2).strides(Ix1(unsigned(-1)))?, &[7, 8, 9])?;
+    /// let mut items = Vec::new();
+    /// a.for_each(|item| items.push(*item));
+    /// assert_eq!(items, [8, 7]);
+    /// # Ok(())
+    /// # }
+    /// ```
     ///
     /// <details><summary>Contract (proved)</summary>
     ///

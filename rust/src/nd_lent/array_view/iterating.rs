@@ -1,6 +1,7 @@
 // Made by `rust/erase` of `crates/nd_lent/src/array_view/iterating.rt`: edit that.
 //! The items of an array one after another, each lent, without a list of them.
 
+use crate::memory::prelude::Vec;
 use crate::nd_lent::array_view::ArrayView;
 use crate::ndarray_layout::{Lengths, Order, Places};
 use core::iter::FusedIterator;
@@ -18,7 +19,22 @@ impl<'a, T> Iter<'a, T> {
     ///
     /// # Conditions
     ///
-    /// The caller ensures that each is one of these items. Otherwise the call panics or returns unspecified values.
+    /// The caller ensures that each is one of these items. Otherwise this call or a later one panics or returns
+    /// unspecified values.
+    ///
+    /// # Examples
+    ///
+    /// ```
+    /// use ndarray_layout::{CanIndexCheckMode, Iter, Ix1, LayoutError, Order, Strided, unsigned};
+    ///
+    /// # fn main() -> Result<(), LayoutError> {
+    /// let view = Strided::from_parts(1, Ix1(2), Ix1(unsigned(-1)), 1, 3, CanIndexCheckMode::ReadOnly)?;
+    /// let items = Iter::new(&[7, 8, 9], view.iter_places(Order::RowMajor));
+    /// assert_eq!(items.len(), 2);
+    /// assert_eq!(items.copied().collect::<Vec<i32>>(), [8, 7]);
+    /// # Ok(())
+    /// # }
+    /// ```
     ///
     /// <details><summary>Contract (proved)</summary>
     ///
@@ -69,6 +85,19 @@ impl<'a, T, D: Lengths> ArrayView<'a, T, D> {
     /// Takes no memory, and lists nothing. An item takes the time of its place (`Strided::iter_places`).
     ///
     /// `a.iter()` gives 8 7. ndarray's `iter`.
+    ///
+    /// # Examples
+    ///
+    /// ```
+    /// use ndarray_layout::{ArrayView, Ix1, LayoutError, ShapeBuilder, unsigned};
+    ///
+    /// # fn main() -> Result<(), LayoutError> {
+    /// let a = ArrayView::from_shape(Ix1(2).strides(Ix1(unsigned(-1)))?, &[7, 8, 9])?;
+    /// assert_eq!(a.iter().len(), 2);
+    /// assert_eq!(a.iter().copied().collect::<Vec<i32>>(), [8, 7]);
+    /// # Ok(())
+    /// # }
+    /// ```
     ///
     /// <details><summary>Contract (proved)</summary>
     ///

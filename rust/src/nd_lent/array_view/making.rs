@@ -11,8 +11,21 @@ impl<'a, T, D: Lengths> ArrayView<'a, T, D> {
     ///
     /// # Conditions
     ///
-    /// The caller ensures that each place of it has an item; `over` checks it. Otherwise the call panics or returns
-    /// unspecified values.
+    /// The caller ensures that each place of it has an item; `over` checks it. Otherwise this call or a later one
+    /// panics or returns unspecified values.
+    ///
+    /// # Examples
+    ///
+    /// ```
+    /// use ndarray_layout::{ArrayView, CanIndexCheckMode, Ix1, LayoutError, Strided, unsigned};
+    ///
+    /// # fn main() -> Result<(), LayoutError> {
+    /// let view = Strided::from_parts(1, Ix1(2), Ix1(unsigned(-1)), 1, 3, CanIndexCheckMode::ReadOnly)?;
+    /// let a = ArrayView::new(view, &[7, 8, 9]);
+    /// assert_eq!(a.to_vec()?, [8, 7]);
+    /// # Ok(())
+    /// # }
+    /// ```
     ///
     /// <details><summary>Contract (proved)</summary>
     ///
@@ -38,6 +51,19 @@ impl<'a, T, D: Lengths> ArrayView<'a, T, D> {
     /// Those of `Strided::from_shape` in read-only mode, over as many elements of one byte as there are items.
     ///
     /// `[2]` with the stride `[-1]` over 7 8 9 is `a`. ndarray's `from_shape`.
+    ///
+    /// # Examples
+    ///
+    /// ```
+    /// use ndarray_layout::{ArrayView, Ix1, LayoutError, ShapeBuilder, unsigned};
+    ///
+    /// # fn main() -> Result<(), LayoutError> {
+    /// let a = ArrayView::from_shape(Ix1(2).strides(Ix1(unsigned(-1)))?, &[7, 8, 9])?;
+    /// assert_eq!(a.to_vec()?, [8, 7]);
+    /// assert!(ArrayView::from_shape(Ix1(4).into(), &[7, 8, 9]).is_err());
+    /// # Ok(())
+    /// # }
+    /// ```
     ///
     /// <details><summary>Contract (proved)</summary>
     ///
@@ -72,6 +98,20 @@ impl<'a, T, D: Lengths> ArrayView<'a, T, D> {
     /// Takes no memory, and time in proportion to the count of axes.
     ///
     /// `[2]`, `[-1]` from 1 over 7 8 9 is `a`; over 7 alone `OutOfBounds`. The project's own.
+    ///
+    /// # Examples
+    ///
+    /// ```
+    /// use ndarray_layout::{ArrayView, CanIndexCheckMode, ErrorKind, Ix1, LayoutError, Strided, unsigned};
+    ///
+    /// # fn main() -> Result<(), LayoutError> {
+    /// let view = Strided::from_parts(1, Ix1(2), Ix1(unsigned(-1)), 1, 3, CanIndexCheckMode::ReadOnly)?;
+    /// assert_eq!(ArrayView::over(view, &[7, 8, 9])?.to_vec()?, [8, 7]);
+    /// let fault = ArrayView::over(view, &[7]).err();
+    /// assert_eq!(fault.map(|error| error.kind()), Some(ErrorKind::OutOfBounds));
+    /// # Ok(())
+    /// # }
+    /// ```
     ///
     /// <details><summary>Contract (proved)</summary>
     ///

@@ -1,6 +1,7 @@
 // Made by `rust/erase` of `crates/nd_lent/src/array_view/rows.rt`: edit that.
 //! The rows of an array one after another, each lent.
 
+use crate::memory::prelude::Vec;
 use crate::nd_lent::array_view::ArrayView;
 use crate::ndarray_layout::{Lengths, Order, Row, Rows};
 use core::iter::FusedIterator;
@@ -16,8 +17,8 @@ pub struct LentRow<'a, T> {
 ///
 /// # Conditions
 ///
-/// The caller ensures that neither it nor the first place is past an `isize`. Otherwise the call panics or returns
-/// unspecified values.
+/// The caller ensures that neither it nor the first place is past an `isize`. Otherwise this call or a later one panics
+/// or returns unspecified values.
 ///
 /// <details><summary>Contract (proved)</summary>
 ///
@@ -51,6 +52,19 @@ pub(crate) fn is_contiguous(row: Row) -> bool {
 impl<'a, T> LentRow<'a, T> {
     /// How many items it has.
     ///
+    /// # Examples
+    ///
+    /// ```
+    /// use ndarray_layout::{ArrayView, Ix2, LayoutError, LentRow};
+    ///
+    /// # fn main() -> Result<(), LayoutError> {
+    /// let table = ArrayView::from_shape(Ix2(2, 3).into(), &[1, 2, 3, 4, 5, 6])?;
+    /// let rows: Vec<LentRow<'_, i32>> = table.rows().collect();
+    /// assert_eq!((rows[0].len(), rows[1].len()), (3, 3));
+    /// # Ok(())
+    /// # }
+    /// ```
+    ///
     /// <details><summary>Contract (proved)</summary>
     ///
     /// ```text
@@ -68,6 +82,21 @@ impl<'a, T> LentRow<'a, T> {
     /// The items as a slice, where they follow one another: by the stride 1, or if there is one; else `None`.
     ///
     /// Of `[2,2]` over 5 6 7 8 the second row is 7 8; the transpose has `None`. ndarray's `to_slice` of a row.
+    ///
+    /// # Examples
+    ///
+    /// ```
+    /// use ndarray_layout::{ArrayView, Ix2, LayoutError, LentRow};
+    ///
+    /// # fn main() -> Result<(), LayoutError> {
+    /// let table = ArrayView::from_shape(Ix2(2, 2).into(), &[5, 6, 7, 8])?;
+    /// let rows: Vec<LentRow<'_, i32>> = table.rows().collect();
+    /// assert_eq!(rows[1].as_slice(), Some(&[7, 8][..]));
+    /// let turned = table.reversed_axes();
+    /// assert!(turned.rows().all(|row| row.as_slice().is_none()));
+    /// # Ok(())
+    /// # }
+    /// ```
     ///
     /// <details><summary>Contract (proved)</summary>
     ///
@@ -91,7 +120,8 @@ impl<'a, T> LentRow<'a, T> {
     ///
     /// # Conditions
     ///
-    /// The caller ensures that it is one of the row. Otherwise the call panics or returns unspecified values.
+    /// The caller ensures that it is one of the row. Otherwise this call or a later one panics or returns unspecified
+    /// values.
     ///
     /// <details><summary>Contract (proved)</summary>
     ///
@@ -110,6 +140,20 @@ impl<'a, T> LentRow<'a, T> {
     /// The item of a coordinate; `None` where it is past the row.
     ///
     /// Of `[2,2]` over 5 6 7 8, the second row at 0: 7; at 2: `None`. ndarray's `get` of a row.
+    ///
+    /// # Examples
+    ///
+    /// ```
+    /// use ndarray_layout::{ArrayView, Ix2, LayoutError, LentRow};
+    ///
+    /// # fn main() -> Result<(), LayoutError> {
+    /// let table = ArrayView::from_shape(Ix2(2, 2).into(), &[5, 6, 7, 8])?;
+    /// let rows: Vec<LentRow<'_, i32>> = table.rows().collect();
+    /// assert_eq!(rows[1].get(0), Some(&7));
+    /// assert_eq!(rows[1].get(2), None);
+    /// # Ok(())
+    /// # }
+    /// ```
     ///
     /// <details><summary>Contract (proved)</summary>
     ///
@@ -166,6 +210,22 @@ impl<'a, T, D: Lengths> ArrayView<'a, T, D> {
     /// Takes no memory, and lists nothing. A row takes the time of its places (`Strided::rows`).
     ///
     /// `[2,2]` over 5 6 7 8: the rows 5 6 and 7 8; of the transpose 5 7 and 6 8. ndarray's `rows`.
+    ///
+    /// # Examples
+    ///
+    /// ```
+    /// use ndarray_layout::{ArrayView, Ix2, LayoutError};
+    ///
+    /// # fn main() -> Result<(), LayoutError> {
+    /// let table = ArrayView::from_shape(Ix2(2, 2).into(), &[5, 6, 7, 8])?;
+    /// let rows: Vec<&[i32]> = table.rows().filter_map(|row| row.as_slice()).collect();
+    /// assert_eq!(rows, [[5, 6], [7, 8]]);
+    /// let turned = table.reversed_axes();
+    /// let rows: Vec<Vec<i32>> = turned.rows().map(|row| row.into_iter().copied().collect()).collect();
+    /// assert_eq!(rows, [[5, 7], [6, 8]]);
+    /// # Ok(())
+    /// # }
+    /// ```
     ///
     /// <details><summary>Contract (proved)</summary>
     ///

@@ -1,6 +1,7 @@
 // Made by `rust/erase` of `crates/nd_lent/src/array_view/steps.rt`: edit that.
 //! Other views of the items of an array: each is made as that of its layout is.
 
+use crate::memory::prelude::Vec;
 use crate::nd_lent::array_view::ArrayView;
 use crate::ndarray_layout::{
     Axis, Dimension, Fit, Ix1, LayoutError, Lengths, Order, RemoveAxis, ShapeError, SliceElems,
@@ -10,6 +11,21 @@ impl<'a, T, D: Lengths> ArrayView<'a, T, D> {
     /// The array of the items that a slice argument leaves: `Strided::slice`, with its errors.
     ///
     /// `1..` of `[3]` over 7 8 9: 8 9. ndarray's `slice`.
+    ///
+    /// # Examples
+    ///
+    /// ```
+    /// use ndarray_layout::{ArrayView, Fit, Ix1, LayoutError, s};
+    ///
+    /// # fn main() -> Result<(), LayoutError> {
+    /// let row = ArrayView::from_shape(Ix1(3).into(), &[7, 8, 9])?;
+    /// let part: ArrayView<'_, i32, Ix1> = row.slice(&s![1..], Fit::Strict)?;
+    /// assert_eq!(part.to_vec()?, [8, 9]);
+    /// assert!(row.slice::<Ix1, _>(&s![1..4], Fit::Strict).is_err());
+    /// assert_eq!(row.slice::<Ix1, _>(&s![1..4], Fit::Clamp)?.to_vec()?, [8, 9]);
+    /// # Ok(())
+    /// # }
+    /// ```
     ///
     /// <details><summary>Contract (proved)</summary>
     ///
@@ -32,6 +48,21 @@ impl<'a, T, D: Lengths> ArrayView<'a, T, D> {
     ///
     /// Coordinate 1 of `[3]` over 7 8 9: 8 alone. ndarray's `collapse_axis`.
     ///
+    /// # Examples
+    ///
+    /// ```
+    /// use ndarray_layout::{ArrayView, Axis, Ix1, LayoutError};
+    ///
+    /// # fn main() -> Result<(), LayoutError> {
+    /// let mut row = ArrayView::from_shape(Ix1(3).into(), &[7, 8, 9])?;
+    /// row.collapse(Axis(0), 1)?;
+    /// assert_eq!(row.to_vec()?, [8]);
+    /// assert!(row.collapse(Axis(0), 1).is_err());
+    /// assert_eq!(row.to_vec()?, [8]);
+    /// # Ok(())
+    /// # }
+    /// ```
+    ///
     /// <details><summary>Contract (proved)</summary>
     ///
     /// ```text
@@ -50,6 +81,21 @@ impl<'a, T, D: Lengths> ArrayView<'a, T, D> {
     /// Swaps two axes: `Strided::swap_axes`, with its errors; the array is unchanged after one.
     ///
     /// ndarray's `swap_axes`.
+    ///
+    /// # Examples
+    ///
+    /// ```
+    /// use ndarray_layout::{ArrayView, Axis, Ix2, LayoutError};
+    ///
+    /// # fn main() -> Result<(), LayoutError> {
+    /// let mut table = ArrayView::from_shape(Ix2(2, 3).into(), &[1, 2, 3, 4, 5, 6])?;
+    /// table.swap_axes(Axis(0), Axis(1))?;
+    /// assert_eq!(table.to_vec()?, [1, 4, 2, 5, 3, 6]);
+    /// assert!(table.swap_axes(Axis(0), Axis(2)).is_err());
+    /// assert_eq!(table.dim(), &Ix2(3, 2));
+    /// # Ok(())
+    /// # }
+    /// ```
     ///
     /// <details><summary>Contract (proved)</summary>
     ///
@@ -70,6 +116,21 @@ impl<'a, T, D: Lengths> ArrayView<'a, T, D> {
     ///
     /// (2,1) of the result is (1,2) of the array. ndarray's `reversed_axes`.
     ///
+    /// # Examples
+    ///
+    /// ```
+    /// use ndarray_layout::{ArrayView, Ix2, LayoutError};
+    ///
+    /// # fn main() -> Result<(), LayoutError> {
+    /// let table = ArrayView::from_shape(Ix2(2, 3).into(), &[1, 2, 3, 4, 5, 6])?;
+    /// assert_eq!(table.get(&(1, 2)), Some(&6));
+    /// let turned = table.reversed_axes();
+    /// assert_eq!(turned.get(&(2, 1)), Some(&6));
+    /// assert_eq!(turned.to_vec()?, [1, 4, 2, 5, 3, 6]);
+    /// # Ok(())
+    /// # }
+    /// ```
+    ///
     /// <details><summary>Contract (proved)</summary>
     ///
     /// ```text
@@ -87,6 +148,22 @@ impl<'a, T, D: Lengths> ArrayView<'a, T, D> {
     /// The axes in another order: `Strided::permuted_axes`, with its errors.
     ///
     /// ndarray's `permuted_axes`.
+    ///
+    /// # Examples
+    ///
+    /// ```
+    /// use ndarray_layout::{ArrayView, Axis, Ix3, LayoutError};
+    ///
+    /// # fn main() -> Result<(), LayoutError> {
+    /// let items: Vec<u8> = (0..24).collect();
+    /// let block = ArrayView::from_shape(Ix3(2, 3, 4).into(), &items)?;
+    /// let permuted = block.permuted_axes(&[Axis(2), Axis(0), Axis(1)])?;
+    /// assert_eq!(permuted.dim(), &Ix3(4, 2, 3));
+    /// assert_eq!((permuted.get(&(3, 0, 1)), block.get(&(0, 1, 3))), (Some(&7), Some(&7)));
+    /// assert!(block.permuted_axes(&[Axis(2), Axis(0), Axis(0)]).is_err());
+    /// # Ok(())
+    /// # }
+    /// ```
     ///
     /// <details><summary>Contract (proved)</summary>
     ///
@@ -108,6 +185,21 @@ impl<'a, T, D: Lengths> ArrayView<'a, T, D> {
     ///
     /// Axis 0 of `[3]` over 7 8 9: 9 8 7. ndarray's `invert_axis`.
     ///
+    /// # Examples
+    ///
+    /// ```
+    /// use ndarray_layout::{ArrayView, Axis, Ix1, LayoutError};
+    ///
+    /// # fn main() -> Result<(), LayoutError> {
+    /// let mut row = ArrayView::from_shape(Ix1(3).into(), &[7, 8, 9])?;
+    /// row.invert_axis(Axis(0))?;
+    /// assert_eq!(row.to_vec()?, [9, 8, 7]);
+    /// assert!(row.invert_axis(Axis(1)).is_err());
+    /// assert_eq!(row.to_vec()?, [9, 8, 7]);
+    /// # Ok(())
+    /// # }
+    /// ```
+    ///
     /// <details><summary>Contract (proved)</summary>
     ///
     /// ```text
@@ -127,6 +219,22 @@ impl<'a, T, D: Lengths> ArrayView<'a, T, D> {
     /// `Ok(false)`.
     ///
     /// ndarray's `merge_axes`.
+    ///
+    /// # Examples
+    ///
+    /// ```
+    /// use ndarray_layout::{ArrayView, Axis, Ix2, LayoutError};
+    ///
+    /// # fn main() -> Result<(), LayoutError> {
+    /// let mut table = ArrayView::from_shape(Ix2(2, 3).into(), &[1, 2, 3, 4, 5, 6])?;
+    /// let mut turned = table.duplicate()?.reversed_axes();
+    /// assert!(!turned.merge(Axis(0), Axis(1))?);
+    /// assert!(table.merge(Axis(0), Axis(1))?);
+    /// assert_eq!((turned.dim(), table.dim()), (&Ix2(3, 2), &Ix2(1, 6)));
+    /// assert!(table.merge(Axis(0), Axis(0)).is_err());
+    /// # Ok(())
+    /// # }
+    /// ```
     ///
     /// <details><summary>Contract (proved)</summary>
     ///
@@ -149,6 +257,21 @@ impl<'a, T, D: Lengths> ArrayView<'a, T, D> {
     /// The same items along another shape, in an order: `Strided::reshape`, with its errors.
     ///
     /// ndarray's `to_shape` where it copies nothing.
+    ///
+    /// # Examples
+    ///
+    /// ```
+    /// use ndarray_layout::{ArrayView, ErrorKind, Ix2, LayoutError, Order, from_kind};
+    ///
+    /// # fn main() -> Result<(), LayoutError> {
+    /// let table = ArrayView::from_shape(Ix2(2, 3).into(), &[1, 2, 3, 4, 5, 6])?;
+    /// let tall = table.reshape(&Ix2(3, 2), Order::RowMajor)?;
+    /// assert_eq!((tall.get(&(0, 1)), tall.get(&(2, 0))), (Some(&2), Some(&5)));
+    /// let fault = table.reshape(&Ix2(3, 2), Order::ColumnMajor).err();
+    /// assert_eq!(fault, Some(from_kind(ErrorKind::IncompatibleLayout).into()));
+    /// # Ok(())
+    /// # }
+    /// ```
     ///
     /// <details><summary>Contract (proved)</summary>
     ///
@@ -175,6 +298,20 @@ impl<'a, T, D: Lengths> ArrayView<'a, T, D> {
     ///
     /// `[1]` over 7 to `[3]`: 7 7 7. ndarray's `broadcast`.
     ///
+    /// # Examples
+    ///
+    /// ```
+    /// use ndarray_layout::{ArrayView, Ix1, LayoutError};
+    ///
+    /// # fn main() -> Result<(), LayoutError> {
+    /// let one = ArrayView::from_shape(Ix1(1).into(), &[7])?;
+    /// let three = one.broadcast(&Ix1(3))?;
+    /// assert_eq!(three.to_vec()?, [7, 7, 7]);
+    /// assert!(three.broadcast(&Ix1(4)).is_err());
+    /// # Ok(())
+    /// # }
+    /// ```
+    ///
     /// <details><summary>Contract (proved)</summary>
     ///
     /// ```text
@@ -194,6 +331,21 @@ impl<'a, T, D: Lengths> ArrayView<'a, T, D> {
     /// All windows of a shape, as one array: `Strided::windows`, with its errors.
     ///
     /// Windows of `[2]` of `[3]` over 7 8 9: 7 8 and 8 9. ndarray's `windows`.
+    ///
+    /// # Examples
+    ///
+    /// ```
+    /// use ndarray_layout::{ArrayView, Ix1, Ix2, LayoutError};
+    ///
+    /// # fn main() -> Result<(), LayoutError> {
+    /// let row = ArrayView::from_shape(Ix1(3).into(), &[7, 8, 9])?;
+    /// let windows: ArrayView<'_, i32, Ix2> = row.windows(&Ix1(2))?;
+    /// let rows: Vec<&[i32]> = windows.rows().filter_map(|row| row.as_slice()).collect();
+    /// assert_eq!(rows, [[7, 8], [8, 9]]);
+    /// assert!(row.windows::<Ix2>(&Ix1(0)).is_err());
+    /// # Ok(())
+    /// # }
+    /// ```
     ///
     /// <details><summary>Contract (proved)</summary>
     ///
@@ -216,6 +368,21 @@ impl<'a, T, D: Lengths> ArrayView<'a, T, D> {
     ///
     /// Chunks of `[2]` of `[5]` over 5 6 7 8 9: 5 6 and 7 8. ndarray's `exact_chunks`.
     ///
+    /// # Examples
+    ///
+    /// ```
+    /// use ndarray_layout::{ArrayView, Ix1, Ix2, LayoutError};
+    ///
+    /// # fn main() -> Result<(), LayoutError> {
+    /// let row = ArrayView::from_shape(Ix1(5).into(), &[5, 6, 7, 8, 9])?;
+    /// let chunks: ArrayView<'_, i32, Ix2> = row.exact_chunks(&Ix1(2))?;
+    /// let rows: Vec<&[i32]> = chunks.rows().filter_map(|row| row.as_slice()).collect();
+    /// assert_eq!(rows, [[5, 6], [7, 8]]);
+    /// assert!(row.exact_chunks::<Ix2>(&Ix1(0)).is_err());
+    /// # Ok(())
+    /// # }
+    /// ```
+    ///
     /// <details><summary>Contract (proved)</summary>
     ///
     /// ```text
@@ -237,6 +404,18 @@ impl<'a, T, D: Lengths> ArrayView<'a, T, D> {
     ///
     /// ndarray's `diag`.
     ///
+    /// # Examples
+    ///
+    /// ```
+    /// use ndarray_layout::{ArrayView, Ix2, LayoutError};
+    ///
+    /// # fn main() -> Result<(), LayoutError> {
+    /// let table = ArrayView::from_shape(Ix2(2, 3).into(), &[1, 2, 3, 4, 5, 6])?;
+    /// assert_eq!(table.diag().to_vec()?, [1, 5]);
+    /// # Ok(())
+    /// # }
+    /// ```
+    ///
     /// <details><summary>Contract (proved)</summary>
     ///
     /// ```text
@@ -253,6 +432,20 @@ impl<'a, T, D: Lengths> ArrayView<'a, T, D> {
     /// The two parts along an axis: `Strided::split_at`, with its errors.
     ///
     /// Axis 0 of `[3]` over 7 8 9 at 1: 7, and 8 9. ndarray's `split_at`.
+    ///
+    /// # Examples
+    ///
+    /// ```
+    /// use ndarray_layout::{ArrayView, Axis, Ix1, LayoutError};
+    ///
+    /// # fn main() -> Result<(), LayoutError> {
+    /// let row = ArrayView::from_shape(Ix1(3).into(), &[7, 8, 9])?;
+    /// let (first, second) = row.duplicate()?.split_at(Axis(0), 1)?;
+    /// assert_eq!((first.to_vec()?, second.to_vec()?), (vec![7], vec![8, 9]));
+    /// assert!(row.split_at(Axis(0), 4).is_err());
+    /// # Ok(())
+    /// # }
+    /// ```
     ///
     /// <details><summary>Contract (proved)</summary>
     ///
@@ -279,6 +472,20 @@ impl<'a, T, D: Lengths + Clone> ArrayView<'a, T, D> {
     ///
     /// From (1) to (3) of `[3]` over 7 8 9: 8 9; to (4) `None`. In place of ndarray's `slice` by ranges.
     ///
+    /// # Examples
+    ///
+    /// ```
+    /// use ndarray_layout::{ArrayView, Ix1, LayoutError};
+    ///
+    /// # fn main() -> Result<(), LayoutError> {
+    /// let row = ArrayView::from_shape(Ix1(3).into(), &[7, 8, 9])?;
+    /// let part = row.crop(&Ix1(1), &Ix1(3)).expect("both bounds fit");
+    /// assert_eq!(part.to_vec()?, [8, 9]);
+    /// assert!(row.crop(&Ix1(1), &Ix1(4)).is_none());
+    /// # Ok(())
+    /// # }
+    /// ```
+    ///
     /// <details><summary>Contract (proved)</summary>
     ///
     /// ```text
@@ -302,6 +509,20 @@ impl<'a, T, D: RemoveAxis> ArrayView<'a, T, D> {
     ///
     /// Coordinate 1 of axis 0 of `[2,3]`: the second row. ndarray's `index_axis`.
     ///
+    /// # Examples
+    ///
+    /// ```
+    /// use ndarray_layout::{ArrayView, Axis, Ix2, LayoutError};
+    ///
+    /// # fn main() -> Result<(), LayoutError> {
+    /// let table = ArrayView::from_shape(Ix2(2, 3).into(), &[1, 2, 3, 4, 5, 6])?;
+    /// assert_eq!(table.index_axis(Axis(0), 1)?.to_vec()?, [4, 5, 6]);
+    /// assert_eq!(table.index_axis(Axis(1), 1)?.to_vec()?, [2, 5]);
+    /// assert!(table.index_axis(Axis(0), 2).is_err());
+    /// # Ok(())
+    /// # }
+    /// ```
+    ///
     /// <details><summary>Contract (proved)</summary>
     ///
     /// ```text
@@ -324,6 +545,21 @@ impl<'a, T, D: Dimension> ArrayView<'a, T, D> {
     /// The array with a new axis of length 1: `Strided::insert_axis`, with its errors.
     ///
     /// ndarray's `insert_axis`.
+    ///
+    /// # Examples
+    ///
+    /// ```
+    /// use ndarray_layout::{ArrayView, Axis, Ix2, Ix3, LayoutError};
+    ///
+    /// # fn main() -> Result<(), LayoutError> {
+    /// let table = ArrayView::from_shape(Ix2(2, 3).into(), &[1, 2, 3, 4, 5, 6])?;
+    /// let inserted = table.insert_axis(Axis(1))?;
+    /// assert_eq!(inserted.dim(), &Ix3(2, 1, 3));
+    /// assert_eq!(inserted.get(&(1, 0, 2)), Some(&6));
+    /// assert!(table.insert_axis(Axis(3)).is_err());
+    /// # Ok(())
+    /// # }
+    /// ```
     ///
     /// <details><summary>Contract (proved)</summary>
     ///

@@ -63,6 +63,22 @@ impl<T: Unsigned, D: Lengths> ArrayView<'_, T, D> {
     ///
     /// `[2]` with the stride `[-1]` over 7 8 9: 15; of `u8` items too, since they are added as `u64`. ndarray's `sum`.
     ///
+    /// # Examples
+    ///
+    /// ```
+    /// use ndarray_layout::{ArrayView, Ix1, LayoutError, ShapeBuilder, unsigned};
+    ///
+    /// # fn main() -> Result<(), LayoutError> {
+    /// let a = ArrayView::from_shape(Ix1(2).strides(Ix1(unsigned(-1)))?, &[7u8, 8, 9])?;
+    /// assert_eq!(a.sum(), Some(15));
+    /// let bytes = ArrayView::from_shape(Ix1(2).into(), &[200u8, 100])?;
+    /// assert_eq!(bytes.sum(), Some(300));
+    /// let greatest = ArrayView::from_shape(Ix1(2).into(), &[u64::MAX, 1])?;
+    /// assert_eq!(greatest.sum(), None);
+    /// # Ok(())
+    /// # }
+    /// ```
+    ///
     /// <details><summary>Contract (proved)</summary>
     ///
     /// ```text
@@ -91,6 +107,19 @@ impl<T, D: Lengths> ArrayView<'_, T, D> {
     /// The function may be called with any item of the array, whatever it was called with before. Where it panics, so
     /// does this call.
     ///
+    /// # Examples
+    ///
+    /// ```
+    /// use ndarray_layout::{ArrayView, Ix1, LayoutError, ShapeBuilder, unsigned};
+    ///
+    /// # fn main() -> Result<(), LayoutError> {
+    /// let a = ArrayView::from_shape(Ix1(2).strides(Ix1(unsigned(-1)))?, &[7, 8, 9])?;
+    /// assert!(!a.any(|item| *item > 8));
+    /// assert!(a.any(|item| *item > 7));
+    /// # Ok(())
+    /// # }
+    /// ```
+    ///
     /// <details><summary>Contract (proved)</summary>
     ///
     /// ```text
@@ -115,6 +144,19 @@ impl<T, D: Lengths> ArrayView<'_, T, D> {
     ///
     /// The function may be called with any item of the array, whatever it was called with before. Where it panics, so
     /// does this call.
+    ///
+    /// # Examples
+    ///
+    /// ```
+    /// use ndarray_layout::{ArrayView, Ix1, LayoutError, ShapeBuilder, unsigned};
+    ///
+    /// # fn main() -> Result<(), LayoutError> {
+    /// let a = ArrayView::from_shape(Ix1(2).strides(Ix1(unsigned(-1)))?, &[7, 8, 9])?;
+    /// assert!(a.all(|item| *item > 6));
+    /// assert!(!a.all(|item| *item > 7));
+    /// # Ok(())
+    /// # }
+    /// ```
     ///
     /// <details><summary>Contract (proved)</summary>
     ///

@@ -10,6 +10,22 @@ impl<'a, T: Sized, D: Lengths> ArrayViewMut<'a, T, D> {
     ///
     /// Axis 0 of `[3]` over 7 8 9: 9 8 7. ndarray's `invert_axis`.
     ///
+    /// # Examples
+    ///
+    /// ```
+    /// use ndarray_layout::{ArrayViewMut, Axis, ErrorKind, Ix1, LayoutError, from_kind};
+    ///
+    /// # fn main() -> Result<(), LayoutError> {
+    /// let mut items = [7, 8, 9];
+    /// let mut array = ArrayViewMut::from_shape(Ix1(3).into(), &mut items)?;
+    /// array.invert_axis(Axis(0))?;
+    /// assert_eq!(array.as_view()?.to_vec()?, [9, 8, 7]);
+    /// assert_eq!(array.invert_axis(Axis(1)), Err(from_kind(ErrorKind::OutOfBounds)));
+    /// assert_eq!(items, [7, 8, 9]);
+    /// # Ok(())
+    /// # }
+    /// ```
+    ///
     /// <details><summary>Contract (proved)</summary>
     ///
     /// ```text
@@ -30,6 +46,21 @@ impl<'a, T: Sized, D: Lengths> ArrayViewMut<'a, T, D> {
     ///
     /// ndarray's `swap_axes`.
     ///
+    /// # Examples
+    ///
+    /// ```
+    /// use ndarray_layout::{ArrayViewMut, Axis, ErrorKind, Ix2, LayoutError, from_kind};
+    ///
+    /// # fn main() -> Result<(), LayoutError> {
+    /// let mut items = [0, 1, 2, 3, 4, 5];
+    /// let mut table = ArrayViewMut::from_shape(Ix2(2, 3).into(), &mut items)?;
+    /// table.swap_axes(Axis(0), Axis(1))?;
+    /// assert_eq!((table.dim(), table.get(&(2, 0))), (&Ix2(3, 2), Some(&2)));
+    /// assert_eq!(table.swap_axes(Axis(0), Axis(2)), Err(from_kind(ErrorKind::OutOfBounds)));
+    /// # Ok(())
+    /// # }
+    /// ```
+    ///
     /// <details><summary>Contract (proved)</summary>
     ///
     /// ```text
@@ -49,6 +80,21 @@ impl<'a, T: Sized, D: Lengths> ArrayViewMut<'a, T, D> {
     /// The items of the indices with the same coordinate on each axis: `Strided::diag`.
     ///
     /// `[2,2]` over 5 6 7 8: 5 8. ndarray's `diag_mut`.
+    ///
+    /// # Examples
+    ///
+    /// ```
+    /// use ndarray_layout::{ArrayViewMut, Ix2, LayoutError};
+    ///
+    /// # fn main() -> Result<(), LayoutError> {
+    /// let mut items = [5, 6, 7, 8];
+    /// let mut diagonal = ArrayViewMut::from_shape(Ix2(2, 2).into(), &mut items)?.diag();
+    /// assert_eq!(diagonal.as_view()?.to_vec()?, [5, 8]);
+    /// diagonal.fill(0);
+    /// assert_eq!(items, [0, 6, 7, 0]);
+    /// # Ok(())
+    /// # }
+    /// ```
     ///
     /// <details><summary>Contract (proved)</summary>
     ///
@@ -73,6 +119,22 @@ impl<'a, T: Sized, D: Lengths + Clone> ArrayViewMut<'a, T, D> {
     ///
     /// From (1) to (3) of `[3]` over 7 8 9: 8 9; to (4) `None`. In place of ndarray's `slice_move` by ranges.
     ///
+    /// # Examples
+    ///
+    /// ```
+    /// use ndarray_layout::{ArrayViewMut, Ix1, LayoutError};
+    ///
+    /// # fn main() -> Result<(), LayoutError> {
+    /// let mut items = [7, 8, 9];
+    /// let array = ArrayViewMut::from_shape(Ix1(3).into(), &mut items)?;
+    /// let part = array.crop(&Ix1(1), &Ix1(3)).expect("a part");
+    /// assert_eq!(part.as_view()?.to_vec()?, [8, 9]);
+    /// let array = ArrayViewMut::from_shape(Ix1(3).into(), &mut items)?;
+    /// assert_eq!(array.crop(&Ix1(1), &Ix1(4)), None);
+    /// # Ok(())
+    /// # }
+    /// ```
+    ///
     /// <details><summary>Contract (proved)</summary>
     ///
     /// ```text
@@ -96,6 +158,21 @@ impl<'a, T: Sized, D: Dimension> ArrayViewMut<'a, T, D> {
     /// The array with a new axis of length 1: `Strided::insert_axis`, with its errors.
     ///
     /// ndarray's `insert_axis`.
+    ///
+    /// # Examples
+    ///
+    /// ```
+    /// use ndarray_layout::{ArrayViewMut, Axis, ErrorKind, Ix2, Ix3, LayoutError, from_kind};
+    ///
+    /// # fn main() -> Result<(), LayoutError> {
+    /// let mut items = [0, 1, 2, 3, 4, 5];
+    /// let table = ArrayViewMut::from_shape(Ix2(2, 3).into(), &mut items)?;
+    /// let table = table.insert_axis(Axis(1))?;
+    /// assert_eq!((table.dim(), table.get(&(1, 0, 2))), (&Ix3(2, 1, 3), Some(&5)));
+    /// assert_eq!(table.insert_axis(Axis(4)), Err(from_kind(ErrorKind::OutOfBounds).into()));
+    /// # Ok(())
+    /// # }
+    /// ```
     ///
     /// <details><summary>Contract (proved)</summary>
     ///

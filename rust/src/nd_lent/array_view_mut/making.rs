@@ -14,8 +14,24 @@ impl<'a, T: Sized, D: Lengths> ArrayViewMut<'a, T, D> {
     /// # Conditions
     ///
     /// The caller ensures that each place of it has an item, and that no two indices alias: that is so where
-    /// `Strided::from_shape`, `new` or `from_parts` accepted it in owned mode over as many elements. Otherwise the call
-    /// panics or returns unspecified values.
+    /// `Strided::from_shape`, `new` or `from_parts` accepted it in owned mode over as many elements. Otherwise this
+    /// call or a later one panics or returns unspecified values.
+    ///
+    /// # Examples
+    ///
+    /// ```
+    /// use ndarray_layout::{ArrayViewMut, CanIndexCheckMode, Ix1, LayoutError, Strided, unsigned};
+    ///
+    /// # fn main() -> Result<(), LayoutError> {
+    /// let mut items = [7, 8, 9];
+    /// let mode = CanIndexCheckMode::OwnedMutable;
+    /// let view = Strided::from_parts(1, Ix1(2), Ix1(unsigned(-1)), 1, items.len(), mode)?;
+    /// let a = ArrayViewMut::new(view, &mut items);
+    /// assert_eq!((a.get(&0), a.get(&1)), (Some(&8), Some(&7)));
+    /// assert_eq!(a.stored(), [7, 8, 9]);
+    /// # Ok(())
+    /// # }
+    /// ```
     ///
     /// <details><summary>Contract (proved)</summary>
     ///
@@ -46,6 +62,22 @@ impl<'a, T: Sized, D: Lengths> ArrayViewMut<'a, T, D> {
     /// `[2]`, `[-1]` from 1 over 7 8 9 is `a`; over 7 alone `OutOfBounds`. `[2,2]`, `[1,1]` from 0 over 7 8 9: `Unsupported`.
     /// The project's own.
     ///
+    /// # Examples
+    ///
+    /// ```
+    /// use ndarray_layout::{ArrayViewMut, CanIndexCheckMode, ErrorKind, Ix1, Ix2, Strided, unsigned};
+    ///
+    /// # fn main() -> Result<(), Box<dyn std::error::Error>> {
+    /// let (mut items, mode) = ([7, 8, 9], CanIndexCheckMode::ReadOnly);
+    /// let view = Strided::from_parts(1, Ix1(2), Ix1(unsigned(-1)), 1, 3, mode)?;
+    /// assert_eq!(ArrayViewMut::over(view, &mut items)?.get(&0), Some(&8));
+    /// assert_eq!(ArrayViewMut::over(view, &mut [7]).unwrap_err().kind(), ErrorKind::OutOfBounds);
+    /// let aliased = Strided::from_parts(0, Ix2(2, 2), Ix2(1, 1), 1, 3, mode)?;
+    /// assert_eq!(ArrayViewMut::over(aliased, &mut items).unwrap_err().kind(), ErrorKind::Unsupported);
+    /// # Ok(())
+    /// # }
+    /// ```
+    ///
     /// <details><summary>Contract (proved)</summary>
     ///
     /// ```text
@@ -73,6 +105,21 @@ impl<'a, T: Sized, D: Lengths> ArrayViewMut<'a, T, D> {
     /// Those of `Strided::from_shape` in owned mode, over as many elements of one byte as there are items.
     ///
     /// `[2]` with the stride `[-1]` over 7 8 9 is `a`. ndarray's `from_shape`.
+    ///
+    /// # Examples
+    ///
+    /// ```
+    /// use ndarray_layout::{ArrayViewMut, ErrorKind, Ix1, LayoutError, ShapeBuilder, from_kind, unsigned};
+    ///
+    /// # fn main() -> Result<(), LayoutError> {
+    /// let mut items = [7, 8, 9];
+    /// let a = ArrayViewMut::from_shape(Ix1(2).strides(Ix1(unsigned(-1)))?, &mut items)?;
+    /// assert_eq!((a.get(&0), a.get(&1)), (Some(&8), Some(&7)));
+    /// let too_long = ArrayViewMut::from_shape(Ix1(4).into(), &mut items);
+    /// assert_eq!(too_long, Err(from_kind(ErrorKind::OutOfBounds).into()));
+    /// # Ok(())
+    /// # }
+    /// ```
     ///
     /// <details><summary>Contract (proved)</summary>
     ///

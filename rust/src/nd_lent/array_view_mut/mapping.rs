@@ -61,6 +61,20 @@ impl<'a, T: Sized, D: Lengths> ArrayViewMut<'a, T, D> {
     /// The function may be called with any item of the array, whatever it was called with before. Where it panics, so
     /// does this call, and the items before keep what it wrote.
     ///
+    /// # Examples
+    ///
+    /// ```
+    /// use ndarray_layout::{ArrayViewMut, Ix1, LayoutError, ShapeBuilder, unsigned};
+    ///
+    /// # fn main() -> Result<(), LayoutError> {
+    /// let mut items = [7_i32, 8, 9];
+    /// let mut a = ArrayViewMut::from_shape(Ix1(2).strides(Ix1(unsigned(-1)))?, &mut items)?;
+    /// a.map_in_place(|item| *item = item.wrapping_mul(2));
+    /// assert_eq!(items, [14, 16, 9]);
+    /// # Ok(())
+    /// # }
+    /// ```
+    ///
     /// <details><summary>Contract (proved)</summary>
     ///
     /// ```text
@@ -100,6 +114,22 @@ impl<T, D: Lengths> ArrayView<'_, T, D> {
     ///
     /// The function may be called with any item of the array, whatever it was called with before. Where it panics, so
     /// does this call, and the items before keep what they were given.
+    ///
+    /// # Examples
+    ///
+    /// ```
+    /// use ndarray_layout::{ArrayView, ArrayViewMut, Ix1, LayoutError, ShapeBuilder, unsigned};
+    ///
+    /// # fn main() -> Result<(), LayoutError> {
+    /// let numbers = ArrayView::from_shape(Ix1(2).into(), &[5, 6])?;
+    /// let mut items = [false, false];
+    /// let shape = Ix1(2).strides(Ix1(unsigned(-1)))?;
+    /// let mut small = ArrayViewMut::from_shape(shape, &mut items)?;
+    /// numbers.map_into(&mut small, |item| *item < 6)?;
+    /// assert_eq!(items, [false, true]);
+    /// # Ok(())
+    /// # }
+    /// ```
     ///
     /// <details><summary>Contract (proved)</summary>
     ///

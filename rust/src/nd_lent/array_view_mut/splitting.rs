@@ -76,8 +76,24 @@ impl<D: Lengths> SplitViews<D> {
     ///
     /// # Conditions
     ///
-    /// The caller ensures that each index of the view has an item to itself among so many. Otherwise the call panics or
-    /// returns unspecified values.
+    /// The caller ensures that each index of the view has an item to itself among so many. Otherwise this call or a
+    /// later one panics or returns unspecified values.
+    ///
+    /// # Examples
+    ///
+    /// ```
+    /// use ndarray_layout::{Axis, CanIndexCheckMode, ErrorKind, Ix2, SplitViews, Strided, from_kind};
+    ///
+    /// # fn main() -> Result<(), Box<dyn std::error::Error>> {
+    /// let mode = CanIndexCheckMode::OwnedMutable;
+    /// let view = Strided::from_parts(1, Ix2(2, 3), Ix2(3, 1), 1, 7, mode)?;
+    /// let parts = SplitViews::new(view, 7, Axis(0), 1)?;
+    /// assert_eq!((parts.first.start(), parts.second.start(), parts.cut), (1, 0, 4));
+    /// let columns = SplitViews::new(view, 7, Axis(1), 1);
+    /// assert_eq!(columns.err(), Some(from_kind(ErrorKind::IncompatibleLayout).into()));
+    /// # Ok(())
+    /// # }
+    /// ```
     ///
     /// <details><summary>Contract (proved)</summary>
     ///
@@ -133,6 +149,22 @@ impl<'a, T: Sized, D: Lengths> ArrayViewMut<'a, T, D> {
     ///
     /// Axis 0 of `[3]` over 7 8 9 at 1: 7, and 8 9. ndarray's `split_at`.
     ///
+    /// # Examples
+    ///
+    /// ```
+    /// use ndarray_layout::{ArrayViewMut, Axis, ErrorKind, Ix1, LayoutError, from_kind};
+    ///
+    /// # fn main() -> Result<(), LayoutError> {
+    /// let mut items = [7, 8, 9];
+    /// let array = ArrayViewMut::from_shape(Ix1(3).into(), &mut items)?;
+    /// let (mut first, mut second) = array.split_at_mut(Axis(0), 1)?;
+    /// assert_eq!((first.replace(&0, 1), second.replace(&1, 2)), (Ok(7), Ok(9)));
+    /// assert_eq!(second.split_at_mut(Axis(0), 3), Err(from_kind(ErrorKind::OutOfBounds).into()));
+    /// assert_eq!(items, [1, 8, 2]);
+    /// # Ok(())
+    /// # }
+    /// ```
+    ///
     /// <details><summary>Contract (proved)</summary>
     ///
     /// ```text
@@ -175,6 +207,22 @@ impl<'a, T: Sized, D: Lengths> ArrayViewMut<'a, T, D> {
     /// `[3,2,3]`, row and column of `1,..,..` are those of the picture.
     ///
     /// ndarray's `multi_slice_mut`, which panics where two slices share an index.
+    ///
+    /// # Examples
+    ///
+    /// ```
+    /// use ndarray_layout::{ArrayViewMut, Ix2, LayoutError, s};
+    ///
+    /// # fn main() -> Result<(), LayoutError> {
+    /// let mut items = [0, 1, 2, 3, 4, 5];
+    /// let table = ArrayViewMut::from_shape(Ix2(2, 3).into(), &mut items)?;
+    /// let mut parts = table.multi_slice_mut(&[s![0, ..], s![1, ..;2]])?;
+    /// assert_eq!((parts[0].row(0), parts[1].row(1)), (Some(&[0, 1, 2][..]), Some(&[5][..])));
+    /// assert_eq!((parts[1].set(1, 0, 9), parts[1].set(0, 1, 9)), (true, false));
+    /// assert_eq!(items, [0, 1, 2, 3, 4, 9]);
+    /// # Ok(())
+    /// # }
+    /// ```
     ///
     /// <details><summary>Contract (proved)</summary>
     ///

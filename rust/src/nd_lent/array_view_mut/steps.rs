@@ -10,6 +10,22 @@ impl<'a, T: Sized, D: Lengths> ArrayViewMut<'a, T, D> {
     ///
     /// `1..` of `[3]` over 7 8 9: 8 9. ndarray's `slice_move`.
     ///
+    /// # Examples
+    ///
+    /// ```
+    /// use ndarray_layout::{ArrayViewMut, ErrorKind, Fit, Ix1, LayoutError, from_kind, s};
+    ///
+    /// # fn main() -> Result<(), LayoutError> {
+    /// let mut items = [7, 8, 9];
+    /// let array = ArrayViewMut::from_shape(Ix1(3).into(), &mut items)?;
+    /// let part: ArrayViewMut<'_, i32, Ix1> = array.slice(&s![1..], Fit::Strict)?;
+    /// assert_eq!(part.as_view()?.to_vec()?, [8, 9]);
+    /// let past = part.slice::<Ix1, _>(&s![1..3], Fit::Strict);
+    /// assert_eq!(past, Err(from_kind(ErrorKind::OutOfBounds).into()));
+    /// # Ok(())
+    /// # }
+    /// ```
+    ///
     /// <details><summary>Contract (proved)</summary>
     ///
     /// ```text
@@ -33,6 +49,21 @@ impl<'a, T: Sized, D: Lengths> ArrayViewMut<'a, T, D> {
     ///
     /// (2,1) of the result is (1,2) of the array. ndarray's `reversed_axes`.
     ///
+    /// # Examples
+    ///
+    /// ```
+    /// use ndarray_layout::{ArrayViewMut, Ix2, LayoutError};
+    ///
+    /// # fn main() -> Result<(), LayoutError> {
+    /// let mut items = [0, 1, 2, 3, 4, 5];
+    /// let table = ArrayViewMut::from_shape(Ix2(2, 3).into(), &mut items)?;
+    /// assert_eq!(table.get(&(1, 2)), Some(&5));
+    /// let table = table.reversed_axes();
+    /// assert_eq!((table.dim(), table.get(&(2, 1))), (&Ix2(3, 2), Some(&5)));
+    /// # Ok(())
+    /// # }
+    /// ```
+    ///
     /// <details><summary>Contract (proved)</summary>
     ///
     /// ```text
@@ -51,6 +82,22 @@ impl<'a, T: Sized, D: Lengths> ArrayViewMut<'a, T, D> {
     /// The axes in another order: `Strided::permuted_axes`, with its errors.
     ///
     /// ndarray's `permuted_axes`.
+    ///
+    /// # Examples
+    ///
+    /// ```
+    /// use ndarray_layout::{ArrayViewMut, Axis, ErrorKind, Ix3, LayoutError, from_kind};
+    ///
+    /// # fn main() -> Result<(), LayoutError> {
+    /// let mut items = [0, 1, 2, 3, 4, 5];
+    /// let array = ArrayViewMut::from_shape(Ix3(1, 2, 3).into(), &mut items)?;
+    /// let array = array.permuted_axes(&[Axis(2), Axis(0), Axis(1)])?;
+    /// assert_eq!((array.dim(), array.get(&(2, 0, 1))), (&Ix3(3, 1, 2), Some(&5)));
+    /// let twice = array.permuted_axes(&[Axis(0), Axis(0), Axis(1)]);
+    /// assert_eq!(twice, Err(from_kind(ErrorKind::IncompatibleShape).into()));
+    /// # Ok(())
+    /// # }
+    /// ```
     ///
     /// <details><summary>Contract (proved)</summary>
     ///
@@ -74,6 +121,22 @@ impl<'a, T: Sized, D: Lengths> ArrayViewMut<'a, T, D> {
     /// The same items along another shape, in an order: `Strided::reshape`, with its errors.
     ///
     /// ndarray's `into_shape_with_order`.
+    ///
+    /// # Examples
+    ///
+    /// ```
+    /// use ndarray_layout::{ArrayViewMut, ErrorKind, Ix1, Ix2, LayoutError, Order, from_kind};
+    ///
+    /// # fn main() -> Result<(), LayoutError> {
+    /// let mut items = [0, 1, 2, 3, 4, 5];
+    /// let table = ArrayViewMut::from_shape(Ix2(2, 3).into(), &mut items)?;
+    /// let table = table.reshape(&Ix2(3, 2), Order::RowMajor)?;
+    /// assert_eq!(table.get(&(2, 1)), Some(&5));
+    /// let four = table.reshape(&Ix1(4), Order::RowMajor);
+    /// assert_eq!(four, Err(from_kind(ErrorKind::IncompatibleShape).into()));
+    /// # Ok(())
+    /// # }
+    /// ```
     ///
     /// <details><summary>Contract (proved)</summary>
     ///
@@ -103,6 +166,21 @@ impl<'a, T: Sized, D: Lengths> ArrayViewMut<'a, T, D> {
     ///
     /// Chunks of `[2]` of `[5]` over 5 6 7 8 9: 5 6 and 7 8. ndarray's `exact_chunks_mut`.
     ///
+    /// # Examples
+    ///
+    /// ```
+    /// use ndarray_layout::{ArrayViewMut, Ix1, Ix2, LayoutError};
+    ///
+    /// # fn main() -> Result<(), LayoutError> {
+    /// let mut items = [5, 6, 7, 8, 9];
+    /// let array = ArrayViewMut::from_shape(Ix1(5).into(), &mut items)?;
+    /// let chunks: ArrayViewMut<'_, i32, Ix2> = array.exact_chunks(&Ix1(2))?;
+    /// assert_eq!(chunks.dim(), &Ix2(2, 2));
+    /// assert_eq!(chunks.as_view()?.to_vec()?, [5, 6, 7, 8]);
+    /// # Ok(())
+    /// # }
+    /// ```
+    ///
     /// <details><summary>Contract (proved)</summary>
     ///
     /// ```text
@@ -128,6 +206,22 @@ impl<'a, T: Sized, D: RemoveAxis> ArrayViewMut<'a, T, D> {
     /// The items at one coordinate of an axis, without the axis: `Strided::index_axis`, with its errors.
     ///
     /// Coordinate 1 of axis 0 of `[2,3]`: the second row. ndarray's `index_axis_move`.
+    ///
+    /// # Examples
+    ///
+    /// ```
+    /// use ndarray_layout::{ArrayViewMut, Axis, ErrorKind, Ix2, LayoutError, from_kind};
+    ///
+    /// # fn main() -> Result<(), LayoutError> {
+    /// let mut items = [0, 1, 2, 3, 4, 5];
+    /// let table = ArrayViewMut::from_shape(Ix2(2, 3).into(), &mut items)?;
+    /// let mut row = table.index_axis(Axis(0), 1)?;
+    /// row.fill(9);
+    /// assert_eq!(row.index_axis(Axis(0), 3), Err(from_kind(ErrorKind::OutOfBounds).into()));
+    /// assert_eq!(items, [0, 1, 2, 9, 9, 9]);
+    /// # Ok(())
+    /// # }
+    /// ```
     ///
     /// <details><summary>Contract (proved)</summary>
     ///

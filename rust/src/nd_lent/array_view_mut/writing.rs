@@ -12,6 +12,20 @@ impl<'a, T: Copy, D: Lengths> ArrayViewMut<'a, T, D> {
     ///
     /// 5 to `a`: 5 5 9. ndarray's `fill`.
     ///
+    /// # Examples
+    ///
+    /// ```
+    /// use ndarray_layout::{ArrayViewMut, Ix1, LayoutError, ShapeBuilder, unsigned};
+    ///
+    /// # fn main() -> Result<(), LayoutError> {
+    /// let mut items = [7, 8, 9];
+    /// let mut a = ArrayViewMut::from_shape(Ix1(2).strides(Ix1(unsigned(-1)))?, &mut items)?;
+    /// a.fill(5);
+    /// assert_eq!(items, [5, 5, 9]);
+    /// # Ok(())
+    /// # }
+    /// ```
+    ///
     /// <details><summary>Contract (proved)</summary>
     ///
     /// ```text
@@ -37,6 +51,22 @@ impl<'a, T: Copy, D: Lengths> ArrayViewMut<'a, T, D> {
     /// too: `ArrayView::broadcast` comes first.)
     ///
     /// 5 6 to `a`: 6 5 9. ndarray's `assign`.
+    ///
+    /// # Examples
+    ///
+    /// ```
+    /// use ndarray_layout::{ArrayView, ArrayViewMut, ErrorKind, Ix1, ShapeBuilder, from_kind, unsigned};
+    ///
+    /// # fn main() -> Result<(), Box<dyn std::error::Error>> {
+    /// let mut items = [7, 8, 9];
+    /// let mut a = ArrayViewMut::from_shape(Ix1(2).strides(Ix1(unsigned(-1)))?, &mut items)?;
+    /// a.assign(&ArrayView::from_shape(Ix1(2).into(), &[5, 6])?)?;
+    /// let longer = ArrayView::from_shape(Ix1(3).into(), &[1, 2, 3])?;
+    /// assert_eq!(a.assign(&longer), Err(from_kind(ErrorKind::IncompatibleShape)));
+    /// assert_eq!(items, [6, 5, 9]);
+    /// # Ok(())
+    /// # }
+    /// ```
     ///
     /// <details><summary>Contract (proved)</summary>
     ///

@@ -123,6 +123,22 @@ impl<'a, T: Sized> PartMut<'a, T> {
     ///
     /// Axis 1 of 1 2 3 over 4 5 6 at 1: 1 over 4, and 2 3 over 5 6. ndarray's `split_at`.
     ///
+    /// # Examples
+    ///
+    /// ```
+    /// use ndarray_layout::{Axis, CanIndexCheckMode, ErrorKind, Ix2, PartMut, Strided, from_kind};
+    ///
+    /// # fn main() -> Result<(), Box<dyn std::error::Error>> {
+    /// let mut items = [1, 2, 3, 4, 5, 6];
+    /// let view = Strided::from_shape(Ix2(2, 3).into(), 1, 6, CanIndexCheckMode::OwnedMutable)?;
+    /// let part = PartMut::new(&view, &mut items)?;
+    /// let (first, second) = part.split_at(Axis(1), 1)?;
+    /// assert_eq!(first.split_at(Axis(1), 2).err(), Some(from_kind(ErrorKind::OutOfBounds).into()));
+    /// assert_eq!(second.into_rows(), [[2, 3], [5, 6]]);
+    /// # Ok(())
+    /// # }
+    /// ```
+    ///
     /// <details><summary>Contract (proved)</summary>
     ///
     /// ```text

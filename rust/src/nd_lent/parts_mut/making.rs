@@ -86,8 +86,24 @@ impl<'a, T: Sized> PartMut<'a, T> {
     ///
     /// # Conditions
     ///
-    /// The caller ensures that each place of the view has an item. Otherwise the call panics or returns unspecified
-    /// values.
+    /// The caller ensures that each place of the view has an item. Otherwise this call or a later one panics or returns
+    /// unspecified values.
+    ///
+    /// # Examples
+    ///
+    /// ```
+    /// use ndarray_layout::{CanIndexCheckMode, ErrorKind, Ix2, LayoutError, PartMut, Strided, from_kind};
+    ///
+    /// # fn main() -> Result<(), LayoutError> {
+    /// let mut items = [0, 1, 2, 3, 4, 5, 6, 7];
+    /// let mode = CanIndexCheckMode::OwnedMutable;
+    /// let view = Strided::from_parts(1, Ix2(2, 2), Ix2(4, 1), 1, 8, mode)?;
+    /// assert_eq!(PartMut::new(&view, &mut items)?.into_rows(), [[1, 2], [5, 6]]);
+    /// let turned = PartMut::new(&view.reversed_axes(), &mut items);
+    /// assert_eq!(turned.err(), Some(from_kind(ErrorKind::IncompatibleLayout).into()));
+    /// # Ok(())
+    /// # }
+    /// ```
     ///
     /// <details><summary>Contract (proved)</summary>
     ///

@@ -121,8 +121,24 @@ impl<'a, T: Sized> PartMut<'a, T> {
     ///
     /// # Conditions
     ///
-    /// The caller ensures that each index of the view has an item to itself. Otherwise the call panics or returns
-    /// unspecified values.
+    /// The caller ensures that each index of the view has an item to itself. Otherwise this call or a later one panics
+    /// or returns unspecified values.
+    ///
+    /// # Examples
+    ///
+    /// ```
+    /// use ndarray_layout::{CanIndexCheckMode, Ix2, LayoutError, PartMut, Strided, s};
+    ///
+    /// # fn main() -> Result<(), LayoutError> {
+    /// let mut items = [0, 1, 2, 3, 4, 5];
+    /// let view = Strided::from_shape(Ix2(2, 3).into(), 1, 6, CanIndexCheckMode::OwnedMutable)?;
+    /// let slices = [s![.., ..;2].to_vec(), s![.., 1].to_vec()];
+    /// let parts = PartMut::of_slices(&view, &mut items, &slices)?;
+    /// assert_eq!((parts[0].get(3, 0), parts[1].get(1, 0)), (Some(&5), Some(&4)));
+    /// assert!(PartMut::of_slices(&view, &mut items, &[s![0, ..], s![.., 0]]).is_err());
+    /// # Ok(())
+    /// # }
+    /// ```
     ///
     /// <details><summary>Contract (proved)</summary>
     ///

@@ -18,6 +18,21 @@ impl<T: Sized, D: Lengths> OwnedArray<T, D> {
     ///
     /// `[2]` with the stride `[-1]` over 7 8 9 is `a`. ndarray's `from_shape_vec`.
     ///
+    /// # Examples
+    ///
+    /// ```
+    /// use ndarray_layout::{ErrorKind, Ix1, LayoutError, OwnedArray, ShapeBuilder, from_kind, unsigned};
+    ///
+    /// # fn main() -> Result<(), LayoutError> {
+    /// let a = OwnedArray::from_shape_vec(Ix1(2).strides(Ix1(unsigned(-1)))?, vec![7, 8, 9])?;
+    /// assert_eq!((a.get(&0), a.get(&1)), (Some(8), Some(7)));
+    /// let too_long = OwnedArray::from_shape_vec(Ix1(4).into(), vec![7, 8, 9]);
+    /// let fault = from_kind(ErrorKind::OutOfBounds).into();
+    /// assert_eq!(too_long, Err((fault, vec![7, 8, 9])));
+    /// # Ok(())
+    /// # }
+    /// ```
+    ///
     /// <details><summary>Contract (proved)</summary>
     ///
     /// ```text

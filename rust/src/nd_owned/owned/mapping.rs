@@ -46,6 +46,21 @@ impl<T: Sized, D: Lengths> OwnedArray<T, D> {
     /// The function may be called with any item of the array, whatever it was called with before. Where it panics, so
     /// does this call, and the items before keep what it wrote.
     ///
+    /// # Examples
+    ///
+    /// ```
+    /// use ndarray_layout::{ErrorKind, Ix1, LayoutError, OwnedArray, from_kind, s};
+    ///
+    /// # fn main() -> Result<(), LayoutError> {
+    /// let mut array = OwnedArray::from_shape_vec(Ix1(3).into(), vec![5, 6, 7])?;
+    /// array.map_in_place(&s![1..], |item| *item = 9)?;
+    /// let past = array.map_in_place(&s![1..4], |item| *item = 0);
+    /// assert_eq!(past, Err(from_kind(ErrorKind::OutOfBounds).into()));
+    /// assert_eq!(array.stored(), [5, 9, 9]);
+    /// # Ok(())
+    /// # }
+    /// ```
+    ///
     /// <details><summary>Contract (proved)</summary>
     ///
     /// ```text

@@ -37,8 +37,8 @@ impl<O: IterOrder> Cursor<O> {
     ///
     /// # Conditions
     ///
-    /// The caller ensures that the product of the lengths is less than 2^64 (`size_checked`). Otherwise the call panics
-    /// or returns unspecified values.
+    /// The caller ensures that the product of the lengths is less than 2^64 (`size_checked`). Otherwise this call or a
+    /// later one panics or returns unspecified values.
     ///
     /// <details><summary>Contract (proved)</summary>
     ///

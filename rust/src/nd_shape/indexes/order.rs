@@ -10,8 +10,8 @@ pub trait IterOrder {
     ///
     /// # Conditions
     ///
-    /// The caller ensures that `index` is an index of the shape. Otherwise the call panics or returns unspecified
-    /// values.
+    /// The caller ensures that `index` is an index of the shape. Otherwise this call or a later one panics or returns
+    /// unspecified values.
     ///
     /// <details><summary>Contract (proved)</summary>
     ///

@@ -29,8 +29,8 @@ fn added(a: i128, c: i128) -> i128 {
 ///
 /// # Conditions
 ///
-/// The caller ensures that `a` and `b` are not 0 and at most 2^63 in magnitude, and `c` at most 2^64. Otherwise the
-/// call panics or returns unspecified values.
+/// The caller ensures that `a` and `b` are not 0 and at most 2^63 in magnitude, and `c` at most 2^64. Otherwise this
+/// call or a later one panics or returns unspecified values.
 ///
 /// <details><summary>Contract (proved)</summary>
 ///

@@ -82,7 +82,8 @@ fn with_sign(magnitude: usize, negative: bool) -> i128 {
 ///
 /// # Conditions
 ///
-/// The caller ensures that both magnitudes are at most 2^63. Otherwise the call panics or returns unspecified values.
+/// The caller ensures that both magnitudes are at most 2^63. Otherwise this call or a later one panics or returns
+/// unspecified values.
 ///
 /// <details><summary>Contract (proved)</summary>
 ///

@@ -44,7 +44,7 @@ fn intersects_within(ahead: usize, first_step: usize, second_step: usize, room: 
 ///
 /// # Conditions
 ///
-/// The caller ensures that no step is 0. Otherwise the call panics or returns unspecified values.
+/// The caller ensures that no step is 0. Otherwise this call or a later one panics or returns unspecified values.
 ///
 /// <details><summary>Contract (proved)</summary>
 ///

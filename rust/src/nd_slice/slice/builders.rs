@@ -27,7 +27,8 @@ impl Slice {
     ///
     /// # Conditions
     ///
-    /// The caller ensures that `last` is below `isize::MAX`. Otherwise the call panics or returns unspecified values.
+    /// The caller ensures that `last` is below `isize::MAX`. Otherwise this call or a later one panics or returns
+    /// unspecified values.
     ///
     /// <details><summary>Contract (proved)</summary>
     ///
@@ -50,7 +51,8 @@ impl Slice {
     ///
     /// # Conditions
     ///
-    /// The caller ensures that `last` is below `isize::MAX`. Otherwise the call panics or returns unspecified values.
+    /// The caller ensures that `last` is below `isize::MAX`. Otherwise this call or a later one panics or returns
+    /// unspecified values.
     ///
     /// <details><summary>Contract (proved)</summary>
     ///
@@ -73,7 +75,8 @@ impl Slice {
     ///
     /// # Conditions
     ///
-    /// The caller ensures that both are at most `isize::MAX`. Otherwise the call panics or returns unspecified values.
+    /// The caller ensures that both are at most `isize::MAX`. Otherwise this call or a later one panics or returns
+    /// unspecified values.
     ///
     /// <details><summary>Contract (proved)</summary>
     ///
@@ -96,8 +99,8 @@ impl Slice {
     ///
     /// # Conditions
     ///
-    /// The caller ensures that `start` is at most `isize::MAX`. Otherwise the call panics or returns unspecified
-    /// values.
+    /// The caller ensures that `start` is at most `isize::MAX`. Otherwise this call or a later one panics or returns
+    /// unspecified values.
     ///
     /// <details><summary>Contract (proved)</summary>
     ///
@@ -119,7 +122,8 @@ impl Slice {
     ///
     /// # Conditions
     ///
-    /// The caller ensures that `end` is at most `isize::MAX`. Otherwise the call panics or returns unspecified values.
+    /// The caller ensures that `end` is at most `isize::MAX`. Otherwise this call or a later one panics or returns
+    /// unspecified values.
     ///
     /// <details><summary>Contract (proved)</summary>
     ///
@@ -142,8 +146,8 @@ impl Slice {
     ///
     /// # Conditions
     ///
-    /// The caller ensures that `first` is at most `isize::MAX` and `last` below it. Otherwise the call panics or
-    /// returns unspecified values.
+    /// The caller ensures that `first` is at most `isize::MAX` and `last` below it. Otherwise this call or a later one
+    /// panics or returns unspecified values.
     ///
     /// <details><summary>Contract (proved)</summary>
     ///
@@ -166,7 +170,8 @@ impl Slice {
     ///
     /// # Conditions
     ///
-    /// The caller ensures that `last` is below `isize::MAX`. Otherwise the call panics or returns unspecified values.
+    /// The caller ensures that `last` is below `isize::MAX`. Otherwise this call or a later one panics or returns
+    /// unspecified values.
     ///
     /// <details><summary>Contract (proved)</summary>
     ///

@@ -107,8 +107,8 @@ fn check_total(blocks: Blocks, shape: &[usize], block: &[usize], size: usize) ->
 ///
 /// # Conditions
 ///
-/// The caller ensures that each length is at most the greatest `isize`. Otherwise the call panics or returns
-/// unspecified values.
+/// The caller ensures that each length is at most the greatest `isize`. Otherwise this call or a later one panics or
+/// returns unspecified values.
 ///
 /// <details><summary>Contract (proved)</summary>
 ///
@@ -186,7 +186,8 @@ fn write_strides(blocks: Blocks, shape: &[usize], strides: &[usize], block: &[us
 ///
 /// # Conditions
 ///
-/// The caller ensures that the layout is valid. Otherwise the call panics or returns unspecified values.
+/// The caller ensures that the layout is valid. Otherwise this call or a later one panics or returns unspecified
+/// values.
 ///
 /// <details><summary>Contract (proved)</summary>
 ///

@@ -99,8 +99,8 @@ fn stretched<E: Lengths>(shape: &E, view_shape: &[usize], strides: &[usize]) -> 
 ///
 /// # Conditions
 ///
-/// The caller ensures that the view has a stride for each length. Otherwise the call panics or returns unspecified
-/// values.
+/// The caller ensures that the view has a stride for each length. Otherwise this call or a later one panics or returns
+/// unspecified values.
 ///
 /// <details><summary>Contract (proved)</summary>
 ///
@@ -139,6 +139,22 @@ impl<D: Lengths> Strided<D> {
     /// Takes time in proportion to the count of axes.
     ///
     /// `[1,4]` with strides `[9,-1]` to `[2,3,4]`: strides `[0,0,-1]`. ndarray's `broadcast`.
+    ///
+    /// # Examples
+    ///
+    /// ```
+    /// use ndarray_layout::{CanIndexCheckMode, Ix2, Ix3, LayoutError, Strided, unsigned};
+    ///
+    /// # fn main() -> Result<(), LayoutError> {
+    /// let strides = Ix2(9, unsigned(-1));
+    /// let view = Strided::new(Ix2(1, 4), strides, 1, 4, CanIndexCheckMode::ReadOnly)?;
+    /// let stretched = view.broadcast(&Ix3(2, 3, 4))?;
+    /// assert_eq!(stretched.strides(), &Ix3(0, 0, unsigned(-1)));
+    /// assert_eq!((stretched.place(&(0, 0, 3)), stretched.place(&(1, 2, 3))), (Some(0), Some(0)));
+    /// assert!(view.broadcast(&Ix2(3, 5)).is_err());
+    /// # Ok(())
+    /// # }
+    /// ```
     ///
     /// <details><summary>Contract (proved)</summary>
     ///

@@ -26,6 +26,22 @@ impl<D: Lengths> Strided<D> {
     ///
     /// `[5]`, `[1]` in chunks of `[2]`: `[2,2]`, `[2,1]`. ndarray's `exact_chunks`, as one view.
     ///
+    /// # Examples
+    ///
+    /// ```
+    /// use ndarray_layout::{CanIndexCheckMode, ErrorKind, Ix1, Ix2, LayoutError, Strided, from_kind};
+    ///
+    /// # fn main() -> Result<(), LayoutError> {
+    /// let view = Strided::new(Ix1(5), Ix1(1), 1, 5, CanIndexCheckMode::ReadOnly)?;
+    /// let chunks: Strided<Ix2> = view.exact_chunks(&Ix1(2))?;
+    /// assert_eq!((chunks.dim(), chunks.strides()), (&Ix2(2, 2), &Ix2(2, 1)));
+    /// assert_eq!((chunks.place(&(0, 1)), chunks.place(&(1, 0))), (Some(1), Some(2)));
+    /// let refused = view.exact_chunks::<Ix2>(&Ix1(0));
+    /// assert_eq!(refused.err(), Some(from_kind(ErrorKind::Unsupported).into()));
+    /// # Ok(())
+    /// # }
+    /// ```
+    ///
     /// <details><summary>Contract (proved)</summary>
     ///
     /// ```text

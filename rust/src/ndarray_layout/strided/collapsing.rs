@@ -32,6 +32,20 @@ impl<D: Lengths> Strided<D> {
     /// Coordinate 1 of axis 0 of `[2,3]`, `[3,1]` from 0: `[1,3]`, `[3,1]` from 3. ndarray's
     /// `collapse_axis`.
     ///
+    /// # Examples
+    ///
+    /// ```
+    /// use ndarray_layout::{Axis, CanIndexCheckMode, ErrorKind, Ix2, LayoutError, Strided, from_kind};
+    ///
+    /// # fn main() -> Result<(), LayoutError> {
+    /// let mut view = Strided::new(Ix2(2, 3), Ix2(3, 1), 1, 6, CanIndexCheckMode::ReadOnly)?;
+    /// view.collapse(Axis(0), 1)?;
+    /// assert_eq!((view.start(), view.dim(), view.strides()), (3, &Ix2(1, 3), &Ix2(3, 1)));
+    /// assert_eq!(view.collapse(Axis(0), 1).err(), Some(from_kind(ErrorKind::OutOfBounds)));
+    /// # Ok(())
+    /// # }
+    /// ```
+    ///
     /// <details><summary>Contract (proved)</summary>
     ///
     /// ```text

@@ -45,6 +45,21 @@ impl<D: Lengths> Strided<D> {
     ///
     /// `[3]` with the stride `[-1]` over 3 elements: (0) lies at 2. The project's own.
     ///
+    /// # Examples
+    ///
+    /// ```
+    /// use ndarray_layout::{CanIndexCheckMode, ErrorKind, Ix1, LayoutError, Strided, from_kind, unsigned};
+    ///
+    /// # fn main() -> Result<(), LayoutError> {
+    /// let (mode, backwards) = (CanIndexCheckMode::ReadOnly, Ix1(unsigned(-1)));
+    /// let view = Strided::new(Ix1(3), backwards, 1, 3, mode)?;
+    /// assert_eq!((view.place(&0), view.place(&2)), (Some(2), Some(0)));
+    /// let refused = Strided::new(Ix1(3), backwards, 1, 2, mode);
+    /// assert_eq!(refused.err(), Some(from_kind(ErrorKind::OutOfBounds)));
+    /// # Ok(())
+    /// # }
+    /// ```
+    ///
     /// <details><summary>Contract (proved)</summary>
     ///
     /// ```text
@@ -84,6 +99,21 @@ impl<D: Lengths> Strided<D> {
     ///
     /// `[3]` with the stride `[-1]` over 5 elements: from 4 on (0) lies at 4 and (2) at 2; from 1
     /// on (2) would lie before the data. The project's own.
+    ///
+    /// # Examples
+    ///
+    /// ```
+    /// use ndarray_layout::{CanIndexCheckMode, ErrorKind, Ix1, LayoutError, Strided, from_kind, unsigned};
+    ///
+    /// # fn main() -> Result<(), LayoutError> {
+    /// let (mode, backwards) = (CanIndexCheckMode::ReadOnly, Ix1(unsigned(-1)));
+    /// let view = Strided::from_parts(4, Ix1(3), backwards, 1, 5, mode)?;
+    /// assert_eq!((view.place(&0), view.place(&2)), (Some(4), Some(2)));
+    /// let refused = Strided::from_parts(1, Ix1(3), backwards, 1, 5, mode);
+    /// assert_eq!(refused.err(), Some(from_kind(ErrorKind::OutOfBounds)));
+    /// # Ok(())
+    /// # }
+    /// ```
     ///
     /// <details><summary>Contract (proved)</summary>
     ///
@@ -132,6 +162,20 @@ impl<D: Lengths> Strided<D> {
     ///
     /// `[2,3]` in column-major order over 6 elements: strides `[1,2]`. The project's own.
     ///
+    /// # Examples
+    ///
+    /// ```
+    /// use ndarray_layout::{CanIndexCheckMode, Ix2, LayoutError, ShapeBuilder, Strided};
+    ///
+    /// # fn main() -> Result<(), LayoutError> {
+    /// let (shape, mode) = (Ix2(2, 3).f()?, CanIndexCheckMode::OwnedMutable);
+    /// let view = Strided::from_shape(shape.into(), 1, 6, mode)?;
+    /// assert_eq!((view.dim(), view.strides()), (&Ix2(2, 3), &Ix2(1, 2)));
+    /// assert!(Strided::from_shape(shape.into(), 1, 5, mode).is_err());
+    /// # Ok(())
+    /// # }
+    /// ```
+    ///
     /// <details><summary>Contract (proved)</summary>
     ///
     /// ```text
@@ -176,6 +220,22 @@ impl<D: Lengths> Strided<D> {
     /// Out of memory; never where the type fixes the count of axes or there are at most 4.
     ///
     /// In place of ndarray's `Clone`.
+    ///
+    /// # Examples
+    ///
+    /// ```
+    /// use ndarray_layout::{Axis, CanIndexCheckMode, IxDyn, LayoutError, Strided};
+    ///
+    /// # fn main() -> Result<(), LayoutError> {
+    /// let (shape, strides) = (IxDyn(&[2, 3]), IxDyn(&[3, 1]));
+    /// let view = Strided::new(shape, strides, 1, 6, CanIndexCheckMode::ReadOnly)?;
+    /// let mut copy = view.duplicate()?;
+    /// assert_eq!(copy, view);
+    /// copy.swap_axes(Axis(0), Axis(1))?;
+    /// assert_eq!((copy.dim(), view.dim()), (&IxDyn(&[3, 2]), &IxDyn(&[2, 3])));
+    /// # Ok(())
+    /// # }
+    /// ```
     ///
     /// <details><summary>Contract (proved)</summary>
     ///

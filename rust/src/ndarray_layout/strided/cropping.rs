@@ -23,8 +23,8 @@ fn is_at_most(lows: &[usize], highs: &[usize]) -> bool {
 ///
 /// # Conditions
 ///
-/// The caller ensures that there are as many, and that none is greater. Otherwise the call panics or returns
-/// unspecified values.
+/// The caller ensures that there are as many, and that none is greater. Otherwise this call or a later one panics or
+/// returns unspecified values.
 ///
 /// <details><summary>Contract (proved)</summary>
 ///
@@ -59,7 +59,8 @@ pub(super) fn moved_start(start: usize, end: usize) -> usize {
 ///
 /// # Conditions
 ///
-/// The caller ensures that there are as many ends. Otherwise the call panics or returns unspecified values.
+/// The caller ensures that there are as many ends. Otherwise this call or a later one panics or returns unspecified
+/// values.
 ///
 /// <details><summary>Contract (proved)</summary>
 ///
@@ -85,6 +86,21 @@ impl<D: Lengths + Clone> Strided<D> {
     ///
     /// From (1,1) to (3,2) of `[4,3]`, `[3,1]` from 0: `[2,1]`, `[3,1]` from 4. In place of ndarray's `slice` by
     /// ranges.
+    ///
+    /// # Examples
+    ///
+    /// ```
+    /// use ndarray_layout::{CanIndexCheckMode, Ix2, LayoutError, Strided};
+    ///
+    /// # fn main() -> Result<(), LayoutError> {
+    /// let view = Strided::new(Ix2(4, 3), Ix2(3, 1), 1, 12, CanIndexCheckMode::ReadOnly)?;
+    /// let part = view.crop(&Ix2(1, 1), &Ix2(3, 2));
+    /// let numbers = part.map(|part| (part.start(), *part.dim(), *part.strides()));
+    /// assert_eq!(numbers, Some((4, Ix2(2, 1), Ix2(3, 1))));
+    /// assert_eq!(view.crop(&Ix2(1, 1), &Ix2(5, 2)), None);
+    /// # Ok(())
+    /// # }
+    /// ```
     ///
     /// <details><summary>Contract (proved)</summary>
     ///

@@ -56,6 +56,20 @@ impl<D: Lengths> Strided<D> {
     ///
     /// `[2,3]`, `[3,1]`: `[2]`, `[4]`. ndarray's `diag`.
     ///
+    /// # Examples
+    ///
+    /// ```
+    /// use ndarray_layout::{CanIndexCheckMode, Ix1, Ix2, LayoutError, Order, Strided};
+    ///
+    /// # fn main() -> Result<(), LayoutError> {
+    /// let view = Strided::new(Ix2(2, 3), Ix2(3, 1), 1, 6, CanIndexCheckMode::ReadOnly)?;
+    /// let diagonal = view.diag();
+    /// assert_eq!((diagonal.dim(), diagonal.strides()), (&Ix1(2), &Ix1(4)));
+    /// assert_eq!(diagonal.places(Order::RowMajor)?, [0, 4]);
+    /// # Ok(())
+    /// # }
+    /// ```
+    ///
     /// <details><summary>Contract (proved)</summary>
     ///
     /// ```text

@@ -19,6 +19,21 @@ impl<D: RemoveAxis> Strided<D> {
     ///
     /// Coordinate 1 of axis 0 of `[2,3]`, `[3,1]` from 0: `[3]`, `[1]` from 3. ndarray's `index_axis`.
     ///
+    /// # Examples
+    ///
+    /// ```
+    /// use ndarray_layout::{Axis, CanIndexCheckMode, ErrorKind, Ix1, Ix2, LayoutError, Strided, from_kind};
+    ///
+    /// # fn main() -> Result<(), LayoutError> {
+    /// let view = Strided::new(Ix2(2, 3), Ix2(3, 1), 1, 6, CanIndexCheckMode::ReadOnly)?;
+    /// let row = view.index_axis(Axis(0), 1)?;
+    /// assert_eq!((row.start(), row.dim(), row.strides()), (3, &Ix1(3), &Ix1(1)));
+    /// let refused = view.index_axis(Axis(0), 2);
+    /// assert_eq!(refused.err(), Some(from_kind(ErrorKind::OutOfBounds).into()));
+    /// # Ok(())
+    /// # }
+    /// ```
+    ///
     /// <details><summary>Contract (proved)</summary>
     ///
     /// ```text

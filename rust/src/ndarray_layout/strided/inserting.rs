@@ -18,6 +18,22 @@ impl<D: Dimension> Strided<D> {
     ///
     /// Axis 1 of `[2,3]`, `[3,1]`: `[2,1,3]`, `[3,1,1]`. ndarray's `insert_axis`.
     ///
+    /// # Examples
+    ///
+    /// ```
+    /// use ndarray_layout::{Axis, CanIndexCheckMode, ErrorKind, Ix2, Ix3, LayoutError, Strided, from_kind};
+    ///
+    /// # fn main() -> Result<(), LayoutError> {
+    /// let view = Strided::new(Ix2(2, 3), Ix2(3, 1), 1, 6, CanIndexCheckMode::ReadOnly)?;
+    /// let larger = view.insert_axis(Axis(1))?;
+    /// assert_eq!(larger.dim(), &Ix3(2, 1, 3));
+    /// assert_eq!(larger.strides(), &Ix3(3, 1, 1));
+    /// let refused = view.insert_axis(Axis(3));
+    /// assert_eq!(refused.err(), Some(from_kind(ErrorKind::OutOfBounds).into()));
+    /// # Ok(())
+    /// # }
+    /// ```
+    ///
     /// <details><summary>Contract (proved)</summary>
     ///
     /// ```text

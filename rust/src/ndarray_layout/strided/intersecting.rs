@@ -24,6 +24,21 @@ impl<D: Lengths> Strided<D> {
     /// The first row and the last column of `[2,3]`: true; the first row and the last row: false.
     /// ndarray asks `slices_intersect` before `multi_slice_mut` lends several parts.
     ///
+    /// # Examples
+    ///
+    /// ```
+    /// use ndarray_layout::{CanIndexCheckMode, ErrorKind, Fit, Ix2, LayoutError, Strided, from_kind, s};
+    ///
+    /// # fn main() -> Result<(), LayoutError> {
+    /// let view = Strided::new(Ix2(2, 3), Ix2(3, 1), 1, 6, CanIndexCheckMode::ReadOnly)?;
+    /// assert!(view.meets(&s![0, ..], &s![.., -1], Fit::Strict)?);
+    /// assert!(!view.meets(&s![0, ..], &s![-1, ..], Fit::Strict)?);
+    /// let refused = view.meets(&s![0, ..], &s![2, ..], Fit::Strict);
+    /// assert_eq!(refused.err(), Some(from_kind(ErrorKind::OutOfBounds)));
+    /// # Ok(())
+    /// # }
+    /// ```
+    ///
     /// <details><summary>Contract (proved)</summary>
     ///
     /// ```text
@@ -61,6 +76,20 @@ impl<D: Lengths> Strided<D> {
     ///
     /// `0,..`, `1,..2` and `..,-1` of `[2,3]`: `Some((0, 2))`, by (0,2). In place of the panic of
     /// ndarray's `multi_slice_mut`.
+    ///
+    /// # Examples
+    ///
+    /// ```
+    /// use ndarray_layout::{CanIndexCheckMode, Fit, Ix2, LayoutError, Strided, s};
+    ///
+    /// # fn main() -> Result<(), LayoutError> {
+    /// let view = Strided::new(Ix2(2, 3), Ix2(3, 1), 1, 6, CanIndexCheckMode::ReadOnly)?;
+    /// let slices = [s![0, ..], s![1, ..2], s![.., -1]];
+    /// assert_eq!(view.first_intersection(&slices, Fit::Strict)?, Some((0, 2)));
+    /// assert_eq!(view.first_intersection(&slices[..2], Fit::Strict)?, None);
+    /// # Ok(())
+    /// # }
+    /// ```
     ///
     /// <details><summary>Contract (proved)</summary>
     ///

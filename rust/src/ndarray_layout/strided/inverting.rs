@@ -33,6 +33,21 @@ impl<D: Lengths> Strided<D> {
     ///
     /// Axis 0 of `[3]`, `[2]` from 1: `[3]`, `[-2]` from 5. ndarray's `invert_axis`.
     ///
+    /// # Examples
+    ///
+    /// ```
+    /// use ndarray_layout::{Axis, CanIndexCheckMode, ErrorKind, Ix1, LayoutError, Strided, unsigned};
+    ///
+    /// # fn main() -> Result<(), LayoutError> {
+    /// let mut view = Strided::from_parts(1, Ix1(3), Ix1(2), 1, 6, CanIndexCheckMode::ReadOnly)?;
+    /// view.invert_axis(Axis(0))?;
+    /// assert_eq!((view.start(), view.dim(), view.strides()), (5, &Ix1(3), &Ix1(unsigned(-2))));
+    /// let refused = view.invert_axis(Axis(1)).map_err(|error| error.kind());
+    /// assert_eq!(refused, Err(ErrorKind::OutOfBounds));
+    /// # Ok(())
+    /// # }
+    /// ```
+    ///
     /// <details><summary>Contract (proved)</summary>
     ///
     /// ```text

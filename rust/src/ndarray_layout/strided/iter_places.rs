@@ -78,6 +78,21 @@ impl<D: Lengths> Strided<D> {
     /// `[2,3]` with strides `[-3,1]` from 3: 3 4 5 0 1 2 in row-major order, 3 0 4 1 5 2 in column-major
     /// order. The project's own, in place of a loop of ndarray's `next_for` and `stride_offset`.
     ///
+    /// # Examples
+    ///
+    /// ```
+    /// use ndarray_layout::{CanIndexCheckMode, Ix2, LayoutError, Order, Strided, unsigned};
+    ///
+    /// # fn main() -> Result<(), LayoutError> {
+    /// let view = Strided::new(Ix2(2, 3), Ix2(unsigned(-3), 1), 1, 6, CanIndexCheckMode::ReadOnly)?;
+    /// assert!(view.iter_places(Order::RowMajor).eq([3, 4, 5, 0, 1, 2]));
+    /// let mut places = view.iter_places(Order::ColumnMajor);
+    /// assert_eq!((places.next(), places.len()), (Some(3), 5));
+    /// assert!(places.eq([0, 4, 1, 5, 2]));
+    /// # Ok(())
+    /// # }
+    /// ```
+    ///
     /// <details><summary>Contract (proved)</summary>
     ///
     /// ```text

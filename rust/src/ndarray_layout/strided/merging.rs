@@ -41,6 +41,22 @@ impl<D: Lengths> Strided<D> {
     /// Axis 0 into axis 1 of `[2,3]` with strides `[3,1]`: `[1,6]` with `[3,1]`. ndarray's
     /// `merge_axes`.
     ///
+    /// # Examples
+    ///
+    /// ```
+    /// use ndarray_layout::{Axis, CanIndexCheckMode, Ix2, LayoutError, Strided};
+    ///
+    /// # fn main() -> Result<(), LayoutError> {
+    /// let mut view = Strided::new(Ix2(2, 3), Ix2(3, 1), 1, 6, CanIndexCheckMode::ReadOnly)?;
+    /// assert!(view.merge(Axis(0), Axis(1))?);
+    /// assert_eq!((view.dim(), view.strides()), (&Ix2(1, 6), &Ix2(3, 1)));
+    /// let mut padded = Strided::new(Ix2(2, 3), Ix2(4, 1), 1, 8, CanIndexCheckMode::ReadOnly)?;
+    /// assert!(!padded.merge(Axis(0), Axis(1))?);
+    /// assert_eq!((padded.dim(), padded.strides()), (&Ix2(2, 3), &Ix2(4, 1)));
+    /// # Ok(())
+    /// # }
+    /// ```
+    ///
     /// <details><summary>Contract (proved)</summary>
     ///
     /// ```text

@@ -16,6 +16,22 @@ impl<D: Lengths> Strided<D> {
     /// `[3]`, `[-1]` from 4, moved to 2 over 3 elements: (0) lies at 2 and (2) at 0; moved to 1: `OutOfBounds`. The project's
     /// own.
     ///
+    /// # Examples
+    ///
+    /// ```
+    /// use ndarray_layout::{CanIndexCheckMode, ErrorKind, Ix1, LayoutError, Strided, from_kind, unsigned};
+    ///
+    /// # fn main() -> Result<(), LayoutError> {
+    /// let mode = CanIndexCheckMode::ReadOnly;
+    /// let view = Strided::from_parts(4, Ix1(3), Ix1(unsigned(-1)), 1, 5, mode)?;
+    /// let moved = view.moved_to(2, 1, 3, mode)?;
+    /// assert_eq!((moved.place(&0), moved.place(&2)), (Some(2), Some(0)));
+    /// let refused = view.moved_to(1, 1, 3, mode);
+    /// assert_eq!(refused.err(), Some(from_kind(ErrorKind::OutOfBounds)));
+    /// # Ok(())
+    /// # }
+    /// ```
+    ///
     /// <details><summary>Contract (proved)</summary>
     ///
     /// ```text

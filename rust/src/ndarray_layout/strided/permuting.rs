@@ -59,8 +59,8 @@ fn is_unmarked(marks: &[usize], number: usize) -> bool {
 ///
 /// # Conditions
 ///
-/// The caller ensures that the marks are 0; it is left with any. Otherwise the call panics or returns unspecified
-/// values.
+/// The caller ensures that the marks are 0; it is left with any. Otherwise this call or a later one panics or returns
+/// unspecified values.
 ///
 /// <details><summary>Contract (proved)</summary>
 ///
@@ -170,6 +170,21 @@ impl<D: Lengths> Strided<D> {
     ///
     /// Axes 0 and 1 of `[2,3]`, `[3,1]`: `[3,2]`, `[1,3]`. ndarray's `swap_axes`.
     ///
+    /// # Examples
+    ///
+    /// ```
+    /// use ndarray_layout::{Axis, CanIndexCheckMode, ErrorKind, Ix2, LayoutError, Strided, from_kind};
+    ///
+    /// # fn main() -> Result<(), LayoutError> {
+    /// let mut view = Strided::new(Ix2(2, 3), Ix2(3, 1), 1, 6, CanIndexCheckMode::ReadOnly)?;
+    /// view.swap_axes(Axis(0), Axis(1))?;
+    /// assert_eq!((view.dim(), view.strides()), (&Ix2(3, 2), &Ix2(1, 3)));
+    /// let refused = view.swap_axes(Axis(0), Axis(2));
+    /// assert_eq!(refused.err(), Some(from_kind(ErrorKind::OutOfBounds)));
+    /// # Ok(())
+    /// # }
+    /// ```
+    ///
     /// <details><summary>Contract (proved)</summary>
     ///
     /// ```text
@@ -194,6 +209,20 @@ impl<D: Lengths> Strided<D> {
     /// The transpose: the axes in the opposite order. No element is moved, and no memory is taken.
     ///
     /// `[2,3]`, `[3,1]`: `[3,2]`, `[1,3]`. ndarray's `reversed_axes`.
+    ///
+    /// # Examples
+    ///
+    /// ```
+    /// use ndarray_layout::{CanIndexCheckMode, Ix2, LayoutError, Strided};
+    ///
+    /// # fn main() -> Result<(), LayoutError> {
+    /// let view = Strided::new(Ix2(2, 3), Ix2(3, 1), 1, 6, CanIndexCheckMode::ReadOnly)?;
+    /// let transpose = view.reversed_axes();
+    /// assert_eq!((transpose.dim(), transpose.strides()), (&Ix2(3, 2), &Ix2(1, 3)));
+    /// assert_eq!((transpose.place(&(2, 1)), view.place(&(1, 2))), (Some(5), Some(5)));
+    /// # Ok(())
+    /// # }
+    /// ```
     ///
     /// <details><summary>Contract (proved)</summary>
     ///
@@ -222,6 +251,21 @@ impl<D: Lengths> Strided<D> {
     /// Takes time in proportion to the count of axes; to its square where the first allocation fails.
     ///
     /// `[2,3,4]`, `[12,4,1]` by `[2,0,1]`: `[4,2,3]`, `[1,12,4]`. ndarray's `permuted_axes`.
+    ///
+    /// # Examples
+    ///
+    /// ```
+    /// use ndarray_layout::{Axis, CanIndexCheckMode, ErrorKind, Ix3, LayoutError, Strided, from_kind};
+    ///
+    /// # fn main() -> Result<(), LayoutError> {
+    /// let view = Strided::new(Ix3(2, 3, 4), Ix3(12, 4, 1), 1, 24, CanIndexCheckMode::ReadOnly)?;
+    /// let permuted = view.permuted_axes(&[Axis(2), Axis(0), Axis(1)])?;
+    /// assert_eq!((permuted.dim(), permuted.strides()), (&Ix3(4, 2, 3), &Ix3(1, 12, 4)));
+    /// let refused = view.permuted_axes(&[Axis(2), Axis(0), Axis(2)]);
+    /// assert_eq!(refused.err(), Some(from_kind(ErrorKind::IncompatibleShape).into()));
+    /// # Ok(())
+    /// # }
+    /// ```
     ///
     /// <details><summary>Contract (proved)</summary>
     ///

@@ -10,8 +10,8 @@ use crate::ndarray_layout::strided::Strided;
 ///
 /// # Conditions
 ///
-/// The caller ensures that the product of the lengths that are not 0 is at most `isize::MAX`. Otherwise the call panics
-/// or returns unspecified values.
+/// The caller ensures that the product of the lengths that are not 0 is at most `isize::MAX`. Otherwise this call or a
+/// later one panics or returns unspecified values.
 ///
 /// <details><summary>Contract (proved)</summary>
 ///
@@ -45,6 +45,21 @@ impl<D: Lengths> Strided<D> {
     /// Takes no memory, and time in proportion to the count of elements.
     ///
     /// `1..;-2` of `[4]`: 2. The project's own.
+    ///
+    /// # Examples
+    ///
+    /// ```
+    /// use ndarray_layout::{CanIndexCheckMode, ErrorKind, Fit, Ix1, LayoutError, Strided, from_kind, s};
+    ///
+    /// # fn main() -> Result<(), LayoutError> {
+    /// let view = Strided::new(Ix1(4), Ix1(1), 1, 4, CanIndexCheckMode::ReadOnly)?;
+    /// assert_eq!(view.picked(&s![1..;-2], Fit::Strict)?, 2);
+    /// assert_eq!(view.picked(&s![1..6], Fit::Clamp)?, 3);
+    /// let refused = view.picked(&s![1..6], Fit::Strict);
+    /// assert_eq!(refused.err(), Some(from_kind(ErrorKind::OutOfBounds)));
+    /// # Ok(())
+    /// # }
+    /// ```
     ///
     /// <details><summary>Contract (proved)</summary>
     ///

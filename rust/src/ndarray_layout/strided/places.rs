@@ -76,8 +76,8 @@ pub(super) fn place_along_axis(start: usize, i: usize, stride: usize) -> usize {
 ///
 /// # Conditions
 ///
-/// The caller ensures that neither is greater than `isize::MAX`, and that the new one is not less than 0. Otherwise the
-/// call panics or returns unspecified values.
+/// The caller ensures that neither is greater than `isize::MAX`, and that the new one is not less than 0. Otherwise
+/// this call or a later one panics or returns unspecified values.
 ///
 /// <details><summary>Contract (proved)</summary>
 ///
@@ -98,6 +98,19 @@ impl<D: Lengths> Strided<D> {
     /// of the shape.
     ///
     /// `[2,3]` with strides `[3,1]` from 0: (1,2) lies at 5, and (2,0) nowhere. The project's own.
+    ///
+    /// # Examples
+    ///
+    /// ```
+    /// use ndarray_layout::{CanIndexCheckMode, Ix2, LayoutError, Strided};
+    ///
+    /// # fn main() -> Result<(), LayoutError> {
+    /// let view = Strided::new(Ix2(2, 3), Ix2(3, 1), 1, 6, CanIndexCheckMode::ReadOnly)?;
+    /// assert_eq!(view.place(&(1, 2)), Some(5));
+    /// assert_eq!(view.place(&(2, 0)), None);
+    /// # Ok(())
+    /// # }
+    /// ```
     ///
     /// <details><summary>Contract (proved)</summary>
     ///
@@ -124,6 +137,19 @@ impl<D: Lengths> Strided<D> {
     ///
     /// `[2,3]` with strides `[-3,1]` from 3: 3 4 5 0 1 2 in row-major order, 3 0 4 1 5 2 in
     /// column-major order. The project's own.
+    ///
+    /// # Examples
+    ///
+    /// ```
+    /// use ndarray_layout::{CanIndexCheckMode, Ix2, LayoutError, Order, Strided, unsigned};
+    ///
+    /// # fn main() -> Result<(), LayoutError> {
+    /// let view = Strided::new(Ix2(2, 3), Ix2(unsigned(-3), 1), 1, 6, CanIndexCheckMode::ReadOnly)?;
+    /// assert_eq!(view.places(Order::RowMajor)?, [3, 4, 5, 0, 1, 2]);
+    /// assert_eq!(view.places(Order::ColumnMajor)?, [3, 0, 4, 1, 5, 2]);
+    /// # Ok(())
+    /// # }
+    /// ```
     ///
     /// <details><summary>Contract (proved)</summary>
     ///

@@ -52,6 +52,21 @@ impl<D: Lengths> Strided<D> {
     /// `[2,3]` with strides `[3,1]` to `[3,2]`: `[2,1]` in row-major order, `IncompatibleLayout` in
     /// column-major order. What ndarray's `to_shape` does where it copies nothing.
     ///
+    /// # Examples
+    ///
+    /// ```
+    /// use ndarray_layout::{CanIndexCheckMode, ErrorKind, Ix2, LayoutError, Order, Strided, from_kind};
+    ///
+    /// # fn main() -> Result<(), LayoutError> {
+    /// let view = Strided::new(Ix2(2, 3), Ix2(3, 1), 1, 6, CanIndexCheckMode::ReadOnly)?;
+    /// let reshaped = view.reshape(&Ix2(3, 2), Order::RowMajor)?;
+    /// assert_eq!((reshaped.dim(), reshaped.strides()), (&Ix2(3, 2), &Ix2(2, 1)));
+    /// let refused = view.reshape(&Ix2(3, 2), Order::ColumnMajor);
+    /// assert_eq!(refused.err(), Some(from_kind(ErrorKind::IncompatibleLayout).into()));
+    /// # Ok(())
+    /// # }
+    /// ```
+    ///
     /// <details><summary>Contract (proved)</summary>
     ///
     /// ```text

@@ -30,7 +30,8 @@ pub(crate) struct Fastest<'a> {
 ///
 /// # Conditions
 ///
-/// The caller ensures that each axis has a stride. Otherwise the call panics or returns unspecified values.
+/// The caller ensures that each axis has a stride. Otherwise this call or a later one panics or returns unspecified
+/// values.
 ///
 /// <details><summary>Contract (proved)</summary>
 ///
@@ -298,6 +299,22 @@ impl<D: Lengths> Strided<D> {
     ///
     /// `[2,3]` with strides `[-3,1]` from 3: in row-major order 3 places from 3 and 3 places from 0, by the stride 1;
     /// in column-major order 2 places from 3, from 4 and from 5, by -3. ndarray's `rows`, of places.
+    ///
+    /// # Examples
+    ///
+    /// ```
+    /// use ndarray_layout::{CanIndexCheckMode, Ix2, LayoutError, Order, Row, Strided, unsigned};
+    ///
+    /// # fn main() -> Result<(), LayoutError> {
+    /// let view = Strided::new(Ix2(2, 3), Ix2(unsigned(-3), 1), 1, 6, CanIndexCheckMode::ReadOnly)?;
+    /// let numbers = |row: Row| (row.start, row.stride, row.len);
+    /// let rows = view.rows(Order::RowMajor).map(numbers);
+    /// assert!(rows.eq([(3, 1, 3), (0, 1, 3)]));
+    /// let columns = view.rows(Order::ColumnMajor).map(numbers);
+    /// assert!(columns.eq([(3, -3, 2), (4, -3, 2), (5, -3, 2)]));
+    /// # Ok(())
+    /// # }
+    /// ```
     ///
     /// <details><summary>Contract (proved)</summary>
     ///

@@ -153,7 +153,8 @@ fn check_before_memory(
 ///
 /// # Conditions
 ///
-/// The caller ensures that the layout is valid. Otherwise the call panics or returns unspecified values.
+/// The caller ensures that the layout is valid. Otherwise this call or a later one panics or returns unspecified
+/// values.
 ///
 /// <details><summary>Contract (proved)</summary>
 ///
@@ -208,6 +209,22 @@ impl<D: Lengths> Strided<D> {
     ///
     /// `1..;-2` of `[4]` with the stride `[3]` from 5: `[2]`, `[-6]` from 14. ndarray's `slice` and
     /// `slice_collapse`.
+    ///
+    /// # Examples
+    ///
+    /// ```
+    /// use ndarray_layout::{CanIndexCheckMode, Fit, Ix1, LayoutError, SliceInfoElem, Strided, unsigned};
+    ///
+    /// # fn main() -> Result<(), LayoutError> {
+    /// let view = Strided::from_parts(5, Ix1(4), Ix1(3), 1, 15, CanIndexCheckMode::ReadOnly)?;
+    /// let elems = [SliceInfoElem::Slice { start: 1, end: None, step: -2 }];
+    /// let part: Strided<Ix1> = view.slice(&elems, Fit::Strict)?;
+    /// assert_eq!((part.start(), part.dim(), part.strides()), (14, &Ix1(2), &Ix1(unsigned(-6))));
+    /// let elems = [SliceInfoElem::Slice { start: 1, end: Some(9), step: 1 }];
+    /// assert!(view.slice::<Ix1, _>(&elems, Fit::Strict).is_err());
+    /// # Ok(())
+    /// # }
+    /// ```
     ///
     /// <details><summary>Contract (proved)</summary>
     ///

@@ -68,6 +68,22 @@ impl<D: Lengths> Strided<D> {
     /// Axis 1 of `[2,3]`, `[3,1]` from 0 at 1: `[2,1]`, `[3,1]` from 0, and `[2,2]`, `[3,1]` from 1. ndarray's
     /// `split_at`.
     ///
+    /// # Examples
+    ///
+    /// ```
+    /// use ndarray_layout::{Axis, CanIndexCheckMode, ErrorKind, Ix2, LayoutError, Strided, from_kind};
+    ///
+    /// # fn main() -> Result<(), LayoutError> {
+    /// let view = Strided::new(Ix2(2, 3), Ix2(3, 1), 1, 6, CanIndexCheckMode::ReadOnly)?;
+    /// let (first, second) = view.split_at(Axis(1), 1)?;
+    /// assert_eq!((first.start(), first.dim(), first.strides()), (0, &Ix2(2, 1), &Ix2(3, 1)));
+    /// assert_eq!((second.start(), second.dim(), second.strides()), (1, &Ix2(2, 2), &Ix2(3, 1)));
+    /// let refused = view.split_at(Axis(1), 4);
+    /// assert_eq!(refused.err(), Some(from_kind(ErrorKind::OutOfBounds).into()));
+    /// # Ok(())
+    /// # }
+    /// ```
+    ///
     /// <details><summary>Contract (proved)</summary>
     ///
     /// ```text

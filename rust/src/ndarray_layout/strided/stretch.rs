@@ -11,8 +11,8 @@ use core::ops::Range;
 ///
 /// # Conditions
 ///
-/// The caller ensures what `is_layout_c` and `is_layout_f` ask for. Otherwise the call panics or returns unspecified
-/// values.
+/// The caller ensures what `is_layout_c` and `is_layout_f` ask for. Otherwise this call or a later one panics or
+/// returns unspecified values.
 ///
 /// <details><summary>Contract (proved)</summary>
 ///
@@ -39,6 +39,20 @@ impl<D: Lengths> Strided<D> {
     ///
     /// `[2,3]`, `[3,1]` from 4: `4..10` in row-major order, `None` in column-major order. For ndarray's
     /// `as_slice` and `is_standard_layout`.
+    ///
+    /// # Examples
+    ///
+    /// ```
+    /// use ndarray_layout::{CanIndexCheckMode, Ix2, LayoutError, Order, Strided};
+    ///
+    /// # fn main() -> Result<(), LayoutError> {
+    /// let mode = CanIndexCheckMode::ReadOnly;
+    /// let view = Strided::from_parts(4, Ix2(2, 3), Ix2(3, 1), 1, 10, mode)?;
+    /// assert_eq!(view.stretch(Order::RowMajor), Some(4..10));
+    /// assert_eq!(view.stretch(Order::ColumnMajor), None);
+    /// # Ok(())
+    /// # }
+    /// ```
     ///
     /// <details><summary>Contract (proved)</summary>
     ///

@@ -26,6 +26,22 @@ impl<D: Lengths> Strided<D> {
     /// `[4]`, `[1]` in windows of `[2]`: `[3,2]`, `[1,1]`. ndarray's `windows`, as one view; NumPy's
     /// `sliding_window_view`.
     ///
+    /// # Examples
+    ///
+    /// ```
+    /// use ndarray_layout::{CanIndexCheckMode, ErrorKind, Ix1, Ix2, LayoutError, Strided, from_kind};
+    ///
+    /// # fn main() -> Result<(), LayoutError> {
+    /// let view = Strided::new(Ix1(4), Ix1(1), 1, 4, CanIndexCheckMode::ReadOnly)?;
+    /// let windows: Strided<Ix2> = view.windows(&Ix1(2))?;
+    /// assert_eq!((windows.dim(), windows.strides()), (&Ix2(3, 2), &Ix2(1, 1)));
+    /// assert_eq!((windows.place(&(0, 1)), windows.place(&(1, 0))), (Some(1), Some(1)));
+    /// let refused = view.windows::<Ix2>(&Ix1(0));
+    /// assert_eq!(refused.err(), Some(from_kind(ErrorKind::Unsupported).into()));
+    /// # Ok(())
+    /// # }
+    /// ```
+    ///
     /// <details><summary>Contract (proved)</summary>
     ///
     /// ```text

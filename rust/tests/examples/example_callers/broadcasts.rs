@@ -12,7 +12,7 @@ use ::ndarray_layout::{LayoutError, Lengths, Strided, co_broadcast};
 /// # Conditions
 ///
 /// The caller ensures that the type allows the greater of their counts of axes: any type that fixes a count does, and
-/// `IxDyn`. Otherwise the call panics or returns unspecified values.
+/// `IxDyn`. Otherwise this call or a later one panics or returns unspecified values.
 ///
 /// <details><summary>Contract (proved)</summary>
 ///

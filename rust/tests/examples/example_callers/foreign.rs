@@ -54,8 +54,8 @@ fn divide(strides: &mut [usize], elem_size: usize) -> bool {
 ///
 /// # Conditions
 ///
-/// The caller ensures that an element has a byte, and at most `isize::MAX`. Otherwise the call panics or returns
-/// unspecified values.
+/// The caller ensures that an element has a byte, and at most `isize::MAX`. Otherwise this call or a later one panics
+/// or returns unspecified values.
 ///
 /// <details><summary>Contract (proved)</summary>
 ///

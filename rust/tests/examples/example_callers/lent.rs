@@ -47,6 +47,37 @@ fn paint_view(view: Strided<Ix2>, pixels: &mut [u8], pixel: u8) {
     picture.fill(pixel);
 }
 
+/// Paints a part of a picture, whose pixels lie in a list by a view, and returns whether it did: it doesn't where the
+/// part isn't one of the picture. The list's other pixels are unchanged.
+///
+/// # Conditions
+///
+/// The caller ensures that each index has a pixel to itself. Otherwise this call or a later one panics or returns
+/// unspecified values.
+///
+/// <details><summary>Contract (proved)</summary>
+///
+/// ```text
+/// requires IsOwned (length pixels.old) view
+/// ensures fits: IsTrue result ↔ RangesFit view.shape (lengths starts.now) (lengths ends.now)
+/// ensures painted: IsTrue result → HasWrittenPart (crop_source (lengths starts.now))
+///     (cropped_of (lengths starts.now) (lengths ends.now) view).shape (λ index. Some pixel)
+///     (record { items = pixels.old; view = view })
+///     (record { items = pixels.new; view = view })
+/// ensures unchanged: result ≡ false → pixels.new ≡ pixels.old
+/// ```
+/// [How to read it](ndarray_layout::contracts)
+/// </details>
+pub fn paint_part(view: Strided<Ix2>, pixels: &mut [u8], starts: &Ix2, ends: &Ix2, pixel: u8) -> bool {
+    match view.crop(starts, ends) {
+        Some(part) => {
+            paint_view(part, pixels, pixel);
+            true
+        }
+        None => false,
+    }
+}
+
 /// Paints each pixel of a picture that owns its pixels; spare ones are unchanged. Errors: out of memory, for a copy of its view.
 ///
 /// <details><summary>Contract (proved)</summary>
@@ -66,7 +97,8 @@ pub fn paint_owned(picture: &mut OwnedArray<u8, Ix2>, pixel: u8) -> Result<(), A
 ///
 /// # Conditions
 ///
-/// The caller ensures that none is the brightest one. Otherwise the call panics or returns unspecified values.
+/// The caller ensures that none is the brightest one. Otherwise this call or a later one panics or returns unspecified
+/// values.
 ///
 /// <details><summary>Contract (proved)</summary>
 ///

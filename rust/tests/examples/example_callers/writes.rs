@@ -66,3 +66,28 @@ pub fn with_two_parts<D: Lengths>(
         Err(fault) => Err((fault, picture)),
     }
 }
+
+/// Writes pixels at two parts of a picture, both or none. After an error the picture is unchanged.
+///
+/// Errors: those of `multi_set`: that of a part that doesn't fit, of a count of pixels, of two parts that share an index, or of
+/// memory.
+///
+/// <details><summary>Contract (proved)</summary>
+///
+/// ```text
+/// ensures apart: OnOk result (AreApart Strict picture.old.view.shape one.0.items other.0.items)
+/// ensures one: OnOk result (IsWritten picture.old.view picture.new.items (write_of one))
+/// ensures other: OnOk result (IsWritten picture.old.view picture.new.items (write_of other))
+/// ensures kept: OnOk result (KeepsOthers picture.old.view (write_of one ∷ write_of other ∷ [])
+///     picture.old.items picture.new.items)
+/// ensures unchanged: OnErr result (picture.new ≡ picture.old)
+/// ```
+/// [How to read it](ndarray_layout::contracts)
+/// </details>
+pub fn write_two_parts<D: Lengths>(
+    picture: &mut OwnedArray<u8, D>,
+    one: (Vec<SliceInfoElem>, Vec<u8>),
+    other: (Vec<SliceInfoElem>, Vec<u8>),
+) -> Result<(), LayoutError> {
+    picture.multi_set(&[one, other])
+}

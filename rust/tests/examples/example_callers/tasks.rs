@@ -1,0 +1,60 @@
+// Made by `rust/erase` of `crates/example_callers/src/tasks.rt`: edit that.
+//! Tasks over a picture as a whole: its brightest pixel, a sum, and its mirror.
+
+use crate::example_callers::slices::pixels_of;
+use ::ndarray_layout::memory::prelude::Vec;
+use ::ndarray_layout::nd_owned::ArrayView;
+use ::ndarray_layout::{Axis, Ix2, LayoutError, Lengths};
+
+/// The brightest pixel of a picture; `None` where it has none.
+///
+/// <details><summary>Contract (proved)</summary>
+///
+/// ```text
+/// ensures found: IsSome result ↔ (0 < size picture.now.view.shape)
+/// ensures is_one: IfSome result (λ brightest. (index : List ℕ) ×
+///     IsTrue (is_index picture.now.view.shape index) ×
+///     (item_at picture.now index ≡ Some brightest))
+/// ensures none_brighter: IfSome result (λ brightest. (index : List ℕ) →
+///     IsTrue (is_index picture.now.view.shape index) →
+///     option_map_or (λ pixel. pixel) (item_at picture.now index) 0 ≤ brightest)
+/// ```
+/// [How to read it](ndarray_layout::contracts)
+/// </details>
+pub fn brightest<D: Lengths>(picture: &ArrayView<'_, u8, D>) -> Option<u8> {
+    picture.max()
+}
+
+/// The sum of the pixels of a part of a picture; `None` where the part isn't one of it, or the sum passes `u64`.
+///
+/// <details><summary>Contract (proved)</summary>
+///
+/// ```text
+/// ensures IfSome result (λ total. total ≡
+///     sum_by (λ pixel. option_map_or (λ n. n) pixel 0) (map (item_at_place picture.now.items)
+///     (view_places RowMajor (cropped_of (lengths starts.now) (lengths ends.now) picture.now.view))))
+/// ```
+/// [How to read it](ndarray_layout::contracts)
+/// </details>
+pub fn sum_of_crop(picture: &ArrayView<'_, u8, Ix2>, starts: &Ix2, ends: &Ix2) -> Option<u64> {
+    picture.crop(starts, ends)?.sum()
+}
+
+/// Copies of the pixels of a picture as its mirror shows them: each row backwards.
+///
+/// Errors: `OutOfBounds` where the picture has no axis 1, then out of memory.
+///
+/// <details><summary>Contract (proved)</summary>
+///
+/// ```text
+/// ensures IfOk result (λ copies. map Some copies.items ≡
+///     map (λ index. item_at picture.entry (invert_source 1 picture.entry.view.shape index))
+///     (indices_in RowMajor picture.entry.view.shape))
+/// ```
+/// [How to read it](ndarray_layout::contracts)
+/// </details>
+pub fn mirror<D: Lengths>(picture: ArrayView<'_, u8, D>) -> Result<Vec<u8>, LayoutError> {
+    let mut picture = picture;
+    picture.invert_axis(Axis(1))?;
+    Ok(pixels_of(&picture)?)
+}
