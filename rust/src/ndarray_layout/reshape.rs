@@ -313,7 +313,8 @@ fn fill_reshaped(
 /// The strides along which another shape has a layout's elements in an order, with none moved.
 ///
 /// `from` and `strides` are the layout, `to` is the shape; strides are in elements and with their
-/// sign (`signed`). A joint is the place between two axes of `from` of length greater than 1, where
+/// sign (`signed`). Axes are read from the slowest one on: in column-major order the last one comes
+/// first. A joint is the place between two axes of `from` of length greater than 1, where
 /// the stride of the earlier one, as they are read in the order, is not the length of the later one
 /// times its stride. Strides exist, any whole numbers, if and only if the sizes agree and each
 /// joint lies between two axes of `to` as well; on axes of length greater than 1 there is one

@@ -47,8 +47,8 @@ fn move_starts(starts: &mut [usize], ends: &[usize])
 }
 
 impl<D: Lengths + Copy> Strided<D> {
-    /// The view of the coordinates from `starts` to `ends`, one of each for each axis; `None` where a start is
-    /// greater than its end, or an end greater than the length of its axis. No element is moved.
+    /// The view of the coordinates from `starts` to `ends`, one of each for each axis; `None` where there are more or
+    /// fewer, a start is greater than its end, or an end greater than the length of its axis. No element is moved.
     ///
     /// The strides are unchanged. The start moves to the first coordinate of each axis that keeps one, as it does in
     /// `slice` by these ranges. Takes no memory, and time in proportion to the count of axes.

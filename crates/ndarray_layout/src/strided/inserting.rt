@@ -17,7 +17,7 @@ impl<D: Dimension> Strided<D> {
     /// # Errors
     ///
     /// `OutOfBounds` where the number is greater than the count of axes; then out of memory, never where the
-    /// type fixes the count of axes or there are at most 3.
+    /// type of the result fixes the count of axes (that of `Ix6` doesn't) or there are at most 3.
     ///
     /// Takes time in proportion to the count of axes.
     ///
