@@ -66,7 +66,7 @@ impl<T, D: Lengths> ArrayView<'_, T, D> {
     /// The last result of a function that is called at each item in turn, in row-major order, with the result before, first
     /// with `init`.
     ///
-    /// It is what `iter().fold(init, f)` returns, and faster: a row whose items follow one another is a loop over a slice.
+    /// It is what `iter().fold(init, f)` returns: a row whose items follow one another is a loop over a slice.
     ///
     /// `a.fold(0, |sum, item| sum + item)` is 15. ndarray's `fold`.
     ///
@@ -110,7 +110,7 @@ impl<T, D: Lengths> ArrayView<'_, T, D> {
 
     /// Calls a function at each item in turn, in row-major order.
     ///
-    /// It is what `iter().for_each(f)` does, and faster, as `fold` is.
+    /// It is what `iter().for_each(f)` does.
     ///
     /// Of `a`: at 8, then at 7. ndarray's `for_each`.
     ///
