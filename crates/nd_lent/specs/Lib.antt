@@ -1,5 +1,6 @@
 pub mod ArrayView
 pub mod ArrayViewMut
+pub mod Equal
 pub mod Extremes
 pub mod Items
 pub mod Lender

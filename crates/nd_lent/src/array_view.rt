@@ -7,6 +7,7 @@ ghost use Rattle.ndarray_layout.specs.Size.{size};
 ghost use Rattle.nd_lent.specs.ArrayView.{HasItems};
 ghost use Rattle.nd_lent.specs.Items.{item_at};
 
+mod comparing;
 mod extremes;
 mod folding;
 mod iterating;
