@@ -74,6 +74,7 @@ const ALLOWED: &[(&str, &[&str])] = &[
     ),
     ("what the kit has no form for", &["clippy::unused_unit"]),
     ("a sequence is never asked whether it is empty", &["clippy::len_without_is_empty"]),
+    ("the package has the trait beside what is proved", &["clippy::should_implement_trait"]),
 ];
 
 /// Those that programs and tests don't keep to either.

@@ -6,6 +6,7 @@ mod iterating;
 mod rows;
 mod folding;
 mod steps;
+mod comparing;
 mod extremes;
 mod totals;
 

@@ -64,3 +64,21 @@ fn lists_that_own_memory_pass_tests() -> Result<(), LayoutError> {
     assert!(rows.any(|list| !list.is_empty()) && rows.all(|list| list.len() < 100));
     Ok(())
 }
+
+#[test]
+fn arrays_are_equal_where_shapes_and_items_are() -> Result<(), LayoutError> {
+    let rows = two_rows();
+    let columns = [0, 3, 1, 4, 2, 5];
+    let turned = ArrayView::from_shape(Ix2(3, 2).into(), &columns)?.reversed_axes();
+    assert!(ArrayView::eq(&rows, &turned) && rows == turned);
+    let other = [0, 3, 1, 4, 2, 6];
+    let other = ArrayView::from_shape(Ix2(3, 2).into(), &other)?;
+    assert!(!ArrayView::eq(&rows, &other) && !ArrayView::eq(&rows, &other.reversed_axes()));
+    let (no_row, no_column) =
+        (rows.slice::<Ix2, _>(&s![..0, ..], Fit::Strict)?, rows.slice::<Ix2, _>(&s![.., ..0], Fit::Strict)?);
+    assert!(ArrayView::eq(&no_row, &no_row.borrowed()) && !ArrayView::eq(&no_row, &no_column));
+    let [one, another] = [lists(), lists()];
+    let [one, another] = [ArrayView::from_shape(ROWS.into(), &one)?, ArrayView::from_shape(ROWS.into(), &another)?];
+    assert!(ArrayView::eq(&one, &another));
+    Ok(())
+}
