@@ -1,7 +1,7 @@
 //! Tasks over a picture as a whole: its brightest pixel, a sum, and its mirror.
 ghost use Rattle.std.specs.List.{sum_by};
 ghost use Rattle.std.specs.Option.{option_map_or};
-ghost use Rattle.std.specs.Prelude.{◌≡◌, ◌≤◌, ◌<◌, ◌↔◌, IfOk, IfSome, IsSome, IsTrue, List, Some, map, ℕ};
+ghost use Rattle.std.specs.Prelude.{◌≡◌, ◌≤◌, ◌<◌, ◌↔◌, IfOk, IfSome, IsSome, IsTrue, List, Some, map, nat_eq, ℕ};
 ghost use Rattle.ndarray_layout.specs.declared.Order.TheVariants.{RowMajor};
 ghost use Rattle.ndarray_layout.specs.CroppedView.{cropped_of};
 ghost use Rattle.ndarray_layout.specs.Dim.{lengths};
@@ -9,6 +9,7 @@ ghost use Rattle.ndarray_layout.specs.Indices.{indices_in, is_index};
 ghost use Rattle.ndarray_layout.specs.InvertedView.{invert_source};
 ghost use Rattle.ndarray_layout.specs.Size.{size};
 ghost use Rattle.ndarray_layout.specs.View.{view_places};
+ghost use Rattle.nd_lent.specs.Equal.{are_equal};
 ghost use Rattle.nd_owned.specs.Owned.{item_at, item_at_place};
 
 use crate::slices::pixels_of;
@@ -52,4 +53,24 @@ pub fn mirror<D: Lengths>(
     let mut picture = picture;
     picture.invert_axis(Axis(1))?;
     Ok(pixels_of(alloc, &picture)?)
+}
+
+/// Whether each pixel of a picture is darker than a bound.
+pub fn is_darker<D: Lengths>(picture: &ArrayView<'_, u8, D>, bound: u8) -> bool
+    ensures darker { IsTrue result → (index : List ℕ) →
+        IsTrue (is_index picture.now.view.shape index) →
+        IfSome (item_at picture.now index) (λ pixel. pixel < bound) }
+{
+    picture.all(
+        |pixel: &u8|
+            ensures { IsTrue result ↔ (pixel.now < bound) }
+        { *pixel < bound },
+    )
+}
+
+/// Whether two pictures show the same: they have the same shape, and at each index the same pixel.
+pub fn show_the_same<D: Lengths>(one: &ArrayView<'_, u8, D>, other: &ArrayView<'_, u8, D>) -> bool
+    ensures { result ≡ are_equal nat_eq one.now other.now }
+{
+    one.eq(other)
 }
