@@ -58,3 +58,31 @@ pub fn mirror<D: Lengths>(picture: ArrayView<'_, u8, D>) -> Result<Vec<u8>, Layo
     picture.invert_axis(Axis(1))?;
     Ok(pixels_of(&picture)?)
 }
+
+/// Whether each pixel of a picture is darker than a bound.
+///
+/// <details><summary>Contract (proved)</summary>
+///
+/// ```text
+/// ensures darker: IsTrue result → (index : List ℕ) →
+///     IsTrue (is_index picture.now.view.shape index) →
+///     IfSome (item_at picture.now index) (λ pixel. pixel < bound)
+/// ```
+/// [How to read it](ndarray_layout::contracts)
+/// </details>
+pub fn is_darker<D: Lengths>(picture: &ArrayView<'_, u8, D>, bound: u8) -> bool {
+    picture.all(|pixel: &u8| *pixel < bound)
+}
+
+/// Whether two pictures show the same: they have the same shape, and at each index the same pixel.
+///
+/// <details><summary>Contract (proved)</summary>
+///
+/// ```text
+/// ensures result ≡ are_equal nat_eq one.now other.now
+/// ```
+/// [How to read it](ndarray_layout::contracts)
+/// </details>
+pub fn show_the_same<D: Lengths>(one: &ArrayView<'_, u8, D>, other: &ArrayView<'_, u8, D>) -> bool {
+    one.eq(other)
+}

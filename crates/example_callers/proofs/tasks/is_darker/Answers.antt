@@ -21,6 +21,7 @@ returns g c =
     record {
       darker = λ yes index here.
           let dark : AllWithin Dark items 0 (length items) =
-          subst (λ b. MatchBool b (AllWithin Dark items 0 (length items)) ((k : ℕ) × (k < length items) × HoldsAt (λ item. Unit {0}) items k)) yes cases in
+          subst (λ b. MatchBool b (AllWithin Dark items 0 (length items))
+          ((k : ℕ) × (k < length items) × HoldsAt (λ item. Unit {0}) items k)) yes cases in
           of_each_index Dark picture index (λ k d below. dark k d (omega arith) below) here;
     }
