@@ -118,6 +118,8 @@ pub use crate::arrays::{
 pub use crate::convenience::*;
 #[doc(inline)]
 pub use crate::memory::AllocError;
-pub use crate::nd_owned::{ArrayView, ArrayViewMut, Items, Iter, LentRow, LentRows, OwnedArray, PartMut, SplitViews};
+pub use crate::nd_owned::{
+    ArrayView, ArrayViewMut, Items, Iter, LentRow, LentRows, OwnedArray, PartMut, SplitViews, Unsigned,
+};
 pub use crate::ndarray_layout::*;
 pub use crate::parts::{LentPart, MultiSliceArg};

@@ -3,6 +3,8 @@ pub mod Owned
 pub mod private
 pub use Rattle.nd_lent.specs.ArrayView
 pub use Rattle.nd_lent.specs.ArrayViewMut
+pub use Rattle.nd_lent.specs.Equal
+pub use Rattle.nd_lent.specs.Extremes
 pub use Rattle.nd_lent.specs.Items
 pub use Rattle.nd_lent.specs.Lender
 pub use Rattle.nd_lent.specs.Lending

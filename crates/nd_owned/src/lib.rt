@@ -9,5 +9,7 @@ mod picked_view;
 mod rows;
 
 pub use iterating::Items;
-pub use nd_lent::{ArrayView, ArrayViewMut, Iter, LentRow, LentRows, PartMut, SplitViews};
+pub use nd_lent::{
+    ArrayView, ArrayViewMut, Iter, LentRow, LentRows, PartMut, SplitViews, Unsigned,
+};
 pub use owned::OwnedArray;

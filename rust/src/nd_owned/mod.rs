@@ -23,6 +23,6 @@ mod owned;
 mod picked_view;
 mod rows;
 
-pub use crate::nd_lent::{ArrayView, ArrayViewMut, Iter, LentRow, LentRows, PartMut, SplitViews};
+pub use crate::nd_lent::{ArrayView, ArrayViewMut, Iter, LentRow, LentRows, PartMut, SplitViews, Unsigned};
 pub use iterating::Items;
 pub use owned::OwnedArray;
