@@ -15,7 +15,7 @@ const PANICS: &str = "Where there is no such index.";
 const ENSURED: &str = "The caller ensures";
 
 /// How sentences of the sources begin that only who writes proofs reads.
-const FOR_PROOFS: &[&str] = &["A contract sees", "No clause says", "(A proof", "A proof"];
+const FOR_PROOFS: &[&str] = &["A contract sees", "No clause says", "(A proof", "A proof", "By this call a proof"];
 
 /// What is said of a condition that is broken.
 const BROKEN: &str = "Otherwise this call or a later one panics or returns unspecified values.";

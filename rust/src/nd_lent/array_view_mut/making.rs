@@ -7,8 +7,6 @@ use crate::ndarray_layout::{CanIndexCheckMode, LayoutError, Lengths, ShapeError,
 impl<'a, T: Sized, D: Lengths> ArrayViewMut<'a, T, D> {
     /// The array of a view over items. `over` checks it.
     ///
-    /// By this call a proof knows what the items are once the array is gone, as `fill` and the others left them.
-    ///
     /// `[2]`, `[-1]` from 1 over 7 8 9 is `a`. The project's own.
     ///
     /// # Conditions
