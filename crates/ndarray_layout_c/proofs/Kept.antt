@@ -106,7 +106,7 @@ module _ {shape : List ℕ} (strides new_strides : List ℕ) where
   reshape_kept order target none along start v =
       let view = view_of start shape strides in
       subst (λ strides. Descends (reshape_source order shape target) view (record { start = start; shape = target; strides = strides }))
-          (sym along)
+      (sym along)
       (Descends-reshape_of order target v none)
 
   pub merge_kept : {new_shape : List ℕ} (take into : ℕ) → axes_fault shape take into ≡ None
