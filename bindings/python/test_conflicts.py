@@ -422,8 +422,10 @@ class Times(unittest.TestCase):
             self.assertLess(self.seconds_to_interrupt(call), 1, call)
 
     def seconds_to_interrupt(self, call):
+        # (a shell lets what it runs in the background ignore Ctrl-C, and Python keeps to that)
         program = f"""{LINES}
-import time
+import signal, time
+signal.signal(signal.SIGINT, signal.default_int_handler)
 print("begun", flush=True)
 try:
     {call}
