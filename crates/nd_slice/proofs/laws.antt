@@ -1,6 +1,7 @@
 pub mod AxisElems
 pub mod AxisFault
 pub mod Between
+pub mod ElemRange
 pub mod Intersect
 pub mod Offsets
 pub mod PickSequences

@@ -6,7 +6,7 @@ use Rattle.nd_slice.specs.declared.fit.Fit.TheVariants.{Strict, Clamp}
 use Rattle.nd_slice.specs.declared.elem.SliceInfoElem.{SliceInfoElem}
 use Rattle.nd_slice.specs.declared.elem.SliceInfoElem.TheVariants as elem
 use Rattle.nd_slice.specs.AxisElems.{axis_elems}
-use Rattle.nd_slice.specs.ElemRange.{elem_end, elem_start}
+use Rattle.nd_slice.specs.ElemRange.{elem_range}
 
 -- the element for an axis, with the length of the axis
 abbrev pub elem_on : List ℕ → ℕ → List SliceInfoElem → ℕ × SliceInfoElem
@@ -14,11 +14,11 @@ elem_on shape axis elems = slice_index_or (axis_elems shape elems) axis (0, elem
 
 -- where the range begins on an axis of a shape, counted from 0
 abbrev pub start_on : Fit → List ℕ → ℕ → List SliceInfoElem → ℕ
-start_on fit shape axis elems = elem_start fit (elem_on shape axis elems).0 (elem_on shape axis elems).1
+start_on fit shape axis elems = (elem_range fit (elem_on shape axis elems).0 (elem_on shape axis elems).1).0
 
 -- and the number that it stops before
 abbrev pub end_on : Fit → List ℕ → ℕ → List SliceInfoElem → ℕ
-end_on fit shape axis elems = elem_end fit (elem_on shape axis elems).0 (elem_on shape axis elems).1
+end_on fit shape axis elems = (elem_range fit (elem_on shape axis elems).0 (elem_on shape axis elems).1).1
 
 -- the range of the one ends on an axis before that of the other begins, or there
 pub record IsPast (fit : Fit) (shape : List ℕ) (axis : ℕ) (one other : List SliceInfoElem) : Type 0 where

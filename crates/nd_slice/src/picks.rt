@@ -7,8 +7,7 @@ ghost use Rattle.nd_base.specs.Signed.{magnitude, signed as signed_reading};
 ghost use Rattle.nd_base.specs.Size.{limit};
 ghost use Rattle.nd_base.specs.Span.{reach};
 ghost use Rattle.nd_slice.specs.AxisFault.{slice_fault, SliceFits};
-ghost use Rattle.nd_slice.specs.ElemRange.{elem_end, elem_start, elem_step};
-ghost use Rattle.nd_slice.specs.Intersect.{elem_picks};
+ghost use Rattle.nd_slice.specs.ElemRange.{elem_range};
 ghost use Rattle.nd_slice.specs.SlicedAxis.{picked_stride, first_offset};
 ghost use Rattle.nd_slice.specs.Picks.{between, picks};
 ghost use Rattle.nd_slice.specs.PicksIntersect.{PicksIntersect};
@@ -196,11 +195,7 @@ pub fn resolve_slice(len: usize, slice: Slice, fit: Fit) -> Result<AxisPicks, Sh
 #[inline(always)]
 pub fn resolve_elem(len: usize, elem: SliceInfoElem, fit: Fit) -> Result<AxisPicks, ShapeError>
     ensures fault { result_err result ≡ elem_fault fit len elem }
-    ensures picks { IfOk result (λ p. between p.step p.start p.end ≡ elem_picks fit len elem) }
-    ensures start { IfOk result (λ p. p.start ≡ elem_start fit len elem) }
-    ensures end { IfOk result (λ p. p.end ≡ elem_end fit len elem) }
-    ensures step { IfOk result (λ p. p.step ≡ elem_step elem) }
-    ensures within { IfOk result (λ p. p.end ≤ len) }
+    ensures range { IfOk result (λ p. (p.start, p.end, p.step) ≡ elem_range fit len elem) }
 {
     match elem {
         SliceInfoElem::Slice { start, end, step } => {

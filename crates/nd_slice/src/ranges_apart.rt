@@ -1,7 +1,7 @@
 //! Where slices lie along an axis of a shape.
 ghost use Rattle.std.specs.Prelude.{◌≡◌, ◌⊎◌, ◌<◌, None, IfSome, IsTrue, length};
 ghost use Rattle.nd_slice.specs.SliceFault.{argument_fault};
-ghost use Rattle.nd_slice.specs.ElemRange.{elem_end, elem_start};
+ghost use Rattle.nd_slice.specs.ElemRange.{elem_range};
 ghost use Rattle.nd_slice.specs.Intersect.{Intersect};
 ghost use Rattle.nd_slice.specs.RangesApart.{IsPast, end_on, start_on};
 
@@ -12,8 +12,8 @@ use crate::picks::resolve_elem;
 /// Where the range of an element begins on an axis, and what it stops before. `None` for an element that doesn't fit.
 #[inline]
 fn range_of(len: usize, elem: SliceInfoElem, fit: Fit) -> Option<(usize, usize)>
-    ensures start { IfSome result (λ (start, end). start ≡ elem_start fit len elem) }
-    ensures end { IfSome result (λ (start, end). end ≡ elem_end fit len elem) }
+    ensures start { IfSome result (λ (start, end). start ≡ (elem_range fit len elem).0) }
+    ensures end { IfSome result (λ (start, end). end ≡ (elem_range fit len elem).1) }
 {
     match resolve_elem(len, elem, fit) {
         Ok(picks) => Some((picks.start, picks.end)),

@@ -70,6 +70,7 @@ pub use Rattle.nd_slice.proofs.laws.SliceFault
 pub use Rattle.nd_slice.proofs.laws.RangesApart
 pub use Rattle.nd_slice.proofs.laws.AxisElems
 pub use Rattle.nd_slice.proofs.laws.Between
+pub use Rattle.nd_slice.proofs.laws.ElemRange
 pub use Rattle.nd_slice.proofs.laws.Intersect
 pub use Rattle.nd_slice.proofs.laws.Offsets
 pub use Rattle.nd_slice.proofs.laws.PickSequences

@@ -244,11 +244,7 @@ pub fn resolve_slice(len: usize, slice: Slice, fit: Fit) -> Result<AxisPicks, Sh
 ///
 /// ```text
 /// ensures fault: result_err result ≡ elem_fault fit len elem
-/// ensures picks: IfOk result (λ p. between p.step p.start p.end ≡ elem_picks fit len elem)
-/// ensures start: IfOk result (λ p. p.start ≡ elem_start fit len elem)
-/// ensures end: IfOk result (λ p. p.end ≡ elem_end fit len elem)
-/// ensures step: IfOk result (λ p. p.step ≡ elem_step elem)
-/// ensures within: IfOk result (λ p. p.end ≤ len)
+/// ensures range: IfOk result (λ p. (p.start, p.end, p.step) ≡ elem_range fit len elem)
 /// ```
 /// [How to read it](crate::contracts)
 /// </details>

@@ -10,8 +10,8 @@ use crate::nd_slice::picks::resolve_elem;
 /// <details><summary>Contract (proved)</summary>
 ///
 /// ```text
-/// ensures start: IfSome result (λ (start, end). start ≡ elem_start fit len elem)
-/// ensures end: IfSome result (λ (start, end). end ≡ elem_end fit len elem)
+/// ensures start: IfSome result (λ (start, end). start ≡ (elem_range fit len elem).0)
+/// ensures end: IfSome result (λ (start, end). end ≡ (elem_range fit len elem).1)
 /// ```
 /// [How to read it](crate::contracts)
 /// </details>

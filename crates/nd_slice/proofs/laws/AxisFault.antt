@@ -35,6 +35,10 @@ bound_below len (negsuc bound) within = absurd (cc)
 pub end_below : (fit : Fit) (len : ℕ) (slice : Slice) → SliceFits fit len slice → magnitude (end_meaning fit len slice) ≤ len
 end_below fit len slice fits = bound_below len (end_meaning fit len slice) fits.end_within
 
+-- and begins there or before
+pub start_below : (fit : Fit) (len : ℕ) (slice : Slice) → SliceFits fit len slice → magnitude (start_meaning fit len slice) ≤ len
+start_below fit len slice fits = bound_below len (start_meaning fit len slice) fits.start_within
+
 coordinate_is : (coordinate : Bool) → (if coordinate then None else Some OutOfBounds) ≡ None → coordinate ≡ true
 coordinate_is true none = refl
 coordinate_is false none = absurd (cc)

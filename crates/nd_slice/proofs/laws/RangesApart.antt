@@ -7,7 +7,7 @@ use Rattle.nd_base.proofs.laws.Options.{option_or_none}
 use Rattle.nd_slice.proofs.Definitions.{Fit, Intersect, IsPast, SliceInfoElem, argument_fault, axis_elems, axis_picks, elem_fault, elem_on}
 use Rattle.nd_slice.proofs.Definitions.{elem_picks}
 use Rattle.nd_slice.proofs.Definitions.{end_meaning, end_on, fault_of_each, in_count, magnitude, slice_with, start_meaning, start_on}
-use Rattle.nd_slice.specs.ElemRange.{elem_end, elem_start}
+use Rattle.nd_slice.specs.ElemRange.{elem_range}
 use Rattle.nd_slice.specs.declared.elem.SliceInfoElem.TheVariants as elem
 use Rattle.nd_slice.proofs.laws.AxisElems.{lens_of_axis_elems}
 use Rattle.nd_slice.proofs.laws.AxisFault.{fits_of_no_fault, step_moves}
@@ -21,7 +21,7 @@ IsBetween start end number = (start ≤ number) × (number < end)
 
 -- what an element without fault picks of an axis is in its range
 pub elem_picked_between : (fit : Fit) (len : ℕ) (e : SliceInfoElem) (pick : ℕ) → elem_fault fit len e ≡ None
-    → Contains (elem_picks fit len e) pick → IsBetween (elem_start fit len e) (elem_end fit len e) pick
+    → Contains (elem_picks fit len e) pick → IsBetween (elem_range fit len e).0 (elem_range fit len e).1 pick
 elem_picked_between fit len (elem.Slice start end step) pick none h =
     let slice = slice_with start end step in
     let moves = step_moves fit len slice (fits_of_no_fault fit len slice none) in
@@ -33,8 +33,8 @@ elem_picked_between fit len elem.NewAxis pick none h = absurd (omega (arith, h.1
 
 of_each : (fit : Fit) (elems : List (ℕ × SliceInfoElem)) (index : List ℕ) (k : ℕ) → fault_of_each fit elems ≡ None → k < length elems
     → AllZip Contains (map (λ one. elem_picks fit one.0 one.1) elems) index
-    → IsBetween (elem_start fit (get_or elems k (0, elem.NewAxis)).0 (get_or elems k (0, elem.NewAxis)).1)
-    (elem_end fit (get_or elems k (0, elem.NewAxis)).0 (get_or elems k (0, elem.NewAxis)).1) (get_or index k 0)
+    → IsBetween (elem_range fit (get_or elems k (0, elem.NewAxis)).0 (get_or elems k (0, elem.NewAxis)).1).0
+    (elem_range fit (get_or elems k (0, elem.NewAxis)).0 (get_or elems k (0, elem.NewAxis)).1).1 (get_or index k 0)
 of_each fit [] index k none below all = absurd (omega (arith, below))
 of_each fit (one ∷ elems) [] k none below all = absurd all
 of_each fit (one ∷ elems) (i ∷ index) zero none below all =

@@ -12,6 +12,7 @@ ghost use Rattle.nd_base.specs.ValidLayout.{IsValidLayout};
 ghost use Rattle.ndarray_layout.specs.BlocksView.{blocks_fault, strides_of_blocks};
 ghost use Rattle.ndarray_layout.specs.private.Blocks.{block_count, block_counts, block_stride, block_strides};
 
+use crate::strided::slicing::allows;
 use nd_base::{
     ErrorKind, LayoutError, Lengths, ShapeError, from_kind, new_ix2, stride_offset, unsigned,
 };
@@ -61,11 +62,11 @@ impl Blocks {
 /// Whether a block has as many axes as a shape, and twice as many are those that a type fixes, if it
 /// fixes a count.
 #[inline(always)]
-fn has_counts(fixed: Option<usize>, shape: &[usize], block: &[usize]) -> bool
+fn has_block_counts(fixed: Option<usize>, shape: &[usize], block: &[usize]) -> bool
     ensures { result ≡ (length block.now == length shape.now
         && option_map_or (λ count. count == length shape.now + length shape.now) fixed true) }
 {
-    block.len() == shape.len() && !matches!(fixed, Some(ndim) if ndim != 2 * shape.len())
+    block.len() == shape.len() && allows(fixed, 2 * shape.len())
 }
 
 /// Checks that blocks of so many indices each have at most the greatest `isize` of indices together,
@@ -112,7 +113,7 @@ fn check_blocks<D: Lengths>(
         (block_counts blocks shape.now (D.list block.now)) (D.list block.now) }
 {
     let lens = block.slice();
-    if !has_counts(fixed, shape, lens) {
+    if !has_block_counts(fixed, shape, lens) {
         return Err(from_kind(ErrorKind::IncompatibleShape));
     }
     if lens.contains(&0) {

@@ -1,5 +1,6 @@
 //! Slices of a view, and the shape and the strides that a slice argument leaves.
-ghost use Rattle.std.specs.Prelude.{◌≡◌, ◌↔◌, ◌⊎◌, ◌<◌, ◌≤◌, ◌^◌, IsTrue, IsFalse, Some, None, IfOk, IsOk, OnErr, OnOk, length, ℕ};
+ghost use Rattle.std.specs.Option.{option_map_or};
+ghost use Rattle.std.specs.Prelude.{◌≡◌, ◌↔◌, ◌⊎◌, ◌<◌, ◌≤◌, ◌^◌, ◌==◌, IsTrue, IsFalse, Some, None, IfOk, IsOk, OnErr, OnOk, length, true, ℕ};
 ghost use Rattle.std.specs.Result.{result_err};
 ghost use Rattle.nd_base.specs.Memory.{NeedsNoMemory};
 ghost use Rattle.nd_base.specs.ShapeFault.{shape_fault};
@@ -26,13 +27,24 @@ use nd_slice::{
 };
 use std::alloc::Global;
 
+/// Whether a type that may fix a count of axes has so many.
+#[inline(always)]
+pub(crate) fn allows(fixed: Option<usize>, ndim: usize) -> bool
+    ensures { result ≡ option_map_or (λ count. count == ndim) fixed true }
+{
+    match fixed {
+        Some(count) => count == ndim,
+        None => true,
+    }
+}
+
 /// Whether a slice argument is for as many axes as a shape has, and leaves as many as a type fixes, if
 /// it fixes a count.
 #[inline(always)]
 fn has_counts(fixed: Option<usize>, shape: &[usize], elems: &[SliceInfoElem]) -> bool
     ensures { IsTrue result ↔ HasCounts (Some (length shape.now)) fixed elems.now }
 {
-    in_ndim_of(elems) == shape.len() && !matches!(fixed, Some(ndim) if ndim != out_ndim_of(elems))
+    in_ndim_of(elems) == shape.len() && allows(fixed, out_ndim_of(elems))
 }
 
 /// Whether a list of `ndim` lengths needs memory of its own: one of more than four does, unless its type

@@ -3,6 +3,7 @@
 
 use crate::nd_base::{ErrorKind, LayoutError, Lengths, ShapeError, from_kind, new_ix2, stride_offset, unsigned};
 use crate::nd_shape::size_of_shape_checked;
+use crate::ndarray_layout::strided::slicing::allows;
 
 /// Which blocks of a shape a view has.
 #[derive(Clone, Copy)]
@@ -68,8 +69,8 @@ impl Blocks {
 /// [How to read it](crate::contracts)
 /// </details>
 #[inline(always)]
-fn has_counts(fixed: Option<usize>, shape: &[usize], block: &[usize]) -> bool {
-    block.len() == shape.len() && !matches!(fixed, Some(ndim) if ndim != 2 * shape.len())
+fn has_block_counts(fixed: Option<usize>, shape: &[usize], block: &[usize]) -> bool {
+    block.len() == shape.len() && allows(fixed, 2 * shape.len())
 }
 
 /// Checks that blocks of so many indices each have at most the greatest `isize` of indices together,
@@ -127,7 +128,7 @@ fn check_blocks<D: Lengths>(
     block: &D,
 ) -> Result<(), ShapeError> {
     let lens = block.slice();
-    if !has_counts(fixed, shape, lens) {
+    if !has_block_counts(fixed, shape, lens) {
         return Err(from_kind(ErrorKind::IncompatibleShape));
     }
     if lens.contains(&0) {

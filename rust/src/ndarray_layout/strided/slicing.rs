@@ -8,6 +8,23 @@ use crate::nd_slice::{
 use crate::ndarray_layout::strided::Strided;
 use crate::ndarray_layout::strided::places::offset_place;
 
+/// Whether a type that may fix a count of axes has so many.
+///
+/// <details><summary>Contract (proved)</summary>
+///
+/// ```text
+/// ensures result ≡ option_map_or (λ count. count == ndim) fixed true
+/// ```
+/// [How to read it](crate::contracts)
+/// </details>
+#[inline(always)]
+pub(crate) fn allows(fixed: Option<usize>, ndim: usize) -> bool {
+    match fixed {
+        Some(count) => count == ndim,
+        None => true,
+    }
+}
+
 /// Whether a slice argument is for as many axes as a shape has, and leaves as many as a type fixes, if
 /// it fixes a count.
 ///
@@ -20,7 +37,7 @@ use crate::ndarray_layout::strided::places::offset_place;
 /// </details>
 #[inline(always)]
 fn has_counts(fixed: Option<usize>, shape: &[usize], elems: &[SliceInfoElem]) -> bool {
-    in_ndim_of(elems) == shape.len() && !matches!(fixed, Some(ndim) if ndim != out_ndim_of(elems))
+    in_ndim_of(elems) == shape.len() && allows(fixed, out_ndim_of(elems))
 }
 
 /// Whether a list of `ndim` lengths needs memory of its own: one of more than four does, unless its type

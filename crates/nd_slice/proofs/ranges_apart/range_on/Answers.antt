@@ -1,7 +1,7 @@
 -- Without new axes the element for an axis has the number of the axis.
 use Rattle.std.proofs.Common.{◌≡◌, pos, None, IfSome, get_or, sym, subst, ◌∙◌}
 use Rattle.nd_slice.proofs.Definitions.{SliceInfoElem, elem_on}
-use Rattle.nd_slice.specs.ElemRange.{elem_end, elem_start}
+use Rattle.nd_slice.specs.ElemRange.{elem_range}
 use Rattle.nd_slice.specs.declared.elem.SliceInfoElem.TheVariants as elem
 use Rattle.nd_slice.proofs.laws.SliceFault.{elements_of_no_fault}
 use Rattle.nd_slice.proofs.laws.RangesApart.{elem_on-at}
@@ -22,7 +22,8 @@ here c =
 
 pub returns-clause-start : goal.returns-clause-start
 returns-clause-start c =
-    subst (λ one. IfSome c.range_of.result (λ x. x.0 ≡ elem_start c.args.fit one.0 one.1)) (here c) c.range_of.ensures.start
+    subst (λ one. IfSome c.range_of.result (λ x. x.0 ≡ (elem_range c.args.fit one.0 one.1).0)) (here c) c.range_of.ensures.start
 
 pub returns-clause-end : goal.returns-clause-end
-returns-clause-end c = subst (λ one. IfSome c.range_of.result (λ x. x.1 ≡ elem_end c.args.fit one.0 one.1)) (here c) c.range_of.ensures.end
+returns-clause-end c =
+    subst (λ one. IfSome c.range_of.result (λ x. x.1 ≡ (elem_range c.args.fit one.0 one.1).1)) (here c) c.range_of.ensures.end

@@ -24,7 +24,7 @@ counts g c = block_counts c.args.blocks c.args.shape.now (lens g c)
 -- the tests before
 same : (g : Over) (c : Else-contains g)
     → (length (lens g c) == length c.args.shape.now && allows c.args.fixed (length c.args.shape.now + length c.args.shape.now)) ≡ true
-same g c = rw (c.slice-lens.ensures.list) at (sym c.has_counts.ensures ∙ c.if-not-has_counts.false)
+same g c = rw (c.slice-lens.ensures.list) at (sym c.has_block_counts.ensures ∙ c.if-not-has_block_counts.false)
 
 some : (g : Over) (c : Else-contains g) → is_empty (lens g c) ≡ false
 some g c = rw (c.slice-lens.ensures.list) at (sym c.contains.ensures.value ∙ c.if-contains.false)

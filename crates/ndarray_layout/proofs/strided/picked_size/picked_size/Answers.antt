@@ -2,6 +2,7 @@ use Rattle.std.proofs.Common.{rules, ◌≡◌, ◌≤◌, ◌*◌, arith, lengt
 use Rattle.nd_slice.specs.SliceFault.{elem_fault}
 use Rattle.nd_slice.specs.AxisElems.{axis_elems}
 use Rattle.nd_slice.specs.Intersect.{elem_picks}
+use Rattle.nd_slice.proofs.laws.ElemRange.{end_of_range, picks_of_range}
 use Rattle.nd_slice.proofs.laws.Picks.{length-between_le}
 use Rattle.ndarray_layout.proofs.PickedSize.{PickedSoFar, next_picked, none_picked, size_small}
 use Rattle.ndarray_layout.proofs.strided.picked_size.picked_size.Goals as goal
@@ -17,9 +18,9 @@ picked c =
     let p = c.in_ok-resolve_elem.field-0 in
     let none : elem_fault c.args.fit c.in-Some.len c.in-Some.elem ≡ None = sym c.in_ok-resolve_elem.ensures.fault in
     let count : c.count.result ≡ length (elem_picks c.args.fit c.in-Some.len c.in-Some.elem) = c.count.ensures
-    ∙ ap length c.in_ok-resolve_elem.ensures.picks in
-    let few : c.count.result ≤ c.in-Some.len =
-    omega (arith, c.count.ensures, length-between_le p.step p.start p.end p.moves, c.in_ok-resolve_elem.ensures.within) in
+    ∙ ap length (picks_of_range c.args.fit c.in-Some.len c.in-Some.elem c.in_ok-resolve_elem.ensures.range) in
+    let within = end_of_range c.args.fit c.in-Some.len c.in-Some.elem c.in_ok-resolve_elem.ensures.range none in
+    let few : c.count.result ≤ c.in-Some.len = omega (arith, c.count.ensures, length-between_le p.step p.start p.end p.moves, within) in
     next_picked none count few (rw c.in-Some.ensures.steps at c.loop-len.invariant)
 
 pub overflow_mul-size : goal.overflow_mul-size
