@@ -1,7 +1,7 @@
-//! Tasks over a picture as a whole: its brightest pixel, a sum, and its mirror.
+//! Tasks over a picture as a whole: its brightest and its darkest pixel, a sum, and its mirror.
 ghost use Rattle.std.specs.List.{sum_by};
 ghost use Rattle.std.specs.Option.{option_map_or};
-ghost use Rattle.std.specs.Prelude.{◌≡◌, ◌≤◌, ◌<◌, ◌↔◌, IfOk, IfSome, IsSome, IsTrue, List, Some, map, nat_eq, ℕ};
+ghost use Rattle.std.specs.Prelude.{◌≡◌, ◌≤◌, ◌<◌, ◌↔◌, IfOk, IfSome, IsSome, IsSomeAnd, IsTrue, List, Some, map, nat_eq, ℕ};
 ghost use Rattle.ndarray_layout.specs.declared.Order.TheVariants.{RowMajor};
 ghost use Rattle.ndarray_layout.specs.CroppedView.{cropped_of};
 ghost use Rattle.ndarray_layout.specs.Dim.{lengths};
@@ -28,6 +28,19 @@ pub fn brightest<D: Lengths>(picture: &ArrayView<'_, u8, D>) -> Option<u8>
         option_map_or (λ pixel. pixel) (item_at picture.now index) 0 ≤ brightest) }
 {
     picture.max()
+}
+
+/// The darkest pixel of a picture; `None` where it has none.
+pub fn darkest<D: Lengths>(picture: &ArrayView<'_, u8, D>) -> Option<u8>
+    ensures found { IsSome result ↔ (0 < size picture.now.view.shape) }
+    ensures is_one { IfSome result (λ darkest. (index : List ℕ) ×
+        IsTrue (is_index picture.now.view.shape index) ×
+        (item_at picture.now index ≡ Some darkest)) }
+    ensures none_darker { IfSome result (λ darkest. (index : List ℕ) →
+        IsTrue (is_index picture.now.view.shape index) →
+        IfSome (item_at picture.now index) (λ pixel. darkest ≤ pixel)) }
+{
+    picture.min()
 }
 
 /// The sum of the pixels of a part of a picture; `None` where the part isn't one of it, or the sum passes `u64`.
@@ -65,6 +78,19 @@ pub fn is_darker<D: Lengths>(picture: &ArrayView<'_, u8, D>, bound: u8) -> bool
         |pixel: &u8|
             ensures { IsTrue result ↔ (pixel.now < bound) }
         { *pixel < bound },
+    )
+}
+
+/// Whether some pixel of a picture is brighter than a bound.
+pub fn is_brighter<D: Lengths>(picture: &ArrayView<'_, u8, D>, bound: u8) -> bool
+    ensures { IsTrue result ↔ ((index : List ℕ) ×
+        IsTrue (is_index picture.now.view.shape index) ×
+        IsSomeAnd (item_at picture.now index) (λ pixel. bound < pixel)) }
+{
+    picture.any(
+        |pixel: &u8|
+            ensures { IsTrue result ↔ (bound < pixel.now) }
+        { *pixel > bound },
     )
 }
 

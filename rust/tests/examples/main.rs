@@ -6,6 +6,7 @@ mod example_callers;
 mod example_tiles_edits;
 mod foreign;
 mod pictures;
+mod tasks;
 mod tiles;
 mod views;
 mod writes;

@@ -71,6 +71,6 @@ pub use rows::{grid, in_rows, in_shape};
 pub use scans::count_dark;
 pub use slices::{alternate_rows, pixels_of};
 pub use steps::{flat_plane, flat_plane_by_steps};
-pub use tasks::{brightest, is_darker, mirror, show_the_same, sum_of_crop};
+pub use tasks::{brightest, darkest, is_brighter, is_darker, mirror, show_the_same, sum_of_crop};
 pub use transposes::{pixel_across, transposed_part};
 pub use writes::{with_two_parts, write_parts, write_two_parts};

@@ -1,5 +1,5 @@
 // Made by `rust/erase` of `crates/example_callers/src/tasks.rt`: edit that.
-//! Tasks over a picture as a whole: its brightest pixel, a sum, and its mirror.
+//! Tasks over a picture as a whole: its brightest and its darkest pixel, a sum, and its mirror.
 
 use crate::example_callers::slices::pixels_of;
 use ::ndarray_layout::memory::prelude::Vec;
@@ -23,6 +23,25 @@ use ::ndarray_layout::{Axis, Ix2, LayoutError, Lengths};
 /// </details>
 pub fn brightest<D: Lengths>(picture: &ArrayView<'_, u8, D>) -> Option<u8> {
     picture.max()
+}
+
+/// The darkest pixel of a picture; `None` where it has none.
+///
+/// <details><summary>Contract (proved)</summary>
+///
+/// ```text
+/// ensures found: IsSome result ↔ (0 < size picture.now.view.shape)
+/// ensures is_one: IfSome result (λ darkest. (index : List ℕ) ×
+///     IsTrue (is_index picture.now.view.shape index) ×
+///     (item_at picture.now index ≡ Some darkest))
+/// ensures none_darker: IfSome result (λ darkest. (index : List ℕ) →
+///     IsTrue (is_index picture.now.view.shape index) →
+///     IfSome (item_at picture.now index) (λ pixel. darkest ≤ pixel))
+/// ```
+/// [How to read it](ndarray_layout::contracts)
+/// </details>
+pub fn darkest<D: Lengths>(picture: &ArrayView<'_, u8, D>) -> Option<u8> {
+    picture.min()
 }
 
 /// The sum of the pixels of a part of a picture; `None` where the part isn't one of it, or the sum passes `u64`.
@@ -72,6 +91,21 @@ pub fn mirror<D: Lengths>(picture: ArrayView<'_, u8, D>) -> Result<Vec<u8>, Layo
 /// </details>
 pub fn is_darker<D: Lengths>(picture: &ArrayView<'_, u8, D>, bound: u8) -> bool {
     picture.all(|pixel: &u8| *pixel < bound)
+}
+
+/// Whether some pixel of a picture is brighter than a bound.
+///
+/// <details><summary>Contract (proved)</summary>
+///
+/// ```text
+/// ensures IsTrue result ↔ ((index : List ℕ) ×
+///     IsTrue (is_index picture.now.view.shape index) ×
+///     IsSomeAnd (item_at picture.now index) (λ pixel. bound < pixel))
+/// ```
+/// [How to read it](ndarray_layout::contracts)
+/// </details>
+pub fn is_brighter<D: Lengths>(picture: &ArrayView<'_, u8, D>, bound: u8) -> bool {
+    picture.any(|pixel: &u8| *pixel > bound)
 }
 
 /// Whether two pictures show the same: they have the same shape, and at each index the same pixel.
