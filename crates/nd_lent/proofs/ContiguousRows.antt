@@ -20,7 +20,7 @@ use Rattle.nd_lent.specs.private.Pieces.{AreRowsApart}
 use Rattle.ndarray_layout.specs.Bounds.{IsInBounds}
 use Rattle.nd_lent.proofs.laws.Lists.{pairs_second, parts_apart}
 use Rattle.nd_lent.proofs.RowsLent.{contiguous_places, end_within}
-use Rattle.nd_lent.proofs.laws.RowItems.{places_of}
+use Rattle.nd_lent.specs.LentRow.{places_of}
 
 -- rows of neighbours, each with a place
 pub record AreContiguous (rows : List Row) : Type 0 where

@@ -27,7 +27,7 @@ then_lent : {T : Type 0} (s t : List (Option T)) (lent others : List (Bor T)) �
 then_lent s t [] others then = then
 then_lent s t (item ∷ lent) others then = (shown lent ++ s, refl, then_lent s t lent others then)
 
-then_folded : {P A : Type 0} (R : P → A → P → Type 0) (p q r : P) (xs ys : List A) → FoldsTo R p xs q → FoldsTo R q ys r
+pub then_folded : {P A : Type 0} (R : P → A → P → Type 0) (p q r : P) (xs ys : List A) → FoldsTo R p xs q → FoldsTo R q ys r
     → FoldsTo R p (xs ++ ys) r
 then_folded R p q r [] ys first then = subst (λ p. FoldsTo R p ys r) (sym first) then
 then_folded R p q r (x ∷ xs) ys first then = (first.0, first.1, then_folded R first.0 q r xs ys first.2 then)

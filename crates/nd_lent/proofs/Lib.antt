@@ -4,6 +4,7 @@ pub mod Extremes
 pub mod Folding
 pub mod Lent
 pub mod Pieces
+pub mod RowRuns
 pub mod RowsLent
 pub mod Runs
 pub mod Sets

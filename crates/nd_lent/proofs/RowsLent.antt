@@ -2,24 +2,25 @@
 use Rattle.std.proofs.Common.{◌≡◌, ℕ, zero, suc, ◌+◌, ◌-◌, ◌<◌, ◌≤◌, ◌^◌, ℤ, pos, ◌+ℤ◌, ◌*ℤ◌, Bool, true, false, cond, Some, None, ◌⊎◌, inl}
 use Rattle.std.proofs.Common.{inr}
 use Rattle.std.proofs.Common.{List, [], ◌∷◌, ◌++◌, length, get_or, map, take, drop, nat_eq, refl, sym, ap, subst, ◌∙◌, arith}
-use Rattle.std.specs.List.{All}
+use Rattle.std.specs.List.{All, AllZip}
 use Rattle.std.specs.Ordering.{int_eq}
 use Rattle.std.specs.Prelude.{nat_le, slice_index_or}
 use Rattle.std.proofs.lemmas.Bool.{leb-true, or_cases}
 use Rattle.std.proofs.lemmas.Bool.Decides.{Decides-int_eq}
 use Rattle.std.proofs.lemmas.List.{get_or-map, get_or_past, length-map, map-append}
-use Rattle.std.proofs.lemmas.List.Elements.{All-map, All-nil}
+use Rattle.std.proofs.lemmas.List.Elements.{All-head, All-map, All-nil, All-tail}
 use Rattle.std.proofs.lemmas.Option.{slice_get-get_or}
 use Rattle.ndarray_layout.specs.declared.Order.TheVariants.{RowMajor}
 use Rattle.ndarray_layout.specs.declared.Row.{Row}
 use Rattle.ndarray_layout.specs.Bounds.{IsInBounds}
-use Rattle.ndarray_layout.specs.Rows.{row_at, row_places, rows_places, slower_view, view_rows}
+use Rattle.ndarray_layout.specs.Indices.{indices_in}
+use Rattle.ndarray_layout.specs.Rows.{fastest_item, row_at, row_places, rows_places, slower_items, slower_view, view_rows}
 use Rattle.ndarray_layout.specs.Size.{size}
-use Rattle.ndarray_layout.specs.View.{View, IsView, LiesWithin, view_places}
+use Rattle.ndarray_layout.specs.View.{View, IsView, LiesWithin, place_at, view_places}
 use Rattle.ndarray_layout.proofs.laws.Rows.{All-rows_places, get_or-row_places, length-row_places, no_step, places_fit, rows_lie_within}
 use Rattle.ndarray_layout.proofs.laws.Rows.{rows_places-view_rows, some_in_each_row}
 use Rattle.ndarray_layout.proofs.laws.View.{lens_fit}
-use Rattle.nd_lent.specs.LentRow.{HasRow, is_contiguous, row_items, row_of, rows_items}
+use Rattle.nd_lent.specs.LentRow.{HasRow, RowValue, is_contiguous, row_items, row_of, rows_items}
 use Rattle.nd_lent.specs.Items.{item_at_place}
 use Rattle.nd_lent.proofs.laws.RowItems.{begins, coordinate_in_bounds, neighbours_within, read_neighbours}
 
@@ -39,6 +40,53 @@ short_rows {view} v = by (nat_eq (size view.shape) 0)
     by true = All-nil (λ row. row.len < 2 ^ 63)
     by false = All-map (λ row. row.len < 2 ^ 63) (row_at RowMajor view) (view_places RowMajor (slower_view RowMajor view))
         (λ k d below. short_row (get_or (view_places RowMajor (slower_view RowMajor view)) k d) v)
+
+-- two views of one shape have as many rows, of the same lengths
+module _ (view : View) where
+  same_lens : All (λ row. row.len ≡ fastest_item RowMajor view.shape 1) (view_rows RowMajor view)
+  same_lens = by (nat_eq (size view.shape) 0)
+    where
+      by : (none : Bool) → All (λ row. row.len ≡ fastest_item RowMajor view.shape 1)
+          (cond none [] (map (row_at RowMajor view) (view_places RowMajor (slower_view RowMajor view))))
+      by true = All-nil (λ row. row.len ≡ fastest_item RowMajor view.shape 1)
+      by false = All-map (λ row. row.len ≡ fastest_item RowMajor view.shape 1) (row_at RowMajor view)
+          (view_places RowMajor (slower_view RowMajor view)) (λ k d below. refl)
+
+  count_of_rows : length (view_rows RowMajor view)
+      ≡ cond (nat_eq (size view.shape) 0) 0 (length (indices_in RowMajor (slower_items RowMajor view.shape)))
+  count_of_rows = by (nat_eq (size view.shape) 0)
+    where
+      slower : View
+      slower = slower_view RowMajor view
+
+      by : (none : Bool) → length (cond none [] (map (row_at RowMajor view) (view_places RowMajor slower)))
+          ≡ cond none 0 (length (indices_in RowMajor (slower_items RowMajor view.shape)))
+      by true = refl
+      by false = length-map (view_places RowMajor slower) (row_at RowMajor view)
+          ∙ length-map (indices_in RowMajor slower.shape) (place_at slower)
+
+beside : {T : Type 0} (len : ℕ) (rows : List Row) (sources : List (RowValue T)) → length rows ≡ length sources
+    → All (λ row. row.len ≡ len) rows → All (λ source. source.row.len ≡ len) sources
+    → AllZip (λ row source. row.len ≡ source.row.len) rows sources
+beside len [] [] count all each = tt
+beside len [] (source ∷ sources) count all each = absurd (omega arith)
+beside len (row ∷ rows) [] count all each = absurd (omega arith)
+beside len (row ∷ rows) (source ∷ sources) count all each = (
+  All-head (λ r. r.len ≡ len) row rows all ∙ sym (All-head (λ s. s.row.len ≡ len) source sources each),
+  beside len rows sources (omega arith) (All-tail (λ r. r.len ≡ len) row rows all) (All-tail (λ s. s.row.len ≡ len) source sources each),
+)
+
+pub rows_beside : {T : Type 0} (view other : View) (items : List T) → view.shape ≡ other.shape
+    → AllZip (λ row source. row.len ≡ source.row.len) (view_rows RowMajor view) (map (row_of items) (view_rows RowMajor other))
+rows_beside view other items same =
+    beside (fastest_item RowMajor view.shape 1) (view_rows RowMajor view) (map (row_of items) (view_rows RowMajor other))
+    (count_of_rows view
+    ∙ ap (λ shape. cond (nat_eq (size shape) 0) 0 (length (indices_in RowMajor (slower_items RowMajor shape)))) same
+    ∙ sym (count_of_rows other)
+    ∙ sym (length-map (view_rows RowMajor other) (row_of items)))
+    (same_lens view)
+    (All-map (λ source. source.row.len ≡ fastest_item RowMajor view.shape 1) (row_of items) (view_rows RowMajor other)
+    (subst (λ shape. All (λ row. row.len ≡ fastest_item RowMajor shape 1) (view_rows RowMajor other)) (sym same) (same_lens other)))
 
 -- each row of a view that lies within the items has one at each place
 pub rows_have_items : {count : ℕ} {view : View} → IsView view → LiesWithin count view → All (HasRow count) (view_rows RowMajor view)

@@ -1,5 +1,5 @@
--- Calls of a closure at one place after another, where no place is listed twice, and what they leave at the indices of a view.
-use Rattle.std.proofs.Common.{◌≡◌, ℕ, suc, ◌<◌, ℤ, pos, negsuc, Option, Some, None, List, [], ◌∷◌, length, get_or, set, map, refl, sym, ap}
+-- What calls of a closure at one place after another leave at the indices of a view, where no place is listed twice.
+use Rattle.std.proofs.Common.{◌≡◌, ℤ, pos, Option, Some, None, List, [], ◌∷◌, length, map, refl, sym, ap}
 use Rattle.std.proofs.Common.{subst, ◌∙◌, arith}
 use Rattle.std.specs.Prelude.{zip}
 use Rattle.std.specs.Iterator.{CallableAtEachTurn}
@@ -10,45 +10,12 @@ use Rattle.std.proofs.lemmas.Simd.{map-map}
 use Rattle.ndarray_layout.specs.declared.Order.TheVariants.{RowMajor}
 use Rattle.ndarray_layout.specs.Indices.{indices_in}
 use Rattle.ndarray_layout.specs.View.{view_places}
-use Rattle.ndarray_layout.proofs.laws.Lists.{map_same}
 use Rattle.nd_lent.specs.ArrayViewMut.{HasItemsOf, KeepsSpare}
 use Rattle.nd_lent.specs.Mapped.{Makes, gives, RunsOver, row_major_items}
 use Rattle.nd_lent.specs.Items.{ArrayValue, item_at, item_at_place}
 use Rattle.nd_lent.specs.Written.{HasRun}
-use Rattle.nd_lent.proofs.laws.Lists.{other_default, set_other, set_same}
-use Rattle.nd_lent.proofs.Sets.{Distinct, alone, has_items}
+use Rattle.nd_lent.proofs.Sets.{has_items}
 use Rattle.nd_lent.proofs.laws.IndexItems.{items_in_order}
-
--- ---- one call after another
-pub none_run : {F X Y : Type 0} {call : F → X → Y → F → Type 0} {f : F} {stored : List Y} → HasRun call f [] [] stored stored
-none_run {f = f} = record { ran = record { last = f; calls = refl }; others = λ place spared. refl }
-
-module _ {place : ℕ} {left others : List ℤ} (first : left ≡ pos place ∷ others) where
-  -- once the calls at the others are made, those at all are
-  pub first_run : {F X Y : Type 0} {call : F → X → Y → F → Type 0} {f next : F} {given : List (Option X)} {old new : List Y} (x : X) (y : Y)
-      → call f x y next → place < length old → Distinct left → HasRun call next others given (set old place y) new
-      → HasRun call f left (Some x ∷ given) old new
-  first_run {call = call} {f} {next} {given} {old} {new} x y called below distinct more =
-      let made : item_at_place new (pos place) ≡ Some y = more.others place (alone first distinct) ∙ set_same old place below in
-      subst (λ places. HasRun call f places (Some x ∷ given) old new) (sym first) (record {
-        ran = record {
-          last = more.ran.last;
-          calls = (next, subst (λ item. Makes call f (Some x, item) next) (sym made) called, more.ran.calls);
-        };
-        others = λ other spared.
-            more.others other (λ here. spared (suc here.0, omega (arith, here.1), here.2))
-            ∙ set_other old place y other (λ same. spared (0, omega arith, ap pos (sym same)));
-      })
-
-  -- the items at the others are as before
-  pub others_same : {Y : Type 0} (old : List Y) (y : Y) → Distinct left
-      → map (item_at_place (set old place y)) others ≡ map (item_at_place old) others
-  others_same old y distinct = map_same (item_at_place (set old place y)) (item_at_place old) others (λ k d below.
-      apart (get_or others k d) (λ same. alone first distinct (k, below, other_default others k (pos place) d below ∙ same)))
-    where
-      apart : (z : ℤ) → (z ≡ pos place → ⊥) → item_at_place (set old place y) z ≡ item_at_place old z
-      apart (pos other) elsewhere = set_other old place y other (λ same. elsewhere (ap pos same))
-      apart (negsuc below) elsewhere = refl
 
 -- ---- what calls make that act as a function does
 acted : {F X Y : Type 0} (call : F → X → Y → F → Type 0) {f : F} (h : X → Y)

@@ -1,6 +1,5 @@
 -- Items that are set at one place after another, where no place is listed twice, and what that leaves at the indices of a view.
-use Rattle.std.proofs.Common.{◌≡◌, ◌≢◌, ℕ, suc, ℤ, pos, negsuc, Option, Some, List, ◌∷◌, length, get_or, map, refl, sym, ap, subst, ◌∙◌}
-use Rattle.std.proofs.Common.{arith}
+use Rattle.std.proofs.Common.{◌≡◌, ◌≢◌, ℕ, ℤ, pos, negsuc, Option, Some, List, length, get_or, map, refl, sym, ap, subst, ◌∙◌}
 use Rattle.std.specs.List.{All, AllPairs, Contains}
 use Rattle.std.proofs.lemmas.Bool.{cond-true}
 use Rattle.std.proofs.lemmas.List.{get_or-map}
@@ -21,17 +20,6 @@ use Rattle.nd_lent.proofs.laws.ItemPlaces.{are_in_bounds}
 
 abbrev pub Distinct : List ℤ → Type 0
 Distinct places = AllPairs (λ one other. one ≢ other) places
-
--- ---- one place after another
-module _ {place : ℕ} {left others : List ℤ} (first : left ≡ pos place ∷ others) where
-  pub others_distinct : Distinct left → Distinct others
-  others_distinct distinct = λ i j d earlier below.
-      subst Distinct first distinct (suc i) (suc j) d (omega (arith, earlier)) (omega (arith, below))
-
-  -- the first place is none of the others
-  pub alone : Distinct left → Contains others (pos place) → ⊥
-  alone distinct (k, below, same) =
-      subst Distinct first distinct 0 (suc k) (pos place) (omega arith) (omega (arith, below)) (sym same)
 
 -- ---- what stands at an index
 -- what two functions make of a list is the same at each of its items

@@ -26,7 +26,7 @@ use Rattle.nd_lent.specs.private.Pieces.{AreRowsApart}
 use Rattle.nd_lent.proofs.laws.Faults.{slices_fit}
 use Rattle.nd_lent.proofs.laws.SlicePlaces.{slice_places, slices_distinct}
 use Rattle.nd_lent.proofs.ContiguousRows.{AreContiguous, rows_apart, rows_within, view_contiguous}
-use Rattle.nd_lent.proofs.laws.RowItems.{places_of}
+use Rattle.nd_lent.specs.LentRow.{places_of}
 
 -- ---- lists of lists
 -- two that are made of equal lists are equal

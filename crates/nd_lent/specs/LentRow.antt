@@ -1,5 +1,5 @@
 -- What a contract sees of a row of items that are lent.
-use Rattle.std.specs.Prelude.{◌≡◌, ℕ, ◌<◌, ◌||◌, ◌^◌, pos, negsuc, Bool, true, false, Option, Some, List, [], ◌∷◌, map, nat_le, refl}
+use Rattle.std.specs.Prelude.{◌≡◌, ℕ, ℤ, ◌<◌, ◌||◌, ◌^◌, pos, negsuc, Bool, true, false, Option, Some, List, [], ◌∷◌, map, nat_le, refl}
 use Rattle.std.specs.List.{All, flat_map}
 use Rattle.std.specs.Ordering.{int_eq}
 use Rattle.std.proofs.Math.Dec.{lt→ltb}
@@ -14,9 +14,13 @@ pub record RowValue (T : Type 0) : Type 0 where
   pub items : List T
   pub row : Row
 
--- the items of a row, one after another
+-- the places of a row, one after another
+abbrev pub places_of : Row → List ℤ
+places_of row = row_places row.start row.stride row.len
+
+-- its items
 abbrev pub row_items : {T : Type 0} → RowValue T → List (Option T)
-row_items value = map (item_at_place value.items) (row_places value.row.start value.row.stride value.row.len)
+row_items value = map (item_at_place value.items) (places_of value.row)
 
 -- those of rows, one row after another
 abbrev pub rows_items : {T : Type 0} → List (RowValue T) → List (Option T)

@@ -18,7 +18,7 @@ mod totals;
 
 pub use iterating::Iter;
 use ndarray_layout::{Lengths, NdIndex, Strided};
-pub(crate) use rows::is_contiguous;
+pub(crate) use rows::{is_contiguous, place_in_row};
 pub use rows::{LentRow, LentRows};
 use std::alloc::{AllocError, Global};
 use std::marker::Model;

@@ -17,7 +17,7 @@ use Rattle.ndarray_layout.proofs.laws.View.{length-view_places, places_lie_withi
 use Rattle.nd_lent.specs.Items.{item_at_place}
 use Rattle.nd_owned.specs.private.Written.{AreInBounds}
 use Rattle.nd_owned.proofs.Placed.{AreBoth}
-use Rattle.nd_lent.proofs.laws.RowItems.{places_of}
+use Rattle.nd_lent.specs.LentRow.{places_of}
 
 -- places that are neighbours are one row
 pub places_of_one_row : (view : View) → LiesInOrder RowMajor view.shape view.strides

@@ -13,8 +13,8 @@ mod totals;
 use crate::memory::AllocError;
 use crate::ndarray_layout::{Lengths, NdIndex, Strided};
 pub use iterating::Iter;
-pub(crate) use rows::is_contiguous;
 pub use rows::{LentRow, LentRows};
+pub(crate) use rows::{is_contiguous, place_in_row};
 pub use totals::Unsigned;
 
 /// Items of any type that are kept elsewhere and lent, with a view that has a place among them for each index. Two indices

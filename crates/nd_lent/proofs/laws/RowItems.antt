@@ -6,16 +6,12 @@ use Rattle.std.specs.Prelude.{slice_get}
 use Rattle.std.proofs.lemmas.Bool.{eq-eqb}
 use Rattle.std.proofs.lemmas.Int.{ints}
 use Rattle.ndarray_layout.specs.declared.Order.TheVariants.{RowMajor}
-use Rattle.ndarray_layout.specs.declared.Row.{Row}
 use Rattle.ndarray_layout.specs.Bounds.{IsInBounds}
 use Rattle.ndarray_layout.specs.Rows.{row_at, row_places, slower_view, view_rows}
 use Rattle.ndarray_layout.specs.Size.{size}
 use Rattle.ndarray_layout.specs.View.{View, view_places}
 use Rattle.ndarray_layout.proofs.laws.Rows.{get_or-row_places, length-row_places}
 use Rattle.nd_lent.specs.Items.{item_at_place}
-
-abbrev pub places_of : Row → List ℤ
-places_of row = row_places row.start row.stride row.len
 
 -- without an index there is none
 pub no_rows : (view : View) → size view.shape ≡ 0 → view_rows RowMajor view ≡ []

@@ -36,7 +36,7 @@ impl<'a, T> Model for LentRow<'a, T> {
 
 /// The place of a coordinate of a row. The caller ensures that neither it nor the first place is past an `isize`.
 #[inline(always)]
-fn place_in_row(row: Row, coordinate: usize) -> usize
+pub(crate) fn place_in_row(row: Row, coordinate: usize) -> usize
     requires first { row.start < 2 ^ 63 }
     requires small { coordinate < 2 ^ 63 }
     requires in_bounds { IsInBounds (2 ^ 63) (pos row.start +ℤ (pos coordinate *ℤ row.stride)) }

@@ -1,52 +1,165 @@
 //! Calls of a closure at all items of an array.
 ghost use Rattle.std.specs.Fn.{CalledAt, CalledAtMut};
 ghost use Rattle.std.specs.Iterator.{ActsAsAt, CallableOnAllAt};
-ghost use Rattle.std.specs.List.{All, AllPairs};
+ghost use Rattle.std.specs.List.{All, AllPairs, AllZip};
 ghost use Rattle.std.specs.Option.{option_map};
-ghost use Rattle.std.specs.Prelude.{◌≡◌, ◌≢◌, ◌↔◌, IsOk, OnErr, OnOk, Some, length, map};
+ghost use Rattle.std.specs.Prelude.{◌≡◌, ◌≢◌, ◌↔◌, pos, IsOk, OnErr, OnOk, Some, length, map};
 ghost use Rattle.std.specs.Result.{result_err};
 ghost use Rattle.ndarray_layout.specs.declared.ErrorKind.TheVariants.{IncompatibleShape};
-ghost use Rattle.ndarray_layout.specs.Bounds.{IsInBounds};
 ghost use Rattle.nd_lent.specs.ArrayViewMut.{HasItemsOf, KeepsSpare};
 ghost use Rattle.nd_lent.specs.Mapped.{ActsAsAtMut, CallableOnEachMut, RunsOver, gives, row_major_items};
 ghost use Rattle.nd_lent.specs.Items.{item_at, item_at_place};
+ghost use Rattle.ndarray_layout.specs.Rows.{row_places, rows_places};
+ghost use Rattle.nd_lent.specs.LentRow.{HasRow, places_of, row_items, rows_items};
 ghost use Rattle.nd_lent.specs.Written.{HasRun};
+ghost use Rattle.nd_lent.specs.private.RunTo.{HasRunTo};
 
-use crate::array_view::{ArrayView, Iter};
+use crate::array_view::{ArrayView, LentRow, LentRows, is_contiguous, place_in_row};
 use crate::array_view_mut::ArrayViewMut;
-use ndarray_layout::{ErrorKind, Lengths, Order, Places, ShapeError, from_kind};
+use ndarray_layout::{ErrorKind, Lengths, Order, Row, Rows, ShapeError, from_kind};
 
-/// Calls a closure at the item of each of these places, one after another.
-fn map_places<T, F: FnMut(&mut T)>(stored: &mut [T], places: Places<'_>, mut f: F)
-    requires in_bounds { All (IsInBounds (length stored.old)) places }
-    requires distinct { AllPairs (λ one other. one ≢ other) places }
-    requires callable { CallableOnEachMut F.FnMut (map (item_at_place stored.old) places) f }
-    ensures { HasRun (λ p x y q. CalledAtMut F.FnMut p x tt q y) f places.entry
-        (map (item_at_place stored.old) places.entry) stored.old stored.new }
+/// Calls a closure at each item of a slice, one after another, and hands it back.
+#[inline(always)]
+fn map_slice<T, F: FnMut(&mut T)>(items: &mut [T], mut f: F) -> F
+    requires { CallableOnEachMut F.FnMut (map Some items.old) f }
+    ensures { HasRunTo (λ p x y q. CalledAtMut F.FnMut p x tt q y) f
+        (row_places 0 (pos 1) (length items.old)) (map Some items.old) items.old items.new result }
 {
-    for place in places {
+    for item in items.iter_mut() {
+        f(item);
+    }
+    f
+}
+
+/// Calls a closure at the item of each place of a row, one after another, and hands it back.
+#[inline(always)]
+fn map_places<T, F: FnMut(&mut T)>(stored: &mut [T], row: Row, mut f: F) -> F
+    requires row { HasRow (length stored.old) row }
+    requires distinct { AllPairs (λ one other. one ≢ other) (places_of row) }
+    requires callable { CallableOnEachMut F.FnMut (map (item_at_place stored.old) (places_of row)) f }
+    ensures { HasRunTo (λ p x y q. CalledAtMut F.FnMut p x tt q y) f (places_of row)
+        (map (item_at_place stored.old) (places_of row)) stored.old stored.new result }
+{
+    for coordinate in 0..row.len {
+        let place = place_in_row(row, coordinate);
         f(&mut stored[place]);
+    }
+    f
+}
+
+/// Calls a closure at each item of a row, one after another, and hands it back.
+#[inline(always)]
+fn map_row<T, F: FnMut(&mut T)>(stored: &mut [T], row: Row, f: F) -> F
+    requires row { HasRow (length stored.old) row }
+    requires distinct { AllPairs (λ one other. one ≢ other) (places_of row) }
+    requires callable { CallableOnEachMut F.FnMut (map (item_at_place stored.old) (places_of row)) f }
+    ensures { HasRunTo (λ p x y q. CalledAtMut F.FnMut p x tt q y) f (places_of row)
+        (map (item_at_place stored.old) (places_of row)) stored.old stored.new result }
+{
+    if !is_contiguous(row) {
+        return map_places(stored, row, f);
+    }
+    let (_before, others) = stored.split_at_mut(row.start);
+    let (these, _after) = others.split_at_mut(row.len);
+    map_slice(these, f)
+}
+
+/// Calls a closure at each item of these rows, one after another.
+#[inline(always)]
+fn map_rows<T, F: FnMut(&mut T)>(stored: &mut [T], rows: Rows<'_>, mut f: F)
+    requires rows { All (HasRow (length stored.old)) rows }
+    requires distinct { AllPairs (λ one other. one ≢ other) (rows_places rows) }
+    requires callable { CallableOnEachMut F.FnMut (map (item_at_place stored.old) (rows_places rows)) f }
+    ensures { HasRun (λ p x y q. CalledAtMut F.FnMut p x tt q y) f (rows_places rows.entry)
+        (map (item_at_place stored.old) (rows_places rows.entry)) stored.old stored.new }
+{
+    for row in rows {
+        f = map_row(stored, row, f);
     }
 }
 
-/// Writes at each of these places what a closure makes of the next item.
-fn write_mapped<T, U: Drop, F: FnMut(&T) -> U>(
+/// Writes at each item of a slice what a closure makes of the item beside it, and hands the closure back.
+#[inline(always)]
+fn write_slice<T, U: Drop, F: FnMut(&T) -> U>(to: &mut [U], items: &[T], mut f: F) -> F
+    requires count { length items.now ≡ length to.old }
+    requires callable { CallableOnAllAt gives F.FnMut (map Some items.now) f }
+    ensures { HasRunTo (λ p x y q. CalledAt F.FnMut p x y q) f
+        (row_places 0 (pos 1) (length to.old)) (map Some items.now) to.old to.new result }
+{
+    // (with one count for both no item needs a check of its bounds)
+    let beside = &items[..to.len()];
+    for (index, place) in to.iter_mut().enumerate() {
+        *place = f(&beside[index]);
+    }
+    f
+}
+
+/// Writes at each place of a row what a closure makes of the item of another row beside it, and hands the closure back.
+#[inline(always)]
+fn write_places<T, U: Drop, F: FnMut(&T) -> U>(
     stored: &mut [U],
-    places: Places<'_>,
-    items: Iter<'_, T>,
+    row: Row,
+    source: &LentRow<'_, T>,
+    mut f: F,
+) -> F
+    requires row { HasRow (length stored.old) row }
+    requires distinct { AllPairs (λ one other. one ≢ other) (places_of row) }
+    requires count { row.len ≡ source.now.row.len }
+    requires callable { CallableOnAllAt gives F.FnMut (row_items source.now) f }
+    ensures { HasRunTo (λ p x y q. CalledAt F.FnMut p x y q) f (places_of row)
+        (row_items source.now) stored.old stored.new result }
+{
+    for coordinate in 0..row.len {
+        let place = place_in_row(row, coordinate);
+        stored[place] = f(source.item(coordinate));
+    }
+    f
+}
+
+/// Writes at each place of a row what a closure makes of the item of another row beside it, and hands the closure back.
+#[inline(always)]
+fn write_row<T, U: Drop, F: FnMut(&T) -> U>(
+    stored: &mut [U],
+    row: Row,
+    source: &LentRow<'_, T>,
+    f: F,
+) -> F
+    requires row { HasRow (length stored.old) row }
+    requires distinct { AllPairs (λ one other. one ≢ other) (places_of row) }
+    requires count { row.len ≡ source.now.row.len }
+    requires callable { CallableOnAllAt gives F.FnMut (row_items source.now) f }
+    ensures { HasRunTo (λ p x y q. CalledAt F.FnMut p x y q) f (places_of row)
+        (row_items source.now) stored.old stored.new result }
+{
+    match source.as_slice() {
+        Some(items) if is_contiguous(row) => {
+            let (_before, others) = stored.split_at_mut(row.start);
+            let (these, _after) = others.split_at_mut(row.len);
+            write_slice(these, items, f)
+        },
+        _ => write_places(stored, row, source, f),
+    }
+}
+
+/// Writes at each place of these rows what a closure makes of the next item of other rows.
+#[inline(always)]
+fn write_rows<T, U: Drop, F: FnMut(&T) -> U>(
+    stored: &mut [U],
+    rows: Rows<'_>,
+    sources: LentRows<'_, T>,
     mut f: F,
 )
-    requires within { All (IsInBounds (length stored.old)) places }
-    requires count { length items ≡ length places }
-    requires callable { CallableOnAllAt gives F.FnMut items f }
-    ensures { AllPairs (λ one other. one ≢ other) places.entry →
-        HasRun (λ p x y q. CalledAt F.FnMut p x y q) f places.entry
-        items.entry stored.old stored.new }
+    requires rows { All (HasRow (length stored.old)) rows }
+    requires count { AllZip (λ row source. row.len ≡ source.row.len) rows sources }
+    requires distinct { AllPairs (λ one other. one ≢ other) (rows_places rows) }
+    requires callable { CallableOnAllAt gives F.FnMut (rows_items sources) f }
+    ensures { HasRun (λ p x y q. CalledAt F.FnMut p x y q) f (rows_places rows.entry)
+        (rows_items sources.entry) stored.old stored.new }
 {
-    let mut items = items;
-    for place in places {
-        if let Some(item) = items.next() {
-            stored[place] = f(item);
+    let mut sources = sources;
+    for row in rows {
+        if let Some(source) = sources.next() {
+            f = write_row(stored, row, &source, f);
         }
     }
 }
@@ -56,7 +169,8 @@ impl<'a, T: Drop, D: Lengths> ArrayViewMut<'a, T, D> {
 
     /// Calls a closure at the item of each index, in row-major order, to change it in place. Spare items are unchanged.
     ///
-    /// Takes no memory, and for each index the time of its place (`Strided::iter_places`) and of the call.
+    /// Takes no memory. A row whose items follow one another is a loop over a slice; in others each index takes the time of its
+    /// place.
     ///
     /// `|item| *item = item.wrapping_mul(2)` at `a`: 14 16 9. ndarray's `map_inplace`.
     pub fn map_in_place<F: FnMut(&mut T)>(&mut self, f: F)
@@ -70,8 +184,8 @@ impl<'a, T: Drop, D: Lengths> ArrayViewMut<'a, T, D> {
         ensures spare { KeepsSpare (array_of self.old) (array_of self.new) }
         ensures same_reference { self.new.items.ghost_name ≡ self.old.items.ghost_name }
     {
-        let places = self.view.iter_places(Order::RowMajor);
-        map_places(self.items, places, f);
+        let rows = self.view.rows(Order::RowMajor);
+        map_rows(self.items, rows, f);
     }
 }
 
@@ -81,7 +195,8 @@ impl<T, D: Lengths> ArrayView<'_, T, D> {
     /// Writes at each index of another array of the same shape what a closure makes of the item here, in row-major order. Spare
     /// items are unchanged.
     ///
-    /// Takes no memory, and for each index the time of its place in both and of the call.
+    /// Takes no memory. Two rows whose items follow one another are a loop over two slices; in others each index takes the time
+    /// of its place in both.
     ///
     /// # Errors
     ///
@@ -111,8 +226,8 @@ impl<T, D: Lengths> ArrayView<'_, T, D> {
         if !to.view.dim().equal(self.dim()) {
             return Err(from_kind(ErrorKind::IncompatibleShape));
         }
-        let places = to.view.iter_places(Order::RowMajor);
-        write_mapped(to.items, places, self.iter(), f);
+        let rows = to.view.rows(Order::RowMajor);
+        write_rows(to.items, rows, self.rows(), f);
         Ok(())
     }
 }

@@ -14,7 +14,7 @@ impl<'a, T: Copy, D: Lengths> ArrayViewMut<'a, T, D> {
 
     /// Writes an item at each index. Spare items are unchanged.
     ///
-    /// Takes no memory, and for each index the time of its place (`Strided::iter_places`) and of a copy.
+    /// Takes no memory, and the time of `map_in_place`.
     ///
     /// 5 to `a`: 5 5 9. ndarray's `fill`.
     pub fn fill(&mut self, item: T)
@@ -33,7 +33,7 @@ impl<'a, T: Copy, D: Lengths> ArrayViewMut<'a, T, D> {
 
     /// Writes at each index a copy of the item that another array of the same shape has there. Spare items are unchanged.
     ///
-    /// Takes no memory, and for each index the time of its place in both and of a copy.
+    /// Takes no memory, and the time of `map_into`.
     ///
     /// # Errors
     ///

@@ -31,7 +31,7 @@ pub struct LentRow<'a, T> {
 /// [How to read it](crate::contracts)
 /// </details>
 #[inline(always)]
-fn place_in_row(row: Row, coordinate: usize) -> usize {
+pub(crate) fn place_in_row(row: Row, coordinate: usize) -> usize {
     (row.start as isize + coordinate as isize * row.stride) as usize
 }
 

@@ -12,7 +12,7 @@ use Rattle.ndarray_layout.proofs.laws.View.{length-view_places}
 use Rattle.nd_lent.specs.Items.{item_at_place}
 use Rattle.nd_owned.specs.private.Written.{AreInBounds}
 use Rattle.nd_owned.proofs.ViewRows.{length_left, places_in_bounds, read_first, rows_in_bounds}
-use Rattle.nd_lent.proofs.laws.RowItems.{places_of}
+use Rattle.nd_lent.specs.LentRow.{places_of}
 use Rattle.nd_owned.proofs.rows.read_view.Goals as goal
 
 pub returns-in_err-items-clause-memory : goal.returns-in_err-items-clause-memory

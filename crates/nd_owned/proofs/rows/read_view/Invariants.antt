@@ -6,7 +6,7 @@ use Rattle.ndarray_layout.specs.Rows.{rows_places}
 use Rattle.ndarray_layout.specs.View.{view_places}
 use Rattle.nd_lent.specs.Items.{item_at_place}
 use Rattle.nd_owned.specs.private.Written.{AreInBounds}
-use Rattle.nd_lent.proofs.laws.RowItems.{places_of}
+use Rattle.nd_lent.specs.LentRow.{places_of}
 use Rattle.nd_owned.proofs.rows.read_view.Given as goal
 
 abbrev pub invariant-loop-row : goal.invariant-loop-row

@@ -10,7 +10,7 @@ use Rattle.ndarray_layout.proofs.laws.View.{length-view_places}
 use Rattle.nd_owned.specs.private.Written.{AreInBounds, HasWritten}
 use Rattle.nd_owned.proofs.Placed.{first_distinct, none_written, parts_written, second_distinct}
 use Rattle.nd_owned.proofs.ViewRows.{first_and_others, length_left, length_of_one_row, places_in_bounds, rows_in_bounds}
-use Rattle.nd_lent.proofs.laws.RowItems.{places_of}
+use Rattle.nd_lent.specs.LentRow.{places_of}
 use Rattle.nd_owned.proofs.rows.write_view.Goals as goal
 
 pub write_row-requires : goal.write_row-requires

@@ -5,7 +5,7 @@ use Rattle.ndarray_layout.specs.declared.Order.TheVariants.{RowMajor}
 use Rattle.ndarray_layout.specs.Rows.{rows_places}
 use Rattle.ndarray_layout.specs.View.{view_places}
 use Rattle.nd_owned.specs.private.Written.{AreInBounds, HasWritten}
-use Rattle.nd_lent.proofs.laws.RowItems.{places_of}
+use Rattle.nd_lent.specs.LentRow.{places_of}
 use Rattle.nd_owned.proofs.rows.write_view.Given as goal
 
 abbrev pub invariant-loop-row : goal.invariant-loop-row

@@ -1,82 +1,92 @@
--- One more call is made.
-use Rattle.std.proofs.Common.{rules, ◌≡◌, ◌<◌, Some, ◌∷◌, length, map, set, refl, ap, subst, sym, ◌∙◌, arith}
+-- One more call is made, at the item of the next coordinate.
+use Rattle.std.proofs.Common.{rules, ◌<◌, pos, Some, length, map, refl, sym, ap, subst, ◌∙◌, arith}
 use Rattle.std.specs.Fn.{CalledAtMut}
-use Rattle.std.specs.List.{All}
+use Rattle.std.proofs.lemmas.List.{length-map}
+use Rattle.std.proofs.lemmas.Option.{slice_get-get_or}
 use Rattle.ndarray_layout.specs.Bounds.{IsInBounds}
-use Rattle.nd_lent.specs.Mapped.{CallableOnEachMut}
+use Rattle.ndarray_layout.proofs.laws.Rows.{get_or-row_places, length-row_places}
+use Rattle.nd_lent.specs.LentRow.{places_of}
 use Rattle.nd_lent.specs.Items.{item_at_place}
-use Rattle.nd_lent.specs.Written.{HasRun}
-use Rattle.nd_lent.proofs.laws.ItemPlaces.{first_in_bounds, first_item}
-use Rattle.nd_lent.proofs.Runs.{callable_at_first, callable_at_others, first_run, none_run, others_same}
-use Rattle.nd_lent.proofs.Sets.{Distinct, others_distinct}
+use Rattle.nd_lent.specs.Mapped.{TakesAtMut}
+use Rattle.nd_lent.proofs.RowRuns.{IsNext, all_run, begins, next_in_place, one_more, takes_next}
+use Rattle.nd_lent.proofs.RowsLent.{place_of_coordinate}
+use Rattle.nd_lent.proofs.array_view_mut.mapping.map_places.Given.{Over}
 use Rattle.nd_lent.proofs.array_view_mut.mapping.map_places.Goals as goal
+use Rattle.nd_lent.proofs.array_view_mut.mapping.map_places.Goals.{After-index-stored-place, After-place_in_row-place}
 
-pub loop-place-init : goal.loop-place-init
-loop-place-init g c =
-    let stored = c.args.stored.now in
-    let same = c.into_iter-place-iterator.ensures.into_iter_gives in
-    record {
-      callable = subst (λ places. CallableOnEachMut g.F.FnMut (map (item_at_place stored) places) c.args.f) (sym same) c.requires.callable;
-      in_bounds = subst (All (IsInBounds (length stored))) (sym same) c.requires.in_bounds;
-      distinct = subst Distinct (sym same) c.requires.distinct;
-      run = λ new run.
-          subst (λ places. HasRun (λ p x y q. CalledAtMut g.F.FnMut p x tt q y) c.args.f places
-          (map (item_at_place stored) places) stored new) same run;
-    }
+pub loop-coordinate-init : goal.loop-coordinate-init
+loop-coordinate-init g c =
+    let places = places_of c.args.row in
+    begins (λ p x y q. CalledAtMut g.F.FnMut p x tt q y) (TakesAtMut g.F.FnMut) c.args.f places
+    (map (item_at_place c.args.stored.now) places) c.args.stored.now c.requires.callable
+
+pub place_in_row-place-requires-clause-first : goal.place_in_row-place-requires-clause-first
+place_in_row-place-requires-clause-first g c =
+    (place_of_coordinate c.args.row c.loop-coordinate.coordinate c.requires.row c.loop-coordinate-test.true).first
+
+pub place_in_row-place-requires-clause-small : goal.place_in_row-place-requires-clause-small
+place_in_row-place-requires-clause-small g c =
+    (place_of_coordinate c.args.row c.loop-coordinate.coordinate c.requires.row c.loop-coordinate-test.true).small
+
+pub place_in_row-place-requires-clause-in_bounds : goal.place_in_row-place-requires-clause-in_bounds
+place_in_row-place-requires-clause-in_bounds g c =
+    (place_of_coordinate c.args.row c.loop-coordinate.coordinate c.requires.row c.loop-coordinate-test.true).fits
+
+within : (g : Over) (c : After-place_in_row-place g) → c.place_in_row-place.result < length c.args.stored.now
+within g c =
+    subst (IsInBounds (length c.args.stored.now)) (sym c.place_in_row-place.ensures)
+    (place_of_coordinate c.args.row c.loop-coordinate.coordinate c.requires.row c.loop-coordinate-test.true).within
+
+pub bounds-stored-place : goal.bounds-stored-place
+bounds-stored-place g c = omega (arith, within g c.before, c.loop-coordinate.auto.stored)
 
 pub offset_bounds-stored-place : goal.offset_bounds-stored-place
 offset_bounds-stored-place g c =
-    let under : c.in-Some.place < length c.args.stored.now =
-    (first_in_bounds c.in-Some.ensures.steps c.loop-place.invariant.in_bounds).first in
+    let under = within g c.before in
     search rules
 
-pub bounds-stored-place : goal.bounds-stored-place
-bounds-stored-place g c =
-    let under = (first_in_bounds c.in-Some.ensures.steps c.loop-place.invariant.in_bounds).first in
-    omega (arith, under, c.loop-place.auto.stored)
+abbrev call : (g : Over) → g.row.F.Denot → g.row.T.Denot → g.row.T.Denot → g.row.F.Denot → Type 0
+call g = λ p x y q. CalledAtMut g.F.FnMut p x tt q y
+
+next : (g : Over) (c : After-index-stored-place g) → IsNext (call g) (TakesAtMut g.F.FnMut) c.args.f (places_of c.args.row)
+    (map (item_at_place c.args.stored.now) (places_of c.args.row)) c.args.stored.now c.loop-coordinate.coordinate
+    c.place_in_row-place.result c.index-stored-place.result
+next g c =
+    let row = c.args.row in
+    let under = within g c.before.before in
+    let place = c.place_in_row-place.result in
+    next_in_place g.F.FnMut c.args.f (places_of row) c.args.stored.now c.requires.distinct
+    (omega (arith, c.loop-coordinate-test.true, length-row_places row.start row.stride row.len))
+    (get_or-row_places row.start row.stride row.len c.loop-coordinate.coordinate (pos place) c.loop-coordinate-test.true
+    ∙ sym c.place_in_row-place.ensures) under
+    (slice_get-get_or c.loop-coordinate.stored place c.index-stored-place.result (omega (arith, under, c.loop-coordinate.auto.stored))
+    ∙ ap Some (sym c.index-stored-place.is)) c.loop-coordinate.invariant
 
 pub f-requires : goal.f-requires
 f-requires g c =
-    let stored = c.loop-place.stored in
-    let item = c.index-stored-place in
-    let steps = c.in-Some.ensures.steps in
-    let first = first_in_bounds steps c.loop-place.invariant.in_bounds in
-    let under : c.in-Some.place < length stored = omega (arith, first.first, c.loop-place.auto.stored) in
-    let takes = callable_at_first (first_item stored item.result steps under) c.loop-place.invariant.callable in
+    let stored = c.args.stored.now in
+    let places = places_of c.args.row in
+    let takes = takes_next (call g) (TakesAtMut g.F.FnMut) c.args.f places (map (item_at_place stored) places) stored
+    (length-map places (item_at_place stored)) c.requires.distinct (next g (goal.at.f-requires g c).After-index-stored-place)
+    c.loop-coordinate.invariant in
     search (rules, takes)
 
-pub loop-place-preserved : goal.loop-place-preserved
-loop-place-preserved g c =
-    let stored = c.loop-place.stored in
-    let item = c.index-stored-place in
-    let left = c.f.new.arg2 in
-    let steps = c.in-Some.ensures.steps in
-    let first = first_in_bounds steps c.loop-place.invariant.in_bounds in
-    let apart = c.loop-place.invariant.distinct in
-    let under : c.in-Some.place < length stored = omega (arith, first.first, c.loop-place.auto.stored) in
-    let called : CalledAtMut g.F.FnMut c.loop-place.f item.result tt c.f.new.self left =
-    record { shown = _; shows = sym item.is; left = _; called = c.f.ensures; leaves = refl } in
-    let given : map (item_at_place stored) c.loop-place.place-iterator ≡ Some item.result ∷ map (item_at_place stored) c.next.new.self =
-    first_item stored item.result steps under ∙ ap (λ x. Some x ∷ map (item_at_place stored) c.next.new.self) (sym item.is) in
-    let others = others_same steps stored left apart in
-    record {
-      callable = subst (λ items. CallableOnEachMut g.F.FnMut items c.f.new.self) (sym others)
-          (callable_at_others given c.loop-place.invariant.callable c.f.new.self (left, called));
-      in_bounds = first.left;
-      distinct = others_distinct steps apart;
-      run = λ new more.
-          let rest = subst (λ items. HasRun (λ p x y q. CalledAtMut g.F.FnMut p x tt q y) c.f.new.self c.next.new.self items
-          (set stored c.in-Some.place left) new) others more in
-          c.loop-place.invariant.run new
-          (subst (λ items. HasRun (λ p x y q. CalledAtMut g.F.FnMut p x tt q y) c.loop-place.f c.loop-place.place-iterator items stored new)
-          (sym given)
-          (first_run steps item.result left called under apart rest));
-    }
+pub loop-coordinate-preserved : goal.loop-coordinate-preserved
+loop-coordinate-preserved g c =
+    let stored = c.args.stored.now in
+    let places = places_of c.args.row in
+    let called : CalledAtMut g.F.FnMut c.loop-coordinate.f c.index-stored-place.result tt c.f.new.self c.f.new.arg2 =
+    record { shown = _; shows = sym c.index-stored-place.is; left = _; called = c.f.ensures; leaves = refl } in
+    one_more (call g) (TakesAtMut g.F.FnMut) c.args.f places (map (item_at_place stored) places) stored
+    (length-map places (item_at_place stored)) c.requires.distinct
+    (next g (goal.at.loop-coordinate-preserved g c).After-index-stored-place) c.loop-coordinate.invariant c.f.new.arg2
+    c.loop-coordinate.auto.stored called
 
 pub returns : goal.returns
 returns g c =
-    let stored = c.loop-place.stored in
-    c.loop-place.invariant.run stored
-    (subst (λ places. HasRun (λ p x y q. CalledAtMut g.F.FnMut p x tt q y) c.loop-place.f places
-    (map (item_at_place stored) places) stored stored)
-    (sym c.in-None.ensures.steps.0) none_run)
+    let stored = c.args.stored.now in
+    let places = places_of c.args.row in
+    all_run (call g) (TakesAtMut g.F.FnMut) c.args.f places (map (item_at_place stored) places) stored
+    (length-map places (item_at_place stored))
+    (omega (arith, c.loop-coordinate-test.false, length-row_places c.args.row.start c.args.row.stride c.args.row.len))
+    c.loop-coordinate.invariant
