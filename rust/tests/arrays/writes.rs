@@ -1,7 +1,8 @@
 //! Arrays that are lent again, and written by slices and beside others.
 
 use crate::layouts::{Layout, rounds};
-use crate::{NUMBERS, kind, owned, rows, rows_mut, texts};
+use crate::numbers::Numbers;
+use crate::{NUMBERS, kind, of_count, owned, rows, rows_mut, texts};
 use ndarray_layout::ErrorKind::IncompatibleShape;
 use ndarray_layout::{ArrayView, Axis, Ix1, Ix2, IxDyn, LayoutError, OwnedArray, StrideShape, Strides};
 
@@ -117,5 +118,87 @@ fn pairs_of_items_are_the_models() {
         };
         layout.array_mut(&mut items).zip_mut_with(&other.array(&others), write).unwrap();
         assert_eq!((found, items), (pairs, due), "{layout:?} beside {other:?}");
+    });
+}
+
+#[test]
+fn items_that_are_mapped_in_place_are_the_models() {
+    rounds(20_000, 21, |numbers| {
+        let layout = Layout::random(numbers);
+        let mut items: Vec<String> = (0..layout.count).map(|place| place.to_string()).collect();
+        let mut due = items.clone();
+        for (turn, place) in layout.places().into_iter().enumerate() {
+            due[place].push_str(&format!(" at {turn}"));
+        }
+        let mut turn = 0;
+        layout.array_mut(&mut items).map_in_place(|item| {
+            item.push_str(&format!(" at {turn}"));
+            turn += 1;
+        });
+        assert_eq!(items, due, "{layout:?}");
+    });
+}
+
+#[test]
+fn an_array_is_filled_as_the_model() {
+    rounds(10_000, 22, |numbers| {
+        let layout = Layout::random(numbers);
+        let mut items: Vec<usize> = (0..layout.count).collect();
+        let mut due = items.clone();
+        layout.places().into_iter().for_each(|place| due[place] = 1_000);
+        let mut counted = items.clone();
+        layout.array_mut(&mut items).fill(1_000);
+        assert_eq!(items, due, "{layout:?}");
+        of_count!(layout.shape.len(), D => {
+            layout.array_mut(&mut counted).into_dimensionality::<D>().unwrap().fill(1_000);
+        });
+        assert_eq!(counted, due, "{layout:?} of a fixed count of axes");
+    });
+}
+
+/// A layout of the shape of another one, in which indices may share an item.
+fn beside(layout: &Layout, numbers: &mut Numbers) -> Layout {
+    let strides: Vec<isize> = layout.shape.iter().map(|_| numbers.between(-3, 4)).collect();
+    let reach = |sign: isize| -> usize {
+        let steps = strides.iter().zip(&layout.shape).filter(|(stride, _)| **stride * sign > 0);
+        steps.map(|(stride, len)| stride.unsigned_abs() * len.saturating_sub(1)).sum()
+    };
+    let start = reach(-1) + numbers.below(3);
+    Layout { shape: layout.shape.clone(), start, count: start + reach(1) + 1, strides }
+}
+
+#[test]
+fn items_that_are_written_and_compared_beside_others_are_the_models() {
+    rounds(20_000, 23, |numbers| {
+        let layout = Layout::random(numbers);
+        let other = match numbers.below(3) {
+            0 => layout.clone(),
+            _ => beside(&layout, numbers),
+        };
+        let others: Vec<usize> = (0..other.count).collect();
+        let mut items: Vec<usize> = (0..layout.count).collect();
+        let (mut due, mut assigned) = (items.clone(), items.clone());
+        for (turn, (place, from)) in layout.places().into_iter().zip(other.places()).enumerate() {
+            due[place] = 1_000 * turn + from;
+            assigned[place] = from;
+        }
+        let mut turns = 0..;
+        let source = other.array(&others);
+        let made = |item: &usize| 1_000 * turns.next().unwrap() + item;
+        source.map_into(&mut layout.array_mut(&mut items), made).unwrap();
+        assert_eq!(items, due, "{other:?} to {layout:?}");
+        let mut counted = items.clone();
+        of_count!(layout.shape.len(), D => {
+            let source = other.array(&others).into_dimensionality::<D>().unwrap();
+            layout.array_mut(&mut counted).into_dimensionality::<D>().unwrap().assign(&source).unwrap();
+        });
+        layout.array_mut(&mut items).assign(&source).unwrap();
+        layout.places().into_iter().for_each(|place| due[place] = assigned[place]);
+        assert_eq!((&items, counted), (&due, due.clone()), "{other:?} to {layout:?}");
+        assert!(layout.array(&items).eq(&source) && source.eq(&layout.array(&items)), "{layout:?}");
+        if let Some(place) = layout.places().last().copied() {
+            items[place] += 1;
+            assert!(!layout.array(&items).eq(&source) && !source.eq(&layout.array(&items)), "{layout:?}");
+        }
     });
 }
