@@ -74,7 +74,7 @@ def words_in(path, text):
 @functools.cache
 def named_by_the_promise():
     """The words that the calls of the promise name, those of the first call first; and the ghost members that these calls stand on."""
-    section = read(PAGE).partition("\n## The promise\n")[2].partition("\n\nContracts hold")[0]
+    section = read(PAGE).partition("Of the layer as a whole:\n")[2].partition("\n\nSo code above")[0]
     words, ghosts = [], []
     for path, text in map(source_of, re.findall(r"`([\w:]+)`", section)):
         found = [ghost for name in dict.fromkeys(map("".join, MEMBER.findall(text))) for ghost in GHOSTS.get(name, [])]
