@@ -111,8 +111,8 @@ impl Contract {
         out.insert_str(self.start + space.len(), &line);
     }
 
-    /// Writes to the documentation, if there is one, that a trait is sealed, the conditions in words, an example and the clauses, and
-    /// takes from it what only who writes proofs reads. The error is a condition of a public item for which there are no words.
+    /// Writes to the documentation, if there is one, that a trait is sealed, the conditions in words, an example and the clauses, puts
+    /// its errors behind its cost, and takes from it what only who writes proofs reads. The error is a condition of a public item for which there are no words.
     pub fn write_to(&self, out: &mut String, example: &[String], package: &str) -> Result<(), String> {
         let docs = &out[self.docs..self.start];
         if !self.is_documented || !docs.starts_with("///") {
@@ -120,6 +120,7 @@ impl Contract {
         }
         let mut paragraphs = Paragraphs::of(docs, COLUMNS - self.indent.len() - "/// ".len());
         let for_proofs = FOR_PROOFS.iter().filter_map(|words| paragraphs.take(words)).count();
+        let is_moved = paragraphs.errors_last();
         if self.is_sealed {
             paragraphs.push(SEALED);
         }
@@ -142,7 +143,7 @@ impl Contract {
             paragraphs.push_lines(&[&["```text"], &clauses[..], &["```", &page, "</details>"]].concat());
         }
         let has_more = !self.clauses.is_empty() || !example.is_empty();
-        if for_proofs > 0 || self.is_sealed || self.is_indexing || has_more {
+        if for_proofs > 0 || is_moved || self.is_sealed || self.is_indexing || has_more {
             let line = |line: &String| format!("{}/// {line}", self.indent).trim_end().to_string();
             let lines: Vec<String> = paragraphs.lines().iter().map(line).collect();
             out.replace_range(self.docs..self.start, lines.join("\n").trim_start());

@@ -37,6 +37,18 @@ impl Paragraphs {
         })
     }
 
+    /// Puts the section of errors, its heading and one paragraph, behind what follows it, so that cost and example don't stand
+    /// under that heading. Whether something follows it.
+    pub fn errors_last(&mut self) -> bool {
+        self.lines.retain(|lines| !lines.is_empty());
+        let heading = self.lines.iter().position(|lines| lines.iter().eq(["# Errors"]));
+        let Some(heading) = heading.filter(|heading| heading + 2 < self.lines.len()) else {
+            return false;
+        };
+        self.lines[heading..].rotate_left(2);
+        true
+    }
+
     /// Adds a paragraph, broken into lines.
     pub fn push(&mut self, text: &str) {
         self.lines.push(broken(text, self.columns));

@@ -74,13 +74,13 @@ fn read_steps(text: &[u8], number: usize) -> Result<Vec<Step>, ReadError> {
 /// All of it is read before any of it is used: one line that can't be read makes the whole unreadable. The text
 /// of a script is read as that script, whatever its numbers are.
 ///
-/// # Errors
-///
-/// `Unreadable` with the number of the first line that can't be read, or 1 where no line has a word; out of memory.
-///
 /// Takes time and memory in proportion to the length of the input.
 ///
 /// The lines `data 4 owned 4 1` and `slise ..`: `Unreadable(2)`. The project's own.
+///
+/// # Errors
+///
+/// `Unreadable` with the number of the first line that can't be read, or 1 where no line has a word; out of memory.
 ///
 /// <details><summary>Contract (proved)</summary>
 ///

@@ -22,11 +22,11 @@ pub struct IxDynImpl {
 impl IxDynImpl {
     /// The lengths of a slice.
     ///
+    /// Takes time in proportion to the count of lengths. In place of ndarray's `From<&[Ix]>`.
+    ///
     /// # Errors
     ///
     /// Out of memory; never where there are at most 4 lengths.
-    ///
-    /// Takes time in proportion to the count of lengths. In place of ndarray's `From<&[Ix]>`.
     ///
     /// <details><summary>Contract (proved)</summary>
     ///
@@ -54,11 +54,11 @@ impl IxDynImpl {
     ///
     /// `alloc` is there as in every call of this kind.
     ///
+    /// ndarray's `From<Vec<Ix>>`.
+    ///
     /// # Errors
     ///
     /// None: it asks for no memory.
-    ///
-    /// ndarray's `From<Vec<Ix>>`.
     ///
     /// <details><summary>Contract (proved)</summary>
     ///
@@ -92,13 +92,13 @@ impl IxDynImpl {
 
     /// The lengths with a new axis of length 1, which gets the number `i`.
     ///
-    /// # Errors
-    ///
-    /// Out of memory; never where the result has at most 4 lengths.
-    ///
     /// Takes time in proportion to the count of lengths.
     ///
     /// `[2,3]` at 1: `[2,1,3]`. ndarray's `insert`.
+    ///
+    /// # Errors
+    ///
+    /// Out of memory; never where the result has at most 4 lengths.
     ///
     /// # Conditions
     ///
@@ -126,13 +126,13 @@ impl IxDynImpl {
 
     /// The lengths without the axis `i`; of no axes, no axes.
     ///
-    /// # Errors
-    ///
-    /// Out of memory; never where the result has at most 4 lengths.
-    ///
     /// Takes time in proportion to the count of lengths.
     ///
     /// `[2,3]` without 0: `[3]`. ndarray's `remove`.
+    ///
+    /// # Errors
+    ///
+    /// Out of memory; never where the result has at most 4 lengths.
     ///
     /// # Conditions
     ///

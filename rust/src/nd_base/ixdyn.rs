@@ -10,11 +10,11 @@ use core::ops::IndexMut;
 
 /// A shape or an index of as many axes as the slice has items.
 ///
+/// Takes time in proportion to the count of axes. ndarray's `IxDyn(..)`.
+///
 /// # Errors
 ///
 /// Out of memory; never where there are at most 4.
-///
-/// Takes time in proportion to the count of axes. ndarray's `IxDyn(..)`.
 ///
 /// <details><summary>Contract (proved)</summary>
 ///
@@ -47,11 +47,11 @@ impl Dim<IxDynImpl> {
 
     /// `n` axes of length 0.
     ///
+    /// Takes time in proportion to the count of axes. ndarray's `IxDyn::zeros`.
+    ///
     /// # Errors
     ///
     /// Out of memory; never where there are at most 4.
-    ///
-    /// Takes time in proportion to the count of axes. ndarray's `IxDyn::zeros`.
     ///
     /// <details><summary>Contract (proved)</summary>
     ///

@@ -79,11 +79,11 @@ pub trait Lengths:
 
     /// `n` zeros.
     ///
+    /// Takes time in proportion to the count of axes. ndarray's `zeros`.
+    ///
     /// # Errors
     ///
     /// Out of memory; never where the type fixes the count or `n` is at most 4 (`INLINE_AXES`).
-    ///
-    /// Takes time in proportion to the count of axes. ndarray's `zeros`.
     ///
     /// # Conditions
     ///
@@ -105,11 +105,11 @@ pub trait Lengths:
 
     /// The same list in a value of its own.
     ///
+    /// Takes time in proportion to the count of axes. In place of ndarray's `Clone`.
+    ///
     /// # Errors
     ///
     /// Out of memory; never where the type fixes the count or there are at most 4 axes.
-    ///
-    /// Takes time in proportion to the count of axes. In place of ndarray's `Clone`.
     ///
     /// <details><summary>Contract (proved)</summary>
     ///

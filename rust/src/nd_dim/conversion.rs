@@ -15,12 +15,12 @@ pub trait IntoDimension {
 
     /// The dimension of the same list.
     ///
+    /// ndarray's `into_dimension`.
+    ///
     /// # Errors
     ///
     /// Out of memory; never where the type fixes the count or there are at most 4 axes, nor from a
     /// dimension, an `IxDynImpl` or a vector.
-    ///
-    /// ndarray's `into_dimension`.
     ///
     /// <details><summary>Contract (proved)</summary>
     ///
@@ -36,12 +36,12 @@ pub trait IntoDimension {
 
 /// The dimension of a list of lengths, however it is written.
 ///
+/// `[2,3]`, an array: the `Ix2` of 2 and 3. ndarray's `Dim(..)`.
+///
 /// # Errors
 ///
 /// Out of memory; never where the type fixes the count or there are at most 4 axes, nor from a
 /// dimension, an `IxDynImpl` or a vector.
-///
-/// `[2,3]`, an array: the `Ix2` of 2 and 3. ndarray's `Dim(..)`.
 ///
 /// <details><summary>Contract (proved)</summary>
 ///

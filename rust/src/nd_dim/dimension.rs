@@ -66,11 +66,11 @@ pub trait Dimension:
 
     /// The same list, as a dimension of any number of axes.
     ///
+    /// Takes time in proportion to the count of axes. ndarray's `into_dyn`.
+    ///
     /// # Errors
     ///
     /// Out of memory; never where there are at most 4 axes.
-    ///
-    /// Takes time in proportion to the count of axes. ndarray's `into_dyn`.
     ///
     /// <details><summary>Contract (proved)</summary>
     ///
@@ -136,13 +136,13 @@ pub trait Dimension:
     /// The strides in row-major order, in elements: each is the product of the later lengths. All
     /// are 0 where a length is 0.
     ///
-    /// # Errors
-    ///
-    /// Out of memory; never where the type fixes the count or there are at most 4 axes.
-    ///
     /// Takes time in proportion to the count of axes.
     ///
     /// `[2,3,4]`: `[12,4,1]`. ndarray's `default_strides`.
+    ///
+    /// # Errors
+    ///
+    /// Out of memory; never where the type fixes the count or there are at most 4 axes.
     ///
     /// # Conditions
     ///
@@ -169,13 +169,13 @@ pub trait Dimension:
     /// The strides in column-major order, in elements: each is the product of the earlier lengths.
     /// All are 0 where a length is 0.
     ///
-    /// # Errors
-    ///
-    /// Out of memory; never where the type fixes the count or there are at most 4 axes.
-    ///
     /// Takes time in proportion to the count of axes.
     ///
     /// `[2,3,4]`: `[1,2,6]`. ndarray's `fortran_strides`.
+    ///
+    /// # Errors
+    ///
+    /// Out of memory; never where the type fixes the count or there are at most 4 axes.
     ///
     /// # Conditions
     ///
@@ -201,14 +201,14 @@ pub trait Dimension:
 
     /// The first index of the shape, all 0; `None` where a length is 0, so that there is no index.
     ///
+    /// Takes time in proportion to the count of axes.
+    ///
+    /// `[2,3]`: (0,0). ndarray's `first_index`.
+    ///
     /// # Errors
     ///
     /// Out of memory; never where the type fixes the count, where there are at most 4 axes, or
     /// where a length is 0.
-    ///
-    /// Takes time in proportion to the count of axes.
-    ///
-    /// `[2,3]`: (0,0). ndarray's `first_index`.
     ///
     /// <details><summary>Contract (proved)</summary>
     ///
@@ -309,11 +309,11 @@ pub trait Dimension:
 
     /// Zeros, as many as the type fixes; one where it fixes no count.
     ///
+    /// In place of ndarray's `Default`.
+    ///
     /// # Errors
     ///
     /// None: it asks for no memory.
-    ///
-    /// In place of ndarray's `Default`.
     ///
     /// <details><summary>Contract (proved)</summary>
     ///
@@ -483,11 +483,11 @@ pub trait Dimension:
     /// The numbers of the axes in the order of the magnitudes of these strides, the least first;
     /// axes of equal magnitudes are in the order of their numbers.
     ///
+    /// `[3,-1,2]`: `[1,2,0]`. ndarray's `_fastest_varying_stride_order`.
+    ///
     /// # Errors
     ///
     /// Out of memory; never where the type fixes the count or there are at most 4 axes.
-    ///
-    /// `[3,-1,2]`: `[1,2,0]`. ndarray's `_fastest_varying_stride_order`.
     ///
     /// <details><summary>Contract (proved)</summary>
     ///
@@ -563,11 +563,11 @@ pub trait Dimension:
 
     /// The same list as a dimension of this type; `None` where the type fixes another count.
     ///
+    /// Takes time in proportion to the count of axes. ndarray's `from_dimension`.
+    ///
     /// # Errors
     ///
     /// Out of memory; never where the type fixes the count or there are at most 4 axes.
-    ///
-    /// Takes time in proportion to the count of axes. ndarray's `from_dimension`.
     ///
     /// <details><summary>Contract (proved)</summary>
     ///
@@ -594,13 +594,13 @@ pub trait Dimension:
 
     /// The lengths with a new axis of length 1 before the axis `axis`, or after all of them.
     ///
-    /// # Errors
-    ///
-    /// Out of memory; never where the result's type fixes the count or has at most 4 axes.
-    ///
     /// Takes time in proportion to the count of axes.
     ///
     /// `[2,3]` at axis 1: `[2,1,3]`. ndarray's `insert_axis`.
+    ///
+    /// # Errors
+    ///
+    /// Out of memory; never where the result's type fixes the count or has at most 4 axes.
     ///
     /// # Conditions
     ///
@@ -626,13 +626,13 @@ pub trait Dimension:
 
     /// The lengths without an axis; of no axes, no axes.
     ///
-    /// # Errors
-    ///
-    /// Out of memory; never where the result's type fixes the count or has at most 4 axes.
-    ///
     /// Takes time in proportion to the count of axes.
     ///
     /// `[2,3]` without axis 0: `[3]`. ndarray's `try_remove_axis`.
+    ///
+    /// # Errors
+    ///
+    /// Out of memory; never where the result's type fixes the count or has at most 4 axes.
     ///
     /// # Conditions
     ///

@@ -29,13 +29,13 @@ pub(crate) fn remove_axis_into(lens: &[usize], axis: usize, smaller: &mut [usize
 pub trait RemoveAxis: Dimension + crate::sealed::Sealed {
     /// The lengths without that of one axis.
     ///
-    /// # Errors
-    ///
-    /// Out of memory; never where the result's type fixes the count or has at most 4 axes.
-    ///
     /// Takes time in proportion to the count of axes.
     ///
     /// `[2,3]` without axis 0: `[3]`. ndarray's `remove_axis`.
+    ///
+    /// # Errors
+    ///
+    /// Out of memory; never where the result's type fixes the count or has at most 4 axes.
     ///
     /// # Conditions
     ///

@@ -13,12 +13,12 @@ pub trait ShapeArg {
 
     /// The shape, and the order where the caller gives one.
     ///
+    /// ndarray's `into_shape_and_order`.
+    ///
     /// # Errors
     ///
     /// Out of memory; never where the type fixes the count or there are at most 4 axes, nor from a
     /// dimension, an `IxDynImpl` or a vector.
-    ///
-    /// ndarray's `into_shape_and_order`.
     ///
     /// <details><summary>Contract (proved)</summary>
     ///

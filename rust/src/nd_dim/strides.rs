@@ -73,14 +73,14 @@ fn write_strides<S: Sequence, O: SequenceMut>(lens: &S, strides: &mut O) {
 /// The strides of a shape in row-major order, in elements: each is the product of the later
 /// lengths. All are 0 where a length is 0.
 ///
-/// # Errors
-///
-/// Out of memory; never where the type fixes the count or there are at most 4 axes.
-///
 /// Takes time in proportion to the count of axes.
 ///
 /// `[2,3,4]`: `[12,4,1]`. What `Dimension::default_strides` returns, for a type that is known by
 /// its list alone.
+///
+/// # Errors
+///
+/// Out of memory; never where the type fixes the count or there are at most 4 axes.
 ///
 /// # Conditions
 ///
@@ -108,14 +108,14 @@ pub fn default_strides<D: Lengths>(dim: &D) -> Result<D, AllocError> {
 /// The strides of a shape in column-major order, in elements: each is the product of the earlier
 /// lengths. All are 0 where a length is 0.
 ///
-/// # Errors
-///
-/// Out of memory; never where the type fixes the count or there are at most 4 axes.
-///
 /// Takes time in proportion to the count of axes.
 ///
 /// `[2,3,4]`: `[1,2,6]`. What `Dimension::fortran_strides` returns, for a type that is known by its
 /// list alone.
+///
+/// # Errors
+///
+/// Out of memory; never where the type fixes the count or there are at most 4 axes.
 ///
 /// # Conditions
 ///

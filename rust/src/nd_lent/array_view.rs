@@ -208,11 +208,11 @@ impl<'a, T, D: Lengths> ArrayView<'a, T, D> {
 
     /// An array that lends the same items, with a shape and strides of its own.
     ///
+    /// In place of ndarray's `Clone`.
+    ///
     /// # Errors
     ///
     /// Out of memory; never where the type fixes the count of axes or there are at most 4.
-    ///
-    /// In place of ndarray's `Clone`.
     ///
     /// # Examples
     ///

@@ -335,11 +335,11 @@ impl<'a, T: Sized, D: Lengths> ArrayViewMut<'a, T, D> {
 
     /// The array, to be read for as long as this one isn't written.
     ///
+    /// ndarray's `view`.
+    ///
     /// # Errors
     ///
     /// Out of memory; never where the type fixes the count of axes or there are at most 4.
-    ///
-    /// ndarray's `view`.
     ///
     /// # Examples
     ///

@@ -306,11 +306,11 @@ impl<T: Sized, D: Lengths> OwnedArray<T, D> {
 
     /// The array with its items lent, for the calls of `ArrayView`.
     ///
+    /// `(0)` of it is 8, as of `a`. ndarray's `view`.
+    ///
     /// # Errors
     ///
     /// Out of memory; never where the type fixes the count of axes or there are at most 4.
-    ///
-    /// `(0)` of it is 8, as of `a`. ndarray's `view`.
     ///
     /// # Examples
     ///
@@ -341,11 +341,11 @@ impl<T: Sized, D: Lengths> OwnedArray<T, D> {
 
     /// The array with its items lent to be written, for the calls of `ArrayViewMut`.
     ///
+    /// 5 at (1) of that of `a` makes it 5 8 9. ndarray's `view_mut`.
+    ///
     /// # Errors
     ///
     /// Out of memory; never where the type fixes the count of axes or there are at most 4.
-    ///
-    /// 5 at (1) of that of `a` makes it 5 8 9. ndarray's `view_mut`.
     ///
     /// # Examples
     ///
@@ -412,12 +412,12 @@ impl<T: Copy, D: Lengths> OwnedArray<T, D> {
     ///
     /// Each row of neighbours is copied as a whole, and neighbouring rows as one where the whole part lies in order.
     ///
+    /// `..;-1,1..` of `[2,3]` over 0 1 2 3 4 5: 4 5 1 2. The project's own.
+    ///
     /// # Errors
     ///
     /// Those of `check_slice` on the shape, then out of memory; none of memory where the slice picks nothing and leaves at
     /// most 4 axes.
-    ///
-    /// `..;-1,1..` of `[2,3]` over 0 1 2 3 4 5: 4 5 1 2. The project's own.
     ///
     /// # Examples
     ///
@@ -459,14 +459,14 @@ impl<T: Copy, D: Lengths> OwnedArray<T, D> {
     /// rows of an array or its tiles row by row, a slice is compared only with those that begin before it ends; of rows that
     /// is none. Before the first write the parts that the slices pick are listed if there are several.
     ///
+    /// `0,..` with 7 8 9 and `1,..;2` with 5 6 make 7 8 9 5 4 6 of `[2,3]` over 0 1 2 3 4 5; `0,..` and `..,0` share
+    /// (0,0). ndarray's `multi_slice_move`, with the writes.
+    ///
     /// # Errors
     ///
     /// That of `check_slice` on the shape for the first slice that doesn't fit; then `IncompatibleShape` where a list has
     /// more items or fewer than its slice picks; then `Unsupported` where two slices share an index; then out of memory,
     /// never where no list has an item, as where each slice picks nothing. The array is unchanged after an error.
-    ///
-    /// `0,..` with 7 8 9 and `1,..;2` with 5 6 make 7 8 9 5 4 6 of `[2,3]` over 0 1 2 3 4 5; `0,..` and `..,0` share
-    /// (0,0). ndarray's `multi_slice_move`, with the writes.
     ///
     /// # Examples
     ///

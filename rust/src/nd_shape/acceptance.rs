@@ -44,16 +44,16 @@ fn span_within_limits(elem_size: usize, shape: &[usize], strides: &[usize]) -> O
 /// (`signed`); an element has `elem_size` bytes. A layout with a span is valid, as `low_span`,
 /// `has_overlap` and `merge_fitting` ask of theirs.
 ///
+/// Takes time in proportion to the count of axes.
+///
+/// `[2,3]` with the strides `[-3,1]`, of 4 bytes each: 5. The rule over lists of ndarray's
+/// `max_abs_offset_check_overflow`.
+///
 /// # Errors
 ///
 /// `IncompatibleLayout` where there are not as many strides as lengths; then `Overflow` where the
 /// product of the lengths that are not 0, the span, or the span in bytes is greater than
 /// `isize::MAX`.
-///
-/// Takes time in proportion to the count of axes.
-///
-/// `[2,3]` with the strides `[-3,1]`, of 4 bytes each: 5. The rule over lists of ndarray's
-/// `max_abs_offset_check_overflow`.
 ///
 /// <details><summary>Contract (proved)</summary>
 ///
@@ -80,16 +80,16 @@ pub fn span_of_lengths(elem_size: usize, shape: &[usize], strides: &[usize]) -> 
 /// element of the data. Each index of an accepted layout is in bounds, and in owned mode no two
 /// indices alias.
 ///
+/// Takes time in proportion to the count of axes; in owned mode of its square at most.
+///
+/// `[2,2]` with the strides `[3,1]`: over 4 elements `OutOfBounds`, over 5 accepted. The rule over
+/// lists of ndarray's `can_index_slice`.
+///
 /// # Errors
 ///
 /// Those of `span_of_lengths`; then `OutOfBounds` where the span is not less than `len`, or where a
 /// layout without an index has a span greater than `len`; then, in owned mode, `Unsupported` where
 /// two indices may alias (`has_overlap`).
-///
-/// Takes time in proportion to the count of axes; in owned mode of its square at most.
-///
-/// `[2,2]` with the strides `[3,1]`: over 4 elements `OutOfBounds`, over 5 accepted. The rule over
-/// lists of ndarray's `can_index_slice`.
 ///
 /// <details><summary>Contract (proved)</summary>
 ///
@@ -127,13 +127,13 @@ pub fn accept(
 
 /// The number of indices of a shape: the product of its lengths, which is 0 where a length is 0.
 ///
-/// # Errors
-///
-/// `Overflow` where the product of the lengths that are not 0 is greater than `isize::MAX`.
-///
 /// Takes time in proportion to the count of axes.
 ///
 /// `[2,0,3]`: 0. ndarray's `size_of_shape_checked`.
+///
+/// # Errors
+///
+/// `Overflow` where the product of the lengths that are not 0 is greater than `isize::MAX`.
 ///
 /// <details><summary>Contract (proved)</summary>
 ///
@@ -212,13 +212,13 @@ pub fn can_index_slice<D: Lengths>(
 /// Each index of an accepted shape is in bounds, and no two of them alias. An accepted shape that
 /// has an index satisfies the no-alias rule of owned mode in either order (`SatisfiesNoAliasRule`).
 ///
-/// # Errors
-///
-/// Those of `size_of_shape_checked`; then `OutOfBounds` where there are more indices than elements.
-///
 /// Takes time in proportion to the count of axes.
 ///
 /// `[2,3]`: over 6 elements accepted, over 5 `OutOfBounds`. ndarray's `can_index_slice_not_custom`.
+///
+/// # Errors
+///
+/// Those of `size_of_shape_checked`; then `OutOfBounds` where there are more indices than elements.
 ///
 /// <details><summary>Contract (proved)</summary>
 ///
@@ -249,15 +249,15 @@ pub fn can_index_slice_not_custom<D: Lengths>(len: usize, dim: &D) -> Result<(),
 ///
 /// Each index of an accepted layout is in bounds, and in owned mode no two indices alias.
 ///
-/// # Errors
-///
-/// Those of `can_index_slice` where strides are given; else those of `can_index_slice_not_custom`,
-/// in either mode.
-///
 /// Takes time in proportion to the count of axes; in owned mode of its square at most.
 ///
 /// `[2,3]` over 6 elements in owned mode: `Strides::F` accepted, the strides `[1,1]` `Unsupported`.
 /// ndarray's `can_index_slice_with_strides`.
+///
+/// # Errors
+///
+/// Those of `can_index_slice` where strides are given; else those of `can_index_slice_not_custom`,
+/// in either mode.
 ///
 /// <details><summary>Contract (proved)</summary>
 ///
@@ -323,13 +323,13 @@ fn some_negative(strides: &[usize]) -> bool {
 
 /// Returns `Ok` if and only if no stride is negative.
 ///
-/// # Errors
-///
-/// `Unsupported` where one is negative.
-///
 /// Takes time in proportion to the count of axes.
 ///
 /// `[3,-1]`: `Unsupported`. ndarray's `strides_non_negative`.
+///
+/// # Errors
+///
+/// `Unsupported` where one is negative.
 ///
 /// <details><summary>Contract (proved)</summary>
 ///

@@ -171,14 +171,14 @@ fn common_of<Output: Lengths>(longer: &[usize], shorter: &[usize]) -> Result<Out
 /// Axes that only one of them has count as axes of length 1. The order of the shapes doesn't matter, and of several
 /// shapes it doesn't matter which two are taken first. The size of the common shape isn't limited.
 ///
+/// Takes time in proportion to the count of axes.
+///
+/// `[2,3]` and `[4,1,3]`: `[4,2,3]`. ndarray's `co_broadcast`.
+///
 /// # Errors
 ///
 /// `IncompatibleShape` where two lengths of one axis are unequal and neither is 1; then out of
 /// memory, never where `Output` fixes its count of axes or there are at most 4.
-///
-/// Takes time in proportion to the count of axes.
-///
-/// `[2,3]` and `[4,1,3]`: `[4,2,3]`. ndarray's `co_broadcast`.
 ///
 /// # Conditions
 ///

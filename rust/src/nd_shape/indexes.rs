@@ -16,12 +16,12 @@ pub use indices_iter::{IndicesIter, IndicesIterF};
 /// All indices of a shape, over which a `for` loop iterates in row-major order, where the last axis
 /// moves fastest.
 ///
+/// `[3,2]`: (0, 0), (0, 1), (1, 0), (1, 1), (2, 0), (2, 1). ndarray's `indices`.
+///
 /// # Errors
 ///
 /// Out of memory; never where the type fixes the count of axes or there are at most 4, nor from a
 /// dimension, an `IxDynImpl` or a vector.
-///
-/// `[3,2]`: (0, 0), (0, 1), (1, 0), (1, 1), (2, 0), (2, 1). ndarray's `indices`.
 ///
 /// # Conditions
 ///
@@ -45,11 +45,11 @@ pub fn all_indices<D: Lengths, T: IntoDimension<Dim = D>>(shape: T) -> Result<In
 
 /// An iterator over all indices of a shape in column-major order, where the first axis moves fastest.
 ///
+/// `[3,2]`: (0, 0), (1, 0), (2, 0), (0, 1), (1, 1), (2, 1). ndarray's `indices_iter_f`.
+///
 /// # Errors
 ///
 /// Out of memory; never where the type fixes the count of axes or there are at most 4.
-///
-/// `[3,2]`: (0, 0), (1, 0), (2, 0), (0, 1), (1, 1), (2, 1). ndarray's `indices_iter_f`.
 ///
 /// # Conditions
 ///

@@ -116,12 +116,12 @@ impl<D> StrideShape<D> {
 impl<D: Lengths> StrideShape<D> {
     /// The shape that is built, with the strides of its order.
     ///
+    /// In place of ndarray's `From<T> for StrideShape<D>`.
+    ///
     /// # Errors
     ///
     /// Out of memory; never where the type fixes the count of axes or there are at most 4, nor from
     /// a `Shape`, a dimension, an `IxDynImpl` or a vector.
-    ///
-    /// In place of ndarray's `From<T> for StrideShape<D>`.
     ///
     /// <details><summary>Contract (proved)</summary>
     ///
@@ -168,14 +168,14 @@ impl<D> Strides<D> {
     /// The strides, in elements, of a shape of these lengths: those of its order, or the given
     /// ones.
     ///
+    /// Takes time in proportion to the count of axes.
+    ///
+    /// `Strides::F` for `[2,3]`: `[1,2]`. ndarray's `strides_for_dim`.
+    ///
     /// # Errors
     ///
     /// Out of memory; never where the strides are given, the type fixes the count of axes or there
     /// are at most 4.
-    ///
-    /// Takes time in proportion to the count of axes.
-    ///
-    /// `Strides::F` for `[2,3]`: `[1,2]`. ndarray's `strides_for_dim`.
     ///
     /// # Conditions
     ///
@@ -231,12 +231,12 @@ pub trait ShapeBuilder {
 
     /// The shape with its order.
     ///
+    /// ndarray's `into_shape_with_order`.
+    ///
     /// # Errors
     ///
     /// Out of memory; never where the type fixes the count of axes or there are at most 4, nor from
     /// a `Shape`, a dimension, an `IxDynImpl` or a vector.
-    ///
-    /// ndarray's `into_shape_with_order`.
     ///
     /// <details><summary>Contract (proved)</summary>
     ///
@@ -254,11 +254,11 @@ pub trait ShapeBuilder {
 
     /// The shape in column-major order.
     ///
+    /// ndarray's `f`.
+    ///
     /// # Errors
     ///
     /// Those of `into_shape_with_order`.
-    ///
-    /// ndarray's `f`.
     ///
     /// <details><summary>Contract (proved)</summary>
     ///
@@ -280,11 +280,11 @@ pub trait ShapeBuilder {
 
     /// The shape in column-major order where `is_f` is true, and else in row-major order.
     ///
+    /// ndarray's `set_f`.
+    ///
     /// # Errors
     ///
     /// Those of `into_shape_with_order`.
-    ///
-    /// ndarray's `set_f`.
     ///
     /// <details><summary>Contract (proved)</summary>
     ///
@@ -308,12 +308,12 @@ pub trait ShapeBuilder {
 
     /// The shape with these strides, in elements and with their sign (`signed`).
     ///
+    /// ndarray's `strides`.
+    ///
     /// # Errors
     ///
     /// Out of memory; never where the type fixes the count of axes, where there are at most 4 axes
     /// and at most 4 strides, nor where both are a `Shape`, a dimension, an `IxDynImpl` or a vector.
-    ///
-    /// ndarray's `strides`.
     ///
     /// <details><summary>Contract (proved)</summary>
     ///

@@ -33,11 +33,11 @@ pub fn abs_index(len: usize, index: isize) -> usize {
 
 /// The coordinate that an index means on an axis of `len` coordinates, as `abs_index` returns it.
 ///
+/// -1 on an axis of 4: 3. The project's own.
+///
 /// # Errors
 ///
 /// `OutOfBounds` where the index is not from `-len` to `len - 1`.
-///
-/// -1 on an axis of 4: 3. The project's own.
 ///
 /// <details><summary>Contract (proved)</summary>
 ///
@@ -89,12 +89,12 @@ fn abs_bound(len: usize, bound: isize, fit: Fit) -> Result<usize, ShapeError> {
 ///
 /// Both are from 0 to `len`, and an end before the start becomes the start.
 ///
+/// `-3..;-2` on an axis of 4: (1, 4, -2). ndarray's `to_abs_slice`.
+///
 /// # Errors
 ///
 /// `OutOfBounds` where a bound means no number from 0 to `len` (never with `Fit::Clamp`); then
 /// `Unsupported` for the step 0.
-///
-/// `-3..;-2` on an axis of 4: (1, 4, -2). ndarray's `to_abs_slice`.
 ///
 /// <details><summary>Contract (proved)</summary>
 ///

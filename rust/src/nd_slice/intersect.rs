@@ -98,14 +98,14 @@ pub fn elems_intersect(shape: &[usize], first: &[SliceInfoElem], second: &[Slice
 /// New axes are for no axis of the shape. Without axes the result is true; where either argument picks nothing of an
 /// axis it is false.
 ///
-/// # Errors
-///
-/// Those of `check_slice` for the first argument, then for the second.
-///
 /// Takes time in proportion to the count of axes, whatever their lengths.
 ///
 /// `..,..;9` and `..,3..;6` on `[4,10]`: true, by coordinate 9 of the last axis. ndarray's
 /// `slices_intersect`.
+///
+/// # Errors
+///
+/// Those of `check_slice` for the first argument, then for the second.
 ///
 /// # Conditions
 ///

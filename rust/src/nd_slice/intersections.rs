@@ -130,11 +130,6 @@ pub fn first_elems_intersection<S: SliceElems>(shape: &[usize], slices: &[S], fi
 /// Two of many slice arguments on a shape that share an index: their positions in the list, the
 /// less first. Where several pairs do, it is any of them. `None` if and only if no two share one.
 ///
-/// # Errors
-///
-/// Those of `check_slice` for the first argument with one. All are checked before any two are
-/// compared.
-///
 /// Takes no memory. Two arguments take time as in `slices_intersect`. `k` arguments that begin in
 /// their order along an axis, or in the reverse order, take time in proportion to `k` where each
 /// overlaps few others there: an argument is compared only with those that begin before it ends. So
@@ -143,6 +138,11 @@ pub fn first_elems_intersection<S: SliceElems>(shape: &[usize], slices: &[S], fi
 ///
 /// `..2,..`, `3..,..` and `1,5` on `[4,9]`: `Some((0, 2))`, by (1,5). In place of the panic of
 /// ndarray's `multi_slice_mut`.
+///
+/// # Errors
+///
+/// Those of `check_slice` for the first argument with one. All are checked before any two are
+/// compared.
 ///
 /// # Conditions
 ///

@@ -208,11 +208,11 @@ impl AxisPicks {
 
 /// What a slice picks of an axis of `len` coordinates.
 ///
+/// `1..;-2` on an axis of 4: 1 to 4 with the step -2. The project's own.
+///
 /// # Errors
 ///
 /// Those of `to_abs_slice`.
-///
-/// `1..;-2` on an axis of 4: 1 to 4 with the step -2. The project's own.
 ///
 /// <details><summary>Contract (proved)</summary>
 ///
@@ -234,11 +234,11 @@ pub fn resolve_slice(len: usize, slice: Slice, fit: Fit) -> Result<AxisPicks, Sh
 
 /// What an element picks of an axis of `len` coordinates: an index one coordinate, a new axis none.
 ///
+/// The index -1 on an axis of 4: 3 to 4 with the step 1. The project's own.
+///
 /// # Errors
 ///
 /// Those of `to_abs_slice` for a slice; `OutOfBounds` for an index that is not from `-len` to `len - 1`.
-///
-/// The index -1 on an axis of 4: 3 to 4 with the step 1. The project's own.
 ///
 /// <details><summary>Contract (proved)</summary>
 ///

@@ -60,16 +60,16 @@ pub fn out_ndim_of(list: &[SliceInfoElem]) -> usize {
 ///
 /// `shape` has one length for each axis; each element but a new axis is for the next axis.
 ///
+/// Takes time in proportion to the count of elements.
+///
+/// `1..,5` on `[2,3]`: `OutOfBounds`. In place of the panics of ndarray's `slice_collapse`.
+///
 /// # Errors
 ///
 /// `IncompatibleShape` where the elements are for more axes than the shape has, or for fewer.
 /// Otherwise the error of the first element that doesn't fit: `OutOfBounds` for an index that is no
 /// coordinate of its axis, or for a bound that means no number from 0 to the length (never with
 /// `Fit::Clamp`); then `Unsupported` for the step 0.
-///
-/// Takes time in proportion to the count of elements.
-///
-/// `1..,5` on `[2,3]`: `OutOfBounds`. In place of the panics of ndarray's `slice_collapse`.
 ///
 /// <details><summary>Contract (proved)</summary>
 ///
@@ -91,13 +91,13 @@ pub fn check_elems(shape: &[usize], elems: &[SliceInfoElem], fit: Fit) -> Result
 
 /// Returns `Ok` if and only if a slice argument fits a shape, whatever types hold the two.
 ///
-/// # Errors
-///
-/// Those of `check_elems`, in its order.
-///
 /// Takes time in proportion to the count of elements.
 ///
 /// `..;0,7` on `[2,3]`: `Unsupported`. In place of the panics of ndarray's `slice_move`.
+///
+/// # Errors
+///
+/// Those of `check_elems`, in its order.
 ///
 /// <details><summary>Contract (proved)</summary>
 ///

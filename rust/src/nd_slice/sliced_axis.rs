@@ -12,12 +12,12 @@ use crate::nd_slice::slice::Slice;
 /// `dim` is the length of the axis and `stride` its stride in elements. Afterwards `dim` is how many coordinates are
 /// picked, and `stride` the distance between two of them, 0 where there is at most one.
 ///
+/// Length 4, stride 1, `1..;-2`: the offset 3, length 2, stride -2. ndarray's `do_slice`.
+///
 /// # Errors
 ///
 /// `OutOfBounds` where a bound means no number from 0 to the length (never with `Fit::Clamp`);
 /// then `Unsupported` for the step 0. The length and the stride are unchanged after an error.
-///
-/// Length 4, stride 1, `1..;-2`: the offset 3, length 2, stride -2. ndarray's `do_slice`.
 ///
 /// # Conditions
 ///

@@ -323,14 +323,14 @@ fn fill_reshaped(
 /// `from` has fewer there; at a product that `from` doesn't have it takes the stride of the axis
 /// read before it.
 ///
+/// `[2,3]` with strides `[3,1]` to `[3,2]`: `[2,1]` in row-major order, `IncompatibleLayout` in
+/// column-major order. ndarray's `reshape_dim`.
+///
 /// # Errors
 ///
 /// Out of memory, before any other, and never where `E` fixes the count of axes or `to` has at most
 /// 4; then `IncompatibleLayout` where a joint before the size of `to` lies within an axis of `to`;
 /// then `IncompatibleShape` where the sizes differ.
-///
-/// `[2,3]` with strides `[3,1]` to `[3,2]`: `[2,1]` in row-major order, `IncompatibleLayout` in
-/// column-major order. ndarray's `reshape_dim`.
 ///
 /// # Conditions
 ///

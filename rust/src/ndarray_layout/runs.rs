@@ -114,6 +114,12 @@ fn take_step(view: &mut Strided<IxDyn>, step: &Step) -> Result<(), LayoutError> 
 /// the error. Either view is in bounds of whatever data the first one is in bounds of. Where no two
 /// indices of the first one alias, no two of it do, unless a step that was taken is a broadcast.
 ///
+/// Each step takes time in proportion to the count of axes, of elements of its slice or of lengths
+/// of its shape.
+///
+/// Coordinate 1 of axis 0, then axis 0 into axis 1, of `[2,3]`, `[3,1]` from 0: `[1,3]`, `[3,1]`
+/// from 3. The project's own.
+///
 /// # Errors
 ///
 /// Of a slice, a reshape and a broadcast those of `Strided::slice`, `Strided::reshape` and
@@ -122,12 +128,6 @@ fn take_step(view: &mut Strided<IxDyn>, step: &Step) -> Result<(), LayoutError> 
 /// `IncompatibleLayout` where no stride serves for the coordinates of both. Out of memory comes
 /// last, in a reshape before the error of its strides, and never where the step leaves at most 4
 /// axes.
-///
-/// Each step takes time in proportion to the count of axes, of elements of its slice or of lengths
-/// of its shape.
-///
-/// Coordinate 1 of axis 0, then axis 0 into axis 1, of `[2,3]`, `[3,1]` from 0: `[1,3]`, `[3,1]`
-/// from 3. The project's own.
 ///
 /// # Examples
 ///

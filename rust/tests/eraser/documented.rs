@@ -25,6 +25,16 @@ fn a_contract_is_documentation() {
 }
 
 #[test]
+fn errors_stand_behind_cost_and_numbers() {
+    let source =
+        "/// A.\n///\n/// # Errors\n///\n/// `B`; then\n/// `C`.\n///\n/// Takes time.\n///\n/// 1: 2.\nfn f() {}";
+    let due =
+        "/// A.\n///\n/// Takes time.\n///\n/// 1: 2.\n///\n/// # Errors\n///\n/// `B`; then\n/// `C`.\nfn f() {}";
+    assert_eq!(erased(source), due);
+    assert_eq!(erased(due), due);
+}
+
+#[test]
 fn an_example_is_documentation() {
     let page = "# S::f\n```\nf();\n\n# g();\n```\n\n# g\n```\ng();\n```\n";
     let of_calls = examples::examples_of(page);

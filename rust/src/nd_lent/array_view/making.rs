@@ -46,11 +46,11 @@ impl<'a, T, D: Lengths> ArrayView<'a, T, D> {
     ///
     /// The lowest place of the layout is 0, the first item. Items past the layout, or between its places, are spare ones.
     ///
+    /// `[2]` with the stride `[-1]` over 7 8 9 is `a`. ndarray's `from_shape`.
+    ///
     /// # Errors
     ///
     /// Those of `Strided::from_shape` in read-only mode, over as many elements of one byte as there are items.
-    ///
-    /// `[2]` with the stride `[-1]` over 7 8 9 is `a`. ndarray's `from_shape`.
     ///
     /// # Examples
     ///
@@ -90,14 +90,14 @@ impl<'a, T, D: Lengths> ArrayView<'a, T, D> {
 
     /// The array of a view over items, which may be fewer than those that the view was made for.
     ///
+    /// Takes no memory, and time in proportion to the count of axes.
+    ///
+    /// `[2]`, `[-1]` from 1 over 7 8 9 is `a`; over 7 alone `OutOfBounds`. The project's own.
+    ///
     /// # Errors
     ///
     /// `OutOfBounds` where an index of the view lies past the items; a view without an index is out of bounds where it
     /// reaches, by its span, past all of them. Those of `Strided::from_parts` in read-only mode, over elements of one byte.
-    ///
-    /// Takes no memory, and time in proportion to the count of axes.
-    ///
-    /// `[2]`, `[-1]` from 1 over 7 8 9 is `a`; over 7 alone `OutOfBounds`. The project's own.
     ///
     /// # Examples
     ///

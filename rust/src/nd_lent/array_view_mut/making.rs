@@ -49,16 +49,16 @@ impl<'a, T: Sized, D: Lengths> ArrayViewMut<'a, T, D> {
     /// The array of a view over items, where each index has one of them to itself. The items may be fewer than those that the
     /// view was made for.
     ///
+    /// Takes no memory, and time by the square of the count of axes at most.
+    ///
+    /// `[2]`, `[-1]` from 1 over 7 8 9 is `a`; over 7 alone `OutOfBounds`. `[2,2]`, `[1,1]` from 0 over 7 8 9: `Unsupported`.
+    /// The project's own.
+    ///
     /// # Errors
     ///
     /// Those of `Strided::from_parts` in owned mode, over as many elements of one byte as there are items:
     /// `OutOfBounds` where an index of the view lies past the items; a view without an index is out of bounds where it
     /// reaches, by its span, past all of them; then `Unsupported` where two indices may alias.
-    ///
-    /// Takes no memory, and time by the square of the count of axes at most.
-    ///
-    /// `[2]`, `[-1]` from 1 over 7 8 9 is `a`; over 7 alone `OutOfBounds`. `[2,2]`, `[1,1]` from 0 over 7 8 9: `Unsupported`.
-    /// The project's own.
     ///
     /// # Examples
     ///
@@ -98,11 +98,11 @@ impl<'a, T: Sized, D: Lengths> ArrayViewMut<'a, T, D> {
     ///
     /// The lowest place of the layout is 0, the first item. Items past the layout, or between its places, are spare ones.
     ///
+    /// `[2]` with the stride `[-1]` over 7 8 9 is `a`. ndarray's `from_shape`.
+    ///
     /// # Errors
     ///
     /// Those of `Strided::from_shape` in owned mode, over as many elements of one byte as there are items.
-    ///
-    /// `[2]` with the stride `[-1]` over 7 8 9 is `a`. ndarray's `from_shape`.
     ///
     /// # Examples
     ///

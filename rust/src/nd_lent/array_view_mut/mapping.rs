@@ -239,13 +239,13 @@ impl<T, D: Lengths> ArrayView<'_, T, D> {
     /// Takes no memory. Two rows whose items follow one another are a loop over two slices; in others each index takes the time
     /// of its place in both.
     ///
+    /// `|item| *item < 6` of 5 6 to `[2]` with the stride `[-1]`: the second item is `true`, and the first `false`. ndarray's
+    /// `map`, which makes a new array, and `Zip::map_assign_into`.
+    ///
     /// # Errors
     ///
     /// `IncompatibleShape` where the shapes differ; the items are unchanged, and the closure isn't called. (A shape that can be
     /// broadcast is an error too: `broadcast` comes first.)
-    ///
-    /// `|item| *item < 6` of 5 6 to `[2]` with the stride `[-1]`: the second item is `true`, and the first `false`. ndarray's
-    /// `map`, which makes a new array, and `Zip::map_assign_into`.
     ///
     /// # Conditions
     ///

@@ -66,13 +66,13 @@ impl<D: Lengths> SplitViews<D> {
     /// has the `cut` items below, the other one has the items from there on, and its start is `cut` less. So `split_at_mut` of
     /// the items at `cut` and two times `ArrayViewMut::new` lend both, and a proof knows what the items are in the end.
     ///
+    /// Axis 0 of `[2,3]`, `[3,1]` from 1 at 1: `[1,3]` from 1 over 4 items, and `[1,3]` from 0 over the others. The project's
+    /// own.
+    ///
     /// # Errors
     ///
     /// `OutOfBounds` where there is no such axis or the index is greater than its length; then out of memory, never where the
     /// type fixes the count of axes or there are at most 4; then `IncompatibleLayout` where the places of the parts interleave.
-    ///
-    /// Axis 0 of `[2,3]`, `[3,1]` from 1 at 1: `[1,3]` from 1 over 4 items, and `[1,3]` from 0 over the others. The project's
-    /// own.
     ///
     /// # Conditions
     ///

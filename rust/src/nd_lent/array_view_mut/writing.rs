@@ -45,12 +45,12 @@ impl<'a, T: Copy, D: Lengths> ArrayViewMut<'a, T, D> {
     ///
     /// Takes no memory, and the time of `map_into`.
     ///
+    /// 5 6 to `a`: 6 5 9. ndarray's `assign`.
+    ///
     /// # Errors
     ///
     /// `IncompatibleShape` where the shapes differ; the items are unchanged. (A shape that can be broadcast is an error
     /// too: `ArrayView::broadcast` comes first.)
-    ///
-    /// 5 6 to `a`: 6 5 9. ndarray's `assign`.
     ///
     /// # Examples
     ///

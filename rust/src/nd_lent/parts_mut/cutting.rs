@@ -113,15 +113,15 @@ impl<'a, T: Sized> PartMut<'a, T> {
     /// The two parts along an axis, both lent at once: the rows below `index` and those from it on along axis 0, and so the
     /// columns along axis 1. No item is moved.
     ///
+    /// Takes memory and time for each row: for those from `index` on along axis 0, twice for all along axis 1.
+    ///
+    /// Axis 1 of 1 2 3 over 4 5 6 at 1: 1 over 4, and 2 3 over 5 6. ndarray's `split_at`.
+    ///
     /// # Errors
     ///
     /// `OutOfBounds` where there is no such axis, or the index is greater than the count of rows, or than the length of a
     /// row, or than 0 along axis 1 where there is no row; then out of memory, never where there is no row. After an error the
     /// items are unchanged, which tests say and no clause.
-    ///
-    /// Takes memory and time for each row: for those from `index` on along axis 0, twice for all along axis 1.
-    ///
-    /// Axis 1 of 1 2 3 over 4 5 6 at 1: 1 over 4, and 2 3 over 5 6. ndarray's `split_at`.
     ///
     /// # Examples
     ///

@@ -75,14 +75,14 @@ impl<'a, T: Sized> PartMut<'a, T> {
     /// The rows of a view over items, in row-major order: for each index of the other axes the items along the last
     /// axis. Items between the rows are spare ones.
     ///
+    /// Takes memory and time in proportion to the count of rows.
+    ///
+    /// `[2,2]`, `[4,1]` from 1 over 0 1 2 3 4 5 6 7: 1 2 and 5 6. The project's own.
+    ///
     /// # Errors
     ///
     /// `IncompatibleLayout` where the items of a row don't lie side by side, or a row begins before the one before it has
     /// ended; then out of memory, never where the view has no index.
-    ///
-    /// Takes memory and time in proportion to the count of rows.
-    ///
-    /// `[2,2]`, `[4,1]` from 1 over 0 1 2 3 4 5 6 7: 1 2 and 5 6. The project's own.
     ///
     /// # Conditions
     ///

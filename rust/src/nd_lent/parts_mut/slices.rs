@@ -107,17 +107,17 @@ impl<'a, T: Sized> PartMut<'a, T> {
     /// order; else each item is a row of its own. So where a slice leaves two axes, and its rows lie side by side, row
     /// and column of `get` and `set` are the coordinates.
     ///
-    /// # Errors
-    ///
-    /// That of `check_slice` on the shape for the first slice that doesn't fit; then `Unsupported` where two slices share an
-    /// index; then out of memory, never where there is no slice. After an error the items are unchanged, which tests say and no
-    /// clause.
-    ///
     /// Takes memory for each row, and time for each row and for the comparisons of `first_intersection`. Where the slices are
     /// rows, columns or tiles, from the first to the last or from the last to the first, a row is found near the one before it;
     /// in no order it is looked for in all the pieces that are left.
     ///
     /// `..,..;2` and `..,1` of `[2,3]` over 0 1 2 3 4 5: the rows 0, 2, 3, 5, and the rows 1, 4. The project's own.
+    ///
+    /// # Errors
+    ///
+    /// That of `check_slice` on the shape for the first slice that doesn't fit; then `Unsupported` where two slices share an
+    /// index; then out of memory, never where there is no slice. After an error the items are unchanged, which tests say and no
+    /// clause.
     ///
     /// # Conditions
     ///

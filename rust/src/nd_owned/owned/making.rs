@@ -11,12 +11,12 @@ impl<T: Sized, D: Lengths> OwnedArray<T, D> {
     /// The lowest place of the layout is 0, the first item of the list. Items past the layout, or between its places, are
     /// kept as spare ones.
     ///
+    /// `[2]` with the stride `[-1]` over 7 8 9 is `a`. ndarray's `from_shape_vec`.
+    ///
     /// # Errors
     ///
     /// Those of `Strided::from_shape` in owned mode, over as many elements of one byte as the list has items. The list
     /// comes back with the error.
-    ///
-    /// `[2]` with the stride `[-1]` over 7 8 9 is `a`. ndarray's `from_shape_vec`.
     ///
     /// # Examples
     ///

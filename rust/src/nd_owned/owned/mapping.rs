@@ -34,12 +34,12 @@ impl<T: Sized, D: Lengths> OwnedArray<T, D> {
     ///
     /// Takes for each index of the part the time of its place (`Strided::iter_places`) and of the call.
     ///
+    /// `|item| *item = 9` at `1..` of `[3]` over 5 6 7: 5 9 9. ndarray's `slice_mut`, with `map_inplace`.
+    ///
     /// # Errors
     ///
     /// Those of `check_slice` on the shape, then out of memory, never where the slice leaves at most 4 axes. The array is
     /// unchanged after an error, and the closure isn't called.
-    ///
-    /// `|item| *item = 9` at `1..` of `[3]` over 5 6 7: 5 9 9. ndarray's `slice_mut`, with `map_inplace`.
     ///
     /// # Conditions
     ///

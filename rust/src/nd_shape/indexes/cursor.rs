@@ -29,11 +29,11 @@ pub struct Cursor<O: IterOrder> {
 impl<O: IterOrder> Cursor<O> {
     /// The iterator over all indices of a shape.
     ///
+    /// `[3,2]` in row-major order: (0, 0), (0, 1), (1, 0), (1, 1), (2, 0), (2, 1).
+    ///
     /// # Errors
     ///
     /// Out of memory; never where there are at most 4 axes, or where a length is 0.
-    ///
-    /// `[3,2]` in row-major order: (0, 0), (0, 1), (1, 0), (1, 1), (2, 0), (2, 1).
     ///
     /// # Conditions
     ///

@@ -130,15 +130,15 @@ impl<D: Lengths> Strided<D> {
     /// `shape`, each coordinate has the same place, and the stride is 0; the other axes keep their
     /// strides.
     ///
+    /// Takes time in proportion to the count of axes.
+    ///
+    /// `[1,4]` with strides `[9,-1]` to `[2,3,4]`: strides `[0,0,-1]`. ndarray's `broadcast`.
+    ///
     /// # Errors
     ///
     /// `IncompatibleShape` where `shape` is not the common shape of it and the view's; then
     /// `Overflow` where the product of its lengths that are not 0 is greater than `isize::MAX`;
     /// then out of memory, never where the type fixes the count of axes or there are at most 4.
-    ///
-    /// Takes time in proportion to the count of axes.
-    ///
-    /// `[1,4]` with strides `[9,-1]` to `[2,3,4]`: strides `[0,0,-1]`. ndarray's `broadcast`.
     ///
     /// # Examples
     ///

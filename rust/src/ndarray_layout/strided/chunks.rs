@@ -14,6 +14,10 @@ impl<D: Lengths> Strided<D> {
     /// over at its end is left out. From one chunk to the next the stride is that of the view times
     /// the chunk's length, and 0 where there is no next one; without an index all strides are 0.
     ///
+    /// Takes time in proportion to the count of axes.
+    ///
+    /// `[5]`, `[1]` in chunks of `[2]`: `[2,2]`, `[2,1]`. ndarray's `exact_chunks`, as one view.
+    ///
     /// # Errors
     ///
     /// `IncompatibleShape` where `chunk` has more or fewer axes than the view, or the type `E` fixes
@@ -21,10 +25,6 @@ impl<D: Lengths> Strided<D> {
     /// `Overflow` where the product of the lengths of the result that are not 0 is greater than
     /// `isize::MAX`; then out of memory, never where `E` fixes the count of axes or the result has at
     /// most 4.
-    ///
-    /// Takes time in proportion to the count of axes.
-    ///
-    /// `[5]`, `[1]` in chunks of `[2]`: `[2,2]`, `[2,1]`. ndarray's `exact_chunks`, as one view.
     ///
     /// # Examples
     ///

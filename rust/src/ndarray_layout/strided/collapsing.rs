@@ -24,13 +24,13 @@ impl<D: Lengths> Strided<D> {
     /// Reduces an axis to one of its coordinates: the axis then has length 1, and its stride is
     /// unchanged.
     ///
+    /// Coordinate 1 of axis 0 of `[2,3]`, `[3,1]` from 0: `[1,3]`, `[3,1]` from 3. ndarray's
+    /// `collapse_axis`.
+    ///
     /// # Errors
     ///
     /// `OutOfBounds` where there is no such axis or the index is not less than its length; the view
     /// is unchanged.
-    ///
-    /// Coordinate 1 of axis 0 of `[2,3]`, `[3,1]` from 0: `[1,3]`, `[3,1]` from 3. ndarray's
-    /// `collapse_axis`.
     ///
     /// # Examples
     ///

@@ -39,11 +39,11 @@ impl<D: Lengths> Strided<D> {
     /// sign (`signed`). The lowest place of the view is 0, the first element of the data. Each
     /// index is in bounds, and in owned mode no two indices alias.
     ///
+    /// `[3]` with the stride `[-1]` over 3 elements: (0) lies at 2. The project's own.
+    ///
     /// # Errors
     ///
     /// Those of `can_index_slice`, in its order.
-    ///
-    /// `[3]` with the stride `[-1]` over 3 elements: (0) lies at 2. The project's own.
     ///
     /// # Examples
     ///
@@ -90,15 +90,15 @@ impl<D: Lengths> Strided<D> {
     /// in bounds, and in owned mode no two indices alias. Where `start` is the lowest that there
     /// can be (`low_span`), the result is that of `new`.
     ///
+    /// `[3]` with the stride `[-1]` over 5 elements: from 4 on (0) lies at 4 and (2) at 2; from 1
+    /// on (2) would lie before the data. The project's own.
+    ///
     /// # Errors
     ///
     /// Those of `span_of_lengths`; then `OutOfBounds` where an index lies before the data, past it
     /// or past the place `isize::MAX`; then, in owned mode, `Unsupported` where two indices may
     /// alias (`has_overlap`). A layout without an index is out of bounds where it reaches, by its
     /// span, below 0 or above `len`.
-    ///
-    /// `[3]` with the stride `[-1]` over 5 elements: from 4 on (0) lies at 4 and (2) at 2; from 1
-    /// on (2) would lie before the data. The project's own.
     ///
     /// # Examples
     ///
@@ -155,12 +155,12 @@ impl<D: Lengths> Strided<D> {
     /// and in owned mode no two indices alias. In owned mode, and along the shape's own strides in
     /// any mode, a view with an index satisfies the no-alias rule of owned mode (`SatisfiesNoAliasRule`).
     ///
+    /// `[2,3]` in column-major order over 6 elements: strides `[1,2]`. The project's own.
+    ///
     /// # Errors
     ///
     /// Those of `can_index_slice_with_strides`, in its order; then out of memory, never where the
     /// strides are given, where the type fixes the count of axes or where there are at most 4.
-    ///
-    /// `[2,3]` in column-major order over 6 elements: strides `[1,2]`. The project's own.
     ///
     /// # Examples
     ///
@@ -215,11 +215,11 @@ impl<D: Lengths> Strided<D> {
 
     /// The same view, with a shape and strides of its own.
     ///
+    /// In place of ndarray's `Clone`.
+    ///
     /// # Errors
     ///
     /// Out of memory; never where the type fixes the count of axes or there are at most 4.
-    ///
-    /// In place of ndarray's `Clone`.
     ///
     /// # Examples
     ///

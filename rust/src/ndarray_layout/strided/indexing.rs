@@ -10,14 +10,14 @@ use crate::ndarray_layout::strided::places::place_along_axis;
 impl<D: RemoveAxis> Strided<D> {
     /// The view at one coordinate of an axis, without the axis. No element is moved.
     ///
+    /// Takes time in proportion to the count of axes.
+    ///
+    /// Coordinate 1 of axis 0 of `[2,3]`, `[3,1]` from 0: `[3]`, `[1]` from 3. ndarray's `index_axis`.
+    ///
     /// # Errors
     ///
     /// `OutOfBounds` where there is no such axis or the index is not less than its length; then out of
     /// memory, never where the type fixes the count of axes or at most 4 are left.
-    ///
-    /// Takes time in proportion to the count of axes.
-    ///
-    /// Coordinate 1 of axis 0 of `[2,3]`, `[3,1]` from 0: `[3]`, `[1]` from 3. ndarray's `index_axis`.
     ///
     /// # Examples
     ///

@@ -9,14 +9,14 @@ impl<D: Dimension> Strided<D> {
     /// The view with a new axis before the axis of this number, or after all of them. The new axis has length
     /// 1 and the stride 1. No element is moved.
     ///
+    /// Takes time in proportion to the count of axes.
+    ///
+    /// Axis 1 of `[2,3]`, `[3,1]`: `[2,1,3]`, `[3,1,1]`. ndarray's `insert_axis`.
+    ///
     /// # Errors
     ///
     /// `OutOfBounds` where the number is greater than the count of axes; then out of memory, never where the
     /// type of the result fixes the count of axes (that of `Ix6` doesn't) or there are at most 3.
-    ///
-    /// Takes time in proportion to the count of axes.
-    ///
-    /// Axis 1 of `[2,3]`, `[3,1]`: `[2,1,3]`, `[3,1,1]`. ndarray's `insert_axis`.
     ///
     /// # Examples
     ///

@@ -15,14 +15,14 @@ impl<D: Lengths> Strided<D> {
     /// index may still share a place. Without axes the result is true; where an argument picks
     /// nothing of an axis it is false.
     ///
-    /// # Errors
-    ///
-    /// Those of `check_slice` on the shape for the first argument, then for the second.
-    ///
     /// Takes no memory, and time in proportion to the count of axes.
     ///
     /// The first row and the last column of `[2,3]`: true; the first row and the last row: false.
     /// ndarray asks `slices_intersect` before `multi_slice_mut` lends several parts.
+    ///
+    /// # Errors
+    ///
+    /// Those of `check_slice` on the shape for the first argument, then for the second.
     ///
     /// # Examples
     ///
@@ -65,17 +65,17 @@ impl<D: Lengths> Strided<D> {
     /// slices have a place in common. On any other view, as one that is broadcast, slices that share
     /// no index may still share a place.
     ///
-    /// # Errors
-    ///
-    /// Those of `check_slice` on the shape for the first argument with one. All are checked before
-    /// any two are compared.
-    ///
     /// Takes no memory, and the time of `first_intersection`: in proportion to the count of slices
     /// where these are the rows of an array or its tiles, from the first to the last or from the
     /// last to the first; where they are in no order along an axis, each is compared with each.
     ///
     /// `0,..`, `1,..2` and `..,-1` of `[2,3]`: `Some((0, 2))`, by (0,2). In place of the panic of
     /// ndarray's `multi_slice_mut`.
+    ///
+    /// # Errors
+    ///
+    /// Those of `check_slice` on the shape for the first argument with one. All are checked before
+    /// any two are compared.
     ///
     /// # Examples
     ///

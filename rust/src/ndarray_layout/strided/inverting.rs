@@ -27,11 +27,11 @@ impl<D: Lengths> Strided<D> {
     /// The stride gets the other sign, and the start moves to the last coordinate, if there is one. The stride
     /// -2^63, which only an axis of length 0 or 1 can have, is unchanged: 2^63 is no stride.
     ///
+    /// Axis 0 of `[3]`, `[2]` from 1: `[3]`, `[-2]` from 5. ndarray's `invert_axis`.
+    ///
     /// # Errors
     ///
     /// `OutOfBounds` where there is no such axis; the view is unchanged.
-    ///
-    /// Axis 0 of `[3]`, `[2]` from 1: `[3]`, `[-2]` from 5. ndarray's `invert_axis`.
     ///
     /// # Examples
     ///

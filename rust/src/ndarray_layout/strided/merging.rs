@@ -33,13 +33,13 @@ impl<D: Lengths> Strided<D> {
     /// Then the axis `into` has the coordinates of both, that of `take` moving slowest among them,
     /// and `take` has length 1, or 0 where there is no index.
     ///
+    /// Axis 0 into axis 1 of `[2,3]` with strides `[3,1]`: `[1,6]` with `[3,1]`. ndarray's
+    /// `merge_axes`.
+    ///
     /// # Errors
     ///
     /// `OutOfBounds` where there is no such axis, then `Unsupported` for one axis twice; the view
     /// is unchanged.
-    ///
-    /// Axis 0 into axis 1 of `[2,3]` with strides `[3,1]`: `[1,6]` with `[3,1]`. ndarray's
-    /// `merge_axes`.
     ///
     /// # Examples
     ///

@@ -9,12 +9,12 @@ impl<D: Lengths> Strided<D> {
     /// The view of the same shape and strides whose first index lies at `start`, in elements from the start of data of `len`
     /// elements of `elem_size` bytes.
     ///
+    /// `[3]`, `[-1]` from 4, moved to 2 over 3 elements: (0) lies at 2 and (2) at 0; moved to 1: `OutOfBounds`. The project's
+    /// own.
+    ///
     /// # Errors
     ///
     /// Those of `from_parts`. Takes no memory.
-    ///
-    /// `[3]`, `[-1]` from 4, moved to 2 over 3 elements: (0) lies at 2 and (2) at 0; moved to 1: `OutOfBounds`. The project's
-    /// own.
     ///
     /// # Examples
     ///

@@ -164,11 +164,11 @@ fn reordered<D: Lengths>(items: &D, axes: &[Axis]) -> Result<D, AllocError> {
 impl<D: Lengths> Strided<D> {
     /// Swaps two axes. No element is moved.
     ///
+    /// Axes 0 and 1 of `[2,3]`, `[3,1]`: `[3,2]`, `[1,3]`. ndarray's `swap_axes`.
+    ///
     /// # Errors
     ///
     /// `OutOfBounds` where there is no axis of one of the numbers; the view is unchanged.
-    ///
-    /// Axes 0 and 1 of `[2,3]`, `[3,1]`: `[3,2]`, `[1,3]`. ndarray's `swap_axes`.
     ///
     /// # Examples
     ///
@@ -243,14 +243,14 @@ impl<D: Lengths> Strided<D> {
 
     /// The axes in another order: axis `k` of the result is axis `axes[k]` of the view. No element is moved.
     ///
+    /// Takes time in proportion to the count of axes; to its square where the first allocation fails.
+    ///
+    /// `[2,3,4]`, `[12,4,1]` by `[2,0,1]`: `[4,2,3]`, `[1,12,4]`. ndarray's `permuted_axes`.
+    ///
     /// # Errors
     ///
     /// `IncompatibleShape` where the list isn't each axis once; then out of memory, never where the type
     /// fixes the count of axes or there are at most 4.
-    ///
-    /// Takes time in proportion to the count of axes; to its square where the first allocation fails.
-    ///
-    /// `[2,3,4]`, `[12,4,1]` by `[2,0,1]`: `[4,2,3]`, `[1,12,4]`. ndarray's `permuted_axes`.
     ///
     /// # Examples
     ///

@@ -37,14 +37,14 @@ fn picked_size(shape: &[usize], elems: &[SliceInfoElem], fit: Fit) -> Result<usi
 impl<D: Lengths> Strided<D> {
     /// The number of indices that a slice argument leaves of the view.
     ///
+    /// Takes no memory, and time in proportion to the count of elements.
+    ///
+    /// `1..;-2` of `[4]`: 2. The project's own.
+    ///
     /// # Errors
     ///
     /// Those of `check_slice` on the shape: `IncompatibleShape` where the argument is for more axes
     /// than there are or for fewer; then that of the first element with one.
-    ///
-    /// Takes no memory, and time in proportion to the count of elements.
-    ///
-    /// `1..;-2` of `[4]`: 2. The project's own.
     ///
     /// # Examples
     ///

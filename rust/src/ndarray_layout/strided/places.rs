@@ -131,12 +131,12 @@ impl<D: Lengths> Strided<D> {
     ///
     /// Takes time and memory for each index.
     ///
+    /// `[2,3]` with strides `[-3,1]` from 3: 3 4 5 0 1 2 in row-major order, 3 0 4 1 5 2 in
+    /// column-major order. The project's own.
+    ///
     /// # Errors
     ///
     /// Out of memory; none where there is no index.
-    ///
-    /// `[2,3]` with strides `[-3,1]` from 3: 3 4 5 0 1 2 in row-major order, 3 0 4 1 5 2 in
-    /// column-major order. The project's own.
     ///
     /// # Examples
     ///

@@ -41,6 +41,9 @@ impl<D: Lengths> Strided<D> {
     /// strides are 0. A shape of permitted size has another error than out of memory if and only if
     /// no strides at all have these places.
     ///
+    /// `[2,3]` with strides `[3,1]` to `[3,2]`: `[2,1]` in row-major order, `IncompatibleLayout` in
+    /// column-major order. What ndarray's `to_shape` does where it copies nothing.
+    ///
     /// # Errors
     ///
     /// `Overflow` where the product of the lengths that are not 0 is greater than `isize::MAX`;
@@ -48,9 +51,6 @@ impl<D: Lengths> Strided<D> {
     /// never where the type fixes the count of axes or there are at most 4; then
     /// `IncompatibleLayout` where two axes would have to be iterated over as one and can't; then
     /// `IncompatibleShape` where the sizes differ.
-    ///
-    /// `[2,3]` with strides `[3,1]` to `[3,2]`: `[2,1]` in row-major order, `IncompatibleLayout` in
-    /// column-major order. What ndarray's `to_shape` does where it copies nothing.
     ///
     /// # Examples
     ///

@@ -214,6 +214,11 @@ impl<D: Lengths> Strided<D> {
     /// error, or the nearest bound. Each index that is left has the place of the index that it
     /// stands for.
     ///
+    /// Takes time in proportion to the count of elements.
+    ///
+    /// `1..;-2` of `[4]` with the stride `[3]` from 5: `[2]`, `[-6]` from 14. ndarray's `slice` and
+    /// `slice_collapse`.
+    ///
     /// # Errors
     ///
     /// `IncompatibleShape` where the argument is for more axes than there are or for fewer, or
@@ -221,11 +226,6 @@ impl<D: Lengths> Strided<D> {
     /// `OutOfBounds` for an index that is no coordinate of its axis, or for a bound that means no
     /// number from 0 to the length (never with `Fit::Clamp`), `Unsupported` for the step 0; then
     /// out of memory, never where `E` fixes the count of axes or at most 4 are left.
-    ///
-    /// Takes time in proportion to the count of elements.
-    ///
-    /// `1..;-2` of `[4]` with the stride `[3]` from 5: `[2]`, `[-6]` from 14. ndarray's `slice` and
-    /// `slice_collapse`.
     ///
     /// # Examples
     ///

@@ -58,15 +58,15 @@ impl<D: Lengths> Strided<D> {
     /// The two parts of the view along an axis: the coordinates below `index`, and those from `index` on. No
     /// element is moved. The start of the second part moves to coordinate `index`, if there is one.
     ///
-    /// # Errors
-    ///
-    /// `OutOfBounds` where there is no such axis or the index is greater than its length; then out of memory,
-    /// never where the type fixes the count of axes or there are at most 4.
-    ///
     /// Takes time in proportion to the count of axes.
     ///
     /// Axis 1 of `[2,3]`, `[3,1]` from 0 at 1: `[2,1]`, `[3,1]` from 0, and `[2,2]`, `[3,1]` from 1. ndarray's
     /// `split_at`.
+    ///
+    /// # Errors
+    ///
+    /// `OutOfBounds` where there is no such axis or the index is greater than its length; then out of memory,
+    /// never where the type fixes the count of axes or there are at most 4.
     ///
     /// # Examples
     ///

@@ -13,6 +13,11 @@ impl<D: Lengths> Strided<D> {
     /// the window is longer. The strides are those of the view, twice; without an index all are 0.
     /// Windows may overlap, so their places need not be distinct.
     ///
+    /// Takes time in proportion to the count of axes.
+    ///
+    /// `[4]`, `[1]` in windows of `[2]`: `[3,2]`, `[1,1]`. ndarray's `windows`, as one view; NumPy's
+    /// `sliding_window_view`.
+    ///
     /// # Errors
     ///
     /// `IncompatibleShape` where `window` has more or fewer axes than the view, or the type `E` fixes
@@ -20,11 +25,6 @@ impl<D: Lengths> Strided<D> {
     /// `Overflow` where the product of the lengths of the result that are not 0 is greater than
     /// `isize::MAX`; then out of memory, never where `E` fixes the count of axes or the result has at
     /// most 4.
-    ///
-    /// Takes time in proportion to the count of axes.
-    ///
-    /// `[4]`, `[1]` in windows of `[2]`: `[3,2]`, `[1,1]`. ndarray's `windows`, as one view; NumPy's
-    /// `sliding_window_view`.
     ///
     /// # Examples
     ///
