@@ -109,6 +109,13 @@
 #define ND_INLINE static
 #endif
 
+/* A function of this header whose result is to be looked at; the parameters at these positions are no null pointers. */
+#ifdef __GNUC__
+#define ND_CHECKED(positions) ND_INLINE __attribute__((warn_unused_result, nonnull positions))
+#else
+#define ND_CHECKED(positions) ND_INLINE
+#endif
+
 #ifdef __cplusplus
 extern "C" {
 #endif
@@ -504,10 +511,10 @@ ND_INLINE const char *nd_status_message(int32_t status) {
 /* ---- Layouts as one value -------------------------------------------------------------------------------------------- */
 
 /*
- * The functions below are of this header, and not of the library: each but the two that count makes one call from above with
- * the fields of a layout. It returns the call's status, and after any but ND_OK nothing has been written. The layout that is
- * written comes last, and may be the one that is read. ND_BAD_ARGUMENT, before every other status, also says that a layout
- * has more than ND_MAX_AXES axes, or would have.
+ * The functions below are of this header, and not of the library; ndarray_layout_inline.h, which it includes, has more of
+ * them. Each but the two that count makes one call from above with the fields of a layout. It returns the call's status, and
+ * after any but ND_OK nothing has been written. The layout that is written comes last, and may be the one that is read.
+ * ND_BAD_ARGUMENT, before every other status, also says that a layout has more than ND_MAX_AXES axes, or would have.
  */
 #define ND_MAX_AXES 32
 
@@ -520,7 +527,7 @@ typedef struct nd_layout {
 } nd_layout;
 
 /* (of this header alone) Whether there is room for so many axes; where there is, it writes their lengths. */
-ND_INLINE int nd_put_shape(nd_layout *layout, const size_t *shape, size_t shape_len) {
+ND_CHECKED((1)) int nd_put_shape(nd_layout *layout, const size_t *shape, size_t shape_len) {
     size_t axis;
     if (shape_len > ND_MAX_AXES) return 0;
     layout->axes = shape_len;
@@ -529,7 +536,7 @@ ND_INLINE int nd_put_shape(nd_layout *layout, const size_t *shape, size_t shape_
 }
 
 /* (of this header alone) Writes a layout where the call that made it returned ND_OK. */
-ND_INLINE int32_t nd_keep(int32_t status, const nd_layout *made, nd_layout *layout) {
+ND_CHECKED((2, 3)) int32_t nd_keep(int32_t status, const nd_layout *made, nd_layout *layout) {
     if (status == ND_OK) *layout = *made;
     return status;
 }
@@ -538,7 +545,7 @@ ND_INLINE int32_t nd_keep(int32_t status, const nd_layout *made, nd_layout *layo
  * The layout of a shape without gaps, from the place 0: nd_default_strides for ND_ROW_MAJOR, nd_fortran_strides for
  * ND_COLUMN_MAJOR.
  */
-ND_INLINE int32_t nd_layout_from_shape(const size_t *shape, size_t shape_len, int32_t order, nd_layout *layout) {
+ND_CHECKED((4)) int32_t nd_layout_from_shape(const size_t *shape, size_t shape_len, int32_t order, nd_layout *layout) {
     nd_layout made;
     if (!nd_put_shape(&made, shape, shape_len)) return ND_BAD_ARGUMENT;
     made.start = 0;
@@ -556,8 +563,8 @@ typedef struct nd_data {
 } nd_data;
 
 /* nd_layout_start: accepts a shape and strides over a buffer whose first element is the lowest one. */
-ND_INLINE int32_t nd_layout_from_strides(const size_t *shape, size_t shape_len, const ptrdiff_t *strides,
-                                         size_t strides_len, nd_data data, int32_t mode, nd_layout *layout) {
+ND_CHECKED((7)) int32_t nd_layout_from_strides(const size_t *shape, size_t shape_len, const ptrdiff_t *strides,
+                                               size_t strides_len, nd_data data, int32_t mode, nd_layout *layout) {
     nd_layout made;
     size_t axis;
     int32_t status;
@@ -569,35 +576,35 @@ ND_INLINE int32_t nd_layout_from_strides(const size_t *shape, size_t shape_len, 
 }
 
 /* nd_check_layout: whether a layout fits a buffer. */
-ND_INLINE int32_t nd_layout_check(const nd_layout *layout, nd_data data, int32_t mode) {
+ND_CHECKED((1)) int32_t nd_layout_check(const nd_layout *layout, nd_data data, int32_t mode) {
     if (layout->axes > ND_MAX_AXES) return ND_BAD_ARGUMENT;
     return nd_check_layout(layout->start, layout->shape, layout->axes, layout->strides, layout->axes, data.elem_size,
                            data.len, mode);
 }
 
 /* nd_place: the place of an index. */
-ND_INLINE int32_t nd_layout_place(const nd_layout *layout, const size_t *index, size_t index_len, size_t *place) {
+ND_CHECKED((1, 4)) int32_t nd_layout_place(const nd_layout *layout, const size_t *index, size_t index_len, size_t *place) {
     if (layout->axes > ND_MAX_AXES) return ND_BAD_ARGUMENT;
     return nd_place(layout->start, layout->shape, layout->axes, layout->strides, layout->axes, index, index_len, place);
 }
 
 /* nd_places: the places of all indices, in an order. */
-ND_INLINE int32_t nd_layout_places(const nd_layout *layout, int32_t order, size_t *places, size_t places_len) {
+ND_CHECKED((1)) int32_t nd_layout_places(const nd_layout *layout, int32_t order, size_t *places, size_t places_len) {
     if (layout->axes > ND_MAX_AXES) return ND_BAD_ARGUMENT;
     return nd_places(layout->start, layout->shape, layout->axes, layout->strides, layout->axes, order, places, places_len);
 }
 
 /* nd_rows: the start of each row in an order, and the stride and the length of all rows. */
-ND_INLINE int32_t nd_layout_rows(const nd_layout *layout, int32_t order, size_t *starts, size_t starts_len,
-                                 ptrdiff_t *stride, size_t *len) {
+ND_CHECKED((1, 5, 6)) int32_t nd_layout_rows(const nd_layout *layout, int32_t order, size_t *starts, size_t starts_len,
+                                             ptrdiff_t *stride, size_t *len) {
     if (layout->axes > ND_MAX_AXES) return ND_BAD_ARGUMENT;
     return nd_rows(layout->start, layout->shape, layout->axes, layout->strides, layout->axes, order, starts, starts_len,
                    stride, len);
 }
 
 /* nd_next_index: moves an index to the next one in an order. */
-ND_INLINE int32_t nd_layout_next_index(const nd_layout *layout, size_t *index, size_t index_len, int32_t order,
-                                       int32_t *has_next) {
+ND_CHECKED((1, 5)) int32_t nd_layout_next_index(const nd_layout *layout, size_t *index, size_t index_len, int32_t order,
+                                                int32_t *has_next) {
     if (layout->axes > ND_MAX_AXES) return ND_BAD_ARGUMENT;
     return nd_next_index(layout->shape, layout->axes, index, index_len, order, has_next);
 }
@@ -614,7 +621,7 @@ ND_INLINE size_t nd_product(const size_t *lengths, size_t count) {
  * where a call has accepted the layout or made it; nd_layout_places refuses every other count. 0 where there are more than
  * ND_MAX_AXES axes.
  */
-ND_INLINE size_t nd_layout_size(const nd_layout *layout) {
+ND_CHECKED((1)) size_t nd_layout_size(const nd_layout *layout) {
     return layout->axes > ND_MAX_AXES ? 0 : nd_product(layout->shape, layout->axes);
 }
 
@@ -622,15 +629,15 @@ ND_INLINE size_t nd_layout_size(const nd_layout *layout) {
  * How many rows a layout has in an order, which is how many starts nd_layout_rows writes: 1 without axes, 0 without an index.
  * What nd_layout_size says of its number holds of this one too. 0 for a number that is no order.
  */
-ND_INLINE size_t nd_layout_row_count(const nd_layout *layout, int32_t order) {
+ND_CHECKED((1)) size_t nd_layout_row_count(const nd_layout *layout, int32_t order) {
     if (order != ND_ROW_MAJOR && order != ND_COLUMN_MAJOR) return 0;
     if (layout->axes == 0 || nd_layout_size(layout) == 0) return nd_layout_size(layout);
     return nd_product(layout->shape + (order == ND_COLUMN_MAJOR), layout->axes - 1);
 }
 
 /* nd_slice. */
-ND_INLINE int32_t nd_layout_slice(const nd_layout *layout, const nd_slice_elem *elems, size_t elems_len, int32_t fit,
-                                  nd_layout *slice) {
+ND_CHECKED((1, 5)) int32_t nd_layout_slice(const nd_layout *layout, const nd_slice_elem *elems, size_t elems_len, int32_t fit,
+                                           nd_layout *slice) {
     nd_layout made;
     size_t elem;
     made.axes = 0;
@@ -643,8 +650,8 @@ ND_INLINE int32_t nd_layout_slice(const nd_layout *layout, const nd_slice_elem *
 }
 
 /* nd_permuted_axes: axis k of what is written is axis `axes[k]` of the layout. */
-ND_INLINE int32_t nd_layout_permuted_axes(const nd_layout *layout, const size_t *axes, size_t axes_len,
-                                          nd_layout *permuted) {
+ND_CHECKED((1, 4)) int32_t nd_layout_permuted_axes(const nd_layout *layout, const size_t *axes, size_t axes_len,
+                                                   nd_layout *permuted) {
     nd_layout made;
     if (layout->axes > ND_MAX_AXES) return ND_BAD_ARGUMENT;
     made.start = layout->start;
@@ -655,8 +662,8 @@ ND_INLINE int32_t nd_layout_permuted_axes(const nd_layout *layout, const size_t 
 }
 
 /* nd_reshape: the same places along another shape, in an order. */
-ND_INLINE int32_t nd_layout_reshape(const nd_layout *layout, const size_t *new_shape, size_t new_shape_len, int32_t order,
-                                    nd_layout *reshaped) {
+ND_CHECKED((1, 5)) int32_t nd_layout_reshape(const nd_layout *layout, const size_t *new_shape, size_t new_shape_len,
+                                             int32_t order, nd_layout *reshaped) {
     nd_layout made;
     if (layout->axes > ND_MAX_AXES || !nd_put_shape(&made, new_shape, new_shape_len)) return ND_BAD_ARGUMENT;
     made.start = layout->start;
@@ -666,8 +673,8 @@ ND_INLINE int32_t nd_layout_reshape(const nd_layout *layout, const size_t *new_s
 }
 
 /* nd_broadcast: the layout read as one of the shape `target`. */
-ND_INLINE int32_t nd_layout_broadcast(const nd_layout *layout, const size_t *target, size_t target_len,
-                                      nd_layout *broadcast) {
+ND_CHECKED((1, 4)) int32_t nd_layout_broadcast(const nd_layout *layout, const size_t *target, size_t target_len,
+                                               nd_layout *broadcast) {
     nd_layout made;
     if (layout->axes > ND_MAX_AXES || !nd_put_shape(&made, target, target_len)) return ND_BAD_ARGUMENT;
     made.start = layout->start;
@@ -677,7 +684,8 @@ ND_INLINE int32_t nd_layout_broadcast(const nd_layout *layout, const size_t *tar
 }
 
 /* nd_windows: what is written has twice as many axes, those along which the windows move and then those in a window. */
-ND_INLINE int32_t nd_layout_windows(const nd_layout *layout, const size_t *window, size_t window_len, nd_layout *windows) {
+ND_CHECKED((1, 4)) int32_t nd_layout_windows(const nd_layout *layout, const size_t *window, size_t window_len,
+                                             nd_layout *windows) {
     nd_layout made;
     if (layout->axes > ND_MAX_AXES / 2) return ND_BAD_ARGUMENT;
     made.start = layout->start;
@@ -688,8 +696,8 @@ ND_INLINE int32_t nd_layout_windows(const nd_layout *layout, const size_t *windo
 }
 
 /* nd_exact_chunks: what is written has twice as many axes, those of the chunks' numbers and then those in a chunk. */
-ND_INLINE int32_t nd_layout_exact_chunks(const nd_layout *layout, const size_t *chunk, size_t chunk_len,
-                                         nd_layout *chunks) {
+ND_CHECKED((1, 4)) int32_t nd_layout_exact_chunks(const nd_layout *layout, const size_t *chunk, size_t chunk_len,
+                                                  nd_layout *chunks) {
     nd_layout made;
     if (layout->axes > ND_MAX_AXES / 2) return ND_BAD_ARGUMENT;
     made.start = layout->start;
@@ -703,8 +711,8 @@ ND_INLINE int32_t nd_layout_exact_chunks(const nd_layout *layout, const size_t *
  * nd_split_at: the parts below a coordinate of an axis and from it on, in two layouts that are not one. One of them may be the
  * layout that is read.
  */
-ND_INLINE int32_t nd_layout_split_at(const nd_layout *layout, size_t axis, size_t index, nd_layout *first,
-                                     nd_layout *second) {
+ND_CHECKED((1, 4, 5)) int32_t nd_layout_split_at(const nd_layout *layout, size_t axis, size_t index, nd_layout *first,
+                                                 nd_layout *second) {
     nd_layout made;
     size_t starts[2], shapes[2 * ND_MAX_AXES], other;
     int32_t status;
@@ -721,6 +729,8 @@ ND_INLINE int32_t nd_layout_split_at(const nd_layout *layout, size_t axis, size_
     *second = made;
     return ND_OK;
 }
+
+#include "ndarray_layout_inline.h"
 
 #ifdef __cplusplus
 }

@@ -1,0 +1,474 @@
+/* What ndarray_layout_inline.h has, beside the calls of the library, over random layouts and edited ones: C89, C99, C++. */
+#include "ndarray_layout.h"
+
+#include <stdio.h>
+#include <stdlib.h>
+#include <string.h>
+
+#define COUNT(list) (sizeof(list) / sizeof *(list))
+/* A list and its count, as the calls take them. */
+#define LIST(list) (list), COUNT(list)
+
+static int checked, failed;
+
+static void check(int holds, int line, const char *what) {
+    checked++;
+    if (holds) return;
+    failed++;
+    printf("test_views.c:%d: %s\n", line, what);
+}
+
+#define CHECK(fact) check((fact), __LINE__, #fact)
+/* A fact of many rounds, which counts where it fails. */
+#define CHECK_QUIETLY(fact) \
+    do { \
+        if (!(fact)) check(0, __LINE__, #fact); \
+    } while (0)
+
+static const size_t two_three[2] = {2, 3}, many[ND_MAX_AXES + 1] = {1};
+static const ptrdiff_t up[2] = {-3, 1}, by_rows[2] = {3, 1};
+static const nd_data five_bytes = {1, 5}, six_bytes = {1, 6};
+
+/* A number from 0 to before `bound`, by a fixed sequence. */
+static size_t below(size_t bound) {
+    static unsigned state = 1;
+    state = state * 1664525u + 1013904223u;
+    return (state >> 8) % bound;
+}
+
+/* A view of up to four axes over a buffer of `elem_size` bytes an element, where one is accepted. */
+static int32_t random_view(nd_view *view, size_t elem_size, int32_t mode) {
+    size_t shape[4], axes = below(5), axis, reach = 1;
+    ptrdiff_t strides[4];
+    nd_data data;
+    for (axis = axes; axis-- > 0;) {
+        shape[axis] = below(9) == 0 ? 0 : 1 + below(4);
+        strides[axis] = (ptrdiff_t)(below(8) == 0 ? below(5) : reach) * (below(3) == 0 ? -1 : 1);
+        reach *= shape[axis] > 0 ? shape[axis] + below(2) : 1;
+    }
+    data.elem_size = elem_size;
+    data.len = below(3) == 0 ? reach : reach + below(9);
+    return nd_view_from_strides(shape, axes, strides, axes, data, mode, view);
+}
+
+/* What nd_at has for as many coordinates as there are axes. */
+static size_t at(const nd_view *view, const size_t *index) {
+    switch (view->layout.axes) {
+    case 1: return nd_at1(view, index[0]);
+    case 2: return nd_at2(view, index[0], index[1]);
+    case 3: return nd_at3(view, index[0], index[1], index[2]);
+    case 4: return nd_at4(view, index[0], index[1], index[2], index[3]);
+    default: return nd_at_n(view, index, view->layout.axes);
+    }
+}
+
+static void test_new_views(void) {
+    nd_layout layout;
+    nd_view view, before;
+    memset(&view, 7, sizeof view);
+    before = view;
+    CHECK(nd_layout_from_shape(LIST(two_three), ND_ROW_MAJOR, &layout) == ND_OK);
+    CHECK(nd_view_of(&layout, five_bytes, ND_OWNED, &view) == ND_OUT_OF_BOUNDS);
+    CHECK(nd_view_of(&layout, six_bytes, 2, &view) == ND_BAD_ARGUMENT);
+    CHECK(nd_view_from_shape(LIST(two_three), ND_ROW_MAJOR, five_bytes, ND_OWNED, &view) == ND_OUT_OF_BOUNDS);
+    CHECK(nd_view_from_shape(LIST(two_three), 2, six_bytes, ND_OWNED, &view) == ND_BAD_ARGUMENT);
+    CHECK(nd_view_from_shape(LIST(many), ND_ROW_MAJOR, six_bytes, ND_OWNED, &view) == ND_BAD_ARGUMENT);
+    CHECK(nd_view_from_strides(LIST(two_three), up, 1, six_bytes, ND_OWNED, &view) == ND_INCOMPATIBLE_LAYOUT);
+    layout.axes = ND_MAX_AXES + 1;
+    CHECK(nd_view_of(&layout, six_bytes, ND_OWNED, &view) == ND_BAD_ARGUMENT);
+    CHECK(memcmp(&view, &before, sizeof view) == 0);
+    CHECK(nd_view_from_shape(LIST(two_three), ND_COLUMN_MAJOR, six_bytes, ND_OWNED, &view) == ND_OK);
+    CHECK(view.layout.start == 0 && view.layout.strides[0] == 1 && view.layout.strides[1] == 2 && view.data.len == 6);
+    CHECK(nd_view_of(&view.layout, six_bytes, ND_OWNED, &view) == ND_OK && view.layout.strides[1] == 2);
+    CHECK(nd_view_from_strides(LIST(two_three), LIST(up), six_bytes, ND_OWNED, &view) == ND_OK && view.layout.start == 3);
+    CHECK(view.data.elem_size == 1 && view.data.len == 6);
+}
+
+static void test_at(void) {
+    const size_t last[3] = {1, 2, 0};
+    nd_view view;
+    CHECK(nd_view_from_strides(LIST(two_three), LIST(up), six_bytes, ND_OWNED, &view) == ND_OK);
+    CHECK(nd_at2(&view, 1, 2) == 2 && nd_at2(&view, 0, 2) == 5 && nd_at_n(&view, last, 2) == 2);
+    CHECK(nd_at2(&view, 2, 0) == ND_NO_PLACE && nd_at2(&view, 0, 3) == ND_NO_PLACE);
+    CHECK(nd_at2(&view, (size_t)-1, 0) == ND_NO_PLACE && nd_at2(&view, 0, (size_t)-1) == ND_NO_PLACE);
+    CHECK(nd_at1(&view, 0) == ND_NO_PLACE && nd_at3(&view, 0, 0, 0) == ND_NO_PLACE);
+    CHECK(nd_at4(&view, 0, 0, 0, 0) == ND_NO_PLACE && nd_at_n(&view, last, 3) == ND_NO_PLACE);
+    CHECK(nd_at_n(&view, last, 0) == ND_NO_PLACE);
+#ifdef nd_at
+    CHECK(nd_at(&view, 1, 2) == 2 && nd_at(&view, 2, 0) == ND_NO_PLACE && nd_at(&view, 1) == ND_NO_PLACE);
+    CHECK(nd_at(&view, 0, 0, 0) == ND_NO_PLACE && nd_at(&view, 0, 0, 0, 0) == ND_NO_PLACE);
+#endif
+    view.data.len = 2; /* (a buffer that has become less) */
+    CHECK(nd_at2(&view, 1, 2) == ND_NO_PLACE && nd_at2(&view, 1, 1) == 1);
+    view.layout.axes = ND_MAX_AXES + 1;
+    CHECK(nd_at_n(&view, many, ND_MAX_AXES + 1) == ND_NO_PLACE);
+}
+
+/* Coordinates on the axes and past them: nd_at beside nd_place. */
+static void test_at_beside_place(void) {
+    int round, found = 0, none = 0;
+    for (round = 0; round < 200000; round++) {
+        nd_view view;
+        size_t index[4] = {0, 0, 0, 0}, axis, place = 77, got;
+        int32_t status;
+        if (random_view(&view, 1, ND_READ_ONLY) != ND_OK) continue;
+        for (axis = 0; axis < view.layout.axes; axis++) index[axis] = below(view.layout.shape[axis] + 1 + 2 * (below(4) == 0));
+        status = nd_layout_place(&view.layout, index, view.layout.axes, &place);
+        got = at(&view, index);
+        CHECK_QUIETLY(got == nd_at_n(&view, index, view.layout.axes));
+        CHECK_QUIETLY(status == ND_OK ? got == place && got < view.data.len : got == ND_NO_PLACE);
+        if (status == ND_OK) found++;
+        else none++;
+    }
+    CHECK(found > 20000 && none > 20000);
+}
+
+/* A number that an editor may put anywhere. */
+static size_t any_number(void) {
+    static const size_t numbers[] = {0, 1, 2, 3, 7, 40, (size_t)-1 / 2, (size_t)-1 / 2 + 1, (size_t)-1, (size_t)-2};
+    if (below(3) == 0) return below(50);
+    return below(2) == 0 ? numbers[below(COUNT(numbers))] : (below(1u << 24) << 40) + below(1u << 24);
+}
+
+/* Edits one number of a layout. */
+static void edit(nd_layout *layout) {
+    switch (below(4)) {
+    case 0: layout->start = any_number(); break;
+    case 1: layout->shape[below(4)] = any_number(); break;
+    case 2: layout->strides[below(4)] = (ptrdiff_t)any_number(); break;
+    default: layout->axes = below(8) == 0 ? any_number() : below(6); break;
+    }
+}
+
+/* Writes what a layout's lists hold after its axes. */
+static void write_rest(nd_layout *layout) {
+    size_t axis;
+    for (axis = layout->axes; axis < ND_MAX_AXES; axis++) {
+        layout->shape[axis] = any_number();
+        layout->strides[axis] = (ptrdiff_t)any_number();
+    }
+}
+
+/* Reads the byte at each place that a view gives, and by each row, in a buffer of exactly its length. */
+static int read_through(const nd_view *view, const char *buffer, unsigned *sum) {
+    size_t index[ND_MAX_AXES], axis, place, left;
+    nd_row_iter rows;
+    nd_row row;
+    int found = 0, round;
+    for (round = 0; round < 8; round++) {
+        for (axis = 0; axis < ND_MAX_AXES; axis++) index[axis] = below(2) == 0 ? below(5) : any_number();
+        place = view->layout.axes <= 4 ? at(view, index) : nd_at_n(view, index, view->layout.axes);
+        if (place == ND_NO_PLACE) continue;
+        *sum += (unsigned char)buffer[place];
+        found = 1;
+    }
+    if ((below(2) == 0 ? nd_view_rows : nd_view_joined_rows)(view, (int32_t)below(2), &rows) != ND_OK) return found;
+    if (rows.left > 1000) return found;
+    while (nd_next_row(&rows, &row))
+        for (left = row.len < 1000 ? row.len : 1000, place = row.start; left-- > 0; place += (size_t)row.stride)
+            *sum += (unsigned char)buffer[place];
+    return found | 2;
+}
+
+/* Layouts that are edited after they were accepted, over buffers of their own, whose ends the sanitizers and valgrind know. */
+static void test_edited(void) {
+    int round, edits, at_some = 0, rows_of_some = 0;
+    unsigned sum = 0;
+    for (round = 0; round < 30000; round++) {
+        nd_view view;
+        char *buffer;
+        int found;
+        if (random_view(&view, 1, ND_READ_ONLY) != ND_OK || view.data.len == 0) continue;
+        buffer = (char *)calloc(view.data.len, 1);
+        if (buffer == NULL) continue;
+        write_rest(&view.layout);
+        for (edits = (int)below(4); edits-- > 0;) edit(&view.layout);
+        found = read_through(&view, buffer, &sum);
+        at_some += found & 1;
+        rows_of_some += found >> 1;
+        free(buffer);
+    }
+    CHECK(sum == 0 && at_some > 5000 && rows_of_some > 5000);
+}
+
+/* Whether the rows of a view have the places of nd_layout_places, in their order. */
+static int has_places_of_rows(const nd_view *view, int32_t order, nd_row_iter *rows) {
+    size_t places[2304], count = nd_layout_size(&view->layout), at_place = 0, column;
+    nd_row row;
+    if (count > COUNT(places) || nd_layout_places(&view->layout, order, places, count) != ND_OK) return 0;
+    while (nd_next_row(rows, &row))
+        for (column = 0; column < row.len; column++)
+            if (at_place >= count || places[at_place++] != row.start + column * (size_t)row.stride) return 0;
+    return at_place == count && !nd_next_row(rows, &row);
+}
+
+static void test_rows_beside_places(void) {
+    int round, fewer = 0, none = 0, several = 0;
+    for (round = 0; round < 40000; round++) {
+        const int32_t order = (int32_t)below(2);
+        nd_view view;
+        nd_row_iter rows, joined;
+        nd_layout layout;
+        if (random_view(&view, 1, ND_READ_ONLY) != ND_OK) continue;
+        if (nd_view_rows(&view, order, &rows) != ND_OK || nd_view_joined_rows(&view, order, &joined) != ND_OK ||
+            nd_layout_join_axes(&view.layout, order, &layout) != ND_OK) {
+            CHECK(0);
+            continue;
+        }
+        CHECK_QUIETLY(rows.left == nd_layout_row_count(&view.layout, order));
+        CHECK_QUIETLY(joined.left == nd_layout_row_count(&layout, order) && joined.left <= rows.left);
+        CHECK_QUIETLY(nd_layout_size(&layout) == nd_layout_size(&view.layout) && layout.axes <= view.layout.axes);
+        if (joined.left < rows.left) fewer++;
+        if (rows.left == 0) none++;
+        if (joined.left > 1) several++;
+        CHECK_QUIETLY(has_places_of_rows(&view, order, &rows) && has_places_of_rows(&view, order, &joined));
+    }
+    CHECK(fewer > 2000 && none > 1000 && several > 5000);
+}
+
+static void test_rows(void) {
+    const size_t whole[3] = {100, 800, 3}, none[2] = {0, 4};
+    const nd_slice_elem cut[3] = {ND_ALL, ND_RANGE(10, 210), ND_ALL};
+    const nd_data data = {1, 240000};
+    nd_view view;
+    nd_row_iter rows, before;
+    nd_row row;
+    nd_layout joined;
+    CHECK(nd_view_from_shape(LIST(whole), ND_ROW_MAJOR, data, ND_OWNED, &view) == ND_OK);
+    CHECK(nd_view_joined_rows(&view, ND_ROW_MAJOR, &rows) == ND_OK && rows.left == 1 && rows.next.len == 240000);
+    CHECK(nd_layout_slice(&view.layout, LIST(cut), ND_STRICT, &view.layout) == ND_OK);
+    CHECK(nd_view_rows(&view, ND_ROW_MAJOR, &rows) == ND_OK && rows.left == 20000 && rows.next.len == 3);
+    CHECK(nd_view_joined_rows(&view, ND_ROW_MAJOR, &rows) == ND_OK && rows.left == 100);
+    CHECK(nd_next_row(&rows, &row) && row.start == 30 && row.len == 600 && row.stride == 1 && rows.left == 99);
+    CHECK(nd_next_row(&rows, &row) && row.start == 2430);
+    CHECK(nd_layout_join_axes(&view.layout, ND_ROW_MAJOR, &joined) == ND_OK && joined.axes == 2 && joined.shape[1] == 600);
+    CHECK(nd_view_joined_rows(&view, ND_COLUMN_MAJOR, &rows) == ND_OK && rows.left == 600 && rows.next.len == 100);
+    memset(&before, 7, sizeof before);
+    rows = before;
+    CHECK(nd_view_rows(&view, 2, &rows) == ND_BAD_ARGUMENT);
+    CHECK(nd_view_joined_rows(&view, 2, &rows) == ND_BAD_ARGUMENT);
+    CHECK(nd_layout_join_axes(&view.layout, -1, &joined) == ND_BAD_ARGUMENT);
+    view.data.len = 2000;
+    CHECK(nd_view_rows(&view, ND_ROW_MAJOR, &rows) == ND_OUT_OF_BOUNDS);
+    CHECK(nd_view_joined_rows(&view, ND_ROW_MAJOR, &rows) == ND_OUT_OF_BOUNDS);
+    view.layout.strides[0] = (ptrdiff_t)((size_t)-1 / 2);
+    CHECK(nd_view_rows(&view, ND_ROW_MAJOR, &rows) == ND_OVERFLOW);
+    CHECK(nd_layout_join_axes(&view.layout, ND_ROW_MAJOR, &joined) == ND_OVERFLOW && joined.axes == 2);
+    view.layout.axes = ND_MAX_AXES + 1;
+    CHECK(nd_view_rows(&view, ND_ROW_MAJOR, &rows) == ND_BAD_ARGUMENT);
+    CHECK(nd_layout_join_axes(&view.layout, ND_ROW_MAJOR, &joined) == ND_BAD_ARGUMENT && joined.axes == 2);
+    CHECK(memcmp(&rows, &before, sizeof rows) == 0);
+    CHECK(nd_view_from_shape(LIST(none), ND_ROW_MAJOR, data, ND_OWNED, &view) == ND_OK);
+    CHECK(nd_view_rows(&view, ND_ROW_MAJOR, &rows) == ND_OK && !nd_next_row(&rows, &row) && row.start == 2430);
+    CHECK(nd_view_from_shape(none, 0, ND_ROW_MAJOR, data, ND_OWNED, &view) == ND_OK);
+    CHECK(nd_view_rows(&view, ND_COLUMN_MAJOR, &rows) == ND_OK && nd_next_row(&rows, &row));
+    CHECK(row.start == 0 && row.len == 1 && row.stride == 0 && !nd_next_row(&rows, &row));
+}
+
+static int is_elem(nd_slice_elem elem, int32_t kind, int32_t has_end, ptrdiff_t start, ptrdiff_t end, ptrdiff_t step) {
+    return elem.kind == kind && elem.has_end == has_end && elem.start == start && elem.end == end && elem.step == step;
+}
+
+static void test_elems(void) {
+    const nd_slice_elem elems[] = {ND_ALL,      ND_RANGE(1, -2),   ND_RANGE_BY(1, 9, -3), ND_FROM(4),
+                                   ND_INDEX(5), ND_FROM_BY(0, -1), ND_NEW_AXIS()};
+    const int32_t kinds[] = {ND_SLICE, ND_INDEX, ND_NEW_AXIS}; /* (which are numbers still) */
+    CHECK(kinds[0] == 0 && kinds[1] == 1 && kinds[2] == 2);
+    CHECK(is_elem(elems[0], ND_SLICE, 0, 0, 0, 1) && is_elem(elems[1], ND_SLICE, 1, 1, -2, 1));
+    CHECK(is_elem(elems[2], ND_SLICE, 1, 1, 9, -3) && is_elem(elems[3], ND_SLICE, 0, 4, 0, 1));
+    CHECK(is_elem(elems[4], ND_INDEX, 0, 5, 0, 0) && is_elem(elems[5], ND_SLICE, 0, 0, 0, -1));
+    CHECK(elems[6].kind == ND_NEW_AXIS);
+}
+
+/* Whether two answers, and their statuses, are the same. */
+static int is_same(int32_t status, int32_t answer, int32_t expected_status, int32_t expected) {
+    return status == expected_status && (status != ND_OK || answer == expected);
+}
+
+/* The calls for one layout, beside those of the library, over layouts of which some are edited. */
+static void test_twins_beside_calls(void) {
+    int round, merged_some = 0, refused = 0;
+    for (round = 0; round < 40000; round++) {
+        nd_view view;
+        nd_layout one, made, other;
+        int32_t answer = 7, expected = 7, status, got;
+        size_t first = 7, end = 7, expected_first = 7, expected_end = 7, take = below(4), into = below(4);
+        const int32_t order = (int32_t)below(3);
+        if (random_view(&view, 1, ND_READ_ONLY) != ND_OK) continue;
+        one = view.layout;
+        write_rest(&one);
+        if (below(4) == 0) edit(&one);
+        if (one.axes > 4) one.axes = 4;
+        status = nd_has_overlap(one.shape, one.axes, one.strides, one.axes, &expected);
+        if (status != ND_OK) refused++;
+        got = nd_layout_has_overlap(&one, &answer);
+        CHECK_QUIETLY(is_same(got, answer, status, expected));
+        status = nd_is_contiguous(one.shape, one.axes, one.strides, one.axes, &expected);
+        got = nd_layout_is_contiguous(&one, &answer);
+        CHECK_QUIETLY(is_same(got, answer, status, expected));
+        status = nd_is_layout_c(one.shape, one.axes, one.strides, one.axes, &expected);
+        got = nd_layout_is_layout_c(&one, &answer);
+        CHECK_QUIETLY(is_same(got, answer, status, expected));
+        status = nd_is_layout_f(one.shape, one.axes, one.strides, one.axes, &expected);
+        got = nd_layout_is_layout_f(&one, &answer);
+        CHECK_QUIETLY(is_same(got, answer, status, expected));
+        status = nd_stretch(one.start, one.shape, one.axes, one.strides, one.axes, order, &expected_first, &expected_end,
+                            &expected);
+        got = nd_layout_stretch(&one, order, &first, &end, &answer);
+        CHECK_QUIETLY(is_same(got, answer, status, expected));
+        CHECK_QUIETLY(first == expected_first && end == expected_end);
+        other = one;
+        made = one;
+        made.axes = 3;
+        status = nd_merge_axes(other.shape, other.axes, other.strides, other.axes, take, into, &expected);
+        got = nd_layout_merge_axes(&one, take, into, &answer, &made);
+        CHECK_QUIETLY(is_same(got, answer, status, expected));
+        CHECK_QUIETLY(status == ND_OK ? memcmp(&made, &other, sizeof made) == 0 : made.axes == 3);
+        if (status == ND_OK && answer) merged_some++;
+        made.axes = 3;
+        status = nd_diag(one.shape, one.axes, one.strides, one.axes, other.shape, other.strides);
+        CHECK_QUIETLY(nd_layout_diag(&one, &made) == status);
+        CHECK_QUIETLY(status != ND_OK ? made.axes == 3
+                                      : made.start == one.start && made.axes == 1 && made.shape[0] == other.shape[0] &&
+                                            made.strides[0] == other.strides[0]);
+    }
+    CHECK(merged_some > 2000 && refused > 200);
+}
+
+static void test_slices_of_layouts(void) {
+    const nd_slice_elem rows[6] = {ND_INDEX(0), ND_ALL, ND_INDEX(1), ND_ALL, ND_ALL, ND_INDEX(-1)};
+    const size_t counts[3] = {2, 2, 2};
+    nd_layout layout;
+    size_t pair[2] = {7, 7}, count = 7;
+    int32_t found = 7;
+    CHECK(nd_layout_from_shape(LIST(two_three), ND_ROW_MAJOR, &layout) == ND_OK);
+    CHECK(nd_layout_picked(&layout, rows, 1, ND_STRICT, &count) == ND_INCOMPATIBLE_SHAPE && count == 7);
+    CHECK(nd_layout_picked(&layout, rows, 2, ND_STRICT, &count) == ND_OK && count == 3);
+    CHECK(nd_layout_slices_intersect(&layout, rows, 2, rows + 2, 1, ND_STRICT, &found) == ND_INCOMPATIBLE_SHAPE && found == 7);
+    CHECK(nd_layout_slices_intersect(&layout, rows, 2, rows + 2, 2, ND_STRICT, &found) == ND_OK && found == 0);
+    CHECK(nd_layout_slices_intersect(&layout, rows, 2, rows + 4, 2, ND_STRICT, &found) == ND_OK && found == 1);
+    CHECK(nd_layout_first_intersection(&layout, rows, 6, counts, 2, ND_STRICT, pair, &found) == ND_BAD_ARGUMENT);
+    CHECK(pair[0] == 7 && found == 1);
+    CHECK(nd_layout_first_intersection(&layout, rows, 4, counts, 2, ND_STRICT, pair, &found) == ND_OK && found == 0);
+    CHECK(nd_layout_first_intersection(&layout, rows, 6, counts, 3, ND_STRICT, pair, &found) == ND_OK && found == 1);
+    CHECK(pair[0] < pair[1] && pair[1] == 2);
+    layout.axes = ND_MAX_AXES + 1;
+    CHECK(nd_layout_picked(&layout, rows, 2, ND_STRICT, &count) == ND_BAD_ARGUMENT);
+    CHECK(nd_layout_slices_intersect(&layout, rows, 2, rows + 4, 2, ND_STRICT, &found) == ND_BAD_ARGUMENT);
+    CHECK(nd_layout_first_intersection(&layout, rows, 6, counts, 3, ND_STRICT, pair, &found) == ND_BAD_ARGUMENT);
+}
+
+static void test_co_broadcast(void) {
+    const size_t column[2] = {2, 1}, row[1] = {3}, four[1] = {4};
+    nd_layout first, second, third;
+    CHECK(nd_layout_from_shape(LIST(column), ND_ROW_MAJOR, &first) == ND_OK);
+    CHECK(nd_layout_from_shape(LIST(row), ND_ROW_MAJOR, &second) == ND_OK);
+    CHECK(nd_layout_from_shape(LIST(four), ND_ROW_MAJOR, &third) == ND_OK);
+    CHECK(nd_layout_co_broadcast(&second, &third, &second, &third) == ND_INCOMPATIBLE_SHAPE);
+    CHECK(second.axes == 1 && second.shape[0] == 3 && third.axes == 1 && third.shape[0] == 4);
+    CHECK(nd_layout_co_broadcast(&first, &second, &second, &first) == ND_OK); /* (crosswise) */
+    CHECK(first.axes == 2 && first.shape[0] == 2 && first.shape[1] == 3 && first.strides[0] == 0 && first.strides[1] == 1);
+    CHECK(second.axes == 2 && second.shape[1] == 3 && second.strides[0] == 1 && second.strides[1] == 0);
+    first.axes = ND_MAX_AXES + 1;
+    CHECK(nd_layout_co_broadcast(&first, &second, &first, &second) == ND_BAD_ARGUMENT);
+    CHECK(nd_layout_co_broadcast(&second, &first, &first, &second) == ND_BAD_ARGUMENT);
+}
+
+static void test_too_many_axes(void) {
+    nd_layout layout, made;
+    size_t first, end;
+    int32_t answer = 7;
+    CHECK(nd_layout_from_shape(LIST(two_three), ND_ROW_MAJOR, &layout) == ND_OK);
+    layout.axes = ND_MAX_AXES + 1;
+    made.axes = 7;
+    CHECK(nd_layout_has_overlap(&layout, &answer) == ND_BAD_ARGUMENT);
+    CHECK(nd_layout_is_contiguous(&layout, &answer) == ND_BAD_ARGUMENT);
+    CHECK(nd_layout_is_layout_c(&layout, &answer) == ND_BAD_ARGUMENT);
+    CHECK(nd_layout_is_layout_f(&layout, &answer) == ND_BAD_ARGUMENT);
+    CHECK(nd_layout_stretch(&layout, ND_ROW_MAJOR, &first, &end, &answer) == ND_BAD_ARGUMENT);
+    CHECK(nd_layout_merge_axes(&layout, 0, 1, &answer, &made) == ND_BAD_ARGUMENT);
+    CHECK(nd_layout_diag(&layout, &made) == ND_BAD_ARGUMENT);
+    CHECK(answer == 7 && made.axes == 7);
+}
+
+static void test_bytes(void) {
+    const size_t three[1] = {3}, none[2] = {3, 0};
+    const ptrdiff_t seven[1] = {7}, lines[2] = {-12, 4}, back[2] = {-7, 4};
+    ptrdiff_t strides[2] = {77, 77};
+    nd_view view, before;
+    memset(&view, 7, sizeof view);
+    before = view;
+    CHECK(nd_strides_from_bytes(seven, 1, 4, strides) == ND_INCOMPATIBLE_LAYOUT && strides[0] == 77);
+    CHECK(nd_strides_from_bytes(lines, 2, 0, strides) == ND_BAD_ARGUMENT && strides[0] == 77);
+    CHECK(nd_strides_from_bytes(lines, 2, (size_t)-1, strides) == ND_BAD_ARGUMENT && strides[0] == 77);
+    CHECK(nd_strides_from_bytes(lines, 2, 4, strides) == ND_OK && strides[0] == -3 && strides[1] == 1);
+    CHECK(nd_view_over_bytes(2, LIST(three), LIST(seven), 4, 19, ND_OWNED, &view) == ND_OUT_OF_BOUNDS);
+    CHECK(nd_view_over_bytes(2, LIST(three), LIST(seven), 8, 99, ND_OWNED, &view) == ND_UNSUPPORTED);
+    CHECK(nd_view_over_bytes(2, LIST(three), LIST(seven), 0, 99, ND_OWNED, &view) == ND_BAD_ARGUMENT);
+    CHECK(nd_view_over_bytes(2, LIST(three), LIST(seven), 4, 99, 2, &view) == ND_BAD_ARGUMENT);
+    CHECK(nd_view_over_bytes(2, LIST(many), LIST(seven), 4, 99, ND_OWNED, &view) == ND_BAD_ARGUMENT);
+    CHECK(nd_view_over_bytes(2, LIST(three), lines, 2, 4, 99, ND_OWNED, &view) == ND_INCOMPATIBLE_LAYOUT);
+    CHECK(nd_view_from_byte_strides(LIST(three), lines, 2, 4, 99, ND_OWNED, &view) == ND_INCOMPATIBLE_LAYOUT);
+    CHECK(nd_view_from_byte_strides(LIST(three), LIST(seven), 0, 99, ND_OWNED, &view) == ND_BAD_ARGUMENT);
+    CHECK(nd_view_from_byte_strides(LIST(three), LIST(seven), 4, 99, 2, &view) == ND_BAD_ARGUMENT);
+    CHECK(nd_view_from_byte_strides(LIST(two_three), LIST(lines), 4, 23, ND_OWNED, &view) == ND_OUT_OF_BOUNDS);
+    CHECK(memcmp(&view, &before, sizeof view) == 0);
+    CHECK(nd_view_over_bytes(2, LIST(three), LIST(seven), 8, 24, ND_READ_ONLY, &view) == ND_OK && nd_at1(&view, 2) == 16);
+    CHECK(nd_view_over_bytes(2, LIST(three), LIST(seven), 4, 20, ND_OWNED, &view) == ND_OK && view.data.len == 17);
+    CHECK(nd_at1(&view, 0) == 2 && nd_at1(&view, 1) == 9 && nd_at1(&view, 2) == 16 && nd_at1(&view, 3) == ND_NO_PLACE);
+    view.layout.shape[0] = 4; /* (its last byte would be past the buffer) */
+    CHECK(nd_at1(&view, 3) == ND_NO_PLACE);
+    CHECK(nd_view_from_byte_strides(LIST(two_three), LIST(lines), 4, 24, ND_OWNED, &view) == ND_OK);
+    CHECK(nd_at2(&view, 0, 0) == 12 && nd_at2(&view, 1, 2) == 8 && nd_at2(&view, 0, 2) == 20);
+    CHECK(nd_view_from_byte_strides(LIST(none), LIST(back), 4, 14, ND_OWNED, &view) == ND_OK && view.layout.start == 0);
+    CHECK(nd_view_from_byte_strides(none, 2, by_rows, 2, 9, 6, ND_OWNED, &view) == ND_OK && view.data.len == 0);
+    CHECK(nd_layout_check(&view.layout, view.data, ND_OWNED) == ND_OK && nd_at2(&view, 0, 0) == ND_NO_PLACE);
+    CHECK(nd_view_from_byte_strides(LIST(none), LIST(back), 4, 13, ND_OWNED, &view) == ND_OUT_OF_BOUNDS);
+}
+
+/* Strides in bytes: multiples of the elements' size beside the layout of elements, and any, whose elements lie within. */
+static void test_bytes_beside_elements(void) {
+    int round, accepted = 0;
+    for (round = 0; round < 40000; round++) {
+        const size_t size = 1 + below(5);
+        nd_view view, bytes;
+        ptrdiff_t strides[4];
+        size_t index[4], axis, place;
+        if (random_view(&view, size, ND_READ_ONLY) != ND_OK) continue;
+        for (axis = 0; axis < view.layout.axes; axis++) {
+            strides[axis] = view.layout.strides[axis] * (ptrdiff_t)size;
+            index[axis] = below(4);
+        }
+        CHECK_QUIETLY(nd_view_from_byte_strides(view.layout.shape, view.layout.axes, strides, view.layout.axes, size,
+                                                view.data.len * size, ND_READ_ONLY, &bytes) == ND_OK);
+        place = at(&view, index);
+        CHECK_QUIETLY(at(&bytes, index) == (place == ND_NO_PLACE ? place : place * size));
+        for (axis = 0; axis < view.layout.axes; axis++) strides[axis] += (ptrdiff_t)below(5) - 2;
+        if (nd_view_over_bytes(view.layout.start * size, view.layout.shape, view.layout.axes, strides, view.layout.axes, size,
+                               view.data.len * size, (int32_t)below(2), &bytes) != ND_OK)
+            continue;
+        place = at(&bytes, index);
+        if (place == ND_NO_PLACE) continue;
+        accepted++;
+        CHECK_QUIETLY(place + size <= view.data.len * size);
+    }
+    CHECK(accepted > 2000);
+}
+
+int main(void) {
+    test_new_views();
+    test_at();
+    test_at_beside_place();
+    test_edited();
+    test_rows();
+    test_rows_beside_places();
+    test_elems();
+    test_twins_beside_calls();
+    test_slices_of_layouts();
+    test_co_broadcast();
+    test_too_many_axes();
+    test_bytes();
+    test_bytes_beside_elements();
+    printf("%d checked, %d failed\n", checked, failed);
+    return failed != 0;
+}
