@@ -28,41 +28,44 @@ static void expect_library(void) {
     exit(EXIT_FAILURE);
 }
 
-/* Prints the pixels of a layout of two axes, a row a line. */
-static void print_picture(const nd_layout *picture) {
-    const size_t rows = nd_layout_row_count(picture, ND_ROW_MAJOR);
-    size_t *starts, row, column, length;
-    ptrdiff_t stride;
-    if (rows == 0) return;
-    starts = calloc(rows, sizeof *starts); /* (where malloc's product wraps, this is null) */
-    if (starts == NULL) expect_ok(ND_OUT_OF_MEMORY);
-    expect_ok(nd_layout_rows(picture, ND_ROW_MAJOR, starts, rows, &stride, &length));
-    for (row = 0; row < rows; row++) {
-        for (column = 0; column < length; column++) putchar(pixels[(ptrdiff_t)starts[row] + (ptrdiff_t)column * stride]);
+/* Prints the pixels of a view of two axes, a row a line. */
+static void print_picture(const nd_view *picture) {
+    nd_row_iter rows;
+    nd_row row;
+    size_t column;
+    expect_ok(nd_view_rows(picture, ND_ROW_MAJOR, &rows));
+    while (nd_next_row(&rows, &row)) {
+        for (column = 0; column < row.len; column++) putchar(pixels[(ptrdiff_t)row.start + (ptrdiff_t)column * row.stride]);
         putchar('\n');
     }
-    free(starts);
+}
+
+/* Prints one pixel, if there is one. */
+static void print_pixel(const nd_view *picture, size_t row, size_t column) {
+    const size_t place = nd_at2(picture, row, column); /* in C99 and C++11 nd_at(picture, row, column) */
+    if (place == ND_NO_PLACE) printf("no pixel at %d, %d\n", (int)row, (int)column);
+    else printf("%c at %d, %d\n", pixels[place], (int)row, (int)column);
 }
 
 int main(void) {
     const size_t shape[2] = {6, 10}, swapped[2] = {1, 0};
-    const nd_slice_elem crop[2] = {{ND_SLICE, 0, 1, 0, 1}, {ND_SLICE, 1, 2, 6, 1}};
-    const nd_slice_elem flip[2] = {{ND_SLICE, 0, 0, 0, -1}, {ND_SLICE, 0, 0, 0, 1}};
+    const nd_slice_elem crop[2] = {ND_FROM(1), ND_RANGE(2, 6)}, flip[2] = {ND_FROM_BY(0, -1), ND_ALL};
     const nd_data data = {1, sizeof pixels - 1};
-    nd_layout picture;
+    nd_view picture;
 
     expect_library();
-    expect_ok(nd_layout_from_shape(shape, 2, ND_ROW_MAJOR, &picture));
-    expect_ok(nd_layout_check(&picture, data, ND_READ_ONLY));
-    expect_ok(nd_layout_slice(&picture, crop, 2, ND_STRICT, &picture));
+    expect_ok(nd_view_from_shape(shape, 2, ND_ROW_MAJOR, data, ND_READ_ONLY, &picture));
+    expect_ok(nd_layout_slice(&picture.layout, crop, 2, ND_STRICT, &picture.layout));
     print_picture(&picture);
+    print_pixel(&picture, 1, 3);
+    print_pixel(&picture, 5, 0);
 
     puts("transposed:");
-    expect_ok(nd_layout_permuted_axes(&picture, swapped, 2, &picture));
+    expect_ok(nd_layout_permuted_axes(&picture.layout, swapped, 2, &picture.layout));
     print_picture(&picture);
 
     puts("its rows in the opposite order:");
-    expect_ok(nd_layout_slice(&picture, flip, 2, ND_STRICT, &picture));
+    expect_ok(nd_layout_slice(&picture.layout, flip, 2, ND_STRICT, &picture.layout));
     print_picture(&picture);
     return EXIT_SUCCESS;
 }

@@ -276,6 +276,15 @@ ND_CHECKED((1, 3)) int32_t nd_layout_join_axes(const nd_layout *layout, int32_t 
     return nd_keep(status, &made, joined);
 }
 
+/* (of this header alone) An iterator without a row. */
+ND_INLINE void nd_put_no_row(nd_row_iter *rows) {
+    rows->left = 0;
+    rows->axes = 0;
+    rows->next.start = 0;
+    rows->next.len = 0;
+    rows->next.stride = 0;
+}
+
 /* (of this header alone) The rows of an accepted layout in an order that is one. */
 ND_INLINE void nd_put_rows(const nd_layout *layout, int32_t order, nd_row_iter *rows) {
     size_t at;
@@ -299,8 +308,8 @@ ND_INLINE void nd_put_rows(const nd_layout *layout, int32_t order, nd_row_iter *
 
 /*
  * Makes the iterator, for nd_next_row, over the rows of a view in an order: those of nd_rows, without a list of their starts.
- * It doesn't refer to the view. A view without axes has one row of one place, one without an index none. `order`: ND_ROW_MAJOR
- * or ND_COLUMN_MAJOR.
+ * It doesn't refer to the view. A view without axes has one row of one place, one without an index none; after an error the
+ * iterator has none. `order`: ND_ROW_MAJOR or ND_COLUMN_MAJOR.
  *
  * ND_BAD_ARGUMENT for the order or the axes; then the statuses of nd_layout_check, read-only: an edited layout that leaves its
  * buffer is refused, and each row lies in it.
@@ -309,6 +318,7 @@ ND_INLINE void nd_put_rows(const nd_layout *layout, int32_t order, nd_row_iter *
  */
 ND_CHECKED((1, 3)) int32_t nd_view_rows(const nd_view *view, int32_t order, nd_row_iter *rows) {
     int32_t status = order == ND_ROW_MAJOR || order == ND_COLUMN_MAJOR ? ND_OK : ND_BAD_ARGUMENT;
+    nd_put_no_row(rows);
     if (status == ND_OK) status = nd_layout_check(&view->layout, view->data, ND_READ_ONLY);
     if (status == ND_OK) nd_put_rows(&view->layout, order, rows);
     return status;
@@ -323,6 +333,7 @@ ND_CHECKED((1, 3)) int32_t nd_view_rows(const nd_view *view, int32_t order, nd_r
 ND_CHECKED((1, 3)) int32_t nd_view_joined_rows(const nd_view *view, int32_t order, nd_row_iter *rows) {
     nd_layout joined;
     int32_t status = nd_view_rows(view, order, rows);
+    rows->left = 0;
     if (status == ND_OK) status = nd_layout_join_axes(&view->layout, order, &joined);
     if (status == ND_OK) nd_put_rows(&joined, order, rows);
     return status;

@@ -1,0 +1,60 @@
+/* Tensors of DLPack as views, sliced, and given back, without a copy; and some that are refused. */
+#include "dlpack.h"
+
+#include <stdio.h>
+#include <stdlib.h>
+
+static const DLDataType float32 = {kDLFloat, 32, 1};
+
+static void expect_ok(int32_t status) {
+    if (status == ND_OK) return;
+    fprintf(stderr, "%s\n", nd_status_message(status));
+    exit(EXIT_FAILURE);
+}
+
+/* Prints a tensor of two axes, or why it is none for a view. */
+static void print_tensor(const char *what, const DLTensor *tensor) {
+    nd_tensor read;
+    const int32_t status = nd_tensor_from_dlpack(tensor, ND_READ_ONLY, &read);
+    if (status != ND_OK) {
+        printf("%s: %s\n", what, nd_status_message(status));
+        return;
+    }
+    printf("%s: %d elements reached\n", what, (int)read.view.data.len);
+    for (size_t row = 0; row < read.view.layout.shape[0]; row++) {
+        for (size_t column = 0; column < read.view.layout.shape[1]; column++) {
+            const size_t place = nd_at(&read.view, row, column);
+            if (place != ND_NO_PLACE) printf("%3.0f", (double)((const float *)read.lowest)[place]);
+        }
+        putchar('\n');
+    }
+}
+
+int main(void) {
+    const nd_slice_elem back[2] = {ND_FROM_BY(0, -1), ND_RANGE_BY(0, 4, 2)};
+    float numbers[12];
+    int64_t shape[2] = {3, 4}, new_shape[2], new_strides[2];
+    DLTensor tensor = {numbers, {kDLCPU, 0}, 2, {kDLFloat, 32, 1}, shape, NULL, 0}, sliced;
+    nd_tensor read;
+
+    for (int at = 0; at < 12; at++) numbers[at] = (float)at;
+    print_tensor("row-major", &tensor);
+    expect_ok(nd_tensor_from_dlpack(&tensor, ND_OWNED, &read));
+    expect_ok(nd_layout_slice(&read.view.layout, back, 2, ND_STRICT, &read.view.layout));
+    expect_ok(nd_tensor_to_dlpack(&read.view, read.lowest, float32, new_shape, new_strides, &sliced));
+    print_tensor("the last row first, each second column", &sliced);
+    printf("strides %d and %d, from byte %d\n", (int)new_strides[0], (int)new_strides[1], (int)sliced.byte_offset);
+
+    new_strides[0] = new_strides[1] = 0;
+    print_tensor("one element, read as 3x2", &sliced);
+    printf("owned: %s\n", nd_status_message(nd_tensor_from_dlpack(&sliced, ND_OWNED, &read)));
+    new_shape[0] = 0;
+    print_tensor("no element", &sliced);
+    new_shape[0] = -1;
+    print_tensor("a length below 0", &sliced);
+    new_shape[0] = INT64_MAX;
+    print_tensor("more than memory has", &sliced);
+    sliced.device.device_type = 2;
+    print_tensor("another device", &sliced);
+    return EXIT_SUCCESS;
+}

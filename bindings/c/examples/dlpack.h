@@ -1,0 +1,115 @@
+/*
+ * What DLPack lays down of a tensor in memory, and tensors as views and back. The declarations have the fields and the order of
+ * DLPack's C interface, of version 1; a program that has its own header includes that one first, and defines HAS_DLPACK.
+ */
+#ifndef ND_DLPACK_H
+#define ND_DLPACK_H
+
+#include "ndarray_layout.h"
+
+#ifndef HAS_DLPACK
+enum { kDLCPU = 1 };
+enum { kDLInt = 0, kDLUInt = 1, kDLFloat = 2 };
+
+typedef struct DLDevice {
+    int32_t device_type;
+    int32_t device_id;
+} DLDevice;
+
+typedef struct DLDataType {
+    uint8_t code;
+    uint8_t bits;
+    uint16_t lanes;
+} DLDataType;
+
+typedef struct DLTensor {
+    void *data;
+    DLDevice device;
+    int32_t ndim;
+    DLDataType dtype;
+    int64_t *shape;
+    int64_t *strides; /* in elements; null where the tensor is row-major without gaps */
+    uint64_t byte_offset;
+} DLTensor;
+#endif
+
+/* A view of a tensor, and its lowest element, which has place 0: DLPack doesn't say how far the memory reaches. */
+typedef struct nd_tensor {
+    nd_view view;
+    unsigned char *lowest;
+} nd_tensor;
+
+/* (of this header alone) The shape and the strides of a tensor; whether they fit. */
+ND_CHECKED((1, 2)) int nd_put_tensor(const DLTensor *tensor, nd_layout *layout) {
+    int32_t axis;
+    if (tensor->ndim < 0 || tensor->ndim > ND_MAX_AXES) return 0;
+    layout->axes = (size_t)tensor->ndim;
+    for (axis = 0; axis < tensor->ndim; axis++) {
+        if (tensor->shape[axis] < 0 || tensor->shape[axis] > PTRDIFF_MAX) return 0;
+        layout->shape[axis] = (size_t)tensor->shape[axis];
+        if (tensor->strides == NULL) continue;
+        if (tensor->strides[axis] < PTRDIFF_MIN || tensor->strides[axis] > PTRDIFF_MAX) return 0;
+        layout->strides[axis] = (ptrdiff_t)tensor->strides[axis];
+    }
+    return 1;
+}
+
+/* (of this header alone) How many elements an accepted layout reaches. Without an index none, and it starts at 0. */
+ND_INLINE void nd_take_reach(nd_layout *layout, size_t *len) {
+    const int has_index = nd_layout_size(layout) > 0;
+    *len = has_index ? layout->start + 1 : 0;
+    if (!has_index) layout->start = 0;
+    for (size_t axis = 0; axis < layout->axes; axis++) {
+        if (!has_index) layout->strides[axis] = 0;
+        else if (layout->strides[axis] > 0) *len += (layout->shape[axis] - 1) * (size_t)layout->strides[axis];
+    }
+}
+
+/*
+ * Makes a view of a tensor in the memory of this machine, of elements of whole bytes. ND_BAD_ARGUMENT: of another device, of
+ * elements that aren't whole bytes, of too many axes, or of a number below 0; then the statuses of nd_layout_start.
+ */
+ND_CHECKED((1, 3)) int32_t nd_tensor_from_dlpack(const DLTensor *tensor, int32_t mode, nd_tensor *made) {
+    const size_t bits = (size_t)tensor->dtype.bits * tensor->dtype.lanes;
+    nd_data data;
+    nd_layout layout;
+    int32_t status;
+    if (tensor->device.device_type != kDLCPU || bits == 0 || bits % 8 != 0) return ND_BAD_ARGUMENT;
+    if (!nd_put_tensor(tensor, &layout)) return ND_BAD_ARGUMENT;
+    data.elem_size = bits / 8;
+    data.len = PTRDIFF_MAX / data.elem_size; /* (as much as there may be; what the tensor reaches is found below) */
+    status = tensor->strides == NULL ? nd_default_strides(layout.shape, layout.axes, layout.strides, layout.axes) : ND_OK;
+    if (status == ND_OK)
+        status = nd_layout_from_strides(layout.shape, layout.axes, layout.strides, layout.axes, data, mode, &layout);
+    if (status != ND_OK) return status;
+    nd_take_reach(&layout, &data.len);
+    made->lowest = tensor->data;
+    if (data.len > 0) made->lowest += tensor->byte_offset - layout.start * data.elem_size;
+    return nd_view_of(&layout, data, mode, &made->view);
+}
+
+/*
+ * Writes a tensor of a view over a buffer. `shape` and `strides`: room for as many numbers as the view has axes, which the
+ * tensor keeps. ND_BAD_ARGUMENT: elements of other sizes than the view's; then the statuses of nd_layout_check.
+ */
+ND_CHECKED((1, 2, 4, 5, 6)) int32_t nd_tensor_to_dlpack(const nd_view *view, void *buffer, DLDataType dtype, int64_t *shape,
+                                                        int64_t *strides, DLTensor *tensor) {
+    const DLDevice cpu = {kDLCPU, 0};
+    const int32_t status = nd_layout_check(&view->layout, view->data, ND_READ_ONLY);
+    if ((size_t)dtype.bits * dtype.lanes != 8 * view->data.elem_size) return ND_BAD_ARGUMENT;
+    if (status != ND_OK) return status;
+    for (size_t axis = 0; axis < view->layout.axes; axis++) {
+        shape[axis] = (int64_t)view->layout.shape[axis];
+        strides[axis] = (int64_t)view->layout.strides[axis];
+    }
+    tensor->data = buffer;
+    tensor->device = cpu;
+    tensor->ndim = (int32_t)view->layout.axes;
+    tensor->dtype = dtype;
+    tensor->shape = shape;
+    tensor->strides = strides;
+    tensor->byte_offset = (uint64_t)view->layout.start * view->data.elem_size;
+    return ND_OK;
+}
+
+#endif
