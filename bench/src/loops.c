@@ -1,0 +1,170 @@
+/*
+ * Loops from C over accepted views, each beside one written by hand, by turns: the name of a row, a tab, and nanoseconds for an
+ * element of the one and of the other, the least of many rounds.
+ */
+#define _POSIX_C_SOURCE 199309L
+#include "ndarray_layout.h"
+
+#include <stdio.h>
+#include <stdlib.h>
+#include <time.h>
+
+enum { SIDE = 1000, PICTURE = 500, ROUNDS = 200 };
+
+typedef size_t (*loop)(const nd_view *view, const unsigned char *items);
+
+static unsigned char blurred[PICTURE * PICTURE];
+
+static void must(int32_t status) {
+    if (status != ND_OK) {
+        fprintf(stderr, "loops: %s\n", nd_status_message(status));
+        exit(1);
+    }
+}
+
+/* ---- A sum over two axes, each place checked ---- */
+
+static size_t sum_at(const nd_view *view, const unsigned char *items) {
+    size_t row, column, sum = 0;
+    for (row = 0; row < view->layout.shape[0]; row++) {
+        for (column = 0; column < view->layout.shape[1]; column++) {
+            const size_t place = nd_at(view, row, column);
+            if (place == ND_NO_PLACE) return 0;
+            sum += items[place];
+        }
+    }
+    return sum;
+}
+
+static size_t sum_checked_by_hand(const nd_view *view, const unsigned char *items) {
+    const size_t start = view->layout.start, len = view->data.len, rows = view->layout.shape[0], columns = view->layout.shape[1];
+    const ptrdiff_t down = view->layout.strides[0], right = view->layout.strides[1];
+    size_t row, column, sum = 0;
+    for (row = 0; row < rows; row++) {
+        for (column = 0; column < columns; column++) {
+            const size_t place = start + row * (size_t)down + column * (size_t)right;
+            if (place >= len) return 0;
+            sum += items[place];
+        }
+    }
+    return sum;
+}
+
+/* ---- A sum by rows, without a check of each place ---- */
+
+static size_t sum_rows(const nd_view *view, const unsigned char *items) {
+    nd_row_iter rows;
+    nd_row row;
+    size_t column, sum = 0;
+    must(nd_view_joined_rows(view, ND_ROW_MAJOR, &rows));
+    while (nd_next_row(&rows, &row)) {
+        const unsigned char *item = items + row.start;
+        for (column = 0; column < row.len; column++) sum += item[(ptrdiff_t)column * row.stride];
+    }
+    return sum;
+}
+
+static size_t sum_by_hand(const nd_view *view, const unsigned char *items) {
+    const ptrdiff_t down = view->layout.strides[0], right = view->layout.strides[1];
+    size_t row, column, sum = 0;
+    for (row = 0; row < view->layout.shape[0]; row++) {
+        const unsigned char *item = items + view->layout.start + row * (size_t)down;
+        for (column = 0; column < view->layout.shape[1]; column++) sum += item[(ptrdiff_t)column * right];
+    }
+    return sum;
+}
+
+/* (of three axes, the last two of which are joined) */
+static size_t sum_pixels_by_hand(const nd_view *view, const unsigned char *items) {
+    const ptrdiff_t *strides = view->layout.strides;
+    size_t row, column, colour, sum = 0;
+    for (row = 0; row < view->layout.shape[0]; row++) {
+        for (column = 0; column < view->layout.shape[1]; column++) {
+            const unsigned char *item = items + view->layout.start + row * (size_t)strides[0] + column * (size_t)strides[1];
+            for (colour = 0; colour < view->layout.shape[2]; colour++) sum += item[(ptrdiff_t)colour * strides[2]];
+        }
+    }
+    return sum;
+}
+
+/* ---- A blur: the mean of 3x3 pixels ---- */
+
+/* Three slices of the picture, each a line further down, whose rows come in step. */
+static size_t blur_rows(const nd_view *view, const unsigned char *items) {
+    nd_row_iter rows[3];
+    nd_row up, row, down;
+    size_t column, line, written = 0;
+    for (line = 0; line < 3; line++) {
+        const nd_slice_elem lines[2] = {ND_RANGE(line, view->layout.shape[0] - 2 + line), ND_ALL};
+        nd_view part = *view;
+        must(nd_layout_slice(&view->layout, lines, 2, ND_STRICT, &part.layout));
+        must(nd_view_rows(&part, ND_ROW_MAJOR, &rows[line]));
+    }
+    while (nd_next_row(&rows[0], &up) && nd_next_row(&rows[1], &row) && nd_next_row(&rows[2], &down)) {
+        const unsigned char *a = items + up.start, *b = items + row.start, *c = items + down.start;
+        const ptrdiff_t next = row.stride;
+        for (column = 2; column < row.len; column++, a += next, b += next, c += next) {
+            const unsigned sum = a[0] + a[next] + a[2 * next] + b[0] + b[next] + b[2 * next] + c[0] + c[next] + c[2 * next];
+            blurred[written++] = (unsigned char)(sum / 9);
+        }
+    }
+    return written + blurred[written / 2];
+}
+
+static size_t blur_by_hand(const nd_view *view, const unsigned char *items) {
+    const ptrdiff_t down = view->layout.strides[0], next = view->layout.strides[1];
+    const size_t rows = view->layout.shape[0], columns = view->layout.shape[1];
+    size_t row, column, written = 0;
+    for (row = 0; row + 2 < rows; row++) {
+        const unsigned char *a = items + view->layout.start + row * (size_t)down, *b = a + down, *c = b + down;
+        for (column = 2; column < columns; column++, a += next, b += next, c += next) {
+            const unsigned sum = a[0] + a[next] + a[2 * next] + b[0] + b[next] + b[2 * next] + c[0] + c[next] + c[2 * next];
+            blurred[written++] = (unsigned char)(sum / 9);
+        }
+    }
+    return written + blurred[written / 2];
+}
+
+/* ---- Times ---- */
+
+static double time_ns(loop volatile run, const nd_view *view, const unsigned char *items, size_t expected) {
+    struct timespec begun, ended;
+    clock_gettime(CLOCK_MONOTONIC, &begun);
+    if (run(view, items) != expected) must(ND_UNSUPPORTED);
+    clock_gettime(CLOCK_MONOTONIC, &ended);
+    return (double)(ended.tv_sec - begun.tv_sec) * 1e9 + (double)(ended.tv_nsec - begun.tv_nsec);
+}
+
+static void print_row(const char *name, loop ours, loop by_hand, const nd_view *view, const unsigned char *items) {
+    const size_t expected = by_hand(view, items), elements = nd_layout_size(&view->layout);
+    double least[2] = {1e18, 1e18};
+    int round;
+    for (round = 0; round < ROUNDS; round++) {
+        const double ns[2] = {time_ns(ours, view, items, expected), time_ns(by_hand, view, items, expected)};
+        if (ns[0] < least[0]) least[0] = ns[0];
+        if (ns[1] < least[1]) least[1] = ns[1];
+    }
+    printf("%s\t%g\t%g\n", name, least[0] / (double)elements, least[1] / (double)elements);
+}
+
+int main(void) {
+    const size_t square[2] = {SIDE, SIDE}, picture[2] = {PICTURE, PICTURE}, pixels[3] = {100, 800, 3};
+    const nd_slice_elem cut[3] = {ND_ALL, ND_RANGE(300, 500), ND_ALL}, left[2] = {ND_ALL, ND_FROM_BY(0, -1)};
+    const nd_data data = {1, SIDE * SIDE};
+    unsigned char *items = malloc(data.len);
+    nd_view view;
+    size_t at;
+    if (items == NULL) return 1;
+    for (at = 0; at < data.len; at++) items[at] = (unsigned char)(at * 7 + at / 256);
+    must(nd_view_from_shape(square, 2, ND_ROW_MAJOR, data, ND_OWNED, &view));
+    print_row("`nd_at`: a sum of 1000x1000", sum_at, sum_checked_by_hand, &view, items);
+    must(nd_layout_slice(&view.layout, left, 2, ND_STRICT, &view.layout));
+    print_row("`nd_next_row`: a sum of 1000 rows of 1000, stride -1", sum_rows, sum_by_hand, &view, items);
+    must(nd_view_from_shape(pixels, 3, ND_ROW_MAJOR, data, ND_OWNED, &view));
+    must(nd_layout_slice(&view.layout, cut, 3, ND_STRICT, &view.layout));
+    print_row("`nd_next_row`: a sum of 20,000 rows of 3, joined", sum_rows, sum_pixels_by_hand, &view, items);
+    must(nd_view_from_shape(picture, 2, ND_ROW_MAJOR, data, ND_OWNED, &view));
+    print_row("`nd_next_row`: a blur by 3x3 of 500x500", blur_rows, blur_by_hand, &view, items);
+    free(items);
+    return 0;
+}
