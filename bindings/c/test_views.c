@@ -280,6 +280,7 @@ static void test_rows(void) {
     CHECK(nd_layout_join_axes(&view.layout, ND_ROW_MAJOR, &joined) == ND_BAD_ARGUMENT && joined.axes == 2);
     CHECK(nd_view_from_shape(LIST(none), ND_ROW_MAJOR, data, ND_OWNED, &view) == ND_OK);
     CHECK(nd_view_rows(&view, ND_ROW_MAJOR, &rows) == ND_OK && !nd_next_row(&rows, &row) && row.start == 2430);
+    CHECK(nd_layout_join_axes(&view.layout, ND_ROW_MAJOR, &joined) == ND_OK && joined.axes == 2 && joined.shape[1] == 4);
     CHECK(nd_view_from_shape(none, 0, ND_ROW_MAJOR, data, ND_OWNED, &view) == ND_OK);
     CHECK(nd_view_rows(&view, ND_COLUMN_MAJOR, &rows) == ND_OK && nd_next_row(&rows, &row));
     CHECK(row.start == 0 && row.len == 1 && row.stride == 0 && !nd_next_row(&rows, &row));
@@ -380,12 +381,14 @@ static void test_slices_of_layouts(void) {
 
 static void test_co_broadcast(void) {
     const size_t column[2] = {2, 1}, row[1] = {3}, four[1] = {4};
-    nd_layout first, second, third;
+    nd_layout first, second, third, made;
     CHECK(nd_layout_from_shape(LIST(column), ND_ROW_MAJOR, &first) == ND_OK);
     CHECK(nd_layout_from_shape(LIST(row), ND_ROW_MAJOR, &second) == ND_OK);
     CHECK(nd_layout_from_shape(LIST(four), ND_ROW_MAJOR, &third) == ND_OK);
     CHECK(nd_layout_co_broadcast(&second, &third, &second, &third) == ND_INCOMPATIBLE_SHAPE);
     CHECK(second.axes == 1 && second.shape[0] == 3 && third.axes == 1 && third.shape[0] == 4);
+    CHECK(nd_layout_co_broadcast(&second, &first, &third, &made) == ND_OK && third.axes == 2 && made.axes == 2);
+    CHECK(third.shape[0] == 2 && third.strides[0] == 0 && made.shape[1] == 3 && made.strides[1] == 0);
     CHECK(nd_layout_co_broadcast(&first, &second, &second, &first) == ND_OK); /* (crosswise) */
     CHECK(first.axes == 2 && first.shape[0] == 2 && first.shape[1] == 3 && first.strides[0] == 0 && first.strides[1] == 1);
     CHECK(second.axes == 2 && second.shape[1] == 3 && second.strides[0] == 1 && second.strides[1] == 0);
@@ -426,11 +429,13 @@ static void test_bytes(void) {
     CHECK(nd_view_over_bytes(2, LIST(three), LIST(seven), 8, 99, ND_OWNED, &view) == ND_UNSUPPORTED);
     CHECK(nd_view_over_bytes(2, LIST(three), LIST(seven), 0, 99, ND_OWNED, &view) == ND_BAD_ARGUMENT);
     CHECK(nd_view_over_bytes(2, LIST(three), LIST(seven), 4, 99, 2, &view) == ND_BAD_ARGUMENT);
+    CHECK(nd_view_over_bytes(2, LIST(three), lines, 2, 4, 99, 2, &view) == ND_BAD_ARGUMENT);
     CHECK(nd_view_over_bytes(2, LIST(many), LIST(seven), 4, 99, ND_OWNED, &view) == ND_BAD_ARGUMENT);
     CHECK(nd_view_over_bytes(2, LIST(three), lines, 2, 4, 99, ND_OWNED, &view) == ND_INCOMPATIBLE_LAYOUT);
     CHECK(nd_view_from_byte_strides(LIST(three), lines, 2, 4, 99, ND_OWNED, &view) == ND_INCOMPATIBLE_LAYOUT);
     CHECK(nd_view_from_byte_strides(LIST(three), LIST(seven), 0, 99, ND_OWNED, &view) == ND_BAD_ARGUMENT);
     CHECK(nd_view_from_byte_strides(LIST(three), LIST(seven), 4, 99, 2, &view) == ND_BAD_ARGUMENT);
+    CHECK(nd_view_from_byte_strides(LIST(two_three), LIST(lines), 4, 23, 2, &view) == ND_BAD_ARGUMENT);
     CHECK(nd_view_from_byte_strides(LIST(two_three), LIST(lines), 4, 23, ND_OWNED, &view) == ND_OUT_OF_BOUNDS);
     CHECK(memcmp(&view, &before, sizeof view) == 0);
     CHECK(nd_view_over_bytes(2, LIST(three), LIST(seven), 8, 24, ND_READ_ONLY, &view) == ND_OK && nd_at1(&view, 2) == 16);
