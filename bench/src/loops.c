@@ -89,11 +89,21 @@ static size_t sum_pixels_by_hand(const nd_view *view, const unsigned char *items
 
 /* ---- A blur: the mean of 3x3 pixels ---- */
 
-/* Three slices of the picture, each a line further down, whose rows come in step. */
+/* One row of means, of three rows of pixels. */
+static inline void mean_row(const unsigned char *a, const unsigned char *b, const unsigned char *c, ptrdiff_t next, size_t count,
+                            unsigned char *means) {
+    size_t at;
+    for (at = 0; at < count; at++, a += next, b += next, c += next) {
+        const unsigned sum = a[0] + a[next] + a[2 * next] + b[0] + b[next] + b[2 * next] + c[0] + c[next] + c[2 * next];
+        means[at] = (unsigned char)(sum / 9);
+    }
+}
+
+/* Three slices of the picture, each a line further down, whose rows come in step. A stride of 1 has a loop of its own. */
 static size_t blur_rows(const nd_view *view, const unsigned char *items) {
     nd_row_iter rows[3];
     nd_row up, row, down;
-    size_t column, line, written = 0;
+    size_t line, written = 0;
     for (line = 0; line < 3; line++) {
         const nd_slice_elem lines[2] = {ND_RANGE(line, view->layout.shape[0] - 2 + line), ND_ALL};
         nd_view part = *view;
@@ -102,23 +112,20 @@ static size_t blur_rows(const nd_view *view, const unsigned char *items) {
     }
     while (nd_next_row(&rows[0], &up) && nd_next_row(&rows[1], &row) && nd_next_row(&rows[2], &down)) {
         const unsigned char *a = items + up.start, *b = items + row.start, *c = items + down.start;
-        const ptrdiff_t next = row.stride;
-        for (column = 2; column < row.len; column++, a += next, b += next, c += next) {
-            const unsigned sum = a[0] + a[next] + a[2 * next] + b[0] + b[next] + b[2 * next] + c[0] + c[next] + c[2 * next];
-            blurred[written++] = (unsigned char)(sum / 9);
-        }
+        if (row.stride == 1) mean_row(a, b, c, 1, row.len - 2, blurred + written);
+        else mean_row(a, b, c, row.stride, row.len - 2, blurred + written);
+        written += row.len - 2;
     }
     return written + blurred[written / 2];
 }
 
 static size_t blur_by_hand(const nd_view *view, const unsigned char *items) {
-    const ptrdiff_t down = view->layout.strides[0], next = view->layout.strides[1];
     const size_t rows = view->layout.shape[0], columns = view->layout.shape[1];
     size_t row, column, written = 0;
     for (row = 0; row + 2 < rows; row++) {
-        const unsigned char *a = items + view->layout.start + row * (size_t)down, *b = a + down, *c = b + down;
-        for (column = 2; column < columns; column++, a += next, b += next, c += next) {
-            const unsigned sum = a[0] + a[next] + a[2 * next] + b[0] + b[next] + b[2 * next] + c[0] + c[next] + c[2 * next];
+        const unsigned char *a = items + row * columns, *b = a + columns, *c = b + columns;
+        for (column = 0; column + 2 < columns; column++, a++, b++, c++) {
+            const unsigned sum = a[0] + a[1] + a[2] + b[0] + b[1] + b[2] + c[0] + c[1] + c[2];
             blurred[written++] = (unsigned char)(sum / 9);
         }
     }

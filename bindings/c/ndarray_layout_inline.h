@@ -227,10 +227,16 @@ typedef struct nd_row {
     ptrdiff_t stride;
 } nd_row;
 
-/* The rows that are still to come: `left`, of which `next` is the first, and the index and the axes by which they move. */
+/*
+ * The rows that are still to come: how many are left, the first one's start, all rows' length and stride, and the index and the
+ * axes by which they move. (The start is apart from what a row has beside it: a processor waits where it reads two numbers at
+ * once of which it has just written one.)
+ */
 typedef struct nd_row_iter {
-    nd_row next;
+    size_t len;
+    ptrdiff_t stride;
     size_t left;
+    size_t start;
     size_t axes;
     size_t index[ND_MAX_AXES];
     size_t shape[ND_MAX_AXES];
@@ -280,24 +286,24 @@ ND_CHECKED((1, 3)) int32_t nd_layout_join_axes(const nd_layout *layout, int32_t 
 ND_INLINE void nd_put_no_row(nd_row_iter *rows) {
     rows->left = 0;
     rows->axes = 0;
-    rows->next.start = 0;
-    rows->next.len = 0;
-    rows->next.stride = 0;
+    rows->start = 0;
+    rows->len = 0;
+    rows->stride = 0;
 }
 
 /* (of this header alone) The rows of an accepted layout in an order that is one. */
 ND_INLINE void nd_put_rows(const nd_layout *layout, int32_t order, nd_row_iter *rows) {
     size_t at;
     rows->left = nd_layout_row_count(layout, order);
-    rows->next.start = layout->start;
-    rows->next.len = 1;
-    rows->next.stride = 0;
+    rows->start = layout->start;
+    rows->len = 1;
+    rows->stride = 0;
     rows->axes = layout->axes == 0 ? 0 : layout->axes - 1;
     for (at = 0; at < layout->axes; at++) { /* from the axis that moves fastest, along which a row is */
         size_t axis = order == ND_ROW_MAJOR ? layout->axes - 1 - at : at;
         if (at == 0) {
-            rows->next.len = layout->shape[axis];
-            rows->next.stride = layout->strides[axis];
+            rows->len = layout->shape[axis];
+            rows->stride = layout->strides[axis];
         } else {
             rows->index[at - 1] = 0;
             rows->shape[at - 1] = layout->shape[axis];
@@ -344,11 +350,13 @@ ND_CHECKED((1, 2)) int nd_next_row(nd_row_iter *rows, nd_row *row) {
     size_t axis;
     if (rows->left == 0) return 0;
     rows->left--;
-    *row = rows->next;
+    row->start = rows->start;
+    row->len = rows->len;
+    row->stride = rows->stride;
     for (axis = 0; axis < rows->axes; axis++) {
-        rows->next.start += (size_t)rows->strides[axis];
+        rows->start += (size_t)rows->strides[axis];
         if (++rows->index[axis] < rows->shape[axis]) break;
-        rows->next.start -= rows->shape[axis] * (size_t)rows->strides[axis];
+        rows->start -= rows->shape[axis] * (size_t)rows->strides[axis];
         rows->index[axis] = 0;
     }
     return 1;

@@ -258,14 +258,14 @@ static void test_rows(void) {
     nd_row row;
     nd_layout joined;
     CHECK(nd_view_from_shape(LIST(whole), ND_ROW_MAJOR, data, ND_OWNED, &view) == ND_OK);
-    CHECK(nd_view_joined_rows(&view, ND_ROW_MAJOR, &rows) == ND_OK && rows.left == 1 && rows.next.len == 240000);
+    CHECK(nd_view_joined_rows(&view, ND_ROW_MAJOR, &rows) == ND_OK && rows.left == 1 && rows.len == 240000);
     CHECK(nd_layout_slice(&view.layout, LIST(cut), ND_STRICT, &view.layout) == ND_OK);
-    CHECK(nd_view_rows(&view, ND_ROW_MAJOR, &rows) == ND_OK && rows.left == 20000 && rows.next.len == 3);
+    CHECK(nd_view_rows(&view, ND_ROW_MAJOR, &rows) == ND_OK && rows.left == 20000 && rows.len == 3);
     CHECK(nd_view_joined_rows(&view, ND_ROW_MAJOR, &rows) == ND_OK && rows.left == 100);
     CHECK(nd_next_row(&rows, &row) && row.start == 30 && row.len == 600 && row.stride == 1 && rows.left == 99);
     CHECK(nd_next_row(&rows, &row) && row.start == 2430);
     CHECK(nd_layout_join_axes(&view.layout, ND_ROW_MAJOR, &joined) == ND_OK && joined.axes == 2 && joined.shape[1] == 600);
-    CHECK(nd_view_joined_rows(&view, ND_COLUMN_MAJOR, &rows) == ND_OK && rows.left == 600 && rows.next.len == 100);
+    CHECK(nd_view_joined_rows(&view, ND_COLUMN_MAJOR, &rows) == ND_OK && rows.left == 600 && rows.len == 100);
     CHECK(has_none(nd_view_rows(&view, 2, &rows), ND_BAD_ARGUMENT, &rows));
     CHECK(has_none(nd_view_joined_rows(&view, 2, &rows), ND_BAD_ARGUMENT, &rows));
     CHECK(nd_layout_join_axes(&view.layout, -1, &joined) == ND_BAD_ARGUMENT);

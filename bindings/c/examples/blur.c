@@ -23,6 +23,15 @@ static void rows_from(const nd_view *picture, size_t line, nd_row_iter *rows) {
     expect_ok(nd_view_rows(&part, ND_ROW_MAJOR, rows));
 }
 
+/* One row of means, of three rows of pixels. */
+static inline void mean_row(const unsigned char *a, const unsigned char *b, const unsigned char *c, ptrdiff_t next, size_t count,
+                            unsigned char *means) {
+    for (size_t at = 0; at < count; at++, a += next, b += next, c += next) {
+        const int sum = a[0] + a[next] + a[2 * next] + b[0] + b[next] + b[2 * next] + c[0] + c[next] + c[2 * next];
+        means[at] = (unsigned char)(sum / 9);
+    }
+}
+
 /* Writes the means of a picture of three rows and columns or more, two fewer of each. */
 static void blur(const nd_view *picture, const unsigned char *pixels, unsigned char *means) {
     nd_row_iter rows[3];
@@ -30,11 +39,9 @@ static void blur(const nd_view *picture, const unsigned char *pixels, unsigned c
     for (size_t line = 0; line < 3; line++) rows_from(picture, line, &rows[line]);
     while (nd_next_row(&rows[0], &up) && nd_next_row(&rows[1], &middle) && nd_next_row(&rows[2], &down)) {
         const unsigned char *a = pixels + up.start, *b = pixels + middle.start, *c = pixels + down.start;
-        const ptrdiff_t next = middle.stride;
-        for (size_t column = 2; column < middle.len; column++, a += next, b += next, c += next) {
-            const int sum = a[0] + a[next] + a[2 * next] + b[0] + b[next] + b[2 * next] + c[0] + c[next] + c[2 * next];
-            *means++ = (unsigned char)(sum / 9);
-        }
+        if (middle.stride == 1) mean_row(a, b, c, 1, middle.len - 2, means); /* (a loop that compilers know more of) */
+        else mean_row(a, b, c, middle.stride, middle.len - 2, means);
+        means += middle.len - 2;
     }
 }
 
