@@ -43,6 +43,8 @@ static struct {
     size_t number, starts[60], shape[12];
     ptrdiff_t stride, strides[12];
     int32_t answer;
+    nd_layout layouts[2];
+    nd_view view;
 } written;
 
 /* A call that makes so many requests, or none: after a refused one it returns ND_OUT_OF_MEMORY, and has written nothing. */
@@ -139,7 +141,36 @@ static void test_long_lists(void) {
     REQUESTS(4, nd_split_at(0, LONG_LAYOUT, 2, 1, written.starts, 2, written.shape, 12, written.strides, 6));
 }
 
+/* Makes the iterator of a view; ND_BAD_ARGUMENT where it has a row after an error. */
+static int32_t make_rows(int32_t (*make)(const nd_view *, int32_t, nd_row_iter *), const nd_view *view) {
+    nd_row_iter rows;
+    int32_t status;
+    rows.left = 77;
+    status = make(view, ND_ROW_MAJOR, &rows);
+    return status == ND_OK || rows.left == 0 ? status : ND_BAD_ARGUMENT;
+}
+
+/* The header's own functions that make several calls. */
+static void test_inline_functions(void) {
+    static const nd_data data = {1, 12};
+    static nd_view view;
+    static nd_layout other;
+    refused = 0;
+    CHECK(nd_view_from_strides(LONG_LAYOUT, data, ND_OWNED, &view) == ND_OK);
+    CHECK(nd_layout_from_shape(LIST(target), ND_ROW_MAJOR, &other) == ND_OK);
+    REQUESTS(2, nd_view_of(&view.layout, data, ND_OWNED, &written.view));
+    REQUESTS(0, nd_view_from_strides(LONG_LAYOUT, data, ND_OWNED, &written.view));
+    REQUESTS(4, nd_view_from_shape(LIST(long_shape), ND_ROW_MAJOR, data, ND_OWNED, &written.view));
+    REQUESTS(2, nd_view_over_bytes(0, LONG_LAYOUT, 1, 12, ND_OWNED, &written.view));
+    REQUESTS(2, nd_view_from_byte_strides(LONG_LAYOUT, 1, 12, ND_OWNED, &written.view));
+    REQUESTS(0, nd_layout_join_axes(&view.layout, ND_ROW_MAJOR, &written.layouts[0]));
+    REQUESTS(10, nd_layout_co_broadcast(&view.layout, &other, &written.layouts[0], &written.layouts[1]));
+    REQUESTS(2, make_rows(nd_view_rows, &view));
+    REQUESTS(2, make_rows(nd_view_joined_rows, &view));
+}
+
 int main(void) {
+    test_inline_functions();
     test_short_lists();
     test_no_memory();
     test_long_lists();
