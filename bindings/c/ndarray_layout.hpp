@@ -54,15 +54,17 @@ public:
         using pointer = T *;
         using reference = T &;
         iterator() = default;
-        iterator(const row *of, std::size_t at) : of_(of), at_(at) {}
-        T &operator*() const { return (*of_)[at_]; }
+        iterator(T *first, std::ptrdiff_t stride, std::size_t at) : first_(first), stride_(stride), at_(at) {}
+        T &operator*() const { return first_[static_cast<std::ptrdiff_t>(at_) * stride_]; }
+        T *operator->() const { return &**this; }
         iterator &operator++() { return ++at_, *this; }
-        iterator operator++(int) { return {of_, at_++}; }
+        iterator operator++(int) { return {first_, stride_, at_++}; }
         bool operator==(const iterator &other) const { return at_ == other.at_; }
         bool operator!=(const iterator &other) const { return at_ != other.at_; }
 
     private:
-        const row *of_ = nullptr;
+        T *first_ = nullptr;
+        std::ptrdiff_t stride_ = 0;
         std::size_t at_ = 0;
     };
 
@@ -71,8 +73,8 @@ public:
     std::size_t size() const { return of_.len; }
     std::ptrdiff_t stride() const { return of_.stride; }
     T *data() const { return first_; }
-    iterator begin() const { return {this, 0}; }
-    iterator end() const { return {this, of_.len}; }
+    iterator begin() const { return {first_, of_.stride, 0}; }
+    iterator end() const { return {first_, of_.stride, of_.len}; }
 
 private:
     T *first_;

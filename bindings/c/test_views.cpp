@@ -81,6 +81,9 @@ static void test_rows() {
     CHECK(text_of(view.joined_rows()) == "0 1 2 3 4 5 6 7 8 9 10 11 /");
     CHECK(refused([&] { view.rows(2); }) == ND_BAD_ARGUMENT && refused([&] { view.joined_rows(2); }) == ND_BAD_ARGUMENT);
     for (const nd::row<int> row : view.rows()) CHECK(row.stride() == 1 && row.size() == 4 && row.data() == &row[0]);
+    const auto third = (*view.slice({nd::index(2), nd::from(0, -1)}).rows().begin()).begin(); /* (of a row that is gone) */
+    auto next = third;
+    CHECK(*third == 11 && *next++ == 11 && *next == 10 && next != third && *next.operator->() == 10);
     for (const nd::row<int> row : view.slice({nd::index(1), nd::all}).rows()) row[1] = 50;
     CHECK(numbers[5] == 50);
     numbers[5] = 5;
