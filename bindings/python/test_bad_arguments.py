@@ -116,6 +116,7 @@ def array_of(shape=(2, 3), strides=(24, 8), itemsize=8):
 BAD = {
     "list": NO_LISTS + FAR_LISTS,
     "list or None": NO_LISTS[1:] + FAR_LISTS,
+    "chunks": [*(chunks for chunks in NO_LISTS[1:] if type(chunks) is not list or chunks[0] != [2]), *FAR_LISTS, ((2,), (2,)), ((2,), (4, -1))],
     "number": NO_NUMBERS + FAR_NUMBERS,
     "number or None": NO_NUMBERS[1:] + FAR_NUMBERS,
     "steps": NO_NUMBERS[1:],
@@ -200,7 +201,7 @@ CALLS = {
     nd.first_conflict: {
         "shape": ((2, 3), "list"),
         "keys": ([0, 1], "keys"),
-        "chunks": ((1, 1), "list or None"),
+        "chunks": ((1, 1), "chunks"),
         "max_parts": (10, "steps"),
         "blocks": ([((3,),), ((3,),)], "blocks"),
     },

@@ -5,13 +5,13 @@ from __future__ import annotations
 from array import array
 from itertools import accumulate, combinations_with_replacement, count, product, repeat
 from math import gcd, prod
-from typing import Any, Callable, Iterable, NamedTuple, Optional, TypeVar
+from typing import Any, Callable, Iterable, NamedTuple, Optional, Sequence, TypeVar
 
 from ._boxes import Intervals, Pair, find_in_groups, first_pair
-from ._errors import LayoutError, ShapeError, error_of_kind, of_one
+from ._chunks import Chunking, Chunks, Even, block_length, lengths_of, read_chunks
+from ._errors import LayoutError, ShapeError, of_one
 from ._layouts import default_strides
-from ._numbers import LIMIT, Lens, Numbers, Packed, entries, integer, listing, not_64_bits, said, unsigned, written
-from ._reasons import of_block
+from ._numbers import LIMIT, Lens, Numbers, Packed, entries, integer, listing, said, unsigned
 from ._slices import SLICE_WITH_END, Elem, Slice, basic_key, intersection, picked, slice_view
 
 MAX_PARTS = 1_000_000
@@ -30,7 +30,7 @@ _Part = tuple[int, tuple[range, ...]]
 def first_conflict(
     shape: Numbers,
     keys: Iterable[Any],
-    chunks: Optional[Numbers] = None,
+    chunks: Optional[Chunks] = None,
     max_parts: int = MAX_PARTS,
     blocks: Optional[Iterable[Optional[Iterable[Numbers]]]] = None,
 ) -> Optional[Pair]:
@@ -43,8 +43,8 @@ def first_conflict(
     compared.
 
     `chunks` has the length of a chunk along each axis, as Zarr's `chunks` and HDF5's have; a number stands for one
-    axis, and nothing for the whole length of one. Of a Dask array it is `chunksize`, where all chunks but the last of
-    an axis have that length: `rechunk` makes them so.
+    axis, and nothing for the whole length of one. Where a Zarr array has `shards`, each of which is written as a whole,
+    they are the chunks. An axis may also have a list of lengths that add up to its own, as Dask's `chunks` have.
 
     `blocks` has for each key the lengths of the blocks of what is written there, along each axis: of a Dask array its
     `chunks`. Dask writes each block on its own, so two blocks of one key that have an index in the same chunk conflict
@@ -68,13 +68,12 @@ def first_conflict(
     (0, 2)
     >>> first_conflict((6, 6), halves, (3, 6), blocks=[((3,), (6,)), ((2, 1), (6,))])    # rows 3, 4 and row 5
     (1, 1)
+    >>> first_conflict(9, [slice(0, 4), slice(4, 9)], chunks=((4, 3, 2),)), first_conflict(9, [3, 4], chunks=4)
+    (None, None)
     """
-    lens = _lengths(shape, "length")
+    lens = lengths_of(shape, "length")
     default_strides(lens)  # (which refuses a size above the limit)
-    chunk = (1,) * len(lens) if chunks is None else _lengths(_chunk_lengths(chunks), "chunk")
-    fault = of_block(lens, chunk)
-    if fault is not None:
-        raise error_of_kind(*fault)
+    chunk = (Even(1),) * len(lens) if chunks is None else read_chunks(lens, chunks)
     parts, max_parts = list[_Part](), integer(max_parts, "max_parts")
     alone: Optional[int] = None
     for position, (key, lengths) in enumerate(_with_blocks(keys, blocks)):
@@ -84,20 +83,6 @@ def first_conflict(
             alone = position if alone is None else alone
     pair = _first_conflict(len(lens), parts) if alone is None else (alone, alone)
     return None if pair is None else (min(pair), max(pair))
-
-
-def _chunk_lengths(chunks: Numbers) -> Lens:
-    listed = listing(chunks)
-    for axis, length in enumerate(listed):
-        if not hasattr(length, "__index__"):
-            text = f"axis {axis}: the length of a chunk is an integer, not {written(length)}; Dask's are in `chunksize`"
-            raise TypeError(text)
-    return listed
-
-
-def _lengths(numbers: Numbers, name: str) -> Lens:
-    packed, count = unsigned(numbers, name)
-    return count.unpack_unsigned(packed)
 
 
 def _with_blocks(keys: Iterable[Any], blocks: Optional[Iterable[Any]]) -> Iterable[tuple[Any, Any]]:
@@ -157,45 +142,26 @@ def _picks_of(length: int, elem: Elem) -> range:
 # ---- The chunks that a key touches
 
 
-def _parts_of(position: int, picks: list[range], chunk: Lens, others: int, max_parts: int) -> Iterable[_Part]:
+def _parts_of(
+    position: int, picks: list[range], chunk: Sequence[Chunking], others: int, max_parts: int
+) -> Iterable[_Part]:
     """The parts of a key. Raises `ShapeError` where there are more than `max_parts` with the others."""
-    counts = [_count_runs(*pair) for pair in zip(picks, chunk)]
+    counts = [along.count(picked) for picked, along in zip(picks, chunk)]
     if others + prod(counts) > max_parts:
         text = f"the keys up to {position} have more than {said(max_parts)} parts"
         raise ShapeError("Unsupported", text, None, {"key": position, "max_parts": max_parts})
-    return zip(repeat(position), product(*map(_touched, picks, chunk, counts)))
+    return zip(repeat(position), product(*[along.touched(picked) for picked, along in zip(picks, chunk)]))
 
 
-def _count_runs(picks: range, chunk: int) -> int:
-    """How many runs the numbers of the chunks make up: `_touched` without a list."""
-    step = abs(picks.step)
-    if chunk == 1 or step <= chunk or not picks:
-        return min(len(picks), 1)
-    return min(len(picks), chunk // gcd(step, chunk))  # (so many steps are a multiple of the chunk)
-
-
-def _touched(picks: range, chunk: int, count: int) -> list[range]:
-    """The numbers of the chunks that have one of the indices: each number once."""
-    ascending = picks if picks.step > 0 else picks[::-1]
-    if chunk == 1 or not picks:
-        return [ascending][:count]
-    if ascending.step <= chunk:
-        return [range(ascending[0] // chunk, ascending[-1] // chunk + 1)]
-    return [_numbers(ascending[begin::count], chunk) for begin in range(count)]
-
-
-def _numbers(picks: range, chunk: int) -> range:
-    """The numbers of the chunks of indices whose step is a multiple of the chunk, or that are one."""
-    return range(picks[0] // chunk, picks[-1] // chunk + 1, max(picks.step // chunk, 1))
-
-
-def _blocks_conflict(shape: Lens, key: Any, picks: list[range], chunk: Lens, blocks: Iterable[Numbers]) -> bool:
+def _blocks_conflict(
+    shape: Lens, key: Any, picks: list[range], chunk: Sequence[Chunking], blocks: Iterable[Numbers]
+) -> bool:
     """Whether two blocks of a part have an index in the same chunk."""
     axes, lengths = _axes_of_part(shape, key), [listing(numbers) for numbers in entries(blocks, "blocks", "axes")]
     if len(lengths) != len(axes):
         numbers = {"blocks": len(lengths), "axes": len(axes)}
         raise ShapeError("IncompatibleShape", f"blocks of {len(lengths)} axes for {len(axes)}", None, numbers)
-    one = range(1), 1
+    one: tuple[range, Chunking] = range(1), Even(1)
     along = [one if axis is None else (picks[axis], chunk[axis]) for axis in axes]
     shared = [_share_a_chunk(at, *pair, numbers) for at, (pair, numbers) in enumerate(zip(along, lengths))]
     return any(shared) and all(picks)
@@ -208,21 +174,14 @@ def _axes_of_part(shape: Lens, key: Any) -> list[Optional[int]]:
     return [axis for elem, axis in axes if elem is None or isinstance(elem, Slice)]
 
 
-def _share_a_chunk(axis: int, picks: range, chunk: int, lengths: Iterable[Any]) -> bool:
+def _share_a_chunk(axis: int, picks: range, chunk: Chunking, lengths: Iterable[Any]) -> bool:
     """Whether two blocks along an axis have an index in the same chunk: then two that follow each other have."""
-    ends = tuple(accumulate(_block_length(axis, length) for length in lengths))
+    ends = tuple(accumulate(block_length(axis, length) for length in lengths))
     total = ends[-1] if ends else 0
     if total != len(picks):
         text = f"axis {axis}: the blocks have {said(total)} of {said(len(picks))} indices"
         raise ShapeError("IncompatibleShape", text, axis, {"blocks": total, "length": len(picks)})
-    return any(picks[end - 1] // chunk == picks[end] // chunk for end in ends if 0 < end < total)
-
-
-def _block_length(axis: int, length: Any) -> int:
-    number = integer(length, "the length of a block", axis)
-    if number < 0:
-        raise not_64_bits("block", number, True, axis)
-    return number
+    return any(chunk.number(picks[end - 1]) == chunk.number(picks[end]) for end in ends if 0 < end < total)
 
 
 # ---- Parts that conflict
