@@ -153,6 +153,7 @@ BAD = {
 """Values of which no one is what a parameter of the kind takes."""
 
 LAYOUT = Layout.over(6, (2, 3))
+ONES = Layout.over(1, (1, 1))
 REPEATED = LAYOUT.broadcast((2, 2, 3))
 SHAPED = {"shape": ((2, 3), "list"), "strides": ((3, 1), "list")}
 START = {"start": (0, "number")}
@@ -169,7 +170,7 @@ CALLS = {
     **{call: {"shape": ((2, 3), "list")} for call in (nd.default_strides, nd.fortran_strides)},
     nd.place: START | SHAPED | {"index": ((0, 0), "list")},
     nd.next_index: {"shape": ((2, 3), "list"), "index": ((0, 0), "list")} | ORDER,
-    **{call: START | SHAPED | ORDER for call in (nd.places, nd.rows)},
+    **{call: START | SHAPED | ORDER for call in (nd.places, nd.rows, nd.joined_rows)},
     nd.slice_view: START | SHAPED | {"elems": ((0, 0), "elems")} | CLAMP,
     nd.slices_intersect: {"shape": ((2, 3), "list"), "first": ((0, 0), "elems"), "second": ((0, 0), "elems")} | CLAMP,
     nd.first_intersection: {"shape": ((2, 3), "list"), "slices": ([(0, 0)], "slices")} | CLAMP,
@@ -218,6 +219,13 @@ CALLS = {
     LAYOUT.__getitem__: {"key": (0, "key")},
     LAYOUT.slice: {"elems": ((0, 0), "elems")} | CLAMP,
     LAYOUT.reshape: {"shape": ((3, 2), "list")} | ORDER,
+    LAYOUT.flip: {"axis": ((0, 1), "list or None")},
+    LAYOUT.expand_dims: {"axis": ((0, 1), "list")},
+    ONES.squeeze: {"axis": ((0, 1), "list or None")},
+    LAYOUT.moveaxis: {"source": ((0, 1), "list"), "destination": ((0, 1), "list")},
+    LAYOUT.index_of: {"place": (0, "steps")},
+    LAYOUT.joined_rows: ORDER,
+    LAYOUT.to_svg: {},
     LAYOUT.broadcast: {"shape": ((2, 3), "list")},
     LAYOUT.windows: {"window": ((1, 1), "list")},
     LAYOUT.exact_chunks: {"chunk": ((1, 1), "list")},
@@ -240,7 +248,7 @@ if np:
 NAMED = (
     r"^((slice|key) \d+: )?(axis \d+: )?"
     r"(an array|array|axis|base|buffer|blocks|chunk|clamp|dtype|elem_size|elems|index|itemsize|items of the dtype|keys|"
-    r"length|max_parts|max_work|nbytes|offset|owned|slices|start|stride|the length of a (block|chunk)|"
+    r"length|max_parts|max_work|nbytes|offset|owned|place|slices|start|stride|the length of a (block|chunk)|"
     r"slice indices must be integers|(?s:.+) is no (basic slice|integer|start|end|step)|"
     r"only integer scalar arrays can be converted)\b"
 )
@@ -275,8 +283,9 @@ class EachCall(unittest.TestCase):
         functions = {name for name in nd.__all__ if type(getattr(nd, name)) is type(said)}
         methods = {
             name
-            for name, value in vars(Layout).items()
-            if name[0] != "_" and callable(getattr(value, "__func__", value))
+            for kind in Layout.__mro__[:-1]
+            for name, value in vars(kind).items()
+            if name[0] != "_" and callable(getattr(value, "__func__", value)) and not isinstance(value, type)
         }
         tested = {call.__name__ for call in CALLS} | {"transpose", "as_array"}
         self.assertLessEqual(functions | methods, tested)

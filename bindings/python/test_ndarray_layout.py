@@ -27,7 +27,7 @@ def load_tests(loader, tests, pattern):
     """Adds the examples of the docstrings."""
     parts = [importlib.import_module(f"{nd.__name__}.{part.name}") for part in pkgutil.iter_modules(nd.__path__)]
     for module in (nd, *parts):
-        tests.addTests(doctest.DocTestSuite(module))
+        tests.addTests(doctest.DocTestSuite(module, extraglobs={"Layout": nd.Layout, "Slice": Slice}))
     return tests
 
 

@@ -4,14 +4,13 @@ from __future__ import annotations
 
 from ctypes import c_size_t
 from math import gcd
-from typing import Any, NamedTuple, Optional, Protocol, SupportsIndex
+from typing import NamedTuple, Optional, Protocol, SupportsIndex
 
 from . import _library as library
 from ._errors import LayoutError, OutOfBoundsError, ShapeError, SizeOverflowError, error_of_kind
-from ._layouts import is_layout_c, is_layout_f, layout_start, order_by
+from ._layouts import is_layout_c, is_layout_f, order_by
 from ._numbers import (
     FAR,
-    LIMIT,
     ORDERS,
     Lens,
     Numbers,
@@ -20,21 +19,17 @@ from ._numbers import (
     integer,
     integers,
     not_64_bits,
-    one_answer,
     one_number,
     product,
     said,
     signed,
     size,
     unsigned,
-    work_limit,
     written,
 )
-from ._reasons import Reason, of_array, of_size
+from ._reasons import Reason, of_size
 from ._reasons import of_lay_over as reason_of_lay_over
 from ._shapes import reshaped
-from ._sharing import MAX_WORK, share_byte
-from ._slices import packed_key, slice_by_key
 
 
 class Reshaped(NamedTuple):
@@ -127,7 +122,7 @@ def lay_over(
     try:
         return _laid_over(lens, steps, itemsize, nbytes, offset, owned)
     except LayoutError as error:
-        raise _in_bytes(error, reason_of_lay_over(lens, steps, itemsize, nbytes, offset, owned)) from None
+        raise in_bytes(error, reason_of_lay_over(lens, steps, itemsize, nbytes, offset, owned)) from None
 
 
 def _laid_over(lens: Lens, steps: Lens, itemsize: int, nbytes: int, offset: Optional[int], owned: bool) -> int:
@@ -147,62 +142,9 @@ def _laid_over(lens: Lens, steps: Lens, itemsize: int, nbytes: int, offset: Opti
     return offset
 
 
-def _in_bytes(error: LayoutError, reason: Optional[Reason]) -> LayoutError:
+def in_bytes(error: LayoutError, reason: Optional[Reason]) -> LayoutError:
     """The error of a call with a text that counts bytes. Its kind decides: a reason for another one is left out."""
     return error if reason is None or reason.kind != error.kind else error_of_kind(*reason)
-
-
-def share_element(a: Array, first: Any, second: Any, max_work: Optional[int] = MAX_WORK) -> bool:
-    """Whether `a[first]` and `a[second]` share an element, for basic slices: integers, slices, `...` and `None`.
-
-    Exact. `a` has a `shape`, `strides` in bytes and an `itemsize`. A `Slice` is one key too. Where `a` keeps the
-    no-alias rule the time is that of its axes alone, however large it is.
-
-    Where the bytes of `a` break the rule (`has_overlap`), as windows and broadcasts do, the places of both parts are
-    compared, in Python, and in at most `max_work` steps of some 2 microseconds: `None` is without end, 0 compares
-    nothing. Raises `ShapeError` of the kind 'Unsupported' where these don't decide, and never guesses. Raises
-    `IndexError` and `ValueError` where `a[first]` or `a[second]` does, and `TypeError` for other keys, such as
-    booleans and arrays with 0 axes.
-
-    >>> class Table: shape, strides, itemsize = (10**12, 4), (32, 8), 8
-    >>> share_element(Table, (slice(0, None, 2), 1), (slice(1, None, 2), 1))
-    False
-    >>> share_element(Table, (slice(None, None, -3), slice(1, 3)), (..., 2))
-    True
-    >>> class Windows: shape, strides, itemsize = (4, 3), (8, 8), 8
-    >>> share_element(Windows, 0, 1), share_element(Windows, 0, 3)
-    (True, False)
-    >>> share_element(Windows, 0, 1, max_work=0)
-    Traceback (most recent call last):
-    ndarray_layout.ShapeError: Unsupported: elements of shape (4, 3) and strides (8, 8) may overlap
-    """
-    (shape, strides, itemsize), max_work, answer = read_array(a), work_limit(max_work), one_answer()
-    if not 0 <= itemsize < 2**64:
-        raise not_64_bits("itemsize", itemsize, True, None)
-    lens, steps = unsigned((*shape, itemsize)), signed((*strides, 1))
-    try:
-        library.has_overlap(*lens, *steps, answer)
-    except LayoutError as error:
-        raise _in_bytes(error, of_array(shape, strides, itemsize)) from None
-    if answer[0]:
-        return _share_byte((shape, strides, itemsize), first, second, max_work)
-    keys = *packed_key(shape, first), *packed_key(shape, second)
-    library.slices_intersect(*unsigned(shape), *keys, False, answer)
-    return bool(answer[0])
-
-
-def _share_byte(array: tuple[Lens, Lens, int], first: Any, second: Any, max_work: Optional[int]) -> bool:
-    """`share_element` of an array whose elements may overlap."""
-    shape, strides, itemsize = array
-    start = layout_start(shape, strides, length=LIMIT + 1)
-    refusal = f"elements of shape {written(shape)} and strides {written(strides)} may overlap"
-    if max_work == 0:
-        raise ShapeError("Unsupported", refusal)
-    one, other = (slice_by_key(start, shape, strides, key) for key in (first, second))
-    shared = share_byte(one, other, itemsize, max_work)
-    if shared is None:
-        raise ShapeError("Unsupported", f"{refusal}, and {written(max_work)} steps don't decide whether these do")
-    return shared
 
 
 def reshape_without_copy(a: Array, new_shape: Numbers, order: Optional[str] = "C") -> Reshaped:

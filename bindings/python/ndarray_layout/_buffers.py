@@ -5,7 +5,7 @@ from __future__ import annotations
 from numbers import Integral
 from pickle import PickleBuffer
 from types import SimpleNamespace
-from typing import TYPE_CHECKING, Any
+from typing import TYPE_CHECKING, Any, Optional
 
 from ._errors import OutOfBoundsError, ShapeError
 from ._numbers import Lens, as_integer
@@ -35,15 +35,18 @@ def _without_format(array: Any) -> Any:
     return numpy.asarray(SimpleNamespace(__array_interface__=interface, holds=array))
 
 
-def count_items(buffer: Any) -> tuple[int, int]:
-    """How many items a buffer has, and their size. A number stands for so many items."""
+def count_items(buffer: Any) -> tuple[int, int, Optional[str]]:
+    """How many items a buffer has, their size and their format. A number stands for so many items of a byte."""
+    if type(buffer) is int:
+        return buffer, 1, None
     number = as_integer(buffer) if isinstance(buffer, Integral) else None
     if number is not None:
-        return number, 1
+        return number, 1, None
     view = shown(buffer)
-    if view.itemsize == 0:
+    itemsize = view.itemsize
+    if itemsize == 0:
         raise no_bytes("items of the buffer")
-    return view.nbytes // view.itemsize, view.itemsize
+    return view.nbytes // itemsize, itemsize, view.format
 
 
 def no_bytes(what: str) -> ShapeError:
@@ -131,9 +134,9 @@ def items_of_size(base: Any, itemsize: int) -> int:
     return view.nbytes // itemsize
 
 
-def items_before(array: Any, base: Any, itemsize: int) -> int:
-    """How many items of a base lie in memory before element (0, .., 0) of an array."""
-    start, rest = divmod(_address(array, "array") - _address(base, "base"), itemsize)
+def items_before(address: int, base: Any, itemsize: int) -> int:
+    """How many items of a base lie in memory before an address, where element (0, .., 0) of an array lies."""
+    start, rest = divmod(address - address_in(base, "base"), itemsize)
     if start < 0:
         raise OutOfBoundsError("OutOfBounds", f"the array begins {-start} items below the base", None, {"start": start})
     if rest:
@@ -142,7 +145,7 @@ def items_before(array: Any, base: Any, itemsize: int) -> int:
     return start
 
 
-def _address(buffer: Any, name: str) -> int:
+def address_in(buffer: Any, name: str) -> int:
     """Where the first element of an array, or of what a `memoryview` shows, lies in memory."""
     array = buffer if hasattr(buffer, "__array_interface__") else _as_numpy(shown(buffer, name))
     return int(array.__array_interface__["data"][0])

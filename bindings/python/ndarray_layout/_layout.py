@@ -2,13 +2,15 @@
 
 from __future__ import annotations
 
-from dataclasses import dataclass
-from functools import cached_property
+from dataclasses import dataclass, field
 from math import prod
 from operator import index as as_int
+from struct import error as StructError
 from typing import TYPE_CHECKING, Any, Iterator, Optional, Sequence, SupportsIndex
 
-from ._arrays import element_strides, read_array, without_minus_one
+from . import _frames as frames
+from . import _picture as picture
+from ._arrays import element_strides
 from ._buffers import (
     array_over,
     count_items,
@@ -17,7 +19,6 @@ from ._buffers import (
     items_before,
     items_of_size,
     no_bytes,
-    shown,
     side_by_side,
 )
 from ._errors import LayoutError, OutOfBoundsError, ShapeError, of_one
@@ -31,40 +32,48 @@ from ._layouts import (
     is_contiguous,
     is_layout_c,
     is_layout_f,
+    joined_rows,
     layout_start,
     place,
     places,
     rows,
 )
 from ._numbers import (
+    INTEGERS,
     LIMIT,
     Lens,
     Numbers,
-    View,
     entries,
+    flag,
     integer,
     integers,
-    listing,
     order_number,
-    said,
     work_limit,
     written,
 )
-from ._shapes import broadcast, exact_chunks, permuted_axes, reshape, split_at, windows
 from ._sharing import MAX_WORK, share_byte
-from ._slices import Elems, Slice, basic_key, first_intersection, slice_by_key, slice_view, slices_intersect
+from ._slices import Elems, basic_key, first_intersection, slices_intersect
+from ._sources import address_of, read_source
+from ._views import Fields, Views, made
 
 if TYPE_CHECKING:
     import numpy
 
+set_start, set_shape, set_strides, set_length, set_owned, set_itemsize, set_format = (
+    vars(Fields)[name].__set__ for name in ("start", "shape", "strides", "length", "owned", "itemsize", "format")
+)
+
 
 @dataclass(frozen=True, init=False)
-class Layout:
+class Layout(Views):
     """A layout that was accepted over `length` elements, so every index lies within them.
 
     Where it was accepted as `owned` no two indices have one place. Strides, places and the length count elements. What
     is made of an accepted layout is accepted: a slice, a reshape or a permutation keeps `owned`, and what is broadcast
     is only to be read.
+
+    Of a buffer or an array it keeps the `itemsize`, the bytes of an element, and their `format`, as `memoryview` has
+    them; of a count these are 1 and `None`. Layouts that differ in these alone are equal.
 
     >>> layout = Layout.over(6, (2, 3), (-3, 1), owned=True)
     >>> layout
@@ -78,25 +87,44 @@ class Layout:
     ndarray_layout.OutOfBoundsError: the lowest place -1 is below 0
     """
 
+    __slots__ = ()
+
     start: int
     shape: Lens
     strides: Lens
     length: int
-    owned: bool = False
+    owned: bool
+    itemsize: int = field(compare=False, repr=False)
+    format: Optional[str] = field(compare=False, repr=False)
 
     def __init__(
-        self, start: SupportsIndex, shape: Numbers, strides: Numbers, *, length: SupportsIndex, owned: bool = False
+        self,
+        start: SupportsIndex,
+        shape: Numbers,
+        strides: Numbers,
+        *,
+        length: SupportsIndex,
+        owned: bool = False,
+        itemsize: SupportsIndex = 1,
+        format: Optional[str] = None,
     ) -> None:
-        lens, steps = integers(shape, "length"), integers(strides, "stride")
-        check_layout(start, lens, steps, length=length, owned=owned)
-        self.__dict__.update(start=as_int(start), shape=lens, strides=steps)
-        self.__dict__.update(length=as_int(length), owned=bool(owned))
+        if not _is_accepted(start, shape, strides, itemsize, length, owned):
+            shape, strides = integers(shape, "length"), integers(strides, "stride")
+            check_layout(start, shape, strides, elem_size=itemsize, length=length, owned=owned)
+            start, length, itemsize = as_int(start), as_int(length), as_int(itemsize)
+        set_start(self, start)
+        set_shape(self, shape)
+        set_strides(self, strides)
+        set_length(self, length)
+        set_owned(self, bool(owned))
+        set_itemsize(self, itemsize)
+        set_format(self, format)
 
-    def _kept(self, start: int, shape: Lens, strides: Lens, owned: bool) -> Layout:
-        """What a call made of this layout, which is accepted by that call's promise."""
-        made = object.__new__(Layout)
-        made.__dict__.update(start=start, shape=shape, strides=strides, length=self.length, owned=owned)
-        return made
+    def __reduce__(self) -> tuple[Any, ...]:
+        numbers = self.start, self.shape, self.strides, self.length, self.owned, self.itemsize, self.format
+        return _accepted, numbers  # (which is checked anew: bytes from elsewhere may be unpickled)
+
+    __iter__ = None  # (a row is `layout[k]`; places come from `places` and `rows`)
 
     # ---- Makers
 
@@ -121,17 +149,15 @@ class Layout:
         >>> Layout.over(6, 6, -1).start
         5
         """
-        length, elem_size = count_items(buffer)
-        lens, number = integers(shape, "length"), order_number(order)
-        if strides is None:
-            steps = (default_strides, fortran_strides)[number](lens)
-        else:
-            steps = integers(strides, "stride")
+        length, itemsize, kind = count_items(buffer)
+        lens, number, owned = integers(shape, "length"), order_number(order), flag(owned, "owned")
+        steps = _strides_of(lens, number) if strides is None else integers(strides, "stride")
         if start is None:
-            start = layout_start(lens, steps, elem_size=elem_size, length=length, owned=owned)
+            first = _start_of(lens, steps, itemsize, length, owned)
         else:
-            check_layout(start, lens, steps, elem_size=elem_size, length=length, owned=owned)
-        return Layout(start, lens, steps, length=length, owned=owned)
+            check_layout(start, lens, steps, elem_size=itemsize, length=length, owned=owned)
+            first = as_int(start)
+        return made(first, lens, steps, length, owned, itemsize, kind)
 
     @staticmethod
     def of(array: Any, *, base: Any = None, owned: bool = False) -> Layout:
@@ -148,20 +174,17 @@ class Layout:
         >>> Layout.of(memoryview(b"abcdef")[::-2])
         Layout(start=4, shape=(3,), strides=(-2,), length=5, owned=False)
         """
-        is_array = not isinstance(array, memoryview) and hasattr(array, "strides")
-        view = array if is_array else shown(array, "array")
-        if getattr(view, "suboffsets", ()):
-            raise ShapeError("Unsupported", "a layout has no suboffsets")
-        shape, byte_strides, itemsize = read_array(view)
+        source, owned = read_source(array), flag(owned, "owned")
+        shape, byte_strides, itemsize, kind, _ = source
         strides = default_strides(shape) if 0 in shape else element_strides(byte_strides, itemsize)
         if base is None:
-            start = layout_start(shape, strides, elem_size=itemsize, length=LIMIT + 1, owned=owned)
-            span = sum(max(length - 1, 0) * abs(stride) for length, stride in zip(shape, strides))
-            return Layout(start, shape, strides, length=span + (0 not in shape), owned=owned)
+            start = _start_of(shape, strides, itemsize, LIMIT + 1, owned)
+            spans = [(length - 1) * abs(stride) for length, stride in zip(shape, strides)]
+            return made(start, shape, strides, 0 if 0 in shape else sum(spans) + 1, owned, itemsize, kind)
         length = items_of_size(base, itemsize)
-        start = 0 if 0 in shape else items_before(view, base, itemsize)
+        start = 0 if 0 in shape else items_before(address_of(array, source, "array"), base, itemsize)
         check_layout(start, shape, strides, elem_size=itemsize, length=length, owned=owned)
-        return Layout(start, shape, strides, length=length, owned=owned)
+        return made(start, shape, strides, length, owned, itemsize, kind)
 
     # ---- What it is
 
@@ -175,116 +198,62 @@ class Layout:
         """How many indices there are."""
         return prod(self.shape)
 
-    @cached_property
+    @property
+    def nbytes(self) -> int:
+        """The bytes of all its elements, each index counted: the size times the item size."""
+        return prod(self.shape) * self.itemsize
+
+    @property
     def is_contiguous(self) -> bool:
         """Whether no two indices have one place, and all fill a stretch of the buffer without a gap, in any order of the axes."""
         return is_contiguous(self.shape, self.strides)
 
-    @cached_property
+    @property
     def is_layout_c(self) -> bool:
         """Whether the places follow one another in row-major order."""
         return is_layout_c(self.shape, self.strides)
 
-    @cached_property
+    @property
     def is_layout_f(self) -> bool:
         """Whether the places follow one another in column-major order."""
         return is_layout_f(self.shape, self.strides)
 
-    @cached_property
+    @property
     def has_overlap(self) -> bool:
         """Whether it breaks the no-alias rule. An owned layout never does."""
         return not self.owned and has_overlap(self.shape, self.strides)
-
-    # ---- Other layouts over the same elements
-
-    def __getitem__(self, key: Any) -> Layout:
-        """A slice by NumPy's keys: integers, slices, `...` and `None`. Bounds outside are moved to the nearest end."""
-        return self._kept(*slice_by_key(self.start, self.shape, self.strides, key), self.owned)
-
-    __iter__ = None  # (a row is `layout[k]`; places come from `places` and `rows`)
-
-    def slice(self, elems: Elems, clamp: bool = False) -> Layout:
-        """A slice by the layer's elements. Raises what `slice_view` does: a bound outside is an `IndexError`.
-
-        >>> Layout.over(4, 4).slice([Slice(1, None, -2)]).places()
-        (3, 1)
-        """
-        return self._kept(*slice_view(self.start, self.shape, self.strides, elems, clamp), self.owned)
-
-    def reshape(self, shape: Numbers, order: str = "C") -> Layout:
-        """The same places in an order along another shape, one length of which may be -1.
-
-        Raises what `reshape` does, and `ShapeError` where no one length makes the sizes equal.
-
-        >>> Layout.over(6, (2, 3)).reshape((3, -1)).shape
-        (3, 2)
-        """
-        lens = without_minus_one(self.shape, integers(shape, "length"))
-        return self._kept(self.start, lens, reshape(self.shape, self.strides, lens, order), self.owned)
-
-    def broadcast(self, shape: Numbers) -> Layout:
-        """The layout read as one of another shape. It isn't owned: all coordinates of a new axis have one place.
-
-        >>> Layout.over(3, 3).broadcast((2, 3))
-        Layout(start=0, shape=(2, 3), strides=(0, 1), length=3, owned=False)
-        """
-        lens = integers(shape, "length")
-        return self._kept(self.start, lens, broadcast(self.shape, self.strides, lens), False)
-
-    def windows(self, window: Numbers) -> Layout:
-        """All windows of a shape: first the index of the window, then the index in it. Raises what `windows` does.
-
-        It isn't owned: windows overlap.
-
-        >>> Layout.over(5, 5).windows(3)
-        Layout(start=0, shape=(3, 3), strides=(1, 1), length=5, owned=False)
-        """
-        return self._kept(self.start, *windows(self.shape, self.strides, window), False)
-
-    def exact_chunks(self, chunk: Numbers) -> Layout:
-        """The chunks of a shape that lie side by side: first the number of the chunk, then the index in it.
-
-        What is left over at the end of an axis is left out. Raises what `exact_chunks` does.
-
-        >>> Layout.over(7, 7, owned=True).exact_chunks(3)
-        Layout(start=0, shape=(2, 3), strides=(3, 1), length=7, owned=True)
-        """
-        return self._kept(self.start, *exact_chunks(self.shape, self.strides, chunk), self.owned)
-
-    def split_at(self, axis: SupportsIndex, index: SupportsIndex) -> tuple[Layout, Layout]:
-        """The coordinates of an axis below an index, and those from it on. Raises what `split_at` does.
-
-        >>> [part.places() for part in Layout.over(6, (2, 3)).split_at(axis=1, index=1)]
-        [(0, 3), (1, 2, 4, 5)]
-        """
-        first, second = split_at(self.start, self.shape, self.strides, axis, index)
-        return self._kept(*first, self.owned), self._kept(*second, self.owned)
-
-    def permuted_axes(self, axes: Numbers) -> Layout:
-        """The axes in another order: axis k is axis `axes[k]`. Raises what `permuted_axes` does."""
-        return self._kept(self.start, *permuted_axes(self.shape, self.strides, axes), self.owned)
-
-    def transpose(self, *axes: Any) -> Layout:
-        """The axes in another order, as NumPy takes them: reversed without any, and negative ones count from the end.
-
-        >>> Layout.over(24, (2, 3, 4)).transpose(-1, 0, 1).shape
-        (4, 2, 3)
-        """
-        listed = listing(axes[0], "axis") if len(axes) == 1 and axes[0] is not None else axes
-        if len(listed) == 0 or len(listed) == 1 and listed[0] is None:
-            return self.permuted_axes(range(self.ndim)[::-1])
-        return self.permuted_axes([_axis(axis, self.ndim) for axis in listed])
-
-    @property
-    def T(self) -> Layout:
-        """The axes in reverse order."""
-        return self.transpose()
 
     # ---- Places
 
     def place(self, index: Numbers) -> int:
         """The place of an index. Raises what `place` does."""
         return place(self.start, self.shape, self.strides, index)
+
+    def index_of(self, place: SupportsIndex) -> Optional[Lens]:
+        """The index that has a place, or `None` where no index has it: the other way round of `place`.
+
+        Raises `ShapeError` of the kind 'Unsupported' where the layout breaks the no-alias rule, as windows do: there
+        several indices may have one place. Takes time for the axes alone.
+
+        >>> layout = Layout.over(6, (2, 2), (-3, 1))
+        >>> layout.index_of(1), layout.index_of(2)
+        ((1, 1), None)
+        """
+        if self.has_overlap:
+            raise ShapeError("Unsupported", f"several indices of {written(self)} may have one place")
+        if 0 in self.shape:
+            return None
+        rest, index = integer(place, "place") - self.start, [0] * len(self.shape)
+        axes = [axis for axis, length in enumerate(self.shape) if length > 1]
+        for axis in axes:
+            if self.strides[axis] < 0:  # (counted from the last coordinate the stride is above 0)
+                rest -= (self.shape[axis] - 1) * self.strides[axis]
+        for axis in sorted(axes, key=lambda axis: -abs(self.strides[axis])):
+            count, rest = divmod(rest, abs(self.strides[axis]))
+            if not 0 <= count < self.shape[axis]:
+                return None
+            index[axis] = count if self.strides[axis] > 0 else self.shape[axis] - 1 - count
+        return None if rest else tuple(index)
 
     def places(self, order: str = "C") -> Lens:
         """The places of all indices, in an order. Takes time and memory for each index."""
@@ -299,6 +268,16 @@ class Layout:
         [Row(start=3, stride=1, length=3), Row(start=0, stride=1, length=3)]
         """
         return rows(self.start, self.shape, self.strides, order)
+
+    def joined_rows(self, order: str = "C") -> Iterator[Row]:
+        """The places in an order in few rows: axes of one stride are one row, and so are rows that touch.
+
+        Read in their order they are the places of `rows`. Where the layout is row-major there is one row.
+
+        >>> list(Layout.over(24, (2, 3, 4))[:, 1:].joined_rows())    # (and 4 in `rows`)
+        [Row(start=4, stride=1, length=8), Row(start=16, stride=1, length=8)]
+        """
+        return joined_rows(self.start, self.shape, self.strides, order)
 
     def has_distinct_places(self, max_work: Optional[int] = MAX_WORK) -> bool:
         """Whether no two indices have one place: exact. An owned layout has distinct places."""
@@ -340,8 +319,19 @@ class Layout:
             raise ShapeError("Unsupported", text)
         return shared
 
-    def _view(self, key: Any) -> View:
-        return slice_by_key(self.start, self.shape, self.strides, key)
+    # ---- A picture
+
+    def to_svg(self) -> str:
+        """A picture as SVG: the view and the elements that it lies over, for light and dark pages.
+
+        A layout of few elements has a cell for each index and for each element, with its coordinates and its place. Of
+        a larger one there are the axes, with lengths and strides, and the stretch of the elements that it reaches.
+        """
+        return picture.svg_of(self)
+
+    def _repr_html_(self) -> str:
+        """What notebooks show: a table of the numbers beside the picture."""
+        return picture.html_of(self)
 
     # ---- Buffers
 
@@ -410,10 +400,42 @@ class Layout:
         check_layout(self.start, self.shape, self.strides, elem_size=elem_size, length=items)
 
 
-def _axis(axis: SupportsIndex, axes: int) -> int:
-    """An axis, counted from the end where it is negative."""
-    number = integer(axis, "axis")
-    if not -axes <= number < axes:
-        numbers = {"axis": number, "axes": axes}
-        raise OutOfBoundsError("OutOfBounds", f"axis {said(number)}: there are {axes} axes", None, numbers)
-    return number % axes
+Views.frozen = Layout
+
+
+def _accepted(
+    start: int, shape: Lens, strides: Lens, length: int, owned: bool, itemsize: int, format: Optional[str]
+) -> Layout:
+    """`Layout` as `pickle` and `copy` call it."""
+    return Layout(start, shape, strides, length=length, owned=owned, itemsize=itemsize, format=format)
+
+
+def _is_accepted(start: Any, shape: Any, strides: Any, itemsize: Any, length: Any, owned: Any) -> bool:
+    """Whether Python's own integers, in tuples, are a layout that is accepted. Else `check_layout` says why not."""
+    if type(shape) is not tuple or type(strides) is not tuple or type(owned) is not bool:
+        return False
+    numbers = start, *shape, *strides, itemsize, length
+    if not INTEGERS.issuperset(map(type, numbers)):
+        return False
+    try:
+        return frames.check_layout[owned]((len(shape), len(strides)), numbers) is not None
+    except StructError:  # (a number without 64 bits)
+        return False
+
+
+def _start_of(shape: Lens, strides: Lens, itemsize: int, length: int, owned: bool) -> int:
+    """`layout_start` of Python's own integers."""
+    try:
+        found = frames.layout_start[owned]((len(shape), len(strides)), (*shape, *strides, itemsize, length))
+    except StructError:
+        found = None
+    return layout_start(shape, strides, elem_size=itemsize, length=length, owned=owned) if found is None else found[0]
+
+
+def _strides_of(shape: Lens, order: int) -> Lens:
+    """`default_strides` or `fortran_strides` of Python's own integers."""
+    try:
+        found = frames.default_strides[order]((len(shape), len(shape)), shape)
+    except StructError:
+        found = None
+    return (default_strides, fortran_strides)[order](shape) if found is None else found

@@ -300,3 +300,60 @@ def rows(start: SupportsIndex, shape: Numbers, strides: Numbers, order: str = "C
     library.rows(first, *lens, *steps, number, *written, stride, length)
     each = zip(starts, repeat(stride[0], count), repeat(length[0]))
     return map(tuple.__new__, repeat(Row), each)  # (in half the time of `map(Row, ..)`)
+
+
+def joined_rows(start: SupportsIndex, shape: Numbers, strides: Numbers, order: str = "C") -> Iterator[Row]:
+    """The places in an order in few rows: axes of one stride are one row, and so are rows that touch.
+
+    Read in their order they are the places of `rows`, and no two that follow each other make up one row; a row of one
+    place alone has the stride 1. So many reads of a file as there are rows, of stride 1, read a part of it. A call is
+    made for each axis at most, and one for all rows; what touches is joined as the rows are taken.
+
+    >>> list(joined_rows(0, (2, 3, 4), (100, 4, 1)))
+    [Row(start=0, stride=1, length=12), Row(start=100, stride=1, length=12)]
+    >>> list(joined_rows(0, (2, 2, 3), (7, 4, 1)))
+    [Row(start=0, stride=1, length=3), Row(start=4, stride=1, length=6), Row(start=11, stride=1, length=3)]
+    """
+    lens, steps, first = _view_of(start, shape, strides)
+    number = order_of(order, lens, steps)
+    lengths, step_of = lens[1].unpack_unsigned(lens[0]), steps[1].unpack_signed(steps[0])
+    in_order = range(len(lengths)) if number == 0 else reversed(range(len(lengths)))
+    axes = [axis for axis in in_order if lengths[axis] != 1]
+    if not axes:
+        return iter((Row(first.value, 1, 1),))
+    merged = tuple([lengths[axis] for axis in axes]), tuple([step_of[axis] for axis in axes])
+    while len(merged[0]) > 1:
+        fewer = _merge_last(*merged)
+        if fewer is None:
+            break
+        merged = fewer
+    return _joined(rows(first.value, *merged))
+
+
+def _joined(each: Iterator[Row]) -> Iterator[Row]:
+    """Rows of one stride, joined where one begins a stride after the last place of the one before."""
+    for start, stride, length in each:
+        end = start + stride * length
+        break
+    else:
+        return
+    for following, _, more in each:
+        if following == end:
+            length += more
+        else:
+            yield Row(start, stride, length)
+            start, length = following, more
+        end = following + stride * more
+    yield Row(start, stride, length)
+
+
+def _merge_last(shape: Lens, strides: Lens) -> Optional[tuple[Lens, Lens]]:
+    """A layout with the last two axes as one, or `None` where no stride reaches both."""
+    (lens, count), (steps, _) = unsigned(shape), signed(strides)
+    new_lens, new_steps = count.unsigned_room.from_buffer_copy(lens), count.signed_room.from_buffer_copy(steps)
+    axis, merged = len(shape) - 2, one_answer()
+    library.merge_axes(new_lens, count, new_steps, count, c_size_t(axis), c_size_t(axis + 1), merged)
+    if not merged[0]:
+        return None
+    found, found_steps = count.unpack_unsigned(new_lens), count.unpack_signed(new_steps)
+    return (*found[:axis], found[-1]), (*found_steps[:axis], found_steps[-1])

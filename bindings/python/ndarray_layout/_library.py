@@ -51,6 +51,7 @@ def _load(path: Path) -> ctypes.CDLL:
 
 library_path = _library_path()
 _library = _load(library_path)
+_short_calls = ctypes.PyDLL(str(library_path))
 
 
 def _prepare(name: str) -> Any:
@@ -81,6 +82,14 @@ def _export(name: str, parameters: str, find: _reasons.Find) -> Call:
     call.errcheck = check
     exports.append((call, parameters))
     return call  # type: ignore[no-any-return]
+
+
+def without_errors(call: Call) -> tuple[Any, str]:
+    """The same export as one that returns its status, and the letters of its parameters. Other threads wait for it."""
+    parameters = next(letters for export, letters in exports if export is call)
+    again = _short_calls[call.__name__]
+    again.restype = ctypes.c_int32
+    return again, parameters
 
 
 def status_text(status: int) -> str:

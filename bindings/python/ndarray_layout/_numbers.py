@@ -86,13 +86,13 @@ signed = _packer("q", "stride")
 """A list of `ptrdiff_t`, likewise."""
 
 
-_INTEGERS = frozenset((int,))
+INTEGERS = frozenset((int,))
 
 
 def _packed(typecode: str, numbers: Numbers, name: str) -> Packed:
     """Any list, or the error of its first number without 64 bits."""
     listed = listing(numbers, name)
-    if not _INTEGERS.issuperset({*map(type, listed)}):
+    if not INTEGERS.issuperset({*map(type, listed)}):
         listed = integers(listed, name)
     count = count_of(len(listed))
     try:

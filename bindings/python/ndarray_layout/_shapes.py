@@ -19,17 +19,18 @@ from ._numbers import (
 )
 
 
-def co_broadcast(first: Numbers, second: Numbers) -> Lens:
-    """The common shape of two shapes, by NumPy's rule. Raises `ShapeError` where there is none.
+def co_broadcast(first: Numbers, second: Numbers, *others: Numbers) -> Lens:
+    """The common shape of two shapes or of more, by NumPy's rule. Raises `ShapeError` where there is none.
 
-    >>> co_broadcast((2, 1), (3,))
-    (2, 3)
+    >>> co_broadcast((2, 1), (3,)), co_broadcast((2, 1), (3,), (5, 1, 1))
+    ((2, 3), (5, 2, 3))
     """
     one, other = unsigned(first), unsigned(second)
     axes = one[1] if one[1].value > other[1].value else other[1]
     common = axes.unsigned_room()
     library.co_broadcast(*one, *other, common, axes)
-    return axes.unpack_unsigned(common)
+    found = axes.unpack_unsigned(common)
+    return co_broadcast(found, *others) if others else found
 
 
 def broadcast(shape: Numbers, strides: Numbers, target: Numbers) -> Lens:

@@ -40,8 +40,11 @@ def share_byte(
     second: tuple[int, Sequence[int], Sequence[int]],
     itemsize: int,
     max_work: Optional[int] = MAX_WORK,
+    second_itemsize: Optional[int] = None,
 ) -> Optional[bool]:
     """Whether elements of two parts share a byte, or `None` where `max_work` steps don't decide.
+
+    Items of the second part have the size of the first one's, where no other is given.
 
     >>> share_byte(Part(0, (3,), (16,)), Part(40, (3,), (-24,)), itemsize=8)
     True
@@ -57,7 +60,8 @@ def share_byte(
             distance -= min(step, 0) * (length - 1)  # (counted down instead, the axis has a stride above 0)
             greatest[abs(step)] = greatest.get(abs(step), 0) + length - 1
     terms = [_Term(stride, number) for stride, number in sorted(greatest.items()) if stride and number]
-    return _reaches_near(terms, distance, itemsize, max_work)
+    after = itemsize if second_itemsize is None else second_itemsize
+    return _reaches_between(terms, distance - itemsize + 1, distance + after - 1, max_work)
 
 
 def repeat_a_place(shape: Sequence[int], strides: Sequence[int], max_work: Optional[int] = MAX_WORK) -> Optional[bool]:
@@ -84,17 +88,17 @@ def _repeats_along(axis: tuple[int, int], smaller: list[tuple[int, int]], max_wo
     for other, number in smaller:  # (from -number to number, counted from the lowest)
         sums[other] = sums.get(other, 0) + 2 * number
     terms = [_Term(*term) for term in sorted(sums.items()) if min(term) > 0]
-    return _reaches_near(terms, distance, 1, max_work)
+    return _reaches_between(terms, distance, distance, max_work)
 
 
-def _reaches_near(terms: list[_Term], distance: int, itemsize: int, max_work: Optional[int]) -> Optional[bool]:
-    """Whether a sum of the terms is less than the item size away from a distance. Ascending terms."""
+def _reaches_between(terms: list[_Term], first: int, last: int, max_work: Optional[int]) -> Optional[bool]:
+    """Whether a sum of the terms is one of the numbers from `first` to `last`. Ascending terms."""
     unit = gcd(*[term.stride for term in terms]) or 1
-    lowest, highest = -(-(distance - itemsize + 1) // unit), (distance + itemsize - 1) // unit
+    lowest, highest = -(-first // unit), last // unit
     if lowest > highest:
         return False
     in_units = [_Term(stride // unit, greatest) for stride, greatest in terms]
-    return _reaches(_joined([_Term(1, highest - lowest), *in_units]), highest, max_work)
+    return _reaches_in_groups(_joined([_Term(1, highest - lowest), *in_units]), highest, max_work)
 
 
 def _joined(terms: list[_Term]) -> list[_Term]:
@@ -106,6 +110,46 @@ def _joined(terms: list[_Term]) -> list[_Term]:
             break
         terms[:2] = [_Term(first.stride, (first.reach + second.reach) // first.stride)]
     return terms
+
+
+class _Group(NamedTuple):
+    """Terms that are multiples of a unit, in units, and how far all terms of lesser strides reach together."""
+
+    unit: int
+    terms: list[_Term]
+    rest: int
+
+
+def _reaches_in_groups(terms: list[_Term], wanted: int, max_work: Optional[int]) -> Optional[bool]:
+    """`_reaches` group by group, from the largest strides on: few rests are left after each, and each is tried once."""
+    steps = Steps(max_work)
+    rests = {wanted}
+    for unit, group, reach in _groups(terms):
+        left = set[int]()
+        for rest in rests:
+            for number in range(max(-(-(rest - reach) // unit), 0), rest // unit + 1):
+                reached = _reaches(group, number, steps)
+                if reached is None:
+                    return None
+                if reached:
+                    left.add(rest - number * unit)
+        rests = left
+    return 0 in rests
+
+
+def _groups(terms: list[_Term]) -> Iterator[_Group]:
+    """The terms in groups: a group ends where the lesser strides reach less than two of its units.
+
+    The strides of parts of one array that keeps the no-alias rule are such, axis by axis: two for each. So each group
+    has two terms, which need no search, and leaves two rests at most.
+    """
+    end, unit = len(terms), 0
+    reaches = [0, *accumulate(term.reach for term in terms)]
+    for begin in range(len(terms) - 1, -1, -1):
+        unit = gcd(unit, terms[begin].stride)
+        if begin == 0 or reaches[begin] < 2 * unit:
+            yield _Group(unit, [_Term(stride // unit, greatest) for stride, greatest in terms[begin:end]], reaches[begin])
+            end, unit = begin, 0
 
 
 class _Level:
@@ -128,13 +172,28 @@ class _Level:
         return range(lowest + (first - lowest) % self.period, highest + 1, self.period)
 
 
-def _reaches(terms: list[_Term], wanted: int, max_work: Optional[int]) -> Optional[bool]:
-    """Whether a sum of ascending terms is the number that is wanted, or `None` past `max_work` steps."""
+class Steps:
+    """How many steps are left, of so many; without end for `None`."""
+
+    def __init__(self, limit: Optional[int]) -> None:
+        self.left = -1 if limit is None else limit
+        self.is_endless = limit is None
+
+    def take(self) -> bool:
+        """Takes one, or says that there is none."""
+        self.left -= 1
+        return self.is_endless or self.left >= 0
+
+
+def _reaches(terms: list[_Term], wanted: int, steps: Steps) -> Optional[bool]:
+    """Whether a sum of ascending terms is the number that is wanted, or `None` where there are too few steps."""
+    if not steps.take():
+        return None
     if len(terms) < 2:
         stride, greatest = terms[0] if terms else (1, 0)
         return wanted % stride == 0 and 0 <= wanted // stride <= greatest
     levels = _levels(terms)
-    pending, seen, work = [_rests(levels, 0, wanted)], set[tuple[int, int]](), 0
+    pending, seen = [_rests(levels, 0, wanted)], set[tuple[int, int]]()
     while pending:
         rest = next(pending[-1], None)
         if rest is None:
@@ -144,8 +203,7 @@ def _reaches(terms: list[_Term], wanted: int, max_work: Optional[int]) -> Option
         elif (len(pending), rest) not in seen:
             seen.add((len(pending), rest))
             pending.append(_rests(levels, len(pending), rest))
-        work += 1
-        if max_work is not None and work > max_work:
+        if not steps.take():
             return None
     return False
 

@@ -59,7 +59,7 @@ Elems = Iterable[Elem]
 
 _SLICE = element_head(SLICE, False)
 SLICE_WITH_END = element_head(SLICE, True)
-_INDEX = element_head(INDEX, False)
+INDEX_HEAD = element_head(INDEX, False)
 _NEW_AXIS = element_head(NEW_AXIS, False)
 
 
@@ -101,7 +101,7 @@ def _no_element(fields: Sequence[Any], at: int) -> TypeError:
 def _named(fields: Sequence[Any], at: int) -> tuple[int, str]:
     """The axis and the name of a number of a slice."""
     element, field = divmod(at, 4)
-    name = "index" if fields[4 * element] == _INDEX else ("kind", "start", "end", "step")[field]
+    name = "index" if fields[4 * element] == INDEX_HEAD else ("kind", "start", "end", "step")[field]
     return sum(head != _NEW_AXIS for head in fields[: 4 * element : 4]), name
 
 
@@ -115,7 +115,7 @@ def _fields_of(elems: Elems) -> list[Any]:
         elif elem is None:
             fields += (_NEW_AXIS, 0, 0, 1)
         else:
-            fields += (_INDEX, elem, 0, 1)
+            fields += (INDEX_HEAD, elem, 0, 1)
             if type(elem) is not int and as_integer(elem) is None:
                 raise _no_element(fields, len(fields) - 3)
     return fields
@@ -123,7 +123,7 @@ def _fields_of(elems: Elems) -> list[Any]:
 
 def _axes_left(fields: Sequence[Any]) -> Count:
     """How many axes a slice leaves."""
-    return count_of(len(fields) // 4 - fields[::4].count(_INDEX))
+    return count_of(len(fields) // 4 - fields[::4].count(INDEX_HEAD))
 
 
 def slice_view(start: SupportsIndex, shape: Numbers, strides: Numbers, elems: Elems, clamp: bool = False) -> View:
@@ -231,7 +231,7 @@ def basic_key(shape: Numbers, key: Any) -> list[Elem]:
 def _elem_of(head: int, start: int, end: int, step: int) -> Elem:
     if head == _NEW_AXIS:
         return None
-    if head == _INDEX:
+    if head == INDEX_HEAD:
         return start
     return Slice(start, end if head == SLICE_WITH_END else None, step)
 
@@ -242,36 +242,58 @@ def packed_key(shape: Sequence[int], key: Any) -> Packed:
 
 
 def slice_by_key(start: int, shape: Lens, strides: Lens, key: Any) -> View:
-    """The view that a basic slice of NumPy leaves of a view."""
+    """The view that a basic slice of NumPy leaves of a view, or its error."""
     fields = _key_fields(shape, key)
     return _sliced(size(start, "start"), unsigned(shape), signed(strides), fields, False)
 
 
-def _key_fields(shape: Sequence[int], key: Any) -> list[int]:
-    """The elements of a basic slice of NumPy, four numbers for each.
+def _key_fields(shape: Sequence[int], key: Any) -> Sequence[int]:
+    """The elements of a basic slice of NumPy, four numbers for each, or its error."""
+    return plain_fields(shape, key) or _any_key_fields(shape, key)
 
-    One slice or int for each axis is the usual key, and read without another call.
+
+def plain_fields(shape: Sequence[int], key: Any) -> Optional[list[int]]:
+    """The elements of a usual key, four numbers for each, read without another call; of other keys `None`.
+
+    A usual key has Python's integers and slices, `None`, and `...` once, each within its bounds.
     """
-    keys = key if type(key) is tuple else (key,)
     fields: list[int] = []
-    if len(keys) != len(shape):
-        return _any_key_fields(shape, key)
+    axis, has_gap = 0, False
+    keys = key if type(key) is tuple else (key,)
     try:
-        for length, entry in zip(shape, keys):
-            if type(entry) is slice:
-                start, stop, step = entry.indices(length)
+        for entry in keys:
+            kind = type(entry)
+            if kind is slice:
+                start, stop, step = entry.indices(shape[axis])
+                axis += 1
                 if 0 < step <= LIMIT:
-                    fields += (SLICE_WITH_END, start, stop, step)
-                    continue
-                if -LIMIT <= step < 0:
-                    fields += (SLICE_WITH_END, stop + 1, start + 1, step)
-                    continue
-            elif type(entry) is int and -length <= entry < length:
-                fields += (_INDEX, entry if entry >= 0 else entry + length, 0, 1)
-                continue
-            return _any_key_fields(shape, key)
-    except (TypeError, ValueError):  # (of a slice whose bounds are no numbers, or whose step is 0)
-        return _any_key_fields(shape, key)
+                    fields += SLICE_WITH_END, start, stop, step
+                elif -LIMIT <= step < 0:
+                    fields += SLICE_WITH_END, stop + 1, start + 1, step
+                else:
+                    return None
+            elif kind is int:
+                length = shape[axis]
+                axis += 1
+                if not -length <= entry < length:
+                    return None
+                fields += INDEX_HEAD, entry if entry >= 0 else entry + length, 0, 1
+            elif entry is None:
+                fields += _NEW_AXIS, 0, 0, 1
+            elif entry is Ellipsis and not has_gap:
+                has_gap = True
+                left = len(shape) + 1 - sum([other is not None for other in keys])
+                if left < 0:
+                    return None
+                for length in shape[axis : axis + left]:
+                    fields += SLICE_WITH_END, 0, length, 1
+                axis += left
+            else:
+                return None
+    except (TypeError, ValueError, IndexError):  # (bounds that are no numbers, a step of 0, too many entries)
+        return None
+    for length in shape[axis:]:
+        fields += SLICE_WITH_END, 0, length, 1
     return fields
 
 
@@ -322,4 +344,4 @@ def _basic_fields(axis: int, length: int, entry: Any) -> tuple[int, ...]:
     coordinate = int(entry)
     if not -length <= coordinate < length:
         raise error_of_kind(*out_of_axis(axis, coordinate, length))
-    return (_INDEX, coordinate % length, 0, 1)
+    return (INDEX_HEAD, coordinate % length, 0, 1)

@@ -1,0 +1,119 @@
+"""Whether two parts of one array, two arrays or two layouts share an element."""
+
+from __future__ import annotations
+
+from typing import Any, Optional, overload
+
+from . import _library as library
+from ._arrays import Array, in_bytes, read_array
+from ._errors import LayoutError, ShapeError
+from ._layouts import layout_start
+from ._numbers import LIMIT, Lens, not_64_bits, one_answer, signed, unsigned, work_limit, written
+from ._reasons import of_array
+from ._sharing import MAX_WORK, Part, share_byte
+from ._slices import packed_key, slice_by_key
+from ._sources import address_of, read_source
+from ._views import Fields
+
+_NOTHING: Any = type("Nothing", (), {"__repr__": lambda self: "nothing"})()
+
+
+@overload
+def share_element(a: Any, first: Any, *, max_work: Optional[int] = MAX_WORK) -> bool:
+    ...
+
+
+@overload
+def share_element(a: Array, first: Any, second: Any, max_work: Optional[int] = MAX_WORK) -> bool:
+    ...
+
+
+def share_element(a: Any, first: Any, second: Any = _NOTHING, max_work: Optional[int] = MAX_WORK) -> bool:
+    """Whether `a[first]` and `a[second]` share an element, for two keys; whether `a` and `first` do, for two arrays.
+
+    Exact. Keys are basic slices: integers, slices, `...` and `None`; a `Slice` is one too. `a` then has a `shape`,
+    `strides` in bytes and an `itemsize`. Where `a` keeps the no-alias rule the time is that of its axes alone, however
+    large it is. Raises `IndexError` and `ValueError` where `a[first]` or `a[second]` does, and `TypeError` for other
+    keys, such as booleans and arrays with 0 axes.
+
+    Two arrays share an element where they share a byte of memory, as `numpy.shares_memory` says. They may be of any
+    layout and of different items: arrays of NumPy, `memoryview`s, what has `__array_interface__`, tensors of DLPack in
+    the memory of this process. NumPy is needed for an address that no such array tells. Two layouts are of one buffer,
+    and share an element where they share a place.
+
+    Where the bytes of `a` break the no-alias rule (`has_overlap`), as windows and broadcasts do, and for two arrays or
+    layouts, places are compared in Python, in at most `max_work` steps of some 2 microseconds: `None` is without end, 0
+    compares nothing. Raises `ShapeError` of the kind 'Unsupported' where these don't decide, and never guesses. Parts
+    of one array that keeps the rule take a few steps for each axis, where NumPy may take exponential time.
+
+    >>> class Table: shape, strides, itemsize = (10**12, 4), (32, 8), 8
+    >>> share_element(Table, (slice(0, None, 2), 1), (slice(1, None, 2), 1))
+    False
+    >>> share_element(Table, (slice(None, None, -3), slice(1, 3)), (..., 2))
+    True
+    >>> class Windows: shape, strides, itemsize = (4, 3), (8, 8), 8
+    >>> share_element(Windows, 0, 1), share_element(Windows, 0, 3)
+    (True, False)
+    >>> share_element(Windows, 0, 1, max_work=0)
+    Traceback (most recent call last):
+    ndarray_layout.ShapeError: Unsupported: elements of shape (4, 3) and strides (8, 8) may overlap
+    >>> whole = Layout.over(10**12, (10**6, 10**6))
+    >>> share_element(whole[::6, 1::4], whole[3::4, 1::2]), share_element(whole[::6], whole[3::9])
+    (False, True)
+    """
+    max_work = work_limit(max_work)
+    if second is _NOTHING:
+        return _share_memory(a, first, max_work)
+    (shape, strides, itemsize), answer = read_array(a), one_answer()
+    if not 0 <= itemsize < 2**64:
+        raise not_64_bits("itemsize", itemsize, True, None)
+    lens, steps = unsigned((*shape, itemsize)), signed((*strides, 1))
+    try:
+        library.has_overlap(*lens, *steps, answer)
+    except LayoutError as error:
+        raise in_bytes(error, of_array(shape, strides, itemsize)) from None
+    if answer[0]:
+        return _share_byte((shape, strides, itemsize), first, second, max_work)
+    keys = *packed_key(shape, first), *packed_key(shape, second)
+    library.slices_intersect(*unsigned(shape), *keys, False, answer)
+    return bool(answer[0])
+
+
+def _share_byte(array: tuple[Lens, Lens, int], first: Any, second: Any, max_work: Optional[int]) -> bool:
+    """`share_element` of an array whose elements may overlap."""
+    shape, strides, itemsize = array
+    start = layout_start(shape, strides, length=LIMIT + 1)
+    refusal = f"elements of shape {written(shape)} and strides {written(strides)} may overlap"
+    if max_work == 0:
+        raise ShapeError("Unsupported", refusal)
+    one, other = (slice_by_key(start, shape, strides, key) for key in (first, second))
+    shared = share_byte(one, other, itemsize, max_work)
+    if shared is None:
+        raise ShapeError("Unsupported", f"{refusal}, and {written(max_work)} steps don't decide whether these do")
+    return shared
+
+
+def _share_memory(a: Any, b: Any, max_work: Optional[int]) -> bool:
+    """`share_element` of two arrays, or of two layouts of one buffer."""
+    if isinstance(a, Fields) != isinstance(b, Fields):
+        raise TypeError("an array and a layout are compared with nothing but their like")
+    (one, size), (other, other_size) = _part_of(a), _part_of(b)
+    shared = share_byte(one, other, size, max_work, other_size) if max_work != 0 else None
+    if shared is None:
+        shapes = f"shapes {written(one.shape)} and {written(other.shape)}"
+        text = f"arrays of the {shapes} may overlap, and {written(max_work)} steps don't decide whether they do"
+        raise ShapeError("Unsupported", text)
+    return shared
+
+
+def _part_of(a: Any) -> tuple[Part, int]:
+    """An array as a part of the memory, in bytes, or a layout as one of its buffer; and the size of an item."""
+    if isinstance(a, Fields):
+        return Part(a.start, a.shape, a.strides), 1
+    source = read_source(a)
+    unsigned(source.shape), signed(source.strides)  # (which refuse what has no 64 bits)
+    if not 0 <= source.itemsize < 2**64:
+        raise not_64_bits("itemsize", source.itemsize, True, None)
+    if 0 in source.shape or source.itemsize == 0:
+        return Part(0, (0,), (1,)), 1
+    return Part(address_of(a, source, "array"), source.shape, source.strides), source.itemsize

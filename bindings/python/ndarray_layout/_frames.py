@@ -1,0 +1,117 @@
+"""Calls of exports with the numbers of a `Layout`, which have 64 bits and need no second look: one ctypes call each.
+
+A *frame* is one piece of memory for what a call reads and writes, with the call's arguments made ready. To run it the
+numbers are packed into it at once, and the results unpacked at once. While a call runs its frame belongs to it alone:
+it is taken off a list, in one operation, and put back.
+"""
+
+from __future__ import annotations
+
+import ctypes
+from functools import partial
+from struct import Struct
+from typing import Any, Callable, NamedTuple, Optional
+
+from . import _library as library
+
+WIDEST = 64
+"""So many axes, or elements of a slice, a frame has at most."""
+
+
+class _Frame(NamedTuple):
+    put: Callable[..., None]
+    call: Callable[[], int]
+    take: Callable[[], tuple[int, ...]]
+    free: list[Any]
+
+
+class _Parameter(NamedTuple):
+    """A parameter by its letter, of those of `_library`: how many items it has, and how `struct` writes them."""
+
+    letter: str
+    items: int
+    numbers: str
+
+    @property
+    def is_result(self) -> bool:
+        return self.letter in "pW"
+
+
+class Frames:
+    """The frames of an export, by the counts of its lists.
+
+    `written` has a letter for each result, a list or one number, in their order: Q where it is unsigned, q where it is
+    signed. `options` are its `int32_t`, in their order.
+    """
+
+    def __init__(self, call: library.Call, written: str = "", options: tuple[int, ...] = ()) -> None:
+        self.call, self.letters = library.without_errors(call)
+        self.written, self.options = written, options
+        self._free: dict[tuple[int, ...], list[_Frame]] = {}
+
+    def run(self, counts: tuple[int, ...], numbers: tuple[int, ...]) -> Optional[tuple[int, ...]]:
+        """The results, one after another, for the numbers that are read, one after another, each of 64 bits.
+
+        `None` where the call returns an error, which the function of its name then raises, and for longer lists.
+        """
+        try:
+            frame = self._free[counts].pop()
+        except (KeyError, IndexError):
+            if max(counts) > WIDEST:
+                return None
+            frame = self._made(counts)
+        put, call, take, free = frame
+        put(*numbers)
+        results = None if call() else take()
+        free.append(frame)
+        return results
+
+    def _made(self, counts: tuple[int, ...]) -> _Frame:
+        """A new frame: what is read comes first in its memory, and then what is written."""
+        parameters = self._parameters(counts)
+        read, results = (Struct("".join(p.numbers for p in parameters if p.is_result == of)) for of in (False, True))
+        memory, ends = (ctypes.c_size_t * ((read.size + results.size) // 8 + 1))(), {False: 0, True: read.size}
+        options, arguments = iter(self.options), list[Any]()
+        for parameter in parameters:
+            place = ends[parameter.is_result]
+            ends[parameter.is_result] += Struct(parameter.numbers).size
+            if parameter.letter == "i":
+                arguments.append(ctypes.c_int32(next(options)))
+            elif parameter.letter == "z":
+                arguments.append(ctypes.c_size_t.from_buffer(memory, place))
+            else:
+                arguments.append(ctypes.byref(ctypes.c_char.from_buffer(memory, place)))
+            if parameter.letter in "USEW":
+                arguments.append(ctypes.c_size_t(parameter.items))
+        take = partial(results.unpack_from, memory, read.size)
+        free = self._free.setdefault(counts, [])
+        return _Frame(partial(read.pack_into, memory, 0), partial(self.call, *arguments), take, free)
+
+    def _parameters(self, counts: tuple[int, ...]) -> list[_Parameter]:
+        lists, written, found = iter(counts), iter(self.written), list[_Parameter]()
+        codes = {"z": "Q", "U": "Q", "S": "q", "E": "q"}
+        for letter in self.letters:
+            count = next(lists) if letter in "USEW" else 1
+            code = "" if letter == "i" else codes[letter] if letter in codes else next(written)
+            found.append(_Parameter(letter, count, code and f"{4 * count if letter == 'E' else count}{code}"))
+        return found
+
+
+Run = Callable[[tuple[int, ...], tuple[int, ...]], Optional[tuple[int, ...]]]
+
+
+def _frames_of(call: library.Call, written: str = "", *options: int) -> Run:
+    return Frames(call, written, options).run
+
+
+check_layout = _frames_of(library.check_layout, "", 0), _frames_of(library.check_layout, "", 1)
+"""Of a layout that is only read, and of one that is owned."""
+
+layout_start = _frames_of(library.layout_start, "Q", 0), _frames_of(library.layout_start, "Q", 1)
+
+default_strides = _frames_of(library.default_strides, "q"), _frames_of(library.fortran_strides, "q")
+"""By their order."""
+
+reshape = _frames_of(library.reshape, "q", 0), _frames_of(library.reshape, "q", 1)
+slice_view = _frames_of(library.slice_view, "QQq", 0)
+permuted_axes = _frames_of(library.permuted_axes, "Qq")

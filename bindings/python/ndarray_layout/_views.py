@@ -1,0 +1,254 @@
+"""The layouts that are made of one that was accepted: each lies where that one does, and is accepted by a promise.
+
+Each call of the library is made once, by `_frames`, with the numbers of the layout as they are. Where it returns an
+error the function of its name is called, which raises it.
+"""
+
+from __future__ import annotations
+
+from struct import error as StructError
+from typing import TYPE_CHECKING, Any, Optional, Sequence, SupportsIndex
+
+from . import _frames as frames
+from ._arrays import without_minus_one
+from ._errors import OutOfBoundsError, ShapeError
+from ._numbers import ORDERS, Lens, Numbers, View, integer, integers, listing, said
+from ._shapes import broadcast, exact_chunks, permuted_axes, reshape, split_at, windows
+from ._slices import INDEX_HEAD, Elems, plain_fields, slice_by_key, slice_view
+
+if TYPE_CHECKING:
+    from ._layout import Layout
+
+
+class Fields:
+    """The fields of a `Layout`, which is one that is frozen."""
+
+    __slots__ = ("start", "shape", "strides", "length", "owned", "itemsize", "format", "__weakref__")
+
+    start: int
+    shape: Lens
+    strides: Lens
+    length: int
+    owned: bool
+    itemsize: int
+    format: Optional[str]
+
+
+def made(
+    start: int, shape: Lens, strides: Lens, length: int, owned: bool, itemsize: int, format: Optional[str]
+) -> Layout:
+    """A layout that a call has accepted."""
+    fields = Fields()
+    fields.start, fields.shape, fields.strides, fields.length = start, shape, strides, length
+    fields.owned, fields.itemsize, fields.format = owned, itemsize, format
+    fields.__class__ = Views.frozen
+    return fields  # type: ignore[return-value]
+
+
+class Views(Fields):
+    """The part of `Layout` that makes other layouts."""
+
+    __slots__ = ()
+
+    frozen: type = Fields
+    """`Layout`, which comes after this."""
+
+    def _kept(self, start: int, shape: Lens, strides: Lens, owned: bool) -> Layout:
+        """What a call made of this layout, which is accepted by that call's promise."""
+        return made(start, shape, strides, self.length, owned, self.itemsize, self.format)
+
+    # ---- Slices
+
+    def __getitem__(self, key: Any) -> Layout:
+        """A slice by NumPy's keys: integers, slices, `...` and `None`. Bounds outside are moved to the nearest end."""
+        shape = self.shape
+        fields = plain_fields(shape, key)
+        if fields is not None:
+            axes, elems = len(shape), len(fields) // 4
+            left = elems - fields[::4].count(INDEX_HEAD)
+            counts, numbers = (axes, axes, elems, left, left), (self.start, *shape, *self.strides, *fields)
+            found = frames.slice_view(counts, numbers)
+            if found is not None:
+                new = found[0], found[1 : left + 1], found[left + 1 :]
+                return made(*new, self.length, self.owned, self.itemsize, self.format)
+        return self._kept(*slice_by_key(self.start, shape, self.strides, key), self.owned)
+
+    def slice(self, elems: Elems, clamp: bool = False) -> Layout:
+        """A slice by the layer's elements. Raises what `slice_view` does: a bound outside is an `IndexError`.
+
+        >>> Layout.over(4, 4).slice([Slice(1, None, -2)]).places()
+        (3, 1)
+        """
+        return self._kept(*slice_view(self.start, self.shape, self.strides, elems, clamp), self.owned)
+
+    def flip(self, axis: Optional[Numbers] = None) -> Layout:
+        """The coordinates of some axes, or of all, in reverse order: NumPy's `flip`.
+
+        Axes below 0 count from the end. Raises `IndexError` for an axis that isn't there, `ShapeError` for one twice.
+
+        >>> Layout.over(6, (2, 3)).flip(1)
+        Layout(start=2, shape=(2, 3), strides=(3, -1), length=6, owned=False)
+        """
+        axes = range(len(self.shape)) if axis is None else {*self._axes(axis)}
+        return self[tuple([slice(None, None, -1 if at in axes else 1) for at in range(len(self.shape))])]
+
+    def expand_dims(self, axis: Numbers) -> Layout:
+        """The layout with new axes of length 1, numbered as the result numbers them: NumPy's `expand_dims`.
+
+        >>> Layout.over(6, (2, 3)).expand_dims((0, -1)).shape
+        (1, 2, 3, 1)
+        """
+        count = len(self.shape) + len(listing(axis, "axis"))
+        axes = {*self._axes(axis, count)}
+        return self[tuple([None if at in axes else slice(None) for at in range(count)])]
+
+    def squeeze(self, axis: Optional[Numbers] = None) -> Layout:
+        """The layout without some axes of length 1, or without all of them: NumPy's `squeeze`.
+
+        Raises `ShapeError` for an axis of another length, and what `flip` does.
+
+        >>> Layout.over(6, (1, 2, 1, 3)).squeeze(0).shape, Layout.over(6, (1, 2, 1, 3)).squeeze().shape
+        ((2, 1, 3), (2, 3))
+        """
+        axes = {at for at, length in enumerate(self.shape) if length == 1} if axis is None else {*self._axes(axis)}
+        for at in sorted(axes):
+            if self.shape[at] != 1:
+                text = f"axis {at}: length {said(self.shape[at])} isn't 1, and the axis can't be left out"
+                raise ShapeError("IncompatibleShape", text, at, {"length": self.shape[at]})
+        return self[tuple([0 if at in axes else slice(None) for at in range(len(self.shape))])]
+
+    def split_at(self, axis: SupportsIndex, index: SupportsIndex) -> tuple[Layout, Layout]:
+        """The coordinates of an axis below an index, and those from it on. Raises what `split_at` does.
+
+        >>> [part.places() for part in Layout.over(6, (2, 3)).split_at(axis=1, index=1)]
+        [(0, 3), (1, 2, 4, 5)]
+        """
+        first, second = split_at(self.start, self.shape, self.strides, axis, index)
+        return self._kept(*first, self.owned), self._kept(*second, self.owned)
+
+    # ---- Axes
+
+    def permuted_axes(self, axes: Numbers) -> Layout:
+        """The axes in another order: axis k is axis `axes[k]`. Raises what `permuted_axes` does."""
+        return self._permuted(integers(axes, "axis"))
+
+    def transpose(self, *axes: Any) -> Layout:
+        """The axes in another order, as NumPy takes them: reversed without any, and negative ones count from the end.
+
+        >>> Layout.over(24, (2, 3, 4)).transpose(-1, 0, 1).shape
+        (4, 2, 3)
+        """
+        listed = listing(axes[0], "axis") if len(axes) == 1 and axes[0] is not None else axes
+        if len(listed) == 0 or len(listed) == 1 and listed[0] is None:
+            return self._permuted(tuple(range(len(self.shape) - 1, -1, -1)))
+        count = len(self.shape)
+        return self._permuted(tuple([axis_of(axis, count) for axis in listed]))
+
+    @property
+    def T(self) -> Layout:
+        """The axes in reverse order."""
+        return self._permuted(tuple(range(len(self.shape) - 1, -1, -1)))
+
+    def moveaxis(self, source: Numbers, destination: Numbers) -> Layout:
+        """Some axes at other positions, and the others in their order: NumPy's `moveaxis`.
+
+        Raises `ShapeError` where there isn't one position for each axis, and what `flip` does.
+
+        >>> Layout.over(24, (2, 3, 4)).moveaxis(0, -1).shape
+        (3, 4, 2)
+        """
+        moved, positions = self._axes(source), self._axes(destination)
+        if len(moved) != len(positions):
+            numbers = {"source": len(moved), "destination": len(positions)}
+            text = f"{len(positions)} positions for {len(moved)} axes"
+            raise ShapeError("IncompatibleShape", text, None, numbers)
+        at_position = dict(zip(positions, moved))
+        others = iter(sorted({*range(len(self.shape))}.difference(moved)))
+        positions_of_all = range(len(self.shape))
+        return self._permuted(tuple([at_position[at] if at in at_position else next(others) for at in positions_of_all]))
+
+    def _permuted(self, axes: Lens) -> Layout:
+        shape, strides, count = self.shape, self.strides, len(self.shape)
+        try:
+            found = frames.permuted_axes((count, count, len(axes), count, count), (*shape, *strides, *axes))
+        except StructError:  # (an axis without 64 bits)
+            found = None
+        if found is None:
+            return self._kept(self.start, *permuted_axes(shape, strides, axes), self.owned)
+        new = self.start, found[:count], found[count:]
+        return made(*new, self.length, self.owned, self.itemsize, self.format)
+
+    def _axes(self, axes: Numbers, count: Optional[int] = None) -> Sequence[int]:
+        """Axes of so many, each once, as numbers from 0."""
+        count = len(self.shape) if count is None else count
+        found: dict[int, None] = {}
+        for axis in listing(axes, "axis"):
+            number = axis_of(axis, count)
+            if number in found:
+                raise ShapeError("Unsupported", f"axis {number} is there twice", number, {"axis": number})
+            found[number] = None
+        return [*found]
+
+    # ---- Shapes
+
+    def reshape(self, shape: Numbers, *others: SupportsIndex, order: str = "C") -> Layout:
+        """The same places in an order along another shape, one length of which may be -1: one list, or its numbers.
+
+        Raises what `reshape` does, and `ShapeError` where no one length makes the sizes equal.
+
+        >>> Layout.over(6, (2, 3)).reshape((3, -1)).shape, Layout.over(6, (2, 3)).reshape(3, 2).strides
+        ((3, 2), (2, 1))
+        """
+        wanted = integers((shape, *others), "length") if others else integers(shape, "length")  # type: ignore[arg-type]
+        lens = without_minus_one(self.shape, wanted) if -1 in wanted else wanted
+        number = ORDERS.get(order) if type(order) is str else None
+        if number is not None:
+            axes, count = len(self.shape), len(lens)
+            try:
+                found = frames.reshape[number]((axes, axes, count, count), (*self.shape, *self.strides, *lens))
+            except StructError:
+                found = None
+            if found is not None:
+                return self._kept(self.start, lens, found, self.owned)
+        return self._kept(self.start, lens, reshape(self.shape, self.strides, lens, order), self.owned)
+
+    def broadcast(self, shape: Numbers) -> Layout:
+        """The layout read as one of another shape. It isn't owned: all coordinates of a new axis have one place.
+
+        >>> Layout.over(3, 3).broadcast((2, 3))
+        Layout(start=0, shape=(2, 3), strides=(0, 1), length=3, owned=False)
+        """
+        lens = integers(shape, "length")
+        return self._kept(self.start, lens, broadcast(self.shape, self.strides, lens), False)
+
+    def windows(self, window: Numbers) -> Layout:
+        """All windows of a shape: first the index of the window, then the index in it. Raises what `windows` does.
+
+        It isn't owned: windows overlap.
+
+        >>> Layout.over(5, 5).windows(3)
+        Layout(start=0, shape=(3, 3), strides=(1, 1), length=5, owned=False)
+        """
+        return self._kept(self.start, *windows(self.shape, self.strides, window), False)
+
+    def exact_chunks(self, chunk: Numbers) -> Layout:
+        """The chunks of a shape that lie side by side: first the number of the chunk, then the index in it.
+
+        What is left over at the end of an axis is left out. Raises what `exact_chunks` does.
+
+        >>> Layout.over(7, 7, owned=True).exact_chunks(3)
+        Layout(start=0, shape=(2, 3), strides=(3, 1), length=7, owned=True)
+        """
+        return self._kept(self.start, *exact_chunks(self.shape, self.strides, chunk), self.owned)
+
+    def _view(self, key: Any) -> View:
+        return slice_by_key(self.start, self.shape, self.strides, key)
+
+
+def axis_of(axis: SupportsIndex, axes: int) -> int:
+    """An axis, counted from the end where it is negative."""
+    number = integer(axis, "axis")
+    if not -axes <= number < axes:
+        numbers = {"axis": number, "axes": axes}
+        raise OutOfBoundsError("OutOfBounds", f"axis {said(number)}: there are {axes} axes", None, numbers)
+    return number % axes
