@@ -105,7 +105,7 @@ def _info(tag: str) -> Iterator[tuple[str, bytes]]:
 
 
 def _metadata(licenses: list[str]) -> str:
-    """What `pyproject.toml` states, and the package's docstring as its description."""
+    """What `pyproject.toml` states, and `README.md` as its description."""
     stated = (HERE / "pyproject.toml").read_text()
     listed = re.findall(r'^    "(.* :: .*)",$', stated, re.MULTILINE)
 
@@ -121,7 +121,6 @@ def _metadata(licenses: list[str]) -> str:
         f"Requires-Python: {field('requires-python')}",
         *(f"Classifier: {line}" for line in listed),
         *(f"License-File: {name}" for name in licenses),
-        "Description-Content-Type: text/plain",
+        "Description-Content-Type: text/markdown",
     ]
-    docstring = (HERE / "ndarray_layout" / "__init__.py").read_text().split('"""')[1]
-    return "\n".join(lines) + f"\n\n{docstring}"
+    return "\n".join(lines) + f"\n\n{(HERE / 'README.md').read_text()}"

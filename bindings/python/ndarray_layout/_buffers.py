@@ -39,9 +39,10 @@ def count_items(buffer: Any) -> tuple[int, int, Optional[str]]:
     """How many items a buffer has, their size and their format. A number stands for so many items of a byte."""
     if type(buffer) is int:
         return buffer, 1, None
-    number = as_integer(buffer) if isinstance(buffer, Integral) else None
-    if number is not None:
-        return number, 1, None
+    if type(buffer) is not bytes and isinstance(buffer, Integral):
+        number = as_integer(buffer)
+        if number is not None:
+            return number, 1, None
     view = shown(buffer)
     itemsize = view.itemsize
     if itemsize == 0:

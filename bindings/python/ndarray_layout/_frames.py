@@ -18,8 +18,11 @@ WIDEST = 64
 """So many axes, or elements of a slice, a frame has at most."""
 
 
-class _Frame(NamedTuple):
+class Frame(NamedTuple):
+    """What packs numbers into the memory, at 0; the memory; the call; what unpacks the results; where it is put back."""
+
     put: Callable[..., None]
+    memory: Any
     call: Callable[[], int]
     take: Callable[[], tuple[int, ...]]
     free: list[Any]
@@ -47,26 +50,30 @@ class Frames:
     def __init__(self, call: library.Call, written: str = "", options: tuple[int, ...] = ()) -> None:
         self.call, self.letters = library.without_errors(call)
         self.written, self.options = written, options
-        self._free: dict[tuple[int, ...], list[_Frame]] = {}
+        self._free: dict[tuple[int, ...], list[Frame]] = {}
 
     def run(self, counts: tuple[int, ...], numbers: tuple[int, ...]) -> Optional[tuple[int, ...]]:
         """The results, one after another, for the numbers that are read, one after another, each of 64 bits.
 
         `None` where the call returns an error, which the function of its name then raises, and for longer lists.
         """
-        try:
-            frame = self._free[counts].pop()
-        except (KeyError, IndexError):
-            if max(counts) > WIDEST:
-                return None
-            frame = self._made(counts)
-        put, call, take, free = frame
-        put(*numbers)
+        frame = self.frame(counts)
+        if frame is None:
+            return None
+        put, memory, call, take, free = frame
+        put(memory, 0, *numbers)
         results = None if call() else take()
         free.append(frame)
         return results
 
-    def _made(self, counts: tuple[int, ...]) -> _Frame:
+    def frame(self, counts: tuple[int, ...]) -> Optional[Frame]:
+        """A frame that is this caller's until it is put back, or `None` for longer lists."""
+        try:
+            return self._free[counts].pop()
+        except (KeyError, IndexError):
+            return self._made(counts) if max(counts) <= WIDEST else None
+
+    def _made(self, counts: tuple[int, ...]) -> Frame:
         """A new frame: what is read comes first in its memory, and then what is written."""
         parameters = self._parameters(counts)
         read, results = (Struct("".join(p.numbers for p in parameters if p.is_result == of)) for of in (False, True))
@@ -85,7 +92,7 @@ class Frames:
                 arguments.append(ctypes.c_size_t(parameter.items))
         take = partial(results.unpack_from, memory, read.size)
         free = self._free.setdefault(counts, [])
-        return _Frame(partial(read.pack_into, memory, 0), partial(self.call, *arguments), take, free)
+        return Frame(read.pack_into, memory, partial(self.call, *arguments), take, free)
 
     def _parameters(self, counts: tuple[int, ...]) -> list[_Parameter]:
         lists, written, found = iter(counts), iter(self.written), list[_Parameter]()
@@ -97,21 +104,40 @@ class Frames:
         return found
 
 
+class WithStrides(Frames):
+    """Frames of `layout_start` that have the strides of a shape made first, where that call reads them.
+
+    What stands for the strides among the numbers is written over. The results are the strides, two numbers, the start.
+    """
+
+    def __init__(self, strides: library.Call, mode: int) -> None:
+        super().__init__(library.layout_start, "Q", (mode,))
+        self._strides, _ = library.without_errors(strides)
+
+    def _made(self, counts: tuple[int, ...]) -> Frame:
+        put, memory, start, _, free = super()._made(counts)
+        axes, after = ctypes.c_size_t(counts[0]), 8 * counts[0]
+        lists = ctypes.byref(memory), axes, ctypes.byref(ctypes.c_char.from_buffer(memory, after)), axes
+        strides = partial(self._strides, *lists)
+        take = partial(Struct(f"{counts[0]}q3Q").unpack_from, memory, after)
+        return Frame(put, memory, lambda: strides() or start(), take, free)
+
+
 Run = Callable[[tuple[int, ...], tuple[int, ...]], Optional[tuple[int, ...]]]
 
 
-def _frames_of(call: library.Call, written: str = "", *options: int) -> Run:
+def _run_of(call: library.Call, written: str = "", *options: int) -> Run:
     return Frames(call, written, options).run
 
 
-check_layout = _frames_of(library.check_layout, "", 0), _frames_of(library.check_layout, "", 1)
+check_layout = _run_of(library.check_layout, "", 0), _run_of(library.check_layout, "", 1)
 """Of a layout that is only read, and of one that is owned."""
 
-layout_start = _frames_of(library.layout_start, "Q", 0), _frames_of(library.layout_start, "Q", 1)
+layout_start = _run_of(library.layout_start, "Q", 0), _run_of(library.layout_start, "Q", 1)
 
-default_strides = _frames_of(library.default_strides, "q"), _frames_of(library.fortran_strides, "q")
-"""By their order."""
+without_gaps = [[WithStrides(call, mode).run for mode in (0, 1)] for call in (library.default_strides, library.fortran_strides)]
+"""By the order, and by whether it is owned."""
 
-reshape = _frames_of(library.reshape, "q", 0), _frames_of(library.reshape, "q", 1)
-slice_view = _frames_of(library.slice_view, "QQq", 0)
-permuted_axes = _frames_of(library.permuted_axes, "Qq")
+reshape = _run_of(library.reshape, "q", 0), _run_of(library.reshape, "q", 1)
+permuted_axes = _run_of(library.permuted_axes, "Qq")
+slices = Frames(library.slice_view, "QQq", (0,))

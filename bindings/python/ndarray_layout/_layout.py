@@ -151,7 +151,10 @@ class Layout(Views):
         """
         length, itemsize, kind = count_items(buffer)
         lens, number, owned = integers(shape, "length"), order_number(order), flag(owned, "owned")
-        steps = _strides_of(lens, number) if strides is None else integers(strides, "stride")
+        if strides is None and start is None:
+            steps, first = _without_gaps(lens, number, itemsize, length, owned)
+            return made(first, lens, steps, length, owned, itemsize, kind)
+        steps = (default_strides, fortran_strides)[number](lens) if strides is None else integers(strides, "stride")
         if start is None:
             first = _start_of(lens, steps, itemsize, length, owned)
         else:
@@ -432,10 +435,14 @@ def _start_of(shape: Lens, strides: Lens, itemsize: int, length: int, owned: boo
     return layout_start(shape, strides, elem_size=itemsize, length=length, owned=owned) if found is None else found[0]
 
 
-def _strides_of(shape: Lens, order: int) -> Lens:
-    """`default_strides` or `fortran_strides` of Python's own integers."""
+def _without_gaps(shape: Lens, order: int, itemsize: int, length: int, owned: bool) -> tuple[Lens, int]:
+    """The strides of a shape in an order, and `layout_start` of them, of Python's own integers."""
+    axes = len(shape)
     try:
-        found = frames.default_strides[order]((len(shape), len(shape)), shape)
+        found = frames.without_gaps[order][owned]((axes, axes), (*shape, *shape, itemsize, length))
     except StructError:
         found = None
-    return (default_strides, fortran_strides)[order](shape) if found is None else found
+    if found is not None:
+        return found[:axes], found[-1]
+    strides = (default_strides, fortran_strides)[order](shape)
+    return strides, layout_start(shape, strides, elem_size=itemsize, length=length, owned=owned)

@@ -106,6 +106,8 @@ def _packed(typecode: str, numbers: Numbers, name: str) -> Packed:
 
 def integers(numbers: Numbers, name: str) -> Lens:
     """The numbers of a list, as Python's own. Where one is none it is a `TypeError`, which calls it by `name`."""
+    if type(numbers) is int:
+        return (numbers,)
     listed = numbers if type(numbers) is tuple else listing(numbers, name)
     for number in listed:
         if type(number) is not int:

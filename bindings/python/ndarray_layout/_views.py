@@ -6,13 +6,14 @@ error the function of its name is called, which raises it.
 
 from __future__ import annotations
 
+from math import prod
 from struct import error as StructError
 from typing import TYPE_CHECKING, Any, Optional, Sequence, SupportsIndex
 
 from . import _frames as frames
 from ._arrays import without_minus_one
 from ._errors import OutOfBoundsError, ShapeError
-from ._numbers import ORDERS, Lens, Numbers, View, integer, integers, listing, said
+from ._numbers import INTEGERS, ORDERS, Lens, Numbers, View, integer, integers, listing, said
 from ._shapes import broadcast, exact_chunks, permuted_axes, reshape, split_at, windows
 from ._slices import INDEX_HEAD, Elems, plain_fields, slice_by_key, slice_view
 
@@ -63,14 +64,22 @@ class Views(Fields):
         """A slice by NumPy's keys: integers, slices, `...` and `None`. Bounds outside are moved to the nearest end."""
         shape = self.shape
         fields = plain_fields(shape, key)
-        if fields is not None:
+        if fields is not None:  # (`Frames.run` and `made`, written out: a slice is what is made most)
             axes, elems = len(shape), len(fields) // 4
             left = elems - fields[::4].count(INDEX_HEAD)
-            counts, numbers = (axes, axes, elems, left, left), (self.start, *shape, *self.strides, *fields)
-            found = frames.slice_view(counts, numbers)
-            if found is not None:
-                new = found[0], found[1 : left + 1], found[left + 1 :]
-                return made(*new, self.length, self.owned, self.itemsize, self.format)
+            frame = frames.slices.frame((axes, axes, elems, left, left))
+            if frame is not None:
+                put, memory, call, take, free = frame
+                put(memory, 0, self.start, *shape, *self.strides, *fields)
+                if call() == 0:
+                    found = take()
+                    free.append(frame)
+                    new = Fields()
+                    new.start, new.shape, new.strides = found[0], found[1 : left + 1], found[left + 1 :]
+                    new.length, new.owned, new.itemsize, new.format = self.length, self.owned, self.itemsize, self.format
+                    new.__class__ = Views.frozen
+                    return new  # type: ignore[return-value]
+                free.append(frame)
         return self._kept(*slice_by_key(self.start, shape, self.strides, key), self.owned)
 
     def slice(self, elems: Elems, clamp: bool = False) -> Layout:
@@ -142,6 +151,8 @@ class Views(Fields):
         if len(listed) == 0 or len(listed) == 1 and listed[0] is None:
             return self._permuted(tuple(range(len(self.shape) - 1, -1, -1)))
         count = len(self.shape)
+        if INTEGERS.issuperset(map(type, listed)):
+            return self._permuted(tuple([axis if axis >= 0 else axis + count for axis in listed]), listed)
         return self._permuted(tuple([axis_of(axis, count) for axis in listed]))
 
     @property
@@ -167,13 +178,15 @@ class Views(Fields):
         positions_of_all = range(len(self.shape))
         return self._permuted(tuple([at_position[at] if at in at_position else next(others) for at in positions_of_all]))
 
-    def _permuted(self, axes: Lens) -> Layout:
+    def _permuted(self, axes: Lens, given: Sequence[int] = ()) -> Layout:
+        """The axes in another order. Errors are of the axes as they were given."""
         shape, strides, count = self.shape, self.strides, len(self.shape)
         try:
             found = frames.permuted_axes((count, count, len(axes), count, count), (*shape, *strides, *axes))
         except StructError:  # (an axis without 64 bits)
             found = None
         if found is None:
+            axes = tuple([axis_of(axis, count) for axis in given]) if given else axes
             return self._kept(self.start, *permuted_axes(shape, strides, axes), self.owned)
         new = self.start, found[:count], found[count:]
         return made(*new, self.length, self.owned, self.itemsize, self.format)
@@ -200,7 +213,7 @@ class Views(Fields):
         ((3, 2), (2, 1))
         """
         wanted = integers((shape, *others), "length") if others else integers(shape, "length")  # type: ignore[arg-type]
-        lens = without_minus_one(self.shape, wanted) if -1 in wanted else wanted
+        lens = self._with_rest(wanted) if -1 in wanted else wanted
         number = ORDERS.get(order) if type(order) is str else None
         if number is not None:
             axes, count = len(self.shape), len(lens)
@@ -211,6 +224,14 @@ class Views(Fields):
             if found is not None:
                 return self._kept(self.start, lens, found, self.owned)
         return self._kept(self.start, lens, reshape(self.shape, self.strides, lens, order), self.owned)
+
+    def _with_rest(self, wanted: Lens) -> Lens:
+        """A shape whose length -1 is the rest of the size, where the others are above 0."""
+        at = wanted.index(-1)
+        others = prod(wanted[:at]) * prod(wanted[at + 1 :])
+        if others <= 0 or min(wanted[:at] + wanted[at + 1 :], default=1) < 1 or prod(self.shape) % others:
+            return without_minus_one(self.shape, wanted)
+        return (*wanted[:at], prod(self.shape) // others, *wanted[at + 1 :])
 
     def broadcast(self, shape: Numbers) -> Layout:
         """The layout read as one of another shape. It isn't owned: all coordinates of a new axis have one place.
