@@ -1,6 +1,6 @@
 """Calls from Python over one layout that was accepted before, each beside NumPy's over an array that lies so: the name of a row, and the
 nanoseconds of both, with tabs. The least of many rounds. NumPy has no call for the first of many slices that share an element: a mask is
-marked slice by slice there, until one is marked.
+marked slice by slice there, until one is marked. The parts of a cube lie apart on the second axis alone, and the cube in no memory.
 """
 import timeit
 
@@ -11,6 +11,8 @@ SIDE, ROUND_S, ROUNDS = 1000, 0.02, 10
 ARRAY = np.zeros((SIDE, SIDE), np.uint8)
 LAYOUT = nd.Layout.over(ARRAY, ARRAY.shape, owned=True)
 ODD, EVEN = (slice(1, None, 2), 3), (slice(0, None, 2), slice(None))
+CUBE = np.lib.stride_tricks.as_strided(np.zeros(1, np.uint8), (10**6,) * 3, (10**12, 10**6, 1))
+ONE, OTHER = CUBE[::6, 1::4, ::9], CUBE[2::4, 0::6, 3::6]
 
 
 def first_marked(shape, keys):
@@ -37,6 +39,8 @@ ROWS = [
     ),
     ("place", lambda: LAYOUT.place((5, 7)), lambda: np.ravel_multi_index((5, 7), (SIDE, SIDE)), 1),
     ("slice", lambda: LAYOUT[ODD], lambda: ARRAY[ODD], 1),
+    ("axes in reverse", lambda: LAYOUT.T, lambda: ARRAY.T, 1),
+    ("two parts of a cube of side 1,000,000", lambda: nd.share_element(ONE, OTHER), lambda: np.shares_memory(ONE, OTHER), 1),
     ("intersect", lambda: LAYOUT.intersects(ODD, EVEN), lambda: np.shares_memory(ARRAY[ODD], ARRAY[EVEN]), 1),
     ("rows of 1000x1000, a row", lambda: list(LAYOUT.rows()), lambda: list(ARRAY), SIDE),
     *map(of_many, (10, 1000, 100_000)),
