@@ -6,6 +6,7 @@
 import copy
 import pickle
 import random
+import sys
 import threading
 import unittest
 from itertools import product
@@ -261,6 +262,8 @@ class Frames(unittest.TestCase):
                 if (found.start, found.shape) != (start, (len(range(start, length, step)),)):
                     wrong.append((length, start, step, found))
 
+        self.addCleanup(sys.setswitchinterval, sys.getswitchinterval())
+        sys.setswitchinterval(1e-6)
         threads = [threading.Thread(target=slices, args=(seed,)) for seed in range(8)]
         for thread in threads:
             thread.start()
