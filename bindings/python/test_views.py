@@ -125,7 +125,7 @@ class BesideNumPy(unittest.TestCase):
         if numbers.random() < 0.3:
             return numbers.randint(-3, 2)
         bounds = (numbers.choice((None, numbers.randint(-6, 6))) for _ in range(2))
-        return slice(*bounds, numbers.choice((None, 1, 2, -1, -2, 3, 2**70, -(2**70))))
+        return slice(*bounds, numbers.choice((None, 1, 2, -1, -2, 3, 2**70, -(2**70), np.int64(2), np.int8(-1))))
 
     def test_reshape(self):
         """One list or its numbers, with a length left open, in both orders: where NumPy needs no copy."""
@@ -278,6 +278,18 @@ class Frames(unittest.TestCase):
         self.assertEqual(layout[..., ::-1].start, 1)
         self.assertEqual(layout.squeeze(), Layout.over(2, 2))
         self.assertEqual(layout.reshape(2, *(1,) * 70).strides[0], 1)
+
+    def test_bounds_that_are_none(self):
+        """What is no number is a `TypeError` also where it is false, and numbers without 64 bits are moved."""
+        layout = Layout.over(6, (2, 3))
+        for wrong in ("", 0.0, (), b"", 1.5, "1"):
+            for bounds in ((wrong, None), (None, wrong), (None, None, wrong), (wrong, 2, 1)):
+                self.assertRaises(TypeError, layout.__getitem__, slice(*bounds))
+                self.assertRaises(TypeError, layout.__getitem__, (0, slice(*bounds)))
+        self.assertEqual(layout[-(2**70) : 2**70 : 2**70, 2**64 :].shape, (1, 0))
+        self.assertEqual(layout[False:True:True].shape, (1, 3))
+        for key in (-3, 2, 2**63, -(2**63), -(2**70), (0, 0, 0), (0, 0, slice(None)), (slice(None), 3), (0, -4)):
+            self.assertRaises(IndexError, layout.__getitem__, key)
 
     def test_refusals(self):
         """Errors are those of the functions, in kind, text and numbers, and the next call is as ever."""

@@ -8,7 +8,6 @@ it is taken off a list, in one operation, and put back.
 from __future__ import annotations
 
 import ctypes
-from functools import partial
 from struct import Struct
 from typing import Any, Callable, NamedTuple, Optional
 
@@ -19,12 +18,14 @@ WIDEST = 64
 
 
 class Frame(NamedTuple):
-    """What packs numbers into the memory, at 0; the memory; the call; what unpacks the results; where it is put back."""
+    """What packs numbers into the memory, at 0, and unpacks the results, at `end`; a call; and where it is put back."""
 
     put: Callable[..., None]
     memory: Any
-    call: Callable[[], int]
-    take: Callable[[], tuple[int, ...]]
+    call: Callable[..., int]
+    arguments: tuple[Any, ...]
+    take: Callable[..., tuple[int, ...]]
+    end: int
     free: list[Any]
 
 
@@ -60,9 +61,9 @@ class Frames:
         frame = self.frame(counts)
         if frame is None:
             return None
-        put, memory, call, take, free = frame
+        put, memory, call, arguments, take, end, free = frame
         put(memory, 0, *numbers)
-        results = None if call() else take()
+        results = None if call(*arguments) else take(memory, end)
         free.append(frame)
         return results
 
@@ -90,9 +91,8 @@ class Frames:
                 arguments.append(ctypes.byref(ctypes.c_char.from_buffer(memory, place)))
             if parameter.letter in "USEW":
                 arguments.append(ctypes.c_size_t(parameter.items))
-        take = partial(results.unpack_from, memory, read.size)
         free = self._free.setdefault(counts, [])
-        return Frame(read.pack_into, memory, partial(self.call, *arguments), take, free)
+        return Frame(read.pack_into, memory, self.call, tuple(arguments), results.unpack_from, read.size, free)
 
     def _parameters(self, counts: tuple[int, ...]) -> list[_Parameter]:
         lists, written, found = iter(counts), iter(self.written), list[_Parameter]()
@@ -115,12 +115,11 @@ class WithStrides(Frames):
         self._strides, _ = library.without_errors(strides)
 
     def _made(self, counts: tuple[int, ...]) -> Frame:
-        put, memory, start, _, free = super()._made(counts)
+        put, memory, start, arguments, _, _, free = super()._made(counts)
         axes, after = ctypes.c_size_t(counts[0]), 8 * counts[0]
         lists = ctypes.byref(memory), axes, ctypes.byref(ctypes.c_char.from_buffer(memory, after)), axes
-        strides = partial(self._strides, *lists)
-        take = partial(Struct(f"{counts[0]}q3Q").unpack_from, memory, after)
-        return Frame(put, memory, lambda: strides() or start(), take, free)
+        take = Struct(f"{counts[0]}q3Q").unpack_from
+        return Frame(put, memory, lambda: self._strides(*lists) or start(*arguments), (), take, after, free)
 
 
 Run = Callable[[tuple[int, ...], tuple[int, ...]], Optional[tuple[int, ...]]]
@@ -140,4 +139,5 @@ without_gaps = [[WithStrides(call, mode).run for mode in (0, 1)] for call in (li
 
 reshape = _run_of(library.reshape, "q", 0), _run_of(library.reshape, "q", 1)
 permuted_axes = _run_of(library.permuted_axes, "Qq")
-slices = Frames(library.slice_view, "QQq", (0,))
+slices = Frames(library.slice_view, "QQq", (1,))
+"""Bounds outside of an axis are moved to the nearest end, as NumPy moves them."""

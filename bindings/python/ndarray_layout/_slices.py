@@ -297,6 +297,47 @@ def plain_fields(shape: Sequence[int], key: Any) -> Optional[list[int]]:
     return fields
 
 
+def unbounded_fields(shape: Sequence[int], key: Any) -> tuple[list[Any], int]:
+    """The elements of a usual key, whose bounds may lie outside and count from the end, and how many axes it leaves.
+
+    -1 axes stand for another key. Indices and bounds aren't looked at: the call refuses the first outside of an axis, and
+    moves the second.
+    """
+    fields: list[Any] = []
+    axis, left = 0, len(shape)
+    try:
+        for entry in key if type(key) is tuple else (key,):
+            kind = type(entry)
+            if kind is int:
+                fields += INDEX_HEAD, entry, 0, 1
+                axis += 1
+                left -= 1
+            elif kind is slice:
+                step = entry.step
+                if step is None or type(step) is int and step > 0:
+                    start, stop = entry.start, entry.stop
+                    if start is None:
+                        start = 0
+                    if stop is None:
+                        fields += _SLICE, start, 0, step or 1
+                    else:
+                        fields += SLICE_WITH_END, start, stop, step or 1
+                else:
+                    start, stop, step = entry.indices(shape[axis])
+                    fields += (SLICE_WITH_END, *((start, stop) if step > 0 else (stop + 1, start + 1)), step)
+                axis += 1
+            else:
+                break
+        else:
+            if axis < len(shape):
+                fields += (_SLICE, 0, 0, 1) * (len(shape) - axis)
+            return fields, left
+    except (TypeError, ValueError, IndexError):  # (bounds that are no numbers, a step of 0, too many entries)
+        return fields, -1
+    known = plain_fields(shape, key)  # (with `...` or `None`)
+    return (fields, -1) if known is None else (known, len(known) // 4 - known[::4].count(INDEX_HEAD))
+
+
 def _any_key_fields(shape: Sequence[int], key: Any) -> list[int]:
     """`_key_fields` of any key, or its error."""
     fields: list[int] = []

@@ -15,7 +15,7 @@ from ._arrays import without_minus_one
 from ._errors import OutOfBoundsError, ShapeError
 from ._numbers import INTEGERS, ORDERS, Lens, Numbers, View, integer, integers, listing, said
 from ._shapes import broadcast, exact_chunks, permuted_axes, reshape, split_at, windows
-from ._slices import INDEX_HEAD, Elems, plain_fields, slice_by_key, slice_view
+from ._slices import Elems, slice_by_key, slice_view, unbounded_fields
 
 if TYPE_CHECKING:
     from ._layout import Layout
@@ -63,16 +63,19 @@ class Views(Fields):
     def __getitem__(self, key: Any) -> Layout:
         """A slice by NumPy's keys: integers, slices, `...` and `None`. Bounds outside are moved to the nearest end."""
         shape = self.shape
-        fields = plain_fields(shape, key)
-        if fields is not None:  # (`Frames.run` and `made`, written out: a slice is what is made most)
-            axes, elems = len(shape), len(fields) // 4
-            left = elems - fields[::4].count(INDEX_HEAD)
+        axes = len(shape)
+        fields, left = unbounded_fields(shape, key)
+        if left >= 0:  # (`Frames.run` and `made`, written out: a slice is what is made most)
+            elems = len(fields) // 4
             frame = frames.slices.frame((axes, axes, elems, left, left))
             if frame is not None:
-                put, memory, call, take, free = frame
-                put(memory, 0, self.start, *shape, *self.strides, *fields)
-                if call() == 0:
-                    found = take()
+                put, memory, call, arguments, take, end, free = frame
+                try:
+                    put(memory, 0, self.start, *shape, *self.strides, *fields)
+                except StructError:  # (a bound that is no number, or has no 64 bits)
+                    return self._kept(*slice_by_key(self.start, shape, self.strides, key), self.owned)
+                if call(*arguments) == 0:
+                    found = take(memory, end)
                     free.append(frame)
                     new = Fields()
                     new.start, new.shape, new.strides = found[0], found[1 : left + 1], found[left + 1 :]
@@ -152,7 +155,8 @@ class Views(Fields):
             return self._permuted(tuple(range(len(self.shape) - 1, -1, -1)))
         count = len(self.shape)
         if INTEGERS.issuperset(map(type, listed)):
-            return self._permuted(tuple([axis if axis >= 0 else axis + count for axis in listed]), listed)
+            axes = tuple(listed) if min(listed) >= 0 else tuple([axis + count * (axis < 0) for axis in listed])
+            return self._permuted(axes, listed)
         return self._permuted(tuple([axis_of(axis, count) for axis in listed]))
 
     @property
