@@ -98,6 +98,9 @@
 #define nd_split_at ND_NAME(nd_split_at)
 #define nd_diag ND_NAME(nd_diag)
 #define nd_stretch ND_NAME(nd_stretch)
+#define nd_slice_reason ND_NAME(nd_slice_reason)
+#define nd_layout_start_reason ND_NAME(nd_layout_start_reason)
+#define nd_check_layout_reason ND_NAME(nd_check_layout_reason)
 #define nd_status_text ND_NAME(nd_status_text)
 #define nd_version ND_NAME(nd_version)
 
@@ -470,6 +473,79 @@ int32_t nd_diag(const size_t *shape, size_t shape_len, const ptrdiff_t *strides,
  */
 int32_t nd_stretch(size_t start, const size_t *shape, size_t shape_len, const ptrdiff_t *strides, size_t strides_len,
                    int32_t order, size_t *first, size_t *end, int32_t *found);
+
+/* ---- Reasons --------------------------------------------------------------------------------------------------------- */
+
+/*
+ * The rules that a call's arguments can break. After each: its status, and which fields of nd_reason it has beside `status`
+ * and `rule`; the others are 0.
+ */
+enum {
+    ND_RULE_NONE = 0,    /* ND_OK: no rule is broken */
+    ND_RULE_COUNT = 1,   /* a list is of another count than there are axes. `size`: its count, of a slice without new axes.
+                            ND_INCOMPATIBLE_SHAPE of a slice, ND_INCOMPATIBLE_LAYOUT of strides */
+    ND_RULE_INDEX = 2,   /* ND_OUT_OF_BOUNDS: an index is no coordinate of its axis. `axis`; `number`: the index; `size`: the
+                            length of the axis */
+    ND_RULE_BOUND = 3,   /* ND_OUT_OF_BOUNDS: a bound of a range means no number from 0 to the length of its axis. `axis`;
+                            `number`: the bound, the start where both do; `size`: the length */
+    ND_RULE_STEP = 4,    /* ND_UNSUPPORTED: a step is 0. `axis`; `size`: the length of the axis */
+    ND_RULE_SIZE = 5,    /* ND_OVERFLOW: the product of the lengths that are not 0 is past the limit */
+    ND_RULE_SPAN = 6,    /* ND_OVERFLOW: the span is past the limit */
+    ND_RULE_BYTES = 7,   /* ND_OVERFLOW: the span in bytes is past the limit. `size`: the span in elements */
+    ND_RULE_LOWEST = 8,  /* ND_OUT_OF_BOUNDS: the lowest place is below 0. `size`: how far it lies below the start */
+    ND_RULE_HIGHEST = 9, /* ND_OUT_OF_BOUNDS: the highest place is past the limit. `size`: how far it lies above the start */
+    ND_RULE_LENGTH = 10, /* ND_OUT_OF_BOUNDS: the highest place is past the buffer. `size`: the highest place */
+    ND_RULE_ALIAS = 11   /* ND_UNSUPPORTED: the no-alias rule. `axis`: the first whose stride isn't past the reach of the others
+                            whose stride is at most its own; `number`: its stride; `size`: that reach */
+};
+
+/*
+ * Why a call returns its status: the first rule that its arguments break, in the order in which the call tests them. Each call
+ * below takes what its call reads, writes a reason and returns ND_OK, also where the call would return ND_OK: then all fields
+ * are 0. `status` is what the call returns, apart from ND_BAD_ARGUMENT and ND_OUT_OF_MEMORY.
+ */
+typedef struct nd_reason {
+    int32_t status;
+    int32_t rule;
+    size_t axis;
+    ptrdiff_t number;
+    size_t size;
+} nd_reason;
+
+/*
+ * Writes why the elements of a slice don't fit a shape: of nd_slice, nd_slices_intersect, nd_first_intersection and nd_picked
+ * after the rules on the layout or the shape. The first axis whose element doesn't fit is told.
+ *
+ * ND_BAD_ARGUMENT: another `fit`, or a kind of element without a meaning.
+ *
+ * (2,3,5) by `0,..,9`: ND_OUT_OF_BOUNDS, ND_RULE_INDEX, axis 2, number 9, size 5. (4) by `9..;0`: ND_RULE_BOUND, axis 0,
+ * number 9, size 4; ND_CLAMPED: ND_UNSUPPORTED, ND_RULE_STEP, axis 0, size 4. (2,3) by `0`: ND_INCOMPATIBLE_SHAPE,
+ * ND_RULE_COUNT, size 1.
+ */
+int32_t nd_slice_reason(const size_t *shape, size_t shape_len, const nd_slice_elem *elems, size_t elems_len, int32_t fit,
+                        nd_reason *reason);
+
+/*
+ * Writes why nd_layout_start doesn't accept a layout. The lowest place is 0, so ND_RULE_LOWEST and ND_RULE_HIGHEST never come.
+ *
+ * ND_BAD_ARGUMENT: another `mode`.
+ *
+ * (3), strides (-1), over 2 elements: ND_OUT_OF_BOUNDS, ND_RULE_LENGTH, size 2. (3,2), strides (2,3), over 8, owned:
+ * ND_UNSUPPORTED, ND_RULE_ALIAS, axis 1, number 3, size 4.
+ */
+int32_t nd_layout_start_reason(const size_t *shape, size_t shape_len, const ptrdiff_t *strides, size_t strides_len,
+                               size_t elem_size, size_t len, int32_t mode, nd_reason *reason);
+
+/*
+ * Writes why nd_check_layout doesn't accept a layout. With an element of one byte and `len` SIZE_MAX, read-only, that is why
+ * each call that takes a start and a layout doesn't.
+ *
+ * ND_BAD_ARGUMENT: another `mode`.
+ *
+ * (3), strides (-1), over 5 elements, from 1: ND_OUT_OF_BOUNDS, ND_RULE_LOWEST, size 2; from 5: ND_RULE_LENGTH, size 5.
+ */
+int32_t nd_check_layout_reason(size_t start, const size_t *shape, size_t shape_len, const ptrdiff_t *strides,
+                               size_t strides_len, size_t elem_size, size_t len, int32_t mode, nd_reason *reason);
 
 /* ---- Statuses -------------------------------------------------------------------------------------------------------- */
 

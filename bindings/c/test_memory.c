@@ -45,6 +45,7 @@ static struct {
     int32_t answer;
     nd_layout layouts[2];
     nd_view view;
+    nd_reason reason;
 } written;
 
 /* A call that makes so many requests, or none: after a refused one it returns ND_OUT_OF_MEMORY, and has written nothing. */
@@ -99,6 +100,9 @@ static void test_short_lists(void) {
     REQUESTS(0, nd_diag(LAYOUT, &written.number, &written.stride));
     REQUESTS(0, nd_stretch(0, LAYOUT, ND_ROW_MAJOR, &written.number, written.starts, &written.answer));
     REQUESTS(0, nd_split_at(0, LAYOUT, 1, 1, written.starts, 2, written.shape, 4, written.strides, 2));
+    REQUESTS(0, nd_slice_reason(LIST(shape), elems, 2, ND_STRICT, &written.reason));
+    REQUESTS(0, nd_layout_start_reason(LAYOUT, 1, 6, ND_OWNED, &written.reason));
+    REQUESTS(0, nd_check_layout_reason(0, LAYOUT, 1, 6, ND_OWNED, &written.reason));
 }
 
 /* Calls that need none for longer lists either. */
@@ -139,6 +143,9 @@ static void test_long_lists(void) {
     REQUESTS(2, nd_diag(LONG_LAYOUT, &written.number, &written.stride));
     REQUESTS(2, nd_stretch(0, LONG_LAYOUT, ND_ROW_MAJOR, &written.number, written.starts, &written.answer));
     REQUESTS(4, nd_split_at(0, LONG_LAYOUT, 2, 1, written.starts, 2, written.shape, 12, written.strides, 6));
+    REQUESTS(1, nd_slice_reason(LIST(long_shape), LIST(elems), ND_STRICT, &written.reason));
+    REQUESTS(1, nd_layout_start_reason(LONG_LAYOUT, 1, 12, ND_OWNED, &written.reason));
+    REQUESTS(1, nd_check_layout_reason(0, LONG_LAYOUT, 1, 12, ND_OWNED, &written.reason));
 }
 
 /* Makes the iterator of a view; ND_BAD_ARGUMENT where it has a row after an error. */

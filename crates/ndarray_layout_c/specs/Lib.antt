@@ -4,8 +4,11 @@ pub mod IndexAfter
 pub mod IndexFault
 pub mod Kept
 pub mod LayoutFault
+pub mod LayoutReasons
 pub mod OwnStrides
+pub mod Reasons
 pub mod RowsFrom
+pub mod SliceReasons
 pub mod SlicesNamed
 pub mod Statuses
 pub mod Texts

@@ -4,16 +4,20 @@
 //! A list of strides has the `usize` of the same bits as C's `ptrdiff_t` for each, as the layer keeps them.
 #![tactic(auto)]
 
+mod aliases;
 mod arguments;
 mod blocks;
 mod diagonals;
 mod elements;
 mod indices;
 mod intersections;
+mod layout_reasons;
 mod layouts;
 mod lists;
+mod reasons;
 mod rows;
 mod shapes;
+mod slice_reasons;
 mod slices;
 mod splits;
 mod statuses;

@@ -19,6 +19,12 @@ pub(crate) const INCOMPATIBLE_SHAPE: i32 = 1;
 /// The status of `Unsupported`.
 pub(crate) const UNSUPPORTED: i32 = 5;
 
+/// The status of `IncompatibleLayout`.
+pub(crate) const INCOMPATIBLE_LAYOUT: i32 = 2;
+
+/// The status of `Overflow`.
+pub(crate) const OVERFLOW: i32 = 6;
+
 /// An allocation failed.
 pub(crate) const OUT_OF_MEMORY: i32 = 8;
 

@@ -18,6 +18,7 @@ mod model;
 mod numbers;
 #[deny(dead_code)]
 mod proved;
+mod reasons;
 mod shapes;
 mod slices;
 mod texts;
@@ -30,9 +31,10 @@ pub mod ndarray_layout_c;
 /// The exports of the package.
 mod erased {
     pub use crate::ndarray_layout_c::elements::RawElem;
+    pub use crate::ndarray_layout_c::reasons::Reason;
     pub use crate::ndarray_layout_c::{
-        blocks::*, diagonals::*, indices::*, intersections::*, layouts::*, rows::*, shapes::*, slices::*, splits::*,
-        stretches::*, texts::*, version::*,
+        blocks::*, diagonals::*, indices::*, intersections::*, layout_reasons::*, layouts::*, rows::*, shapes::*,
+        slice_reasons::*, slices::*, splits::*, stretches::*, texts::*, version::*,
     };
 }
 

@@ -1,6 +1,6 @@
 //! The exports of the proved library, each in a function with the parameters of the package's.
 
-use crate::erased::RawElem;
+use crate::erased::{RawElem, Reason};
 
 /// Functions over lists, each of which calls C's function of its name in the library: a list is a pointer and a count there.
 macro_rules! exports {
@@ -69,6 +69,10 @@ exports! {
     nd_diag(shape: &[usize], strides: &[usize], len: &mut usize, stride: &mut isize);
     nd_stretch(start: usize, shape: &[usize], strides: &[usize], order: i32, first: &mut usize, end: &mut usize,
         found: &mut i32);
+    nd_slice_reason(shape: &[usize], elems: &[RawElem], fit: i32, reason: &mut Reason);
+    nd_layout_start_reason(shape: &[usize], strides: &[usize], elem_size: usize, len: usize, mode: i32, reason: &mut Reason);
+    nd_check_layout_reason(start: usize, shape: &[usize], strides: &[usize], elem_size: usize, len: usize, mode: i32,
+        reason: &mut Reason);
     nd_version(major: &mut i32, minor: &mut i32, patch: &mut i32);
     nd_status_text(status: i32, text: &mut [u8], used: &mut usize);
 }

@@ -7,12 +7,12 @@ use ndarray_layout::SliceInfoElem;
 
 /// An element as C gives it.
 #[derive(Debug)]
-struct Elem {
-    kind: i32,
-    has_end: i32,
-    start: isize,
-    end: isize,
-    step: isize,
+pub struct Elem {
+    pub kind: i32,
+    pub has_end: i32,
+    pub start: isize,
+    pub end: isize,
+    pub step: isize,
 }
 
 /// An element with any numbers in the fields that its kind doesn't name, seldom of a kind without a meaning.
@@ -39,11 +39,11 @@ fn in_c(numbers: &mut Numbers, elem: SliceInfoElem) -> Elem {
     elem
 }
 
-fn elems(numbers: &mut Numbers, shape: &[usize]) -> Vec<Elem> {
+pub fn elems(numbers: &mut Numbers, shape: &[usize]) -> Vec<Elem> {
     numbers.elems(shape).into_iter().map(|elem| in_c(numbers, elem)).collect()
 }
 
-fn raw(elems: &[Elem]) -> Vec<RawElem> {
+pub fn raw(elems: &[Elem]) -> Vec<RawElem> {
     let raw = |elem: &Elem| RawElem {
         kind: elem.kind,
         has_end: elem.has_end,

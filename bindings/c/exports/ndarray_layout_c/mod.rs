@@ -19,16 +19,20 @@
 #![allow(clippy::len_without_is_empty, reason = "a sequence is never asked whether it is empty")]
 #![allow(clippy::should_implement_trait, reason = "the package has the trait beside what is proved")]
 
+pub mod aliases;
 pub mod arguments;
 pub mod blocks;
 pub mod diagonals;
 pub mod elements;
 pub mod indices;
 pub mod intersections;
+pub mod layout_reasons;
 pub mod layouts;
 pub mod lists;
+pub mod reasons;
 pub mod rows;
 pub mod shapes;
+pub mod slice_reasons;
 pub mod slices;
 pub mod splits;
 pub mod statuses;

@@ -1,0 +1,212 @@
+//! Why calls return their errors: 100,000 random calls of both libraries, and of a plain model.
+
+use crate::arguments::buffer_len;
+use crate::compare::*;
+use crate::erased::Reason;
+use crate::model::layouts::{LIMIT, is_empty, low_and_high, product_without_zeros, span};
+use crate::numbers::Numbers;
+use crate::slices::{Elem, elems, raw};
+use std::collections::BTreeMap;
+use std::fmt::Debug;
+
+/// The status, the rule, the axis, the number and the size of a reason.
+type Told = (i32, i32, usize, isize, usize);
+
+const NO_REASON: Told = (OK, 0, 0, 0, 0);
+const NOT_TOLD: Told = (NO_ANSWER, NO_ANSWER, UNWRITTEN, -77, UNWRITTEN);
+
+const COUNT: i32 = 1;
+const INDEX: i32 = 2;
+const BOUND: i32 = 3;
+const STEP: i32 = 4;
+const SIZE: i32 = 5;
+const SPAN: i32 = 6;
+const BYTES: i32 = 7;
+const LOWEST: i32 = 8;
+const HIGHEST: i32 = 9;
+const LENGTH: i32 = 10;
+const ALIAS: i32 = 11;
+
+/// What a call returns, and what it writes over a reason that nothing has written.
+fn told(call: impl FnOnce(&mut Reason) -> i32) -> (i32, Told) {
+    let (status, rule, axis, number, size) = NOT_TOLD;
+    let mut reason = Reason { status, rule, axis, number, size };
+    let returned = call(&mut reason);
+    (returned, (reason.status, reason.rule, reason.axis, reason.number, reason.size))
+}
+
+macro_rules! compare_reasons {
+    ($call:literal, $rules:expr, $arguments:expr, $made:expr, $model:expr $(,)?) => {
+        compare_reasons(
+            $call,
+            &$rules,
+            $arguments,
+            {
+                use crate::erased::*;
+                $made
+            },
+            {
+                use crate::proved::*;
+                $made
+            },
+            $model,
+        )
+    };
+}
+
+/// Compares the calls of both libraries with a model, which has none for a bad argument. Each of the rules comes in some of
+/// them, and no other one.
+fn compare_reasons<A: Debug>(
+    call: &str,
+    rules: &[i32],
+    arguments: impl Fn(&mut Numbers) -> A,
+    erased: impl Fn(&A) -> (i32, Told),
+    proved: impl Fn(&A) -> (i32, Told),
+    model: impl Fn(&A) -> Option<Told>,
+) {
+    let mut numbers = Numbers::new(call.bytes().map(u64::from).sum::<u64>() * 1_000_003);
+    let mut counts = BTreeMap::<i32, usize>::new();
+    for _ in 0..100_000 {
+        let arguments = arguments(&mut numbers);
+        let due = model(&arguments).map_or((BAD_ARGUMENT, NOT_TOLD), |told| (OK, told));
+        assert_eq!(proved(&arguments), due, "the proved library, and the model: {call} of {arguments:?}");
+        assert_eq!(erased(&arguments), due, "the package, and the model: {call} of {arguments:?}");
+        *counts.entry(due.1.1).or_default() += 1;
+    }
+    println!("{call}: {counts:?}");
+    assert!(counts.keys().eq(rules), "{call}: of the rules {rules:?} came {counts:?}");
+    assert!(counts.values().all(|count| *count >= 100), "{call}: few of a rule: {counts:?}");
+}
+
+/// The first axis whose element doesn't fit, as a reader of the header would look for it.
+fn of_slice(shape: &[usize], elems: &[Elem], clamps: bool) -> Told {
+    let on_axes: Vec<_> = elems.iter().filter(|elem| elem.kind != 2).collect();
+    if on_axes.len() != shape.len() {
+        return (INCOMPATIBLE_SHAPE, COUNT, 0, 0, on_axes.len());
+    }
+    for (axis, (len, elem)) in shape.iter().zip(on_axes).enumerate() {
+        let (least, most) = (-(*len as i128), *len as i128);
+        if elem.kind == 1 {
+            if !(least..most).contains(&(elem.start as i128)) {
+                return (OUT_OF_BOUNDS, INDEX, axis, elem.start, *len);
+            }
+            continue;
+        }
+        let bounds = [Some(elem.start), (elem.has_end != 0).then_some(elem.end)];
+        let outside = bounds.into_iter().flatten().find(|bound| !(least..=most).contains(&(*bound as i128)));
+        if let (Some(bound), false) = (outside, clamps) {
+            return (OUT_OF_BOUNDS, BOUND, axis, bound, *len);
+        }
+        if elem.step == 0 {
+            return (UNSUPPORTED, STEP, axis, 0, *len);
+        }
+    }
+    NO_REASON
+}
+
+#[test]
+fn slice_reason() {
+    let arguments = |numbers: &mut Numbers| {
+        let shape = shape(numbers);
+        let elems = elems(numbers, &shape);
+        (shape, elems, choice(numbers))
+    };
+    let rules = [NO_ANSWER, 0, COUNT, INDEX, BOUND, STEP];
+    compare_reasons!(
+        "nd_slice_reason",
+        rules,
+        arguments,
+        |(shape, elems, fit)| told(|reason| nd_slice_reason(shape, &raw(elems), *fit, reason)),
+        |(shape, elems, fit)| {
+            let is_known = elems.iter().all(|elem| (0..=2).contains(&elem.kind)) && (0..=1).contains(fit);
+            is_known.then(|| of_slice(shape, elems, *fit == 1))
+        },
+    );
+}
+
+/// A shape, its strides, the bytes of an element, the length of a buffer, and the mode.
+type Layout = (Vec<usize>, Vec<isize>, usize, usize, i32);
+
+/// The first rule that a layout breaks, from a start or the lowest that it can have.
+fn of_layout(start: Option<usize>, (shape, strides, elem_size, len, mode): &Layout) -> Option<Told> {
+    if !(0..=1).contains(mode) {
+        return None;
+    }
+    let broken = |status: i32, rule: i32, size: i128| Some((status, rule, 0, 0, size as usize));
+    if shape.len() != strides.len() {
+        return broken(INCOMPATIBLE_LAYOUT, COUNT, strides.len() as i128);
+    }
+    let (span, (low, high)) = (span(shape, strides), low_and_high(shape, strides));
+    if product_without_zeros(shape) > LIMIT {
+        return broken(OVERFLOW, SIZE, 0);
+    }
+    if span > LIMIT {
+        return broken(OVERFLOW, SPAN, 0);
+    }
+    if span.saturating_mul(*elem_size as i128) > LIMIT {
+        return broken(OVERFLOW, BYTES, span);
+    }
+    let start = start.map_or(low, |start| start as i128);
+    let highest = start + high;
+    if start < low {
+        return broken(OUT_OF_BOUNDS, LOWEST, low);
+    }
+    if highest > LIMIT {
+        return broken(OUT_OF_BOUNDS, HIGHEST, high);
+    }
+    if highest + i128::from(!is_empty(shape)) > *len as i128 {
+        return broken(OUT_OF_BOUNDS, LENGTH, highest);
+    }
+    let owned = *mode == 1 && !is_empty(shape);
+    Some(owned.then(|| of_aliases(shape, strides)).flatten().unwrap_or(NO_REASON))
+}
+
+fn of_aliases(shape: &[usize], strides: &[isize]) -> Option<Told> {
+    (0..shape.len()).filter(|axis| shape[*axis] > 1).find_map(|axis| {
+        let others = (0..shape.len()).filter(|other| *other != axis && shape[*other] > 0);
+        let no_greater = others.filter(|other| strides[*other].unsigned_abs() <= strides[axis].unsigned_abs());
+        let reach: i128 = no_greater.map(|other| (shape[other] as i128 - 1) * (strides[other] as i128).abs()).sum();
+        let is_within = (strides[axis] as i128).abs() <= reach;
+        is_within.then_some((UNSUPPORTED, ALIAS, axis, strides[axis], reach as usize))
+    })
+}
+
+#[test]
+fn layout_start_reason() {
+    let arguments = |numbers: &mut Numbers| {
+        let (shape, strides) = layout(numbers);
+        let elem_size = numbers.pick(&[0, 1, 1, 2, 4, 8, 1 << 40, usize::MAX]);
+        let len = buffer_len(numbers, &shape, &strides);
+        (shape, strides, elem_size, len, choice(numbers))
+    };
+    let rules = [NO_ANSWER, 0, COUNT, SIZE, SPAN, BYTES, LENGTH, ALIAS];
+    compare_reasons!(
+        "nd_layout_start_reason",
+        rules,
+        arguments,
+        |(shape, strides, elem_size, len, mode)| told(|reason| {
+            nd_layout_start_reason(shape, &kept(strides), *elem_size, *len, *mode, reason)
+        }),
+        |layout| of_layout(None, layout),
+    );
+}
+
+#[test]
+fn check_layout_reason() {
+    let arguments = |numbers: &mut Numbers| {
+        let view = view(numbers);
+        let elem_size = numbers.pick(&[1, 1, 2, 8, 1 << 62]);
+        let len = buffer_len(numbers, &view.shape, &view.strides).saturating_add(numbers.below(20));
+        (view.start, (view.shape, view.strides, elem_size, len, choice(numbers)))
+    };
+    let rules = [NO_ANSWER, 0, COUNT, SIZE, SPAN, BYTES, LOWEST, HIGHEST, LENGTH, ALIAS];
+    compare_reasons!(
+        "nd_check_layout_reason",
+        rules,
+        arguments,
+        |(start, (shape, strides, elem_size, len, mode))| told(|reason| {
+            nd_check_layout_reason(*start, shape, &kept(strides), *elem_size, *len, *mode, reason)
+        }),
+        |(start, layout)| of_layout(Some(*start), layout),
+    );
+}

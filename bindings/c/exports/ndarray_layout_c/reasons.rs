@@ -1,0 +1,72 @@
+// Made by `rust/erase` of `crates/ndarray_layout_c/src/reasons.rt`: edit that.
+//! Why a call returns its error, as C reads it: the rule that is broken, and numbers.
+
+/// The status of a call, the rule that is broken, and numbers; all 0 where no rule is.
+#[derive(Clone, Copy)]
+#[repr(C)]
+pub struct Reason {
+    pub status: i32,
+    pub rule: i32,
+    pub axis: usize,
+    pub number: isize,
+    pub size: usize,
+}
+
+/// A list is of another count than there are axes.
+pub(crate) const COUNT: i32 = 1;
+
+/// An index is no coordinate of its axis.
+pub(crate) const INDEX: i32 = 2;
+
+/// A bound of a range means no number from 0 to the length of its axis.
+pub(crate) const BOUND: i32 = 3;
+
+/// A step is 0.
+pub(crate) const STEP: i32 = 4;
+
+/// The product of the lengths that are not 0 is past the limit.
+pub(crate) const SIZE: i32 = 5;
+
+/// The span is past the limit.
+pub(crate) const SPAN: i32 = 6;
+
+/// The span in bytes is past the limit.
+pub(crate) const BYTES: i32 = 7;
+
+/// The lowest place is below 0.
+pub(crate) const LOWEST: i32 = 8;
+
+/// The highest place is past the limit.
+pub(crate) const HIGHEST: i32 = 9;
+
+/// The highest place is past the buffer.
+pub(crate) const LENGTH: i32 = 10;
+
+/// The no-alias rule is broken at an axis.
+pub(crate) const ALIAS: i32 = 11;
+
+/// No rule is broken.
+///
+/// <details><summary>Contract (proved)</summary>
+///
+/// ```text
+/// ensures result ≡ no_reason
+/// ```
+/// [How to read it](ndarray_layout::contracts)
+/// </details>
+pub(crate) fn no_reason() -> Reason {
+    Reason { status: 0, rule: 0, axis: 0, number: 0, size: 0 }
+}
+
+/// A rule is broken at an axis.
+///
+/// <details><summary>Contract (proved)</summary>
+///
+/// ```text
+/// ensures result ≡ of_axis status rule axis number size
+/// ```
+/// [How to read it](ndarray_layout::contracts)
+/// </details>
+pub(crate) fn of_axis(status: i32, rule: i32, axis: usize, number: isize, size: usize) -> Reason {
+    Reason { status, rule, axis, number, size }
+}

@@ -1,0 +1,139 @@
+/* Why calls return their statuses: rows worked out by hand, one of each rule, and bad input, after which nothing is written. */
+#include "ndarray_layout.h"
+
+#include <stdio.h>
+#include <string.h>
+
+/* A list and its count, as the calls take them. */
+#define LIST(list) (list), (sizeof(list) / sizeof *(list))
+
+static int checked, failed;
+
+static void check(int holds, int line, const char *what) {
+    checked++;
+    if (holds) return;
+    failed++;
+    printf("test_reasons.c:%d: %s\n", line, what);
+}
+
+#define CHECK(fact) check((fact), __LINE__, #fact)
+/* The call succeeds, and writes these five numbers. */
+#define TOLD(call, ...) \
+    do { \
+        const nd_reason due = {__VA_ARGS__}; \
+        memset(&reason, 7, sizeof reason); \
+        CHECK((call) == ND_OK); \
+        CHECK(is_same(&reason, &due)); \
+    } while (0)
+/* The call returns ND_BAD_ARGUMENT, and writes nothing. */
+#define BAD(call) \
+    do { \
+        nd_reason before; \
+        memset(&before, 7, sizeof before); \
+        reason = before; \
+        CHECK((call) == ND_BAD_ARGUMENT); \
+        CHECK(is_same(&reason, &before)); \
+    } while (0)
+
+static nd_reason reason;
+
+static int is_same(const nd_reason *one, const nd_reason *other) {
+    return one->status == other->status && one->rule == other->rule && one->axis == other->axis
+           && one->number == other->number && one->size == other->size;
+}
+
+static const size_t none[1] = {0}, three[1] = {3}, four[1] = {4}, two_three[2] = {2, 3}, three_two[2] = {3, 2};
+static const size_t three_axes[3] = {2, 3, 5};
+static const ptrdiff_t back[1] = {-1}, by_rows[2] = {3, 1}, crossed[2] = {2, 3}, no_strides[1] = {0};
+#define WHOLE {ND_SLICE, 0, 0, 0, 1}
+#define NEW_AXIS {ND_NEW_AXIS, 1, 9, 9, 0}
+
+static void test_slices(void) {
+    const nd_slice_elem third[4] = {{ND_INDEX, 0, 0, 0, 0}, NEW_AXIS, WHOLE, {ND_INDEX, 0, 9, 0, 0}};
+    const nd_slice_elem second[3] = {{ND_INDEX, 0, -2, 0, 0}, {ND_INDEX, 0, -4, 0, 0}, {ND_INDEX, 0, 9, 0, 0}};
+    const nd_slice_elem many[6] = {NEW_AXIS, WHOLE, NEW_AXIS, WHOLE, NEW_AXIS, {ND_INDEX, 0, 5, 0, 0}};
+    const nd_slice_elem start[1] = {{ND_SLICE, 1, 5, -9, 0}}, end[1] = {{ND_SLICE, 1, 4, -5, 0}};
+    const nd_slice_elem last_bounds[1] = {{ND_SLICE, 1, -4, 4, -1}}, no_step[1] = {{ND_SLICE, 0, 4, 99, 0}};
+    const nd_slice_elem row[1] = {{ND_INDEX, 0, 0, 0, 0}}, no_kind[1] = {{3, 0, 0, 0, 1}};
+    TOLD(nd_slice_reason(LIST(three_axes), LIST(third), ND_STRICT, &reason), ND_OUT_OF_BOUNDS, ND_RULE_INDEX, 2, 9, 5);
+    TOLD(nd_slice_reason(LIST(three_axes), LIST(third), ND_CLAMPED, &reason), ND_OUT_OF_BOUNDS, ND_RULE_INDEX, 2, 9, 5);
+    TOLD(nd_slice_reason(LIST(three_axes), LIST(second), ND_STRICT, &reason), ND_OUT_OF_BOUNDS, ND_RULE_INDEX, 1, -4, 3);
+    TOLD(nd_slice_reason(LIST(three_axes), LIST(many), ND_STRICT, &reason), ND_OUT_OF_BOUNDS, ND_RULE_INDEX, 2, 5, 5);
+    TOLD(nd_slice_reason(LIST(four), LIST(start), ND_STRICT, &reason), ND_OUT_OF_BOUNDS, ND_RULE_BOUND, 0, 5, 4);
+    TOLD(nd_slice_reason(LIST(four), LIST(end), ND_STRICT, &reason), ND_OUT_OF_BOUNDS, ND_RULE_BOUND, 0, -5, 4);
+    TOLD(nd_slice_reason(LIST(four), LIST(start), ND_CLAMPED, &reason), ND_UNSUPPORTED, ND_RULE_STEP, 0, 0, 4);
+    TOLD(nd_slice_reason(LIST(four), LIST(no_step), ND_STRICT, &reason), ND_UNSUPPORTED, ND_RULE_STEP, 0, 0, 4);
+    TOLD(nd_slice_reason(LIST(two_three), LIST(row), ND_STRICT, &reason), ND_INCOMPATIBLE_SHAPE, ND_RULE_COUNT, 0, 0, 1);
+    TOLD(nd_slice_reason(LIST(two_three), LIST(third), ND_STRICT, &reason), ND_INCOMPATIBLE_SHAPE, ND_RULE_COUNT, 0, 0, 3);
+    TOLD(nd_slice_reason(LIST(four), LIST(last_bounds), ND_STRICT, &reason), ND_OK, ND_RULE_NONE, 0, 0, 0);
+    TOLD(nd_slice_reason(none, 0, row, 0, ND_STRICT, &reason), ND_OK, ND_RULE_NONE, 0, 0, 0);
+    BAD(nd_slice_reason(LIST(four), LIST(no_kind), ND_STRICT, &reason));
+    BAD(nd_slice_reason(LIST(four), LIST(start), 2, &reason));
+}
+
+static void test_layout_start(void) {
+    const size_t huge[2] = {PTRDIFF_MAX, 2}, no_rows[2] = {0, 3}, long_shape[6] = {1, 1, 3, 1, 2, 1};
+    const ptrdiff_t far[1] = {PTRDIFF_MAX}, long_strides[6] = {0, 0, 2, 9, -2, 9};
+    TOLD(nd_layout_start_reason(LIST(two_three), LIST(back), 1, 6, ND_OWNED, &reason), ND_INCOMPATIBLE_LAYOUT, ND_RULE_COUNT,
+         0, 0, 1);
+    TOLD(nd_layout_start_reason(LIST(huge), LIST(by_rows), 1, 6, ND_OWNED, &reason), ND_OVERFLOW, ND_RULE_SIZE, 0, 0, 0);
+    TOLD(nd_layout_start_reason(LIST(three), LIST(far), 1, 6, ND_OWNED, &reason), ND_OVERFLOW, ND_RULE_SPAN, 0, 0, 0);
+    TOLD(nd_layout_start_reason(LIST(three), LIST(back), PTRDIFF_MAX, 6, ND_OWNED, &reason), ND_OVERFLOW, ND_RULE_BYTES, 0, 0,
+         2);
+    TOLD(nd_layout_start_reason(LIST(three), LIST(back), 1, 2, ND_OWNED, &reason), ND_OUT_OF_BOUNDS, ND_RULE_LENGTH, 0, 0, 2);
+    TOLD(nd_layout_start_reason(LIST(no_rows), LIST(by_rows), 1, 1, ND_OWNED, &reason), ND_OUT_OF_BOUNDS, ND_RULE_LENGTH, 0,
+         0, 2);
+    TOLD(nd_layout_start_reason(LIST(no_rows), LIST(by_rows), 1, 2, ND_OWNED, &reason), ND_OK, ND_RULE_NONE, 0, 0, 0);
+    TOLD(nd_layout_start_reason(LIST(three_two), LIST(crossed), 1, 8, ND_OWNED, &reason), ND_UNSUPPORTED, ND_RULE_ALIAS, 1, 3,
+         4);
+    TOLD(nd_layout_start_reason(LIST(three_two), LIST(crossed), 1, 8, ND_READ_ONLY, &reason), ND_OK, ND_RULE_NONE, 0, 0, 0);
+    TOLD(nd_layout_start_reason(LIST(long_shape), LIST(long_strides), 1, 8, ND_OWNED, &reason), ND_UNSUPPORTED, ND_RULE_ALIAS,
+         2, 2, 2);
+    BAD(nd_layout_start_reason(LIST(three), LIST(back), 1, 3, 2, &reason));
+}
+
+static void test_check_layout(void) {
+    TOLD(nd_check_layout_reason(1, LIST(three), LIST(back), 1, 5, ND_OWNED, &reason), ND_OUT_OF_BOUNDS, ND_RULE_LOWEST, 0, 0,
+         2);
+    TOLD(nd_check_layout_reason(5, LIST(three), LIST(back), 1, 5, ND_OWNED, &reason), ND_OUT_OF_BOUNDS, ND_RULE_LENGTH, 0, 0,
+         5);
+    TOLD(nd_check_layout_reason(4, LIST(three), LIST(back), 1, 5, ND_OWNED, &reason), ND_OK, ND_RULE_NONE, 0, 0, 0);
+    TOLD(nd_check_layout_reason(PTRDIFF_MAX, LIST(two_three), LIST(by_rows), 1, SIZE_MAX, ND_OWNED, &reason),
+         ND_OUT_OF_BOUNDS, ND_RULE_HIGHEST, 0, 0, 5);
+    TOLD(nd_check_layout_reason(SIZE_MAX, none, 0, no_strides, 0, 1, SIZE_MAX, ND_OWNED, &reason), ND_OUT_OF_BOUNDS,
+         ND_RULE_HIGHEST, 0, 0, 0);
+    TOLD(nd_check_layout_reason(5, none, 1, LIST(back), 1, 5, ND_OWNED, &reason), ND_OK, ND_RULE_NONE, 0, 0, 0);
+    TOLD(nd_check_layout_reason(6, none, 1, LIST(back), 1, 5, ND_OWNED, &reason), ND_OUT_OF_BOUNDS, ND_RULE_LENGTH, 0, 0, 6);
+    TOLD(nd_check_layout_reason(0, LIST(three_two), LIST(crossed), 1, 8, ND_OWNED, &reason), ND_UNSUPPORTED, ND_RULE_ALIAS, 1,
+         3, 4);
+    TOLD(nd_check_layout_reason(0, LIST(three_two), LIST(back), 1, 8, ND_OWNED, &reason), ND_INCOMPATIBLE_LAYOUT,
+         ND_RULE_COUNT, 0, 0, 1);
+    BAD(nd_check_layout_reason(4, LIST(three), LIST(back), 1, 5, -1, &reason));
+}
+
+/* The status of a reason is that of the call. */
+static void test_statuses(void) {
+    size_t start, len, shape[2], strides_and_lengths = 0;
+    ptrdiff_t strides[2];
+    for (shape[0] = 0; shape[0] < 4; shape[0]++)
+        for (shape[1] = 0; shape[1] < 4; shape[1]++)
+            for (strides[0] = -3; strides[0] < 4; strides[0]++)
+                for (strides[1] = -3; strides[1] < 4; strides[1]++)
+                    for (len = 0; len < 8; len++)
+                        for (start = 0; start < 8; start++) {
+                            strides_and_lengths++;
+                            CHECK(nd_check_layout_reason(start, LIST(shape), LIST(strides), 1, len, ND_OWNED, &reason) == ND_OK
+                                  && reason.status == nd_check_layout(start, LIST(shape), LIST(strides), 1, len, ND_OWNED)
+                                  && (reason.rule == ND_RULE_NONE) == (reason.status == ND_OK));
+                        }
+    CHECK(strides_and_lengths == 50176);
+}
+
+int main(void) {
+    test_slices();
+    test_layout_start();
+    test_check_layout();
+    test_statuses();
+    printf("%d checked, %d failed\n", checked, failed);
+    return failed != 0;
+}
