@@ -1,5 +1,6 @@
 -- The status of a reason is that of the call.
-use Rattle.std.proofs.Common.{◌≡◌, ℕ, ℤ, pos, Bool, true, false, cond, Option, Some, None, List, [], ◌∷◌, ◌+◌, ◌≤◌, length, nat_eq, refl, ap, ◌∙◌, sym, arith}
+use Rattle.std.proofs.Common.{◌≡◌, ℕ, ℤ, pos, Bool, true, false, cond, Option, Some, None, List, [], ◌∷◌, ◌+◌, ◌≤◌, length, nat_eq}
+use Rattle.std.proofs.Common.{refl, ap, ◌∙◌, sym, arith}
 use Rattle.std.specs.Prelude.{is_some, nat_le, not, ◌&&◌}
 use Rattle.std.specs.List.{enumerate_from, find}
 use Rattle.std.specs.Option.{option_and_then, option_map_or, option_or}
@@ -77,7 +78,8 @@ abbrev first_reason : Fit → ℕ → List (ℕ × SliceInfoElem) → Reason
 first_reason fit axis pairs =
     option_map_or (λ one. elem_reason fit one.0 one.1.0 one.1.1) (find (is_at_fault fit) (enumerate_from axis pairs)) no_reason
 
-first_status : (fit : Fit) (axis : ℕ) (pairs : List (ℕ × SliceInfoElem)) → (first_reason fit axis pairs).status ≡ status_of (fault_of_each fit pairs)
+first_status : (fit : Fit) (axis : ℕ) (pairs : List (ℕ × SliceInfoElem))
+    → (first_reason fit axis pairs).status ≡ status_of (fault_of_each fit pairs)
 first_status fit axis [] = refl
 first_status fit axis (one ∷ others) = by (elem_fault fit one.0 one.1) refl (first_status fit (axis + 1) others)
   where

@@ -1,4 +1,5 @@
 pub mod Arguments
+pub mod BlocksTaken
 pub mod Elements
 pub mod IndexAfter
 pub mod IndexFault

@@ -5,30 +5,85 @@ use crate::ndarray_layout_c::lists::{view, write_axes};
 use crate::ndarray_layout_c::statuses::{BAD_ARGUMENT, OUT_OF_MEMORY, status_of};
 use ::ndarray_layout::{IxDyn, LayoutError, Strided, new_ixdyn};
 
-/// All windows of a layout.
+/// Which blocks of a shape are taken of a layout: all windows, or the chunks side by side.
+#[derive(Clone, Copy)]
+enum Blocks {
+    Windows,
+    Chunks,
+}
+
+/// The blocks of a layout.
 ///
-/// Errors: those of `view`, then those of `Strided::windows`; out of memory, never for at most four items and axes of the result.
+/// Errors: those of `view`, then those of `Strided::windows` or `Strided::exact_chunks`; out of memory, never for at most four
+/// items and axes of the result.
 ///
 /// <details><summary>Contract (proved)</summary>
 ///
 /// ```text
 /// ensures fits: OnOk result (option_or (layout_fault shape.now (all_signed strides.now))
-///     (windows_fault None shape.now window.now) ≡ None)
+///     (taken_fault blocks shape.now block.now) ≡ None)
 /// ensures fault: (kind : ErrorKind) → shape_fault result ≡ Some kind →
 ///     option_or (layout_fault shape.now (all_signed strides.now))
-///     (windows_fault None shape.now window.now) ≡ Some kind
+///     (taken_fault blocks shape.now block.now) ≡ Some kind
 /// ensures memory: NeedsNoMemory None (length shape.now + length shape.now) →
-///     NeedsNoMemory None (length strides.now) → NeedsNoMemory None (length window.now) →
+///     NeedsNoMemory None (length strides.now) → NeedsNoMemory None (length block.now) →
 ///     shape_fault result ≡ None → IsOk result
-/// ensures windows: IfOk result (λ v. v ≡ windows_of window.now (lowest_view shape.now strides.now))
+/// ensures blocks: IfOk result (λ v. v ≡ taken_of blocks block.now (lowest_view shape.now strides.now))
 /// ensures count: IfOk result (λ v. length v.shape ≡ length shape.now + length shape.now)
 /// ```
 /// [How to read it](ndarray_layout::contracts)
 /// </details>
-fn windows(shape: &[usize], strides: &[usize], window: &[usize]) -> Result<Strided<IxDyn>, LayoutError> {
+fn taken(blocks: Blocks, shape: &[usize], strides: &[usize], block: &[usize]) -> Result<Strided<IxDyn>, LayoutError> {
     let view = view(shape, strides)?;
-    let window = new_ixdyn(window)?;
-    view.windows(&window)
+    let block = new_ixdyn(block)?;
+    match blocks {
+        Blocks::Windows => view.windows(&block),
+        Blocks::Chunks => view.exact_chunks(&block),
+    }
+}
+
+/// Writes the shape and the strides of the blocks of a layout, first the axes of the blocks, then those in a block, and returns
+/// the status.
+///
+/// <details><summary>Contract (proved)</summary>
+///
+/// ```text
+/// ensures status: result ≢ out_of_memory → result ≡ status_where
+///     (not (length new_shape.old == length shape.now + length shape.now
+///     && length new_strides.old == length shape.now + length shape.now))
+///     (option_or (layout_fault shape.now (all_signed strides.now))
+///     (taken_fault blocks shape.now block.now))
+/// ensures bad: (length new_shape.old == length shape.now + length shape.now
+///     && length new_strides.old == length shape.now + length shape.now) ≡ false →
+///     result ≡ bad_argument
+/// ensures memory: NeedsNoMemory None (length shape.now + length shape.now) →
+///     NeedsNoMemory None (length strides.now) → NeedsNoMemory None (length block.now) →
+///     result ≢ out_of_memory
+/// ensures fits: result ≡ ok → option_or (layout_fault shape.now (all_signed strides.now))
+///     (taken_fault blocks shape.now block.now) ≡ None
+/// ensures shape: result ≡ ok → new_shape.new ≡ (taken_of blocks block.now (lowest_view shape.now strides.now)).shape
+/// ensures strides: result ≡ ok → all_signed new_strides.new ≡
+///     (taken_of blocks block.now (lowest_view shape.now strides.now)).strides
+/// ensures unchanged: result ≢ ok → (new_shape.new ≡ new_shape.old) × (new_strides.new ≡ new_strides.old)
+/// ```
+/// [How to read it](ndarray_layout::contracts)
+/// </details>
+fn write_blocks(
+    blocks: Blocks,
+    shape: &[usize],
+    strides: &[usize],
+    block: &[usize],
+    new_shape: &mut [usize],
+    new_strides: &mut [usize],
+) -> i32 {
+    if new_shape.len() != 2 * shape.len() || new_strides.len() != 2 * shape.len() {
+        return BAD_ARGUMENT;
+    }
+    match taken(blocks, shape, strides, block) {
+        Ok(blocks) => write_axes(&blocks, new_shape, new_strides),
+        Err(LayoutError::Shape(error)) => status_of(error.kind()),
+        Err(LayoutError::Memory(_)) => OUT_OF_MEMORY,
+    }
 }
 
 /// Writes the shape and the strides of all windows of a layout: first the axes of the windows, then those in a window.
@@ -63,41 +118,7 @@ pub fn nd_windows(
     new_shape: &mut [usize],
     new_strides: &mut [usize],
 ) -> i32 {
-    if new_shape.len() != 2 * shape.len() || new_strides.len() != 2 * shape.len() {
-        return BAD_ARGUMENT;
-    }
-    match windows(shape, strides, window) {
-        Ok(windows) => write_axes(&windows, new_shape, new_strides),
-        Err(LayoutError::Shape(error)) => status_of(error.kind()),
-        Err(LayoutError::Memory(_)) => OUT_OF_MEMORY,
-    }
-}
-
-/// The chunks of a layout, side by side.
-///
-/// Errors: those of `view`, then those of `Strided::exact_chunks`; out of memory, never for at most four items and axes of the
-/// result.
-///
-/// <details><summary>Contract (proved)</summary>
-///
-/// ```text
-/// ensures fits: OnOk result (option_or (layout_fault shape.now (all_signed strides.now))
-///     (chunks_fault None shape.now chunk.now) ≡ None)
-/// ensures fault: (kind : ErrorKind) → shape_fault result ≡ Some kind →
-///     option_or (layout_fault shape.now (all_signed strides.now))
-///     (chunks_fault None shape.now chunk.now) ≡ Some kind
-/// ensures memory: NeedsNoMemory None (length shape.now + length shape.now) →
-///     NeedsNoMemory None (length strides.now) → NeedsNoMemory None (length chunk.now) →
-///     shape_fault result ≡ None → IsOk result
-/// ensures chunks: IfOk result (λ v. v ≡ chunks_of chunk.now (lowest_view shape.now strides.now))
-/// ensures count: IfOk result (λ v. length v.shape ≡ length shape.now + length shape.now)
-/// ```
-/// [How to read it](ndarray_layout::contracts)
-/// </details>
-fn exact_chunks(shape: &[usize], strides: &[usize], chunk: &[usize]) -> Result<Strided<IxDyn>, LayoutError> {
-    let view = view(shape, strides)?;
-    let chunk = new_ixdyn(chunk)?;
-    view.exact_chunks(&chunk)
+    write_blocks(Blocks::Windows, shape, strides, window, new_shape, new_strides)
 }
 
 /// Writes the shape and the strides of the chunks of a layout: first the axes of the chunks, then those in a chunk.
@@ -132,14 +153,7 @@ pub fn nd_exact_chunks(
     new_shape: &mut [usize],
     new_strides: &mut [usize],
 ) -> i32 {
-    if new_shape.len() != 2 * shape.len() || new_strides.len() != 2 * shape.len() {
-        return BAD_ARGUMENT;
-    }
-    match exact_chunks(shape, strides, chunk) {
-        Ok(chunks) => write_axes(&chunks, new_shape, new_strides),
-        Err(LayoutError::Shape(error)) => status_of(error.kind()),
-        Err(LayoutError::Memory(_)) => OUT_OF_MEMORY,
-    }
+    write_blocks(Blocks::Chunks, shape, strides, chunk, new_shape, new_strides)
 }
 
 pub mod exported {

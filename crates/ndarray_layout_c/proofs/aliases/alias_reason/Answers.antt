@@ -1,4 +1,5 @@
-use Rattle.std.proofs.Common.{rules, ◌≡◌, ◌<◌, ◌≤◌, ℕ, ℤ, pos, List, Some, length, get_or, to_z, of_z, w64, arith, ap, ap₂, sym, ◌∙◌, false, inl, inr}
+use Rattle.std.proofs.Common.{rules, ◌≡◌, ◌<◌, ◌≤◌, ℕ, ℤ, pos, List, Some, length, get_or, to_z, of_z, w64, arith, ap, ap₂, sym, ◌∙◌}
+use Rattle.std.proofs.Common.{false, inl, inr}
 use Rattle.std.specs.Option.{option_map}
 use Rattle.std.specs.Prelude.{unsigned_abs, FitsSigned, not, remove}
 use Rattle.std.proofs.lemmas.Bool.Decides.{nat_tests}
@@ -38,7 +39,8 @@ returns-then-magnitude-others c =
     let axis = c.loop-axis.axis in
     let others : c.span_of_others-others.result ≡ span_of_others shape strides axis =
     c.span_of_others-others.ensures ∙ ap (λ m. span_up_to m (remove shape axis) (remove strides axis)) (magnitude_is at) in
-    let near : magnitude_at strides axis ≤ span_of_others shape strides axis = omega (arith, others, magnitude_is at, c.if-magnitude-others.true) in
+    let near : magnitude_at strides axis ≤ span_of_others shape strides axis =
+    omega (arith, others, magnitude_is at, c.if-magnitude-others.true) in
     let first = first_found (λ axis. not (strides_over_others shape strides axis)) axis (length shape) c.loop-axis-test.true
     (ap not (not_over shape strides axis c.if-shape-axis-gt1.true near)) c.loop-axis.invariant in
     let told = c.of_axis.ensures ∙ ap₂ (of_axis (pos 5) (pos 11) axis) (stride_is at) others in
