@@ -101,6 +101,7 @@
 #define nd_slice_reason ND_NAME(nd_slice_reason)
 #define nd_layout_start_reason ND_NAME(nd_layout_start_reason)
 #define nd_check_layout_reason ND_NAME(nd_check_layout_reason)
+#define nd_reshape_reason ND_NAME(nd_reshape_reason)
 #define nd_status_text ND_NAME(nd_status_text)
 #define nd_version ND_NAME(nd_version)
 
@@ -481,22 +482,28 @@ int32_t nd_stretch(size_t start, const size_t *shape, size_t shape_len, const pt
  * and `rule`; the others are 0.
  */
 enum {
-    ND_RULE_NONE = 0,    /* ND_OK: no rule is broken */
-    ND_RULE_COUNT = 1,   /* a list is of another count than there are axes. `size`: its count, of a slice without new axes.
-                            ND_INCOMPATIBLE_SHAPE of a slice, ND_INCOMPATIBLE_LAYOUT of strides */
-    ND_RULE_INDEX = 2,   /* ND_OUT_OF_BOUNDS: an index is no coordinate of its axis. `axis`; `number`: the index; `size`: the
-                            length of the axis */
-    ND_RULE_BOUND = 3,   /* ND_OUT_OF_BOUNDS: a bound of a range means no number from 0 to the length of its axis. `axis`;
-                            `number`: the bound, the start where both do; `size`: the length */
-    ND_RULE_STEP = 4,    /* ND_UNSUPPORTED: a step is 0. `axis`; `size`: the length of the axis */
-    ND_RULE_SIZE = 5,    /* ND_OVERFLOW: the product of the lengths that are not 0 is past the limit */
-    ND_RULE_SPAN = 6,    /* ND_OVERFLOW: the span is past the limit */
-    ND_RULE_BYTES = 7,   /* ND_OVERFLOW: the span in bytes is past the limit. `size`: the span in elements */
-    ND_RULE_LOWEST = 8,  /* ND_OUT_OF_BOUNDS: the lowest place is below 0. `size`: how far it lies below the start */
-    ND_RULE_HIGHEST = 9, /* ND_OUT_OF_BOUNDS: the highest place is past the limit. `size`: how far it lies above the start */
-    ND_RULE_LENGTH = 10, /* ND_OUT_OF_BOUNDS: the highest place is past the buffer. `size`: the highest place */
-    ND_RULE_ALIAS = 11   /* ND_UNSUPPORTED: the no-alias rule. `axis`: the first whose stride isn't past the reach of the others
-                            whose stride is at most its own; `number`: its stride; `size`: that reach */
+    ND_RULE_NONE = 0,        /* ND_OK: no rule is broken */
+    ND_RULE_COUNT = 1,       /* a list is of another count than there are axes. `size`: its count, of a slice without new
+                                axes. ND_INCOMPATIBLE_SHAPE of a slice, ND_INCOMPATIBLE_LAYOUT of strides */
+    ND_RULE_INDEX = 2,       /* ND_OUT_OF_BOUNDS: an index is no coordinate of its axis. `axis`; `number`: the index;
+                                `size`: the length of the axis */
+    ND_RULE_BOUND = 3,       /* ND_OUT_OF_BOUNDS: a bound of a range means no number from 0 to the length of its axis.
+                                `axis`; `number`: the bound, the start where both do; `size`: the length */
+    ND_RULE_STEP = 4,        /* ND_UNSUPPORTED: a step is 0. `axis`; `size`: the length of the axis */
+    ND_RULE_SIZE = 5,        /* ND_OVERFLOW: the product of the lengths that are not 0 is past the limit */
+    ND_RULE_SPAN = 6,        /* ND_OVERFLOW: the span is past the limit */
+    ND_RULE_BYTES = 7,       /* ND_OVERFLOW: the span in bytes is past the limit. `size`: the span in elements */
+    ND_RULE_LOWEST = 8,      /* ND_OUT_OF_BOUNDS: the lowest place is below 0. `size`: how far it lies below the start */
+    ND_RULE_HIGHEST = 9,     /* ND_OUT_OF_BOUNDS: the highest place is past the limit. `size`: how far it lies above the
+                                start */
+    ND_RULE_LENGTH = 10,     /* ND_OUT_OF_BOUNDS: the highest place is past the buffer. `size`: the highest place */
+    ND_RULE_ALIAS = 11,      /* ND_UNSUPPORTED: the no-alias rule. `axis`: the first whose stride isn't past the reach of
+                                the others whose stride is at most its own; `number`: its stride; `size`: that reach */
+    ND_RULE_OTHER_SIZE = 12, /* ND_INCOMPATIBLE_SHAPE: a new shape has another count of indices. `size`: its count */
+    ND_RULE_COPY = 13        /* ND_INCOMPATIBLE_LAYOUT: a new shape would take a copy. `axis`: in the order of reading,
+                                the first up to which the axes alone can't be read along the new shape: the stride of the
+                                axis of length greater than 1 that is read before it isn't its length times its stride,
+                                and the new shape has no boundary there */
 };
 
 /*
@@ -546,6 +553,19 @@ int32_t nd_layout_start_reason(const size_t *shape, size_t shape_len, const ptrd
  */
 int32_t nd_check_layout_reason(size_t start, const size_t *shape, size_t shape_len, const ptrdiff_t *strides,
                                size_t strides_len, size_t elem_size, size_t len, int32_t mode, nd_reason *reason);
+
+/*
+ * Writes why a layout can't be read along another shape. On the layout that is what nd_layout_start_reason writes, with an
+ * element of one byte and `len` SIZE_MAX, read-only; then ND_RULE_SIZE of the new shape, ND_RULE_OTHER_SIZE where one of the
+ * two shapes alone has no index, ND_RULE_COPY, and ND_RULE_OTHER_SIZE.
+ *
+ * ND_BAD_ARGUMENT: another `order`. Takes the time of nd_reshape for each axis, where there is a reason of strides.
+ *
+ * (4,4), strides (8,1), along (2,8), row-major: ND_INCOMPATIBLE_LAYOUT, ND_RULE_COPY, axis 1 where 8 isn't 4 times 1; along
+ * (2,2,2,2): ND_OK. (2,3), strides (3,1), along (4): ND_INCOMPATIBLE_SHAPE, ND_RULE_OTHER_SIZE, size 4.
+ */
+int32_t nd_reshape_reason(const size_t *shape, size_t shape_len, const ptrdiff_t *strides, size_t strides_len,
+                          const size_t *new_shape, size_t new_shape_len, int32_t order, nd_reason *reason);
 
 /* ---- Statuses -------------------------------------------------------------------------------------------------------- */
 

@@ -103,6 +103,7 @@ static void test_short_lists(void) {
     REQUESTS(0, nd_slice_reason(LIST(shape), elems, 2, ND_STRICT, &written.reason));
     REQUESTS(0, nd_layout_start_reason(LAYOUT, 1, 6, ND_OWNED, &written.reason));
     REQUESTS(0, nd_check_layout_reason(0, LAYOUT, 1, 6, ND_OWNED, &written.reason));
+    REQUESTS(0, nd_reshape_reason(LAYOUT, LIST(flat), ND_ROW_MAJOR, &written.reason));
 }
 
 /* Calls that need none for longer lists either. */
@@ -146,6 +147,7 @@ static void test_long_lists(void) {
     REQUESTS(1, nd_slice_reason(LIST(long_shape), LIST(elems), ND_STRICT, &written.reason));
     REQUESTS(1, nd_layout_start_reason(LONG_LAYOUT, 1, 12, ND_OWNED, &written.reason));
     REQUESTS(1, nd_check_layout_reason(0, LONG_LAYOUT, 1, 12, ND_OWNED, &written.reason));
+    REQUESTS(5, nd_reshape_reason(LONG_LAYOUT, LIST(regrouped), ND_ROW_MAJOR, &written.reason));
 }
 
 /* Makes the iterator of a view; ND_BAD_ARGUMENT where it has a row after an error. */

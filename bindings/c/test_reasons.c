@@ -111,6 +111,33 @@ static void test_check_layout(void) {
     BAD(nd_check_layout_reason(4, LIST(three), LIST(back), 1, 5, -1, &reason));
 }
 
+static void test_reshapes(void) {
+    const size_t rows[3] = {4, 1, 4}, across[4] = {2, 1, 4, 2}, halves[2] = {4, 4}, long_shape[6] = {2, 1, 2, 1, 3, 1};
+    const size_t no_index[2] = {0, 6}, six[1] = {6}, huge[2] = {PTRDIFF_MAX, 2}, eight[2] = {2, 8}, long_new[5] = {6, 1, 1, 1, 2};
+    const ptrdiff_t gaps[3] = {8, 9, 1}, far[2] = {PTRDIFF_MAX, 1}, long_strides[6] = {1, 9, 2, 9, 5, 9};
+    TOLD(nd_reshape_reason(LIST(rows), LIST(gaps), LIST(across), ND_ROW_MAJOR, &reason), ND_INCOMPATIBLE_LAYOUT, ND_RULE_COPY,
+         2, 0, 0);
+    TOLD(nd_reshape_reason(LIST(rows), LIST(gaps), LIST(halves), ND_ROW_MAJOR, &reason), ND_OK, ND_RULE_NONE, 0, 0, 0);
+    TOLD(nd_reshape_reason(LIST(rows), LIST(gaps), LIST(eight), ND_ROW_MAJOR, &reason), ND_INCOMPATIBLE_LAYOUT, ND_RULE_COPY,
+         2, 0, 0);
+    TOLD(nd_reshape_reason(LIST(two_three), LIST(by_rows), LIST(three_two), ND_ROW_MAJOR, &reason), ND_OK, ND_RULE_NONE, 0, 0,
+         0);
+    TOLD(nd_reshape_reason(LIST(two_three), LIST(by_rows), LIST(three_two), ND_COLUMN_MAJOR, &reason), ND_INCOMPATIBLE_LAYOUT,
+         ND_RULE_COPY, 0, 0, 0);
+    TOLD(nd_reshape_reason(LIST(long_shape), LIST(long_strides), LIST(long_new), ND_COLUMN_MAJOR, &reason),
+         ND_INCOMPATIBLE_LAYOUT, ND_RULE_COPY, 2, 0, 0);
+    TOLD(nd_reshape_reason(LIST(two_three), LIST(by_rows), LIST(four), ND_ROW_MAJOR, &reason), ND_INCOMPATIBLE_SHAPE,
+         ND_RULE_OTHER_SIZE, 0, 0, 4);
+    TOLD(nd_reshape_reason(LIST(two_three), LIST(by_rows), LIST(no_index), ND_ROW_MAJOR, &reason), ND_INCOMPATIBLE_SHAPE,
+         ND_RULE_OTHER_SIZE, 0, 0, 0);
+    TOLD(nd_reshape_reason(LIST(two_three), LIST(by_rows), LIST(huge), ND_ROW_MAJOR, &reason), ND_OVERFLOW, ND_RULE_SIZE, 0, 0,
+         0);
+    TOLD(nd_reshape_reason(LIST(two_three), LIST(far), LIST(six), ND_ROW_MAJOR, &reason), ND_OVERFLOW, ND_RULE_SPAN, 0, 0, 0);
+    TOLD(nd_reshape_reason(LIST(two_three), LIST(back), LIST(four), ND_ROW_MAJOR, &reason), ND_INCOMPATIBLE_LAYOUT,
+         ND_RULE_COUNT, 0, 0, 1);
+    BAD(nd_reshape_reason(LIST(two_three), LIST(by_rows), LIST(six), 2, &reason));
+}
+
 /* The status of a reason is that of the call. */
 static void test_statuses(void) {
     size_t start, len, shape[2], strides_and_lengths = 0;
@@ -133,6 +160,7 @@ int main(void) {
     test_slices();
     test_layout_start();
     test_check_layout();
+    test_reshapes();
     test_statuses();
     printf("%d checked, %d failed\n", checked, failed);
     return failed != 0;

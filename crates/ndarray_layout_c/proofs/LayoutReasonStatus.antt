@@ -1,10 +1,9 @@
 -- The status of the reason of a layout is that of the call.
-use Rattle.std.proofs.Common.{◌≡◌, ℕ, ◌+◌, ◌-◌, ◌*◌, ◌≤◌, ◌<◌, ℤ, pos, Bool, true, false, cond, Option, Some, None, List, [], ◌∷◌}
-use Rattle.std.proofs.Common.{length, nat_eq, refl, ap, ◌∙◌, sym, arith, inl, inr}
-use Rattle.std.specs.Prelude.{is_some, nat_le, nat_lt, not, ◌&&◌, ◌||◌}
+use Rattle.std.proofs.Common.{◌≡◌, ℕ, ◌+◌, ◌-◌, ◌*◌, ◌≤◌, ℤ, pos, Bool, true, false, cond, Option, Some, None, List, [], ◌∷◌}
+use Rattle.std.proofs.Common.{length, nat_eq, refl, ap, ◌∙◌, arith}
+use Rattle.std.specs.Prelude.{nat_lt, not, ◌&&◌, ◌||◌}
 use Rattle.std.specs.List.{find, list_all, range_with_len}
 use Rattle.std.specs.Option.{option_map, option_or, unwrap_or}
-use Rattle.std.proofs.lemmas.Bool.{cases_Bool, le-ltb, lt-ltb, ltb-false}
 use Rattle.ndarray_layout.specs.declared.CanIndexCheckMode.{CanIndexCheckMode}
 use Rattle.ndarray_layout.specs.declared.CanIndexCheckMode.TheVariants.{OwnedMutable, ReadOnly}
 use Rattle.ndarray_layout.specs.declared.ErrorKind.{ErrorKind}
@@ -17,7 +16,7 @@ use Rattle.ndarray_layout.specs.Span.{high_span, low_span, span}
 use Rattle.ndarray_layout.proofs.laws.AcceptanceFrom.{acceptance_from_lowest}
 use Rattle.ndarray_layout.proofs.laws.Span.{low_high_span}
 use Rattle.ndarray_layout_c.specs.declared.reasons.Reason.{Reason}
-use Rattle.ndarray_layout_c.specs.LayoutReasons.{alias_reason, bounds_reason, buffer_reason, is_past, layout_reason, limits_reason}
+use Rattle.ndarray_layout_c.specs.LayoutReasons.{alias_reason, buffer_reason, is_past, layout_reason, limits_reason}
 use Rattle.ndarray_layout_c.specs.Reasons.{no_reason, of_axis}
 use Rattle.ndarray_layout_c.specs.Statuses.{number_of, status_of}
 

@@ -4,5 +4,6 @@ pub mod FirstOf
 pub mod Kept
 pub mod LayoutReasonStatus
 pub mod SliceReasonStatus
+pub mod ReshapeReasonStatus
 pub mod RowsFrom
 pub mod Strides

@@ -1,9 +1,9 @@
 -- The status of a reason is that of the call.
 use Rattle.std.proofs.Common.{◌≡◌, ℕ, ℤ, pos, Bool, true, false, cond, Option, Some, None, List, [], ◌∷◌, ◌+◌, ◌≤◌, length, nat_eq}
-use Rattle.std.proofs.Common.{refl, ap, ◌∙◌, sym, arith}
+use Rattle.std.proofs.Common.{refl, ap, ◌∙◌, arith}
 use Rattle.std.specs.Prelude.{is_some, nat_le, not, ◌&&◌}
 use Rattle.std.specs.List.{enumerate_from, find}
-use Rattle.std.specs.Option.{option_and_then, option_map_or, option_or}
+use Rattle.std.specs.Option.{option_map_or, option_or}
 use Rattle.std.proofs.lemmas.Bool.{le-leb}
 use Rattle.ndarray_layout.specs.declared.ErrorKind.{ErrorKind}
 use Rattle.ndarray_layout.specs.declared.ErrorKind.TheVariants.{IncompatibleShape, OutOfBounds, Unsupported}

@@ -8,6 +8,7 @@ pub mod LayoutFault
 pub mod LayoutReasons
 pub mod OwnStrides
 pub mod Reasons
+pub mod ReshapeReasons
 pub mod RowsFrom
 pub mod SliceReasons
 pub mod SlicesNamed

@@ -1,7 +1,5 @@
 -- Why a call returns its error, as C reads it: its status, the number of the rule that is broken, and the numbers of that rule.
-use Rattle.std.specs.Prelude.{◌≡◌, ℕ, ℤ, pos, negsuc, Option, Some, None, List, [], ◌∷◌, refl}
-use Rattle.std.specs.Option.{option_map_or}
-use Rattle.ndarray_layout.specs.declared.ErrorKind.{ErrorKind}
+use Rattle.std.specs.Prelude.{◌≡◌, ℕ, ℤ, pos, refl}
 use Rattle.ndarray_layout.specs.declared.ErrorKind.TheVariants.{OutOfBounds}
 use Rattle.ndarray_layout_c.specs.declared.reasons.Reason.{Reason}
 use Rattle.ndarray_layout_c.specs.Statuses.{number_of, ok}
@@ -39,6 +37,12 @@ length_rule = pos 10
 
 abbrev pub alias_rule : ℤ
 alias_rule = pos 11
+
+abbrev pub other_size_rule : ℤ
+other_size_rule = pos 12
+
+abbrev pub copy_rule : ℤ
+copy_rule = pos 13
 
 -- no rule is broken
 abbrev pub no_reason : Reason

@@ -116,7 +116,7 @@ fn buffer_reason(
 /// it can have.
 ///
 /// Errors: out of memory, never for at most four axes.
-fn layout_reason(
+pub(crate) fn layout_reason(
     alloc: Global,
     start: Option<usize>,
     shape: &[usize],

@@ -15,6 +15,7 @@ mod layout_reasons;
 mod layouts;
 mod lists;
 mod reasons;
+mod reshape_reasons;
 mod rows;
 mod shapes;
 mod slice_reasons;

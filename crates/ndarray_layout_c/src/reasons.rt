@@ -46,6 +46,12 @@ pub(crate) const LENGTH: i32 = 10;
 /// The no-alias rule is broken at an axis.
 pub(crate) const ALIAS: i32 = 11;
 
+/// A new shape has another size.
+pub(crate) const OTHER_SIZE: i32 = 12;
+
+/// The strides can't be read along a new shape, without a copy.
+pub(crate) const COPY: i32 = 13;
+
 /// No rule is broken.
 pub(crate) fn no_reason() -> Reason
     ensures { result ≡ no_reason }

@@ -1,9 +1,9 @@
 //! Why calls return their errors: 100,000 random calls of both libraries, and of a plain model.
 
-use crate::arguments::buffer_len;
+use crate::arguments::{buffer_len, other_shape};
 use crate::compare::*;
 use crate::erased::Reason;
-use crate::model::layouts::{LIMIT, is_empty, low_and_high, product_without_zeros, span};
+use crate::model::layouts::{LIMIT, is_empty, low_and_high, product_without_zeros, size, span};
 use crate::numbers::Numbers;
 use crate::slices::{Elem, elems, raw};
 use std::collections::BTreeMap;
@@ -26,6 +26,8 @@ const LOWEST: i32 = 8;
 const HIGHEST: i32 = 9;
 const LENGTH: i32 = 10;
 const ALIAS: i32 = 11;
+const OTHER_SIZE: i32 = 12;
+const COPY: i32 = 13;
 
 /// What a call returns, and what it writes over a reason that nothing has written.
 fn told(call: impl FnOnce(&mut Reason) -> i32) -> (i32, Told) {
@@ -208,5 +210,57 @@ fn check_layout_reason() {
             nd_check_layout_reason(*start, shape, &kept(strides), *elem_size, *len, *mode, reason)
         }),
         |(start, layout)| of_layout(Some(*start), layout),
+    );
+}
+
+/// Why a layout can't be read along a shape: the first two axes, as they are read, that aren't one and that the shape doesn't part.
+fn of_reshape(shape: &[usize], strides: &[isize], to: &[usize], by_columns: bool) -> Told {
+    let layout = (shape.to_vec(), strides.to_vec(), 1, usize::MAX, 0);
+    match of_layout(None, &layout) {
+        Some(NO_REASON) => {}
+        other => return other.expect("the mode is one"),
+    }
+    if product_without_zeros(to) > LIMIT {
+        return (OVERFLOW, SIZE, 0, 0, 0);
+    }
+    let other_size = (INCOMPATIBLE_SHAPE, OTHER_SIZE, 0, 0, size(to) as usize);
+    match (is_empty(shape), is_empty(to)) {
+        (true, true) => return NO_REASON,
+        (false, false) => {}
+        _ => return other_size,
+    }
+    let read =
+        |count: usize| -> Vec<usize> { if by_columns { (0..count).rev().collect() } else { (0..count).collect() } };
+    let mut boundaries = vec![1];
+    for axis in read(to.len()) {
+        boundaries.push(boundaries[boundaries.len() - 1] * to[axis] as i128);
+    }
+    let axes: Vec<_> = read(shape.len()).into_iter().filter(|axis| shape[*axis] != 1).collect();
+    let mut product = 1;
+    for pair in axes.windows(2) {
+        let [slow, fast] = [pair[0], pair[1]];
+        product *= shape[slow] as i128;
+        let is_one = strides[slow] as i128 == shape[fast] as i128 * strides[fast] as i128;
+        if !is_one && product < size(to) && !boundaries.contains(&product) {
+            return (INCOMPATIBLE_LAYOUT, COPY, fast, 0, 0);
+        }
+    }
+    if size(shape) == size(to) { NO_REASON } else { other_size }
+}
+
+#[test]
+fn reshape_reason() {
+    let arguments = |numbers: &mut Numbers| {
+        let (shape, strides) = layout(numbers);
+        let to = other_shape(numbers, &shape);
+        (shape, strides, to, choice(numbers))
+    };
+    let rules = [NO_ANSWER, 0, COUNT, SIZE, SPAN, OTHER_SIZE, COPY];
+    compare_reasons!(
+        "nd_reshape_reason",
+        rules,
+        arguments,
+        |(shape, strides, to, order)| told(|reason| nd_reshape_reason(shape, &kept(strides), to, *order, reason)),
+        |(shape, strides, to, order)| { (0..=1).contains(order).then(|| of_reshape(shape, strides, to, *order == 1)) },
     );
 }

@@ -111,7 +111,7 @@ fn buffer_reason(
 /// ```
 /// [How to read it](ndarray_layout::contracts)
 /// </details>
-fn layout_reason(
+pub(crate) fn layout_reason(
     start: Option<usize>,
     shape: &[usize],
     strides: &[usize],

@@ -30,6 +30,7 @@ pub mod layout_reasons;
 pub mod layouts;
 pub mod lists;
 pub mod reasons;
+pub mod reshape_reasons;
 pub mod rows;
 pub mod shapes;
 pub mod slice_reasons;

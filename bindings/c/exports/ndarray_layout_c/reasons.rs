@@ -45,6 +45,12 @@ pub(crate) const LENGTH: i32 = 10;
 /// The no-alias rule is broken at an axis.
 pub(crate) const ALIAS: i32 = 11;
 
+/// A new shape has another size.
+pub(crate) const OTHER_SIZE: i32 = 12;
+
+/// The strides can't be read along a new shape, without a copy.
+pub(crate) const COPY: i32 = 13;
+
 /// No rule is broken.
 ///
 /// <details><summary>Contract (proved)</summary>

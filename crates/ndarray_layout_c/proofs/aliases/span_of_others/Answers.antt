@@ -1,4 +1,4 @@
-use Rattle.std.proofs.Common.{◌≡◌, arith}
+use Rattle.std.proofs.Common.{arith}
 use Rattle.std.proofs.lemmas.List.{length-map}
 use Rattle.ndarray_layout.proofs.laws.Definitions.{all_signed, signed}
 use Rattle.ndarray_layout.proofs.laws.Span.{reach_le_span, sum_and_others}

@@ -1,4 +1,4 @@
-use Rattle.std.proofs.Common.{◌≡◌, ℕ, ◌+◌, ◌≤◌, get_or, arith}
+use Rattle.std.proofs.Common.{◌≡◌, ◌+◌, ◌≤◌, get_or, arith}
 use Rattle.std.proofs.lemmas.List.{length-map}
 use Rattle.ndarray_layout.proofs.laws.Definitions.{all_signed, signed, reach, span}
 use Rattle.ndarray_layout.proofs.laws.Span.{sum_from, sum_from_step, sum_from_end, sum_le, reach_le_span}
