@@ -4,43 +4,55 @@ use Rattle.ndarray_layout.specs.declared.ErrorKind.TheVariants.{OutOfBounds}
 use Rattle.ndarray_layout_c.specs.declared.reasons.Reason.{Reason}
 use Rattle.ndarray_layout_c.specs.Statuses.{number_of, ok}
 
--- the numbers of the rules
+-- the number of the rule that is broken: a list is of another count than there are axes
 abbrev pub count_rule : ℤ
 count_rule = pos 1
 
+-- the number of the rule that is broken: an index is no coordinate of its axis
 abbrev pub index_rule : ℤ
 index_rule = pos 2
 
+-- the number of the rule that is broken: a bound of a range means no number from 0 to the length of its axis
 abbrev pub bound_rule : ℤ
 bound_rule = pos 3
 
+-- the number of the rule that is broken: a step is 0
 abbrev pub step_rule : ℤ
 step_rule = pos 4
 
+-- the number of the rule that is broken: the product of the lengths that are not 0 is past the limit
 abbrev pub size_rule : ℤ
 size_rule = pos 5
 
+-- the number of the rule that is broken: the span is past the limit
 abbrev pub span_rule : ℤ
 span_rule = pos 6
 
+-- the number of the rule that is broken: the span in bytes is past the limit
 abbrev pub bytes_rule : ℤ
 bytes_rule = pos 7
 
+-- the number of the rule that is broken: the lowest place is below 0
 abbrev pub lowest_rule : ℤ
 lowest_rule = pos 8
 
+-- the number of the rule that is broken: the highest place is past the limit
 abbrev pub highest_rule : ℤ
 highest_rule = pos 9
 
+-- the number of the rule that is broken: the highest place is past the buffer
 abbrev pub length_rule : ℤ
 length_rule = pos 10
 
+-- the number of the rule that is broken: the no-alias rule is broken at an axis
 abbrev pub alias_rule : ℤ
 alias_rule = pos 11
 
+-- the number of the rule that is broken: a new shape has another size
 abbrev pub other_size_rule : ℤ
 other_size_rule = pos 12
 
+-- the number of the rule that is broken: the strides can't be read along a new shape
 abbrev pub copy_rule : ℤ
 copy_rule = pos 13
 
