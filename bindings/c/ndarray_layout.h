@@ -102,6 +102,7 @@
 #define nd_layout_start_reason ND_NAME(nd_layout_start_reason)
 #define nd_check_layout_reason ND_NAME(nd_check_layout_reason)
 #define nd_reshape_reason ND_NAME(nd_reshape_reason)
+#define nd_permuted_axes_reason ND_NAME(nd_permuted_axes_reason)
 #define nd_status_text ND_NAME(nd_status_text)
 #define nd_version ND_NAME(nd_version)
 
@@ -484,7 +485,7 @@ int32_t nd_stretch(size_t start, const size_t *shape, size_t shape_len, const pt
 enum {
     ND_RULE_NONE = 0,        /* ND_OK: no rule is broken */
     ND_RULE_COUNT = 1,       /* a list is of another count than there are axes. `size`: its count, of a slice without new
-                                axes. ND_INCOMPATIBLE_SHAPE of a slice, ND_INCOMPATIBLE_LAYOUT of strides */
+                                axes. ND_INCOMPATIBLE_SHAPE of a slice or of axes, ND_INCOMPATIBLE_LAYOUT of strides */
     ND_RULE_INDEX = 2,       /* ND_OUT_OF_BOUNDS: an index is no coordinate of its axis. `axis`; `number`: the index;
                                 `size`: the length of the axis */
     ND_RULE_BOUND = 3,       /* ND_OUT_OF_BOUNDS: a bound of a range means no number from 0 to the length of its axis.
@@ -500,10 +501,11 @@ enum {
     ND_RULE_ALIAS = 11,      /* ND_UNSUPPORTED: the no-alias rule. `axis`: the first whose stride isn't past the reach of
                                 the others whose stride is at most its own; `number`: its stride; `size`: that reach */
     ND_RULE_OTHER_SIZE = 12, /* ND_INCOMPATIBLE_SHAPE: a new shape has another count of indices. `size`: its count */
-    ND_RULE_COPY = 13        /* ND_INCOMPATIBLE_LAYOUT: a new shape would take a copy. `axis`: in the order of reading,
+    ND_RULE_COPY = 13,       /* ND_INCOMPATIBLE_LAYOUT: a new shape would take a copy. `axis`: in the order of reading,
                                 the first up to which the axes alone can't be read along the new shape: the stride of the
                                 axis of length greater than 1 that is read before it isn't its length times its stride,
                                 and the new shape has no boundary there */
+    ND_RULE_MISSING = 14     /* ND_INCOMPATIBLE_SHAPE: an axis isn't listed. `axis`: the first such */
 };
 
 /*
@@ -566,6 +568,15 @@ int32_t nd_check_layout_reason(size_t start, const size_t *shape, size_t shape_l
  */
 int32_t nd_reshape_reason(const size_t *shape, size_t shape_len, const ptrdiff_t *strides, size_t strides_len,
                           const size_t *new_shape, size_t new_shape_len, int32_t order, nd_reason *reason);
+
+/*
+ * Writes why a list of axes is no order of the axes of a shape: of nd_permuted_axes after the rules on the layout. Always
+ * ND_OK. ND_RULE_MISSING comes before ND_RULE_COUNT.
+ *
+ * (2,3,4) by (0,2,2): ND_INCOMPATIBLE_SHAPE, ND_RULE_MISSING, axis 1. (2,3) by (1,0,1): ND_RULE_COUNT, size 3.
+ */
+int32_t nd_permuted_axes_reason(const size_t *shape, size_t shape_len, const size_t *axes, size_t axes_len,
+                                nd_reason *reason);
 
 /* ---- Statuses -------------------------------------------------------------------------------------------------------- */
 

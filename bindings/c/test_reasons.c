@@ -138,6 +138,15 @@ static void test_reshapes(void) {
     BAD(nd_reshape_reason(LIST(two_three), LIST(by_rows), LIST(six), 2, &reason));
 }
 
+static void test_axes(void) {
+    const size_t twice[3] = {0, 2, 2}, one_more[3] = {1, 0, 1}, swapped[2] = {1, 0}, past[2] = {1, 2};
+    TOLD(nd_permuted_axes_reason(LIST(three_axes), LIST(twice), &reason), ND_INCOMPATIBLE_SHAPE, ND_RULE_MISSING, 1, 0, 0);
+    TOLD(nd_permuted_axes_reason(LIST(two_three), LIST(past), &reason), ND_INCOMPATIBLE_SHAPE, ND_RULE_MISSING, 0, 0, 0);
+    TOLD(nd_permuted_axes_reason(LIST(two_three), LIST(one_more), &reason), ND_INCOMPATIBLE_SHAPE, ND_RULE_COUNT, 0, 0, 3);
+    TOLD(nd_permuted_axes_reason(LIST(two_three), LIST(swapped), &reason), ND_OK, ND_RULE_NONE, 0, 0, 0);
+    TOLD(nd_permuted_axes_reason(none, 0, none, 0, &reason), ND_OK, ND_RULE_NONE, 0, 0, 0);
+}
+
 /* The status of a reason is that of the call. */
 static void test_statuses(void) {
     size_t start, len, shape[2], strides_and_lengths = 0;
@@ -161,6 +170,7 @@ int main(void) {
     test_layout_start();
     test_check_layout();
     test_reshapes();
+    test_axes();
     test_statuses();
     printf("%d checked, %d failed\n", checked, failed);
     return failed != 0;

@@ -4,6 +4,7 @@ pub mod FirstOf
 pub mod Kept
 pub mod LayoutReasonStatus
 pub mod SliceReasonStatus
+pub mod PermuteReasonStatus
 pub mod ReshapeReasonStatus
 pub mod RowsFrom
 pub mod Strides

@@ -7,6 +7,7 @@ pub mod Kept
 pub mod LayoutFault
 pub mod LayoutReasons
 pub mod OwnStrides
+pub mod PermuteReasons
 pub mod Reasons
 pub mod ReshapeReasons
 pub mod RowsFrom

@@ -56,6 +56,10 @@ other_size_rule = pos 12
 abbrev pub copy_rule : ℤ
 copy_rule = pos 13
 
+-- the number of the rule that is broken: an axis isn't listed
+abbrev pub missing_rule : ℤ
+missing_rule = pos 14
+
 -- no rule is broken
 abbrev pub no_reason : Reason
 no_reason = record { status = ok; rule = pos 0; axis = 0; number = pos 0; size = 0 }

@@ -14,6 +14,7 @@ mod intersections;
 mod layout_reasons;
 mod layouts;
 mod lists;
+mod permute_reasons;
 mod reasons;
 mod reshape_reasons;
 mod rows;

@@ -52,6 +52,9 @@ pub(crate) const OTHER_SIZE: i32 = 12;
 /// The strides can't be read along a new shape, without a copy.
 pub(crate) const COPY: i32 = 13;
 
+/// An axis isn't listed.
+pub(crate) const MISSING: i32 = 14;
+
 /// No rule is broken.
 pub(crate) fn no_reason() -> Reason
     ensures { result ≡ no_reason }

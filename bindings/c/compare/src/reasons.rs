@@ -1,6 +1,6 @@
 //! Why calls return their errors: 100,000 random calls of both libraries, and of a plain model.
 
-use crate::arguments::{buffer_len, other_shape};
+use crate::arguments::{axes, buffer_len, other_shape};
 use crate::compare::*;
 use crate::erased::Reason;
 use crate::model::layouts::{LIMIT, is_empty, low_and_high, product_without_zeros, size, span};
@@ -28,6 +28,7 @@ const LENGTH: i32 = 10;
 const ALIAS: i32 = 11;
 const OTHER_SIZE: i32 = 12;
 const COPY: i32 = 13;
+const MISSING: i32 = 14;
 
 /// What a call returns, and what it writes over a reason that nothing has written.
 fn told(call: impl FnOnce(&mut Reason) -> i32) -> (i32, Told) {
@@ -262,5 +263,30 @@ fn reshape_reason() {
         arguments,
         |(shape, strides, to, order)| told(|reason| nd_reshape_reason(shape, &kept(strides), to, *order, reason)),
         |(shape, strides, to, order)| { (0..=1).contains(order).then(|| of_reshape(shape, strides, to, *order == 1)) },
+    );
+}
+
+/// The first axis that isn't in a list, or else how many the list has.
+fn of_axes(shape: &[usize], axes: &[usize]) -> Told {
+    match (0..shape.len()).find(|axis| !axes.contains(axis)) {
+        Some(axis) => (INCOMPATIBLE_SHAPE, MISSING, axis, 0, 0),
+        None if axes.len() > shape.len() => (INCOMPATIBLE_SHAPE, COUNT, 0, 0, axes.len()),
+        None => NO_REASON,
+    }
+}
+
+#[test]
+fn permuted_axes_reason() {
+    let arguments = |numbers: &mut Numbers| {
+        let shape = shape(numbers);
+        let axes = axes(numbers, &shape);
+        (shape, axes)
+    };
+    compare_reasons!(
+        "nd_permuted_axes_reason",
+        [0, COUNT, MISSING],
+        arguments,
+        |(shape, axes)| told(|reason| nd_permuted_axes_reason(shape, axes, reason)),
+        |(shape, axes)| Some(of_axes(shape, axes)),
     );
 }

@@ -29,6 +29,7 @@ pub mod intersections;
 pub mod layout_reasons;
 pub mod layouts;
 pub mod lists;
+pub mod permute_reasons;
 pub mod reasons;
 pub mod reshape_reasons;
 pub mod rows;

@@ -51,6 +51,9 @@ pub(crate) const OTHER_SIZE: i32 = 12;
 /// The strides can't be read along a new shape, without a copy.
 pub(crate) const COPY: i32 = 13;
 
+/// An axis isn't listed.
+pub(crate) const MISSING: i32 = 14;
+
 /// No rule is broken.
 ///
 /// <details><summary>Contract (proved)</summary>
