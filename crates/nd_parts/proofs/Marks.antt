@@ -1,6 +1,8 @@
 -- Marks at the places of a view.
 use Rattle.std.proofs.Common.{◌≡◌, ℕ, zero, suc, ◌<◌, ℤ, pos, negsuc, Bool, true, false, List, [], ◌∷◌, length, get_or}
 use Rattle.std.proofs.Common.{refl, sym, ap, subst, ◌∙◌, arith}
+use Rattle.std.proofs.Common.{Result, Ok, Err}
+use Rattle.std.specs.Prelude.{OnErr, OnOk}
 use Rattle.std.specs.List.{Contains, list_any}
 use Rattle.std.specs.Ordering.{int_eq}
 use Rattle.std.proofs.lemmas.Bool.{false_from_ne_true}
@@ -18,8 +20,7 @@ use Rattle.ndarray_layout.specs.Descends.{Descends}
 use Rattle.ndarray_layout.specs.SharePlace.{SharePlace}
 use Rattle.ndarray_layout.specs.View.{View, place_at, view_places}
 use Rattle.nd_cells.specs.Cells.{are_within, without}
-use Rattle.nd_lent.specs.Items.{IsOwned}
-use Rattle.nd_parts.specs.Part.{has_mark, IsPart, marks_of}
+use Rattle.nd_parts.specs.Part.{has_mark, AreMarked, IsPart, marks_of}
 
 module _ (view : View) where
   -- the place of an index has one of the marks
@@ -86,7 +87,7 @@ place_of : (marks : List Bool) (view : View) (index : List ℕ) (at : ℤ) → p
 place_of marks view index (pos place) at mine = record { place = place; at = at; mine = mine; below = below_marks marks place mine }
 place_of marks view index (negsuc below) at mine = absurd (false≢true mine)
 
-module _ (marks : List Bool) (view : View) (part : IsPart marks view) where
+module _ (marks : List Bool) (view : View) (part : AreMarked marks view) where
   here_at : (index : List ℕ) → is_index view.shape index ≡ true → HasPlace marks view index
   here_at index here = place_of marks view index (place_at view index) refl (part index here)
 
@@ -98,14 +99,14 @@ module _ (marks : List Bool) (view : View) (part : IsPart marks view) where
       ap (has_mark marks) (sym one.2) ∙ part one.0 one.1)
 
   -- each of its places has one of its own marks
-  pub part_of_own : IsPart (marks_of (length marks) view) view
+  pub part_of_own : AreMarked (marks_of (length marks) view) view
   part_of_own index here =
       let p = here_at index here in
       ap (has_mark (marks_of (length marks) view)) p.at ∙ marked view (length marks) p.place index here p.at p.below
 
   -- and a part that shares no place with it has those that are left
-  pub part_of_others : (other : View) → IsPart marks other → (SharePlace view other → ⊥)
-      → IsPart (without (marks_of (length marks) view) marks) other
+  pub part_of_others : (other : View) → AreMarked marks other → (SharePlace view other → ⊥)
+      → AreMarked (without (marks_of (length marks) view) marks) other
   part_of_others other also apart index here =
       let p = place_of marks other index (place_at other index) refl (also index here) in
       let free : get_or (marks_of (length marks) view) p.place false ≡ false = false_from_ne_true _ (λ h.
@@ -115,12 +116,19 @@ module _ (marks : List Bool) (view : View) (part : IsPart marks view) where
       ∙ left_by_place (marks_of (length marks) view) marks p.place (marks-length (length marks) view) p.mine free
 
 -- a view of a part's items is a part where it was made of the part's view
-pub part_step : {source : List ℕ → List ℕ} {old new : View} (marks : List Bool) → Descends source old new → IsPart marks old
-    → IsPart marks new
-part_step marks kept part index here =
+marked_step : {source : List ℕ → List ℕ} {old new : View} (marks : List Bool) → Descends source old new → AreMarked marks old
+    → AreMarked marks new
+marked_step marks kept part index here =
     let from = kept.places index here in
     ap (has_mark marks) from.1 ∙ part _ from.0
 
-pub owned_step : {source : List ℕ → List ℕ} {old new : View} {count : ℕ} → Descends source old new → IsOwned count old → IsOwned count new
-owned_step {count} kept owned =
-    record { is_view = kept.is_view; within = kept.in_bounds count owned.within; distinct = kept.distinct owned.distinct }
+pub part_descendant : {source : List ℕ → List ℕ} {old new : View} (marks : List Bool) → Descends source old new → IsPart marks old
+    → IsPart marks new
+part_descendant marks kept part =
+    record { is_view = kept.is_view; marked = marked_step marks kept part.marked; distinct = kept.distinct part.distinct }
+
+-- the same of a view that is changed in place, or unchanged after an error
+pub part_after : {X E : Type 0} (result : Result X E) (source : List ℕ → List ℕ) {old new : View} (marks : List Bool)
+    → OnErr result (new ≡ old) → OnOk result (Descends source old new) → IsPart marks old → IsPart marks new
+part_after (Ok x) source marks same kept part = part_descendant marks kept part
+part_after (Err e) source marks same kept part = subst (IsPart marks) (sym same) part

@@ -1,18 +1,20 @@
 //! A part of an array: a view, and the right to its items alone.
 ghost use Rattle.std.specs.Option.{IsSome};
-ghost use Rattle.std.specs.Prelude.{◌≡◌, ◌↔◌, IsTrue, IfOk, IsOk, None, length, option_copied, replicate, true};
+ghost use Rattle.std.specs.Prelude.{◌≡◌, ◌↔◌, IsTrue, IfErr, IfOk, IsOk, None, Some, length, option_copied};
 ghost use Rattle.ndarray_layout.specs.Indices.{is_index};
 ghost use Rattle.ndarray_layout.specs.Memory.{NeedsNoMemory};
 ghost use Rattle.ndarray_layout.specs.ShapeFault.{shape_fault};
 ghost use Rattle.ndarray_layout.specs.SplitView.{first_part_of, second_part_of, split_fault};
-ghost use Rattle.ndarray_layout.specs.DistinctPlaces.{HasDistinctPlaces};
-ghost use Rattle.ndarray_layout.specs.View.{IsView};
 ghost use Rattle.nd_lent.specs.Items.{IsOwned};
-ghost use Rattle.nd_parts.specs.Part.{IsPart};
+ghost use Rattle.nd_parts.specs.Part.{IsPart, IsPart-prop};
+
+mod axes;
+mod steps;
 
 use nd_cells::cells::Cells;
 use ndarray_layout::{Axis, LayoutError, Lengths, NdIndex, Strided};
 use std::alloc::Global;
+use std::mem::replace;
 
 /// A part of an array, to be read and written beside other parts of the same items: a view, and the right to the items at its
 /// places, at the price of a pointer. Nothing else of the items is read or written.
@@ -22,9 +24,7 @@ use std::alloc::Global;
 pub struct PartMut<'a, T, D: Lengths> {
     cells: Cells<'a, T>,
     view: Strided<D>,
-    ghost fits: { IsPart cells.marks view },
-    ghost is_view: { IsView view },
-    ghost distinct: { HasDistinctPlaces view },
+    ghost part: { IsPart cells.marks view } by { IsPart-prop cells.marks view },
 }
 
 impl<'a, T: Drop, D: Lengths> PartMut<'a, T, D> {
@@ -41,6 +41,17 @@ impl<'a, T: Drop, D: Lengths> PartMut<'a, T, D> {
         ensures view { (array_of result).view ≡ view }
     {
         let cells = Cells::new(items);
+        PartMut { cells, view }
+    }
+
+    /// The part of all indices of a view. The caller ensures that each index has a place to itself, which has a mark.
+    fn over(cells: Cells<'a, T>, view: Strided<D>) -> Self
+        requires { IsPart cells.marks view }
+        ensures items { (array_of result).items ≡ cells.entry.items }
+        ensures view { (array_of result).view ≡ view }
+        ensures same_right { result.cells.name ≡ cells.entry.name }
+        ensures same_marks { result.cells.marks ≡ cells.entry.marks }
+    {
         PartMut { cells, view }
     }
 
@@ -72,6 +83,7 @@ impl<'a, T: Drop, D: Lengths> PartMut<'a, T, D> {
             is_index (array_of self.old).view.shape (I.index_list index.now) }
         ensures written { array_of self.new ≡
             with_item (array_of self.old) (I.index_list index.now) item }
+        ensures same_right { self.new.cells.name ≡ self.old.cells.name }
     {
         match self.view.place(index) {
             Some(place) => {
@@ -79,6 +91,27 @@ impl<'a, T: Drop, D: Lengths> PartMut<'a, T, D> {
                 true
             },
             None => false,
+        }
+    }
+
+    /// Replaces the item of an index by another one, and returns the one that was there; the given one comes back as the error
+    /// where it is no index of the shape, and the part is unchanged. So no item is dropped.
+    ///
+    /// `[2]`, `[-1]` from 1 over 7 8 9: 5 at (1) returns 7 and makes the items 5 8 9; at (2) `Err(5)`. ndarray's `get_mut`, with
+    /// `std::mem::replace`.
+    pub fn replace<I: NdIndex<D>>(&mut self, index: &I, item: T) -> Result<T, T>
+        ensures found { IsOk result ↔
+            IsTrue (is_index (array_of self.old).view.shape (I.index_list index.now)) }
+        ensures returned { IfOk result (λ old.
+            item_at (array_of self.old) (I.index_list index.now) ≡ Some old) }
+        ensures handed_back { IfErr result (λ given. given ≡ item) }
+        ensures written { array_of self.new ≡
+            with_item (array_of self.old) (I.index_list index.now) item }
+        ensures same_right { self.new.cells.name ≡ self.old.cells.name }
+    {
+        match self.view.place(index) {
+            Some(place) => Ok(replace(self.cells.get_mut(place), item)),
+            None => Err(item),
         }
     }
 

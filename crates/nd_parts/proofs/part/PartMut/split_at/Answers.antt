@@ -2,7 +2,7 @@ use Rattle.std.proofs.Common.{rules}
 use Rattle.ndarray_layout.specs.SplitView.{second_part_of}
 use Rattle.nd_parts.specs.Part.{IsPart}
 use Rattle.std.proofs.Common.{sym, subst}
-use Rattle.nd_parts.proofs.Marks.{part_step, part_is_within, part_of_own, part_of_others}
+use Rattle.nd_parts.proofs.Marks.{part_descendant, part_is_within, part_of_own, part_of_others}
 use Rattle.ndarray_layout.specs.SharePlace.{SharePlace}
 use Rattle.ndarray_layout.proofs.laws.SplitView.{parts_are_apart}
 use Rattle.nd_parts.proofs.part.PartMut.split_at.Goals as goal
@@ -14,7 +14,7 @@ split-one-requires g c κs within = (
   (
     search rules,
     part_is_within c.args.self.cells.marks c.in_ok-first.first
-        (part_step c.args.self.cells.marks c.in_ok-first.ensures.first_kept c.args.self.fits),
+        (part_descendant c.args.self.cells.marks c.in_ok-first.ensures.first_kept c.args.self.part).marked,
   ),
 )
 
@@ -22,26 +22,32 @@ split-one-requires g c κs within = (
 pub invariant_of-result : goal.invariant_of-result
 invariant_of-result g c =
     let marks = c.args.self.cells.marks in
-    let part = part_step marks c.in_ok-first.ensures.first_kept c.args.self.fits in
+    let part = part_descendant marks c.in_ok-first.ensures.first_kept c.args.self.part in
     record {
-      fits = subst (λ own. IsPart own c.in_ok-first.first) (sym c.split-one.ensures.all.2) (part_of_own marks c.in_ok-first.first part);
-      is_view = c.in_ok-first.ensures.first_kept.is_view;
-      distinct = c.in_ok-first.ensures.first_kept.distinct c.args.self.distinct;
+      part = subst (λ own. IsPart own c.in_ok-first.first) (sym c.split-one.ensures.all.2)
+          (record {
+            is_view = part.is_view;
+            marked = part_of_own marks c.in_ok-first.first part.marked;
+            distinct = part.distinct;
+          });
     }
 
 -- src/part.rt:94:12
 pub invariant_of-result-2 : goal.invariant_of-result-2
 invariant_of-result-2 g c =
     let marks = c.args.self.cells.marks in
-    let first = part_step marks c.in_ok-first.ensures.first_kept c.args.self.fits in
-    let second = part_step marks c.in_ok-first.ensures.second_kept c.args.self.fits in
+    let whole = c.args.self.part in
+    let first = part_descendant marks c.in_ok-first.ensures.first_kept whole in
+    let second = part_descendant marks c.in_ok-first.ensures.second_kept whole in
     record {
-      fits = subst (λ left. IsPart left c.in_ok-first.second) (sym c.split-one.ensures.all.3)
-          (part_of_others marks c.in_ok-first.first first c.in_ok-first.second second (λ shared.
-          parts_are_apart c.args.axis.0 c.args.index c.args.self.view c.args.self.is_view
-          (sym c.in_ok-first.ensures.fault) c.args.self.distinct
-          (subst (λ one. SharePlace one (second_part_of c.args.axis.0 c.args.index c.args.self.view)) c.in_ok-first.ensures.first
-          (subst (SharePlace c.in_ok-first.first) c.in_ok-first.ensures.second shared))));
-      is_view = c.in_ok-first.ensures.second_kept.is_view;
-      distinct = c.in_ok-first.ensures.second_kept.distinct c.args.self.distinct;
+      part = subst (λ left. IsPart left c.in_ok-first.second) (sym c.split-one.ensures.all.3)
+          (record {
+            is_view = second.is_view;
+            marked = part_of_others marks c.in_ok-first.first first.marked c.in_ok-first.second second.marked (λ shared.
+                parts_are_apart c.args.axis.0 c.args.index c.args.self.view whole.is_view
+                (sym c.in_ok-first.ensures.fault) whole.distinct
+                (subst (λ one. SharePlace one (second_part_of c.args.axis.0 c.args.index c.args.self.view)) c.in_ok-first.ensures.first
+                (subst (SharePlace c.in_ok-first.first) c.in_ok-first.ensures.second shared)));
+            distinct = second.distinct;
+          });
     }

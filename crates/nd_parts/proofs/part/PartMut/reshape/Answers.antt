@@ -1,0 +1,6 @@
+-- Each index of the reshaped view has a place to itself, which has a mark.
+use Rattle.nd_parts.proofs.Marks.{part_descendant}
+use Rattle.nd_parts.proofs.part.PartMut.reshape.Goals as goal
+
+pub over-requires : goal.over-requires
+over-requires g c = part_descendant _ c.in_ok-view.ensures.kept c.args.self.part
