@@ -116,7 +116,7 @@ module _ (marks : List Bool) (view : View) (part : AreMarked marks view) where
       ∙ left_by_place (marks_of (length marks) view) marks p.place (marks-length (length marks) view) p.mine free
 
 -- a view of a part's items is a part where it was made of the part's view
-marked_step : {source : List ℕ → List ℕ} {old new : View} (marks : List Bool) → Descends source old new → AreMarked marks old
+pub marked_step : {source : List ℕ → List ℕ} {old new : View} (marks : List Bool) → Descends source old new → AreMarked marks old
     → AreMarked marks new
 marked_step marks kept part index here =
     let from = kept.places index here in

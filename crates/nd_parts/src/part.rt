@@ -9,6 +9,7 @@ ghost use Rattle.nd_lent.specs.Items.{IsOwned};
 ghost use Rattle.nd_parts.specs.Part.{IsPart, IsPart-prop};
 
 mod axes;
+mod slices;
 mod steps;
 
 use nd_cells::cells::Cells;
