@@ -6,7 +6,9 @@ use ndarray_layout::CanIndexCheckMode::ReadOnly;
 use ndarray_layout::{ArrayView, Ix2, IxDyn, Strided};
 
 /// Pixels, the shape and the strides of a picture of them, and the pixels in row-major order.
-fn pictures() -> Vec<(Vec<u8>, Vec<usize>, Vec<isize>, Vec<u8>)> {
+type Picture = (Vec<u8>, Vec<usize>, Vec<isize>, Vec<u8>);
+
+fn pictures() -> Vec<Picture> {
     let mut backwards = pixels(10_000);
     backwards.reverse();
     vec![
