@@ -4,13 +4,14 @@ use Rattle.std.proofs.Common.{inr}
 use Rattle.std.proofs.Common.{List, [], ◌∷◌, ◌++◌, length, get_or, map, take, drop, nat_eq, refl, sym, ap, subst, ◌∙◌, arith}
 use Rattle.std.specs.List.{All, AllZip}
 use Rattle.std.specs.Ordering.{int_eq}
-use Rattle.std.specs.Prelude.{nat_le, slice_index_or}
+use Rattle.std.specs.Prelude.{nat_le}
 use Rattle.std.proofs.lemmas.Bool.{leb-true, or_cases}
 use Rattle.std.proofs.lemmas.Bool.Decides.{Decides-int_eq}
 use Rattle.std.proofs.lemmas.List.{get_or-map, get_or_past, length-map, map-append}
 use Rattle.std.proofs.lemmas.List.Elements.{All-head, All-map, All-nil, All-tail}
 use Rattle.std.proofs.lemmas.Option.{slice_get-get_or}
-use Rattle.ndarray_layout.specs.declared.Order.TheVariants.{RowMajor}
+use Rattle.ndarray_layout.specs.declared.Order.{Order}
+use Rattle.ndarray_layout.specs.declared.Order.TheVariants.{ColumnMajor, RowMajor}
 use Rattle.ndarray_layout.specs.declared.Row.{Row}
 use Rattle.ndarray_layout.specs.Bounds.{IsInBounds}
 use Rattle.ndarray_layout.specs.Indices.{indices_in}
@@ -25,45 +26,47 @@ use Rattle.nd_lent.specs.Items.{item_at_place}
 use Rattle.nd_lent.proofs.laws.RowItems.{begins, coordinate_in_bounds, neighbours_within, read_neighbours}
 
 -- ---- the rows of a view
-short_row : {view : View} (place : ℤ) → IsView view → (row_at RowMajor view place).len < 2 ^ 63
-short_row {view} place v = by view.shape (lens_fit v)
+short_row : (order : Order) {view : View} (place : ℤ) → IsView view → (row_at order view place).len < 2 ^ 63
+short_row order {view} place v = by order view.shape (lens_fit v)
   where
-    by : (shape : List ℕ) → All (λ len. len < 2 ^ 63) shape → slice_index_or shape (length shape - 1) 1 < 2 ^ 63
-    by [] all = omega arith
-    by (len ∷ lens) all = all (length (len ∷ lens) - 1) 1 (omega arith)
+    by : (order : Order) (shape : List ℕ) → All (λ len. len < 2 ^ 63) shape → fastest_item order shape 1 < 2 ^ 63
+    by RowMajor [] all = omega arith
+    by RowMajor (len ∷ lens) all = all (length (len ∷ lens) - 1) 1 (omega arith)
+    by ColumnMajor [] all = omega arith
+    by ColumnMajor (len ∷ lens) all = all 0 1 (omega arith)
 
-short_rows : {view : View} → IsView view → All (λ row. row.len < 2 ^ 63) (view_rows RowMajor view)
-short_rows {view} v = by (nat_eq (size view.shape) 0)
+short_rows : (order : Order) {view : View} → IsView view → All (λ row. row.len < 2 ^ 63) (view_rows order view)
+short_rows order {view} v = by (nat_eq (size view.shape) 0)
   where
     by : (none : Bool) → All (λ row. row.len < 2 ^ 63)
-        (cond none [] (map (row_at RowMajor view) (view_places RowMajor (slower_view RowMajor view))))
+        (cond none [] (map (row_at order view) (view_places order (slower_view order view))))
     by true = All-nil (λ row. row.len < 2 ^ 63)
-    by false = All-map (λ row. row.len < 2 ^ 63) (row_at RowMajor view) (view_places RowMajor (slower_view RowMajor view))
-        (λ k d below. short_row (get_or (view_places RowMajor (slower_view RowMajor view)) k d) v)
+    by false = All-map (λ row. row.len < 2 ^ 63) (row_at order view) (view_places order (slower_view order view))
+        (λ k d below. short_row order (get_or (view_places order (slower_view order view)) k d) v)
 
 -- two views of one shape have as many rows, of the same lengths
-module _ (view : View) where
-  same_lens : All (λ row. row.len ≡ fastest_item RowMajor view.shape 1) (view_rows RowMajor view)
+module _ (order : Order) (view : View) where
+  same_lens : All (λ row. row.len ≡ fastest_item order view.shape 1) (view_rows order view)
   same_lens = by (nat_eq (size view.shape) 0)
     where
-      by : (none : Bool) → All (λ row. row.len ≡ fastest_item RowMajor view.shape 1)
-          (cond none [] (map (row_at RowMajor view) (view_places RowMajor (slower_view RowMajor view))))
-      by true = All-nil (λ row. row.len ≡ fastest_item RowMajor view.shape 1)
-      by false = All-map (λ row. row.len ≡ fastest_item RowMajor view.shape 1) (row_at RowMajor view)
-          (view_places RowMajor (slower_view RowMajor view)) (λ k d below. refl)
+      by : (none : Bool) → All (λ row. row.len ≡ fastest_item order view.shape 1)
+          (cond none [] (map (row_at order view) (view_places order (slower_view order view))))
+      by true = All-nil (λ row. row.len ≡ fastest_item order view.shape 1)
+      by false = All-map (λ row. row.len ≡ fastest_item order view.shape 1) (row_at order view)
+          (view_places order (slower_view order view)) (λ k d below. refl)
 
-  count_of_rows : length (view_rows RowMajor view)
-      ≡ cond (nat_eq (size view.shape) 0) 0 (length (indices_in RowMajor (slower_items RowMajor view.shape)))
+  count_of_rows : length (view_rows order view)
+      ≡ cond (nat_eq (size view.shape) 0) 0 (length (indices_in order (slower_items order view.shape)))
   count_of_rows = by (nat_eq (size view.shape) 0)
     where
       slower : View
-      slower = slower_view RowMajor view
+      slower = slower_view order view
 
-      by : (none : Bool) → length (cond none [] (map (row_at RowMajor view) (view_places RowMajor slower)))
-          ≡ cond none 0 (length (indices_in RowMajor (slower_items RowMajor view.shape)))
+      by : (none : Bool) → length (cond none [] (map (row_at order view) (view_places order slower)))
+          ≡ cond none 0 (length (indices_in order (slower_items order view.shape)))
       by true = refl
-      by false = length-map (view_places RowMajor slower) (row_at RowMajor view)
-          ∙ length-map (indices_in RowMajor slower.shape) (place_at slower)
+      by false = length-map (view_places order slower) (row_at order view)
+          ∙ length-map (indices_in order slower.shape) (place_at slower)
 
 beside : {T : Type 0} (len : ℕ) (rows : List Row) (sources : List (RowValue T)) → length rows ≡ length sources
     → All (λ row. row.len ≡ len) rows → All (λ source. source.row.len ≡ len) sources
@@ -76,28 +79,29 @@ beside len (row ∷ rows) (source ∷ sources) count all each = (
   beside len rows sources (omega arith) (All-tail (λ r. r.len ≡ len) row rows all) (All-tail (λ s. s.row.len ≡ len) source sources each),
 )
 
-pub rows_beside : {T : Type 0} (view other : View) (items : List T) → view.shape ≡ other.shape
-    → AllZip (λ row source. row.len ≡ source.row.len) (view_rows RowMajor view) (map (row_of items) (view_rows RowMajor other))
-rows_beside view other items same =
-    beside (fastest_item RowMajor view.shape 1) (view_rows RowMajor view) (map (row_of items) (view_rows RowMajor other))
-    (count_of_rows view
-    ∙ ap (λ shape. cond (nat_eq (size shape) 0) 0 (length (indices_in RowMajor (slower_items RowMajor shape)))) same
-    ∙ sym (count_of_rows other)
-    ∙ sym (length-map (view_rows RowMajor other) (row_of items)))
-    (same_lens view)
-    (All-map (λ source. source.row.len ≡ fastest_item RowMajor view.shape 1) (row_of items) (view_rows RowMajor other)
-    (subst (λ shape. All (λ row. row.len ≡ fastest_item RowMajor shape 1) (view_rows RowMajor other)) (sym same) (same_lens other)))
+pub rows_beside : {T : Type 0} (order : Order) (view other : View) (items : List T) → view.shape ≡ other.shape
+    → AllZip (λ row source. row.len ≡ source.row.len) (view_rows order view) (map (row_of items) (view_rows order other))
+rows_beside order view other items same =
+    beside (fastest_item order view.shape 1) (view_rows order view) (map (row_of items) (view_rows order other))
+    (count_of_rows order view
+    ∙ ap (λ shape. cond (nat_eq (size shape) 0) 0 (length (indices_in order (slower_items order shape)))) same
+    ∙ sym (count_of_rows order other)
+    ∙ sym (length-map (view_rows order other) (row_of items)))
+    (same_lens order view)
+    (All-map (λ source. source.row.len ≡ fastest_item order view.shape 1) (row_of items) (view_rows order other)
+    (subst (λ shape. All (λ row. row.len ≡ fastest_item order shape 1) (view_rows order other)) (sym same) (same_lens order other)))
 
 -- each row of a view that lies within the items has one at each place
-pub rows_have_items : {count : ℕ} {view : View} → IsView view → LiesWithin count view → All (HasRow count) (view_rows RowMajor view)
-rows_have_items {count} {view} v within =
-    let rows = view_rows RowMajor view in
-    let fit = All-rows_places (IsInBounds (2 ^ 63)) rows (subst (All (IsInBounds (2 ^ 63))) (sym (rows_places-view_rows RowMajor v))
-    (places_fit RowMajor v)) in
+pub rows_have_items : {count : ℕ} {view : View} (order : Order) → IsView view → LiesWithin count view
+    → All (HasRow count) (view_rows order view)
+rows_have_items {count} {view} order v within =
+    let rows = view_rows order view in
+    let fit = All-rows_places (IsInBounds (2 ^ 63)) rows (subst (All (IsInBounds (2 ^ 63))) (sym (rows_places-view_rows order v))
+    (places_fit order v)) in
     λ k d under. record {
-      some = some_in_each_row RowMajor view k d under;
-      short = short_rows v k d under;
-      within = rows_lie_within count RowMajor v within k d under;
+      some = some_in_each_row order view k d under;
+      short = short_rows order v k d under;
+      within = rows_lie_within count order v within k d under;
       fit = fit k d under;
     }
 
@@ -109,12 +113,13 @@ rows_items-row_of items (row ∷ rows) =
     ap (λ others. row_items (row_of items row) ++ others) (rows_items-row_of items rows)
     ∙ sym (map-append (item_at_place items) (row_places row.start row.stride row.len) (rows_places rows))
 
-pub items_of_rows : {T : Type 0} (items : List T) {view : View} {rows : List Row} → IsView view → rows ≡ view_rows RowMajor view
-    → rows_items (map (row_of items) rows) ≡ map (item_at_place items) (view_places RowMajor view)
-items_of_rows items {view} v are =
+pub items_of_rows : {T : Type 0} (order : Order) (items : List T) {view : View} {rows : List Row} → IsView view
+    → rows ≡ view_rows order view
+    → rows_items (map (row_of items) rows) ≡ map (item_at_place items) (view_places order view)
+items_of_rows order items {view} v are =
     ap (λ rows. rows_items (map (row_of items) rows)) are
-    ∙ rows_items-row_of items (view_rows RowMajor view)
-    ∙ ap (map (item_at_place items)) (rows_places-view_rows RowMajor v)
+    ∙ rows_items-row_of items (view_rows order view)
+    ∙ ap (map (item_at_place items)) (rows_places-view_rows order v)
 
 -- ---- a row
 pub count_of_items : {T : Type 0} (items : List T) (row : Row) → row.len ≡ length (row_items (row_of items row))

@@ -7,15 +7,15 @@ use Rattle.std.specs.List.{Contains, FoldsTo}
 use Rattle.std.specs.Option.{option_map}
 use Rattle.std.proofs.lemmas.List.{length-map}
 use Rattle.std.proofs.lemmas.Simd.{map-map}
-use Rattle.ndarray_layout.specs.declared.Order.TheVariants.{RowMajor}
+use Rattle.ndarray_layout.specs.declared.Order.{Order}
 use Rattle.ndarray_layout.specs.Indices.{indices_in}
 use Rattle.ndarray_layout.specs.View.{view_places}
 use Rattle.nd_lent.specs.ArrayViewMut.{HasItemsOf, KeepsSpare}
-use Rattle.nd_lent.specs.Mapped.{Makes, gives, RunsOver, row_major_items}
+use Rattle.nd_lent.specs.Mapped.{Makes, gives, RunsOver}
 use Rattle.nd_lent.specs.Items.{ArrayValue, item_at, item_at_place}
 use Rattle.nd_lent.specs.Written.{HasRun}
-use Rattle.nd_lent.proofs.Sets.{has_items}
-use Rattle.nd_lent.proofs.laws.IndexItems.{items_in_order}
+use Rattle.nd_lent.proofs.Sets.{any_order, has_items}
+use Rattle.nd_lent.proofs.laws.IndexItems.{items_in}
 
 -- ---- what calls make that act as a function does
 acted : {F X Y : Type 0} (call : F → X → Y → F → Type 0) {f : F} (h : X → Y)
@@ -50,35 +50,41 @@ module _ {F T : Type 0} {R : F → T → F → Type 0} {Q : F → T → Type 0} 
 abbrev changed : {T : Type 0} → ArrayValue T → List T → ArrayValue T
 changed old new = record { items = new; view = old.view }
 
-module _ {T : Type 0} (old : ArrayValue T) (new : List T) {places : List ℤ} (are : places ≡ view_places RowMajor old.view) where
-  made_in_order : map (item_at_place new) places ≡ row_major_items (changed old new)
-  made_in_order = ap (map (item_at_place new)) are ∙ items_in_order (changed old new)
+module _ {T : Type 0} (order : Order) (old : ArrayValue T) (new : List T) {places : List ℤ}
+    (are : places ≡ view_places order old.view) where
+  -- the items of all indices, in that order of these
+  abbrev all_items : {X : Type 0} → ArrayValue X → List (Option X)
+  all_items array = map (item_at array) (indices_in order array.view.shape)
+
+  made_in_order : map (item_at_place new) places ≡ all_items (changed old new)
+  made_in_order = ap (map (item_at_place new)) are ∙ items_in order (changed old new)
 
   module _ {F X : Type 0} (call : F → X → T → F → Type 0) {f : F} (source : ArrayValue X) {given : List (Option X)}
-      (these : given ≡ map (item_at_place source.items) (view_places RowMajor source.view)) where
-    pub ran_over : HasRun call f places given old.items new → RunsOver call f (row_major_items source) (row_major_items (changed old new))
+      (these : given ≡ map (item_at_place source.items) (view_places order source.view)) where
+    pub ran_over : HasRun call f places given old.items new → RunsOver call f (all_items source) (all_items (changed old new))
     ran_over run =
-        subst (λ xs. RunsOver call f xs (row_major_items (changed old new))) (these ∙ items_in_order source)
+        subst (λ xs. RunsOver call f xs (all_items (changed old new))) (these ∙ items_in order source)
         (subst (RunsOver call f given) made_in_order run.ran)
 
     pub spare : HasRun call f places given old.items new → KeepsSpare old (changed old new)
-    spare run = λ place none. run.others place (λ here. none (subst (λ zs. Contains zs (pos place)) are here))
+    spare run = λ place none.
+        run.others place (λ here. none (any_order order old.view (subst (λ zs. Contains zs (pos place)) are here)))
 
     pub mapped : old.view.shape ≡ source.view.shape → HasRun call f places given old.items new
         → (h : X → T) → ((x : X) (y : T) (f' : F) → call f x y f' → (f' ≡ f) × (y ≡ h x))
         → HasItemsOf (λ index. option_map h (item_at source index)) old (changed old new)
     mapped same run h acts =
         let ran = ran_over run in
-        let count : length (row_major_items source) ≡ length (row_major_items (changed old new)) =
-        length-map (indices_in RowMajor source.view.shape) (item_at source)
-        ∙ ap (λ shape. length (indices_in RowMajor shape)) (sym same)
-        ∙ sym (length-map (indices_in RowMajor old.view.shape) (item_at (changed old new))) in
-        let made = acted call h acts (row_major_items source) (row_major_items (changed old new)) f ran.last refl count ran.calls in
-        has_items (λ index. option_map h (item_at source index)) refl (record {
+        let count : length (all_items source) ≡ length (all_items (changed old new)) =
+        length-map (indices_in order source.view.shape) (item_at source)
+        ∙ ap (λ shape. length (indices_in order shape)) (sym same)
+        ∙ sym (length-map (indices_in order old.view.shape) (item_at (changed old new))) in
+        let made = acted call h acts (all_items source) (all_items (changed old new)) f ran.last refl count ran.calls in
+        has_items order (λ index. option_map h (item_at source index)) refl (record {
           written =
-              items_in_order (changed old new)
+              items_in order (changed old new)
               ∙ made
-              ∙ map-map (option_map h) (item_at source) (indices_in RowMajor source.view.shape)
-              ∙ ap (λ shape. map (λ index. option_map h (item_at source index)) (indices_in RowMajor shape)) (sym same);
-          others = spare run;
+              ∙ map-map (option_map h) (item_at source) (indices_in order source.view.shape)
+              ∙ ap (λ shape. map (λ index. option_map h (item_at source index)) (indices_in order shape)) (sym same);
+          others = λ place none. run.others place (λ here. none (subst (λ zs. Contains zs (pos place)) are here));
         })

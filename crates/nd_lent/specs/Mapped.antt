@@ -7,6 +7,7 @@ use Rattle.std.specs.Fn.{CalledAtMut, Mut, Takes}
 use Rattle.std.specs.Iterator.{CallableAtEachTurn, YieldsFirstBy}
 use Rattle.std.specs.List.{FoldsTo}
 use Rattle.ndarray_layout.specs.declared.Fit.TheVariants.{Strict}
+use Rattle.ndarray_layout.specs.declared.Order.{Order}
 use Rattle.ndarray_layout.specs.declared.Order.TheVariants.{RowMajor}
 use Rattle.ndarray_layout.specs.declared.SliceInfoElem.{SliceInfoElem}
 use Rattle.ndarray_layout.specs.declared.SliceInfoElem.TheVariants as elem
@@ -26,9 +27,13 @@ pub record RunsOver {F X Y : Type 0} (call : F → X → Y → F → Type 0) (f 
   pub last : F
   pub calls : FoldsTo (Makes call) f (zip given made) last
 
--- the items of all indices, in row-major order of these
+-- the items of all indices, in an order of these
+abbrev pub ordered_items : {T : Type 0} → Order → ArrayValue T → List (Option T)
+ordered_items order array = map (item_at array) (indices_in order array.view.shape)
+
+-- and in row-major order
 abbrev pub row_major_items : {T : Type 0} → ArrayValue T → List (Option T)
-row_major_items array = map (item_at array) (indices_in RowMajor array.view.shape)
+row_major_items array = ordered_items RowMajor array
 
 -- each call of f at a `&mut` leaves there what h gives, and leaves f as it was
 abbrev pub ActsAsAtMut : {F T R : Type 0} → Mut F (MutBor T × Unit {0}) (R × (MutBor T × Unit {0})) → F → (T → T) → Type 0

@@ -6,6 +6,7 @@ use Rattle.std.proofs.lemmas.List.Elements.{All-contains, All-map}
 use Rattle.std.proofs.lemmas.Simd.{map-map}
 use Rattle.std.specs.List.{All, Contains}
 use Rattle.std.specs.Prelude.{None}
+use Rattle.ndarray_layout.specs.declared.Order.{Order}
 use Rattle.ndarray_layout.specs.declared.Order.TheVariants.{RowMajor}
 use Rattle.ndarray_layout.specs.Indices.{indices_in, is_index}
 use Rattle.ndarray_layout.specs.View.{place_at, view_places}
@@ -13,16 +14,20 @@ use Rattle.ndarray_layout.proofs.laws.Indices.{All-indices_in, Contains-indices_
 use Rattle.ndarray_layout.proofs.laws.Lists.{Contains-map, map_same}
 use Rattle.nd_lent.specs.Items.{ArrayValue, item_at, item_at_place}
 
--- the items at the places of a view are those of its indices
-pub items_in_order : {T : Type 0} (array : ArrayValue T)
-    → map (item_at_place array.items) (view_places RowMajor array.view) ≡ map (item_at array) (indices_in RowMajor array.view.shape)
-items_in_order {T} array =
-    let indices = indices_in RowMajor array.view.shape in
+-- the items at the places of a view are those of its indices, in any order
+pub items_in : {T : Type 0} (order : Order) (array : ArrayValue T)
+    → map (item_at_place array.items) (view_places order array.view) ≡ map (item_at array) (indices_in order array.view.shape)
+items_in {T} order array =
+    let indices = indices_in order array.view.shape in
     let at : List ℕ → Option T = λ index. item_at_place array.items (place_at array.view index) in
     map-map (item_at_place array.items) (place_at array.view) indices
     ∙ map_same at (item_at array) indices (λ k d below.
     sym (cond-true (is_index array.view.shape (get_or indices k d)) (at (get_or indices k d)) None
-    (All-indices_in RowMajor array.view.shape k d below)))
+    (All-indices_in order array.view.shape k d below)))
+
+pub items_in_order : {T : Type 0} (array : ArrayValue T)
+    → map (item_at_place array.items) (view_places RowMajor array.view) ≡ map (item_at array) (indices_in RowMajor array.view.shape)
+items_in_order array = items_in RowMajor array
 
 -- the item of an index is one of them
 pub Contains-item_at : {T : Type 0} (array : ArrayValue T) (index : List ℕ) → is_index array.view.shape index ≡ true

@@ -7,7 +7,7 @@ ghost use Rattle.std.specs.Prelude.{◌≡◌, ◌≢◌, ◌↔◌, pos, IsOk, 
 ghost use Rattle.std.specs.Result.{result_err};
 ghost use Rattle.ndarray_layout.specs.declared.ErrorKind.TheVariants.{IncompatibleShape};
 ghost use Rattle.nd_lent.specs.ArrayViewMut.{HasItemsOf, KeepsSpare};
-ghost use Rattle.nd_lent.specs.Mapped.{ActsAsAtMut, CallableOnEachMut, RunsOver, gives, row_major_items};
+ghost use Rattle.nd_lent.specs.Mapped.{ActsAsAtMut, CallableOnEachMut, RunsOver, gives, ordered_items, row_major_items};
 ghost use Rattle.nd_lent.specs.Items.{item_at, item_at_place};
 ghost use Rattle.ndarray_layout.specs.Rows.{row_places, rows_places};
 ghost use Rattle.nd_lent.specs.LentRow.{HasRow, places_of, row_items, rows_items};
@@ -16,7 +16,7 @@ ghost use Rattle.nd_lent.specs.private.RunTo.{HasRunTo};
 
 use crate::array_view::{ArrayView, LentRow, LentRows, is_contiguous, place_in_row};
 use crate::array_view_mut::ArrayViewMut;
-use ndarray_layout::{ErrorKind, Lengths, Order, Row, Rows, ShapeError, from_kind};
+use ndarray_layout::{ErrorKind, Lengths, Order, Row, Rows, ShapeError, Strided, from_kind};
 
 /// Calls a closure at each item of a slice, one after another, and hands it back.
 #[inline(always)]
@@ -164,8 +164,36 @@ fn write_rows<T, U: Drop, F: FnMut(&T) -> U>(
     }
 }
 
+/// The order of the indices in which places along the fastest axis follow one another: column-major where those along the first
+/// axis do, and those along the last one don't; else row-major.
+pub(crate) fn nearest_order<D: Lengths>(view: &Strided<D>) -> Order {
+    let strides = view.strides().slice();
+    let ndim = strides.len();
+    if ndim > 1 && strides[0] == 1 && strides[ndim - 1] != 1 {
+        Order::ColumnMajor
+    } else {
+        Order::RowMajor
+    }
+}
+
 impl<'a, T: Drop, D: Lengths> ArrayViewMut<'a, T, D> {
     ghost use Rattle.nd_lent.specs.Lender.{array_of};
+
+    /// `map_in_place`, in an order of the indices.
+    pub(crate) fn map_in_order<F: FnMut(&mut T)>(&mut self, order: Order, f: F)
+        requires { CallableOnEachMut F.FnMut (ordered_items order (array_of self.old)) f }
+        ensures ran { RunsOver (λ p x y q. CalledAtMut F.FnMut p x tt q y) f
+            (ordered_items order (array_of self.old)) (ordered_items order (array_of self.new)) }
+        ensures mapped { (h : T → T) → ActsAsAtMut F.FnMut f h → HasItemsOf
+            (λ index. option_map h (item_at (array_of self.old) index))
+            (array_of self.old) (array_of self.new) }
+        ensures view { (array_of self.new).view ≡ (array_of self.old).view }
+        ensures spare { KeepsSpare (array_of self.old) (array_of self.new) }
+        ensures same_reference { self.new.items.ghost_name ≡ self.old.items.ghost_name }
+    {
+        let rows = self.view.rows(order);
+        map_rows(self.items, rows, f);
+    }
 
     /// Calls a closure at the item of each index, in row-major order, to change it in place. Spare items are unchanged.
     ///
@@ -184,13 +212,40 @@ impl<'a, T: Drop, D: Lengths> ArrayViewMut<'a, T, D> {
         ensures spare { KeepsSpare (array_of self.old) (array_of self.new) }
         ensures same_reference { self.new.items.ghost_name ≡ self.old.items.ghost_name }
     {
-        let rows = self.view.rows(Order::RowMajor);
-        map_rows(self.items, rows, f);
+        self.map_in_order(Order::RowMajor, f);
     }
 }
 
 impl<T, D: Lengths> ArrayView<'_, T, D> {
     ghost use Rattle.nd_lent.specs.Lender.{array_of};
+
+    /// `map_into`, in an order of the indices.
+    pub(crate) fn map_into_in_order<U: Drop, F: FnMut(&T) -> U>(
+        &self,
+        order: Order,
+        to: &mut ArrayViewMut<'_, U, D>,
+        f: F,
+    ) -> Result<(), ShapeError>
+        requires { self.now.view.shape ≡ (array_of to.old).view.shape →
+            CallableOnAllAt gives F.FnMut (ordered_items order self.now) f }
+        ensures fits { IsOk result ↔ (self.now.view.shape ≡ (array_of to.old).view.shape) }
+        ensures fault { OnErr result (result_err result ≡ Some IncompatibleShape) }
+        ensures unchanged { OnErr result (array_of to.new ≡ array_of to.old) }
+        ensures ran { OnOk result (RunsOver (λ p x y q. CalledAt F.FnMut p x y q) f
+            (ordered_items order self.now) (ordered_items order (array_of to.new))) }
+        ensures mapped { OnOk result ((h : T → U) → ActsAsAt F.FnMut f h → HasItemsOf
+            (λ index. option_map h (item_at self.now index)) (array_of to.old) (array_of to.new)) }
+        ensures view { (array_of to.new).view ≡ (array_of to.old).view }
+        ensures spare { KeepsSpare (array_of to.old) (array_of to.new) }
+        ensures same_reference { to.new.items.ghost_name ≡ to.old.items.ghost_name }
+    {
+        if !to.view.dim().equal(self.dim()) {
+            return Err(from_kind(ErrorKind::IncompatibleShape));
+        }
+        let rows = to.view.rows(order);
+        write_rows(to.items, rows, self.rows_in(order), f);
+        Ok(())
+    }
 
     /// Writes at each index of another array of the same shape what a closure makes of the item here, in row-major order. Spare
     /// items are unchanged.
@@ -223,11 +278,6 @@ impl<T, D: Lengths> ArrayView<'_, T, D> {
         ensures spare { KeepsSpare (array_of to.old) (array_of to.new) }
         ensures same_reference { to.new.items.ghost_name ≡ to.old.items.ghost_name }
     {
-        if !to.view.dim().equal(self.dim()) {
-            return Err(from_kind(ErrorKind::IncompatibleShape));
-        }
-        let rows = to.view.rows(Order::RowMajor);
-        write_rows(to.items, rows, self.rows(), f);
-        Ok(())
+        self.map_into_in_order(Order::RowMajor, to, f)
     }
 }

@@ -7,6 +7,7 @@ ghost use Rattle.nd_lent.specs.Items.{item_at};
 
 use crate::array_view::ArrayView;
 use crate::array_view_mut::ArrayViewMut;
+use crate::array_view_mut::mapping::nearest_order;
 use ndarray_layout::{Lengths, ShapeError};
 
 impl<'a, T: Copy, D: Lengths> ArrayViewMut<'a, T, D> {
@@ -14,15 +15,17 @@ impl<'a, T: Copy, D: Lengths> ArrayViewMut<'a, T, D> {
 
     /// Writes an item at each index. Spare items are unchanged.
     ///
-    /// Takes no memory, and the time of `map_in_place`.
+    /// Takes no memory. A row whose items follow one another is a loop over a slice, and so is such a column where the rows are none;
+    /// else each index takes the time of its place.
     ///
     /// 5 to `a`: 5 5 9. ndarray's `fill`.
     pub fn fill(&mut self, item: T)
         ensures filled { HasItemsOf (λ index. Some item) (array_of self.old) (array_of self.new) }
         ensures same_reference { self.new.items.ghost_name ≡ self.old.items.ghost_name }
     {
-        let _view = self.view();
-        self.map_in_place(
+        let order = nearest_order(self.view());
+        self.map_in_order(
+            order,
             |stored: &mut T|
                 ensures { stored.new ≡ item }
             {
@@ -33,7 +36,7 @@ impl<'a, T: Copy, D: Lengths> ArrayViewMut<'a, T, D> {
 
     /// Writes at each index a copy of the item that another array of the same shape has there. Spare items are unchanged.
     ///
-    /// Takes no memory, and the time of `map_into`.
+    /// Takes no memory, and the time of `fill`, where the other array has its rows or columns so too.
     ///
     /// # Errors
     ///
@@ -49,7 +52,9 @@ impl<'a, T: Copy, D: Lengths> ArrayViewMut<'a, T, D> {
             (HasItemsOf (item_at other.now) (array_of self.old) (array_of self.new)) }
         ensures same_reference { self.new.items.ghost_name ≡ self.old.items.ghost_name }
     {
-        other.map_into(
+        let order = nearest_order(self.view());
+        other.map_into_in_order(
+            order,
             self,
             |item: &T|
                 ensures { result ≡ item.now }

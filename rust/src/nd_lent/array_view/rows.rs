@@ -204,6 +204,22 @@ impl<T> ExactSizeIterator for LentRows<'_, T> {
 impl<T> FusedIterator for LentRows<'_, T> {}
 
 impl<'a, T, D: Lengths> ArrayView<'a, T, D> {
+    /// The rows along the axis that moves fastest in an order, in that order.
+    ///
+    /// <details><summary>Contract (proved)</summary>
+    ///
+    /// ```text
+    /// ensures rows: result ≡ map (row_of self.now.items) (view_rows order self.now.view)
+    /// ensures items: rows_items result ≡ map (item_at_place self.now.items) (view_places order self.now.view)
+    /// ensures in_order: YieldsInOrder (YieldsFirst (λ (left : List (RowValue T)). left)) (λ left. left)
+    /// ```
+    /// [How to read it](crate::contracts)
+    /// </details>
+    #[inline]
+    pub(crate) fn rows_in(&self, order: Order) -> LentRows<'_, T> {
+        LentRows { items: self.stored(), rows: self.view().rows(order) }
+    }
+
     /// An iterator over the rows along the last axis, in row-major order, which knows how many are left. Each is lent. An
     /// array without axes has one row, of one item; an array without indices has none.
     ///
@@ -239,6 +255,6 @@ impl<'a, T, D: Lengths> ArrayView<'a, T, D> {
     #[inline]
     #[must_use]
     pub fn rows(&self) -> LentRows<'_, T> {
-        LentRows { items: self.stored(), rows: self.view().rows(Order::RowMajor) }
+        self.rows_in(Order::RowMajor)
     }
 }

@@ -3,7 +3,7 @@
 
 use crate::nd_lent::array_view::{ArrayView, LentRow, LentRows, is_contiguous, place_in_row};
 use crate::nd_lent::array_view_mut::ArrayViewMut;
-use crate::ndarray_layout::{ErrorKind, Lengths, Order, Row, Rows, ShapeError, from_kind};
+use crate::ndarray_layout::{ErrorKind, Lengths, Order, Row, Rows, ShapeError, Strided, from_kind};
 
 /// Calls a closure at each item of a slice, one after another, and hands it back.
 ///
@@ -184,7 +184,38 @@ fn write_rows<T, U: Sized, F: FnMut(&T) -> U>(stored: &mut [U], rows: Rows<'_>, 
     }
 }
 
+/// The order of the indices in which places along the fastest axis follow one another: column-major where those along the first
+/// axis do, and those along the last one don't; else row-major.
+#[inline]
+pub(crate) fn nearest_order<D: Lengths>(view: &Strided<D>) -> Order {
+    let strides = view.strides().slice();
+    let ndim = strides.len();
+    if ndim > 1 && strides[0] == 1 && strides[ndim - 1] != 1 { Order::ColumnMajor } else { Order::RowMajor }
+}
+
 impl<'a, T: Sized, D: Lengths> ArrayViewMut<'a, T, D> {
+    /// `map_in_place`, in an order of the indices.
+    ///
+    /// <details><summary>Contract (proved)</summary>
+    ///
+    /// ```text
+    /// requires CallableOnEachMut F.FnMut (ordered_items order (array_of self.old)) f
+    /// ensures ran: RunsOver (λ p x y q. CalledAtMut F.FnMut p x tt q y) f
+    ///     (ordered_items order (array_of self.old)) (ordered_items order (array_of self.new))
+    /// ensures mapped: (h : T → T) → ActsAsAtMut F.FnMut f h → HasItemsOf
+    ///     (λ index. option_map h (item_at (array_of self.old) index))
+    ///     (array_of self.old) (array_of self.new)
+    /// ensures view: (array_of self.new).view ≡ (array_of self.old).view
+    /// ensures spare: KeepsSpare (array_of self.old) (array_of self.new)
+    /// ```
+    /// [How to read it](crate::contracts)
+    /// </details>
+    #[inline]
+    pub(crate) fn map_in_order<F: FnMut(&mut T)>(&mut self, order: Order, f: F) {
+        let rows = self.view.rows(order);
+        map_rows(self.items, rows, f);
+    }
+
     /// Calls a closure at the item of each index, in row-major order, to change it in place. Spare items are unchanged.
     ///
     /// Takes no memory. A row whose items follow one another is a loop over a slice; in others each index takes the time of its
@@ -227,12 +258,45 @@ impl<'a, T: Sized, D: Lengths> ArrayViewMut<'a, T, D> {
     /// </details>
     #[inline]
     pub fn map_in_place<F: FnMut(&mut T)>(&mut self, f: F) {
-        let rows = self.view.rows(Order::RowMajor);
-        map_rows(self.items, rows, f);
+        self.map_in_order(Order::RowMajor, f);
     }
 }
 
 impl<T, D: Lengths> ArrayView<'_, T, D> {
+    /// `map_into`, in an order of the indices.
+    ///
+    /// <details><summary>Contract (proved)</summary>
+    ///
+    /// ```text
+    /// requires self.now.view.shape ≡ (array_of to.old).view.shape →
+    ///     CallableOnAllAt gives F.FnMut (ordered_items order self.now) f
+    /// ensures fits: IsOk result ↔ (self.now.view.shape ≡ (array_of to.old).view.shape)
+    /// ensures fault: OnErr result (result_err result ≡ Some IncompatibleShape)
+    /// ensures unchanged: OnErr result (array_of to.new ≡ array_of to.old)
+    /// ensures ran: OnOk result (RunsOver (λ p x y q. CalledAt F.FnMut p x y q) f
+    ///     (ordered_items order self.now) (ordered_items order (array_of to.new)))
+    /// ensures mapped: OnOk result ((h : T → U) → ActsAsAt F.FnMut f h → HasItemsOf
+    ///     (λ index. option_map h (item_at self.now index)) (array_of to.old) (array_of to.new))
+    /// ensures view: (array_of to.new).view ≡ (array_of to.old).view
+    /// ensures spare: KeepsSpare (array_of to.old) (array_of to.new)
+    /// ```
+    /// [How to read it](crate::contracts)
+    /// </details>
+    #[inline]
+    pub(crate) fn map_into_in_order<U: Sized, F: FnMut(&T) -> U>(
+        &self,
+        order: Order,
+        to: &mut ArrayViewMut<'_, U, D>,
+        f: F,
+    ) -> Result<(), ShapeError> {
+        if !to.view.dim().equal(self.dim()) {
+            return Err(from_kind(ErrorKind::IncompatibleShape));
+        }
+        let rows = to.view.rows(order);
+        write_rows(to.items, rows, self.rows_in(order), f);
+        Ok(())
+    }
+
     /// Writes at each index of another array of the same shape what a closure makes of the item here, in row-major order. Spare
     /// items are unchanged.
     ///
@@ -291,11 +355,6 @@ impl<T, D: Lengths> ArrayView<'_, T, D> {
         to: &mut ArrayViewMut<'_, U, D>,
         f: F,
     ) -> Result<(), ShapeError> {
-        if !to.view.dim().equal(self.dim()) {
-            return Err(from_kind(ErrorKind::IncompatibleShape));
-        }
-        let rows = to.view.rows(Order::RowMajor);
-        write_rows(to.items, rows, self.rows(), f);
-        Ok(())
+        self.map_into_in_order(Order::RowMajor, to, f)
     }
 }

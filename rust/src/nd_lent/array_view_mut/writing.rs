@@ -3,12 +3,14 @@
 
 use crate::nd_lent::array_view::ArrayView;
 use crate::nd_lent::array_view_mut::ArrayViewMut;
+use crate::nd_lent::array_view_mut::mapping::nearest_order;
 use crate::ndarray_layout::{Lengths, ShapeError};
 
 impl<'a, T: Copy, D: Lengths> ArrayViewMut<'a, T, D> {
     /// Writes an item at each index. Spare items are unchanged.
     ///
-    /// Takes no memory, and the time of `map_in_place`.
+    /// Takes no memory. A row whose items follow one another is a loop over a slice, and so is such a column where the rows are none;
+    /// else each index takes the time of its place.
     ///
     /// 5 to `a`: 5 5 9. ndarray's `fill`.
     ///
@@ -35,15 +37,15 @@ impl<'a, T: Copy, D: Lengths> ArrayViewMut<'a, T, D> {
     /// </details>
     #[inline]
     pub fn fill(&mut self, item: T) {
-        let _view = self.view();
-        self.map_in_place(|stored: &mut T| {
+        let order = nearest_order(self.view());
+        self.map_in_order(order, |stored: &mut T| {
             *stored = item;
         });
     }
 
     /// Writes at each index a copy of the item that another array of the same shape has there. Spare items are unchanged.
     ///
-    /// Takes no memory, and the time of `map_into`.
+    /// Takes no memory, and the time of `fill`, where the other array has its rows or columns so too.
     ///
     /// 5 6 to `a`: 6 5 9. ndarray's `assign`.
     ///
@@ -80,6 +82,7 @@ impl<'a, T: Copy, D: Lengths> ArrayViewMut<'a, T, D> {
     /// </details>
     #[inline]
     pub fn assign(&mut self, other: &ArrayView<'_, T, D>) -> Result<(), ShapeError> {
-        other.map_into(self, |item: &T| *item)
+        let order = nearest_order(self.view());
+        other.map_into_in_order(order, self, |item: &T| *item)
     }
 }

@@ -17,7 +17,8 @@ loop-row-init g c =
     let items = c.args.items.now in
     let all = c.into_iter-row-iterator.ensures.into_iter_gives ∙ c.rows-row-items.ensures.items in
     record {
-      have_items = subst (All (HasRow (length items))) (sym all) (rows_have_items c.rows-row-items.ensures.is_view c.requires.within);
+      have_items = subst (All (HasRow (length items))) (sym all)
+          (rows_have_items RowMajor c.rows-row-items.ensures.is_view c.requires.within);
       ascend = ap (ascend 0) all ∙ c.requires.ascend;
       left = refl;
       end = omega arith;

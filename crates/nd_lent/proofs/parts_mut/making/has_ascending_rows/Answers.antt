@@ -1,6 +1,7 @@
 -- One more row lies side by side from where the one before has ended.
 use Rattle.std.proofs.Common.{◌+◌, ◌≤◌, sym, ap, subst, ◌∙◌, arith}
 use Rattle.std.specs.List.{All}
+use Rattle.ndarray_layout.specs.declared.Order.TheVariants.{RowMajor}
 use Rattle.std.proofs.lemmas.Bool.{and_parts}
 use Rattle.std.proofs.lemmas.List.Elements.{All-head, All-tail}
 use Rattle.nd_lent.specs.LentRow.{HasRow}
@@ -13,7 +14,7 @@ pub loop-row-init : goal.loop-row-init
 loop-row-init g c =
     let all = c.into_iter-row-iterator.ensures.into_iter_gives ∙ c.rows-row-items.ensures.items in
     record {
-      have_items = subst (All (HasRow c.args.count)) (sym all) (rows_have_items c.rows-row-items.ensures.is_view c.requires);
+      have_items = subst (All (HasRow c.args.count)) (sym all) (rows_have_items RowMajor c.rows-row-items.ensures.is_view c.requires);
       same = ap (ascend 0) all;
     }
 
