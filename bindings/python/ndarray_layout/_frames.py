@@ -30,7 +30,7 @@ class Frame(NamedTuple):
 
 
 class _Parameter(NamedTuple):
-    """A parameter by its letter, of those of `_library`: how many items it has, and how `struct` writes them."""
+    """A parameter by its letter, of those of `_loaded`: how many items it has, and how `struct` writes them."""
 
     letter: str
     items: int

@@ -3,91 +3,32 @@
 from __future__ import annotations
 
 import ctypes
-import os
-from pathlib import Path
 from typing import Any, Callable
 
 from . import _reasons
 from ._errors import LayoutError, error_of_kind
-
-_SERIES = "0.1"
-"""The numbers of the version that end the library's own name, and with `_` those of its calls: `ND_VERSION`."""
-
-_NAME = f"libndarray_layout.so.{_SERIES}"
-"""(A file `.so` Python would take for a module.)"""
-
-_KINDS = (
-    "IncompatibleShape",
-    "IncompatibleLayout",
-    "RangeLimited",
-    "OutOfBounds",
-    "Unsupported",
-    "Overflow",
-    "BadArgument",
-    "OutOfMemory",
-)
+from ._loaded import export, exports, kind_of, library_path, prepare, short_calls
 
 Call = Callable[..., int]
 
 
-def _library_path() -> Path:
-    """The file that NDARRAY_LAYOUT_LIB names, else the one of this package, else the one that a clone has built."""
-    named = os.environ.get("NDARRAY_LAYOUT_LIB")
-    if named:
-        return Path(named)
-    here = Path(__file__).resolve().parent
-    for folder in (here, here.parent.parent / "c"):
-        if (folder / _NAME).exists():
-            return folder / _NAME
-    raise ImportError("no libndarray_layout.so: bindings/c/build makes it, and NDARRAY_LAYOUT_LIB may name it")
-
-
-def _load(path: Path) -> ctypes.CDLL:
-    try:
-        return ctypes.CDLL(str(path))
-    except OSError as error:
-        raise ImportError(f"can't load the library: {error}") from None
-
-
-library_path = _library_path()
-_library = _load(library_path)
-_short_calls = ctypes.PyDLL(str(library_path))
-
-
-def _prepare(name: str) -> Any:
-    try:
-        call = getattr(_library, f"{name}_{_SERIES.replace('.', '_')}")
-    except AttributeError:
-        raise ImportError(f"{library_path} has no {name}: it is of another version") from None
-    call.restype = ctypes.c_int32
-    return call
-
-
 def _export(name: str, parameters: str, find: _reasons.Find) -> Call:
-    """A call that raises an error in place of its status, and asks `find` what to say of its arguments.
-
-    The letters of its parameters: U a list of size_t and its count, S one of ptrdiff_t, E one of elements of a slice,
-    W one that is only written, z a size_t, i an int32_t, p a pointer to one output.
-
-    Each argument comes as C takes it: bytes and arrays as pointers, a `c_size_t`, and an int as an `int32_t`. So
-    ctypes has none to convert, which would take as long as the call. The tests have it look at each (`argtypes`).
-    """
+    """A call that raises an error in place of its status, and asks `find` what to say of its arguments."""
 
     def check(status: int, _: Any, arguments: tuple[Any, ...]) -> int:
         if status != 0:
             raise _error(status, find, _reasons.read(parameters, arguments))
         return status
 
-    call = _prepare(name)
+    call = export(name, parameters)
     call.errcheck = check
-    exports.append((call, parameters))
     return call  # type: ignore[no-any-return]
 
 
 def without_errors(call: Call) -> tuple[Any, str]:
     """The same export as one that returns its status, and the letters of its parameters. Other threads wait for it."""
-    parameters = next(letters for export, letters in exports if export is call)
-    again = _short_calls[call.__name__]
+    parameters = next(letters for made, letters in exports if made is call)
+    again = short_calls[call.__name__]
     again.restype = ctypes.c_int32
     return again, parameters
 
@@ -101,7 +42,7 @@ def status_text(status: int) -> str:
 
 def _error(status: int, find: _reasons.Find, arguments: list[Any]) -> LayoutError:
     """The error of a status. The status alone decides on its kind: a reason for another kind is left out."""
-    kind = _KINDS[status - 1] if 1 <= status <= len(_KINDS) else "BadArgument"
+    kind = kind_of(status)
     reason = find(*arguments)
     if reason is None or reason.kind != kind:
         return error_of_kind(kind, status_text(status))
@@ -117,9 +58,7 @@ def check_version(version: str) -> None:
         raise ImportError(f"{library_path} is of version {found}, and this package of {version}")
 
 
-_status_text, _version = _prepare("nd_status_text"), _prepare("nd_version")
-exports: list[tuple[Any, str]] = []
-"""Each call with the letters of its parameters: `_export`."""
+_status_text, _version = prepare("nd_status_text"), prepare("nd_version")
 
 layout_start = _export("nd_layout_start", "USzzip", _reasons.of_layout_start)
 check_layout = _export("nd_check_layout", "zUSzzi", _reasons.of_check_layout)

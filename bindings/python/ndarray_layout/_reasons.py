@@ -36,7 +36,7 @@ Find = Callable[..., Optional[Reason]]
 
 
 def read(parameters: str, arguments: Sequence[Any]) -> list[Any]:
-    """What a call reads: each number, and each list as a tuple. The letters are those of `_library`."""
+    """What a call reads: each number, and each list as a tuple. The letters are those of `_loaded`."""
     rest = iter(arguments)
     found: list[Any] = []
     for letter in parameters:
