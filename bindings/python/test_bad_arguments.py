@@ -404,7 +404,10 @@ class LongNumbers(unittest.TestCase):
 
 
 class ManyAxes(unittest.TestCase):
-    """A refusal takes time in proportion to the axes: with the square it would take minutes."""
+    """A refusal takes time in proportion to the axes: with the square in Python it would take minutes.
+
+    That of a list of axes takes the square in the library: less than a second for these.
+    """
 
     ONES = (1,) * AXES
     ZEROS = (0,) * AXES

@@ -13,6 +13,7 @@ from unittest import mock
 
 import ndarray_layout as nd
 from ndarray_layout import LayoutError, Slice
+from ndarray_layout import _loaded as loaded
 from ndarray_layout import _reasons as reasons
 
 CALLS = 20_000
@@ -216,6 +217,31 @@ class Texts(unittest.TestCase):
             with self.assertRaises(IndexError) as caught:
                 nd.place(0, (2,), (1,), (2,))
         self.assertEqual(str(caught.exception), "out of bounds indexing")
+
+    def test_no_memory_for_a_reason(self):
+        """Where the library has no memory to find a reason, the error is the same without numbers."""
+        calls = {
+            "slice_reason": lambda: nd.picked((3,) * 5, [3] * 5),
+            "layout_start_reason": lambda: nd.layout_start((3,) * 5, (1,) * 5, length=2),
+            "check_layout_reason": lambda: nd.place(1, (3,) * 5, (-1,) * 5, (3,) * 5),
+            "reshape_reason": lambda: nd.reshape((2, 2), (4, 1), (4,)),
+            "permuted_axes_reason": lambda: nd.permuted_axes((2, 2), (2, 1), (0, 0)),
+        }
+        with mock.patch.object(loaded, "export", lambda name, parameters: lambda *arguments: 8):
+            out_of_memory = loaded._reason("nd_slice_reason", "UEip")
+        for name, call in calls.items():
+            with self.subTest(name), self.assertRaises(LayoutError) as known:
+                call()
+            self.assertTrue(known.exception.numbers or known.exception.axis is not None)
+            with self.subTest(name), mock.patch.object(loaded, name, out_of_memory):
+                with self.assertRaises(type(known.exception)) as caught:
+                    call()
+                self.assertEqual((caught.exception.kind, caught.exception.axis), (known.exception.kind, None))
+                self.assertEqual(caught.exception.numbers, {})
+                self.assertNotRegex(caught.exception.text, "[0-9]")
+        with mock.patch.object(loaded, "layout_start_reason", out_of_memory):
+            self.assert_error("out of bounds indexing", {}, nd.lay_over, 3, 4, itemsize=4, nbytes=9)
+            self.assert_error("arithmetic overflow", {}, nd.share_element, array_of((2**62,), (8,)), 0, 1)
 
     def test_pickles(self):
         with self.assertRaises(IndexError) as caught:

@@ -4,7 +4,7 @@ from __future__ import annotations
 
 from ctypes import c_size_t
 from math import gcd
-from typing import NamedTuple, Optional, Protocol, SupportsIndex
+from typing import Callable, NamedTuple, Optional, Protocol, SupportsIndex
 
 from . import _library as library
 from ._errors import LayoutError, OutOfBoundsError, ShapeError, SizeOverflowError, error_of_kind
@@ -27,7 +27,7 @@ from ._numbers import (
     unsigned,
     written,
 )
-from ._reasons import Reason, of_size
+from ._reasons import Reason, of_kind, past_limit
 from ._reasons import of_lay_over as reason_of_lay_over
 from ._shapes import reshaped
 
@@ -122,7 +122,7 @@ def lay_over(
     try:
         return _laid_over(lens, steps, itemsize, nbytes, offset, owned)
     except LayoutError as error:
-        raise in_bytes(error, reason_of_lay_over(lens, steps, itemsize, nbytes, offset, owned)) from None
+        raise in_bytes(error, lambda: reason_of_lay_over(lens, steps, itemsize, nbytes, offset, owned)) from None
 
 
 def _laid_over(lens: Lens, steps: Lens, itemsize: int, nbytes: int, offset: Optional[int], owned: bool) -> int:
@@ -142,9 +142,10 @@ def _laid_over(lens: Lens, steps: Lens, itemsize: int, nbytes: int, offset: Opti
     return offset
 
 
-def in_bytes(error: LayoutError, reason: Optional[Reason]) -> LayoutError:
-    """The error of a call with a text that counts bytes. Its kind decides: a reason for another one is left out."""
-    return error if reason is None or reason.kind != error.kind else error_of_kind(*reason)
+def in_bytes(error: LayoutError, find: Callable[[], Optional[Reason]]) -> LayoutError:
+    """The error of a call with a text that counts bytes, where one is found for its kind."""
+    reason = of_kind(error.kind, find)
+    return error if reason is None else error_of_kind(*reason)
 
 
 def reshape_without_copy(a: Array, new_shape: Numbers, order: Optional[str] = "C") -> Reshaped:
@@ -209,9 +210,8 @@ def without_minus_one(shape: Lens, new_shape: Lens) -> Lens:
             text = f"axis {axis}: length -1 is there twice, and only one may be -1"
             raise SizeOverflowError("Overflow", text, axis, {"length": length}) if length == -1 else error
     others, size = product([length for length in new_shape if length != -1]), product(shape)
-    fault = of_size(shape) if size >= FAR else None
-    if fault:
-        raise error_of_kind(*fault)
+    if size >= FAR:
+        raise error_of_kind(*past_limit("size {size}", size=size))
     if others == 0 or size % others:
         which = "any" if others == size == 0 else "no"
         text = f"axis {missing}: {which} length times {said(others)} is the size {said(size)}"

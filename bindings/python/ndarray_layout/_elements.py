@@ -71,7 +71,7 @@ def share_element(a: Any, first: Any, second: Any = _NOTHING, max_work: Optional
     try:
         library.has_overlap(*lens, *steps, answer)
     except LayoutError as error:
-        raise in_bytes(error, of_array(shape, strides, itemsize)) from None
+        raise in_bytes(error, lambda: of_array(shape, strides, itemsize)) from None
     if answer[0]:
         return _share_byte((shape, strides, itemsize), first, second, max_work)
     keys = *packed_key(shape, first), *packed_key(shape, second)

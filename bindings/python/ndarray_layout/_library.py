@@ -3,7 +3,7 @@
 from __future__ import annotations
 
 import ctypes
-from typing import Any, Callable
+from typing import Any, Callable, Optional
 
 from . import _reasons
 from ._errors import LayoutError, error_of_kind
@@ -17,7 +17,7 @@ def _export(name: str, parameters: str, find: _reasons.Find) -> Call:
 
     def check(status: int, _: Any, arguments: tuple[Any, ...]) -> int:
         if status != 0:
-            raise _error(status, find, _reasons.read(parameters, arguments))
+            raise _error(status, lambda: find(*_reasons.read(parameters, arguments)))
         return status
 
     call = export(name, parameters)
@@ -40,13 +40,11 @@ def status_text(status: int) -> str:
     return text.raw[: count.value].decode("ascii").rpartition(": ")[2]
 
 
-def _error(status: int, find: _reasons.Find, arguments: list[Any]) -> LayoutError:
-    """The error of a status. The status alone decides on its kind: a reason for another kind is left out."""
+def _error(status: int, find: Callable[[], Optional[_reasons.Reason]]) -> LayoutError:
+    """The error of a status, which alone decides on its kind."""
     kind = kind_of(status)
-    reason = find(*arguments)
-    if reason is None or reason.kind != kind:
-        return error_of_kind(kind, status_text(status))
-    return error_of_kind(*reason)
+    reason = _reasons.of_kind(kind, find)
+    return error_of_kind(kind, status_text(status)) if reason is None else error_of_kind(*reason)
 
 
 def check_version(version: str) -> None:

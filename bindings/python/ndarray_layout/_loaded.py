@@ -1,11 +1,12 @@
-"""The library of `bindings/c`, loaded once, and its calls as ctypes has them."""
+"""The library of `bindings/c`, loaded once: its calls as ctypes has them, and those that say which rule is broken."""
 
 from __future__ import annotations
 
 import ctypes
 import os
+from enum import IntEnum
 from pathlib import Path
-from typing import Any
+from typing import Any, Callable
 
 _SERIES = "0.1"
 """The numbers of the version that end the library's own name, and with `_` those of its calls: `ND_VERSION`."""
@@ -79,3 +80,52 @@ def export(name: str, parameters: str) -> Any:
 def kind_of(status: int) -> str:
     """The kind of the errors that a status stands for."""
     return _KINDS[status - 1] if 1 <= status <= len(_KINDS) else "BadArgument"
+
+
+# ---- Reasons
+
+
+class Rule(IntEnum):
+    """The rules that arguments can break: `ND_RULE_NONE` and those after it."""
+
+    NONE, COUNT, INDEX, BOUND, STEP, SIZE, SPAN, BYTES = range(8)
+    LOWEST, HIGHEST, LENGTH, ALIAS, OTHER_SIZE, COPY, MISSING = range(8, 15)
+
+
+class Broken(ctypes.Structure):
+    """The first rule that arguments break, and the numbers that break it: `nd_reason`."""
+
+    _fields_ = [
+        ("status", ctypes.c_int32),
+        ("rule", ctypes.c_int32),
+        ("axis", ctypes.c_size_t),
+        ("number", ctypes.c_ssize_t),
+        ("size", ctypes.c_size_t),
+    ]
+
+    @property
+    def kind(self) -> str:
+        return kind_of(self.status)
+
+
+_one_broken: Callable[[], Any] = Broken * 1
+
+
+def _reason(name: str, parameters: str) -> Callable[..., Broken]:
+    """A call that says which rule its arguments break. It raises `MemoryError` where an allocation fails."""
+    call = export(name, parameters)
+
+    def find(*arguments: Any) -> Broken:
+        broken = _one_broken()
+        if call(*arguments, broken) != 0:  # (no bad argument: the call that failed would have said so)
+            raise MemoryError
+        return broken[0]  # type: ignore[no-any-return]
+
+    return find
+
+
+slice_reason = _reason("nd_slice_reason", "UEip")
+layout_start_reason = _reason("nd_layout_start_reason", "USzzip")
+check_layout_reason = _reason("nd_check_layout_reason", "zUSzzip")
+reshape_reason = _reason("nd_reshape_reason", "USUip")
+permuted_axes_reason = _reason("nd_permuted_axes_reason", "UUp")

@@ -282,9 +282,3 @@ SLICE, INDEX, NEW_AXIS = 0, 1, 2
 def element_head(kind: int, has_end: bool) -> int:
     """The kind of an element and whether it has an end, two `int32_t`, as the one number of their bytes."""
     return kind + (has_end << 32) if byteorder == "little" else (kind << 32) + has_end
-
-
-def head_parts(head: int) -> tuple[int, bool]:
-    """The kind and whether there is an end: what `element_head` was given."""
-    high, low = divmod(head, 2**32)
-    return (low, bool(high)) if byteorder == "little" else (high, bool(low))

@@ -1,17 +1,20 @@
 """Why a call returned its error: the axis that is to blame, and the numbers.
 
-The status of a call decides whether there is an error, and of which kind. What is found here is only its text, by the
-order of errors in `docs/RULES.md`, and `_library` leaves out what is of another kind than the status.
+The status of a call decides whether there is an error, and of which kind. What is found here is only its text. The
+library says which rule of layouts, slices, reshapes and lists of axes is broken, and where. The rules of indices,
+broadcasts, merges, blocks and splits, and of the bytes of an array, are compared here, in the order of `docs/RULES.md`.
 """
 
 from __future__ import annotations
 
+from ctypes import c_size_t
 from itertools import accumulate
 from math import prod
-from operator import mul
-from typing import Any, Callable, Iterator, Mapping, NamedTuple, Optional, Sequence
+from typing import Any, Callable, Mapping, NamedTuple, Optional, Sequence
 
-from ._numbers import INDEX, LIMIT, NEW_AXIS, Lens, count_of, head_parts, product, said, written
+from . import _loaded as library
+from ._loaded import Broken, Rule
+from ._numbers import LIMIT, Lens, Packed, count_of, product, said, signed, unsigned, written
 
 
 class Reason(NamedTuple):
@@ -23,20 +26,14 @@ class Reason(NamedTuple):
     numbers: Mapping[str, int] = {}
 
 
-class Element(NamedTuple):
-    """An element of a slice, as the exports take it."""
-
-    kind: int
-    start: int
-    end: Optional[int]
-    step: int
-
-
 Find = Callable[..., Optional[Reason]]
 
 
 def read(parameters: str, arguments: Sequence[Any]) -> list[Any]:
-    """What a call reads: each number, and each list as a tuple. The letters are those of `_loaded`."""
+    """What a call reads: each number, each list as a tuple, and the elements of a slice as they are packed.
+
+    The letters are those of `_loaded`.
+    """
     rest = iter(arguments)
     found: list[Any] = []
     for letter in parameters:
@@ -47,7 +44,7 @@ def read(parameters: str, arguments: Sequence[Any]) -> list[Any]:
         elif letter == "S":
             found.append(count.unpack_signed(argument))
         elif letter == "E":
-            found.append(_elements(count_of(4 * count.value).unpack_signed(argument)))
+            found.append((argument, count))
         elif letter == "z":
             found.append(argument.value)
         elif letter == "i":
@@ -55,103 +52,108 @@ def read(parameters: str, arguments: Sequence[Any]) -> list[Any]:
     return found
 
 
-def _elements(fields: Lens) -> list[Element]:
-    elements = []
-    for head, start, end, step in zip(*[iter(fields)] * 4):
-        kind, has_end = head_parts(head)
-        elements.append(Element(kind, start, end if has_end else None, step))
-    return elements
+def of_kind(kind: str, find: Callable[[], Optional[Reason]]) -> Optional[Reason]:
+    """The reason of an error of a kind: none of another kind, and none where there is no memory to find it."""
+    try:
+        reason = find()
+    except MemoryError:
+        return None
+    return reason if reason is not None and reason.kind == kind else None
+
+
+def _of(kind: str, text: str, axis: Optional[int] = None, **numbers: int) -> Reason:
+    """A reason whose text has the numbers in the places of their names."""
+    text = text.format(**{name: said(number) for name, number in numbers.items()})
+    return Reason(kind, text if axis is None else f"axis {axis}: {text}", axis, numbers)
 
 
 # ---- Layouts
 
 
-def _of_axis(kind: str, axis: int, text: str, **numbers: int) -> Reason:
-    return Reason(kind, f"axis {axis}: {text}", axis, numbers)
+_NO_END = 2**64 - 1
+"""The length of a buffer that no layout leaves."""
 
 
 def of_size(shape: Lens) -> Optional[Reason]:
-    size = product([length for length in shape if length])
-    if size <= LIMIT:
-        return None
-    return Reason("Overflow", f"size {said(size)} is above the limit {said(LIMIT)}", None, {"size": size})
+    return of_layout(shape, (0,) * len(shape))
+
+
+def of_layout(shape: Lens, strides: Lens) -> Optional[Reason]:
+    return of_layout_start(shape, strides, 1, _NO_END, 0)
+
+
+def of_layout_start(shape: Lens, strides: Lens, elem_size: int, length: int, owned: int) -> Optional[Reason]:
+    lists = *unsigned(shape), *signed(strides)
+    broken = library.layout_start_reason(*lists, c_size_t(elem_size), c_size_t(length), 0)
+    if broken.rule == Rule.LENGTH:
+        needed = broken.size + (0 not in shape)
+        return _of(broken.kind, "the layout needs {needed} elements of {length}", needed=needed, length=length)
+    return _of_limits(broken, shape, strides, elem_size) or (of_overlap(shape, strides) if owned else None)
+
+
+def of_check_layout(
+    start: int, shape: Lens, strides: Lens, elem_size: int, length: int, owned: int
+) -> Optional[Reason]:
+    lists = *unsigned(shape), *signed(strides)
+    broken = library.check_layout_reason(c_size_t(start), *lists, c_size_t(elem_size), c_size_t(length), 0)
+    return (
+        _of_limits(broken, shape, strides, elem_size)
+        or _of_bounds(broken, start, length)
+        or (of_overlap(shape, strides) if owned else None)
+    )
+
+
+def _of_limits(broken: Broken, shape: Lens, strides: Lens, elem_size: int) -> Optional[Reason]:
+    if broken.rule == Rule.COUNT:
+        text = "{lengths} lengths, but {strides} strides"
+        return _of(broken.kind, text, lengths=len(shape), strides=broken.size)
+    if broken.rule == Rule.SIZE:
+        return past_limit("size {size}", size=product([length for length in shape if length]))
+    if broken.rule == Rule.SPAN:
+        return past_limit("span {span}", span=sum(_reaches(shape, strides)))
+    if broken.rule == Rule.BYTES:
+        return past_limit("span {span} times elem_size {elem_size}", span=broken.size, elem_size=elem_size)
+    return None
+
+
+def past_limit(what: str, **numbers: int) -> Reason:
+    """The reason of what is above the limit."""
+    return _of("Overflow", f"{what} is above the limit {said(LIMIT)}", **numbers)
 
 
 def _reaches(shape: Lens, strides: Lens) -> list[int]:
     return [max(length - 1, 0) * abs(stride) for length, stride in zip(shape, strides)]
 
 
-def of_layout(shape: Lens, strides: Lens, elem_size: int = 1) -> Optional[Reason]:
-    if len(shape) != len(strides):
-        numbers = {"lengths": len(shape), "strides": len(strides)}
-        return Reason("IncompatibleLayout", f"{len(shape)} lengths, but {len(strides)} strides", None, numbers)
-    return of_size(shape) or _of_span(sum(_reaches(shape, strides)), elem_size)
-
-
-def _of_span(span: int, elem_size: int) -> Optional[Reason]:
-    if span > LIMIT:
-        return Reason("Overflow", f"span {said(span)} is above the limit {said(LIMIT)}", None, {"span": span})
-    if span * elem_size > LIMIT:
-        numbers = {"span": span, "elem_size": elem_size}
-        text = f"span {said(span)} times elem_size {said(elem_size)} is above the limit {said(LIMIT)}"
-        return Reason("Overflow", text, None, numbers)
-    return None
-
-
-def of_layout_start(shape: Lens, strides: Lens, elem_size: int, length: int, owned: int) -> Optional[Reason]:
-    return (
-        of_layout(shape, strides, elem_size)
-        or _of_room(sum(_reaches(shape, strides)) + (0 not in shape), length)
-        or (of_overlap(shape, strides) if owned else None)
-    )
-
-
-def _of_room(needed: int, length: int) -> Optional[Reason]:
-    if needed <= length:
-        return None
-    numbers = {"needed": needed, "length": length}
-    return Reason("OutOfBounds", f"the layout needs {said(needed)} elements of {said(length)}", None, numbers)
-
-
-def of_check_layout(
-    start: int, shape: Lens, strides: Lens, elem_size: int, length: int, owned: int
-) -> Optional[Reason]:
-    return (
-        of_layout(shape, strides, elem_size)
-        or _of_places(start, length, shape, strides)
-        or (of_overlap(shape, strides) if owned else None)
-    )
-
-
-def _of_places(start: int, length: int, shape: Lens, strides: Lens) -> Optional[Reason]:
-    reaches = _reaches(shape, strides)
-    below = sum(reach for reach, stride in zip(reaches, strides) if stride < 0)
-    lowest, highest = start - below, start + sum(reaches) - below
-    if lowest < 0:
-        return Reason("OutOfBounds", f"the lowest place {said(lowest)} is below 0", None, {"lowest": lowest})
-    if highest > LIMIT:
-        text = f"the highest place {said(highest)} is above the limit {said(LIMIT)}"
-        return Reason("OutOfBounds", text, None, {"highest": highest})
-    if highest + (0 not in shape) > length:
-        numbers = {"highest": highest, "length": length}
-        return Reason(
-            "OutOfBounds", f"the highest place {said(highest)} is past {said(length)} elements", None, numbers
-        )
+def _of_bounds(broken: Broken, start: int, length: int) -> Optional[Reason]:
+    if broken.rule == Rule.LOWEST:
+        return _of(broken.kind, "the lowest place {lowest} is below 0", lowest=start - broken.size)
+    if broken.rule == Rule.HIGHEST:
+        text = f"the highest place {{highest}} is above the limit {said(LIMIT)}"
+        return _of(broken.kind, text, highest=start + broken.size)
+    if broken.rule == Rule.LENGTH:
+        text = "the highest place {highest} is past {length} elements"
+        return _of(broken.kind, text, highest=broken.size, length=length)
     return None
 
 
 def of_overlap(shape: Lens, strides: Lens) -> Optional[Reason]:
-    if 0 in shape:
+    """Of a layout within the limits."""
+    axes, lens, steps = _without_ones(shape, strides)
+    broken = library.layout_start_reason(*unsigned(lens), *signed(steps), c_size_t(1), c_size_t(_NO_END), 1)
+    if broken.rule != Rule.ALIAS:
         return None
-    reaches = _reaches(shape, strides)
-    long = [axis for axis, length in enumerate(shape) if length > 1]  # (at most 64, since the size is in the limit)
-    for axis in long:
-        stride = strides[axis]
-        others = sum(reaches[other] for other in long if other != axis and abs(strides[other]) <= abs(stride))
-        if others >= abs(stride):
-            text = f"stride {said(stride)} isn't past {said(others)}, the reach of the axes with no greater stride"
-            return _of_axis("Unsupported", axis, text, stride=stride, reach=others)
-    return None
+    text = "stride {stride} isn't past {reach}, the reach of the axes with no greater stride"
+    return _of(broken.kind, text, axes[broken.axis], stride=broken.number, reach=broken.size)
+
+
+def _without_ones(shape: Lens, strides: Lens) -> tuple[Lens, Lens, Lens]:
+    """The axes of a length other than 1, with their lengths and strides: the others break no rule of these.
+
+    They are at most 62 where none is empty. The library's reasons take the square of the axes, which may be many more.
+    """
+    axes = tuple([axis for axis, length in enumerate(shape) if length != 1])
+    return axes, tuple([shape[axis] for axis in axes]), tuple([strides[axis] for axis in axes])
 
 
 def of_array(shape: Lens, strides: Lens, itemsize: int) -> Optional[Reason]:
@@ -161,9 +163,9 @@ def of_array(shape: Lens, strides: Lens, itemsize: int) -> Optional[Reason]:
         return found
     size = prod(length for length in shape if length) * itemsize
     if size > LIMIT:
-        text = f"{said(size)} bytes are above the limit {said(LIMIT)}"
-        return Reason("Overflow", text, None, {"size": size, "itemsize": itemsize})
-    return _of_span(sum(_reaches(shape, strides)) + itemsize - 1, 1)
+        text = f"{{size}} bytes are above the limit {said(LIMIT)}"
+        return _of("Overflow", text, size=size, itemsize=itemsize)
+    return of_layout((*shape, itemsize), (*strides, 1))
 
 
 def of_lay_over(
@@ -181,14 +183,14 @@ def _of_bytes(shape: Lens, strides: Lens, itemsize: int, nbytes: int, offset: Op
     reaches, item = _reaches(shape, strides), itemsize if 0 not in shape else 0
     if offset is None:
         needed = sum(reaches) + item
-        text = f"the array needs {said(needed)} bytes of {said(nbytes)}"
-        return Reason("OutOfBounds", text, None, {"needed": needed, "nbytes": nbytes}) if needed > nbytes else None
+        text = "the array needs {needed} bytes of {nbytes}"
+        return _of("OutOfBounds", text, needed=needed, nbytes=nbytes) if needed > nbytes else None
     lowest = offset - sum(reach for reach, stride in zip(reaches, strides) if stride < 0)
     end = lowest + sum(reaches) + item
     if lowest >= 0 and end <= nbytes:
         return None
-    text = f"the array at offset {said(offset)} needs bytes {said(lowest)} to {said(end - 1)} of {said(nbytes)}"
-    return Reason("OutOfBounds", text, None, {"offset": offset, "lowest": lowest, "end": end, "nbytes": nbytes})
+    text = f"the array at offset {{offset}} needs bytes {{lowest}} to {said(end - 1)} of {{nbytes}}"
+    return _of("OutOfBounds", text, offset=offset, lowest=lowest, end=end, nbytes=nbytes)
 
 
 # ---- Indices
@@ -196,8 +198,7 @@ def _of_bytes(shape: Lens, strides: Lens, itemsize: int, nbytes: int, offset: Op
 
 def of_index(shape: Lens, index: Lens) -> Optional[Reason]:
     if len(shape) != len(index):
-        numbers = {"coordinates": len(index), "axes": len(shape)}
-        return Reason("OutOfBounds", f"{len(index)} coordinates for {len(shape)} axes", None, numbers)
+        return _of("OutOfBounds", "{coordinates} coordinates for {axes} axes", coordinates=len(index), axes=len(shape))
     for axis, (length, coordinate) in enumerate(zip(shape, index)):
         if coordinate >= length:
             return out_of_axis(axis, coordinate, length)
@@ -205,8 +206,7 @@ def of_index(shape: Lens, index: Lens) -> Optional[Reason]:
 
 
 def out_of_axis(axis: int, index: int, length: int) -> Reason:
-    text = f"index {said(index)} is out of bounds of length {said(length)}"
-    return _of_axis("OutOfBounds", axis, text, index=index, length=length)
+    return _of("OutOfBounds", "index {index} is out of bounds of length {length}", axis, index=index, length=length)
 
 
 def of_next_index(shape: Lens, index: Lens, _: int) -> Optional[Reason]:
@@ -218,7 +218,7 @@ def of_place(start: int, shape: Lens, strides: Lens, index: Lens) -> Optional[Re
 
 
 def of_places(start: int, shape: Lens, strides: Lens, _: int = 0) -> Optional[Reason]:
-    return of_check_layout(start, shape, strides, 1, LIMIT + 1, False)
+    return of_check_layout(start, shape, strides, 1, _NO_END, 0)
 
 
 def of_rows(start: int, shape: Lens, strides: Lens, _: int) -> Optional[Reason]:
@@ -228,20 +228,19 @@ def of_rows(start: int, shape: Lens, strides: Lens, _: int) -> Optional[Reason]:
 # ---- Slices
 
 
-def of_slice(start: int, shape: Lens, strides: Lens, elements: list[Element], clamp: int) -> Optional[Reason]:
-    return of_places(start, shape, strides) or _of_argument(shape, elements, clamp)
+def of_slice(start: int, shape: Lens, strides: Lens, elements: Packed, clamp: int) -> Optional[Reason]:
+    return of_places(start, shape, strides) or _of_elements(shape, elements, clamp)
 
 
-def of_slices_intersect(shape: Lens, first: list[Element], second: list[Element], clamp: int) -> Optional[Reason]:
-    return of_size(shape) or _of_argument(shape, first, clamp) or _of_argument(shape, second, clamp)
+def of_slices_intersect(shape: Lens, first: Packed, second: Packed, clamp: int) -> Optional[Reason]:
+    return of_size(shape) or _of_elements(shape, first, clamp) or _of_elements(shape, second, clamp)
 
 
-def of_first_intersection(shape: Lens, elements: list[Element], counts: Lens, clamp: int) -> Optional[Reason]:
-    ends = list(accumulate(counts))
-    slices = [elements[end - count : end] for end, count in zip(ends, counts)]
-    faults = (_of_argument(shape, argument, clamp) for argument in slices)
-    found = next(((number, fault) for number, fault in enumerate(faults) if fault), None)
-    return of_size(shape) or (in_list("slice", *found) if found else None)
+def of_first_intersection(shape: Lens, elements: Packed, counts: Lens, clamp: int) -> Optional[Reason]:
+    fields, ends = elements[0], accumulate(counts)  # (32 bytes for each element)
+    slices = ((fields[32 * (end - count) : 32 * end], count_of(count)) for end, count in zip(ends, counts))
+    faults = ((number, _of_elements(shape, argument, clamp)) for number, argument in enumerate(slices))
+    return of_size(shape) or next((in_list("slice", number, fault) for number, fault in faults if fault), None)
 
 
 def in_list(name: str, number: int, fault: Reason) -> Reason:
@@ -249,27 +248,20 @@ def in_list(name: str, number: int, fault: Reason) -> Reason:
     return fault._replace(text=f"{name} {number}: {fault.text}", numbers={name: number, **fault.numbers})
 
 
-def of_picked(shape: Lens, elements: list[Element], clamp: int) -> Optional[Reason]:
-    return of_size(shape) or _of_argument(shape, elements, clamp)
+def of_picked(shape: Lens, elements: Packed, clamp: int) -> Optional[Reason]:
+    return of_size(shape) or _of_elements(shape, elements, clamp)
 
 
-def _of_argument(shape: Lens, elements: list[Element], clamp: int) -> Optional[Reason]:
-    on_axes = [element for element in elements if element.kind != NEW_AXIS]
-    if len(on_axes) != len(shape):
-        numbers = {"elements": len(on_axes), "axes": len(shape)}
-        return Reason("IncompatibleShape", f"slices or indices for {len(on_axes)} of {len(shape)} axes", None, numbers)
-    faults = (_of_element(axis, *pair, clamp) for axis, pair in enumerate(zip(shape, on_axes)))
-    return next(filter(None, faults), None)
-
-
-def _of_element(axis: int, length: int, element: Element, clamp: int) -> Optional[Reason]:
-    if element.kind == INDEX:
-        return None if -length <= element.start < length else out_of_axis(axis, element.start, length)
-    for bound in (element.start, element.end):
-        if not clamp and bound is not None and not -length <= bound <= length:
-            text = f"bound {said(bound)} is past length {said(length)}"
-            return _of_axis("OutOfBounds", axis, text, bound=bound, length=length)
-    return _of_axis("Unsupported", axis, "the step is 0", step=0) if element.step == 0 else None
+def _of_elements(shape: Lens, elements: Packed, clamp: int) -> Optional[Reason]:
+    broken = library.slice_reason(*unsigned(shape), *elements, clamp)
+    axis, number, size = broken.axis, broken.number, broken.size
+    if broken.rule == Rule.COUNT:
+        return _of(broken.kind, "slices or indices for {elements} of {axes} axes", elements=size, axes=len(shape))
+    if broken.rule == Rule.INDEX:
+        return out_of_axis(axis, number, size)
+    if broken.rule == Rule.BOUND:
+        return _of(broken.kind, "bound {bound} is past length {length}", axis, bound=number, length=size)
+    return _of(broken.kind, "the step is {step}", axis, step=0) if broken.rule == Rule.STEP else None
 
 
 # ---- Shapes
@@ -280,8 +272,8 @@ def of_co_broadcast(first: Lens, second: Lens) -> Optional[Reason]:
     padded = ((1,) * (axes - len(shape)) + shape for shape in (first, second))
     for axis, (one, other) in enumerate(zip(*padded)):
         if one != other and 1 not in (one, other):
-            text = f"lengths {said(one)} and {said(other)} have none in common"
-            return _of_axis("IncompatibleShape", axis, text, first=one, second=other)
+            text = "lengths {first} and {second} have none in common"
+            return _of("IncompatibleShape", text, axis, first=one, second=other)
     return None
 
 
@@ -292,34 +284,35 @@ def of_broadcast(shape: Lens, strides: Lens, target: Lens) -> Optional[Reason]:
 def _of_target(shape: Lens, target: Lens) -> Optional[Reason]:
     new_axes = len(target) - len(shape)
     if new_axes < 0:
-        numbers = {"axes": len(shape), "target": len(target)}
-        return Reason("IncompatibleShape", f"{len(shape)} axes can't be broadcast to {len(target)}", None, numbers)
+        text = "{axes} axes can't be broadcast to {target}"
+        return _of("IncompatibleShape", text, axes=len(shape), target=len(target))
     for axis, (length, wanted) in enumerate(zip(shape, target[new_axes:]), new_axes):
         if length not in (1, wanted):
-            text = f"length {said(length)} can't be broadcast to {said(wanted)}"
-            return _of_axis("IncompatibleShape", axis, text, length=length, target=wanted)
+            text = "length {length} can't be broadcast to {target}"
+            return _of("IncompatibleShape", text, axis, length=length, target=wanted)
     return None
 
 
 def of_merge(shape: Lens, strides: Lens, take: int, into: int) -> Optional[Reason]:
-    error = of_layout(shape, strides)
-    if error:
-        return error
-    for axis in (take, into):
-        if axis >= len(shape):
-            return _of_axis("OutOfBounds", axis, f"there are {len(shape)} axes", axes=len(shape))
-    return _of_axis("Unsupported", take, "it can't be merged into itself") if take == into else None
+    error = of_layout(shape, strides) or _of_no_axis(shape, take) or _of_no_axis(shape, into)
+    return _of("Unsupported", "it can't be merged into itself", take) if error is None and take == into else error
+
+
+def _of_no_axis(shape: Lens, axis: int) -> Optional[Reason]:
+    return _of("OutOfBounds", "there are {axes} axes", axis, axes=len(shape)) if axis >= len(shape) else None
 
 
 def of_permuted_axes(shape: Lens, strides: Lens, axes: Lens) -> Optional[Reason]:
-    error, listed = of_layout(shape, strides), set(axes)
-    missing = next((axis for axis in range(len(shape)) if axis not in listed), None)
-    if error or missing is None and len(axes) == len(shape):
-        return error
-    if missing is None:
-        numbers = {"listed": len(axes), "axes": len(shape)}
-        return Reason("IncompatibleShape", f"{len(axes)} axes are listed of {len(shape)}", None, numbers)
-    return _of_axis("IncompatibleShape", missing, f"it isn't among the axes {written(axes)}")
+    return of_layout(shape, strides) or _of_axes(shape, axes)
+
+
+def _of_axes(shape: Lens, axes: Lens) -> Optional[Reason]:
+    broken = library.permuted_axes_reason(*unsigned(shape), *unsigned(axes))
+    if broken.rule == Rule.MISSING:
+        return _of(broken.kind, f"it isn't among the axes {written(axes)}", broken.axis)
+    if broken.rule == Rule.COUNT:
+        return _of(broken.kind, "{listed} axes are listed of {axes}", listed=broken.size, axes=len(shape))
+    return None
 
 
 # ---- Blocks and parts
@@ -337,69 +330,35 @@ def of_exact_chunks(shape: Lens, strides: Lens, chunk: Lens) -> Optional[Reason]
 
 def of_block(shape: Lens, block: Lens) -> Optional[Reason]:
     if len(shape) != len(block):
-        numbers = {"lengths": len(block), "axes": len(shape)}
-        return Reason("IncompatibleShape", f"{len(block)} lengths of a block for {len(shape)} axes", None, numbers)
-    return _of_axis("Unsupported", block.index(0), "the length of a block is 0", length=0) if 0 in block else None
+        text = "{lengths} lengths of a block for {axes} axes"
+        return _of("IncompatibleShape", text, lengths=len(block), axes=len(shape))
+    return _of("Unsupported", "the length of a block is {length}", block.index(0), length=0) if 0 in block else None
 
 
 def of_split_at(start: int, shape: Lens, strides: Lens, axis: int, index: int) -> Optional[Reason]:
-    error = of_places(start, shape, strides)
-    if error or axis >= len(shape):
-        return error or _of_axis("OutOfBounds", axis, f"there are {len(shape)} axes", axes=len(shape))
-    text = f"index {said(index)} is past length {said(shape[axis])}"
-    return _of_axis("OutOfBounds", axis, text, index=index, length=shape[axis]) if index > shape[axis] else None
+    error = of_places(start, shape, strides) or _of_no_axis(shape, axis)
+    if error or index <= shape[axis]:
+        return error
+    return _of("OutOfBounds", "index {index} is past length {length}", axis, index=index, length=shape[axis])
 
 
 # ---- Reshapes
 
 
-class _Joint(NamedTuple):
-    """Two axes that are read one after the other."""
-
-    slow: int
-    fast: int
-
-
 def of_reshape(shape: Lens, strides: Lens, new_shape: Lens, order: int) -> Optional[Reason]:
-    return (
-        of_layout(shape, strides)
-        or of_size(new_shape)
-        or _of_empty(shape, new_shape)
-        or _of_joints(shape, strides, order, new_shape)
-        or _of_sizes(shape, new_shape)
-    )
+    return of_layout(shape, strides) or of_size(new_shape) or _of_new_shape(shape, strides, new_shape, order)
 
 
-def _of_sizes(shape: Lens, new_shape: Lens) -> Optional[Reason]:
-    size, new_size = prod(shape), prod(new_shape)
-    if size == new_size:
+def _of_new_shape(shape: Lens, strides: Lens, new_shape: Lens, order: int) -> Optional[Reason]:
+    """Of a layout and a shape within the limits."""
+    axes, lens, steps = _without_ones(shape, strides)
+    broken = library.reshape_reason(*unsigned(lens), *signed(steps), *unsigned(new_shape), order)
+    text, sizes = "size {size} isn't {new_size}", {"size": prod(shape), "new_size": prod(new_shape)}
+    if broken.rule == Rule.OTHER_SIZE:
+        return _of(broken.kind, text, **sizes)
+    if broken.rule != Rule.COPY:
         return None
-    numbers = {"size": size, "new_size": new_size}
-    return Reason("IncompatibleShape", f"size {said(size)} isn't {said(new_size)}", None, numbers)
-
-
-def _of_empty(shape: Lens, new_shape: Lens) -> Optional[Reason]:
-    return _of_sizes(shape, new_shape) if (0 in shape) != (0 in new_shape) else None
-
-
-def _of_joints(shape: Lens, strides: Lens, order: int, new_shape: Lens) -> Optional[Reason]:
-    """The first loose joint, as the axes are read, at which the new shape has no boundary."""
-    if 0 in shape:
-        return None
-    boundaries = set(accumulate(new_shape if order == 0 else new_shape[::-1], mul))
-    for size, joint in _joints(shape, order):
-        stride, length, step = strides[joint.slow], shape[joint.fast], strides[joint.fast]
-        if stride != length * step and size < prod(new_shape) and size not in boundaries:
-            text = f"stride {said(stride)} isn't {said(length)} times {said(step)}, the stride of axis {joint.fast}"
-            sizes = _of_sizes(shape, new_shape)
-            text, numbers = (f"{text}, and {sizes.text}", sizes.numbers) if sizes else (text, {})
-            return _of_axis("IncompatibleLayout", joint.slow, text, stride=stride, fast=joint.fast, **numbers)
-    return None
-
-
-def _joints(shape: Lens, order: int) -> Iterator[tuple[int, _Joint]]:
-    """Each two neighbours of length greater than 1 as they are read, and the size of the axes up to the slower one."""
-    axes = [axis for axis, length in enumerate(shape) if length != 1]
-    axes = axes if order == 0 else axes[::-1]
-    sizes = accumulate((shape[axis] for axis in axes), mul)
-    return ((size, _Joint(slow, fast)) for size, slow, fast in zip(sizes, axes, axes[1:]))
+    slow, fast = axes[broken.axis - 1 if order == 0 else broken.axis + 1], axes[broken.axis]
+    loose = f"stride {{stride}} isn't {said(shape[fast])} times {said(strides[fast])}, the stride of axis {{fast}}"
+    text, numbers = (loose, {}) if sizes["size"] == sizes["new_size"] else (f"{loose}, and {text}", sizes)
+    return _of(broken.kind, text, slow, stride=strides[slow], fast=fast, **numbers)
