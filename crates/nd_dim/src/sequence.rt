@@ -49,8 +49,8 @@ pub trait SequenceMut: Sequence + IndexMut<usize> {
 
     /// Writes the number at a position.
     ///
-    /// The caller ensures that there is one. A write by index does so as well; its contract says
-    /// which number it shows, and not what the write leaves.
+    /// The caller ensures that there is one. A write by index does so as well. No clause says what
+    /// that write leaves.
     ///
     /// The project's own.
     fn set(&mut self, k: usize, item: usize)

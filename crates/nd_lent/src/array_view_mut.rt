@@ -19,8 +19,8 @@ pub use splitting::SplitViews;
 use std::alloc::{AllocError, Global};
 use std::mem::replace;
 
-/// Items of any type that are kept elsewhere and lent to be written, with a view by which each index has one of them to
-/// itself. Items at no place of the view are spare ones, which no call writes. ndarray's `ArrayViewMut`.
+/// A view over items of any type that are kept elsewhere, to be read and written. No two indices have one item. No call writes
+/// the other items, which are *spare*. ndarray's `ArrayViewMut`.
 ///
 /// In the examples `a` is `[2]` with the stride `[-1]` over 7 8 9: (0) is 8, (1) is 7, and 9 is spare.
 pub struct ArrayViewMut<'a, T, D: Lengths> {

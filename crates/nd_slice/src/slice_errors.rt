@@ -13,7 +13,7 @@ use nd_base::{ErrorKind, Lengths, ShapeError, from_kind};
 /// The number of axes of the shapes that a slice argument is for: one for each element but a new
 /// axis.
 ///
-/// Takes time in proportion to the count of elements.
+/// Takes time in proportion to the slices and indices of the argument.
 ///
 /// `..,2,NewAxis`: 2. ndarray's `SliceArg::in_ndim` of a bare list.
 #[inline]
@@ -30,7 +30,7 @@ pub fn in_ndim_of(list: &[SliceInfoElem]) -> usize
 
 /// The number of axes that a slice argument leaves: one for each element but an index.
 ///
-/// Takes time in proportion to the count of elements.
+/// Takes time in proportion to the slices and indices of the argument.
 ///
 /// `..,2,NewAxis`: 2. ndarray's `SliceArg::out_ndim` of a bare list.
 #[inline]
@@ -55,7 +55,7 @@ pub fn out_ndim_of(list: &[SliceInfoElem]) -> usize
 /// coordinate of its axis, or for a bound that means no number from 0 to the length (never with
 /// `Fit::Clamp`); then `Unsupported` for the step 0.
 ///
-/// Takes time in proportion to the count of elements.
+/// Takes time in proportion to the slices and indices of the argument.
 ///
 /// `1..,5` on `[2,3]`: `OutOfBounds`. In place of the panics of ndarray's `slice_collapse`.
 pub fn check_elems(shape: &[usize], elems: &[SliceInfoElem], fit: Fit) -> Result<(), ShapeError>
@@ -76,7 +76,7 @@ pub fn check_elems(shape: &[usize], elems: &[SliceInfoElem], fit: Fit) -> Result
 ///
 /// Those of `check_elems`, in its order.
 ///
-/// Takes time in proportion to the count of elements.
+/// Takes time in proportion to the slices and indices of the argument.
 ///
 /// `..;0,7` on `[2,3]`: `Unsupported`. In place of the panics of ndarray's `slice_move`.
 #[inline]

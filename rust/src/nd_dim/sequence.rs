@@ -56,7 +56,7 @@ pub fn item<S: Sequence>(items: &S, k: usize) -> usize {
 pub trait SequenceMut: Sequence + IndexMut<usize> + crate::sealed::Sealed {
     /// Writes the number at a position.
     ///
-    /// A write by index does so as well; its contract says which number it shows, and not what the write leaves.
+    /// A write by index does so as well.
     ///
     /// The project's own.
     ///

@@ -15,7 +15,7 @@ pub trait SliceArg<D: FixedCount>: SliceElems + crate::sealed::Sealed {
     /// The number of axes of the shapes that it slices: as many as `D` has, where `D` fixes a
     /// count.
     ///
-    /// Takes time in proportion to the count of elements where `D` fixes none.
+    /// Takes time in proportion to the slices and indices of the argument where `D` fixes no count.
     ///
     /// `..,2,NewAxis` is for 2 axes. ndarray's `SliceArg::in_ndim`.
     ///
@@ -32,7 +32,8 @@ pub trait SliceArg<D: FixedCount>: SliceElems + crate::sealed::Sealed {
 
     /// The number of axes of the result: as many as `OutDim` has, where that fixes a count.
     ///
-    /// Takes time in proportion to the count of elements where `OutDim` fixes none.
+    /// Takes time in proportion to the slices and indices of the argument where `OutDim` fixes no
+    /// count.
     ///
     /// `..,2,NewAxis` leaves 2 axes. ndarray's `SliceArg::out_ndim`.
     ///

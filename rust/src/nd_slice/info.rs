@@ -88,8 +88,8 @@ impl<T: SliceElems, Din: FixedCount, Dout: FixedCount> SliceInfo<T, Din, Dout> {
 
     /// The number of axes of the shapes that the elements are for.
     ///
-    /// Takes time in proportion to the count of elements where `Din` fixes none. ndarray's
-    /// `SliceInfo::in_ndim`.
+    /// Takes time in proportion to the slices and indices of the argument where `Din` fixes no
+    /// count. ndarray's `SliceInfo::in_ndim`.
     ///
     /// <details><summary>Contract (proved)</summary>
     ///
@@ -110,8 +110,8 @@ impl<T: SliceElems, Din: FixedCount, Dout: FixedCount> SliceInfo<T, Din, Dout> {
 
     /// The number of axes that the elements leave.
     ///
-    /// Takes time in proportion to the count of elements where `Dout` fixes none. ndarray's
-    /// `SliceInfo::out_ndim`.
+    /// Takes time in proportion to the slices and indices of the argument where `Dout` fixes no
+    /// count. ndarray's `SliceInfo::out_ndim`.
     ///
     /// <details><summary>Contract (proved)</summary>
     ///

@@ -11,7 +11,7 @@ use crate::nd_slice::picks::resolve_elem;
 /// The number of axes of the shapes that a slice argument is for: one for each element but a new
 /// axis.
 ///
-/// Takes time in proportion to the count of elements.
+/// Takes time in proportion to the slices and indices of the argument.
 ///
 /// `..,2,NewAxis`: 2. ndarray's `SliceArg::in_ndim` of a bare list.
 ///
@@ -35,7 +35,7 @@ pub fn in_ndim_of(list: &[SliceInfoElem]) -> usize {
 
 /// The number of axes that a slice argument leaves: one for each element but an index.
 ///
-/// Takes time in proportion to the count of elements.
+/// Takes time in proportion to the slices and indices of the argument.
 ///
 /// `..,2,NewAxis`: 2. ndarray's `SliceArg::out_ndim` of a bare list.
 ///
@@ -60,7 +60,7 @@ pub fn out_ndim_of(list: &[SliceInfoElem]) -> usize {
 ///
 /// `shape` has one length for each axis; each element but a new axis is for the next axis.
 ///
-/// Takes time in proportion to the count of elements.
+/// Takes time in proportion to the slices and indices of the argument.
 ///
 /// `1..,5` on `[2,3]`: `OutOfBounds`. In place of the panics of ndarray's `slice_collapse`.
 ///
@@ -91,7 +91,7 @@ pub fn check_elems(shape: &[usize], elems: &[SliceInfoElem], fit: Fit) -> Result
 
 /// Returns `Ok` if and only if a slice argument fits a shape, whatever types hold the two.
 ///
-/// Takes time in proportion to the count of elements.
+/// Takes time in proportion to the slices and indices of the argument.
 ///
 /// `..;0,7` on `[2,3]`: `Unsupported`. In place of the panics of ndarray's `slice_move`.
 ///

@@ -61,7 +61,7 @@ impl<D: Lengths> SplitViews<D> {
     ///
     /// Its `first` and `second` are those of `Strided::split_at`, each over items of its own: the part whose places are lower
     /// has the `cut` items below, the other one has the items from there on, and its start is `cut` less. So `split_at_mut` of
-    /// the items at `cut` and two times `ArrayViewMut::new` lend both, and a proof knows what the items are in the end.
+    /// the items at `cut` and two times `ArrayViewMut::new` lend both. By this call a proof knows what the items are in the end.
     ///
     /// # Errors
     ///

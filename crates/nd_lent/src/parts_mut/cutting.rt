@@ -92,7 +92,7 @@ impl<'a, T: Drop> PartMut<'a, T> {
     ///
     /// `OutOfBounds` where there is no such axis, or the index is greater than the count of rows, or than the length of a
     /// row, or than 0 along axis 1 where there is no row; then out of memory, never where there is no row. After an error the
-    /// items are unchanged, which tests say and no clause.
+    /// items are unchanged. No clause says so, and tests do.
     ///
     /// Takes memory and time for each row: for those from `index` on along axis 0, twice for all along axis 1.
     ///

@@ -100,8 +100,8 @@ impl<'a, T: Drop> PartMut<'a, T> {
     /// # Errors
     ///
     /// That of `check_slice` on the shape for the first slice that doesn't fit; then `Unsupported` where two slices share an
-    /// index; then out of memory, never where there is no slice. After an error the items are unchanged, which tests say and no
-    /// clause.
+    /// index; then out of memory, never where there is no slice. After an error the items are unchanged. No clause says so, and
+    /// tests do.
     ///
     /// Takes memory for each row, and time for each row and for the comparisons of `first_intersection`. Where the slices are
     /// rows, columns or tiles, from the first to the last or from the last to the first, a row is found near the one before it;

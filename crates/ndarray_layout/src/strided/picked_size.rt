@@ -34,7 +34,7 @@ impl<D: Lengths> Strided<D> {
     /// Those of `check_slice` on the shape: `IncompatibleShape` where the argument is for more axes
     /// than there are or for fewer; then that of the first element with one.
     ///
-    /// Takes no memory, and time in proportion to the count of elements.
+    /// Takes no memory, and time in proportion to the slices and indices of the argument.
     ///
     /// `1..;-2` of `[4]`: 2. The project's own.
     pub fn picked<S: SliceElems>(&self, slices: &S, fit: Fit) -> Result<usize, ShapeError>

@@ -211,7 +211,7 @@ impl<D: Lengths> Strided<D> {
     /// number from 0 to the length (never with `Fit::Clamp`), `Unsupported` for the step 0; then
     /// out of memory, never where `E` fixes the count of axes or at most 4 are left.
     ///
-    /// Takes time in proportion to the count of elements.
+    /// Takes time in proportion to the slices and indices of the argument.
     ///
     /// `1..;-2` of `[4]` with the stride `[3]` from 5: `[2]`, `[-6]` from 14. ndarray's `slice` and
     /// `slice_collapse`.

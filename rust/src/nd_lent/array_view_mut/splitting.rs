@@ -62,9 +62,9 @@ fn moved<D: Lengths>(view: Strided<D>, by: usize, len: usize) -> Result<Strided<
 impl<D: Lengths> SplitViews<D> {
     /// The two parts of a view over `count` items along an axis, where the places of one are all below those of the other.
     ///
-    /// Its `first` and `second` are those of `Strided::split_at`, each over items of its own: the part whose places are lower
-    /// has the `cut` items below, the other one has the items from there on, and its start is `cut` less. So `split_at_mut` of
-    /// the items at `cut` and two times `ArrayViewMut::new` lend both, and a proof knows what the items are in the end.
+    /// Its `first` and `second` are those of `Strided::split_at`, each over items of its own: the part whose places are
+    /// lower has the `cut` items below, the other one has the items from there on, and its start is `cut` less. So
+    /// `split_at_mut` of the items at `cut` and two times `ArrayViewMut::new` lend both.
     ///
     /// Axis 0 of `[2,3]`, `[3,1]` from 1 at 1: `[1,3]` from 1 over 4 items, and `[1,3]` from 0 over the others. The project's
     /// own.

@@ -119,9 +119,9 @@ impl<'a, T: Sized> PartMut<'a, T> {
     ///
     /// # Errors
     ///
-    /// `OutOfBounds` where there is no such axis, or the index is greater than the count of rows, or than the length of a
-    /// row, or than 0 along axis 1 where there is no row; then out of memory, never where there is no row. After an error the
-    /// items are unchanged, which tests say and no clause.
+    /// `OutOfBounds` where there is no such axis, or the index is greater than the count of rows, or than the length of
+    /// a row, or than 0 along axis 1 where there is no row; then out of memory, never where there is no row. After an
+    /// error the items are unchanged.
     ///
     /// # Examples
     ///

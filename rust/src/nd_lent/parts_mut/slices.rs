@@ -115,9 +115,8 @@ impl<'a, T: Sized> PartMut<'a, T> {
     ///
     /// # Errors
     ///
-    /// That of `check_slice` on the shape for the first slice that doesn't fit; then `Unsupported` where two slices share an
-    /// index; then out of memory, never where there is no slice. After an error the items are unchanged, which tests say and no
-    /// clause.
+    /// That of `check_slice` on the shape for the first slice that doesn't fit; then `Unsupported` where two slices
+    /// share an index; then out of memory, never where there is no slice. After an error the items are unchanged.
     ///
     /// # Conditions
     ///

@@ -37,7 +37,7 @@ fn picked_size(shape: &[usize], elems: &[SliceInfoElem], fit: Fit) -> Result<usi
 impl<D: Lengths> Strided<D> {
     /// The number of indices that a slice argument leaves of the view.
     ///
-    /// Takes no memory, and time in proportion to the count of elements.
+    /// Takes no memory, and time in proportion to the slices and indices of the argument.
     ///
     /// `1..;-2` of `[4]`: 2. The project's own.
     ///

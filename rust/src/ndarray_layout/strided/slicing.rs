@@ -214,7 +214,7 @@ impl<D: Lengths> Strided<D> {
     /// error, or the nearest bound. Each index that is left has the place of the index that it
     /// stands for.
     ///
-    /// Takes time in proportion to the count of elements.
+    /// Takes time in proportion to the slices and indices of the argument.
     ///
     /// `1..;-2` of `[4]` with the stride `[3]` from 5: `[2]`, `[-6]` from 14. ndarray's `slice` and
     /// `slice_collapse`.
