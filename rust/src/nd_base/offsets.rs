@@ -80,8 +80,10 @@ pub fn stride_offset_checked(dim: &[usize], strides: &[usize], index: &[usize]) 
     if dim.len() != index.len() {
         return None;
     }
+    // (there are as many strides, which is said so that none is asked whether it is there)
+    let axes = dim.len().min(strides.len());
     let mut offset = 0isize;
-    for axis in 0..dim.len() {
+    for axis in 0..axes {
         if index[axis] >= dim[axis] {
             return None;
         }

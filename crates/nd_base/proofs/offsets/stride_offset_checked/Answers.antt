@@ -1,4 +1,4 @@
-use Rattle.std.proofs.Common.{refl, sym, ◌≡◌, ◌+◌, ◌<◌, length, get_or, true, to_z, w64, arith, ap, below_more}
+use Rattle.std.proofs.Common.{refl, sym, ◌≡◌, ◌+◌, get_or, true, to_z, w64, arith, ap, below_more}
 use Rattle.std.specs.Prelude.{Some}
 use Rattle.std.proofs.lemmas.Int.{ints, to_z-of_z}
 use Rattle.std.proofs.lemmas.List.{length-map}
@@ -18,12 +18,8 @@ returns-then-dim-index c =
 
 pub returns-then-index-axis : goal.returns-then-index-axis
 returns-then-index-axis c =
-    let none = is_index_of_coordinate c.args.dim.now c.args.index.now c.loop-axis.axis c.loop-axis-test.true c.if-index-axis.true in
+    let none = is_index_of_coordinate c.args.dim.now c.args.index.now c.loop-axis.axis (omega arith) c.if-index-axis.true in
     rw none refl
-
--- there is a stride for this axis
-at_axis : (c : Else-index-axis) → c.loop-axis.axis < length c.args.strides.now
-at_axis c = omega (arith, c.loop-axis-test.true, c.requires.same_count, length-map c.args.strides.now signed)
 
 -- this coordinate's offset, which fits beside what came before and what can come after
 next : (c : Else-index-axis)
@@ -32,7 +28,7 @@ next : (c : Else-index-axis)
     (sum_from reach c.args.dim.now c.args.strides.now (c.loop-axis.axis + 1))
     (sum_from reach c.args.dim.now c.args.strides.now c.loop-axis.axis)
 next c =
-    let split = sum_from_step reach c.args.dim.now c.args.strides.now c.loop-axis.axis c.loop-axis-test.true (at_axis c) in
+    let split = sum_from_step reach c.args.dim.now c.args.strides.now c.loop-axis.axis (omega arith) (omega arith) in
     let own = coordinate_offset_le (get_or c.args.dim.now c.loop-axis.axis 0) (get_or c.args.index.now c.loop-axis.axis 0)
     (signed (get_or c.args.strides.now c.loop-axis.axis 0)) c.if-index-axis.false in
     record { far = omega (arith, split, own); low = c.loop-axis.invariant.low; high = c.loop-axis.invariant.high }
@@ -51,7 +47,7 @@ loop-axis-preserved c =
     let at = (goal.at.loop-axis-preserved c).Else-index-axis in
     let sum = added (next at) in
     let step = offset_from_step c.args.strides.now c.args.index.now c.loop-axis.axis
-    (omega (arith, c.loop-axis-test.true, c.if-dim-index.false)) (at_axis at) in
+    (omega (arith, c.if-dim-index.false)) (omega arith) in
     rw (c.moved-offset.ensures, to_z-of_z w64 _ sum.whole) (record {
       in_bounds = below_more _ _ c.loop-axis.invariant.in_bounds c.if-index-axis.false;
       sum = omega (arith, ints, step, c.loop-axis.invariant.sum);
@@ -63,10 +59,11 @@ pub returns : goal.returns
 returns c =
     let shape = c.args.dim.now in
     let index = c.args.index.now in
+    let strides = length-map c.args.strides.now signed in
     let here : is_index shape index ≡ true =
     is_index_from_coordinates shape index (sym c.if-dim-index.false)
-    (λ axis l. c.loop-axis.invariant.in_bounds axis (omega (arith, c.loop-axis-test.false))) in
-    let end = offset_from_end c.args.strides.now index c.loop-axis.axis (omega (arith, c.loop-axis-test.false, c.if-dim-index.false)) in
+    (λ axis l. c.loop-axis.invariant.in_bounds axis (omega (arith, c.loop-axis-test.false, c.requires.same_count, strides))) in
+    let end = offset_from_end c.args.strides.now index c.loop-axis.axis (omega (arith, c.loop-axis-test.false, c.if-dim-index.false, c.requires.same_count, strides)) in
     let whole : to_z w64 c.loop-axis.offset-bits ≡ offset_of (all_signed c.args.strides.now) index =
     omega (arith, ints, end, c.loop-axis.invariant.sum) in
     rw here (ap Some whole)
