@@ -42,7 +42,8 @@ fn least_of_all(strides: &[usize]) -> usize
     least
 }
 
-/// The same among the axes of length greater than 1; the last axis where there is none.
+/// The same among the axes of length greater than 1; the last axis where there is none. It stays a call, which is seldom made.
+#[inline(never)]
 fn least_of_long(lens: &[usize], strides: &[usize]) -> usize
     requires some_axis { 0 < length lens.now }
     requires same_count { length lens.now ≡ length strides.now }

@@ -51,7 +51,7 @@ fn least_of_all(strides: &[usize]) -> usize {
     least
 }
 
-/// The same among the axes of length greater than 1; the last axis where there is none.
+/// The same among the axes of length greater than 1; the last axis where there is none. It stays a call, which is seldom made.
 ///
 /// <details><summary>Contract (proved)</summary>
 ///
@@ -62,7 +62,7 @@ fn least_of_all(strides: &[usize]) -> usize {
 /// ```
 /// [How to read it](crate::contracts)
 /// </details>
-#[inline]
+#[inline(never)]
 fn least_of_long(lens: &[usize], strides: &[usize]) -> usize {
     let mut least = lens.len() - 1;
     for (axis, len) in lens.iter().enumerate() {
