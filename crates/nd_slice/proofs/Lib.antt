@@ -3,6 +3,7 @@ pub mod Ends
 pub mod Every
 pub mod EveryItems
 pub mod Slices
+pub mod SlicesInRows
 pub mod Slicing
 pub mod Times
 pub mod intersect_lemmas

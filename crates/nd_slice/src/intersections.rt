@@ -13,6 +13,7 @@ use crate::slice_errors::check_elems;
 use crate::slices_in_order::{
     Direction, FromFirst, FromLast, axis_in_order, begins_past, elems_at, end_in_order,
 };
+use crate::slices_in_rows::lie_in_rows;
 use nd_base::{Lengths, ShapeError};
 
 /// Checks that each slice fits a shape. Errors: those of `check_elems` for the first slice with one.
@@ -94,6 +95,11 @@ pub fn first_elems_intersection<S: SliceElems>(
     requires fit { slices_fault fit shape.now (map S.list slices.now) ≡ None }
     ensures { IsIntersection fit shape.now (map S.list slices.now) result }
 {
+    if lie_in_rows::<S, FromFirst>(shape, slices, fit)
+        || lie_in_rows::<S, FromLast>(shape, slices, fit)
+    {
+        return None;
+    }
     let in_order = axis_in_order::<S, FromFirst>(shape, slices, fit);
     if in_order.is_none() {
         let from_last = axis_in_order::<S, FromLast>(shape, slices, fit);

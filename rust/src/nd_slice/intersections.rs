@@ -9,6 +9,7 @@ use crate::nd_slice::slice_errors::check_elems;
 use crate::nd_slice::slices_in_order::{
     Direction, FromFirst, FromLast, axis_in_order, begins_past, elems_at, end_in_order,
 };
+use crate::nd_slice::slices_in_rows::lie_in_rows;
 
 /// Checks that each slice fits a shape. Errors: those of `check_elems` for the first slice with one.
 ///
@@ -117,6 +118,9 @@ fn first_in_direction<S: SliceElems, R: Direction>(
 #[inline]
 #[must_use]
 pub fn first_elems_intersection<S: SliceElems>(shape: &[usize], slices: &[S], fit: Fit) -> Option<(usize, usize)> {
+    if lie_in_rows::<S, FromFirst>(shape, slices, fit) || lie_in_rows::<S, FromLast>(shape, slices, fit) {
+        return None;
+    }
     let in_order = axis_in_order::<S, FromFirst>(shape, slices, fit);
     if in_order.is_none() {
         let from_last = axis_in_order::<S, FromLast>(shape, slices, fit);

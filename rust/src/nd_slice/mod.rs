@@ -33,6 +33,7 @@ mod slice;
 mod slice_errors;
 mod sliced_axis;
 mod slices_in_order;
+mod slices_in_rows;
 
 pub use arg::SliceArg;
 pub use axis_elems::AxisElems;
