@@ -6,8 +6,8 @@ use Rattle.std.proofs.lemmas.List.Elements.{All-head, All-tail}
 use Rattle.ndarray_layout.specs.declared.Row.{Row}
 use Rattle.nd_lent.specs.declared.parts_mut.free_items.Piece.{Piece}
 use Rattle.nd_lent.specs.private.Pieces.{AreRowsApart, HasRoom}
-use Rattle.nd_lent.proofs.laws.Lists.{other_default}
-use Rattle.nd_lent.proofs.laws.Lists.{pairs_head, pairs_tail}
+use Rattle.nd_parts.proofs.laws.Lists.{other_default}
+use Rattle.nd_parts.proofs.laws.Lists.{pairs_head, pairs_tail}
 
 -- ---- the first of the rows that are left
 module _ {row : Row} {left others : List Row} (first : left ≡ row ∷ others) where

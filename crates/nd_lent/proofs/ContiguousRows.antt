@@ -18,7 +18,7 @@ use Rattle.nd_lent.specs.MultiSlice.{one_place, contiguous_rows}
 use Rattle.nd_lent.specs.LentRow.{is_contiguous}
 use Rattle.nd_lent.specs.private.Pieces.{AreRowsApart}
 use Rattle.ndarray_layout.specs.Bounds.{IsInBounds}
-use Rattle.nd_lent.proofs.laws.Lists.{pairs_second, parts_apart}
+use Rattle.nd_parts.proofs.laws.Lists.{pairs_second, parts_apart}
 use Rattle.nd_lent.proofs.RowsLent.{contiguous_places, end_within}
 use Rattle.nd_lent.specs.LentRow.{places_of}
 

@@ -17,7 +17,7 @@ use Rattle.ndarray_layout.proofs.laws.Lists.{map_same}
 use Rattle.ndarray_layout.proofs.laws.Rows.{get_or-row_places, length-row_places}
 use Rattle.std.specs.Iterator.{CallableAtEachTurn, Yields}
 use Rattle.nd_lent.specs.Mapped.{Makes, TakesAtMut, gives}
-use Rattle.nd_lent.specs.Items.{item_at_place}
+use Rattle.nd_parts.specs.Items.{item_at_place}
 use Rattle.nd_lent.specs.Written.{KeepsAllBut}
 use Rattle.nd_lent.specs.private.RunTo.{HasRunTo}
 use Rattle.nd_lent.proofs.Folding.{then_folded}
@@ -26,7 +26,7 @@ use Rattle.nd_lent.proofs.Sets.{Distinct}
 use Rattle.nd_lent.specs.LentRow.{HasRow, RowValue, is_contiguous, places_of, row_items}
 use Rattle.nd_lent.proofs.RowsLent.{contiguous_items, contiguous_places}
 use Rattle.nd_lent.proofs.laws.RowItems.{read_neighbours}
-use Rattle.nd_lent.proofs.laws.Lists.{other_default, pairs_first, parts_apart, set_other, set_same}
+use Rattle.nd_parts.proofs.laws.Lists.{other_default, pairs_first, parts_apart, set_other, set_same}
 
 -- ---- two lists of pairs
 zip_both : {A B : Type 0} (xs more : List A) (ys others : List B) → length xs ≡ length ys

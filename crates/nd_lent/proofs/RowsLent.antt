@@ -22,7 +22,7 @@ use Rattle.ndarray_layout.proofs.laws.Rows.{All-rows_places, get_or-row_places, 
 use Rattle.ndarray_layout.proofs.laws.Rows.{rows_places-view_rows, some_in_each_row}
 use Rattle.ndarray_layout.proofs.laws.View.{lens_fit}
 use Rattle.nd_lent.specs.LentRow.{HasRow, RowValue, is_contiguous, row_items, row_of, rows_items}
-use Rattle.nd_lent.specs.Items.{item_at_place}
+use Rattle.nd_parts.specs.Items.{item_at_place}
 use Rattle.nd_lent.proofs.laws.RowItems.{begins, coordinate_in_bounds, neighbours_within, read_neighbours}
 
 -- ---- the rows of a view

@@ -12,7 +12,7 @@ use Rattle.ndarray_layout.specs.Indices.{indices_in}
 use Rattle.ndarray_layout.specs.View.{view_places}
 use Rattle.nd_lent.specs.ArrayViewMut.{HasItemsOf, KeepsSpare}
 use Rattle.nd_lent.specs.Mapped.{Makes, gives, RunsOver}
-use Rattle.nd_lent.specs.Items.{ArrayValue, item_at, item_at_place}
+use Rattle.nd_parts.specs.Items.{ArrayValue, item_at, item_at_place}
 use Rattle.nd_lent.specs.Written.{HasRun}
 use Rattle.nd_lent.proofs.Sets.{any_order, has_items}
 use Rattle.nd_lent.proofs.laws.IndexItems.{items_in}

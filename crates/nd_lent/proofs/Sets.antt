@@ -16,7 +16,7 @@ use Rattle.ndarray_layout.specs.View.{View, LiesWithin, place_at, view_places}
 use Rattle.ndarray_layout.proofs.laws.DistinctPlaces.{AllPairs-view_places}
 use Rattle.ndarray_layout.proofs.laws.Indices.{All-indices_in, Contains-indices_in}
 use Rattle.nd_lent.specs.ArrayViewMut.{HasItemsOf}
-use Rattle.nd_lent.specs.Items.{ArrayValue, IsOwned, item_at, item_at_place}
+use Rattle.nd_parts.specs.Items.{ArrayValue, IsOwned, item_at, item_at_place}
 use Rattle.nd_lent.specs.Written.{HasSet}
 use Rattle.ndarray_layout.proofs.laws.View.{places_lie_within}
 use Rattle.ndarray_layout.proofs.laws.Lists.{Contains-map}

@@ -19,11 +19,11 @@ use Rattle.ndarray_layout.proofs.laws.Rows.{All-rows_places}
 use Rattle.ndarray_layout.proofs.laws.SlicedView.{Descends-slice_of}
 use Rattle.ndarray_layout.proofs.laws.View.{places_lie_within}
 use Rattle.nd_lent.specs.MultiSlice.{picked_rows, contiguous_rows}
-use Rattle.nd_lent.specs.Items.{IsOwned}
+use Rattle.nd_parts.specs.Items.{IsOwned}
 use Rattle.nd_lent.specs.LentRow.{is_contiguous}
 use Rattle.nd_lent.specs.PartMut.{items_of_row}
 use Rattle.nd_lent.specs.private.Pieces.{AreRowsApart}
-use Rattle.nd_lent.proofs.laws.Faults.{slices_fit}
+use Rattle.nd_parts.proofs.laws.Faults.{slices_fit}
 use Rattle.nd_lent.proofs.laws.SlicePlaces.{slice_places, slices_distinct}
 use Rattle.nd_lent.proofs.ContiguousRows.{AreContiguous, rows_apart, rows_within, view_contiguous}
 use Rattle.nd_lent.specs.LentRow.{places_of}

@@ -23,7 +23,7 @@ use Rattle.ndarray_layout.proofs.laws.Flipped.{least_offset}
 use Rattle.ndarray_layout.proofs.laws.IsIndex.{nonempty_from_index}
 use Rattle.ndarray_layout.proofs.laws.Offset.{offset_bounds}
 use Rattle.ndarray_layout.specs.Descends.{Descends}
-use Rattle.nd_lent.specs.Items.{ArrayValue, IsOwned, item_at_place}
+use Rattle.nd_parts.specs.Items.{ArrayValue, IsOwned, item_at_place}
 use Rattle.nd_lent.proofs.laws.OwnedViews.{owned_descendant}
 use Rattle.nd_lent.specs.SplitItems.{IsMoved, ShowsPartOf, highest, lowest}
 

@@ -1,12 +1,12 @@
-pub mod Faults
 pub mod FirstItems
 pub mod Folds
 pub mod IndexItems
 pub mod ItemPlaces
-pub mod Lists
 pub mod OwnedViews
 pub mod PartItems
 pub mod RowItems
 pub mod SlicePlaces
 pub mod StepItems
 pub mod Written
+pub use Rattle.nd_parts.proofs.laws.Faults
+pub use Rattle.nd_parts.proofs.laws.Lists

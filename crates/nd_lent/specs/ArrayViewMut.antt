@@ -8,7 +8,7 @@ use Rattle.ndarray_layout.specs.Indices.{is_index}
 use Rattle.ndarray_layout.specs.Signed.{magnitude}
 use Rattle.ndarray_layout.specs.View.{place_at, view_places}
 use Rattle.nd_lent.specs.Written.{KeepsAllBut}
-use Rattle.nd_lent.specs.Items.{ArrayValue, item_at}
+use Rattle.nd_parts.specs.Items.{ArrayValue, item_at}
 
 -- the array with the items of two indices of the shape swapped
 abbrev pub with_swapped : {T : Type 0} → ArrayValue T → List ℕ → List ℕ → ArrayValue T

@@ -2,7 +2,6 @@ pub mod ArrayView
 pub mod ArrayViewMut
 pub mod Equal
 pub mod Extremes
-pub mod Items
 pub mod Lender
 pub mod Lending
 pub mod LentRow
@@ -13,6 +12,9 @@ pub mod SplitItems
 pub mod Written
 pub mod WrittenPart
 pub mod private
+pub use Rattle.nd_parts.specs.ArrayOfStep
+pub use Rattle.nd_parts.specs.Items
+pub use Rattle.nd_parts.specs.Slices
 pub use Rattle.ndarray_layout.specs.AcceptanceByStrides
 pub use Rattle.ndarray_layout.specs.Memory
 pub use Rattle.ndarray_layout.specs.ShapeBuilder

@@ -13,7 +13,7 @@ use Rattle.ndarray_layout.specs.declared.SliceInfoElem.{SliceInfoElem}
 use Rattle.ndarray_layout.specs.declared.SliceInfoElem.TheVariants as elem
 use Rattle.ndarray_layout.specs.Indices.{indices_in}
 use Rattle.ndarray_layout.specs.SlicedView.{slice_of}
-use Rattle.nd_lent.specs.Items.{ArrayValue, item_at}
+use Rattle.nd_parts.specs.Items.{ArrayValue, item_at}
 
 -- a call at an item makes another one; none is made where an item is missing
 abbrev pub Makes : {F X Y : Type 0} → (F → X → Y → F → Type 0) → F → Option X × Option Y → F → Type 0

@@ -1,15 +1,11 @@
--- Parts of an array that slices pick, to be lent at once: the error of such a list of slices, and the rows of each part.
-use Rattle.std.specs.Prelude.{◌≡◌, ℕ, ℤ, pos, negsuc, Option, Some, None, MatchOption, if◌then◌else◌, List, [], ◌∷◌, map, refl}
-use Rattle.std.proofs.lemmas.Bool.{ltb-true}
-use Rattle.std.specs.List.{AllPairs, list_all}
-use Rattle.ndarray_layout.specs.declared.ErrorKind.{ErrorKind}
-use Rattle.ndarray_layout.specs.declared.ErrorKind.TheVariants.{OutOfBounds, Unsupported}
+-- Parts of an array that slices pick, to be lent at once: the rows of each.
+use Rattle.std.specs.Prelude.{◌≡◌, ℕ, ℤ, pos, negsuc, Some, None, if◌then◌else◌, List, [], ◌∷◌, map, refl}
+use Rattle.std.specs.List.{list_all}
 use Rattle.ndarray_layout.specs.declared.Fit.TheVariants.{Strict}
 use Rattle.ndarray_layout.specs.declared.Order.TheVariants.{RowMajor}
 use Rattle.ndarray_layout.specs.declared.Row.{Row}
 use Rattle.ndarray_layout.specs.declared.SliceInfoElem.{SliceInfoElem}
 use Rattle.ndarray_layout.specs.declared.SliceInfoElem.TheVariants as elem
-use Rattle.ndarray_layout.specs.Intersections.{AreApart, SomeIntersect, slices_fault}
 use Rattle.ndarray_layout.specs.Rows.{view_rows}
 use Rattle.ndarray_layout.specs.Signed.{magnitude}
 use Rattle.ndarray_layout.specs.SlicedView.{slice_of}
@@ -29,16 +25,6 @@ contiguous_rows view =
 -- the items that a slice of a view picks, in such rows
 abbrev pub picked_rows : {T : Type 0} → List T → View → List SliceInfoElem → List (List T)
 picked_rows items view slice = map (items_of_row items) (contiguous_rows (slice_of Strict slice view))
-
--- the error, or none, of slices that fit: Unsupported where two share an index, and none where no two do
-abbrev pub IsSharingFault : List ℕ → List (List SliceInfoElem) → Option ErrorKind → Type 0
-IsSharingFault shape slices None = AllPairs (AreApart Strict shape) slices
-IsSharingFault shape slices (Some kind) = (kind ≡ Unsupported) × SomeIntersect Strict shape slices
-
--- the error, or none, of a list of slices: that of the first one that doesn't fit the shape; then Unsupported where two share an index
-abbrev pub IsFaultOfSlices : List ℕ → List (List SliceInfoElem) → Option ErrorKind → Type 0
-IsFaultOfSlices shape slices fault = MatchOption (slices_fault Strict shape slices) (IsSharingFault shape slices fault)
-    (λ kind. fault ≡ Some kind)
 
 -- examples
 abbrev two_by_three : View
@@ -63,18 +49,3 @@ each_alone = refl
 
 no_row : picked_rows {T = ℕ} (0 ∷ 1 ∷ 2 ∷ 3 ∷ 4 ∷ 5 ∷ []) two_by_three (elem.Slice (pos 0) (Some (pos 0)) (pos 1) ∷ all_of_axis ∷ []) ≡ []
 no_row = refl
-
-past_the_columns : IsFaultOfSlices (2 ∷ 3 ∷ []) ((all_of_axis ∷ elem.Index (pos 3) ∷ []) ∷ []) (Some OutOfBounds)
-past_the_columns = refl
-
-abbrev first_row : List SliceInfoElem
-first_row = elem.Index (pos 0) ∷ all_of_axis ∷ []
-
-one_row_twice : IsFaultOfSlices (2 ∷ 3 ∷ []) (first_row ∷ first_row ∷ []) None → ⊥
-one_row_twice apart =
-    apart 0 1 [] (ltb-true 0 1 refl) (ltb-true 1 2 refl) (
-      0 ∷ 0 ∷ [],
-      refl,
-      ((0, ltb-true 0 1 refl, refl), ((0, ltb-true 0 3 refl, refl), tt)),
-      ((0, ltb-true 0 1 refl, refl), ((0, ltb-true 0 3 refl, refl), tt)),
-    )

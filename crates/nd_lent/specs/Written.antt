@@ -4,7 +4,7 @@ use Rattle.std.proofs.Common.{ap, eq-eqb}
 use Rattle.std.proofs.Math.Nat.{not-suc-le-zero}
 use Rattle.std.proofs.lemmas.Bool.{both_ways}
 use Rattle.std.specs.List.{Contains}
-use Rattle.nd_lent.specs.Items.{item_at_place}
+use Rattle.nd_parts.specs.Items.{item_at_place}
 use Rattle.nd_lent.specs.Mapped.{RunsOver}
 
 -- at every other place is the same item in both lists, and none is past the end of one alone

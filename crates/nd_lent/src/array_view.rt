@@ -5,7 +5,7 @@ ghost use Rattle.ndarray_layout.specs.Indices.{is_index};
 ghost use Rattle.ndarray_layout.specs.Memory.{NeedsNoMemory};
 ghost use Rattle.ndarray_layout.specs.Size.{size};
 ghost use Rattle.nd_lent.specs.ArrayView.{HasItems};
-ghost use Rattle.nd_lent.specs.Items.{item_at};
+ghost use Rattle.nd_parts.specs.Items.{item_at};
 
 mod comparing;
 mod extremes;
@@ -37,7 +37,7 @@ pub struct ArrayView<'a, T, D: Lengths> {
 
 impl<'a, T, D: Lengths> Model for ArrayView<'a, T, D> {
     ghost use Rattle.std.specs.Prelude.{length};
-    ghost use Rattle.nd_lent.specs.Items.{ArrayValue};
+    ghost use Rattle.nd_parts.specs.Items.{ArrayValue};
     ghost use Rattle.nd_lent.specs.ArrayView.{HasItems};
 
     ghost Value = { ArrayValue T };

@@ -1,6 +1,7 @@
 pub mod MultiSet
 pub mod Owned
 pub mod private
+pub use Rattle.nd_lent.specs.ArrayOfStep
 pub use Rattle.nd_lent.specs.ArrayView
 pub use Rattle.nd_lent.specs.ArrayViewMut
 pub use Rattle.nd_lent.specs.Equal
@@ -12,6 +13,7 @@ pub use Rattle.nd_lent.specs.LentRow
 pub use Rattle.nd_lent.specs.Mapped
 pub use Rattle.nd_lent.specs.MultiSlice
 pub use Rattle.nd_lent.specs.PartMut
+pub use Rattle.nd_lent.specs.Slices
 pub use Rattle.nd_lent.specs.SplitItems
 pub use Rattle.nd_lent.specs.Written
 pub use Rattle.nd_lent.specs.WrittenPart

@@ -20,7 +20,7 @@ use Rattle.ndarray_layout.specs.SlicedLayout.{sliced_shape}
 use Rattle.ndarray_layout.specs.SlicedView.{slice_of}
 use Rattle.ndarray_layout.specs.View.{View, view_places}
 use Rattle.nd_lent.specs.Items.{item_at_place}
-use Rattle.nd_lent.specs.MultiSlice.{IsSharingFault}
+use Rattle.nd_lent.specs.Slices.{IsSharingFault}
 
 -- a slice, and the items for its places
 pub record Write (T : Type 0) : Type 0 where

@@ -14,9 +14,9 @@ use Rattle.ndarray_layout.specs.SlicedView.{slice_of}
 use Rattle.ndarray_layout.specs.SlicesSharePlace.{SlicesSharePlace}
 use Rattle.ndarray_layout.specs.View.{View}
 use Rattle.ndarray_layout.proofs.laws.SlicedView.{Descends-slice_of}
-use Rattle.nd_lent.specs.Items.{ArrayValue}
-use Rattle.nd_lent.proofs.laws.Faults.{slices_fit}
-use Rattle.nd_lent.proofs.laws.Lists.{pairs_head, pairs_tail}
+use Rattle.nd_parts.specs.Items.{ArrayValue}
+use Rattle.nd_parts.proofs.laws.Faults.{slices_fit}
+use Rattle.nd_parts.proofs.laws.Lists.{pairs_head, pairs_tail}
 use Rattle.nd_cells.specs.Cells.{without}
 use Rattle.nd_parts.specs.Part.{AreMarked, IsPart, marks_of}
 use Rattle.nd_parts.specs.Slices.{AreApartInPlace}

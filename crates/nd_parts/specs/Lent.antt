@@ -1,5 +1,5 @@
 -- What a contract sees of a part.
-use Rattle.nd_lent.specs.Items.{ArrayValue}
+use Rattle.nd_parts.specs.Items.{ArrayValue}
 use Rattle.nd_parts.specs.declared.part.PartMut.{PartMut}
 
 -- all items as they were when the parts were made, but those of the part as they stand, and the view

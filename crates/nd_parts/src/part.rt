@@ -5,7 +5,7 @@ ghost use Rattle.ndarray_layout.specs.Indices.{is_index};
 ghost use Rattle.ndarray_layout.specs.Memory.{NeedsNoMemory};
 ghost use Rattle.ndarray_layout.specs.ShapeFault.{shape_fault};
 ghost use Rattle.ndarray_layout.specs.SplitView.{first_part_of, second_part_of, split_fault};
-ghost use Rattle.nd_lent.specs.Items.{IsOwned};
+ghost use Rattle.nd_parts.specs.Items.{IsOwned};
 ghost use Rattle.nd_parts.specs.Part.{IsPart, IsPart-prop};
 
 mod axes;
@@ -29,7 +29,7 @@ pub struct PartMut<'a, T, D: Lengths> {
 }
 
 impl<'a, T: Drop, D: Lengths> PartMut<'a, T, D> {
-    ghost use Rattle.nd_lent.specs.Items.{item_at, with_item};
+    ghost use Rattle.nd_parts.specs.Items.{item_at, with_item};
     ghost use Rattle.nd_parts.specs.Lent.{array_of};
 
     /// The part of all indices of a view. The caller ensures that each index has an item to itself, as

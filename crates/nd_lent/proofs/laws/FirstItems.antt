@@ -8,7 +8,7 @@ use Rattle.ndarray_layout.specs.declared.Order.TheVariants.{RowMajor}
 use Rattle.ndarray_layout.specs.Indices.{is_index}
 use Rattle.ndarray_layout.specs.View.{view_places}
 use Rattle.nd_lent.specs.Extremes.{IsFirstOf}
-use Rattle.nd_lent.specs.Items.{ArrayValue, item_at, item_at_place}
+use Rattle.nd_parts.specs.Items.{ArrayValue, item_at, item_at_place}
 use Rattle.nd_lent.proofs.laws.IndexItems.{index_of_item, of_each_index}
 
 module _ {T : Type 0} (comes_before : T → T → Bool) (array : ArrayValue T) where

@@ -12,7 +12,7 @@ use Rattle.ndarray_layout.specs.Indices.{indices_in, is_index}
 use Rattle.ndarray_layout.specs.View.{place_at, view_places}
 use Rattle.ndarray_layout.proofs.laws.Indices.{All-indices_in, Contains-indices_in}
 use Rattle.ndarray_layout.proofs.laws.Lists.{Contains-map, map_same}
-use Rattle.nd_lent.specs.Items.{ArrayValue, item_at, item_at_place}
+use Rattle.nd_parts.specs.Items.{ArrayValue, item_at, item_at_place}
 
 -- the items at the places of a view are those of its indices, in any order
 pub items_in : {T : Type 0} (order : Order) (array : ArrayValue T)

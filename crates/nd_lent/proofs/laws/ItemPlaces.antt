@@ -7,7 +7,7 @@ use Rattle.ndarray_layout.specs.declared.Order.TheVariants.{RowMajor}
 use Rattle.ndarray_layout.specs.Bounds.{IsInBounds}
 use Rattle.ndarray_layout.specs.View.{View, LiesWithin, view_places}
 use Rattle.ndarray_layout.proofs.laws.View.{places_lie_within}
-use Rattle.nd_lent.specs.Items.{item_at_place}
+use Rattle.nd_parts.specs.Items.{item_at_place}
 
 -- the first place lies among so many items, and so do the others
 pub record IsFirstInBounds (len place : ℕ) (others : List ℤ) : Type 0 where

@@ -11,7 +11,7 @@ use Rattle.ndarray_layout.specs.View.{View, place_at, view_places}
 use Rattle.ndarray_layout.proofs.laws.Indices.{Contains-indices_in}
 use Rattle.ndarray_layout.proofs.laws.Lists.{Contains-map}
 use Rattle.nd_lent.specs.ArrayViewMut.{HasItemsOf}
-use Rattle.nd_lent.specs.Items.{item_at, item_at_place}
+use Rattle.nd_parts.specs.Items.{item_at, item_at_place}
 use Rattle.nd_lent.specs.WrittenPart.{HasWrittenPart, IsOutside}
 use Rattle.nd_lent.specs.Written.{KeepsAllBut}
 use Rattle.nd_lent.proofs.laws.SlicePlaces.{listed}

@@ -11,7 +11,7 @@ use Rattle.ndarray_layout.specs.Rows.{row_at, row_places, slower_view, view_rows
 use Rattle.ndarray_layout.specs.Size.{size}
 use Rattle.ndarray_layout.specs.View.{View, view_places}
 use Rattle.ndarray_layout.proofs.laws.Rows.{get_or-row_places, length-row_places}
-use Rattle.nd_lent.specs.Items.{item_at_place}
+use Rattle.nd_parts.specs.Items.{item_at_place}
 
 -- without an index there is none
 pub no_rows : (view : View) → size view.shape ≡ 0 → view_rows RowMajor view ≡ []

@@ -17,8 +17,8 @@ use Rattle.ndarray_layout.proofs.laws.DistinctPlaces.{AllPairs-view_places}
 use Rattle.ndarray_layout.proofs.laws.Indices.{All-indices_in}
 use Rattle.ndarray_layout.proofs.laws.SharePlace.{intersect_of_shared_place}
 use Rattle.ndarray_layout.proofs.laws.SlicedView.{Descends-slice_of}
-use Rattle.nd_lent.proofs.laws.Faults.{slices_fit}
-use Rattle.nd_lent.proofs.laws.Lists.{none_of_all, pairs_append, pairs_head, pairs_tail}
+use Rattle.nd_parts.proofs.laws.Faults.{slices_fit}
+use Rattle.nd_parts.proofs.laws.Lists.{none_of_all, pairs_append, pairs_head, pairs_tail}
 
 -- a place that is listed is that of an index
 pub listed : (order : Order) (view : View) (place : ℤ) → Contains (view_places order view) place

@@ -3,7 +3,7 @@ use Rattle.std.specs.Prelude.{◌≡◌, ℕ, ◌+◌, ℤ, Option, List, [], �
 use Rattle.std.proofs.Common.{eq-eqb}
 use Rattle.std.proofs.lemmas.Bool.{both_ways}
 use Rattle.std.specs.List.{FoldsTo}
-use Rattle.nd_lent.specs.Items.{item_at_place}
+use Rattle.nd_parts.specs.Items.{item_at_place}
 use Rattle.nd_lent.specs.Mapped.{Makes}
 use Rattle.nd_lent.specs.Written.{KeepsAllBut}
 

@@ -9,7 +9,7 @@ ghost use Rattle.ndarray_layout.specs.declared.Order.TheVariants.{RowMajor};
 ghost use Rattle.ndarray_layout.specs.Bounds.{IsInBounds};
 ghost use Rattle.ndarray_layout.specs.Size.{size};
 ghost use Rattle.ndarray_layout.specs.View.{view_places};
-ghost use Rattle.nd_lent.specs.Items.{item_at_place};
+ghost use Rattle.nd_parts.specs.Items.{item_at_place};
 
 use crate::array_view::ArrayView;
 use ndarray_layout::{Lengths, Order, Places};
@@ -28,7 +28,7 @@ impl<'a, T> Model for Iter<'a, T> {
     ghost use Rattle.std.specs.List.{All};
     ghost use Rattle.std.specs.Prelude.{List, Option, length, map};
     ghost use Rattle.ndarray_layout.specs.Bounds.{IsInBounds};
-    ghost use Rattle.nd_lent.specs.Items.{item_at_place};
+    ghost use Rattle.nd_parts.specs.Items.{item_at_place};
 
     ghost Value = { List (Option T) };
 

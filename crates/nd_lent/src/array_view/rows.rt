@@ -8,7 +8,7 @@ ghost use Rattle.ndarray_layout.specs.Bounds.{IsInBounds};
 ghost use Rattle.ndarray_layout.specs.Rows.{view_rows};
 ghost use Rattle.ndarray_layout.specs.View.{view_places};
 ghost use Rattle.nd_lent.specs.LentRow.{RowValue, is_contiguous, row_items, row_of, rows_items};
-ghost use Rattle.nd_lent.specs.Items.{item_at_place};
+ghost use Rattle.nd_parts.specs.Items.{item_at_place};
 
 use crate::array_view::ArrayView;
 use ndarray_layout::{Lengths, Order, Row, Rows};

@@ -11,7 +11,7 @@ ghost use Rattle.ndarray_layout.specs.Memory.{NeedsNoMemory};
 ghost use Rattle.ndarray_layout.specs.PermutedView.{swap_fault, swapped_of};
 ghost use Rattle.ndarray_layout.specs.ShapeFault.{shape_fault};
 ghost use Rattle.ndarray_layout.specs.Descends.{Descends};
-ghost use Rattle.nd_lent.specs.ArrayView.{IsArrayOfStep};
+ghost use Rattle.nd_parts.specs.ArrayOfStep.{IsArrayOfStep};
 
 use crate::array_view_mut::ArrayViewMut;
 use ndarray_layout::{Axis, Dimension, Ix1, LayoutError, Lengths, ShapeError};

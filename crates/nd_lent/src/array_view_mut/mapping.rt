@@ -8,7 +8,7 @@ ghost use Rattle.std.specs.Result.{result_err};
 ghost use Rattle.ndarray_layout.specs.declared.ErrorKind.TheVariants.{IncompatibleShape};
 ghost use Rattle.nd_lent.specs.ArrayViewMut.{HasItemsOf, KeepsSpare};
 ghost use Rattle.nd_lent.specs.Mapped.{ActsAsAtMut, CallableOnEachMut, RunsOver, gives, ordered_items, row_major_items};
-ghost use Rattle.nd_lent.specs.Items.{item_at, item_at_place};
+ghost use Rattle.nd_parts.specs.Items.{item_at, item_at_place};
 ghost use Rattle.ndarray_layout.specs.Rows.{row_places, rows_places};
 ghost use Rattle.nd_lent.specs.LentRow.{HasRow, places_of, row_items, rows_items};
 ghost use Rattle.nd_lent.specs.Written.{HasRun};

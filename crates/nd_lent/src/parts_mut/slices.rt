@@ -9,8 +9,9 @@ ghost use Rattle.ndarray_layout.specs.ShapeFault.{shape_fault};
 ghost use Rattle.ndarray_layout.specs.SlicedView.{slice_of};
 ghost use Rattle.ndarray_layout.specs.View.{view_places};
 ghost use Rattle.nd_lent.specs.LentRow.{is_contiguous};
-ghost use Rattle.nd_lent.specs.MultiSlice.{IsFaultOfSlices, one_place, picked_rows, contiguous_rows};
-ghost use Rattle.nd_lent.specs.Items.{IsOwned};
+ghost use Rattle.nd_parts.specs.Slices.{IsFaultOfSlices};
+ghost use Rattle.nd_lent.specs.MultiSlice.{one_place, picked_rows, contiguous_rows};
+ghost use Rattle.nd_parts.specs.Items.{IsOwned};
 ghost use Rattle.nd_lent.specs.PartMut.{rows_of};
 
 use crate::array_view::is_contiguous;

@@ -3,9 +3,8 @@ ghost use Rattle.std.specs.Prelude.{◌≡◌, IfOk, IsOk, None, [], map};
 ghost use Rattle.ndarray_layout.specs.declared.Fit.TheVariants.{Strict};
 ghost use Rattle.ndarray_layout.specs.Intersections.{slices_fault};
 ghost use Rattle.ndarray_layout.specs.ShapeFault.{shape_fault};
-ghost use Rattle.nd_lent.specs.MultiSlice.{IsFaultOfSlices};
 ghost use Rattle.nd_parts.specs.Part.{IsPart};
-ghost use Rattle.nd_parts.specs.Slices.{AreApartInPlace, slice_array};
+ghost use Rattle.nd_parts.specs.Slices.{AreApartInPlace, IsFaultOfSlices, slice_array};
 ghost use Rattle.nd_parts.specs.Lent.{array_of};
 
 use crate::part::PartMut;

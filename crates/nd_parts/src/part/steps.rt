@@ -12,7 +12,7 @@ ghost use Rattle.ndarray_layout.specs.ShapeFault.{shape_fault};
 ghost use Rattle.ndarray_layout.specs.SliceFault.{out_count};
 ghost use Rattle.ndarray_layout.specs.SlicedView.{slice_of, view_slice_fault};
 ghost use Rattle.ndarray_layout.specs.Descends.{Descends};
-ghost use Rattle.nd_lent.specs.ArrayView.{IsArrayOfStep};
+ghost use Rattle.nd_parts.specs.ArrayOfStep.{IsArrayOfStep};
 
 use crate::part::PartMut;
 use ndarray_layout::{Axis, Fit, LayoutError, Lengths, Order, RemoveAxis, SliceElems};

@@ -11,7 +11,7 @@ use Rattle.ndarray_layout.specs.Picks.{picks}
 use Rattle.ndarray_layout.specs.SliceBounds.{slice_with}
 use Rattle.ndarray_layout.specs.Selected.{selected}
 use Rattle.ndarray_layout.specs.SlicedLayout.{sliced_shape}
-use Rattle.nd_owned.specs.ArrayView.{ShowsItemsOf}
+use Rattle.nd_owned.specs.ArrayOfStep.{ShowsItemsOf}
 use Rattle.nd_owned.specs.Owned.{ArrayValue, item_at}
 use Rattle.ndarray_layout.specs.SlicedView.{slice_of}
 use Rattle.ndarray_layout.proofs.laws.Between.{pick_down}

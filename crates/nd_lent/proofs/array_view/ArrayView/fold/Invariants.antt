@@ -5,7 +5,7 @@ use Rattle.ndarray_layout.specs.declared.Order.TheVariants.{RowMajor}
 use Rattle.ndarray_layout.specs.View.{view_places}
 use Rattle.nd_lent.specs.LentRow.{rows_items}
 use Rattle.nd_lent.specs.Lending.{lends}
-use Rattle.nd_lent.specs.Items.{item_at_place}
+use Rattle.nd_parts.specs.Items.{item_at_place}
 use Rattle.nd_lent.specs.private.Folded.{HasFolded}
 use Rattle.nd_lent.proofs.array_view.ArrayView.fold.Given as goal
 

@@ -7,7 +7,7 @@ use Rattle.ndarray_layout.proofs.laws.Rows.{rows_places-view_rows}
 use Rattle.nd_lent.specs.LentRow.{HasRow}
 use Rattle.nd_lent.specs.Lender.{array_of}
 use Rattle.nd_lent.specs.Mapped.{CallableOnEachMut}
-use Rattle.nd_lent.specs.Items.{item_at_place}
+use Rattle.nd_parts.specs.Items.{item_at_place}
 use Rattle.nd_lent.proofs.RowsLent.{rows_have_items}
 use Rattle.nd_lent.proofs.Runs.{mapped, ran_over, spare}
 use Rattle.nd_lent.proofs.Sets.{AreAll, all_of_owned}

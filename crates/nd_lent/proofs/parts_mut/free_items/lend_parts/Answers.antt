@@ -6,7 +6,7 @@ use Rattle.nd_lent.specs.private.Pieces.{AreRowsApart, HasRoom}
 use Rattle.nd_lent.proofs.Apart.{pairs_between, part_first}
 use Rattle.std.proofs.lemmas.List.{drop_more}
 use Rattle.nd_lent.proofs.Lent.{row_pushed}
-use Rattle.nd_lent.proofs.laws.Lists.{all_first, all_second, pairs_first, pairs_second}
+use Rattle.nd_parts.proofs.laws.Lists.{all_first, all_second, pairs_first, pairs_second}
 use Rattle.nd_lent.proofs.parts_mut.free_items.lend_parts.Goals as goal
 
 pub take_part-requires-clause-fits : goal.take_part-requires-clause-fits

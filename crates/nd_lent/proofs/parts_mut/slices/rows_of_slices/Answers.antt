@@ -5,10 +5,10 @@ use Rattle.ndarray_layout.specs.SliceFault.{argument_fault}
 use Rattle.ndarray_layout.specs.SlicedView.{slice_of}
 use Rattle.ndarray_layout.specs.View.{View}
 use Rattle.nd_lent.specs.MultiSlice.{contiguous_rows}
-use Rattle.nd_lent.proofs.laws.Faults.{handed_on}
-use Rattle.nd_lent.proofs.laws.Lists.{next, of_this}
+use Rattle.nd_parts.proofs.laws.Faults.{handed_on}
+use Rattle.nd_parts.proofs.laws.Lists.{next, of_this}
 use Rattle.nd_lent.proofs.Lent.{row_pushed}
-use Rattle.nd_lent.proofs.laws.Faults.{slices_fit}
+use Rattle.nd_parts.proofs.laws.Faults.{slices_fit}
 use Rattle.nd_lent.proofs.parts_mut.slices.rows_of_slices.Goals as goal
 
 pub returns-in_err-part-clause-fault : goal.returns-in_err-part-clause-fault

@@ -3,8 +3,8 @@ use Rattle.std.proofs.Common.{rules, ◌≡◌, None, map, refl, ◌∙◌}
 use Rattle.ndarray_layout.specs.declared.Fit.TheVariants.{Strict}
 use Rattle.ndarray_layout.specs.SliceFault.{argument_fault}
 use Rattle.ndarray_layout.specs.View.{View}
-use Rattle.nd_lent.proofs.laws.Faults.{handed_on, slices_fit}
-use Rattle.nd_lent.proofs.laws.Lists.{next, of_this}
+use Rattle.nd_parts.proofs.laws.Faults.{handed_on, slices_fit}
+use Rattle.nd_parts.proofs.laws.Lists.{next, of_this}
 use Rattle.nd_parts.specs.Lent.{array_of}
 use Rattle.nd_parts.specs.Slices.{slice_array}
 use Rattle.nd_parts.proofs.Marks.{part_is_within}
