@@ -1,4 +1,6 @@
 //! Parts of an array that are lent at once.
 #![tactic(auto)]
 
-pub mod part;
+mod part;
+
+pub use part::PartMut;

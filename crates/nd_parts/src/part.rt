@@ -9,6 +9,7 @@ ghost use Rattle.nd_parts.specs.Items.{IsOwned};
 ghost use Rattle.nd_parts.specs.Part.{IsPart, IsPart-prop};
 
 mod axes;
+mod making;
 mod slices;
 mod steps;
 
@@ -46,7 +47,7 @@ impl<'a, T: Drop, D: Lengths> PartMut<'a, T, D> {
     }
 
     /// The part of all indices of a view. The caller ensures that each index has a place to itself, which has a mark.
-    fn over(cells: Cells<'a, T>, view: Strided<D>) -> Self
+    fn of_cells(cells: Cells<'a, T>, view: Strided<D>) -> Self
         requires { IsPart cells.marks view }
         ensures items { (array_of result).items ≡ cells.entry.items }
         ensures view { (array_of result).view ≡ view }

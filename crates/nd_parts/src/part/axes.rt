@@ -61,7 +61,7 @@ impl<'a, T: Drop, D: Lengths> PartMut<'a, T, D> {
     {
         let PartMut { cells, view } = self;
         let view = view.diag();
-        PartMut::over(cells, view)
+        PartMut::of_cells(cells, view)
     }
 }
 
@@ -82,7 +82,7 @@ impl<'a, T: Drop, D: Lengths + Copy> PartMut<'a, T, D> {
     {
         let PartMut { cells, view } = self;
         let view = view.crop(starts, ends)?;
-        Some(PartMut::over(cells, view))
+        Some(PartMut::of_cells(cells, view))
     }
 }
 
@@ -109,6 +109,6 @@ impl<'a, T: Drop, D: Dimension> PartMut<'a, T, D> {
     {
         let PartMut { cells, view } = self;
         let view = view.insert_axis(alloc, axis)?;
-        Ok(PartMut::over(cells, view))
+        Ok(PartMut::of_cells(cells, view))
     }
 }

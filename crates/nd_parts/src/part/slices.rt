@@ -34,7 +34,7 @@ fn parts_of_slices<'a, T: Drop, D: Lengths, S: SliceElems>(
         let picked: Strided<IxDyn> = view.slice(alloc, slice, Fit::Strict)?;
         let (one, others) = left.split(&picked);
         left = others;
-        parts.push(PartMut::over(one, picked))?;
+        parts.push(PartMut::of_cells(one, picked))?;
     }
     Ok(parts)
 }

@@ -42,7 +42,7 @@ impl<'a, T: Drop, D: Lengths> PartMut<'a, T, D> {
     {
         let PartMut { cells, view } = self;
         let view = view.slice(alloc, slices, fit)?;
-        Ok(PartMut::over(cells, view))
+        Ok(PartMut::of_cells(cells, view))
     }
 
     /// The transpose: `Strided::reversed_axes`.
@@ -56,7 +56,7 @@ impl<'a, T: Drop, D: Lengths> PartMut<'a, T, D> {
     {
         let PartMut { cells, view } = self;
         let view = view.reversed_axes();
-        PartMut::over(cells, view)
+        PartMut::of_cells(cells, view)
     }
 
     /// The axes in another order: `Strided::permuted_axes`, with its errors.
@@ -75,7 +75,7 @@ impl<'a, T: Drop, D: Lengths> PartMut<'a, T, D> {
     {
         let PartMut { cells, view } = self;
         let view = view.permuted_axes(alloc, axes)?;
-        Ok(PartMut::over(cells, view))
+        Ok(PartMut::of_cells(cells, view))
     }
 
     /// The same items along another shape, in an order: `Strided::reshape`, with its errors.
@@ -105,7 +105,7 @@ impl<'a, T: Drop, D: Lengths> PartMut<'a, T, D> {
     {
         let PartMut { cells, view } = self;
         let view = view.reshape(alloc, shape, order)?;
-        Ok(PartMut::over(cells, view))
+        Ok(PartMut::of_cells(cells, view))
     }
 
     /// All chunks of a shape that lie side by side, as one part: `Strided::exact_chunks`, with its errors.
@@ -129,7 +129,7 @@ impl<'a, T: Drop, D: Lengths> PartMut<'a, T, D> {
     {
         let PartMut { cells, view } = self;
         let view = view.exact_chunks(alloc, chunk)?;
-        Ok(PartMut::over(cells, view))
+        Ok(PartMut::of_cells(cells, view))
     }
 }
 
@@ -158,6 +158,6 @@ impl<'a, T: Drop, D: RemoveAxis> PartMut<'a, T, D> {
     {
         let PartMut { cells, view } = self;
         let view = view.index_axis(alloc, axis, index)?;
-        Ok(PartMut::over(cells, view))
+        Ok(PartMut::of_cells(cells, view))
     }
 }

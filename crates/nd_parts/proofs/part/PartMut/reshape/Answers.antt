@@ -2,5 +2,5 @@
 use Rattle.nd_parts.proofs.Marks.{part_descendant}
 use Rattle.nd_parts.proofs.part.PartMut.reshape.Goals as goal
 
-pub over-requires : goal.over-requires
-over-requires g c = part_descendant _ c.in_ok-view.ensures.kept c.args.self.part
+pub of_cells-requires : goal.of_cells-requires
+of_cells-requires g c = part_descendant _ c.in_ok-view.ensures.kept c.args.self.part

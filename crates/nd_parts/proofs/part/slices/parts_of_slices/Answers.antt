@@ -39,8 +39,8 @@ split-one-requires g c κs within = (
   ),
 )
 
-pub over-requires : goal.over-requires
-over-requires g c =
+pub of_cells-requires : goal.of_cells-requires
+of_cells-requires g c =
     own_part c.loop-slice.left.marks c.in_ok-picked.ensures.kept c.requires.part.distinct
     (next_marked c.loop-slice.invariant.2
     (next g.S.SliceElems.list c.args.slices.now c.loop-slice.slice-index c.loop-slice-test.true c.slice-item.is)
@@ -51,8 +51,8 @@ pub loop-slice-preserved : goal.loop-slice-preserved
 loop-slice-preserved g c =
     let from = next g.S.SliceElems.list c.args.slices.now c.loop-slice.slice-index c.loop-slice-test.true c.slice-item.is in (
       part_pushed array_of (slice_array c.args.cells.items c.args.view.now) c.loop-slice.parts.items c.in_ok-push.ensures.items from
-          (made_so (c.over.ensures.items ∙ c.split-one.ensures.all.0 ∙ c.loop-slice.invariant.1)
-          (c.over.ensures.view ∙ c.in_ok-picked.ensures.sliced))
+          (made_so (c.of_cells.ensures.items ∙ c.split-one.ensures.all.0 ∙ c.loop-slice.invariant.1)
+          (c.of_cells.ensures.view ∙ c.in_ok-picked.ensures.sliced))
           c.loop-slice.invariant.0,
       c.split-one.ensures.all.1 ∙ c.loop-slice.invariant.1,
       left_by_one c.loop-slice.invariant.2 from c.in_ok-picked.ensures.sliced c.split-one.ensures.all.3,
