@@ -1,14 +1,9 @@
-pub mod Apart
-pub mod ContiguousRows
 pub mod Extremes
 pub mod Folding
-pub mod Lent
-pub mod Pieces
 pub mod RowRuns
 pub mod RowsLent
 pub mod Runs
 pub mod Sets
-pub mod SliceParts
 pub mod SplitItems
 pub mod Steps
 pub mod Sums

@@ -6,14 +6,13 @@ pub mod Lender
 pub mod Lending
 pub mod LentRow
 pub mod Mapped
-pub mod MultiSlice
-pub mod PartMut
 pub mod SplitItems
 pub mod Written
 pub mod WrittenPart
 pub mod private
 pub use Rattle.nd_parts.specs.ArrayOfStep
 pub use Rattle.nd_parts.specs.Items
+pub use Rattle.nd_parts.specs.Lent
 pub use Rattle.nd_parts.specs.Slices
 pub use Rattle.ndarray_layout.specs.AcceptanceByStrides
 pub use Rattle.ndarray_layout.specs.Memory

@@ -9,6 +9,7 @@ ghost use Rattle.nd_parts.specs.Items.{IsOwned, IsOwned-prop};
 mod axes;
 mod making;
 mod mapping;
+mod parts;
 mod splitting;
 mod steps;
 mod writing;

@@ -4,8 +4,7 @@
 mod array_view;
 mod array_view_mut;
 mod indexing;
-mod parts_mut;
 
 pub use array_view::{ArrayView, Iter, LentRow, LentRows, Unsigned};
 pub use array_view_mut::{ArrayViewMut, SplitViews};
-pub use parts_mut::PartMut;
+pub use nd_parts::PartMut;

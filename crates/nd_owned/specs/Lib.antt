@@ -9,10 +9,9 @@ pub use Rattle.nd_lent.specs.Extremes
 pub use Rattle.nd_lent.specs.Items
 pub use Rattle.nd_lent.specs.Lender
 pub use Rattle.nd_lent.specs.Lending
+pub use Rattle.nd_lent.specs.Lent
 pub use Rattle.nd_lent.specs.LentRow
 pub use Rattle.nd_lent.specs.Mapped
-pub use Rattle.nd_lent.specs.MultiSlice
-pub use Rattle.nd_lent.specs.PartMut
 pub use Rattle.nd_lent.specs.Slices
 pub use Rattle.nd_lent.specs.SplitItems
 pub use Rattle.nd_lent.specs.Written

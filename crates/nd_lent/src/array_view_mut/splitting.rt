@@ -1,22 +1,18 @@
-//! The two parts of an array along an axis, and those that slices pick, lent at once to be written.
-ghost use Rattle.std.specs.Prelude.{◌≡◌, ◌⊎◌, ◌+◌, ◌-◌, ◌≤◌, [], map, false, None, IfOk, IsOk, if◌then◌else◌, length};
+//! The two parts of an array along an axis, lent at once to be written.
+ghost use Rattle.std.specs.Prelude.{◌≡◌, ◌⊎◌, ◌+◌, ◌-◌, ◌≤◌, false, None, IfOk, IsOk, if◌then◌else◌, length};
 ghost use Rattle.ndarray_layout.specs.Memory.{NeedsNoMemory};
 ghost use Rattle.ndarray_layout.specs.ShapeFault.{shape_fault};
 ghost use Rattle.ndarray_layout.specs.Size.{is_empty};
 ghost use Rattle.ndarray_layout.specs.Span.{low_span};
 ghost use Rattle.ndarray_layout.specs.SplitView.{first_part_of, second_part_of, second_source, split_fault};
 ghost use Rattle.ndarray_layout.specs.View.{IsView, LiesWithin};
-ghost use Rattle.nd_parts.specs.Slices.{IsFaultOfSlices};
-ghost use Rattle.nd_lent.specs.MultiSlice.{picked_rows};
 ghost use Rattle.nd_parts.specs.Items.{IsOwned};
-ghost use Rattle.nd_lent.specs.PartMut.{rows_of};
 ghost use Rattle.nd_lent.specs.SplitItems.{IsMemory, IsMoved, ShowsPartOf, highest, lowest, split_items_fault};
 
 use crate::array_view_mut::ArrayViewMut;
-use crate::parts_mut::PartMut;
 use ndarray_layout::{
-    Axis, CanIndexCheckMode, ErrorKind, LayoutError, Lengths, ShapeError, SliceElems, Strided,
-    from_kind, max_abs_offset_check_overflow, offset_from_low_addr_ptr_to_logical_ptr,
+    Axis, CanIndexCheckMode, ErrorKind, LayoutError, Lengths, ShapeError, Strided, from_kind,
+    max_abs_offset_check_overflow, offset_from_low_addr_ptr_to_logical_ptr,
 };
 use std::alloc::Global;
 
@@ -144,8 +140,8 @@ impl<'a, T: Drop, D: Lengths> ArrayViewMut<'a, T, D> {
     /// The two parts along an axis, both lent at once: those of `SplitViews::new`, with its errors. A thread of its own may
     /// write each.
     ///
-    /// (A proof that needs to know what the items are in the end takes `SplitViews::new`. `PartMut` lends parts whose places
-    /// interleave, as the columns of a picture.)
+    /// (A proof that needs to know what the items are in the end takes `SplitViews::new`. `PartMut::split_at` lends parts whose
+    /// places interleave too, as the columns of a picture.)
     ///
     /// Axis 0 of `[3]` over 7 8 9 at 1: 7, and 8 9. ndarray's `split_at`.
     pub fn split_at_mut(
@@ -188,33 +184,5 @@ impl<'a, T: Drop, D: Lengths> ArrayViewMut<'a, T, D> {
             ArrayViewMut::new(first, upper),
             ArrayViewMut::new(second, lower),
         ))
-    }
-
-    /// The parts that slices pick, all lent at once: those of `PartMut::of_slices`, with its errors. A thread of its own may
-    /// write each.
-    ///
-    /// `0,..` and `1,..;2` of `[2,3]` over 0 1 2 3 4 5: 0 1 2 in one row; 3 and 5, each in a row of its own.
-    ///
-    /// A picture of 2 rows of 3 pixels, with red, green and blue side by side: `[2,3,3]` over 0, 1, .. 17, with the strides
-    /// `[9,3,1]`. Its green plane `..,..,1` isn't 2 rows of 3 items, but 6 rows of one: 1, 4, 7, 10, 13 and 16. The row of pixel
-    /// (1,2) is 1 * 3 + 2, so `get(5, 0)` is 16. `get(1, 2)` is `None`, and `set(1, 2, ..)` returns `false` and writes nothing.
-    /// `set(1, 0, ..)` returns `true`, and writes pixel (0,1), whose row that is. Where the planes lie one after another, as in
-    /// `[3,2,3]`, row and column of `1,..,..` are those of the picture.
-    ///
-    /// ndarray's `multi_slice_mut`, which panics where two slices share an index.
-    pub fn multi_slice_mut<S: SliceElems>(
-        self,
-        alloc: Global,
-        slices: &[S],
-    ) -> Result<Vec<PartMut<'a, T>>, LayoutError>
-        ensures fault { IsFaultOfSlices (array_of self.entry).view.shape
-            (map S.list slices.now) (shape_fault result) }
-        ensures memory { slices.now ≡ [] → IsOk result }
-        ensures rows { IfOk result (λ parts. map rows_of parts.items ≡
-            map (picked_rows (array_of self.entry).items (array_of self.entry).view)
-            (map S.list slices.now)) }
-    {
-        let ArrayViewMut { items, view } = self;
-        PartMut::of_slices(alloc, &view, items, slices)
     }
 }
