@@ -1,4 +1,5 @@
 //! Arrays that own their items, and what is asked of them, as rows tell it.
+use crate::parts::{are_halves_written, are_parts_written};
 use crate::views::shape;
 use nd_owned::OwnedArray;
 use ndarray_layout::{LayoutError, Lengths, SliceInfoElem};
@@ -16,6 +17,10 @@ pub enum OfArray {
     Set,
     /// `ARGUMENT ITEMS ARGUMENT ITEMS .. => Ok ITEMS`, or the fault.
     MultiSet,
+    /// `ARGUMENT INDEX ITEM ARGUMENT INDEX ITEM .. => true ITEMS`, `false ITEMS` or the fault: an item of each part, all lent at once.
+    SetParts,
+    /// `AXIS COORDINATE INDEX ITEM INDEX ITEM => true ITEMS`, `false ITEMS` or the fault: an item of each of the two parts.
+    SetHalves,
 }
 
 /// An array, or why there is none, and the items that are handed back.
@@ -117,6 +122,8 @@ impl AtType for OfRow<'_, '_> {
                 OfArray::Items => are_read(alloc, row, &array),
                 OfArray::Set => is_set(alloc, row, &mut array),
                 OfArray::MultiSet => is_written(alloc, row, &mut array),
+                OfArray::SetParts => are_parts_written(alloc, row, &mut array),
+                OfArray::SetHalves => are_halves_written(alloc, row, &mut array),
             },
             Err((fault, items)) => {
                 let is_asked = matches!(asked, OfArray::FromShapeVec);
