@@ -1,25 +1,13 @@
 -- Laws of the places of rows, and of the items there.
-use Rattle.std.proofs.Common.{◌≡◌, ℕ, zero, suc, ◌+◌, ◌*◌, ◌<◌, ◌≤◌, ℤ, pos, negsuc, ◌+ℤ◌, ◌*ℤ◌, Bool, true, false, cond, nat_eq, Some}
+use Rattle.std.proofs.Common.{◌≡◌, ℕ, zero, suc, ◌+◌, ◌*◌, ◌<◌, ◌≤◌, ℤ, pos, negsuc, ◌+ℤ◌, ◌*ℤ◌, Some}
 use Rattle.std.proofs.Common.{List, [], ◌∷◌, length, map, take, drop, refl, sym, ap, subst, ◌∙◌, arith}
 use Rattle.std.specs.List.{All, range_with_len}
 use Rattle.std.specs.Prelude.{slice_get}
-use Rattle.std.proofs.lemmas.Bool.{eq-eqb}
 use Rattle.std.proofs.lemmas.Int.{ints}
-use Rattle.ndarray_layout.specs.declared.Order.TheVariants.{RowMajor}
 use Rattle.ndarray_layout.specs.Bounds.{IsInBounds}
-use Rattle.ndarray_layout.specs.Rows.{row_at, row_places, slower_view, view_rows}
-use Rattle.ndarray_layout.specs.Size.{size}
-use Rattle.ndarray_layout.specs.View.{View, view_places}
+use Rattle.ndarray_layout.specs.Rows.{row_places}
 use Rattle.ndarray_layout.proofs.laws.Rows.{get_or-row_places, length-row_places}
 use Rattle.nd_parts.specs.Items.{item_at_place}
-
--- without an index there is none
-pub no_rows : (view : View) → size view.shape ≡ 0 → view_rows RowMajor view ≡ []
-no_rows view none = by (nat_eq (size view.shape) 0) (eq-eqb (size view.shape) 0 none)
-  where
-    by : (is : Bool) → is ≡ true → cond is [] (map (row_at RowMajor view) (view_places RowMajor (slower_view RowMajor view))) ≡ []
-    by true is = refl
-    by false is = absurd (cc)
 
 -- ---- where the places of a row lie
 
