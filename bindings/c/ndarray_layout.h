@@ -103,6 +103,7 @@
 #define nd_check_layout_reason ND_NAME(nd_check_layout_reason)
 #define nd_reshape_reason ND_NAME(nd_reshape_reason)
 #define nd_permuted_axes_reason ND_NAME(nd_permuted_axes_reason)
+#define nd_index_reason ND_NAME(nd_index_reason)
 #define nd_status_text ND_NAME(nd_status_text)
 #define nd_version ND_NAME(nd_version)
 
@@ -485,7 +486,8 @@ int32_t nd_stretch(size_t start, const size_t *shape, size_t shape_len, const pt
 enum {
     ND_RULE_NONE = 0,        /* ND_OK: no rule is broken */
     ND_RULE_COUNT = 1,       /* a list is of another count than there are axes. `size`: its count, of a slice without new
-                                axes. ND_INCOMPATIBLE_SHAPE of a slice or of axes, ND_INCOMPATIBLE_LAYOUT of strides */
+                                axes. ND_INCOMPATIBLE_SHAPE of a slice or of axes, ND_INCOMPATIBLE_LAYOUT of strides,
+                                ND_OUT_OF_BOUNDS of an index */
     ND_RULE_INDEX = 2,       /* ND_OUT_OF_BOUNDS: an index is no coordinate of its axis. `axis`; `number`: the index;
                                 `size`: the length of the axis */
     ND_RULE_BOUND = 3,       /* ND_OUT_OF_BOUNDS: a bound of a range means no number from 0 to the length of its axis.
@@ -505,7 +507,9 @@ enum {
                                 the first up to which the axes alone can't be read along the new shape: the stride of the
                                 axis of length greater than 1 that is read before it isn't its length times its stride,
                                 and the new shape has no boundary there */
-    ND_RULE_MISSING = 14     /* ND_INCOMPATIBLE_SHAPE: an axis isn't listed. `axis`: the first such */
+    ND_RULE_MISSING = 14,    /* ND_INCOMPATIBLE_SHAPE: an axis isn't listed. `axis`: the first such */
+    ND_RULE_COORDINATE = 15  /* ND_OUT_OF_BOUNDS: a coordinate isn't below the length of its axis. `axis`: the first such;
+                                `size`: the coordinate */
 };
 
 /*
@@ -577,6 +581,14 @@ int32_t nd_reshape_reason(const size_t *shape, size_t shape_len, const ptrdiff_t
  */
 int32_t nd_permuted_axes_reason(const size_t *shape, size_t shape_len, const size_t *axes, size_t axes_len,
                                 nd_reason *reason);
+
+/*
+ * Writes why a list is no index of a shape: of nd_place after the rules on the layout, and of nd_next_index. Always ND_OK.
+ * ND_RULE_COUNT comes before ND_RULE_COORDINATE.
+ *
+ * (2,3) by (1,3): ND_OUT_OF_BOUNDS, ND_RULE_COORDINATE, axis 1, size 3; by (2): ND_RULE_COUNT, size 1.
+ */
+int32_t nd_index_reason(const size_t *shape, size_t shape_len, const size_t *index, size_t index_len, nd_reason *reason);
 
 /* ---- Statuses -------------------------------------------------------------------------------------------------------- */
 

@@ -147,6 +147,18 @@ static void test_axes(void) {
     TOLD(nd_permuted_axes_reason(none, 0, none, 0, &reason), ND_OK, ND_RULE_NONE, 0, 0, 0);
 }
 
+static void test_indices(void) {
+    const size_t past[3] = {1, 3, 9}, last[3] = {1, 2, 4}, long_shape[6] = {2, 1, 3, 1, 2, 1};
+    const size_t long_index[6] = {1, 0, 2, 0, SIZE_MAX, 1}, no_index[2] = {0, 6};
+    TOLD(nd_index_reason(LIST(three_axes), LIST(past), &reason), ND_OUT_OF_BOUNDS, ND_RULE_COORDINATE, 1, 0, 3);
+    TOLD(nd_index_reason(LIST(long_shape), LIST(long_index), &reason), ND_OUT_OF_BOUNDS, ND_RULE_COORDINATE, 4, 0, SIZE_MAX);
+    TOLD(nd_index_reason(LIST(no_index), none, 2, &reason), ND_OUT_OF_BOUNDS, ND_RULE_COORDINATE, 0, 0, 0);
+    TOLD(nd_index_reason(LIST(two_three), LIST(past), &reason), ND_OUT_OF_BOUNDS, ND_RULE_COUNT, 0, 0, 3);
+    TOLD(nd_index_reason(LIST(two_three), LIST(four), &reason), ND_OUT_OF_BOUNDS, ND_RULE_COUNT, 0, 0, 1);
+    TOLD(nd_index_reason(LIST(three_axes), LIST(last), &reason), ND_OK, ND_RULE_NONE, 0, 0, 0);
+    TOLD(nd_index_reason(none, 0, none, 0, &reason), ND_OK, ND_RULE_NONE, 0, 0, 0);
+}
+
 /* The status of a reason is that of the call. */
 static void test_statuses(void) {
     size_t start, len, shape[2], strides_and_lengths = 0;
@@ -171,6 +183,7 @@ int main(void) {
     test_check_layout();
     test_reshapes();
     test_axes();
+    test_indices();
     test_statuses();
     printf("%d checked, %d failed\n", checked, failed);
     return failed != 0;

@@ -1,6 +1,8 @@
 pub mod CommonShapes
 pub mod Counts
+pub mod FirstFound
 pub mod FirstOf
+pub mod IndexReasonStatus
 pub mod Kept
 pub mod LayoutReasonStatus
 pub mod SliceReasonStatus

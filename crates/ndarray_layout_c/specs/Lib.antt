@@ -3,6 +3,7 @@ pub mod BlocksTaken
 pub mod Elements
 pub mod IndexAfter
 pub mod IndexFault
+pub mod IndexReasons
 pub mod Kept
 pub mod LayoutFault
 pub mod LayoutReasons

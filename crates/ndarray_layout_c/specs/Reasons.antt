@@ -60,6 +60,10 @@ copy_rule = pos 13
 abbrev pub missing_rule : ℤ
 missing_rule = pos 14
 
+-- the number of the rule that is broken: a coordinate of an index is none of its axis
+abbrev pub coordinate_rule : ℤ
+coordinate_rule = pos 15
+
 -- no rule is broken
 abbrev pub no_reason : Reason
 no_reason = record { status = ok; rule = pos 0; axis = 0; number = pos 0; size = 0 }

@@ -9,6 +9,7 @@ mod arguments;
 mod blocks;
 mod diagonals;
 mod elements;
+mod index_reasons;
 mod indices;
 mod intersections;
 mod layout_reasons;

@@ -55,6 +55,9 @@ pub(crate) const COPY: i32 = 13;
 /// An axis isn't listed.
 pub(crate) const MISSING: i32 = 14;
 
+/// A coordinate of an index is none of its axis.
+pub(crate) const COORDINATE: i32 = 15;
+
 /// No rule is broken.
 pub(crate) fn no_reason() -> Reason
     ensures { result ≡ no_reason }

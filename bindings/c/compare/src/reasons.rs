@@ -1,6 +1,6 @@
 //! Why calls return their errors: 100,000 random calls of both libraries, and of a plain model.
 
-use crate::arguments::{axes, buffer_len, other_shape};
+use crate::arguments::{axes, buffer_len, index, other_shape};
 use crate::compare::*;
 use crate::erased::Reason;
 use crate::model::layouts::{LIMIT, is_empty, low_and_high, product_without_zeros, size, span};
@@ -29,6 +29,7 @@ const ALIAS: i32 = 11;
 const OTHER_SIZE: i32 = 12;
 const COPY: i32 = 13;
 const MISSING: i32 = 14;
+const COORDINATE: i32 = 15;
 
 /// What a call returns, and what it writes over a reason that nothing has written.
 fn told(call: impl FnOnce(&mut Reason) -> i32) -> (i32, Told) {
@@ -288,5 +289,32 @@ fn permuted_axes_reason() {
         arguments,
         |(shape, axes)| told(|reason| nd_permuted_axes_reason(shape, axes, reason)),
         |(shape, axes)| Some(of_axes(shape, axes)),
+    );
+}
+
+/// How many coordinates a list has, unless that is one for each axis, or else the first that its axis doesn't have.
+fn of_index(shape: &[usize], index: &[usize]) -> Told {
+    if index.len() != shape.len() {
+        return (OUT_OF_BOUNDS, COUNT, 0, 0, index.len());
+    }
+    match shape.iter().zip(index).position(|(len, coordinate)| coordinate >= len) {
+        Some(axis) => (OUT_OF_BOUNDS, COORDINATE, axis, 0, index[axis]),
+        None => NO_REASON,
+    }
+}
+
+#[test]
+fn index_reason() {
+    let arguments = |numbers: &mut Numbers| {
+        let shape = shape(numbers);
+        let index = index(numbers, &shape);
+        (shape, index)
+    };
+    compare_reasons!(
+        "nd_index_reason",
+        [0, COUNT, COORDINATE],
+        arguments,
+        |(shape, index)| told(|reason| nd_index_reason(shape, index, reason)),
+        |(shape, index)| Some(of_index(shape, index)),
     );
 }

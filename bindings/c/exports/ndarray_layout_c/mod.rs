@@ -24,6 +24,7 @@ pub mod arguments;
 pub mod blocks;
 pub mod diagonals;
 pub mod elements;
+pub mod index_reasons;
 pub mod indices;
 pub mod intersections;
 pub mod layout_reasons;

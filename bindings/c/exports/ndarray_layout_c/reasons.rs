@@ -54,6 +54,9 @@ pub(crate) const COPY: i32 = 13;
 /// An axis isn't listed.
 pub(crate) const MISSING: i32 = 14;
 
+/// A coordinate of an index is none of its axis.
+pub(crate) const COORDINATE: i32 = 15;
+
 /// No rule is broken.
 ///
 /// <details><summary>Contract (proved)</summary>
