@@ -104,6 +104,8 @@
 #define nd_reshape_reason ND_NAME(nd_reshape_reason)
 #define nd_permuted_axes_reason ND_NAME(nd_permuted_axes_reason)
 #define nd_index_reason ND_NAME(nd_index_reason)
+#define nd_co_broadcast_reason ND_NAME(nd_co_broadcast_reason)
+#define nd_broadcast_reason ND_NAME(nd_broadcast_reason)
 #define nd_status_text ND_NAME(nd_status_text)
 #define nd_version ND_NAME(nd_version)
 
@@ -485,9 +487,9 @@ int32_t nd_stretch(size_t start, const size_t *shape, size_t shape_len, const pt
  */
 enum {
     ND_RULE_NONE = 0,        /* ND_OK: no rule is broken */
-    ND_RULE_COUNT = 1,       /* a list is of another count than there are axes. `size`: its count, of a slice without new
-                                axes. ND_INCOMPATIBLE_SHAPE of a slice or of axes, ND_INCOMPATIBLE_LAYOUT of strides,
-                                ND_OUT_OF_BOUNDS of an index */
+    ND_RULE_COUNT = 1,       /* a list is of another count than there are axes, of a smaller one where a layout is broadcast
+                                to it. `size`: its count, of a slice without new axes. ND_INCOMPATIBLE_SHAPE of a slice, of
+                                axes or of a shape, ND_INCOMPATIBLE_LAYOUT of strides, ND_OUT_OF_BOUNDS of an index */
     ND_RULE_INDEX = 2,       /* ND_OUT_OF_BOUNDS: an index is no coordinate of its axis. `axis`; `number`: the index;
                                 `size`: the length of the axis */
     ND_RULE_BOUND = 3,       /* ND_OUT_OF_BOUNDS: a bound of a range means no number from 0 to the length of its axis.
@@ -508,8 +510,12 @@ enum {
                                 axis of length greater than 1 that is read before it isn't its length times its stride,
                                 and the new shape has no boundary there */
     ND_RULE_MISSING = 14,    /* ND_INCOMPATIBLE_SHAPE: an axis isn't listed. `axis`: the first such */
-    ND_RULE_COORDINATE = 15  /* ND_OUT_OF_BOUNDS: a coordinate isn't below the length of its axis. `axis`: the first such;
+    ND_RULE_COORDINATE = 15, /* ND_OUT_OF_BOUNDS: a coordinate isn't below the length of its axis. `axis`: the first such;
                                 `size`: the coordinate */
+    ND_RULE_COMMON = 16,     /* ND_INCOMPATIBLE_SHAPE: two lengths of an axis are unequal, and neither is 1. `axis`: the first
+                                such of the common shape */
+    ND_RULE_STRETCH = 17     /* ND_INCOMPATIBLE_SHAPE: a length is neither 1 nor that of the axis that it is broadcast to.
+                                `axis`: the first such of the new shape; `size`: the length */
 };
 
 /*
@@ -589,6 +595,23 @@ int32_t nd_permuted_axes_reason(const size_t *shape, size_t shape_len, const siz
  * (2,3) by (1,3): ND_OUT_OF_BOUNDS, ND_RULE_COORDINATE, axis 1, size 3; by (2): ND_RULE_COUNT, size 1.
  */
 int32_t nd_index_reason(const size_t *shape, size_t shape_len, const size_t *index, size_t index_len, nd_reason *reason);
+
+/*
+ * Writes why two shapes have no common one. Always ND_OK.
+ *
+ * (4,2,5) and (3,1): ND_INCOMPATIBLE_SHAPE, ND_RULE_COMMON, axis 1, where one has length 2 and the other 3.
+ */
+int32_t nd_co_broadcast_reason(const size_t *first, size_t first_len, const size_t *second, size_t second_len,
+                               nd_reason *reason);
+
+/*
+ * Writes why a layout of a shape can't be broadcast to another: of nd_broadcast after the rules on the layout. Always ND_OK.
+ * ND_RULE_COUNT comes before ND_RULE_STRETCH, and then ND_RULE_SIZE of `target`.
+ *
+ * (1,4) to (2,5,3): ND_INCOMPATIBLE_SHAPE, ND_RULE_STRETCH, axis 2, size 4; to (4): ND_RULE_COUNT, size 1.
+ */
+int32_t nd_broadcast_reason(const size_t *shape, size_t shape_len, const size_t *target, size_t target_len,
+                            nd_reason *reason);
 
 /* ---- Statuses -------------------------------------------------------------------------------------------------------- */
 

@@ -120,6 +120,8 @@ static void test_no_memory(void) {
     REQUESTS(0, nd_merge_axes(LIST(lens), LIST(steps), 0, 2, &written.answer));
     REQUESTS(0, nd_permuted_axes_reason(LIST(long_shape), LIST(long_axes), &written.reason));
     REQUESTS(0, nd_index_reason(LIST(long_shape), LIST(long_index), &written.reason));
+    REQUESTS(0, nd_co_broadcast_reason(LIST(long_shape), LIST(target), &written.reason));
+    REQUESTS(0, nd_broadcast_reason(LIST(long_shape), LIST(target), &written.reason));
     REQUESTS(0, nd_status_text(ND_OK, LIST(text), &written.number));
     REQUESTS(0, nd_version(&written.answer, &minor, &patch));
 }

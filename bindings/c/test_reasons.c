@@ -159,6 +159,24 @@ static void test_indices(void) {
     TOLD(nd_index_reason(none, 0, none, 0, &reason), ND_OK, ND_RULE_NONE, 0, 0, 0);
 }
 
+static void test_broadcasts(void) {
+    const size_t one_four[2] = {1, 4}, two_four[2] = {2, 4}, wide[3] = {2, 5, 3}, wider[3] = {2, 5, 4}, tall[3] = {4, 2, 5};
+    const size_t three_one[2] = {3, 1}, no_rows[2] = {0, 1}, huge[2] = {PTRDIFF_MAX, 2}, both[3] = {3, 7, 4}, seven[2] = {6, 7};
+    TOLD(nd_co_broadcast_reason(LIST(tall), LIST(three_one), &reason), ND_INCOMPATIBLE_SHAPE, ND_RULE_COMMON, 1, 0, 0);
+    TOLD(nd_co_broadcast_reason(LIST(three_one), LIST(tall), &reason), ND_INCOMPATIBLE_SHAPE, ND_RULE_COMMON, 1, 0, 0);
+    TOLD(nd_co_broadcast_reason(LIST(both), LIST(seven), &reason), ND_INCOMPATIBLE_SHAPE, ND_RULE_COMMON, 1, 0, 0);
+    TOLD(nd_co_broadcast_reason(LIST(two_four), LIST(no_rows), &reason), ND_INCOMPATIBLE_SHAPE, ND_RULE_COMMON, 0, 0, 0);
+    TOLD(nd_co_broadcast_reason(LIST(one_four), LIST(no_rows), &reason), ND_OK, ND_RULE_NONE, 0, 0, 0);
+    TOLD(nd_co_broadcast_reason(none, 0, LIST(wide), &reason), ND_OK, ND_RULE_NONE, 0, 0, 0);
+    TOLD(nd_broadcast_reason(LIST(one_four), LIST(wide), &reason), ND_INCOMPATIBLE_SHAPE, ND_RULE_STRETCH, 2, 0, 4);
+    TOLD(nd_broadcast_reason(LIST(two_four), LIST(one_four), &reason), ND_INCOMPATIBLE_SHAPE, ND_RULE_STRETCH, 0, 0, 2);
+    TOLD(nd_broadcast_reason(LIST(one_four), LIST(four), &reason), ND_INCOMPATIBLE_SHAPE, ND_RULE_COUNT, 0, 0, 1);
+    TOLD(nd_broadcast_reason(LIST(no_rows), LIST(three_one), &reason), ND_INCOMPATIBLE_SHAPE, ND_RULE_STRETCH, 0, 0, 0);
+    TOLD(nd_broadcast_reason(LIST(three), LIST(huge), &reason), ND_INCOMPATIBLE_SHAPE, ND_RULE_STRETCH, 1, 0, 3);
+    TOLD(nd_broadcast_reason(none, 0, LIST(huge), &reason), ND_OVERFLOW, ND_RULE_SIZE, 0, 0, 0);
+    TOLD(nd_broadcast_reason(LIST(one_four), LIST(wider), &reason), ND_OK, ND_RULE_NONE, 0, 0, 0);
+}
+
 /* The status of a reason is that of the call. */
 static void test_statuses(void) {
     size_t start, len, shape[2], strides_and_lengths = 0;
@@ -184,6 +202,7 @@ int main(void) {
     test_reshapes();
     test_axes();
     test_indices();
+    test_broadcasts();
     test_statuses();
     printf("%d checked, %d failed\n", checked, failed);
     return failed != 0;

@@ -1,3 +1,4 @@
+pub mod BroadcastReasonStatus
 pub mod CommonShapes
 pub mod Counts
 pub mod FirstFound
@@ -5,6 +6,8 @@ pub mod FirstOf
 pub mod IndexReasonStatus
 pub mod Kept
 pub mod LayoutReasonStatus
+pub mod PaddedShapes
+pub mod Products
 pub mod SliceReasonStatus
 pub mod PermuteReasonStatus
 pub mod ReshapeReasonStatus

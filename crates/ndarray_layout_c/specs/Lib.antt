@@ -1,5 +1,6 @@
 pub mod Arguments
 pub mod BlocksTaken
+pub mod BroadcastReasons
 pub mod Elements
 pub mod IndexAfter
 pub mod IndexFault

@@ -64,6 +64,14 @@ missing_rule = pos 14
 abbrev pub coordinate_rule : ℤ
 coordinate_rule = pos 15
 
+-- the number of the rule that is broken: two lengths of an axis have none in common
+abbrev pub common_rule : ℤ
+common_rule = pos 16
+
+-- the number of the rule that is broken: a length is neither 1 nor that of the axis that it is broadcast to
+abbrev pub stretch_rule : ℤ
+stretch_rule = pos 17
+
 -- no rule is broken
 abbrev pub no_reason : Reason
 no_reason = record { status = ok; rule = pos 0; axis = 0; number = pos 0; size = 0 }

@@ -7,6 +7,7 @@
 mod aliases;
 mod arguments;
 mod blocks;
+mod broadcast_reasons;
 mod diagonals;
 mod elements;
 mod index_reasons;
@@ -20,6 +21,7 @@ mod reasons;
 mod reshape_reasons;
 mod rows;
 mod shapes;
+mod sizes;
 mod slice_reasons;
 mod slices;
 mod splits;

@@ -58,6 +58,12 @@ pub(crate) const MISSING: i32 = 14;
 /// A coordinate of an index is none of its axis.
 pub(crate) const COORDINATE: i32 = 15;
 
+/// Two lengths of an axis have none in common.
+pub(crate) const COMMON: i32 = 16;
+
+/// A length is neither 1 nor that of the axis that it is broadcast to.
+pub(crate) const STRETCH: i32 = 17;
+
 /// No rule is broken.
 pub(crate) fn no_reason() -> Reason
     ensures { result ≡ no_reason }

@@ -76,6 +76,8 @@ exports! {
     nd_reshape_reason(shape: &[usize], strides: &[usize], new_shape: &[usize], order: i32, reason: &mut Reason);
     nd_permuted_axes_reason(shape: &[usize], axes: &[usize], reason: &mut Reason);
     nd_index_reason(shape: &[usize], index: &[usize], reason: &mut Reason);
+    nd_co_broadcast_reason(first: &[usize], second: &[usize], reason: &mut Reason);
+    nd_broadcast_reason(shape: &[usize], target: &[usize], reason: &mut Reason);
     nd_version(major: &mut i32, minor: &mut i32, patch: &mut i32);
     nd_status_text(status: i32, text: &mut [u8], used: &mut usize);
 }

@@ -1,6 +1,6 @@
 //! Why calls return their errors: 100,000 random calls of both libraries, and of a plain model.
 
-use crate::arguments::{axes, buffer_len, index, other_shape};
+use crate::arguments::{axes, buffer_len, index, other_shape, target};
 use crate::compare::*;
 use crate::erased::Reason;
 use crate::model::layouts::{LIMIT, is_empty, low_and_high, product_without_zeros, size, span};
@@ -30,6 +30,8 @@ const OTHER_SIZE: i32 = 12;
 const COPY: i32 = 13;
 const MISSING: i32 = 14;
 const COORDINATE: i32 = 15;
+const COMMON: i32 = 16;
+const STRETCH: i32 = 17;
 
 /// What a call returns, and what it writes over a reason that nothing has written.
 fn told(call: impl FnOnce(&mut Reason) -> i32) -> (i32, Told) {
@@ -316,5 +318,58 @@ fn index_reason() {
         arguments,
         |(shape, index)| told(|reason| nd_index_reason(shape, index, reason)),
         |(shape, index)| Some(of_index(shape, index)),
+    );
+}
+
+/// The first axis, from the front of the longer shape, of which the two have lengths that don't go together.
+fn of_common_shape(first: &[usize], second: &[usize]) -> Told {
+    let axes = first.len().max(second.len());
+    let pairs = first.iter().rev().zip(second.iter().rev());
+    let apart = pairs.enumerate().filter(|(_, (one, other))| one != other && **one != 1 && **other != 1);
+    apart.last().map_or(NO_REASON, |(from_back, _)| (INCOMPATIBLE_SHAPE, COMMON, axes - 1 - from_back, 0, 0))
+}
+
+#[test]
+fn co_broadcast_reason() {
+    let arguments = |numbers: &mut Numbers| {
+        let first = shape(numbers);
+        let second = target(numbers, &first);
+        if numbers.once_in(2) { (second, first) } else { (first, second) }
+    };
+    compare_reasons!(
+        "nd_co_broadcast_reason",
+        [0, COMMON],
+        arguments,
+        |(first, second)| told(|reason| nd_co_broadcast_reason(first, second, reason)),
+        |(first, second)| Some(of_common_shape(first, second)),
+    );
+}
+
+/// How many axes a shape has that are too few, or else the first that keeps its own length, or else that it is too large.
+fn of_target(shape: &[usize], target: &[usize]) -> Told {
+    let Some(new_axes) = target.len().checked_sub(shape.len()) else {
+        return (INCOMPATIBLE_SHAPE, COUNT, 0, 0, target.len());
+    };
+    for (axis, len) in shape.iter().enumerate() {
+        if ![1, target[new_axes + axis]].contains(len) {
+            return (INCOMPATIBLE_SHAPE, STRETCH, new_axes + axis, 0, *len);
+        }
+    }
+    if product_without_zeros(target) > LIMIT { (OVERFLOW, SIZE, 0, 0, 0) } else { NO_REASON }
+}
+
+#[test]
+fn broadcast_reason() {
+    let arguments = |numbers: &mut Numbers| {
+        let shape = shape(numbers);
+        let target = target(numbers, &shape);
+        (shape, target)
+    };
+    compare_reasons!(
+        "nd_broadcast_reason",
+        [0, COUNT, SIZE, STRETCH],
+        arguments,
+        |(shape, target)| told(|reason| nd_broadcast_reason(shape, target, reason)),
+        |(shape, target)| Some(of_target(shape, target)),
     );
 }

@@ -22,6 +22,7 @@
 pub mod aliases;
 pub mod arguments;
 pub mod blocks;
+pub mod broadcast_reasons;
 pub mod diagonals;
 pub mod elements;
 pub mod index_reasons;
@@ -35,6 +36,7 @@ pub mod reasons;
 pub mod reshape_reasons;
 pub mod rows;
 pub mod shapes;
+pub mod sizes;
 pub mod slice_reasons;
 pub mod slices;
 pub mod splits;
