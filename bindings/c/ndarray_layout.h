@@ -106,6 +106,8 @@
 #define nd_index_reason ND_NAME(nd_index_reason)
 #define nd_co_broadcast_reason ND_NAME(nd_co_broadcast_reason)
 #define nd_broadcast_reason ND_NAME(nd_broadcast_reason)
+#define nd_windows_reason ND_NAME(nd_windows_reason)
+#define nd_exact_chunks_reason ND_NAME(nd_exact_chunks_reason)
 #define nd_status_text ND_NAME(nd_status_text)
 #define nd_version ND_NAME(nd_version)
 
@@ -489,7 +491,8 @@ enum {
     ND_RULE_NONE = 0,        /* ND_OK: no rule is broken */
     ND_RULE_COUNT = 1,       /* a list is of another count than there are axes, of a smaller one where a layout is broadcast
                                 to it. `size`: its count, of a slice without new axes. ND_INCOMPATIBLE_SHAPE of a slice, of
-                                axes or of a shape, ND_INCOMPATIBLE_LAYOUT of strides, ND_OUT_OF_BOUNDS of an index */
+                                axes, of a shape or of a block, ND_INCOMPATIBLE_LAYOUT of strides, ND_OUT_OF_BOUNDS of an
+                                index */
     ND_RULE_INDEX = 2,       /* ND_OUT_OF_BOUNDS: an index is no coordinate of its axis. `axis`; `number`: the index;
                                 `size`: the length of the axis */
     ND_RULE_BOUND = 3,       /* ND_OUT_OF_BOUNDS: a bound of a range means no number from 0 to the length of its axis.
@@ -514,8 +517,9 @@ enum {
                                 `size`: the coordinate */
     ND_RULE_COMMON = 16,     /* ND_INCOMPATIBLE_SHAPE: two lengths of an axis are unequal, and neither is 1. `axis`: the first
                                 such of the common shape */
-    ND_RULE_STRETCH = 17     /* ND_INCOMPATIBLE_SHAPE: a length is neither 1 nor that of the axis that it is broadcast to.
+    ND_RULE_STRETCH = 17,    /* ND_INCOMPATIBLE_SHAPE: a length is neither 1 nor that of the axis that it is broadcast to.
                                 `axis`: the first such of the new shape; `size`: the length */
+    ND_RULE_EMPTY = 18       /* ND_UNSUPPORTED: a length of a block is 0. `axis`: the first such */
 };
 
 /*
@@ -612,6 +616,17 @@ int32_t nd_co_broadcast_reason(const size_t *first, size_t first_len, const size
  */
 int32_t nd_broadcast_reason(const size_t *shape, size_t shape_len, const size_t *target, size_t target_len,
                             nd_reason *reason);
+
+/*
+ * Write why the windows of a shape, or its chunks, can't be taken: of nd_windows and nd_exact_chunks after the rules on the
+ * layout. Always ND_OK. ND_RULE_COUNT comes before ND_RULE_EMPTY, and then ND_RULE_SIZE of the counts of blocks and the block.
+ *
+ * (4,4) by (2,0): ND_UNSUPPORTED, ND_RULE_EMPTY, axis 1; by (0): ND_INCOMPATIBLE_SHAPE, ND_RULE_COUNT, size 1. (2^33) by
+ * (2^32): windows ND_OVERFLOW, ND_RULE_SIZE; chunks ND_OK.
+ */
+int32_t nd_windows_reason(const size_t *shape, size_t shape_len, const size_t *window, size_t window_len, nd_reason *reason);
+int32_t nd_exact_chunks_reason(const size_t *shape, size_t shape_len, const size_t *chunk, size_t chunk_len,
+                               nd_reason *reason);
 
 /* ---- Statuses -------------------------------------------------------------------------------------------------------- */
 

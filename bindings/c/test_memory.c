@@ -122,6 +122,8 @@ static void test_no_memory(void) {
     REQUESTS(0, nd_index_reason(LIST(long_shape), LIST(long_index), &written.reason));
     REQUESTS(0, nd_co_broadcast_reason(LIST(long_shape), LIST(target), &written.reason));
     REQUESTS(0, nd_broadcast_reason(LIST(long_shape), LIST(target), &written.reason));
+    REQUESTS(0, nd_windows_reason(LIST(long_shape), LIST(ones), &written.reason));
+    REQUESTS(0, nd_exact_chunks_reason(LIST(long_shape), LIST(ones), &written.reason));
     REQUESTS(0, nd_status_text(ND_OK, LIST(text), &written.number));
     REQUESTS(0, nd_version(&written.answer, &minor, &patch));
 }

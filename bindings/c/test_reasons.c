@@ -177,6 +177,23 @@ static void test_broadcasts(void) {
     TOLD(nd_broadcast_reason(LIST(one_four), LIST(wider), &reason), ND_OK, ND_RULE_NONE, 0, 0, 0);
 }
 
+static void test_blocks(void) {
+    const size_t fours[2] = {4, 4}, no_column[2] = {2, 0}, none_of_two[2] = {0, 0}, larger[2] = {5, 9}, all[1] = {SIZE_MAX};
+    const size_t far[1] = {(size_t)1 << 33}, half[1] = {(size_t)1 << 32}, huge[2] = {PTRDIFF_MAX, 2}, small[2] = {1, 1};
+    TOLD(nd_windows_reason(LIST(fours), LIST(no_column), &reason), ND_UNSUPPORTED, ND_RULE_EMPTY, 1, 0, 0);
+    TOLD(nd_exact_chunks_reason(LIST(fours), LIST(no_column), &reason), ND_UNSUPPORTED, ND_RULE_EMPTY, 1, 0, 0);
+    TOLD(nd_exact_chunks_reason(LIST(fours), LIST(none_of_two), &reason), ND_UNSUPPORTED, ND_RULE_EMPTY, 0, 0, 0);
+    TOLD(nd_windows_reason(LIST(fours), none, 1, &reason), ND_INCOMPATIBLE_SHAPE, ND_RULE_COUNT, 0, 0, 1);
+    TOLD(nd_exact_chunks_reason(LIST(fours), LIST(three_axes), &reason), ND_INCOMPATIBLE_SHAPE, ND_RULE_COUNT, 0, 0, 3);
+    TOLD(nd_windows_reason(LIST(far), LIST(half), &reason), ND_OVERFLOW, ND_RULE_SIZE, 0, 0, 0);
+    TOLD(nd_exact_chunks_reason(LIST(far), LIST(half), &reason), ND_OK, ND_RULE_NONE, 0, 0, 0);
+    TOLD(nd_windows_reason(LIST(small), LIST(huge), &reason), ND_OVERFLOW, ND_RULE_SIZE, 0, 0, 0);
+    TOLD(nd_exact_chunks_reason(LIST(small), LIST(huge), &reason), ND_OVERFLOW, ND_RULE_SIZE, 0, 0, 0);
+    TOLD(nd_windows_reason(LIST(all), LIST(all), &reason), ND_OVERFLOW, ND_RULE_SIZE, 0, 0, 0);
+    TOLD(nd_windows_reason(LIST(fours), LIST(larger), &reason), ND_OK, ND_RULE_NONE, 0, 0, 0);
+    TOLD(nd_exact_chunks_reason(none, 0, none, 0, &reason), ND_OK, ND_RULE_NONE, 0, 0, 0);
+}
+
 /* The status of a reason is that of the call. */
 static void test_statuses(void) {
     size_t start, len, shape[2], strides_and_lengths = 0;
@@ -203,6 +220,7 @@ int main(void) {
     test_axes();
     test_indices();
     test_broadcasts();
+    test_blocks();
     test_statuses();
     printf("%d checked, %d failed\n", checked, failed);
     return failed != 0;

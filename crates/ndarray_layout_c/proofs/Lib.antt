@@ -1,3 +1,5 @@
+pub mod BlockCounts
+pub mod BlockReasonStatus
 pub mod BroadcastReasonStatus
 pub mod CommonShapes
 pub mod Counts

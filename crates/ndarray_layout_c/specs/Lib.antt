@@ -1,4 +1,5 @@
 pub mod Arguments
+pub mod BlockReasons
 pub mod BlocksTaken
 pub mod BroadcastReasons
 pub mod Elements

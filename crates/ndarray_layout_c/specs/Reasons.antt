@@ -72,6 +72,10 @@ common_rule = pos 16
 abbrev pub stretch_rule : ℤ
 stretch_rule = pos 17
 
+-- the number of the rule that is broken: a length of a block is 0
+abbrev pub empty_rule : ℤ
+empty_rule = pos 18
+
 -- no rule is broken
 abbrev pub no_reason : Reason
 no_reason = record { status = ok; rule = pos 0; axis = 0; number = pos 0; size = 0 }

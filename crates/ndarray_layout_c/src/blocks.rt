@@ -19,7 +19,7 @@ use std::alloc::Global;
 
 /// Which blocks of a shape are taken of a layout: all windows, or the chunks side by side.
 #[derive(Clone, Copy)]
-enum Blocks {
+pub(crate) enum Blocks {
     Windows,
     Chunks,
 }

@@ -64,6 +64,9 @@ pub(crate) const COMMON: i32 = 16;
 /// A length is neither 1 nor that of the axis that it is broadcast to.
 pub(crate) const STRETCH: i32 = 17;
 
+/// A length of a block is 0.
+pub(crate) const EMPTY: i32 = 18;
+
 /// No rule is broken.
 pub(crate) fn no_reason() -> Reason
     ensures { result ≡ no_reason }

@@ -4,10 +4,8 @@ use crate::arguments::axis;
 use crate::compare::*;
 use crate::numbers::Numbers;
 
-/// A layout, a block of it, seldom not one of a length for each axis, and rooms for twice as many axes.
-#[allow(clippy::type_complexity)]
-fn layout_and_block(numbers: &mut Numbers) -> (Vec<usize>, Vec<usize>, Vec<usize>, Vec<usize>, Vec<usize>) {
-    let (shape, strides) = layout(numbers);
+/// A block of a shape, seldom not one of a length for each axis.
+pub fn block(numbers: &mut Numbers, shape: &[usize]) -> Vec<usize> {
     let mut block: Vec<usize> = shape.iter().map(|len| 1 + numbers.below((*len).clamp(1, 1 << 40))).collect();
     match numbers.below(20) {
         0 => block.push(1),
@@ -16,6 +14,14 @@ fn layout_and_block(numbers: &mut Numbers) -> (Vec<usize>, Vec<usize>, Vec<usize
         3 if !block.is_empty() => block[0] = shape[0].saturating_add(1),
         _ => {}
     }
+    block
+}
+
+/// A layout, a block of it, and rooms for twice as many axes.
+#[allow(clippy::type_complexity)]
+fn layout_and_block(numbers: &mut Numbers) -> (Vec<usize>, Vec<usize>, Vec<usize>, Vec<usize>, Vec<usize>) {
+    let (shape, strides) = layout(numbers);
+    let block = block(numbers, &shape);
     let (new_shape, new_strides) = (room(numbers, 2 * shape.len()), room(numbers, 2 * shape.len()));
     (shape, kept(&strides), block, new_shape, new_strides)
 }

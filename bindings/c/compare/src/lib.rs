@@ -33,9 +33,9 @@ mod erased {
     pub use crate::ndarray_layout_c::elements::RawElem;
     pub use crate::ndarray_layout_c::reasons::Reason;
     pub use crate::ndarray_layout_c::{
-        blocks::*, broadcast_reasons::*, diagonals::*, index_reasons::*, indices::*, intersections::*,
-        layout_reasons::*, layouts::*, permute_reasons::*, reshape_reasons::*, rows::*, shapes::*, slice_reasons::*,
-        slices::*, splits::*, stretches::*, texts::*, version::*,
+        block_reasons::*, blocks::*, broadcast_reasons::*, diagonals::*, index_reasons::*, indices::*,
+        intersections::*, layout_reasons::*, layouts::*, permute_reasons::*, reshape_reasons::*, rows::*, shapes::*,
+        slice_reasons::*, slices::*, splits::*, stretches::*, texts::*, version::*,
     };
 }
 

@@ -1,6 +1,7 @@
 //! Why calls return their errors: 100,000 random calls of both libraries, and of a plain model.
 
 use crate::arguments::{axes, buffer_len, index, other_shape, target};
+use crate::blocks::block;
 use crate::compare::*;
 use crate::erased::Reason;
 use crate::model::layouts::{LIMIT, is_empty, low_and_high, product_without_zeros, size, span};
@@ -32,6 +33,7 @@ const MISSING: i32 = 14;
 const COORDINATE: i32 = 15;
 const COMMON: i32 = 16;
 const STRETCH: i32 = 17;
+const EMPTY: i32 = 18;
 
 /// What a call returns, and what it writes over a reason that nothing has written.
 fn told(call: impl FnOnce(&mut Reason) -> i32) -> (i32, Told) {
@@ -371,5 +373,48 @@ fn broadcast_reason() {
         arguments,
         |(shape, target)| told(|reason| nd_broadcast_reason(shape, target, reason)),
         |(shape, target)| Some(of_target(shape, target)),
+    );
+}
+
+/// How many lengths a block has, unless that is one for each axis, or else the first that is 0, or else that there are too many
+/// indices, where so many blocks lie along an axis.
+fn of_blocks(shape: &[usize], block: &[usize], count: impl Fn(usize, usize) -> usize) -> Told {
+    if block.len() != shape.len() {
+        return (INCOMPATIBLE_SHAPE, COUNT, 0, 0, block.len());
+    }
+    if let Some(axis) = block.iter().position(|len| *len == 0) {
+        return (UNSUPPORTED, EMPTY, axis, 0, 0);
+    }
+    let mut lens: Vec<_> = shape.iter().zip(block).map(|(len, size)| count(*len, *size)).collect();
+    lens.extend(block);
+    if product_without_zeros(&lens) > LIMIT { (OVERFLOW, SIZE, 0, 0, 0) } else { NO_REASON }
+}
+
+/// A shape, and a block of it, seldom not one of a length for each axis.
+fn shape_and_block(numbers: &mut Numbers) -> (Vec<usize>, Vec<usize>) {
+    let shape = shape(numbers);
+    let block = block(numbers, &shape);
+    (shape, block)
+}
+
+#[test]
+fn windows_reason() {
+    compare_reasons!(
+        "nd_windows_reason",
+        [0, COUNT, SIZE, EMPTY],
+        shape_and_block,
+        |(shape, window)| told(|reason| nd_windows_reason(shape, window, reason)),
+        |(shape, window)| Some(of_blocks(shape, window, |len, size| if size > len { 0 } else { len - size + 1 })),
+    );
+}
+
+#[test]
+fn exact_chunks_reason() {
+    compare_reasons!(
+        "nd_exact_chunks_reason",
+        [0, COUNT, SIZE, EMPTY],
+        shape_and_block,
+        |(shape, chunk)| told(|reason| nd_exact_chunks_reason(shape, chunk, reason)),
+        |(shape, chunk)| Some(of_blocks(shape, chunk, |len, size| len / size)),
     );
 }

@@ -7,7 +7,7 @@ use ::ndarray_layout::{IxDyn, LayoutError, Strided, new_ixdyn};
 
 /// Which blocks of a shape are taken of a layout: all windows, or the chunks side by side.
 #[derive(Clone, Copy)]
-enum Blocks {
+pub(crate) enum Blocks {
     Windows,
     Chunks,
 }
