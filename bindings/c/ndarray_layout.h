@@ -108,6 +108,8 @@
 #define nd_broadcast_reason ND_NAME(nd_broadcast_reason)
 #define nd_windows_reason ND_NAME(nd_windows_reason)
 #define nd_exact_chunks_reason ND_NAME(nd_exact_chunks_reason)
+#define nd_split_at_reason ND_NAME(nd_split_at_reason)
+#define nd_merge_axes_reason ND_NAME(nd_merge_axes_reason)
 #define nd_status_text ND_NAME(nd_status_text)
 #define nd_version ND_NAME(nd_version)
 
@@ -519,7 +521,10 @@ enum {
                                 such of the common shape */
     ND_RULE_STRETCH = 17,    /* ND_INCOMPATIBLE_SHAPE: a length is neither 1 nor that of the axis that it is broadcast to.
                                 `axis`: the first such of the new shape; `size`: the length */
-    ND_RULE_EMPTY = 18       /* ND_UNSUPPORTED: a length of a block is 0. `axis`: the first such */
+    ND_RULE_EMPTY = 18,      /* ND_UNSUPPORTED: a length of a block is 0. `axis`: the first such */
+    ND_RULE_AXIS = 19,       /* ND_OUT_OF_BOUNDS: there is no such axis. `axis`: its number; `size`: how many axes there are */
+    ND_RULE_SAME_AXIS = 20,  /* ND_UNSUPPORTED: an axis is merged into itself. `axis` */
+    ND_RULE_SPLIT = 21       /* ND_OUT_OF_BOUNDS: a split lies past the end of its axis. `axis`; `size`: its length */
 };
 
 /*
@@ -627,6 +632,21 @@ int32_t nd_broadcast_reason(const size_t *shape, size_t shape_len, const size_t 
 int32_t nd_windows_reason(const size_t *shape, size_t shape_len, const size_t *window, size_t window_len, nd_reason *reason);
 int32_t nd_exact_chunks_reason(const size_t *shape, size_t shape_len, const size_t *chunk, size_t chunk_len,
                                nd_reason *reason);
+
+/*
+ * Writes why a shape can't be split along an axis: of nd_split_at after the rules on the layout. Always ND_OK.
+ *
+ * (2,3) along axis 1 at 4: ND_OUT_OF_BOUNDS, ND_RULE_SPLIT, axis 1, size 3; along axis 2: ND_RULE_AXIS, axis 2, size 2.
+ */
+int32_t nd_split_at_reason(const size_t *shape, size_t shape_len, size_t axis, size_t index, nd_reason *reason);
+
+/*
+ * Writes why an axis can't be merged into another: of nd_merge_axes after the rules on the layout. Always ND_OK. ND_RULE_AXIS
+ * of `take` comes before that of `into`, and then ND_RULE_SAME_AXIS. That no stride has the coordinates of both is no error.
+ *
+ * (2,3), 1 into 2: ND_OUT_OF_BOUNDS, ND_RULE_AXIS, axis 2, size 2; 1 into 1: ND_UNSUPPORTED, ND_RULE_SAME_AXIS, axis 1.
+ */
+int32_t nd_merge_axes_reason(const size_t *shape, size_t shape_len, size_t take, size_t into, nd_reason *reason);
 
 /* ---- Statuses -------------------------------------------------------------------------------------------------------- */
 

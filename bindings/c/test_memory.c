@@ -124,6 +124,8 @@ static void test_no_memory(void) {
     REQUESTS(0, nd_broadcast_reason(LIST(long_shape), LIST(target), &written.reason));
     REQUESTS(0, nd_windows_reason(LIST(long_shape), LIST(ones), &written.reason));
     REQUESTS(0, nd_exact_chunks_reason(LIST(long_shape), LIST(ones), &written.reason));
+    REQUESTS(0, nd_split_at_reason(LIST(long_shape), 2, 1, &written.reason));
+    REQUESTS(0, nd_merge_axes_reason(LIST(long_shape), 0, 2, &written.reason));
     REQUESTS(0, nd_status_text(ND_OK, LIST(text), &written.number));
     REQUESTS(0, nd_version(&written.answer, &minor, &patch));
 }

@@ -194,6 +194,19 @@ static void test_blocks(void) {
     TOLD(nd_exact_chunks_reason(none, 0, none, 0, &reason), ND_OK, ND_RULE_NONE, 0, 0, 0);
 }
 
+static void test_named_axes(void) {
+    TOLD(nd_split_at_reason(LIST(two_three), 1, 4, &reason), ND_OUT_OF_BOUNDS, ND_RULE_SPLIT, 1, 0, 3);
+    TOLD(nd_split_at_reason(LIST(two_three), 0, SIZE_MAX, &reason), ND_OUT_OF_BOUNDS, ND_RULE_SPLIT, 0, 0, 2);
+    TOLD(nd_split_at_reason(LIST(two_three), 2, 4, &reason), ND_OUT_OF_BOUNDS, ND_RULE_AXIS, 2, 0, 2);
+    TOLD(nd_split_at_reason(none, 0, SIZE_MAX, 0, &reason), ND_OUT_OF_BOUNDS, ND_RULE_AXIS, SIZE_MAX, 0, 0);
+    TOLD(nd_split_at_reason(LIST(two_three), 1, 3, &reason), ND_OK, ND_RULE_NONE, 0, 0, 0);
+    TOLD(nd_merge_axes_reason(LIST(two_three), 7, 5, &reason), ND_OUT_OF_BOUNDS, ND_RULE_AXIS, 7, 0, 2);
+    TOLD(nd_merge_axes_reason(LIST(two_three), 1, 2, &reason), ND_OUT_OF_BOUNDS, ND_RULE_AXIS, 2, 0, 2);
+    TOLD(nd_merge_axes_reason(LIST(two_three), 5, 5, &reason), ND_OUT_OF_BOUNDS, ND_RULE_AXIS, 5, 0, 2);
+    TOLD(nd_merge_axes_reason(LIST(two_three), 1, 1, &reason), ND_UNSUPPORTED, ND_RULE_SAME_AXIS, 1, 0, 0);
+    TOLD(nd_merge_axes_reason(LIST(two_three), 1, 0, &reason), ND_OK, ND_RULE_NONE, 0, 0, 0);
+}
+
 /* The status of a reason is that of the call. */
 static void test_statuses(void) {
     size_t start, len, shape[2], strides_and_lengths = 0;
@@ -221,6 +234,7 @@ int main(void) {
     test_indices();
     test_broadcasts();
     test_blocks();
+    test_named_axes();
     test_statuses();
     printf("%d checked, %d failed\n", checked, failed);
     return failed != 0;

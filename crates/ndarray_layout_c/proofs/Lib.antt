@@ -1,3 +1,4 @@
+pub mod AxisReasonStatus
 pub mod BlockCounts
 pub mod BlockReasonStatus
 pub mod BroadcastReasonStatus

@@ -1,4 +1,5 @@
 pub mod Arguments
+pub mod AxisReasons
 pub mod BlockReasons
 pub mod BlocksTaken
 pub mod BroadcastReasons

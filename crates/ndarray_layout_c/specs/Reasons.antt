@@ -76,6 +76,18 @@ stretch_rule = pos 17
 abbrev pub empty_rule : ℤ
 empty_rule = pos 18
 
+-- the number of the rule that is broken: there is no such axis
+abbrev pub axis_rule : ℤ
+axis_rule = pos 19
+
+-- the number of the rule that is broken: an axis is merged into itself
+abbrev pub same_axis_rule : ℤ
+same_axis_rule = pos 20
+
+-- the number of the rule that is broken: a split lies past the end of its axis
+abbrev pub split_rule : ℤ
+split_rule = pos 21
+
 -- no rule is broken
 abbrev pub no_reason : Reason
 no_reason = record { status = ok; rule = pos 0; axis = 0; number = pos 0; size = 0 }

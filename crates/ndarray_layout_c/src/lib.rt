@@ -6,6 +6,7 @@
 
 mod aliases;
 mod arguments;
+mod axis_reasons;
 mod block_reasons;
 mod blocks;
 mod broadcast_reasons;

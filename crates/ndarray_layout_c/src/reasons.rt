@@ -67,6 +67,15 @@ pub(crate) const STRETCH: i32 = 17;
 /// A length of a block is 0.
 pub(crate) const EMPTY: i32 = 18;
 
+/// There is no such axis.
+pub(crate) const AXIS: i32 = 19;
+
+/// An axis is merged into itself.
+pub(crate) const SAME_AXIS: i32 = 20;
+
+/// A split lies past the end of its axis.
+pub(crate) const SPLIT: i32 = 21;
+
 /// No rule is broken.
 pub(crate) fn no_reason() -> Reason
     ensures { result ≡ no_reason }

@@ -33,7 +33,7 @@ mod erased {
     pub use crate::ndarray_layout_c::elements::RawElem;
     pub use crate::ndarray_layout_c::reasons::Reason;
     pub use crate::ndarray_layout_c::{
-        block_reasons::*, blocks::*, broadcast_reasons::*, diagonals::*, index_reasons::*, indices::*,
+        axis_reasons::*, block_reasons::*, blocks::*, broadcast_reasons::*, diagonals::*, index_reasons::*, indices::*,
         intersections::*, layout_reasons::*, layouts::*, permute_reasons::*, reshape_reasons::*, rows::*, shapes::*,
         slice_reasons::*, slices::*, splits::*, stretches::*, texts::*, version::*,
     };

@@ -80,6 +80,8 @@ exports! {
     nd_broadcast_reason(shape: &[usize], target: &[usize], reason: &mut Reason);
     nd_windows_reason(shape: &[usize], window: &[usize], reason: &mut Reason);
     nd_exact_chunks_reason(shape: &[usize], chunk: &[usize], reason: &mut Reason);
+    nd_split_at_reason(shape: &[usize], axis: usize, index: usize, reason: &mut Reason);
+    nd_merge_axes_reason(shape: &[usize], take: usize, into: usize, reason: &mut Reason);
     nd_version(major: &mut i32, minor: &mut i32, patch: &mut i32);
     nd_status_text(status: i32, text: &mut [u8], used: &mut usize);
 }

@@ -1,6 +1,6 @@
 //! Why calls return their errors: 100,000 random calls of both libraries, and of a plain model.
 
-use crate::arguments::{axes, buffer_len, index, other_shape, target};
+use crate::arguments::{axes, axis, buffer_len, index, other_shape, target};
 use crate::blocks::block;
 use crate::compare::*;
 use crate::erased::Reason;
@@ -34,6 +34,9 @@ const COORDINATE: i32 = 15;
 const COMMON: i32 = 16;
 const STRETCH: i32 = 17;
 const EMPTY: i32 = 18;
+const AXIS: i32 = 19;
+const SAME_AXIS: i32 = 20;
+const SPLIT: i32 = 21;
 
 /// What a call returns, and what it writes over a reason that nothing has written.
 fn told(call: impl FnOnce(&mut Reason) -> i32) -> (i32, Told) {
@@ -416,5 +419,47 @@ fn exact_chunks_reason() {
         shape_and_block,
         |(shape, chunk)| told(|reason| nd_exact_chunks_reason(shape, chunk, reason)),
         |(shape, chunk)| Some(of_blocks(shape, chunk, |len, size| len / size)),
+    );
+}
+
+#[test]
+fn split_at_reason() {
+    let arguments = |numbers: &mut Numbers| {
+        let shape = shape(numbers);
+        let axis = axis(numbers, &shape);
+        let len = shape.get(axis).copied().unwrap_or(0);
+        let index = if numbers.once_in(20) { numbers.extreme_len() } else { numbers.below(len.min(1 << 40) + 2) };
+        (shape, axis, index)
+    };
+    compare_reasons!(
+        "nd_split_at_reason",
+        [0, AXIS, SPLIT],
+        arguments,
+        |(shape, axis, index)| told(|reason| nd_split_at_reason(shape, *axis, *index, reason)),
+        |(shape, axis, index)| Some(match shape.get(*axis) {
+            None => (OUT_OF_BOUNDS, AXIS, *axis, 0, shape.len()),
+            Some(len) if index > len => (OUT_OF_BOUNDS, SPLIT, *axis, 0, *len),
+            Some(_) => NO_REASON,
+        }),
+    );
+}
+
+#[test]
+fn merge_axes_reason() {
+    let arguments = |numbers: &mut Numbers| {
+        let shape = shape(numbers);
+        let (take, into) = (axis(numbers, &shape), axis(numbers, &shape));
+        (shape, take, into)
+    };
+    compare_reasons!(
+        "nd_merge_axes_reason",
+        [0, AXIS, SAME_AXIS],
+        arguments,
+        |(shape, take, into)| told(|reason| nd_merge_axes_reason(shape, *take, *into, reason)),
+        |(shape, take, into)| Some(match [take, into].into_iter().find(|axis| **axis >= shape.len()) {
+            Some(axis) => (OUT_OF_BOUNDS, AXIS, *axis, 0, shape.len()),
+            None if take == into => (UNSUPPORTED, SAME_AXIS, *take, 0, 0),
+            None => NO_REASON,
+        }),
     );
 }

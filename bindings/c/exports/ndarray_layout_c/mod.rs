@@ -21,6 +21,7 @@
 
 pub mod aliases;
 pub mod arguments;
+pub mod axis_reasons;
 pub mod block_reasons;
 pub mod blocks;
 pub mod broadcast_reasons;
