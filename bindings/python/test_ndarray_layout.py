@@ -264,7 +264,7 @@ class Checked:
             self.addCleanup(setattr, call, "argtypes", None)
 
     def test_arguments_are_looked_at(self):
-        self.assertEqual(len(library.exports), 29)
+        self.assertEqual(len(library.exports), 36)
         nothing, answer = (b"", count_of(0)), one_answer()
         library.has_overlap(*nothing, *nothing, answer)
         self.assertRaises(TypeError, library.has_overlap, *nothing, *nothing)

@@ -226,6 +226,13 @@ class Texts(unittest.TestCase):
             "check_layout_reason": lambda: nd.place(1, (3,) * 5, (-1,) * 5, (3,) * 5),
             "reshape_reason": lambda: nd.reshape((2, 2), (4, 1), (4,)),
             "permuted_axes_reason": lambda: nd.permuted_axes((2, 2), (2, 1), (0, 0)),
+            "index_reason": lambda: nd.next_index((3,), (3,)),
+            "co_broadcast_reason": lambda: nd.co_broadcast((2,), (3,)),
+            "broadcast_reason": lambda: nd.broadcast((2,), (1,), (3,)),
+            "windows_reason": lambda: nd.windows((4,), (1,), (0,)),
+            "exact_chunks_reason": lambda: nd.exact_chunks((4,), (1,), (0,)),
+            "split_at_reason": lambda: nd.split_at(0, (3,), (1,), 0, 4),
+            "merge_axes_reason": lambda: nd.merge_axes((2, 3), (3, 1), 0, 0),
         }
         with mock.patch.object(loaded, "export", lambda name, parameters: lambda *arguments: 8):
             out_of_memory = loaded._reason("nd_slice_reason", "UEip")

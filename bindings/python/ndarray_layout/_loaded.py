@@ -90,6 +90,7 @@ class Rule(IntEnum):
 
     NONE, COUNT, INDEX, BOUND, STEP, SIZE, SPAN, BYTES = range(8)
     LOWEST, HIGHEST, LENGTH, ALIAS, OTHER_SIZE, COPY, MISSING = range(8, 15)
+    COORDINATE, COMMON, STRETCH, EMPTY, AXIS, SAME_AXIS, SPLIT = range(15, 22)
 
 
 class Broken(ctypes.Structure):
@@ -129,3 +130,10 @@ layout_start_reason = _reason("nd_layout_start_reason", "USzzip")
 check_layout_reason = _reason("nd_check_layout_reason", "zUSzzip")
 reshape_reason = _reason("nd_reshape_reason", "USUip")
 permuted_axes_reason = _reason("nd_permuted_axes_reason", "UUp")
+index_reason = _reason("nd_index_reason", "UUp")
+co_broadcast_reason = _reason("nd_co_broadcast_reason", "UUp")
+broadcast_reason = _reason("nd_broadcast_reason", "UUp")
+windows_reason = _reason("nd_windows_reason", "UUp")
+exact_chunks_reason = _reason("nd_exact_chunks_reason", "UUp")
+split_at_reason = _reason("nd_split_at_reason", "Uzzp")
+merge_axes_reason = _reason("nd_merge_axes_reason", "Uzzp")

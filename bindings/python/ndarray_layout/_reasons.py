@@ -1,8 +1,7 @@
 """Why a call returned its error: the axis that is to blame, and the numbers.
 
 The status of a call decides whether there is an error, and of which kind. What is found here is only its text. The
-library says which rule of layouts, slices, reshapes and lists of axes is broken, and where. The rules of indices,
-broadcasts, merges, blocks and splits, and of the bytes of an array, are compared here, in the order of `docs/RULES.md`.
+library says which rule is broken, and where; computed here are numbers of texts, some of which 64 bits don't hold.
 """
 
 from __future__ import annotations
@@ -10,7 +9,7 @@ from __future__ import annotations
 from ctypes import c_size_t
 from itertools import accumulate
 from math import prod
-from typing import Any, Callable, Mapping, NamedTuple, Optional, Sequence
+from typing import Any, Callable, Iterable, Mapping, NamedTuple, Optional, Sequence
 
 from . import _loaded as library
 from ._loaded import Broken, Rule
@@ -108,12 +107,17 @@ def _of_limits(broken: Broken, shape: Lens, strides: Lens, elem_size: int) -> Op
         text = "{lengths} lengths, but {strides} strides"
         return _of(broken.kind, text, lengths=len(shape), strides=broken.size)
     if broken.rule == Rule.SIZE:
-        return past_limit("size {size}", size=product([length for length in shape if length]))
+        return _past_size(shape)
     if broken.rule == Rule.SPAN:
         return past_limit("span {span}", span=sum(_reaches(shape, strides)))
     if broken.rule == Rule.BYTES:
         return past_limit("span {span} times elem_size {elem_size}", span=broken.size, elem_size=elem_size)
     return None
+
+
+def _past_size(shape: Lens) -> Reason:
+    """The reason of a shape that is too large."""
+    return past_limit("size {size}", size=product([length for length in shape if length]))
 
 
 def past_limit(what: str, **numbers: int) -> Reason:
@@ -161,11 +165,12 @@ def of_array(shape: Lens, strides: Lens, itemsize: int) -> Optional[Reason]:
     found = of_layout(shape, strides)
     if found:
         return found
-    size = prod(length for length in shape if length) * itemsize
-    if size > LIMIT:
-        text = f"{{size}} bytes are above the limit {said(LIMIT)}"
-        return _of("Overflow", text, size=size, itemsize=itemsize)
-    return of_layout((*shape, itemsize), (*strides, 1))
+    lens, steps = (*shape, itemsize), (*strides, 1)
+    broken = library.layout_start_reason(*unsigned(lens), *signed(steps), c_size_t(1), c_size_t(_NO_END), 0)
+    if broken.rule == Rule.SIZE:
+        text, size = f"{{size}} bytes are above the limit {said(LIMIT)}", prod(length for length in lens if length)
+        return _of(broken.kind, text, size=size, itemsize=itemsize)
+    return _of_limits(broken, lens, steps, 1)
 
 
 def of_lay_over(
@@ -180,29 +185,31 @@ def of_lay_over(
 
 
 def _of_bytes(shape: Lens, strides: Lens, itemsize: int, nbytes: int, offset: Optional[int]) -> Optional[Reason]:
-    reaches, item = _reaches(shape, strides), itemsize if 0 not in shape else 0
+    """Of an array whose bytes are within the limits."""
+    lens, steps = (shape, strides) if 0 in shape else ((*shape, itemsize), (*strides, 1))
+    lists, sizes = (*unsigned(lens), *signed(steps)), (c_size_t(1), c_size_t(nbytes))
     if offset is None:
-        needed = sum(reaches) + item
-        text = "the array needs {needed} bytes of {nbytes}"
-        return _of("OutOfBounds", text, needed=needed, nbytes=nbytes) if needed > nbytes else None
-    lowest = offset - sum(reach for reach, stride in zip(reaches, strides) if stride < 0)
-    end = lowest + sum(reaches) + item
-    if lowest >= 0 and end <= nbytes:
+        broken = library.layout_start_reason(*lists, *sizes, 0)
+        text, needed = "the array needs {needed} bytes of {nbytes}", broken.size + (0 not in lens)
+        return _of(broken.kind, text, needed=needed, nbytes=nbytes) if broken.rule == Rule.LENGTH else None
+    broken = library.check_layout_reason(c_size_t(offset), *lists, *sizes, 0)
+    lowest = offset - sum(reach for reach, stride in zip(_reaches(lens, steps), steps) if stride < 0)
+    end = lowest + sum(_reaches(lens, steps)) + (0 not in lens)
+    if broken.rule == Rule.NONE or (broken.rule == Rule.HIGHEST and end <= nbytes):  # (of a buffer past the limit)
         return None
     text = f"the array at offset {{offset}} needs bytes {{lowest}} to {said(end - 1)} of {{nbytes}}"
-    return _of("OutOfBounds", text, offset=offset, lowest=lowest, end=end, nbytes=nbytes)
+    return _of(broken.kind, text, offset=offset, lowest=lowest, end=end, nbytes=nbytes)
 
 
 # ---- Indices
 
 
 def of_index(shape: Lens, index: Lens) -> Optional[Reason]:
-    if len(shape) != len(index):
-        return _of("OutOfBounds", "{coordinates} coordinates for {axes} axes", coordinates=len(index), axes=len(shape))
-    for axis, (length, coordinate) in enumerate(zip(shape, index)):
-        if coordinate >= length:
-            return out_of_axis(axis, coordinate, length)
-    return None
+    broken = library.index_reason(*unsigned(shape), *unsigned(index))
+    if broken.rule == Rule.COUNT:
+        text = "{coordinates} coordinates for {axes} axes"
+        return _of(broken.kind, text, coordinates=broken.size, axes=len(shape))
+    return out_of_axis(broken.axis, broken.size, shape[broken.axis]) if broken.rule == Rule.COORDINATE else None
 
 
 def out_of_axis(axis: int, index: int, length: int) -> Reason:
@@ -268,38 +275,41 @@ def _of_elements(shape: Lens, elements: Packed, clamp: int) -> Optional[Reason]:
 
 
 def of_co_broadcast(first: Lens, second: Lens) -> Optional[Reason]:
-    axes = max(len(first), len(second))
-    padded = ((1,) * (axes - len(shape)) + shape for shape in (first, second))
-    for axis, (one, other) in enumerate(zip(*padded)):
-        if one != other and 1 not in (one, other):
-            text = "lengths {first} and {second} have none in common"
-            return _of("IncompatibleShape", text, axis, first=one, second=other)
-    return None
+    broken = library.co_broadcast_reason(*unsigned(first), *unsigned(second))
+    if broken.rule != Rule.COMMON:
+        return None
+    text, from_back = "lengths {first} and {second} have none in common", broken.axis - max(len(first), len(second))
+    return _of(broken.kind, text, broken.axis, first=first[from_back], second=second[from_back])
 
 
 def of_broadcast(shape: Lens, strides: Lens, target: Lens) -> Optional[Reason]:
-    return of_layout(shape, strides) or _of_target(shape, target) or of_size(target)
+    return of_layout(shape, strides) or _of_target(shape, target)
 
 
 def _of_target(shape: Lens, target: Lens) -> Optional[Reason]:
-    new_axes = len(target) - len(shape)
-    if new_axes < 0:
-        text = "{axes} axes can't be broadcast to {target}"
-        return _of("IncompatibleShape", text, axes=len(shape), target=len(target))
-    for axis, (length, wanted) in enumerate(zip(shape, target[new_axes:]), new_axes):
-        if length not in (1, wanted):
-            text = "length {length} can't be broadcast to {target}"
-            return _of("IncompatibleShape", text, axis, length=length, target=wanted)
-    return None
+    broken = library.broadcast_reason(*unsigned(shape), *unsigned(target))
+    if broken.rule == Rule.COUNT:
+        return _of(broken.kind, "{axes} axes can't be broadcast to {target}", axes=len(shape), target=broken.size)
+    if broken.rule == Rule.STRETCH:
+        text = "length {length} can't be broadcast to {target}"
+        return _of(broken.kind, text, broken.axis, length=broken.size, target=target[broken.axis])
+    return _past_size(target) if broken.rule == Rule.SIZE else None
 
 
 def of_merge(shape: Lens, strides: Lens, take: int, into: int) -> Optional[Reason]:
-    error = of_layout(shape, strides) or _of_no_axis(shape, take) or _of_no_axis(shape, into)
-    return _of("Unsupported", "it can't be merged into itself", take) if error is None and take == into else error
+    return of_layout(shape, strides) or _of_two_axes(shape, take, into)
 
 
-def _of_no_axis(shape: Lens, axis: int) -> Optional[Reason]:
-    return _of("OutOfBounds", "there are {axes} axes", axis, axes=len(shape)) if axis >= len(shape) else None
+def _of_two_axes(shape: Lens, take: int, into: int) -> Optional[Reason]:
+    broken = library.merge_axes_reason(*unsigned(shape), c_size_t(take), c_size_t(into))
+    if broken.rule == Rule.SAME_AXIS:
+        return _of(broken.kind, "it can't be merged into itself", broken.axis)
+    return _of_no_axis(broken)
+
+
+def _of_no_axis(broken: Broken) -> Optional[Reason]:
+    text = "there are {axes} axes"
+    return _of(broken.kind, text, broken.axis, axes=broken.size) if broken.rule == Rule.AXIS else None
 
 
 def of_permuted_axes(shape: Lens, strides: Lens, axes: Lens) -> Optional[Reason]:
@@ -319,27 +329,46 @@ def _of_axes(shape: Lens, axes: Lens) -> Optional[Reason]:
 
 
 def of_windows(shape: Lens, strides: Lens, window: Lens) -> Optional[Reason]:
+    found = of_layout(shape, strides)
+    if found:
+        return found
     moves = (max(length - block + 1, 0) for length, block in zip(shape, window))
-    return of_layout(shape, strides) or of_block(shape, window) or of_size((*moves, *window))
+    return _of_blocks(library.windows_reason(*unsigned(shape), *unsigned(window)), shape, moves, window)
 
 
 def of_exact_chunks(shape: Lens, strides: Lens, chunk: Lens) -> Optional[Reason]:
-    found = of_layout(shape, strides) or of_block(shape, chunk)
-    return found or of_size((*(length // block for length, block in zip(shape, chunk)), *chunk))
+    found = of_layout(shape, strides)
+    if found:
+        return found
+    counts = (length // block for length, block in zip(shape, chunk))
+    return _of_blocks(library.exact_chunks_reason(*unsigned(shape), *unsigned(chunk)), shape, counts, chunk)
+
+
+def _of_blocks(broken: Broken, shape: Lens, counts: Iterable[int], block: Lens) -> Optional[Reason]:
+    return _past_size((*counts, *block)) if broken.rule == Rule.SIZE else _of_block(broken, shape)
+
+
+def _of_block(broken: Broken, shape: Lens) -> Optional[Reason]:
+    if broken.rule == Rule.COUNT:
+        return _of(broken.kind, "{lengths} lengths of a block for {axes} axes", lengths=broken.size, axes=len(shape))
+    text = "the length of a block is {length}"
+    return _of(broken.kind, text, broken.axis, length=0) if broken.rule == Rule.EMPTY else None
 
 
 def of_block(shape: Lens, block: Lens) -> Optional[Reason]:
-    if len(shape) != len(block):
-        text = "{lengths} lengths of a block for {axes} axes"
-        return _of("IncompatibleShape", text, lengths=len(block), axes=len(shape))
-    return _of("Unsupported", "the length of a block is {length}", block.index(0), length=0) if 0 in block else None
+    """Of the chunks of a store, which may have any count of indices."""
+    return _of_block(library.exact_chunks_reason(*unsigned(shape), *unsigned(block)), shape)
 
 
 def of_split_at(start: int, shape: Lens, strides: Lens, axis: int, index: int) -> Optional[Reason]:
-    error = of_places(start, shape, strides) or _of_no_axis(shape, axis)
-    if error or index <= shape[axis]:
-        return error
-    return _of("OutOfBounds", "index {index} is past length {length}", axis, index=index, length=shape[axis])
+    return of_places(start, shape, strides) or _of_split(shape, axis, index)
+
+
+def _of_split(shape: Lens, axis: int, index: int) -> Optional[Reason]:
+    broken = library.split_at_reason(*unsigned(shape), c_size_t(axis), c_size_t(index))
+    if broken.rule == Rule.SPLIT:
+        return _of(broken.kind, "index {index} is past length {length}", axis, index=index, length=broken.size)
+    return _of_no_axis(broken)
 
 
 # ---- Reshapes
