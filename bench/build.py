@@ -60,11 +60,20 @@ def opened_room(keep):
             yield Room(folder)
 
 
-def arguments(text):
-    """The options that every script here has."""
+class Quick(argparse.Action):
+    """The option --quick, which sets others."""
+
+    def __call__(self, parser, asked, values, option=None):
+        vars(asked).update(self.const, quick=True)
+
+
+def arguments(text, **quick):
+    """The options that every script here has; what --quick sets of its others."""
     parser = argparse.ArgumentParser(description=text, formatter_class=argparse.RawDescriptionHelpFormatter)
     parser.add_argument("--page", action="store_true", help="write the table into docs/PERFORMANCE.md, in place of the one that is there")
     parser.add_argument("--keep", metavar="FOLDER", help="work there and keep it, so that the next run proves only what has changed")
+    words = "few rounds of few rows, without the kit: shows that all runs, and its figures mean nothing"
+    parser.add_argument("--quick", nargs=0, action=Quick, const=quick, default=False, help=words)
     return parser
 
 

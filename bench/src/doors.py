@@ -1,13 +1,15 @@
 """Calls from Python over one layout that was accepted before, each beside NumPy's over an array that lies so: the name of a row, and the
 nanoseconds of both, with tabs. The least of many rounds. NumPy has no call for the first of many slices that share an element: a mask is
 marked slice by slice there, until one is marked. The parts of a cube lie apart on the second axis alone, and the cube in no memory.
+
+usage: doors.py ROUNDS
 """
-import timeit
+import sys, timeit
 
 import ndarray_layout as nd
 import numpy as np
 
-SIDE, ROUND_S, ROUNDS = 1000, 0.02, 10
+SIDE, ROUND_S, ROUNDS = 1000, 0.02, int(sys.argv[1])
 ARRAY = np.zeros((SIDE, SIDE), np.uint8)
 LAYOUT = nd.Layout.over(ARRAY, ARRAY.shape, owned=True)
 ODD, EVEN = (slice(1, None, 2), 3), (slice(0, None, 2), slice(None))
