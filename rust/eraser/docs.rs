@@ -17,9 +17,6 @@ const ENSURED: &str = "The caller ensures";
 /// How sentences of the sources begin that only who writes proofs reads.
 const FOR_PROOFS: &[&str] = &["A contract sees", "No clause says", "(A proof", "A proof", "By this call a proof"];
 
-/// What is said of a condition that is broken.
-const BROKEN: &str = "Otherwise this call or a later one panics or returns unspecified values.";
-
 /// The columns that a line of documentation takes at the most, where lines are broken here.
 const COLUMNS: usize = 120;
 
@@ -89,6 +86,11 @@ impl Contract {
         }));
     }
 
+    /// Whether its caller ensures something.
+    pub fn has_condition(&self) -> bool {
+        !self.conditions.is_empty()
+    }
+
     /// Writes `#[inline]` before a function that says nothing of that.
     pub fn inline(&self, out: &mut String) {
         if self.is_function && !out[self.start..].contains("#[inline") {
@@ -112,8 +114,9 @@ impl Contract {
     }
 
     /// Writes to the documentation, if there is one, that a trait is sealed, the conditions in words, an example and the clauses, puts
-    /// its errors behind its cost, and takes from it what only who writes proofs reads. The error is a condition of a public item for which there are no words.
-    pub fn write_to(&self, out: &mut String, example: &[String], package: &str) -> Result<(), String> {
+    /// its errors behind its cost, and takes from it what only who writes proofs reads. `broken` says what a broken condition leads to. The
+    /// error is a condition of a public item for which there are no words.
+    pub fn write_to(&self, out: &mut String, example: &[String], broken: &str, package: &str) -> Result<(), String> {
         let docs = &out[self.docs..self.start];
         if !self.is_documented || !docs.starts_with("///") {
             return Ok(());
@@ -128,7 +131,7 @@ impl Contract {
             paragraphs.push("# Panics");
             paragraphs.push(PANICS);
         }
-        if let Some(words) = self.conditions_in_words(&mut paragraphs)? {
+        if let Some(words) = self.conditions_in_words(&mut paragraphs, broken)? {
             paragraphs.push("# Conditions");
             paragraphs.push(&words);
         }
@@ -152,12 +155,12 @@ impl Contract {
     }
 
     /// What the documentation says of the conditions, which is taken from it, or what is said of each such condition.
-    fn conditions_in_words(&self, docs: &mut Paragraphs) -> Result<Option<String>, String> {
+    fn conditions_in_words(&self, docs: &mut Paragraphs, broken: &str) -> Result<Option<String>, String> {
         let Some(first) = self.conditions.first() else {
             return Ok(None);
         };
         if let Some(told) = docs.take(ENSURED) {
-            return Ok(Some(format!("{told} {BROKEN}")));
+            return Ok(Some(format!("{told} {broken}")));
         }
         let is_known = |word: &str| self.conditions.iter().any(|condition| condition.contains(word));
         match CONDITIONS.iter().find(|(word, _)| is_known(word)) {

@@ -42,6 +42,8 @@ pub struct Erased {
     pub head: usize,
     /// The modules that are files of their own, each with where its body belongs.
     pub modules: Vec<(usize, String)>,
+    /// Whether it has `unsafe`.
+    pub is_unsafe: bool,
 }
 
 /// The trees of a source as plain Rust.
@@ -53,6 +55,8 @@ pub fn erase(trees: &[Tree], names: &Names) -> Result<Erased, Fault> {
         modules: Vec::new(),
         contract: Contract::default(),
         of_impl: String::new(),
+        of_function: String::new(),
+        is_unsafe: false,
         in_trait: false,
         replaced: Vec::new(),
         bracket: "",
@@ -61,7 +65,7 @@ pub fn erase(trees: &[Tree], names: &Names) -> Result<Erased, Fault> {
         imported: Vec::new(),
     };
     eraser.all(trees)?;
-    Ok(Erased { text: eraser.out, head: eraser.head, modules: eraser.modules })
+    Ok(Erased { text: eraser.out, head: eraser.head, modules: eraser.modules, is_unsafe: eraser.is_unsafe })
 }
 
 pub(crate) struct Eraser<'a> {
@@ -73,6 +77,10 @@ pub(crate) struct Eraser<'a> {
     pub(crate) contract: Contract,
     /// The type whose calls the impl at hand has.
     pub(crate) of_impl: String,
+    /// The name of the last function that began.
+    pub(crate) of_function: String,
+    /// Whether `unsafe` was left.
+    pub(crate) is_unsafe: bool,
     /// Whether that is an item of a sealed trait.
     pub(crate) in_trait: bool,
     /// What is replaced in the impl at hand.
@@ -91,7 +99,7 @@ pub(crate) struct Eraser<'a> {
 type Form<'a> = fn(&mut Eraser<'a>, &[Tree]) -> Result<Option<usize>, Fault>;
 
 impl<'a> Eraser<'a> {
-    const FORMS: [Form<'a>; 29] = [
+    const FORMS: [Form<'a>; 30] = [
         Self::doc,
         Self::clause,
         Self::ghost,
@@ -101,6 +109,7 @@ impl<'a> Eraser<'a> {
         Self::drop_impl,
         Self::export,
         Self::finality,
+        Self::unsafety,
         Self::seal,
         Self::type_bounds,
         Self::listed_impl,
@@ -141,7 +150,7 @@ impl<'a> Eraser<'a> {
     }
 
     /// Notes of the item at hand what its next token says.
-    fn note(&mut self, trees: &[Tree]) {
+    pub(crate) fn note(&mut self, trees: &[Tree]) {
         self.note_impl(trees);
         let is_named = trees.get(1).and_then(Tree::word).is_some();
         self.contract.is_public |= is_named && trees[0].is("pub");
@@ -150,6 +159,7 @@ impl<'a> Eraser<'a> {
             let is_public = self.contract.is_public || self.in_trait;
             self.contract.is_function = true;
             self.contract.name = trees[1].first().text.to_string();
+            self.of_function.clone_from(&self.contract.name);
             self.contract.must_use = self.names.is_packed() && is_public && is_called_for_its_result(&trees[2..]);
         }
     }
@@ -177,7 +187,8 @@ impl<'a> Eraser<'a> {
     fn write_contract(&mut self, end: &Token) -> Result<(), Fault> {
         self.contract.is_public &= self.names.is_packed();
         let example = self.example().map_err(|what| fault(end, &what))?.to_vec();
-        self.contract.write_to(&mut self.out, &example, self.names.package).map_err(|what| fault(end, &what))
+        let broken = self.broken().map_err(|what| fault(end, what))?;
+        self.contract.write_to(&mut self.out, &example, broken, self.names.package).map_err(|what| fault(end, &what))
     }
 
     pub(crate) fn put(&mut self, lead: &str, text: &str) {
@@ -315,17 +326,6 @@ impl<'a> Eraser<'a> {
         Ok(Some(body + 1))
     }
 
-    /// `extern "C" fn`, which may take slices in the kit's language, becomes `fn`.
-    fn export(&mut self, trees: &[Tree]) -> Result<Option<usize>, Fault> {
-        let is_export =
-            matches!(trees, [word, abi, name, ..] if word.is("extern") && abi.first().text == "\"C\"" && name.is("fn"));
-        if is_export {
-            self.note(&trees[2..]);
-            self.put(trees[0].first().lead, "fn");
-        }
-        Ok(is_export.then_some(3))
-    }
-
     /// `final fn`, a method that no impl replaces, becomes `fn`.
     fn finality(&mut self, trees: &[Tree]) -> Result<Option<usize>, Fault> {
         let is_final = begins_with(trees, &["final", "fn"]);
@@ -423,7 +423,9 @@ impl<'a> Eraser<'a> {
         }
         self.write_contract(&group.open)?;
         let outer = std::mem::replace(&mut self.in_trait, self.contract.is_sealed);
+        let (assertion, body) = (self.assertion(), self.out.len() + group.open.lead.len() + group.open.text.len());
         self.brackets(group, &kept)?;
+        self.out.insert_str(body, &assertion.unwrap_or_default());
         self.in_trait = outer;
         self.contract = Contract::at(self.out.len());
         Ok(Some(1))

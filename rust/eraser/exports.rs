@@ -1,7 +1,21 @@
 //! The exports of a crate as C calls them: a list is a pointer and a count.
 
+use crate::erase::Eraser;
 use crate::library::{items_of, without_memory};
 use crate::tokens::{Fault, Group, Kind, Tree, fault, text_of};
+
+impl Eraser<'_> {
+    /// `extern "C" fn`, which may take slices in the kit's language, becomes `fn`.
+    pub(crate) fn export(&mut self, trees: &[Tree]) -> Result<Option<usize>, Fault> {
+        let is_export =
+            matches!(trees, [word, abi, name, ..] if word.is("extern") && abi.first().text == "\"C\"" && name.is("fn"));
+        if is_export {
+            self.note(&trees[2..]);
+            self.put(trees[0].first().lead, "fn");
+        }
+        Ok(is_export.then_some(3))
+    }
+}
 
 /// A module of functions that take what C passes: one for each `extern "C" fn` of a source, in whose module it stands.
 pub fn flat(trees: &[Tree]) -> Result<String, Fault> {

@@ -17,10 +17,12 @@ mod opened;
 mod paragraphs;
 mod proofs;
 mod tokens;
+mod unsafety;
 
 use erase::Names;
 use examples::examples_in;
 use modules::{Fallible, files_of, module_of};
+use names::PRIVATE;
 use std::path::Path;
 use std::{env, fs};
 
@@ -101,6 +103,9 @@ const ALLOWED_IN_TESTS: &[(&str, &[&str])] = &[
     ),
 ];
 
+/// What a crate of the package doesn't keep to that others don't see.
+const ALLOWED_IN_PRIVATE: &[(&str, &[&str])] = &[("what proofs of other crates may call", &["dead_code"])];
+
 /// With `--write`, the top of the repository and a folder, writes what is made of its sources into that folder. With `--code`
 /// and files, prints their lines of code. With a crate above the layer and the folder of its sources, prints that crate as one
 /// module, and its exports as C calls them.
@@ -127,8 +132,20 @@ fn write(top: &Path, into: &Path) -> Fallible<()> {
             if !source.exists() {
                 continue;
             }
-            let names = Names { own, beside: &beside, library: LAYER, package, examples: if is_library { &of_calls } else { &[] }, inlined: is_library };
-            for (place, text) in files_of(&source, &names, &attributes("#!", is_library || *folder == FOR_C), *folder == FOR_C)? {
+            let names = Names {
+                own,
+                beside: &beside,
+                library: LAYER,
+                package,
+                examples: if is_library { &of_calls } else { &[] },
+                inlined: is_library,
+            };
+            let others = match () {
+                _ if PRIVATE.contains(own) => ALLOWED_IN_PRIVATE,
+                _ if is_library || *folder == FOR_C => &[],
+                _ => ALLOWED_IN_TESTS,
+            };
+            for (place, text) in files_of(&source, &names, &attributes("#!", others), *folder == FOR_C)? {
                 let file = into.join(folder).join(own).join(place);
                 fs::create_dir_all(file.parent().unwrap_or(into))?;
                 fs::write(file, text)?;
@@ -153,15 +170,15 @@ fn print_code(file: &str) -> Fallible<()> {
 
 /// Prints a crate above the package as one module, and its exports as C calls them.
 fn print_crate(name: &str, folder: &Path) -> Fallible<()> {
-    let names = Names { own: name, beside: &[], library: LAYER, package: "::ndarray_layout", examples: &[], inlined: false };
+    let names =
+        Names { own: name, beside: &[], library: LAYER, package: "::ndarray_layout", examples: &[], inlined: false };
     let body = module_of(&folder.join("lib.rt"), folder, &names, true)?;
-    println!("{}pub mod {name} {{\n{body}\n}}", attributes("#", false));
+    println!("{}pub mod {name} {{\n{body}\n}}", attributes("#", ALLOWED_IN_TESTS));
     Ok(())
 }
 
-/// The lints that the sources don't keep to, as attributes: those of what others call, or of programs and tests.
-fn attributes(mark: &str, is_called: bool) -> String {
+/// The lints that the sources don't keep to, and these, as attributes.
+fn attributes(mark: &str, others: &[(&str, &[&str])]) -> String {
     let line = |(why, lints): &(&str, &[&str])| format!("{mark}[allow({}, reason = {why:?})]\n", lints.join(", "));
-    let in_tests = if is_called { &[] } else { ALLOWED_IN_TESTS };
-    ALLOWED.iter().chain(in_tests).map(line).collect()
+    ALLOWED.iter().chain(others).map(line).collect()
 }

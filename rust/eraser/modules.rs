@@ -9,6 +9,9 @@ use std::path::{Path, PathBuf};
 
 pub type Fallible<T> = Result<T, Box<dyn Error>>;
 
+/// What a file begins with that has `unsafe`.
+const ALLOWED_UNSAFE: &str = "#![allow(unsafe_code, reason = \"proved: a comment says by which clauses\")]\n";
+
 /// A source without what only proofs read.
 struct Plain {
     erased: Erased,
@@ -85,6 +88,7 @@ pub fn files_of(folder: &Path, names: &Names, attributes: &str, exported: bool) 
         let source = if is_root { PathBuf::from("lib.rt") } else { module.with_extension("rt") };
         let plain = Plain::read(&folder.join(&source), names, exported)?;
         let head = if is_root { format!("{attributes}\n") } else { String::new() };
+        let head = if plain.erased.is_unsafe { format!("{ALLOWED_UNSAFE}\n{head}") } else { head };
         let added = format!("{head}{}", plain.memory(names.package));
         let text = plain.text(&added, |name| {
             left.push(module.join(name));

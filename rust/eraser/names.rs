@@ -13,7 +13,7 @@ pub const MODULES: &[(&str, &str, &[&str])] = &[
     ("marker", "core", &["PhantomData"]),
     ("mem", "core", &["replace"]),
     ("ops", "core", OPERATORS),
-    ("slice", "core", &["Iter", "from_ref"]),
+    ("slice", "core", &["Iter", "from_raw_parts_mut", "from_ref"]),
     ("str", "core", &["SplitWhitespace", "from_utf8"]),
 ];
 
@@ -37,8 +37,8 @@ const OPERATORS: &[&str] = &[
 /// Items of these modules that are in another crate of plain Rust.
 pub const MOVED: &[(&str, &str)] = &[("DefaultHasher", "std::hash::DefaultHasher")];
 
-/// Items that only a proof, the kit's memory or its tests need: an import of one goes.
-pub const DROPPED: &[&str] = &["Abort", "Global", "Model"];
+/// Items that only a proof, the kit's memory or its tests need, or that plain Rust has without an import: an import of one goes.
+pub const DROPPED: &[&str] = &["Abort", "Global", "Model", "Send", "Sync"];
 
 /// Modules of which nothing else is imported.
 pub const DROPPED_MODULES: &[&str] = &["process"];
@@ -159,6 +159,47 @@ pub const REFUSED: &[&str] = &[
     "unsafe",
 ];
 
+/// Where `unsafe` may stand, and why it is sound: the crate, the function or the trait of an impl, and the clauses by which it is.
+/// A comment of the source that begins with `SAFETY:` tells it as well.
+pub const UNSAFE: &[(&str, &str, &str)] = &[
+    (
+        "nd_cells",
+        "Send",
+        "no other `Cells` has a mark that this one has (`all` of `new` and `split`), so it is sent as a `&mut [T]` of its elements would be.",
+    ),
+    ("nd_cells", "Sync", "what is shared only reads (`get`), as a `&[T]` of its elements would."),
+    (
+        "nd_cells",
+        "get_mut",
+        "the place has a mark, which the caller ensures; so it is one of the slice that was lent (`all` of `new`), and no other `Cells` has its mark (`all` of `split`). While the result is in use this one is borrowed, so nothing else reads or writes the element.",
+    ),
+    (
+        "nd_cells",
+        "get",
+        "the place has a mark, which the caller ensures; so it is one of the slice that was lent (`all` of `new`), and no other `Cells` has its mark (`all` of `split`). While the result is in use this one is borrowed, so nothing writes the element.",
+    ),
+    (
+        "nd_cells",
+        "take_slice",
+        "each of these places has a mark, which the caller ensures, and has none afterwards (`all`, here). So they are those of the slice that was lent (`all` of `new`), and no call of this `Cells` or of another reads or writes them again.",
+    ),
+];
+
+/// Crates whose conditions keep `unsafe` sound.
+pub const SOUND_BY_CONDITIONS: &[&str] = &["nd_cells", "nd_parts"];
+
+/// Calls of these crates that others see, whose condition the package checks, since no proof of its callers does: the type, the call,
+/// what is asserted, and what the panic says.
+pub const CHECKED: &[(&str, &str, &str, &str)] = &[(
+    "PartMut",
+    "new",
+    "crate::parts::has_own_items(&view, items.len())",
+    "an index of the part has no item to itself",
+)];
+
+/// Crates of the package that only another crate of it uses.
+pub const PRIVATE: &[&str] = &["nd_cells"];
+
 /// Structs that files of `rust/src` make and take apart: all of the package sees their fields.
 pub const OPENED: &[&str] = &[
     "ArrayView",
@@ -208,7 +249,7 @@ pub const MEMORY: &[(&str, &[&str])] = &[
 
 /// Words of clauses that say which reference it is whose items change: only proofs of callers need them, as rustc says it by
 /// lifetimes.
-pub const OF_PROOFS: &[&str] = &["ghost_name", "names_of", "𝓛"];
+pub const OF_PROOFS: &[&str] = &["cells.marks", "cells.name", "ghost_name", "names_of", "𝓛"];
 
 /// A word of a condition that the docs of a source don't tell, and what is said of it.
 pub const CONDITIONS: &[(&str, &str)] = &[

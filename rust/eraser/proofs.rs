@@ -12,13 +12,20 @@ pub fn length_of_clause(trees: &[Tree]) -> Result<Option<usize>, Fault> {
     Ok(Some(body + 1))
 }
 
-/// How many trees come first as a ghost item, `ghost NAME ..` up to the semicolon or the comma.
+/// How many trees come first as a ghost item, `ghost NAME ..` up to the semicolon or the comma; as a ghost parameter of a function,
+/// `ghost NAME: { .. }`, before its clauses.
 pub fn length_of_ghost(trees: &[Tree]) -> Result<Option<usize>, Fault> {
     if !trees[0].is("ghost") {
         return Ok(None);
     }
     if trees.get(1).and_then(Tree::word).is_none() {
         return Err(fault(trees[0].first(), "names nothing"));
+    }
+    if let [_, _, colon, fact, next, ..] = trees {
+        let is_in_head = next.is("requires") || next.is("ensures");
+        if is_in_head && colon.is(":") && fact.group("{").is_some() {
+            return Ok(Some(4));
+        }
     }
     let end = trees.iter().position(|tree| tree.is(";") || tree.is(",")).unwrap_or(trees.len());
     let goes_on = |pair: &[Tree]| pair[0].group("{").is_some() && !pair[1].is("=") && !pair[1].is("by");

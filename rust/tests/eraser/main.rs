@@ -3,6 +3,7 @@
 
 mod attributes;
 mod documented;
+mod unsafe_code;
 
 #[path = "../../eraser/bounds.rs"]
 mod bounds;
@@ -36,6 +37,8 @@ mod paragraphs;
 mod proofs;
 #[path = "../../eraser/tokens.rs"]
 mod tokens;
+#[path = "../../eraser/unsafety.rs"]
+mod unsafety;
 
 use erase::{Names, erase};
 use modules::{files_of, module_of};

@@ -1,0 +1,72 @@
+//! What keeps the package sound: where `unsafe` stays, with the words that say why, and conditions that are checked.
+
+use crate::erase::Eraser;
+use crate::names::{CHECKED, PRIVATE, SOUND_BY_CONDITIONS, UNSAFE};
+use crate::paragraphs::Paragraphs;
+use crate::tokens::{Fault, Tree, fault, length_of_generics};
+
+/// How a comment begins that says why `unsafe` is sound.
+const SAFETY: &str = "// SAFETY: ";
+
+/// The columns that a line of the package takes.
+const COLUMNS: usize = 120;
+
+impl Eraser<'_> {
+    /// `unsafe { .. }` and `unsafe impl TRAIT for ..` stay where it is told why they are sound.
+    pub(crate) fn unsafety(&mut self, trees: &[Tree]) -> Result<Option<usize>, Fault> {
+        let [word, next, ..] = trees else {
+            return Ok(None);
+        };
+        let item = match next {
+            _ if !word.is("unsafe") => return Ok(None),
+            Tree::Group(group) if group.open.text == "{" => self.of_function.as_str(),
+            _ if next.is("impl") => {
+                trees[2 + length_of_generics(&trees[2..])..].first().and_then(Tree::word).unwrap_or_default()
+            }
+            _ => return Ok(None),
+        };
+        let (own, token) = (self.names.own, word.first());
+        let known = UNSAFE.iter().find(|(known, name, _)| *known == own && *name == item);
+        let indent = token.lead.rsplit('\n').next().unwrap_or_default();
+        let comment = match known {
+            _ if token.lead.contains(SAFETY) && SOUND_BY_CONDITIONS.contains(&own) => String::new(),
+            Some((.., reason)) => comment(reason, indent),
+            None => return Err(fault(token, "is no form that can be erased")),
+        };
+        self.put(token.lead, &format!("{comment}unsafe"));
+        self.is_unsafe = true;
+        Ok(Some(1))
+    }
+
+    /// The assertion of the condition of the function at hand, if the package checks it.
+    pub(crate) fn assertion(&self) -> Option<String> {
+        let (is_checked, name) = (self.contract.is_public && self.contract.is_function, &self.contract.name);
+        let of_list = CHECKED.iter().find(|(ty, call, ..)| self.of_impl == *ty && name == call);
+        let (.., condition, words) = of_list.filter(|_| is_checked && SOUND_BY_CONDITIONS.contains(&self.names.own))?;
+        Some(format!("assert!({condition}, {words:?});"))
+    }
+
+    /// What is said of a condition of the item at hand that is broken. The error is one that keeps `unsafe` sound, of a call that others
+    /// see, which isn't checked.
+    pub(crate) fn broken(&self) -> Result<&'static str, &'static str> {
+        let own = self.names.own;
+        match self.assertion() {
+            Some(_) => Ok("Otherwise this call panics."),
+            None if !SOUND_BY_CONDITIONS.contains(&own) => {
+                Ok("Otherwise this call or a later one panics or returns unspecified values.")
+            }
+            None if self.contract.is_public && self.contract.has_condition() && !PRIVATE.contains(&own) => {
+                Err("begins a call that others see, with a condition that keeps `unsafe` sound and isn't checked")
+            }
+            None => Ok("Otherwise the behaviour is undefined."),
+        }
+    }
+}
+
+/// Lines of a comment before an item with an indent, and the indent of the item.
+fn comment(reason: &str, indent: &str) -> String {
+    let mark = "// ";
+    let mut paragraphs = Paragraphs::of("", COLUMNS - indent.len() - mark.len());
+    paragraphs.push(&format!("{}{reason}", &SAFETY[mark.len()..]));
+    paragraphs.lines().iter().map(|line| format!("{mark}{line}\n{indent}")).collect()
+}

@@ -1,0 +1,62 @@
+//! Where `unsafe` is left, and what keeps it sound.
+
+use crate::NAMES;
+use crate::erase::{Names, erase};
+use crate::tokens::trees_of;
+
+/// What is left of a source of a crate, in one line, or what is said of it.
+fn line_of(own: &str, source: &str) -> String {
+    let names = Names { own, ..NAMES };
+    let text = match trees_of(source).and_then(|(trees, _)| erase(&trees, &names)) {
+        Ok(erased) => erased.text,
+        Err(fault) => fault.to_string(),
+    };
+    text.split_whitespace().filter(|word| *word != "///").collect::<Vec<_>>().join(" ")
+}
+
+#[test]
+fn unsafe_stays_where_it_is_told_why_it_is_sound() {
+    const NO_FORM: &str = "1: `unsafe` is no form that can be erased";
+    let rows = [
+        ("unsafe impl<T: Sync> Sync for Cells<'_, T> {}", "unsafe impl<T: Sync> Sync for Cells<'_, T> {}"),
+        ("fn get(&self) -> &T { unsafe { &*self.p } }", "unsafe { &*self.p } }"),
+        ("fn get(&self) { f(); unsafe { g() } } fn get_mut() { unsafe { h() } }", "unsafe { h() } }"),
+        ("fn other() { // SAFETY: as here\nunsafe { h() } }", "fn other() { // SAFETY: as here unsafe { h() } }"),
+        ("fn other() { unsafe { h() } }", NO_FORM),
+        ("unsafe impl Clone for Cells<'_, u8> {}", NO_FORM),
+        ("unsafe fn get() {}", NO_FORM),
+    ];
+    for (source, due) in rows {
+        let left = line_of("nd_cells", source);
+        assert!(left.ends_with(due), "{source}: {left}");
+        assert_eq!(left.contains("// SAFETY: "), due != NO_FORM, "{source}: {left}");
+        if !source.contains("SAFETY") {
+            assert!(line_of("upper", source).ends_with(NO_FORM), "{source}");
+        }
+    }
+    assert!(
+        line_of("upper", "fn get() { // SAFETY: no\nunsafe { h() } }")
+            .ends_with("`unsafe` is no form that can be erased")
+    );
+}
+
+#[test]
+fn a_ghost_parameter_goes() {
+    let head = "fn f<V>(by: &V) -> u8 ghost chosen: { List Bool } requires { IsTrue chosen }";
+    assert_eq!(line_of("upper", &format!("{head} {{ 1 }}")), "fn f<V>(by: &V) -> u8 { 1 }");
+    assert_eq!(line_of("upper", "fn f() ghost a: { b } ensures { c };"), "fn f();");
+}
+
+#[test]
+fn a_condition_that_keeps_it_sound_is_checked_where_others_see_the_call() {
+    let call = "/// A. The caller ensures that it fits.\npub fn new(n: u8) -> Self requires { IsOwned n } { f(n) }";
+    let checked = line_of("nd_parts", &format!("impl<T> PartMut<T> {{ {call} }}"));
+    assert!(checked.contains("{assert!(crate::parts::has_own_items(&view, items.len()), \"an index"), "{checked}");
+    assert!(checked.contains("Otherwise this call panics."), "{checked}");
+    let due = "2: `{` begins a call that others see, with a condition that keeps `unsafe` sound and isn't checked";
+    assert_eq!(line_of("nd_parts", &format!("impl<T> Other<T> {{ {call} }}")), due);
+    let private = line_of("nd_parts", &format!("impl<T> Other<T> {{ {} }}", call.replace("pub ", "")));
+    assert!(private.contains("Otherwise the behaviour is undefined.") && !private.contains("assert!"), "{private}");
+    assert!(line_of("nd_cells", &format!("impl<T> Cells<T> {{ {call} }}")).contains("the behaviour is undefined."));
+    assert!(line_of("upper", &format!("impl<T> PartMut<T> {{ {call} }}")).contains("unspecified values."));
+}
