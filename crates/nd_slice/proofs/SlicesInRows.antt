@@ -8,7 +8,8 @@ module _ (fit : Fit) (shape : List ℕ) (slices : List (List SliceInfoElem)) (ba
   abbrev at : ℕ → List SliceInfoElem
   at place = slice_at slices backwards place
 
-  -- of the first count: none ends on the first axis past `below`; each ends there at `above` or before, or on the second at `left` or before
+  -- of the first count none ends on the first axis past `below`, and each ends there at `above` or before, or on the second at `left`
+  -- or before
   pub record InRows (count above below left : ℕ) : Type 0 where
     pub ends : (i : ℕ) → i < count → end_on fit shape 0 (at i) ≤ below
     pub row : (i : ℕ) → i < count → (end_on fit shape 0 (at i) ≤ above) ⊎ (end_on fit shape 1 (at i) ≤ left)

@@ -63,7 +63,8 @@ returns c =
     let here : is_index shape index ≡ true =
     is_index_from_coordinates shape index (sym c.if-dim-index.false)
     (λ axis l. c.loop-axis.invariant.in_bounds axis (omega (arith, c.loop-axis-test.false, c.requires.same_count, strides))) in
-    let end = offset_from_end c.args.strides.now index c.loop-axis.axis (omega (arith, c.loop-axis-test.false, c.if-dim-index.false, c.requires.same_count, strides)) in
+    let end = offset_from_end c.args.strides.now index c.loop-axis.axis
+    (omega (arith, c.loop-axis-test.false, c.if-dim-index.false, c.requires.same_count, strides)) in
     let whole : to_z w64 c.loop-axis.offset-bits ≡ offset_of (all_signed c.args.strides.now) index =
     omega (arith, ints, end, c.loop-axis.invariant.sum) in
     rw here (ap Some whole)

@@ -15,8 +15,10 @@ loop-place-preserved g c =
     let backwards = g.R.Direction.backwards in
     let so_far = c.loop-place in
     let at = slice_at slices backwards so_far.place in
-    let top : c.in-Some.top ≡ start_on fit shape 0 at = c.in-Some.ensures.start ∙ ap (start_on fit shape 0) c.elems_at-slice.ensures.slice in
-    let bottom : c.in-Some.bottom ≡ end_on fit shape 0 at = c.in-Some.ensures.end ∙ ap (end_on fit shape 0) c.elems_at-slice.ensures.slice in
+    let top : c.in-Some.top ≡ start_on fit shape 0 at =
+    c.in-Some.ensures.start ∙ ap (start_on fit shape 0) c.elems_at-slice.ensures.slice in
+    let bottom : c.in-Some.bottom ≡ end_on fit shape 0 at =
+    c.in-Some.ensures.end ∙ ap (end_on fit shape 0) c.elems_at-slice.ensures.slice in
     let start : c.in-Some-range_on.start ≡ start_on fit shape 1 at =
     c.in-Some-range_on.ensures.start ∙ ap (start_on fit shape 1) c.elems_at-slice.ensures.slice in
     let end : c.in-Some-range_on.end ≡ end_on fit shape 1 at =
