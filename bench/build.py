@@ -18,8 +18,9 @@ CRATE, BY_RUSTC = "bench_ffi", "bench_by_rustc"
 LINE = f"{CRATE} staticlib: ndarray_layout nd_base nd_owned"
 PARTS = ("src", "specs", "proofs")
 # As a user of ndarray builds it: optimized, nothing checked, for any x86-64 processor. It is one unit, so that nothing depends on
-# how rustc cuts it.
-FLAGS = ("opt-level=3", "codegen-units=1", "overflow-checks=off", "debug-assertions=off")
+# how rustc cuts it. No jump crosses 32 bytes or ends there, since many processors decode such a block anew: else a call of a few
+# nanoseconds changes by a third with where the linker puts it.
+FLAGS = ("opt-level=3", "codegen-units=1", "overflow-checks=off", "debug-assertions=off", "llvm-args=-x86-branches-within-32B-boundaries")
 RUSTC = ["rustc", "--edition", "2024", *(word for flag in FLAGS for word in ("-C", flag))]
 
 

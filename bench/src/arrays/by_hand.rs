@@ -96,6 +96,20 @@ pub fn index(form: Form, items: &[u32]) -> usize {
     sum as usize
 }
 
+/// The means of each item and its eight neighbours, but of those at the border; the sum over them.
+#[inline(never)]
+pub fn blur(form: Form, items: &[u32]) -> usize {
+    let columns = if let Form::Padded = form { PADDED } else { SIDE };
+    let mut sum = 0u32;
+    for i in 0..SIDE - 2 {
+        for j in 0..columns - 2 {
+            let three = |row: usize| items[row * SIDE + j..][..3].iter().fold(0, wrapping);
+            sum = sum.wrapping_add(three(i).wrapping_add(three(i + 1)).wrapping_add(three(i + 2)) / 9);
+        }
+    }
+    sum as usize
+}
+
 /// The first items of the rows of tiles, and the first of their columns.
 fn corners() -> impl Iterator<Item = (usize, usize)> {
     (0..PICTURE).step_by(TILE).flat_map(|row| (0..PICTURE).step_by(TILE).map(move |column| (row, column)))

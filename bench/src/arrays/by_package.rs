@@ -2,7 +2,7 @@
 
 use super::by_hand::wrapping;
 use super::{Form, PADDED, PICTURE, SIDE, TILE};
-use ndarray_layout::{ArrayView, ArrayViewMut, CanIndexCheckMode, Ix2, Ix3, SliceInfoElem, Strided, s};
+use ndarray_layout::{ArrayView, ArrayViewMut, CanIndexCheckMode, Ix2, Ix3, Ix4, SliceInfoElem, Strided, s};
 
 fn layout(form: Form) -> Strided<Ix2> {
     let (shape, strides) = match form {
@@ -69,6 +69,35 @@ pub fn index(form: Form, items: &[u32]) -> usize {
         for j in 0..array.dim()[1] {
             sum = sum.wrapping_add(array[(i, j)]);
         }
+    }
+    sum as usize
+}
+
+/// The means of each item and its eight neighbours, by the slices of three rows.
+#[inline(never)]
+pub fn blur_rows(form: Form, items: &[u32]) -> usize {
+    let array = array(form, items);
+    let rows: Vec<&[u32]> = array.rows().map(|row| row.as_slice()).collect::<Option<_>>().expect("rows without gaps");
+    let mut sum = 0u32;
+    for three in rows.windows(3) {
+        let [above, own, below] = [0, 1, 2].map(|row| three[row].windows(3));
+        for ((above, own), below) in above.zip(own).zip(below) {
+            sum = sum.wrapping_add([above, own, below].into_iter().flatten().fold(0, wrapping) / 9);
+        }
+    }
+    sum as usize
+}
+
+/// The same by the rows of all windows, three for each.
+#[inline(never)]
+pub fn blur_windows(form: Form, items: &[u32]) -> usize {
+    let windows: ArrayView<'_, u32, Ix4> = array(form, items).windows(&Ix2(3, 3)).expect("windows");
+    let mut rows = windows.rows();
+    let mut sum = 0u32;
+    while let Some(above) = rows.next() {
+        let first = above.into_iter().fold(0, wrapping);
+        let all = rows.by_ref().take(2).fold(first, |sum, row| row.into_iter().fold(sum, wrapping));
+        sum = sum.wrapping_add(all / 9);
     }
     sum as usize
 }
