@@ -22,7 +22,6 @@ mod unsafety;
 use erase::Names;
 use examples::examples_in;
 use modules::{Fallible, files_of, module_of};
-use names::PRIVATE;
 use std::path::Path;
 use std::{env, fs};
 
@@ -103,9 +102,6 @@ const ALLOWED_IN_TESTS: &[(&str, &[&str])] = &[
     ),
 ];
 
-/// What a crate of the package doesn't keep to that others don't see.
-const ALLOWED_IN_PRIVATE: &[(&str, &[&str])] = &[("what proofs of other crates may call", &["dead_code"])];
-
 /// With `--write`, the top of the repository and a folder, writes what is made of its sources into that folder. With `--code`
 /// and files, prints their lines of code. With a crate above the layer and the folder of its sources, prints that crate as one
 /// module, and its exports as C calls them.
@@ -140,11 +136,7 @@ fn write(top: &Path, into: &Path) -> Fallible<()> {
                 examples: if is_library { &of_calls } else { &[] },
                 inlined: is_library,
             };
-            let others = match () {
-                _ if PRIVATE.contains(own) => ALLOWED_IN_PRIVATE,
-                _ if is_library || *folder == FOR_C => &[],
-                _ => ALLOWED_IN_TESTS,
-            };
+            let others = if is_library || *folder == FOR_C { &[] } else { ALLOWED_IN_TESTS };
             for (place, text) in files_of(&source, &names, &attributes("#!", others), *folder == FOR_C)? {
                 let file = into.join(folder).join(own).join(place);
                 fs::create_dir_all(file.parent().unwrap_or(into))?;

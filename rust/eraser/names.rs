@@ -163,30 +163,30 @@ pub const REFUSED: &[&str] = &[
 /// A comment of the source that begins with `SAFETY:` tells it as well.
 pub const UNSAFE: &[(&str, &str, &str)] = &[
     (
-        "nd_cells",
+        "nd_parts",
         "Send",
-        "no other `Cells` has a mark that this one has (`all` of `new` and `split`), so it is sent as a `&mut [T]` of its elements would be.",
+        "no other `Cells` has a mark that this one has (`array` of `new`, `all` of `split`), so it is sent as a `&mut [T]` of its elements would be.",
     ),
-    ("nd_cells", "Sync", "what is shared only reads (`get`), as a `&[T]` of its elements would."),
+    ("nd_parts", "Sync", "what is shared only reads (`get`), as a `&[T]` of its elements would."),
     (
-        "nd_cells",
-        "get_mut",
-        "the place has a mark, which the caller ensures; so it is one of the slice that was lent (`all` of `new`), and no other `Cells` has its mark (`all` of `split`). While the result is in use this one is borrowed, so nothing else reads or writes the element.",
+        "nd_parts",
+        "item_mut",
+        "the place has a mark, which the caller ensures; so it is one of the slice that was lent (`new`), and no other `Cells` has its mark (`all` of `split`). While the result is in use the part is borrowed, so nothing else reads or writes the element.",
     ),
     (
-        "nd_cells",
+        "nd_parts",
         "get",
-        "the place has a mark, which the caller ensures; so it is one of the slice that was lent (`all` of `new`), and no other `Cells` has its mark (`all` of `split`). While the result is in use this one is borrowed, so nothing writes the element.",
+        "the place has a mark, which the caller ensures; so it is one of the slice that was lent (`new`), and no other `Cells` has its mark (`all` of `split`). While the result is in use this one is borrowed, so nothing writes the element.",
     ),
     (
-        "nd_cells",
+        "nd_parts",
         "take_slice",
-        "each of these places has a mark, which the caller ensures, and has none afterwards (`all`, here). So they are those of the slice that was lent (`all` of `new`), and no call of this `Cells` or of another reads or writes them again.",
+        "each of these places has a mark, which the caller ensures, and has none afterwards (`all`, here). So they are those of the slice that was lent (`new`), and no call of this `Cells` or of another reads or writes them again.",
     ),
 ];
 
 /// Crates whose conditions keep `unsafe` sound.
-pub const SOUND_BY_CONDITIONS: &[&str] = &["nd_cells", "nd_parts"];
+pub const SOUND_BY_CONDITIONS: &[&str] = &["nd_parts"];
 
 /// Calls of these crates that others see, whose condition the package checks, since no proof of its callers does: the type, the call,
 /// what is asserted, and what the panic says.
@@ -196,9 +196,6 @@ pub const CHECKED: &[(&str, &str, &str, &str)] = &[(
     "crate::parts::has_own_items(&view, items.len())",
     "an index of the part has no item to itself",
 )];
-
-/// Crates of the package that only another crate of it uses.
-pub const PRIVATE: &[&str] = &["nd_cells"];
 
 /// Structs that files of `rust/src` make and take apart: all of the package sees their fields.
 pub const OPENED: &[&str] = &[

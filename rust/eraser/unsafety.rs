@@ -1,7 +1,7 @@
 //! What keeps the package sound: where `unsafe` stays, with the words that say why, and conditions that are checked.
 
 use crate::erase::Eraser;
-use crate::names::{CHECKED, PRIVATE, SOUND_BY_CONDITIONS, UNSAFE};
+use crate::names::{CHECKED, SOUND_BY_CONDITIONS, UNSAFE};
 use crate::paragraphs::Paragraphs;
 use crate::tokens::{Fault, Tree, fault, length_of_generics};
 
@@ -55,7 +55,7 @@ impl Eraser<'_> {
             None if !SOUND_BY_CONDITIONS.contains(&own) => {
                 Ok("Otherwise this call or a later one panics or returns unspecified values.")
             }
-            None if self.contract.is_public && self.contract.has_condition() && !PRIVATE.contains(&own) => {
+            None if self.contract.is_public && self.contract.has_condition() => {
                 Err("begins a call that others see, with a condition that keeps `unsafe` sound and isn't checked")
             }
             None => Ok("Otherwise the behaviour is undefined."),

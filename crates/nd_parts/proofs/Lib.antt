@@ -1,3 +1,6 @@
+pub mod ItemWritten
 pub mod Marks
+pub mod SliceOfPart
 pub mod SlicesApart
 pub mod laws
+pub mod lending

@@ -2,7 +2,7 @@
 use Rattle.std.proofs.Common.{◌≡◌, ℕ, zero, suc, ◌<◌, ℤ, pos, negsuc, Bool, true, false, List, [], ◌∷◌, length, get_or}
 use Rattle.std.proofs.Common.{refl, sym, ap, subst, ◌∙◌, arith}
 use Rattle.std.proofs.Common.{Result, Ok, Err}
-use Rattle.std.specs.Prelude.{OnErr, OnOk}
+use Rattle.std.specs.Prelude.{OnErr, OnOk, replicate}
 use Rattle.std.specs.List.{Contains, list_any}
 use Rattle.std.specs.Ordering.{int_eq}
 use Rattle.std.proofs.lemmas.Bool.{false_from_ne_true}
@@ -11,7 +11,7 @@ use Rattle.std.proofs.lemmas.Cmp.{int_eq_equiv}
 use Rattle.std.proofs.lemmas.List.FromFn.{get_or-map-range_with_len, length-map-range_with_len}
 use Rattle.std.proofs.lemmas.Map.Views.{list_any-from_Contains, Contains-from_any}
 use Rattle.std.proofs.lemmas.Bool.{false≢true}
-use Rattle.std.proofs.lemmas.List.{get_or-map, length-map}
+use Rattle.std.proofs.lemmas.List.{get_or-map, get_or-replicate, length-map}
 use Rattle.ndarray_layout.proofs.laws.Indices.{Contains-indices_in, All-indices_in}
 use Rattle.ndarray_layout.proofs.laws.Lists.{Contains-map}
 use Rattle.ndarray_layout.specs.declared.Order.TheVariants.{RowMajor}
@@ -19,7 +19,9 @@ use Rattle.ndarray_layout.specs.Indices.{is_index, indices_in}
 use Rattle.ndarray_layout.specs.Descends.{Descends}
 use Rattle.ndarray_layout.specs.SharePlace.{SharePlace}
 use Rattle.ndarray_layout.specs.View.{View, place_at, view_places}
-use Rattle.nd_cells.specs.Cells.{are_within, without}
+use Rattle.nd_parts.specs.Cells.{are_within, without}
+use Rattle.ndarray_layout.specs.Bounds.{IsInBounds}
+use Rattle.nd_parts.specs.Items.{IsOwned}
 use Rattle.nd_parts.specs.Part.{has_mark, AreMarked, IsPart, marks_of}
 
 module _ (view : View) where
@@ -132,3 +134,15 @@ pub part_after : {X E : Type 0} (result : Result X E) (source : List ℕ → Lis
     → OnErr result (new ≡ old) → OnOk result (Descends source old new) → IsPart marks old → IsPart marks new
 part_after (Ok x) source marks same kept part = part_descendant marks kept part
 part_after (Err e) source marks same kept part = subst (IsPart marks) (sym same) part
+
+-- where all places have a mark, those that have an item do
+in_bounds_marked : (count : ℕ) (place : ℤ) → IsInBounds count place → has_mark (replicate count true) place ≡ true
+in_bounds_marked count (pos place) below = get_or-replicate count place true false below
+in_bounds_marked count (negsuc below) none = absurd none
+
+pub owned_is_part : (count : ℕ) (view : View) → IsOwned count view → IsPart (replicate count true) view
+owned_is_part count view owned = record {
+  is_view = owned.is_view;
+  marked = λ index is. in_bounds_marked count (place_at view index) (owned.within index is);
+  distinct = owned.distinct;
+}

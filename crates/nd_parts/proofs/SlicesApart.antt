@@ -17,7 +17,7 @@ use Rattle.ndarray_layout.proofs.laws.SlicedView.{Descends-slice_of}
 use Rattle.nd_parts.specs.Items.{ArrayValue}
 use Rattle.nd_parts.proofs.laws.Faults.{slices_fit}
 use Rattle.nd_parts.proofs.laws.Lists.{pairs_head, pairs_tail}
-use Rattle.nd_cells.specs.Cells.{without}
+use Rattle.nd_parts.specs.Cells.{without}
 use Rattle.nd_parts.specs.Part.{AreMarked, IsPart, marks_of}
 use Rattle.nd_parts.specs.Slices.{AreApartInPlace}
 use Rattle.nd_parts.proofs.Marks.{marked_step, part_of_others, part_of_own}

@@ -1,6 +1,7 @@
 //! Parts of an array that are lent at once.
 #![tactic(auto)]
 
+mod cells;
 mod part;
 
 pub use part::PartMut;

@@ -1,10 +1,14 @@
 //! A part of an array: a view, and the right to its items alone.
+ghost use Rattle.std.specs.Borrow.{sem};
 ghost use Rattle.std.specs.Option.{IsSome};
-ghost use Rattle.std.specs.Prelude.{◌≡◌, ◌↔◌, IsTrue, IfErr, IfOk, IsOk, None, Some, length, option_copied};
+ghost use Rattle.std.specs.Prelude.{◌≡◌, ◌↔◌, IsTrue, IfErr, IfOk, IfSome, IsOk, None, Some, length, map, option_copied};
 ghost use Rattle.ndarray_layout.specs.Indices.{is_index};
 ghost use Rattle.ndarray_layout.specs.Memory.{NeedsNoMemory};
 ghost use Rattle.ndarray_layout.specs.ShapeFault.{shape_fault};
+ghost use Rattle.ndarray_layout.specs.declared.Order.TheVariants.{RowMajor};
 ghost use Rattle.ndarray_layout.specs.SplitView.{first_part_of, second_part_of, split_fault};
+ghost use Rattle.ndarray_layout.specs.Stretch.{IsStretch};
+ghost use Rattle.ndarray_layout.specs.View.{view_places};
 ghost use Rattle.nd_parts.specs.Items.{IsOwned};
 ghost use Rattle.nd_parts.specs.Part.{IsPart, IsPart-prop};
 
@@ -13,8 +17,8 @@ mod making;
 mod slices;
 mod steps;
 
-use nd_cells::cells::Cells;
-use ndarray_layout::{Axis, LayoutError, Lengths, NdIndex, Strided};
+use crate::cells::Cells;
+use ndarray_layout::{Axis, LayoutError, Lengths, NdIndex, Order, Strided};
 use std::alloc::Global;
 use std::mem::replace;
 
@@ -24,27 +28,15 @@ use std::mem::replace;
 /// The rows 0 and 1 of 7 8 9 10 by two: one part has 7 8, the other 9 10. The project's own.
 #[derive(Drop)]
 pub struct PartMut<'a, T, D: Lengths> {
-    cells: Cells<'a, T>,
-    view: Strided<D>,
+    pub(crate) cells: Cells<'a, T>,
+    pub(crate) view: Strided<D>,
     ghost part: { IsPart cells.marks view } by { IsPart-prop cells.marks view },
 }
 
 impl<'a, T: Drop, D: Lengths> PartMut<'a, T, D> {
-    ghost use Rattle.nd_parts.specs.Items.{item_at, with_item};
+    ghost use Rattle.nd_parts.specs.Items.{item_at, item_at_place, with_item};
+    ghost use Rattle.nd_parts.specs.Lending.{LendsItemIf};
     ghost use Rattle.nd_parts.specs.Lent.{array_of};
-
-    /// The part of all indices of a view. The caller ensures that each index has an item to itself, as
-    /// `Strided::from_shape`, `new` and `from_parts` check it in owned mode. Takes no memory.
-    ///
-    /// `[2]`, `[-1]` from 1 over 7 8 9: (0) is 8, (1) is 7, and 9 is no part of it. The project's own.
-    pub fn new(view: Strided<D>, items: &'a mut [T]) -> Self
-        requires { IsOwned (length items.old) view }
-        ensures items { (array_of result).items ≡ items.old }
-        ensures view { (array_of result).view ≡ view }
-    {
-        let cells = Cells::new(items);
-        PartMut { cells, view }
-    }
 
     /// The part of all indices of a view. The caller ensures that each index has a place to itself, which has a mark.
     fn of_cells(cells: Cells<'a, T>, view: Strided<D>) -> Self
@@ -77,6 +69,22 @@ impl<'a, T: Drop, D: Lengths> PartMut<'a, T, D> {
         Some(self.cells.get(place))
     }
 
+    /// The item of an index, to be written; `None` where it is no index of the shape.
+    ///
+    /// `[2]`, `[-1]` from 1 over 7 8 9: (0) is 8; 5 written there makes the items 7 5 9. ndarray's `get_mut`.
+    pub fn get_mut<I: NdIndex<D>>(&mut self, index: &I) -> Option<&mut T>
+        ensures* writes_back { sem 𝓛 (LendsItemIf T.row D.row self.entry (I.index_list index.now) result) }
+        ensures found { IsSome result ↔
+            IsTrue (is_index (array_of self.old).view.shape (I.index_list index.now)) }
+        ensures item { IfSome result (λ item.
+            item_at (array_of self.old) (I.index_list index.now) ≡ Some item.now) }
+    {
+        match self.view.place(index) {
+            Some(place) => Some(self.item_mut(place)),
+            None => None,
+        }
+    }
+
     /// Replaces the item of an index, and returns whether it is an index of the shape; else the part is unchanged.
     ///
     /// `[2]`, `[-1]` from 1 over 7 8 9: 5 at (1) makes the items 5 8 9. ndarray's `get_mut`, with the write.
@@ -89,7 +97,7 @@ impl<'a, T: Drop, D: Lengths> PartMut<'a, T, D> {
     {
         match self.view.place(index) {
             Some(place) => {
-                *self.cells.get_mut(place) = item;
+                *self.item_mut(place) = item;
                 true
             },
             None => false,
@@ -112,8 +120,30 @@ impl<'a, T: Drop, D: Lengths> PartMut<'a, T, D> {
         ensures same_right { self.new.cells.name ≡ self.old.cells.name }
     {
         match self.view.place(index) {
-            Some(place) => Ok(replace(self.cells.get_mut(place), item)),
+            Some(place) => Ok(replace(self.item_mut(place), item)),
             None => Err(item),
+        }
+    }
+
+    /// The items as a slice, for as long as the whole is lent, where their places follow one another in row-major order; else the
+    /// part.
+    ///
+    /// `[2]`, `[1]` from 1 over 7 8 9: 8 9. ndarray's `into_slice`.
+    pub fn into_slice(self) -> Result<&'a mut [T], Self>
+        ensures found { IsOk result ↔ IsStretch RowMajor (array_of self.entry).view }
+        ensures items { IfOk result (λ items. map Some items.now ≡
+            map (item_at_place (array_of self.entry).items)
+            (view_places RowMajor (array_of self.entry).view)) }
+        ensures kept { IfErr result (λ part. array_of part ≡ array_of self.entry) }
+        ensures same_right { IfErr result (λ part. part.cells.name ≡ self.entry.cells.name) }
+    {
+        let PartMut { cells, view } = self;
+        match view.stretch(Order::RowMajor) {
+            Some(places) => {
+                let mut cells = cells;
+                Ok(cells.take_slice(places.start, places.end - places.start))
+            },
+            None => Err(PartMut { cells, view }),
         }
     }
 

@@ -8,6 +8,7 @@ use Rattle.ndarray_layout.specs.Bounds.{IsInBounds}
 use Rattle.ndarray_layout.specs.Rows.{row_places}
 use Rattle.ndarray_layout.proofs.laws.Rows.{get_or-row_places, length-row_places}
 use Rattle.nd_parts.specs.Items.{item_at_place}
+use Rattle.nd_parts.proofs.laws.Neighbours.{got_between}
 
 -- ---- where the places of a row lie
 
@@ -31,20 +32,6 @@ begins count start stride len in_bounds some = subst (IsInBounds count) (sym (st
     some)
 
 -- ---- a row of neighbours
-
-later : {X : Type 0} (x : X) (xs : List X) (a n : ℕ)
-    → map (slice_get (x ∷ xs)) (range_with_len (suc a) n) ≡ map (slice_get xs) (range_with_len a n)
-later x xs a zero = refl
-later x xs a (suc n) =
-    let next : suc a + 1 ≡ suc (a + 1) = omega arith in
-    ap (λ items. slice_get xs a ∷ items) (ap (λ m. map (slice_get (x ∷ xs)) (range_with_len m n)) next ∙ later x xs (a + 1) n)
-
-got_between : {X : Type 0} (xs : List X) (a n : ℕ) → a + n ≤ length xs
-    → map (slice_get xs) (range_with_len a n) ≡ map Some (take n (drop a xs))
-got_between xs a zero within = refl
-got_between [] a (suc n) within = absurd (omega arith)
-got_between (x ∷ xs) zero (suc n) within = ap (λ items. Some x ∷ items) (later x xs 0 n ∙ got_between xs 0 n (omega arith))
-got_between (x ∷ xs) (suc a) (suc n) within = later x xs a (suc n) ∙ got_between xs a (suc n) (omega arith)
 
 at_neighbours : {X : Type 0} (xs : List X) (start a n : ℕ)
     → map (item_at_place xs) (map (λ coordinate. pos start +ℤ (pos coordinate *ℤ pos 1)) (range_with_len a n))

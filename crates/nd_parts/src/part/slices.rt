@@ -7,8 +7,8 @@ ghost use Rattle.nd_parts.specs.Part.{IsPart};
 ghost use Rattle.nd_parts.specs.Slices.{AreApartInPlace, IsFaultOfSlices, slice_array};
 ghost use Rattle.nd_parts.specs.Lent.{array_of};
 
+use crate::cells::Cells;
 use crate::part::PartMut;
-use nd_cells::cells::Cells;
 use ndarray_layout::{ErrorKind, Fit, IxDyn, LayoutError, Lengths, SliceElems, Strided, from_kind};
 use std::alloc::Global;
 

@@ -45,6 +45,29 @@ impl<'a, T: Drop, D: Lengths> PartMut<'a, T, D> {
         Ok(PartMut::of_cells(cells, view))
     }
 
+    /// The part of the items that a slice argument leaves, for as long as this one is borrowed: `Strided::slice`, with its errors.
+    /// Once it is gone, this part has what was written.
+    ///
+    /// `1..` of `[3]` over 7 8 9: 8 9. ndarray's `slice_mut`.
+    #[tactic(auto, using(crate::proofs::Marks::part_descendant))]
+    pub fn slice_mut<E: Lengths, S: SliceElems>(
+        &mut self,
+        alloc: Global,
+        slices: &S,
+        fit: Fit,
+    ) -> Result<PartMut<'_, T, E>, LayoutError>
+        ensures fault { shape_fault result ≡
+            view_slice_fault fit E.NDIM (array_of self.old).view.shape (S.list slices.now) }
+        ensures memory { shape_fault result ≡ None →
+            NeedsNoMemory E.NDIM (out_count (S.list slices.now)) → IsOk result }
+        ensures array { IfOk result (λ a. IsArrayOfStep Descends
+            (selected fit (S.list slices.now) (array_of self.old).view.shape)
+            (slice_of fit (S.list slices.now)) (array_of self.old) (array_of a)) }
+    {
+        let view = self.view.slice(alloc, slices, fit)?;
+        Ok(self.borrowed(view))
+    }
+
     /// The transpose: `Strided::reversed_axes`.
     ///
     /// (2,1) of the result is (1,2) of the part. ndarray's `reversed_axes`.

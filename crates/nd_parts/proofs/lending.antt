@@ -1,0 +1,13 @@
+pub mod Crosses
+pub mod Handed
+pub mod Held
+pub mod One
+pub mod PartHeld
+pub mod PartLends
+pub mod Parted
+pub mod Passed
+pub mod Places
+pub mod Shared
+pub mod Stretch
+pub mod Taken
+pub mod Where
