@@ -26,7 +26,7 @@ use std::path::Path;
 use std::{env, fs};
 
 /// The crates of the layer, lowest first.
-const LAYER: &[&str] = &["nd_base", "nd_dim", "nd_shape", "nd_slice", "ndarray_layout", "nd_lent", "nd_owned"];
+const LAYER: &[&str] = &["nd_base", "nd_dim", "nd_shape", "nd_slice", "ndarray_layout", "nd_parts", "nd_lent", "nd_owned"];
 
 /// The libraries of programs.
 const PROGRAMS: &[&str] = &["ndl_session", "example_tiles_edits"];

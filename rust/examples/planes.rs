@@ -1,11 +1,10 @@
 //! A picture of 640x480 pixels that have red, green and blue side by side: each of the three planes is written by a thread of its
 //! own, by the coordinates of the picture, and there is no `unsafe`.
 //!
-//! The cost: no two items of a plane lie side by side, so each is lent by a reference of its own, of 16 bytes: 15 MB for these
-//! 0.9 MB, made in 10 to 30 ns an item. A loop over pixels writes them in a tenth of a nanosecond or two: lend planes where what
-//! is done to each item takes longer. Planes that lie one after another (`[3, 480, 640]`) are lent by a reference for each row.
+//! The cost: a plane is a pointer and a view, whatever its strides are, so to lend three takes a list of three and no time that
+//! depends on the picture. `fill` and `map_in_place` go line by line, as fast as a loop by hand; brackets look at each index.
 
-use ndarray_layout::{ArrayViewMut, Ix2, Ix3, LayoutError, LentPart, s};
+use ndarray_layout::{ArrayViewMut, Ix2, Ix3, LayoutError, PartMut, s};
 use std::thread;
 use std::time::Instant;
 
@@ -13,7 +12,7 @@ const ROWS: usize = 480;
 const COLUMNS: usize = 640;
 
 /// Paints a plane from 0 at its first row to 255 at its last one.
-fn paint_downwards(mut plane: LentPart<'_, u8, Ix2>) {
+fn paint_downwards(mut plane: PartMut<'_, u8, Ix2>) {
     for row in 0..ROWS {
         for column in 0..COLUMNS {
             plane[(row, column)] = (row * 255 / (ROWS - 1)) as u8;
@@ -22,7 +21,7 @@ fn paint_downwards(mut plane: LentPart<'_, u8, Ix2>) {
 }
 
 /// Paints a plane from 0 at its first column to 255 at its last one.
-fn paint_across(mut plane: LentPart<'_, u8, Ix2>) {
+fn paint_across(mut plane: PartMut<'_, u8, Ix2>) {
     for row in 0..ROWS {
         for column in 0..COLUMNS {
             plane[(row, column)] = (column * 255 / (COLUMNS - 1)) as u8;

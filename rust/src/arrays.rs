@@ -35,5 +35,4 @@ pub use iter::ViewIter;
 pub use iter_mut::IterMut;
 pub(crate) use line::fold_column;
 pub(crate) use pairs::same_items;
-pub(crate) use pieces::into_parts;
 pub use rows::{IntoRows, RowsMut};

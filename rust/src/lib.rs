@@ -20,6 +20,7 @@
 //! | the places of elements that you keep yourself | [`Strided`]: [`new`](Strided::new), [`place`](Strided::place), [`iter_places`](Strided::iter_places), [`rows`](Strided::rows) |
 //! | a list of yours as an array, to read | [`ArrayView`]: [`from_shape`](ArrayView::from_shape), [`get`](ArrayView::get), [`rows`](ArrayView::rows), [`fold`](ArrayView::fold) |
 //! | .. to write, by threads as well | [`ArrayViewMut`]: [`from_shape`](ArrayViewMut::from_shape), [`set`](ArrayViewMut::set), [`map_in_place`](ArrayViewMut::map_in_place), [`multi_slice_mut`](ArrayViewMut::multi_slice_mut) |
+//! | parts that are written at once, each by a thread | [`ArrayViewMut::multi_sliced_mut`], [`into_part`](ArrayViewMut::into_part), [`PartMut`]: [`split_at`](PartMut::split_at), [`get_mut`](PartMut::get_mut), [`fill`](PartMut::fill) |
 //! | an array that owns its items | [`OwnedArray`]: [`from_shape_vec`](OwnedArray::from_shape_vec), [`get`](OwnedArray::get), [`multi_set`](OwnedArray::multi_set) |
 //! | a part of one of these | [`s!`] and `sliced`; [`SliceInfoElem`], [`Slice`] and `slice` for bounds that are known at run time; [`Fit`] |
 //! | other axes, windows, another shape | the methods of [`Strided`], which [`ArrayView`] and [`ArrayViewMut`] have as well; [`run`] for several [`Step`]s |
@@ -36,15 +37,15 @@
 //! The sources of the layer have contracts, which are proved. The package is what is left of them without the contracts: a file of
 //! Rust for each. The docs of a call have its contract folded away, and [`contracts`] says how to read one. What a caller ensures
 //! stands under `Conditions`. Where it is broken, a call panics or returns unspecified values: a loop over
-//! `all_indices(Ix2(1 << 32, 1 << 32))` panics with overflow checks, and ends at once without them. No behaviour is undefined, as the
-//! package has no `unsafe`.
+//! `all_indices(Ix2(1 << 32, 1 << 32))` panics with overflow checks, and ends at once without them. No behaviour is undefined: the
+//! only `unsafe` is proved, and no call that others see has a condition for it.
 //!
 //! The file `proved.txt` of the package has the checksums of the sources that the last whole check proved, and its date.
 //!
 //! What the package adds to the sources isn't proved, but tested: [`s!`], `Ix2(..)`, `Clone` and the like. The docs of each
 //! such item say so, or the page of its module, as that of [`memory`].
 #![no_std]
-#![forbid(unsafe_code)]
+#![deny(unsafe_code)]
 
 #[cfg(not(target_pointer_width = "64"))]
 compile_error!(
@@ -65,6 +66,8 @@ pub mod nd_dim;
 pub mod nd_lent;
 #[doc(hidden)]
 pub mod nd_owned;
+#[doc(hidden)]
+pub mod nd_parts;
 #[doc(hidden)]
 pub mod nd_shape;
 #[doc(hidden)]
@@ -122,4 +125,4 @@ pub use crate::nd_owned::{
     ArrayView, ArrayViewMut, Items, Iter, LentRow, LentRows, OwnedArray, PartMut, SplitViews, Unsigned,
 };
 pub use crate::ndarray_layout::*;
-pub use crate::parts::{LentPart, MultiSliceArg};
+pub use crate::parts::{LentPart, MultiSliceArg, PartIterMut};

@@ -1,119 +1,83 @@
-//! Parts of an array that are lent at once, to be written, each with a shape of its own. Not proved: rustc sees that no two
-//! share an item.
+//! Parts of an array that are lent at once, to be written, each with a shape of its own: what the package adds to those that are
+//! proved, by their calls alone.
 
-mod cutting;
+mod each;
+mod elems;
+mod iter;
+mod lines;
 mod multi_slice;
-mod placement;
+mod own_items;
 mod rows;
-mod runs;
-mod splitting;
 
-use crate::arrays::{into_parts, no_such_index};
+use crate::arrays::no_such_index;
+use crate::convenience::OUT_OF_MEMORY;
 use crate::nd_base::{LayoutError, Lengths};
-use crate::nd_dim::product;
+use crate::nd_parts::PartMut;
 use crate::nd_shape::NdIndex;
+use crate::nd_slice::Fit;
 use crate::{ArrayViewMut, OwnedArray};
-use alloc::vec::Vec;
 use core::fmt;
 use core::ops::{Index, IndexMut};
-use cutting::Plan;
+use elems::{Elems, WHOLE};
+pub use iter::PartIterMut;
 pub use multi_slice::MultiSliceArg;
-use placement::Placement;
+pub(crate) use own_items::has_own_items;
 
-/// A part of an array that is lent to be written, while other parts of it are: a tile or a plane of a picture. It has a shape of
-/// its own, and an index of this finds its item whatever the strides are. A thread of its own may write it. ndarray's
-/// `ArrayViewMut` of one of the slices of `multi_slice_mut`. Not proved.
-///
-/// It keeps a reference for each row of items that lie side by side along one axis, and else for each item: 16 bytes.
-///
-/// The green plane of a picture of 2 rows of 3 pixels, whose red, green and blue lie side by side:
-///
-/// ```
-/// use ndarray_layout::{ArrayViewMut, Ix2, Ix3, LayoutError, s};
-///
-/// # fn main() -> Result<(), LayoutError> {
-/// let mut items: Vec<u8> = (0..18).collect();
-/// let mut picture = ArrayViewMut::from_shape(Ix3(2, 3, 3).into(), &mut items)?;
-/// let (mut red, mut green) = picture.multi_sliced_mut((s![.., .., 0], s![.., .., 1]))?;
-/// assert_eq!((green.dim(), green.get(&(1, 2)), red[(1, 0)]), (&Ix2(2, 3), Some(&16), 9));
-/// assert!(green.set(&(1, 2), 99) && !green.set(&(2, 0), 99));
-/// red.fill(0);
-/// assert_eq!(items, [0, 1, 2, 0, 4, 5, 0, 7, 8, 0, 10, 11, 0, 13, 14, 0, 99, 17]);
-/// # Ok(())
-/// # }
-/// ```
-pub struct LentPart<'a, T, D: Lengths> {
-    rows: Vec<&'a mut [T]>,
-    placement: Placement<D>,
-}
+/// A part of an array, by its older name. Not proved.
+pub type LentPart<'a, T, D> = PartMut<'a, T, D>;
 
-impl<T, D: Lengths> LentPart<'_, T, D> {
+impl<T, D: Lengths> PartMut<'_, T, D> {
     /// The shape. Not proved.
     #[inline]
     #[must_use]
     pub fn dim(&self) -> &D {
-        self.placement.dim()
+        self.view().dim()
     }
 
     /// How many indices the shape has. Not proved.
+    #[inline]
     #[must_use]
     pub fn len(&self) -> usize {
-        product(self.dim().slice())
+        self.view().len()
     }
 
     /// Whether the shape has no index. Not proved.
-    #[must_use]
-    pub fn is_empty(&self) -> bool {
-        self.len() == 0
-    }
-
-    /// The item of an index; `None` where it is no index of the shape. ndarray's `get`. Not proved.
-    ///
-    /// Takes time in proportion to the count of axes.
     #[inline]
     #[must_use]
-    pub fn get<I: NdIndex<D>>(&self, index: &I) -> Option<&T> {
-        let (row, column) = self.placement.of(index)?;
-        Some(&self.rows[row][column])
+    pub fn is_empty(&self) -> bool {
+        self.view().is_empty()
     }
 
-    /// The item of an index, to be written; `None` where it is no index of the shape. ndarray's `get_mut`. Not proved.
+    /// The part once more, for as long as this one is borrowed: `slice_mut` of all of it. ndarray's `view_mut`. Not proved.
+    ///
+    /// # Panics
+    ///
+    /// Where an allocation fails; there is none where the type fixes the count of axes or there are at most 4.
     ///
     /// ```
-    /// use ndarray_layout::{ArrayViewMut, Ix2, LayoutError};
+    /// use ndarray_layout::{ArrayViewMut, Axis, Ix2, LayoutError};
     ///
     /// # fn main() -> Result<(), LayoutError> {
-    /// let mut items = [1, 2, 3, 4];
-    /// let mut part = ArrayViewMut::from_shape(Ix2(2, 2).into(), &mut items)?.reversed_axes().into_part()?;
-    /// if let Some(item) = part.get_mut(&(0, 1)) {
-    ///     *item += 10;
-    /// }
-    /// assert_eq!(items, [1, 2, 13, 4]);
+    /// let mut items = [7, 8, 9, 10];
+    /// let mut part = ArrayViewMut::from_shape(Ix2(2, 2).into(), &mut items)?.into_part();
+    /// part.view_mut().index_axis(Axis(1), 1)?.fill(0);
+    /// assert!(part.set(&(1, 0), 1));
+    /// assert_eq!(items, [7, 0, 1, 0]);
     /// # Ok(())
     /// # }
     /// ```
     #[inline]
     #[must_use]
-    pub fn get_mut<I: NdIndex<D>>(&mut self, index: &I) -> Option<&mut T> {
-        let (row, column) = self.placement.of(index)?;
-        Some(&mut self.rows[row][column])
+    pub fn view_mut(&mut self) -> PartMut<'_, T, D> {
+        let whole = Elems::of(self.dim().ndim(), WHOLE).expect(OUT_OF_MEMORY);
+        self.slice_mut(&whole.as_slice(), Fit::Strict).expect(OUT_OF_MEMORY)
     }
 
-    /// Replaces the item of an index, and returns whether it is an index of the shape; else the part is unchanged. ndarray's
-    /// `get_mut`, with the write. Not proved.
-    #[inline]
-    #[must_use]
-    pub fn set<I: NdIndex<D>>(&mut self, index: &I, item: T) -> bool {
-        match self.get_mut(index) {
-            Some(place) => {
-                *place = item;
-                true
-            }
-            None => false,
-        }
-    }
-
-    /// Writes a copy of an item at each index, a row of neighbours at a time. ndarray's `fill`. Not proved.
+    /// Writes a copy of an item at each index. ndarray's `fill`. Not proved.
+    ///
+    /// # Panics
+    ///
+    /// Where an allocation fails; there is none where the type fixes the count of axes or there are at most 4.
     ///
     /// ```
     /// use ndarray_layout::{Ix2, LayoutError, OwnedArray, s};
@@ -131,10 +95,15 @@ impl<T, D: Lengths> LentPart<'_, T, D> {
     where
         T: Clone,
     {
-        self.rows.iter_mut().for_each(|row| row.fill(item.clone()));
+        self.for_each_item(move |place| *place = item.clone());
     }
 
-    /// Calls a function at each item, in the order in which the rows of neighbours are kept. ndarray's `map_inplace`. Not proved.
+    /// Calls a function at each item, in an order in which those that lie near to one another come one after another. ndarray's
+    /// `map_inplace`. Not proved.
+    ///
+    /// # Panics
+    ///
+    /// As `fill`.
     ///
     /// ```
     /// use ndarray_layout::{ArrayViewMut, Ix2, LayoutError, s};
@@ -149,8 +118,8 @@ impl<T, D: Lengths> LentPart<'_, T, D> {
     /// # Ok(())
     /// # }
     /// ```
-    pub fn map_in_place<F: FnMut(&mut T)>(&mut self, mut f: F) {
-        self.rows.iter_mut().for_each(|row| row.iter_mut().for_each(&mut f));
+    pub fn map_in_place<F: FnMut(&mut T)>(&mut self, f: F) {
+        self.for_each_item(f);
     }
 }
 
@@ -159,14 +128,14 @@ impl<T, D: Lengths> LentPart<'_, T, D> {
 /// # Panics
 ///
 /// Where it is no index of the shape, with both: `get` returns `None`.
-impl<T, D: Lengths, I: NdIndex<D>> Index<I> for LentPart<'_, T, D> {
+impl<T, D: Lengths, I: NdIndex<D>> Index<I> for PartMut<'_, T, D> {
     type Output = T;
 
     #[inline]
     #[track_caller]
     fn index(&self, index: I) -> &T {
-        match self.placement.of(&index) {
-            Some((row, column)) => &self.rows[row][column],
+        match self.get(&index) {
+            Some(item) => item,
             None => no_such_index(index, self.dim()),
         }
     }
@@ -177,58 +146,33 @@ impl<T, D: Lengths, I: NdIndex<D>> Index<I> for LentPart<'_, T, D> {
 /// # Panics
 ///
 /// Where it is no index of the shape, with both: `get_mut` returns `None`.
-impl<T, D: Lengths, I: NdIndex<D>> IndexMut<I> for LentPart<'_, T, D> {
+impl<T, D: Lengths, I: NdIndex<D>> IndexMut<I> for PartMut<'_, T, D> {
     #[inline]
     #[track_caller]
     fn index_mut(&mut self, index: I) -> &mut T {
-        match self.placement.of(&index) {
-            Some((row, column)) => &mut self.rows[row][column],
-            None => no_such_index(index, self.dim()),
+        if self.view().place(&index).is_none() {
+            // (of a copy: a loop keeps the part in registers where no other call is told where it lies)
+            no_such_index(index, &self.dim().duplicate().expect(OUT_OF_MEMORY));
+        }
+        match self.get_mut(&index) {
+            Some(item) => item,
+            None => unreachable!("an index of the shape"),
         }
     }
 }
 
 /// Prints the items as nested lists, and the shape. Not proved.
-impl<T: fmt::Debug, D: Lengths> fmt::Debug for LentPart<'_, T, D> {
+impl<T: fmt::Debug, D: Lengths> fmt::Debug for PartMut<'_, T, D> {
     fn fmt(&self, f: &mut fmt::Formatter<'_>) -> fmt::Result {
-        crate::convenience::print_nested(f, self.dim(), |f, index| match self.placement.of(index) {
-            Some((row, column)) => self.rows[row][column].fmt(f),
+        crate::convenience::print_nested(f, self.dim(), |f, index| match self.get(index) {
+            Some(item) => item.fmt(f),
             None => Err(fmt::Error),
         })?;
         write!(f, ", shape={:?}", self.dim().slice())
     }
 }
 
-impl<'a, T, D: Lengths> ArrayViewMut<'a, T, D> {
-    /// The whole array as one part, which `split_at` cuts into others. Not proved.
-    ///
-    /// # Errors
-    ///
-    /// Out of memory; never where there is no index.
-    ///
-    /// Takes memory and time for each row of items that lie side by side, and else for each item.
-    ///
-    /// ```
-    /// use ndarray_layout::{ArrayViewMut, Axis, Ix2, LayoutError};
-    ///
-    /// # fn main() -> Result<(), LayoutError> {
-    /// let mut items = [1, 2, 3, 4, 5, 6];
-    /// let picture = ArrayViewMut::from_shape(Ix2(2, 3).into(), &mut items)?.into_part()?;
-    /// let (mut left, mut right) = picture.split_at(Axis(1), 1)?;
-    /// left.fill(0);
-    /// right[(1, 1)] = 9;
-    /// assert_eq!(items, [0, 2, 3, 0, 5, 9]);
-    /// # Ok(())
-    /// # }
-    /// ```
-    pub fn into_part(self) -> Result<LentPart<'a, T, D>, LayoutError> {
-        let (view, items) = into_parts(self);
-        let mut plan = Plan::with_room(1)?;
-        let mut part = plan.part(view)?;
-        plan.cut(items, |_, number, row| part.put(number, row))?;
-        Ok(part)
-    }
-
+impl<T, D: Lengths> ArrayViewMut<'_, T, D> {
     /// The parts that slices pick, all lent at once: for a tuple of slices a tuple of parts, for an array or a list of slices of
     /// one type an array or a list. Afterwards this array may be used again. ndarray's `multi_slice_mut`, which panics. Not proved.
     ///
@@ -237,9 +181,7 @@ impl<'a, T, D: Lengths> ArrayViewMut<'a, T, D> {
     /// That of `Strided::slice` for the first slice that doesn't fit; then `Unsupported` where two slices share an index; then
     /// out of memory, which may come before both. The items are unchanged.
     ///
-    /// Takes memory and time for each row of items that lie side by side along an axis, and else for each item: 16 bytes. Rows of
-    /// parts that take turns, as tiles of a band and planes do, are cut in turn; others come by a heap, in time that grows
-    /// with the logarithm of the count of parts too.
+    /// Takes memory for the list of parts, and time for each of them and for the comparisons of `first_intersection`.
     ///
     /// ```
     /// use ndarray_layout::{ArrayViewMut, Ix2, LayoutError, s};
@@ -268,7 +210,7 @@ impl<'a, T, D: Lengths> ArrayViewMut<'a, T, D> {
     /// ```
     pub fn multi_sliced_mut<M: MultiSliceArg<D>>(&mut self, slices: M) -> Result<M::Parts<'_, T>, LayoutError> {
         let (view, items) = self.parts_mut();
-        slices.lend(view, items)
+        slices.lend(PartMut::new(view.duplicate()?, items))
     }
 }
 
@@ -288,6 +230,108 @@ impl<T, D: Lengths> OwnedArray<T, D> {
     /// ```
     pub fn multi_sliced_mut<M: MultiSliceArg<D>>(&mut self, slices: M) -> Result<M::Parts<'_, T>, LayoutError> {
         let (view, items) = self.parts_mut();
-        slices.lend(view, items)
+        slices.lend(PartMut::new(view.duplicate()?, items))
     }
 }
+
+/// Who may have a part, and for how long. A thread may be lent one whose items it may be lent:
+///
+/// ```
+/// use ndarray_layout::{Ix1, PartMut};
+/// use std::cell::Cell;
+///
+/// fn is_send<T: Send>() {}
+/// fn is_sync<T: Sync>() {}
+/// is_send::<PartMut<'_, Cell<u8>, Ix1>>();
+/// is_send::<PartMut<'_, String, Ix1>>();
+/// is_sync::<PartMut<'_, String, Ix1>>();
+/// ```
+///
+/// but not one whose items it may not, whether it is given the part or sees it:
+///
+/// ```compile_fail,E0277
+/// fn is_send<T: Send>() {}
+/// is_send::<ndarray_layout::PartMut<'_, std::rc::Rc<u8>, ndarray_layout::Ix1>>();
+/// ```
+///
+/// ```compile_fail,E0277
+/// fn is_sync<T: Sync>() {}
+/// is_sync::<ndarray_layout::PartMut<'_, std::cell::Cell<u8>, ndarray_layout::Ix1>>();
+/// ```
+///
+/// A part doesn't outlive its items:
+///
+/// ```compile_fail,E0597
+/// use ndarray_layout::{ArrayViewMut, Ix1};
+///
+/// let part;
+/// {
+///     let mut items = [1, 2];
+///     part = ArrayViewMut::from_shape(Ix1(2).into(), &mut items).unwrap().into_part();
+/// }
+/// println!("{}", part[0]);
+/// ```
+///
+/// nobody else sees these before it is gone:
+///
+/// ```compile_fail,E0502
+/// use ndarray_layout::{ArrayViewMut, Ix1};
+///
+/// let mut items = [1, 2];
+/// let mut part = ArrayViewMut::from_shape(Ix1(2).into(), &mut items).unwrap().into_part();
+/// println!("{}", items[0]);
+/// part[0] = 3;
+/// ```
+///
+/// one of its items is lent to be written, or itself:
+///
+/// ```compile_fail,E0499
+/// use ndarray_layout::{ArrayViewMut, Ix1};
+///
+/// let mut items = [1, 2];
+/// let mut part = ArrayViewMut::from_shape(Ix1(2).into(), &mut items).unwrap().into_part();
+/// let (first, second) = (part.get_mut(&0), part.get_mut(&1));
+/// println!("{first:?} {second:?}");
+/// ```
+///
+/// ```compile_fail,E0499
+/// use ndarray_layout::{ArrayViewMut, Ix1};
+///
+/// let mut items = [1, 2];
+/// let mut part = ArrayViewMut::from_shape(Ix1(2).into(), &mut items).unwrap().into_part();
+/// let (mut first, mut second) = (part.view_mut(), part.view_mut());
+/// (first[0], second[0]) = (1, 2);
+/// ```
+///
+/// there aren't two of it:
+///
+/// ```compile_fail,E0382
+/// use ndarray_layout::{ArrayViewMut, Axis, Ix1};
+///
+/// let mut items = [1, 2];
+/// let part = ArrayViewMut::from_shape(Ix1(2).into(), &mut items).unwrap().into_part();
+/// let _halves = part.split_at(Axis(0), 1);
+/// println!("{}", part[0]);
+/// ```
+///
+/// and what is written lives as long as the items may:
+///
+/// ```compile_fail
+/// fn shorten<'a, 'b>(part: ndarray_layout::PartMut<'a, &'static str, ndarray_layout::Ix1>)
+///     -> ndarray_layout::PartMut<'a, &'b str, ndarray_layout::Ix1> { part }
+/// ```
+///
+/// while a part of the same type goes through:
+///
+/// ```
+/// fn shorten<'a: 'b, 'b>(part: ndarray_layout::PartMut<'a, &'static str, ndarray_layout::Ix1>)
+///     -> ndarray_layout::PartMut<'b, &'static str, ndarray_layout::Ix1> { part }
+/// ```
+///
+/// What a part stands on is no call of the package:
+///
+/// ```compile_fail,E0603
+/// let cells = ndarray_layout::nd_cells::cells::Cells::new(&mut [1, 2]);
+/// ```
+#[cfg(doctest)]
+struct Lending;

@@ -4,7 +4,7 @@ use crate::nd_base::{Lengths, signed};
 use crate::nd_dim::product;
 use crate::nd_shape::{Layout, is_layout_c, is_layout_f};
 use crate::ndarray_layout::Strided;
-use crate::{ArrayView, ArrayViewMut, LentRow, OwnedArray, PartMut, SplitViews};
+use crate::{ArrayView, ArrayViewMut, LentRow, OwnedArray, SplitViews};
 use core::fmt;
 
 /// How many items are printed whole; of more, `{:#?}` prints all.
@@ -176,13 +176,6 @@ printed! {
 impl<T: fmt::Debug> fmt::Debug for LentRow<'_, T> {
     fn fmt(&self, f: &mut fmt::Formatter<'_>) -> fmt::Result {
         f.debug_list().entries((0..self.len()).filter_map(|coordinate| self.get(coordinate))).finish()
-    }
-}
-
-/// Prints the rows. Not proved.
-impl<T: fmt::Debug> fmt::Debug for PartMut<'_, T> {
-    fn fmt(&self, f: &mut fmt::Formatter<'_>) -> fmt::Result {
-        f.debug_list().entries((0..self.nrows()).filter_map(|index| self.row(index))).finish()
     }
 }
 

@@ -7,6 +7,7 @@ mod writing;
 mod steps;
 mod splitting;
 mod axes;
+mod parts;
 
 use crate::memory::AllocError;
 use crate::nd_lent::array_view::ArrayView;

@@ -19,8 +19,7 @@
 mod array_view;
 mod array_view_mut;
 mod indexing;
-mod parts_mut;
 
+pub use crate::nd_parts::PartMut;
 pub use array_view::{ArrayView, Iter, LentRow, LentRows, Unsigned};
 pub use array_view_mut::{ArrayViewMut, SplitViews};
-pub use parts_mut::PartMut;

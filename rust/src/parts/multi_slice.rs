@@ -1,11 +1,11 @@
 //! Several slices of one array as one argument.
 
-use super::LentPart;
-use super::cutting::Plan;
+use super::elems::{Elems, WHOLE};
 use crate::memory::FallibleVec;
 use crate::nd_base::{LayoutError, Lengths};
+use crate::nd_dim::IxDyn;
+use crate::nd_parts::PartMut;
 use crate::nd_slice::{Fit, SliceArg};
-use crate::ndarray_layout::Strided;
 use crate::sealed::Sealed;
 use alloc::vec::Vec;
 
@@ -17,55 +17,50 @@ pub trait MultiSliceArg<D: Lengths>: Sealed {
     /// The parts of the slices, kept as these are.
     type Parts<'a, T: 'a>;
 
-    /// The parts of items at the places of a view, in which no two indices alias.
+    /// The parts of a part.
     ///
     /// # Errors
     ///
     /// Those of `ArrayViewMut::multi_sliced_mut`.
     #[doc(hidden)]
-    fn lend<'a, T>(&self, view: &Strided<D>, items: &'a mut [T]) -> Result<Self::Parts<'a, T>, LayoutError>;
+    fn lend<'a, T>(&self, part: PartMut<'a, T, D>) -> Result<Self::Parts<'a, T>, LayoutError>;
 }
 
-/// The part that a slice picks, without its rows, which a plan has.
-fn part_of<'a, T, D: Lengths, S: SliceArg<D>>(
-    plan: &mut Plan,
-    view: &Strided<D>,
-    slice: &S,
-) -> Result<LentPart<'a, T, S::OutDim>, LayoutError> {
-    let part: Strided<S::OutDim> = view.slice(slice, Fit::Strict)?;
-    Ok(plan.part(part)?)
+/// A part with its count of axes in the type. Errors: as many axes are not those of the type; out of memory.
+fn typed<T, E: Lengths>(part: PartMut<'_, T, IxDyn>) -> Result<PartMut<'_, T, E>, LayoutError> {
+    let whole = Elems::of(part.dim().ndim(), WHOLE)?;
+    part.slice(&whole.as_slice(), Fit::Strict)
 }
 
 /// Not proved.
 impl<D: Lengths, S: SliceArg<D>> MultiSliceArg<D> for [S] {
-    type Parts<'a, T: 'a> = Vec<LentPart<'a, T, S::OutDim>>;
+    type Parts<'a, T: 'a> = Vec<PartMut<'a, T, S::OutDim>>;
 
-    fn lend<'a, T>(&self, view: &Strided<D>, items: &'a mut [T]) -> Result<Self::Parts<'a, T>, LayoutError> {
-        let mut plan = Plan::with_room(self.len())?;
-        let mut parts = Vec::fallible_with_capacity(self.len())?;
-        for slice in self {
-            parts.push(part_of(&mut plan, view, slice)?);
+    fn lend<'a, T>(&self, part: PartMut<'a, T, D>) -> Result<Self::Parts<'a, T>, LayoutError> {
+        let picked = part.multi_slice_mut(self)?;
+        let mut parts = Vec::fallible_with_capacity(picked.len())?;
+        for part in picked {
+            parts.push(typed(part)?);
         }
-        plan.cut(items, |part, number, row| parts[part].put(number, row))?;
         Ok(parts)
     }
 }
 
 /// Not proved.
 impl<D: Lengths, S: SliceArg<D>> MultiSliceArg<D> for Vec<S> {
-    type Parts<'a, T: 'a> = Vec<LentPart<'a, T, S::OutDim>>;
+    type Parts<'a, T: 'a> = Vec<PartMut<'a, T, S::OutDim>>;
 
-    fn lend<'a, T>(&self, view: &Strided<D>, items: &'a mut [T]) -> Result<Self::Parts<'a, T>, LayoutError> {
-        self.as_slice().lend(view, items)
+    fn lend<'a, T>(&self, part: PartMut<'a, T, D>) -> Result<Self::Parts<'a, T>, LayoutError> {
+        self.as_slice().lend(part)
     }
 }
 
 /// Not proved.
 impl<D: Lengths, S: SliceArg<D>, const N: usize> MultiSliceArg<D> for [S; N] {
-    type Parts<'a, T: 'a> = [LentPart<'a, T, S::OutDim>; N];
+    type Parts<'a, T: 'a> = [PartMut<'a, T, S::OutDim>; N];
 
-    fn lend<'a, T>(&self, view: &Strided<D>, items: &'a mut [T]) -> Result<Self::Parts<'a, T>, LayoutError> {
-        let parts = self.as_slice().lend(view, items)?;
+    fn lend<'a, T>(&self, part: PartMut<'a, T, D>) -> Result<Self::Parts<'a, T>, LayoutError> {
+        let parts = self.as_slice().lend(part)?;
         Ok(parts.try_into().unwrap_or_else(|_| unreachable!("each slice has a part")))
     }
 }
@@ -74,8 +69,8 @@ impl<D: Lengths, S: SliceArg<D>, const N: usize> MultiSliceArg<D> for [S; N] {
 impl<D: Lengths, M: MultiSliceArg<D> + ?Sized> MultiSliceArg<D> for &M {
     type Parts<'a, T: 'a> = M::Parts<'a, T>;
 
-    fn lend<'a, T>(&self, view: &Strided<D>, items: &'a mut [T]) -> Result<Self::Parts<'a, T>, LayoutError> {
-        M::lend(self, view, items)
+    fn lend<'a, T>(&self, part: PartMut<'a, T, D>) -> Result<Self::Parts<'a, T>, LayoutError> {
+        M::lend(self, part)
     }
 }
 
@@ -84,16 +79,12 @@ macro_rules! tuples {
     ($($($slice:ident $at:tt),*;)*) => {$(
         /// Not proved.
         impl<D: Lengths, $($slice: SliceArg<D>),*> MultiSliceArg<D> for ($($slice,)*) {
-            type Parts<'a, T: 'a> = ($(LentPart<'a, T, $slice::OutDim>,)*);
+            type Parts<'a, T: 'a> = ($(PartMut<'a, T, $slice::OutDim>,)*);
 
-            fn lend<'a, T>(&self, view: &Strided<D>, items: &'a mut [T]) -> Result<Self::Parts<'a, T>, LayoutError> {
-                let mut plan = Plan::with_room([$($at),*].len())?;
-                let mut parts = ($(part_of(&mut plan, view, &self.$at)?,)*);
-                plan.cut(items, |part, number, row| match part {
-                    $($at => parts.$at.put(number, row),)*
-                    _ => unreachable!("each part has a slice"),
-                })?;
-                Ok(parts)
+            fn lend<'a, T>(&self, part: PartMut<'a, T, D>) -> Result<Self::Parts<'a, T>, LayoutError> {
+                let mut parts = part.multi_slice_mut(&[$(self.$at.elems()),*])?.into_iter();
+                let mut next = || parts.next().unwrap_or_else(|| unreachable!("each slice has a part"));
+                Ok(($(typed::<T, $slice::OutDim>(next())?,)*))
             }
         }
     )*};

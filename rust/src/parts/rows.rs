@@ -1,31 +1,39 @@
 //! The rows of a part, each lent on its own.
 
-use super::{LentPart, Placement};
 use crate::memory::{AllocError, FallibleVec};
-use crate::nd_base::{Lengths, Order};
+use crate::nd_base::{Axis, LayoutError, Lengths};
+use crate::nd_dim::product;
+use crate::nd_parts::PartMut;
 use alloc::vec::Vec;
-use core::mem::take;
 
-/// Each item of rows as a row of its own, in row-major order of the indices.
-fn items_in_order<'a, T, D: Lengths>(
-    rows: Vec<&'a mut [T]>,
-    placement: &Placement<D>,
-) -> Result<Vec<&'a mut [T]>, AllocError> {
-    let places = placement.in_rows()?;
-    let count = rows.len() * placement.width();
-    let (mut items, mut ordered) = (Vec::fallible_with_capacity(count)?, Vec::fallible_with_capacity(count)?);
-    rows.into_iter().for_each(|row| items.extend(row.chunks_mut(1)));
-    ordered.extend(places.iter_places(Order::RowMajor).map(|place| take(&mut items[place])));
-    Ok(ordered)
+/// Adds the items of a part to rows, in row-major order: one row for each index of the axes before a last one. (It calls itself for
+/// axes of several coordinates alone, of which no shape has many.)
+fn add_rows<'a, T, D: Lengths>(
+    part: PartMut<'a, T, D>,
+    last: usize,
+    rows: &mut Vec<&'a mut [T]>,
+) -> Result<(), LayoutError> {
+    let Some(axis) = (0..last).find(|axis| part.dim()[*axis] > 1) else {
+        // (the caller chose the last axis such that each is a slice)
+        rows.extend(part.into_slice().ok());
+        return Ok(());
+    };
+    let mut left = part;
+    while left.dim()[axis] > 1 {
+        let (first, others) = left.split_at(Axis(axis), 1)?;
+        add_rows(first, last, rows)?;
+        left = others;
+    }
+    add_rows(left, last, rows)
 }
 
-impl<'a, T, D: Lengths> LentPart<'a, T, D> {
+impl<'a, T, D: Lengths> PartMut<'a, T, D> {
     /// The rows, each lent on its own, in row-major order, and the end of this value: where the items along the last axis lie side
     /// by side, each row of these; else each item as a row of its own. ndarray's `rows_mut`. Not proved.
     ///
     /// # Errors
     ///
-    /// Out of memory; never where the items along the last axis lie side by side.
+    /// Out of memory.
     ///
     /// ```
     /// use ndarray_layout::{ArrayViewMut, Ix2, LayoutError, s};
@@ -40,10 +48,19 @@ impl<'a, T, D: Lengths> LentPart<'a, T, D> {
     /// # }
     /// ```
     pub fn into_rows(self) -> Result<Vec<&'a mut [T]>, AllocError> {
-        let last = self.dim().ndim().saturating_sub(1);
-        match self.placement.along() {
-            Some(along) if along.axis != last || along.is_backwards() => items_in_order(self.rows, &self.placement),
-            _ => Ok(self.rows),
+        let (lens, strides) = (self.dim().slice(), self.view().strides().slice());
+        let mut rows = Vec::new();
+        if lens.contains(&0) {
+            return Ok(rows);
+        }
+        let in_rows = lens.last().zip(strides.last()).is_some_and(|(len, stride)| *len == 1 || *stride == 1);
+        let last = lens.len() - usize::from(in_rows);
+        let count = product(&lens[..last]);
+        rows = Vec::fallible_with_capacity(count)?;
+        match add_rows(self, last, &mut rows) {
+            Ok(()) => Ok(rows),
+            Err(LayoutError::Memory(error)) => Err(error),
+            Err(LayoutError::Shape(_)) => unreachable!("each axis has so many coordinates"),
         }
     }
 }

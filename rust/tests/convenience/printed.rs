@@ -86,7 +86,7 @@ fn rows_and_splits_print() -> Result<(), LayoutError> {
         ("Rows { left: 2, .. }".to_owned(), 2)
     );
     let view = *array.view();
-    assert_eq!(format!("{:?}", PartMut::new(&view, &mut items)?), "[[1, 2], [3, 4]]");
+    assert_eq!(format!("{:?}", PartMut::over(view, &mut items)?), "[[1, 2],\n [3, 4]], shape=[2, 2]");
     let row = "dim: [1, 2], strides: [2, 1] }";
     let due = format!(
         "SplitViews {{ first: Strided {{ start: 0, {row}, second: Strided {{ start: 0, {row}, cut: 2, first_is_lower: true }}"

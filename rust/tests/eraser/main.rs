@@ -199,7 +199,7 @@ fn sources(folder: &Path) -> String {
 
 #[test]
 fn each_row_of_the_list_of_bounds_is_of_something() {
-    let layer = ["nd_base", "nd_dim", "nd_shape", "nd_slice", "ndarray_layout", "nd_lent", "nd_owned"];
+    let layer = ["nd_base", "nd_dim", "nd_shape", "nd_slice", "ndarray_layout", "nd_parts", "nd_lent", "nd_owned"];
     let text: String = layer.iter().map(|name| sources(Path::new(&format!("crates/{name}/src")))).collect();
     let heads = bounds::ADDED.iter().map(|(name, _)| format!("pub trait {name}"));
     let types = bounds::OF_TYPES.iter().map(|(name, _)| format!("    type {name}: "));

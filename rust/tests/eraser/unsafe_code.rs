@@ -1,8 +1,12 @@
 //! Where `unsafe` is left, and what keeps it sound.
 
-use crate::NAMES;
 use crate::erase::{Names, erase};
+use crate::names::UNSAFE;
 use crate::tokens::trees_of;
+use crate::{NAMES, sources};
+use std::collections::BTreeSet;
+use std::fs;
+use std::path::{Path, PathBuf};
 
 /// What is left of a source of a crate, in one line, or what is said of it.
 fn line_of(own: &str, source: &str) -> String {
@@ -58,4 +62,51 @@ fn a_condition_that_keeps_it_sound_is_checked_where_others_see_the_call() {
     let private = line_of("nd_parts", &format!("impl<T> Other<T> {{ {} }}", call.replace("pub ", "")));
     assert!(private.contains("Otherwise the behaviour is undefined.") && !private.contains("assert!"), "{private}");
     assert!(line_of("upper", &format!("impl<T> PartMut<T> {{ {call} }}")).contains("unspecified values."));
+}
+
+/// The files of Rust in a folder and in those in it, each with its place under the folder.
+fn files_in(folder: &Path) -> Vec<PathBuf> {
+    let paths = fs::read_dir(folder).expect("a folder").map(|entry| entry.expect("an entry").path());
+    let files_of = |path: PathBuf| if path.is_dir() { files_in(&path) } else { vec![path] };
+    paths.flat_map(files_of).filter(|path| path.extension().is_some_and(|end| end == "rs")).collect()
+}
+
+/// The files of the package that have one of these words outside comments.
+fn files_with(words: &[&str]) -> BTreeSet<String> {
+    let has_word = |line: &str| {
+        line.split(|letter: char| !letter.is_alphanumeric() && letter != '_').any(|word| words.contains(&word))
+    };
+    let is_found = |path: &PathBuf| {
+        let source = fs::read_to_string(path).expect("a file");
+        source.lines().any(|line| !line.trim_start().starts_with("//") && has_word(line))
+    };
+    let name = |path: PathBuf| path.strip_prefix("rust/src").expect("a place").display().to_string();
+    files_in(Path::new("rust/src")).into_iter().filter(is_found).map(name).collect()
+}
+
+#[test]
+fn one_file_of_the_package_has_unsafe() {
+    assert_eq!(files_with(&["unsafe", "no_mangle", "asm"]), BTreeSet::from(["nd_parts/cells.rs".to_string()]));
+    let allowing = BTreeSet::from(["lib.rs".to_string(), "nd_parts/cells.rs".to_string()]);
+    assert_eq!(files_with(&["unsafe_code"]), allowing);
+    let root = fs::read_to_string("rust/src/lib.rs").expect("a file");
+    assert!(root.contains("\n#![deny(unsafe_code)]\n"));
+    let parts = fs::read_to_string("rust/src/nd_parts/mod.rs").expect("a file");
+    assert!(parts.contains("\nmod cells;\n"));
+}
+
+#[test]
+fn each_unsafe_of_the_package_says_why_it_is_sound() {
+    let text = fs::read_to_string("rust/src/nd_parts/cells.rs").expect("a file");
+    let lines: Vec<&str> = text.lines().map(str::trim).collect();
+    let is_told = |at: usize| {
+        lines[..at].iter().rev().take_while(|line| line.starts_with("// ")).any(|line| line.starts_with("// SAFETY: "))
+    };
+    let found: Vec<usize> = (0..lines.len()).filter(|at| lines[*at].starts_with("unsafe ")).collect();
+    assert!(!found.is_empty() && found.iter().all(|at| is_told(*at)), "{found:?}");
+    let source = sources(Path::new("crates/nd_parts/src"));
+    for (own, item, _) in UNSAFE {
+        let is_named = [format!("fn {item}("), format!("> {item} for ")].iter().any(|head| source.contains(head));
+        assert!(*own == "nd_parts" && is_named, "{item}");
+    }
 }

@@ -1,13 +1,13 @@
 //! Two parts of an array that are lent at once, along an axis and as tiles.
 
-use crate::{NUMBERS, ROWS, kind, lists, rows_mut, view_of_rows};
-use ndarray_layout::CanIndexCheckMode::OwnedMutable;
-use ndarray_layout::ErrorKind::{IncompatibleLayout, OutOfBounds};
+use crate::{NUMBERS, kind, lists, rows_mut, view_of_rows};
+use ndarray_layout::CanIndexCheckMode::{OwnedMutable, ReadOnly};
+use ndarray_layout::ErrorKind::{IncompatibleLayout, OutOfBounds, Unsupported};
 use ndarray_layout::{ArrayViewMut, Axis, Ix1, Ix2, PartMut, SplitViews, Strided, unsigned};
 
 /// Items as two rows to be cut into tiles.
-fn tile<T>(items: &mut [T]) -> PartMut<'_, T> {
-    PartMut::new(&view_of_rows(), items).unwrap()
+fn tile<T>(items: &mut [T]) -> PartMut<'_, T, Ix2> {
+    PartMut::over(view_of_rows(), items).unwrap()
 }
 
 #[test]
@@ -52,22 +52,24 @@ fn tiles_are_written_in_turn() {
     let mut numbers = NUMBERS;
     let (left, mut right) = tile(&mut numbers).split_at(Axis(1), 1).unwrap();
     let (mut above, mut below) = left.split_at(Axis(0), 1).unwrap();
-    assert!(below.set(0, 0, 30) && right.set(1, 1, 50) && above.set(0, 0, 10));
-    assert_eq!([below.set(1, 0, 31), below.set(0, 1, 32)], [false; 2]);
-    assert_eq!([right.get(0, 1), right.get(1, 1)], [Some(&2), Some(&50)]);
-    assert_eq!([right.get(2, 0), right.get(0, 2)], [None; 2]);
-    assert_eq!((right.nrows(), above.nrows(), right.row(2)), (2, 1, None));
-    right.row_mut(0).unwrap().fill(9);
-    assert_eq!(right.row(0), Some(&[9, 9][..]));
-    assert_eq!(right.into_rows(), [[9, 9], [4, 50]]);
+    assert!(below.set(&(0, 0), 30) && right.set(&(1, 1), 50) && above.set(&(0, 0), 10));
+    assert_eq!([below.set(&(1, 0), 31), below.set(&(0, 1), 32)], [false; 2]);
+    assert_eq!([right.get(&(0, 1)), right.get(&(1, 1))], [Some(&2), Some(&50)]);
+    assert_eq!([right.get(&(2, 0)), right.get(&(0, 2))], [None; 2]);
+    assert_eq!((right.dim(), above.dim()), (&Ix2(2, 2), &Ix2(1, 1)));
+    right.view_mut().index_axis(Axis(0), 0).unwrap().fill(9);
+    assert_eq!(right.into_rows().unwrap(), [[9, 9], [4, 50]]);
     assert_eq!(numbers, [10, 9, 9, 30, 4, 50, 6]);
 }
 
 #[test]
-fn columns_are_no_tiles_and_cuts_past_the_end_are_refused() {
+fn columns_are_tiles_and_cuts_past_the_end_are_refused() {
     let mut numbers = NUMBERS;
-    let columns = Strided::new(ROWS, Ix2(1, 2), 1, 7, OwnedMutable).unwrap();
-    assert_eq!(kind(PartMut::new(&columns, &mut numbers)), Some(IncompatibleLayout));
+    let columns = || Strided::new(Ix2(2, 3), Ix2(1, 2), 1, 7, OwnedMutable).unwrap();
+    assert_eq!(PartMut::over(columns(), &mut numbers).unwrap().into_rows().unwrap(), [[0], [2], [4], [1], [3], [5]]);
+    assert_eq!(PartMut::over(columns(), &mut numbers[1..6]).unwrap_err().kind(), OutOfBounds);
+    let shared = Strided::new(Ix2(2, 3), Ix2(1, 1), 1, 7, ReadOnly).unwrap();
+    assert_eq!(PartMut::over(shared, &mut numbers).unwrap_err().kind(), Unsupported);
     for (axis, index) in [(Axis(1), 4), (Axis(0), 3), (Axis(2), 0)] {
         assert_eq!(kind(tile(&mut numbers).split_at(axis, index)), Some(OutOfBounds));
     }
@@ -75,12 +77,12 @@ fn columns_are_no_tiles_and_cuts_past_the_end_are_refused() {
 }
 
 #[test]
-fn a_tile_without_rows_has_no_column() {
+fn a_tile_without_rows_keeps_its_columns() {
     let mut numbers = NUMBERS;
     let (none, _rows) = tile(&mut numbers).split_at(Axis(0), 0).unwrap();
-    let (first, second) = none.split_at(Axis(1), 0).unwrap();
-    assert_eq!((first.nrows(), second.nrows()), (0, 0));
-    assert_eq!(kind(first.split_at(Axis(1), 1)), Some(OutOfBounds));
+    let (first, second) = none.split_at(Axis(1), 1).unwrap();
+    assert_eq!((first.dim(), second.dim()), (&Ix2(0, 1), &Ix2(0, 2)));
+    assert_eq!(kind(first.split_at(Axis(1), 2)), Some(OutOfBounds));
 }
 
 #[test]
@@ -96,7 +98,7 @@ fn lists_are_written_in_rows() {
 fn lists_are_written_in_tiles() {
     let mut lists = lists();
     let (left, mut right) = tile(&mut lists).split_at(Axis(1), 1).unwrap();
-    assert!(right.set(1, 1, vec![50]));
-    assert_eq!(left.get(1, 0), Some(&vec![3]));
+    assert!(right.set(&(1, 1), vec![50]));
+    assert_eq!(left.get(&(1, 0)), Some(&vec![3]));
     assert_eq!(lists[5], [50]);
 }

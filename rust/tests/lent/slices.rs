@@ -2,15 +2,15 @@
 
 use crate::{NUMBERS, kind, lists, rows_mut, view_of_rows};
 use ndarray_layout::ErrorKind::{OutOfBounds, Unsupported};
-use ndarray_layout::{ArrayViewMut, Ix6, LayoutError, PartMut, SliceElems, SliceInfoElem, s};
+use ndarray_layout::{ArrayViewMut, Axis, Ix6, IxDyn, LayoutError, PartMut, SliceElems, SliceInfoElem, s};
 
 /// The parts of items as two rows that slices pick.
-fn parts<'a, T, S: SliceElems>(items: &'a mut [T], slices: &[S]) -> Result<Vec<PartMut<'a, T>>, LayoutError> {
+fn parts<'a, T, S: SliceElems>(items: &'a mut [T], slices: &[S]) -> Result<Vec<PartMut<'a, T, IxDyn>>, LayoutError> {
     rows_mut(items).multi_slice_mut(slices)
 }
 
 /// The two parts of two slices.
-fn both<T>(parts: Result<Vec<PartMut<'_, T>>, LayoutError>) -> [PartMut<'_, T>; 2] {
+fn both<T>(parts: Result<Vec<PartMut<'_, T, IxDyn>>, LayoutError>) -> [PartMut<'_, T, IxDyn>; 2] {
     parts.unwrap().try_into().ok().expect("two parts")
 }
 
@@ -19,10 +19,10 @@ fn every_second_column_and_the_one_between_are_written_in_turn() {
     let mut numbers = NUMBERS;
     let slices = [s![.., ..;2].to_vec(), s![..;-1, 1].to_vec()];
     let [mut outer, mut middle] = both(parts(&mut numbers, &slices));
-    assert_eq!([outer.nrows(), middle.nrows()], [4, 2]);
-    assert_eq!([outer.get(1, 0), middle.get(0, 0)], [Some(&2), Some(&4)]);
-    assert!(outer.set(3, 0, 50) && middle.set(0, 0, 40) && outer.set(0, 0, 10) && middle.set(1, 0, 11));
-    assert_eq!([middle.set(2, 0, 9), outer.set(0, 1, 9)], [false; 2]);
+    assert_eq!([outer.dim(), middle.dim()], [&IxDyn(&[2, 2]), &IxDyn(&[2])]);
+    assert_eq!([outer.get(&[0, 1]), middle.get(&[0])], [Some(&2), Some(&4)]);
+    assert!(outer.set(&[1, 1], 50) && middle.set(&[0], 40) && outer.set(&[0, 0], 10) && middle.set(&[1], 11));
+    assert_eq!([middle.set(&[2], 9), outer.set(&[0, 2], 9)], [false; 2]);
     assert_eq!(numbers, [10, 11, 2, 3, 40, 50, 6]);
 }
 
@@ -30,9 +30,9 @@ fn every_second_column_and_the_one_between_are_written_in_turn() {
 fn a_tile_and_the_column_beside_it_are_parts_of_a_view() {
     let mut numbers = NUMBERS;
     let slices = [s![..;-1, 1..3].to_vec(), s![.., 0].to_vec()];
-    let [mut tile, column] = both(PartMut::of_slices(&view_of_rows(), &mut numbers, &slices));
-    assert_eq!((tile.row(0), column.row(1)), (Some(&[4, 5][..]), Some(&[3][..])));
-    tile.row_mut(1).unwrap().fill(9);
+    let [tile, column] = both(PartMut::over(view_of_rows(), &mut numbers).unwrap().multi_slice_mut(&slices));
+    assert_eq!((tile[[0, 0]], tile[[0, 1]], column[[1]]), (4, 5, 3));
+    tile.index_axis(Axis(0), 1).unwrap().fill(9);
     assert_eq!(numbers, [0, 9, 9, 3, 4, 5, 6]);
 }
 
@@ -62,8 +62,8 @@ fn ten_blocks_of_six_axes_are_filled() {
         let (first, third) = (block / 5, block % 5);
         s![first..first + 1, .., third..third + 1, .., .., ..]
     });
-    for (part, number) in array.multi_slice_mut(&slices).unwrap().into_iter().zip((0..10).rev()) {
-        part.into_rows().into_iter().for_each(|row| row.fill(number));
+    for (mut part, number) in array.multi_slice_mut(&slices).unwrap().into_iter().zip((0..10).rev()) {
+        part.fill(number);
     }
     let due: Vec<u8> = (0..10).flat_map(|number| [number; 1000]).collect();
     assert_eq!(numbers[..], due);
@@ -74,7 +74,7 @@ fn lists_are_written_in_slices() {
     let mut lists = lists();
     let slices = [s![.., ..;2].to_vec(), s![.., 1].to_vec()];
     let [mut outer, middle] = both(parts(&mut lists, &slices));
-    assert!(outer.set(3, 0, vec![50]));
-    assert_eq!(middle.get(1, 0), Some(&vec![4]));
+    assert!(outer.set(&[1, 1], vec![50]));
+    assert_eq!(middle.get(&[1]), Some(&vec![4]));
     assert_eq!(lists[5], [50]);
 }

@@ -3,7 +3,8 @@
 use crate::{NUMBERS, kind, lists, picture, rows_mut};
 use ndarray_layout::ErrorKind::{OutOfBounds, Unsupported};
 use ndarray_layout::{
-    ArrayViewMut, Axis, Ix0, Ix1, Ix2, Ix3, IxDyn, LayoutError, LentPart, OwnedArray, SliceInfoElem, s,
+    ArrayViewMut, Axis, CanIndexCheckMode, Ix0, Ix1, Ix2, Ix3, IxDyn, LayoutError, LentPart, OwnedArray, PartMut,
+    SliceInfoElem, Strided, s,
 };
 use std::thread;
 
@@ -27,7 +28,7 @@ fn slices_of_mixed_kinds_are_lent_together() -> Result<(), LayoutError> {
     let mut rows = rows_mut(&mut numbers);
     let (item, line, mut tile, corner) =
         rows.multi_sliced_mut((s![0, 0], s![0, 1..], s![1.., ..2], s![1..;-1, 2..]))?;
-    let (mut item, mut line): (LentPart<u8, Ix0>, LentPart<u8, Ix1>) = (item, line);
+    let (mut item, mut line): (LentPart<u8, Ix0>, PartMut<u8, Ix1>) = (item, line);
     item[()] = 50;
     line[1] = 52;
     tile[(0, 1)] = 54;
@@ -83,7 +84,7 @@ fn lists_are_written_in_parts() -> Result<(), LayoutError> {
 #[test]
 fn parts_are_cut_along_each_axis_and_counted_anew() -> Result<(), LayoutError> {
     let mut numbers = NUMBERS;
-    let backwards = rows_mut(&mut numbers).sliced_move(s![..;-1, ..;-1])?.into_part()?;
+    let backwards = rows_mut(&mut numbers).sliced_move(s![..;-1, ..;-1])?.into_part();
     assert_eq!((backwards[(0, 0)], backwards[(1, 2)]), (5, 0));
     let (first, second) = backwards.split_at(Axis(1), 1)?;
     assert_eq!((first[(0, 0)], first[(1, 0)], second[(0, 0)], second[(1, 1)]), (5, 2, 4, 0));
@@ -104,14 +105,14 @@ fn parts_are_cut_along_each_axis_and_counted_anew() -> Result<(), LayoutError> {
 #[test]
 fn rows_are_those_of_the_last_axis_or_single_items() -> Result<(), LayoutError> {
     let mut numbers = NUMBERS;
-    let whole = rows_mut(&mut numbers).into_part()?;
+    let whole = rows_mut(&mut numbers).into_part();
     assert_eq!(whole.into_rows()?, [[0, 1, 2], [3, 4, 5]]);
-    let turned = rows_mut(&mut numbers).reversed_axes().into_part()?;
+    let turned = rows_mut(&mut numbers).reversed_axes().into_part();
     assert_eq!((turned.dim(), turned[(2, 1)]), (&Ix2(3, 2), 5));
     assert_eq!(turned.into_rows()?, [[0], [3], [1], [4], [2], [5]]);
-    let upwards = rows_mut(&mut numbers).sliced_move(s![..;-1, ..2])?.into_part()?;
+    let upwards = rows_mut(&mut numbers).sliced_move(s![..;-1, ..2])?.into_part();
     assert_eq!(upwards.into_rows()?, [[3, 4], [0, 1]]);
-    let steps = rows_mut(&mut numbers).sliced_move(s![.., ..;2])?.into_part()?;
+    let steps = rows_mut(&mut numbers).sliced_move(s![.., ..;2])?.into_part();
     assert_eq!(steps.into_rows()?, [[0], [2], [3], [5]]);
     Ok(())
 }
@@ -133,6 +134,20 @@ fn any_count_of_axes_has_parts() -> Result<(), LayoutError> {
     assert_eq!((part.dim(), part[(0, 1, 1)], others[(0, 1)]), (&Ix3(1, 2, 2), 11, 5));
     part.fill(0);
     assert_eq!(numbers[6..], [0, 7, 0, 0, 10, 0]);
+    Ok(())
+}
+
+#[test]
+fn many_axes_are_written_without_recursion() -> Result<(), LayoutError> {
+    let mut numbers = [0_u8; 80];
+    let shape: Vec<usize> = [&vec![1; 50_000][..], &[2, 20]].concat();
+    let strides: Vec<usize> = [&vec![0; 50_000][..], &[40, 2]].concat();
+    let view = Strided::new(IxDyn(&shape), IxDyn(&strides), 1, 80, CanIndexCheckMode::OwnedMutable)?;
+    let mut part = PartMut::over(view, &mut numbers)?;
+    part.fill(1);
+    part.iter_mut().for_each(|item| *item += 1);
+    assert_eq!(part.into_rows()?.len(), 40);
+    assert!(numbers.chunks(2).all(|pair| pair == [2, 0]));
     Ok(())
 }
 

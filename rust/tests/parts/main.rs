@@ -2,12 +2,14 @@
 
 #[path = "../refused/allocator.rs"]
 mod allocator;
+mod iterated;
 mod lent;
 mod memory;
 mod model;
 #[allow(dead_code)]
 #[path = "../random/numbers.rs"]
 mod numbers;
+mod own_items;
 mod random;
 
 use ndarray_layout::{ArrayViewMut, ErrorKind, Ix2, Ix3, LayoutError};

@@ -1,18 +1,19 @@
 //! Parts of random slices of random arrays beside the model.
 
+use crate::iterated::iterates;
 use crate::kind;
 use crate::model::{Picked, Plain, index_of};
 use crate::numbers::Numbers;
 use ndarray_layout::{
-    ArrayViewMut, Axis, ErrorKind, Ix1, Ix2, Ix3, IxDyn, LayoutError, Lengths, LentPart, SliceArg, SliceInfo,
+    ArrayViewMut, Axis, ErrorKind, Ix1, Ix2, Ix3, IxDyn, LayoutError, Lengths, PartMut, SliceArg, SliceInfo,
     SliceInfoElem, Strided, Strides, unsigned,
 };
 use std::collections::BTreeSet;
 use std::fmt::Debug;
 
-const CALLS: usize = 20_000;
+const CALLS: usize = 8_000;
 
-fn dimension<D: Lengths>(numbers: impl Iterator<Item = usize>) -> D {
+pub fn dimension<D: Lengths>(numbers: impl Iterator<Item = usize>) -> D {
     let numbers: Vec<usize> = numbers.collect();
     let mut dim = D::zeros(numbers.len()).expect("memory for a few numbers");
     dim.slice_mut().copy_from_slice(&numbers);
@@ -20,7 +21,7 @@ fn dimension<D: Lengths>(numbers: impl Iterator<Item = usize>) -> D {
 }
 
 /// Items as the array of a layout.
-fn array<'a, T, D: Lengths>(plain: &Plain, items: &'a mut [T]) -> ArrayViewMut<'a, T, D> {
+pub fn array<'a, T, D: Lengths>(plain: &Plain, items: &'a mut [T]) -> ArrayViewMut<'a, T, D> {
     let dim = dimension(plain.shape.iter().copied());
     let strides = dimension(plain.strides.iter().map(|stride| unsigned(*stride)));
     let mode = ndarray_layout::CanIndexCheckMode::OwnedMutable;
@@ -66,7 +67,7 @@ fn planes(numbers: &mut Numbers, shape: &[usize]) -> Vec<Vec<SliceInfoElem>> {
 }
 
 /// Slices of a shape: mostly some that share no item, in any order; a slice more that may share one, or doesn't fit.
-fn slices(numbers: &mut Numbers, shape: &[usize]) -> Vec<Vec<SliceInfoElem>> {
+pub fn slices(numbers: &mut Numbers, shape: &[usize]) -> Vec<Vec<SliceInfoElem>> {
     let mut slices =
         if shape.is_empty() || numbers.once_in(2) { tiles(numbers, shape) } else { planes(numbers, shape) };
     let order = numbers.axis_order(slices.len());
@@ -87,7 +88,7 @@ fn slices(numbers: &mut Numbers, shape: &[usize]) -> Vec<Vec<SliceInfoElem>> {
 }
 
 /// What the slices pick, or why they aren't lent.
-fn model(plain: &Plain, slices: &[Vec<SliceInfoElem>]) -> Result<Vec<Picked>, ErrorKind> {
+pub fn model(plain: &Plain, slices: &[Vec<SliceInfoElem>]) -> Result<Vec<Picked>, ErrorKind> {
     let picked: Option<Vec<Picked>> = slices.iter().map(|slice| plain.picked(slice)).collect();
     let picked = picked.ok_or(ErrorKind::OutOfBounds)?;
     let mut seen = BTreeSet::new();
@@ -96,7 +97,7 @@ fn model(plain: &Plain, slices: &[Vec<SliceInfoElem>]) -> Result<Vec<Picked>, Er
 }
 
 /// Asserts that a part has these items, each by its index.
-fn has_items<T: PartialEq + Debug, E: Lengths>(part: &LentPart<'_, T, E>, picked: &Picked, item: impl Fn(usize) -> T) {
+fn has_items<T: PartialEq + Debug, E: Lengths>(part: &PartMut<'_, T, E>, picked: &Picked, item: impl Fn(usize) -> T) {
     assert_eq!((part.dim().slice(), part.len()), (&picked.shape[..], picked.places.len()));
     for (number, place) in picked.places.iter().enumerate() {
         let index: E = dimension(index_of(&picked.shape, number).into_iter());
@@ -110,7 +111,7 @@ fn has_items<T: PartialEq + Debug, E: Lengths>(part: &LentPart<'_, T, E>, picked
 
 /// Asserts that the two parts of a part along an axis are those of its places.
 fn splits<T: PartialEq + Debug, E: Lengths>(
-    part: LentPart<'_, T, E>,
+    part: PartMut<'_, T, E>,
     picked: &Picked,
     (axis, at): (usize, usize),
     item: impl Fn(usize) -> T,
@@ -148,6 +149,8 @@ fn compare<T, D, S>(
         assert_eq!(lend(&mut array), due.len());
         let mut parts = array.multi_sliced_mut(slices).expect("parts");
         has_items(&parts[number], picked, &item);
+        iterates(parts.swap_remove(number), picked, &item, seed + number);
+        let mut parts = array.multi_sliced_mut(slices).expect("parts");
         let rows = parts.swap_remove(number).into_rows().expect("memory");
         let in_rows: Vec<T> = rows.into_iter().flat_map(|row| row.iter().cloned()).collect();
         assert_eq!(in_rows, picked.places.iter().map(|place| item(*place)).collect::<Vec<_>>());
@@ -201,6 +204,6 @@ fn parts_of_random_slices_are_the_models() {
         compare_typed(&plain, &slices, &due, seed);
     }
     println!("{lent} lists of slices lent, {shared} share an item, {past} are past the shape");
-    assert!(lent > CALLS / 2 && shared > 200 && past > 200);
+    assert!(lent > CALLS / 2 && shared > 100 && past > 100);
     assert!(matches!(ndarray_layout::StrideShape::from(Ix1(1)).strides, Strides::C));
 }

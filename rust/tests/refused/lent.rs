@@ -4,7 +4,7 @@
 use crate::call::Call;
 use Fit::Strict;
 use Order::RowMajor;
-use ndarray_layout::{ArrayView, ArrayViewMut, Fit, IxDyn, Order, StrideShape, Strides};
+use ndarray_layout::{ArrayView, ArrayViewMut, Fit, IxDyn, Order, PartMut, StrideShape, Strides};
 
 /// What a call answers.
 pub fn answer(call: &Call) -> Option<String> {
@@ -14,6 +14,9 @@ pub fn answer(call: &Call) -> Option<String> {
         "ArrayView::from_shape" => Some(call.told(|| ArrayView::from_shape(shape, &numbers))),
         "ArrayViewMut::from_shape" => Some(call.told(|| ArrayViewMut::from_shape(shape, &mut numbers))),
         _ if call.name.starts_with("ArrayView::") => read(call, ArrayView::over(call.view(), &numbers).ok()?),
+        _ if call.name.starts_with("PartMut::") => {
+            part(call, ArrayViewMut::from_shape(call.laid(), &mut numbers).ok()?.into_part())
+        }
         _ => written(call, ArrayViewMut::from_shape(call.laid(), &mut numbers).ok()?),
     }
 }
@@ -48,6 +51,22 @@ fn written(call: &Call, array: ArrayViewMut<'_, usize, IxDyn>) -> Option<String>
         "ArrayViewMut::index_axis" => call.told(|| array.index_axis(axis, index)),
         "ArrayViewMut::insert_axis" => call.told(|| array.insert_axis(axis)),
         "ArrayViewMut::as_view" => call.told(|| array.as_view()),
+        _ => return None,
+    })
+}
+
+/// The same of numbers that are lent as a part.
+fn part(call: &Call, mut part: PartMut<'_, usize, IxDyn>) -> Option<String> {
+    let (reversed, back, to) = (call.reversed(), call.back(), call.dim(2));
+    let (axis, index) = call.axis_and_index();
+    Some(match call.name {
+        "PartMut::slice" => call.told(|| part.slice::<IxDyn, _>(&reversed, Strict)),
+        "PartMut::permuted_axes" => call.told(|| part.permuted_axes(&back)),
+        "PartMut::reshape" => call.told(|| part.reshape(&to, RowMajor)),
+        "PartMut::exact_chunks" => call.told(|| part.exact_chunks::<IxDyn>(&to)),
+        "PartMut::index_axis" => call.told(|| part.index_axis(axis, index)),
+        "PartMut::insert_axis" => call.told(|| part.insert_axis(axis)),
+        "PartMut::slice_mut" => call.told(|| part.slice_mut::<IxDyn, _>(&reversed, Strict)),
         _ => return None,
     })
 }

@@ -3,41 +3,31 @@
 
 use crate::call::Call;
 use CanIndexCheckMode::OwnedMutable;
-use ndarray_layout::{ArrayViewMut, CanIndexCheckMode, IxDyn, PartMut, SliceInfoElem, SplitViews, Strided};
+use ndarray_layout::{ArrayViewMut, CanIndexCheckMode, SliceInfoElem, SplitViews, Strided};
 use std::array;
 
 /// What a call answers.
 pub fn answer(call: &Call) -> Option<String> {
-    let mut numbers = array::from_fn(|number| number);
-    if call.name.starts_with("ArrayViewMut::") {
-        return of_array(call, ArrayViewMut::from_shape(call.laid(), &mut numbers).ok()?);
+    let mut numbers: [usize; 12] = array::from_fn(|number| number);
+    let (axis, index) = call.axis_and_index();
+    if call.name == "SplitViews::new" {
+        let view = Strided::from_shape(call.laid(), 1, numbers.len(), OwnedMutable).ok()?;
+        return Some(call.told(|| SplitViews::new(view, numbers.len(), axis, index)));
     }
-    let view = Strided::from_shape(call.laid(), 1, numbers.len(), OwnedMutable).ok()?;
-    of_view(call, view, &mut numbers)
-}
-
-fn of_view(call: &Call, view: Strided<IxDyn>, numbers: &mut [usize; 12]) -> Option<String> {
-    let (axis, index) = call.axis_and_index();
-    let rows = [0, 1].map(|row| [SliceInfoElem::Index(row), (..).into()]);
-    Some(match call.name {
-        "SplitViews::new" => call.told(|| SplitViews::new(view, numbers.len(), axis, index)),
-        "PartMut::new" => call.told(|| PartMut::new(&view, numbers)),
-        "PartMut::of_slices" => call.told(|| PartMut::of_slices(&view, numbers, &rows)),
-        "PartMut::split_at" => {
-            let part = PartMut::new(&view, numbers).ok()?;
-            call.told(|| part.split_at(axis, index))
-        }
-        _ => return None,
-    })
-}
-
-fn of_array(call: &Call, array: ArrayViewMut<'_, usize, IxDyn>) -> Option<String> {
-    let (axis, index) = call.axis_and_index();
+    let array = ArrayViewMut::from_shape(call.laid(), &mut numbers).ok()?;
     let all = SliceInfoElem::from(..);
     let halves = [(..1).into(), (1..).into()].map(|half| [half, all, all, all, all, all]);
     Some(match call.name {
         "ArrayViewMut::split_at_mut" => call.told(|| array.split_at_mut(axis, index)),
         "ArrayViewMut::multi_slice_mut" => call.told(|| array.multi_slice_mut(&halves)),
+        "PartMut::split_at" => {
+            let part = array.into_part();
+            call.told(|| part.split_at(axis, index))
+        }
+        "PartMut::multi_slice_mut" => {
+            let part = array.into_part();
+            call.told(|| part.multi_slice_mut(&halves))
+        }
         _ => return None,
     })
 }

@@ -47,10 +47,10 @@ written! {
     ArrayView<'_, usize, IxDyn>: |array| array.view().written();
     ArrayViewMut<'_, usize, IxDyn>: |array| array.view().written();
     SplitViews<IxDyn>: |parts| format!("{} and {} at {}", parts.first.written(), parts.second.written(), parts.cut);
-    PartMut<'_, usize>: |part| {
-        (0..part.nrows()).filter_map(|row| part.row(row)).map(|row| format!("|{}", list(row))).collect()
+    PartMut<'_, usize, IxDyn>: |part| part.view().written();
+    Vec<PartMut<'_, usize, IxDyn>>: |parts| {
+        parts.iter().map(|part| format!("{};", part.written())).collect::<Vec<_>>().join(" ")
     };
-    Vec<PartMut<'_, usize>>: |parts| parts.iter().map(|part| format!("{};", part.written())).collect();
 }
 
 /// Two parts.

@@ -1,11 +1,9 @@
 // Made by `rust/erase` of `crates/nd_lent/src/array_view_mut/splitting.rt`: edit that.
-//! The two parts of an array along an axis, and those that slices pick, lent at once to be written.
+//! The two parts of an array along an axis, lent at once to be written.
 
-use crate::memory::prelude::Vec;
 use crate::nd_lent::array_view_mut::ArrayViewMut;
-use crate::nd_lent::parts_mut::PartMut;
 use crate::ndarray_layout::{
-    Axis, CanIndexCheckMode, ErrorKind, LayoutError, Lengths, ShapeError, SliceElems, Strided, from_kind,
+    Axis, CanIndexCheckMode, ErrorKind, LayoutError, Lengths, ShapeError, Strided, from_kind,
     max_abs_offset_check_overflow, offset_from_low_addr_ptr_to_logical_ptr,
 };
 
@@ -145,7 +143,7 @@ impl<'a, T: Sized, D: Lengths> ArrayViewMut<'a, T, D> {
     /// The two parts along an axis, both lent at once: those of `SplitViews::new`, with its errors. A thread of its own may
     /// write each.
     ///
-    /// (`PartMut` lends parts whose places interleave, as the columns of a picture.)
+    /// (`PartMut::split_at` lends parts whose places interleave too, as the columns of a picture.)
     ///
     /// Axis 0 of `[3]` over 7 8 9 at 1: 7, and 8 9. ndarray's `split_at`.
     ///
@@ -193,51 +191,5 @@ impl<'a, T: Sized, D: Lengths> ArrayViewMut<'a, T, D> {
             return Ok((ArrayViewMut::new(first, lower), ArrayViewMut::new(second, upper)));
         }
         Ok((ArrayViewMut::new(first, upper), ArrayViewMut::new(second, lower)))
-    }
-
-    /// The parts that slices pick, all lent at once: those of `PartMut::of_slices`, with its errors. A thread of its own may
-    /// write each.
-    ///
-    /// `0,..` and `1,..;2` of `[2,3]` over 0 1 2 3 4 5: 0 1 2 in one row; 3 and 5, each in a row of its own.
-    ///
-    /// A picture of 2 rows of 3 pixels, with red, green and blue side by side: `[2,3,3]` over 0, 1, .. 17, with the strides
-    /// `[9,3,1]`. Its green plane `..,..,1` isn't 2 rows of 3 items, but 6 rows of one: 1, 4, 7, 10, 13 and 16. The row of pixel
-    /// (1,2) is 1 * 3 + 2, so `get(5, 0)` is 16. `get(1, 2)` is `None`, and `set(1, 2, ..)` returns `false` and writes nothing.
-    /// `set(1, 0, ..)` returns `true`, and writes pixel (0,1), whose row that is. Where the planes lie one after another, as in
-    /// `[3,2,3]`, row and column of `1,..,..` are those of the picture.
-    ///
-    /// ndarray's `multi_slice_mut`, which panics where two slices share an index.
-    ///
-    /// # Examples
-    ///
-    /// ```
-    /// use ndarray_layout::{ArrayViewMut, Ix2, LayoutError, s};
-    ///
-    /// # fn main() -> Result<(), LayoutError> {
-    /// let mut items = [0, 1, 2, 3, 4, 5];
-    /// let table = ArrayViewMut::from_shape(Ix2(2, 3).into(), &mut items)?;
-    /// let mut parts = table.multi_slice_mut(&[s![0, ..], s![1, ..;2]])?;
-    /// assert_eq!((parts[0].row(0), parts[1].row(1)), (Some(&[0, 1, 2][..]), Some(&[5][..])));
-    /// assert_eq!((parts[1].set(1, 0, 9), parts[1].set(0, 1, 9)), (true, false));
-    /// assert_eq!(items, [0, 1, 2, 3, 4, 9]);
-    /// # Ok(())
-    /// # }
-    /// ```
-    ///
-    /// <details><summary>Contract (proved)</summary>
-    ///
-    /// ```text
-    /// ensures fault: IsFaultOfSlices (array_of self.entry).view.shape (map S.list slices.now) (shape_fault result)
-    /// ensures memory: slices.now ≡ [] → IsOk result
-    /// ensures rows: IfOk result (λ parts. map rows_of parts.items ≡
-    ///     map (picked_rows (array_of self.entry).items (array_of self.entry).view)
-    ///     (map S.list slices.now))
-    /// ```
-    /// [How to read it](crate::contracts)
-    /// </details>
-    #[inline]
-    pub fn multi_slice_mut<S: SliceElems>(self, slices: &[S]) -> Result<Vec<PartMut<'a, T>>, LayoutError> {
-        let ArrayViewMut { items, view } = self;
-        PartMut::of_slices(&view, items, slices)
     }
 }

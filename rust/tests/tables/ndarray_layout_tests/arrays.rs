@@ -1,6 +1,7 @@
 // Made by `rust/erase` of `crates/ndarray_layout_tests/src/arrays.rt`: edit that.
 //! Arrays that own their items, and what is asked of them, as rows tell it.
 
+use crate::ndarray_layout_tests::parts::{are_halves_written, are_parts_written};
 use crate::ndarray_layout_tests::views::shape;
 use crate::test_tables::{AtType, Reading, Words, at_type, layout_fault_name};
 use ::ndarray_layout::memory::prelude::{FallibleSlice, FallibleVec, Vec};
@@ -18,6 +19,10 @@ pub enum OfArray {
     Set,
     /// `ARGUMENT ITEMS ARGUMENT ITEMS .. => Ok ITEMS`, or the fault.
     MultiSet,
+    /// `ARGUMENT INDEX ITEM ARGUMENT INDEX ITEM .. => true ITEMS`, `false ITEMS` or the fault: an item of each part, all lent at once.
+    SetParts,
+    /// `AXIS COORDINATE INDEX ITEM INDEX ITEM => true ITEMS`, `false ITEMS` or the fault: an item of each of the two parts.
+    SetHalves,
 }
 
 /// An array, or why there is none, and the items that are handed back.
@@ -102,6 +107,8 @@ impl AtType for OfRow<'_, '_> {
                 OfArray::Items => are_read(row, &array),
                 OfArray::Set => is_set(row, &mut array),
                 OfArray::MultiSet => is_written(row, &mut array),
+                OfArray::SetParts => are_parts_written(row, &mut array),
+                OfArray::SetHalves => are_halves_written(row, &mut array),
             },
             Err((fault, items)) => {
                 let is_asked = matches!(asked, OfArray::FromShapeVec);

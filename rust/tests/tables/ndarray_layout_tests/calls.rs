@@ -23,7 +23,7 @@ enum Call {
     Array(OfArray),
 }
 
-static CALLS: [(&str, Call); 10] = [
+static CALLS: [(&str, Call); 12] = [
     ("new", View(OfView::New)),
     ("from_shape", View(OfView::FromShape)),
     ("slice_in_order", View(OfView::SliceInOrder)),
@@ -34,6 +34,8 @@ static CALLS: [(&str, Call); 10] = [
     ("items", Array(OfArray::Items)),
     ("set", Array(OfArray::Set)),
     ("multi_set", Array(OfArray::MultiSet)),
+    ("set_parts", Array(OfArray::SetParts)),
+    ("set_halves", Array(OfArray::SetHalves)),
 ];
 
 /// Rows of calls.

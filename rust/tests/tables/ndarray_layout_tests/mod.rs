@@ -45,6 +45,8 @@ mod arrays;
 #[cfg(test)]
 mod calls;
 #[cfg(test)]
+mod parts;
+#[cfg(test)]
 mod reshape_rows;
 #[cfg(test)]
 mod reshapes;

@@ -113,6 +113,24 @@ set Ix2 2,3 C 7 1,3 9 => false 0,1,2,3,4,5,6
 from_shape_vec Ix2 2,3 C 5 => OutOfBounds 0,1,2,3,4
 items Ix2 2,3 -3,1 6 ..,.. => 3,4,5,0,1,2";
 
+/// Parts whose places interleave, of two rows of three items with a spare one, and of rows back to front.
+const PARTS: &str = "\
+set_parts Ix2 2,3 C 7 ..,..;2 1,1 50 ..,1 0 9 => true 0,9,2,3,4,50,6
+set_parts Ix2 2,3 C 7 ..,..;2 1,2 50 ..,1 0 9 => false 0,9,2,3,4,5,6
+set_parts Ix2 2,3 C 7 ..,0 0 9 1,.. 0 8 => Unsupported 0,1,2,3,4,5,6
+set_parts Ix2 2,3 C 7 ..,0 0 9 2,.. 0 8 => OutOfBounds 0,1,2,3,4,5,6
+set_parts Ix2 2,3 -3,1 6 0,..;-1 0 7 1,.. 2 8 => true 0,1,8,3,4,7
+set_parts IxDyn 2,1,3,1,2 C 12 ..;-1,..,0,..,.. 0,0,0,1 70 ..,..,1..,..,0 1,0,1,0 80 => true 0,1,2,3,4,5,6,70,8,9,80,11
+set_parts Ix2 2,3 C 7 ..,1..1 0,0 9 ..,.. 1,2 8 => false 0,1,2,3,4,8,6
+set_halves Ix2 2,3 C 6 1 1 1,0 30 0,1 20 => true 0,1,20,30,4,5
+set_halves Ix2 2,3 C 6 1 3 1,2 30 0,0 20 => false 0,1,2,3,4,30
+set_halves Ix2 2,3 C 6 1 4 0,0 30 0,0 20 => OutOfBounds 0,1,2,3,4,5";
+
+#[test]
+fn parts_rows() {
+    hold(PARTS);
+}
+
 #[test]
 fn r15_rows() {
     hold(TWO_ROWS);

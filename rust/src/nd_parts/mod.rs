@@ -1,0 +1,22 @@
+// Made by `rust/erase` of `crates/nd_parts/src/lib.rt`: edit that.
+//! Parts of an array that are lent at once.
+
+#![allow(unused_imports, unused_variables, reason = "a name that only clauses use")]
+#![allow(unused_labels, reason = "proofs name a loop by its label")]
+#![allow(
+    clippy::explicit_auto_deref,
+    clippy::manual_find,
+    clippy::manual_map,
+    clippy::needless_range_loop,
+    clippy::non_canonical_clone_impl,
+    clippy::while_let_on_iterator,
+    reason = "a form that is proved with less"
+)]
+#![allow(clippy::unused_unit, reason = "what the kit has no form for")]
+#![allow(clippy::len_without_is_empty, reason = "a sequence is never asked whether it is empty")]
+#![allow(clippy::should_implement_trait, reason = "the package has the trait beside what is proved")]
+
+mod cells;
+mod part;
+
+pub use part::PartMut;

@@ -1,0 +1,64 @@
+//! A part is made of a view alone that gives each index an item to itself, whatever call made that view.
+
+use crate::numbers::Numbers;
+use ndarray_layout::CanIndexCheckMode::{OwnedMutable, ReadOnly};
+use ndarray_layout::PartMut;
+use ndarray_layout::{Ix1, Ix2, IxDyn, ShapeError, Strided, s, unsigned};
+use std::collections::BTreeSet;
+use std::panic::catch_unwind;
+
+/// Whether a part is made of a view and so many items.
+fn is_made<D: ndarray_layout::Lengths + 'static>(view: Result<Strided<D>, ShapeError>, len: usize) -> bool
+where
+    Strided<D>: std::panic::UnwindSafe,
+{
+    let view = view.expect("a view of more items");
+    catch_unwind(move || PartMut::new(view, &mut vec![0_u8; len]).view().len()).is_ok()
+}
+
+#[test]
+fn a_view_that_leaves_its_items_or_has_an_alias_panics() {
+    let backwards = |len| Strided::from_parts(2, Ix1(3), Ix1(unsigned(-1)), 1, len, ReadOnly);
+    assert!(is_made(backwards(3), 3) && is_made(backwards(9), 3) && !is_made(backwards(9), 2));
+    let grid = || Strided::from_parts(1, Ix2(2, 3), Ix2(3, 1), 1, 99, ReadOnly);
+    assert!(is_made(grid(), 7) && !is_made(grid(), 6) && !is_made(grid(), 0));
+    let aliased = |row, column| Strided::from_parts(0, Ix2(2, 2), Ix2(row, column), 1, 99, ReadOnly);
+    assert!(is_made(aliased(2, 1), 99) && !is_made(aliased(1, 1), 99) && !is_made(aliased(0, 1), 99));
+    let far = Strided::from_parts(1 << 62, Ix1(2), Ix1(1 << 61), 1, usize::MAX >> 1, ReadOnly);
+    assert!(!is_made(far, 99));
+    let none = Strided::from_parts(0, Ix2(0, 3), Ix2(0, 0), 1, 0, ReadOnly);
+    assert!(is_made(none, 0));
+}
+
+#[test]
+fn each_slice_of_an_accepted_view_is_made_a_part() {
+    let view = || Strided::from_shape(Ix2(4, 6).into(), 1, 24, OwnedMutable).expect("a layout");
+    for slice in [s![.., ..;-1], s![..;3, 1..;2], s![4.., 6..], s![..;-3, ..0]] {
+        assert!(is_made(Ok(view().sliced(slice).expect("a slice")), 24), "{slice:?}");
+    }
+    assert!(is_made(Ok(view().reversed_axes()), 24) && is_made(Ok(view().diag()), 24));
+}
+
+#[test]
+fn random_numbers_make_a_part_if_and_only_if_the_rules_hold() {
+    let mut numbers = Numbers::new(1_900_001);
+    let (mut made, mut refused) = (0, 0);
+    for _ in 0..6_000 {
+        let axes = numbers.below(4);
+        let lens: Vec<usize> = (0..axes).map(|_| numbers.below(4)).collect();
+        let strides: Vec<usize> = lens.iter().map(|_| unsigned(numbers.below(13) as isize - 6)).collect();
+        let (start, len) = (numbers.below(40), numbers.below(40));
+        let Ok(view) = Strided::from_parts(start, IxDyn(&lens), IxDyn(&strides), 1, 99, ReadOnly) else {
+            continue;
+        };
+        let places: Vec<usize> = view.iter_places(ndarray_layout::Order::RowMajor).collect();
+        let distinct: BTreeSet<usize> = places.iter().copied().collect();
+        let fits = places.iter().all(|place| *place < len);
+        let owned = view.duplicate().expect("memory").moved_to(start, 1, len, OwnedMutable).is_ok();
+        let is_part = is_made(Ok(view), len);
+        assert_eq!(is_part, owned || places.is_empty());
+        assert!(!is_part || fits && distinct.len() == places.len());
+        *(if is_part { &mut made } else { &mut refused }) += 1;
+    }
+    assert!(made > 300 && refused > 300, "{made} {refused}");
+}

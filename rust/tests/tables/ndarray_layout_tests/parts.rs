@@ -1,0 +1,94 @@
+// Made by `rust/erase` of `crates/ndarray_layout_tests/src/parts.rt`: edit that.
+//! Parts of an array that are lent at once and written, as rows tell it.
+
+use crate::test_tables::{Reading, Words, layout_fault_name};
+use ::ndarray_layout::memory::prelude::{FallibleVec, Vec};
+use ::ndarray_layout::nd_owned::{OwnedArray, PartMut};
+use ::ndarray_layout::{Axis, IxDyn, LayoutError, Lengths, SliceInfoElem};
+
+/// An index of a part, and the item for it.
+type Placed = (IxDyn, usize);
+
+/// The slices of parts, and for each part one of its indices and the item for it, of all words that are left.
+fn picks(words: &mut Words<'_>) -> Option<(Vec<Vec<SliceInfoElem>>, Vec<Placed>)> {
+    let (mut slices, mut placed) = (Vec::new(), Vec::new());
+    for _ in 0..u64::MAX {
+        let Some(word) = words.word() else {
+            break;
+        };
+        slices.fallible_push(Words::of(word).elems()?).ok()?;
+        let index = words.dim()?;
+        placed.fallible_push((index, words.length()?)).ok()?;
+    }
+    Some((slices, placed))
+}
+
+/// Whether this is an index of a part, whose item is replaced, and read then.
+fn is_placed(part: &mut PartMut<'_, usize, IxDyn>, placed: &Placed) -> bool {
+    let (index, item) = placed;
+    let is_set = part.set(index, *item);
+    match part.get(index) {
+        Some(found) => is_set && *found == *item,
+        None => false,
+    }
+}
+
+/// Whether each part has the index that is given for it, whose item is then replaced.
+fn are_placed(parts: Vec<PartMut<'_, usize, IxDyn>>, placed: &[Placed]) -> bool {
+    let (mut placed, mut all) = (placed.iter(), true);
+    for part in parts {
+        let mut part = part;
+        all = match placed.next() {
+            Some(one) => is_placed(&mut part, one) && all,
+            None => false,
+        };
+    }
+    all
+}
+
+/// How the parts of an array are written: `true` or `false`, or the fault.
+fn written<D: Lengths>(
+    array: &mut OwnedArray<usize, D>,
+    slices: &[Vec<SliceInfoElem>],
+    placed: &[Placed],
+) -> Result<bool, LayoutError> {
+    let lent = array.as_view_mut()?;
+    Ok(are_placed(lent.multi_slice_mut(slices)?, placed))
+}
+
+/// Whether the parts that slices pick are written so, or fail so, and these items are left.
+pub fn are_parts_written<D: Lengths>(row: &mut Reading<'_>, array: &mut OwnedArray<usize, D>) -> Option<bool> {
+    let (slices, placed) = picks(&mut row.given)?;
+    let name = match written(array, slices.as_slice(), placed.as_slice()) {
+        Ok(true) => "true",
+        Ok(false) => "false",
+        Err(fault) => layout_fault_name(&fault),
+    };
+    Some(row.answer.is(name) && row.answer.is_list(array.stored()))
+}
+
+/// How the two parts of an array along an axis are written: `true` or `false`, or the fault.
+fn halves_written<D: Lengths>(
+    array: &mut OwnedArray<usize, D>,
+    (axis, coordinate): (usize, usize),
+    placed: &[(D, usize); 2],
+) -> Result<bool, LayoutError> {
+    let lent = array.as_view_mut()?;
+    let (mut one, mut other) = lent.into_part().split_at(Axis(axis), coordinate)?;
+    let [(first, item), (second, another)] = placed;
+    let is_set = one.set(first, *item);
+    Ok(other.set(second, *another) && is_set)
+}
+
+/// Whether the two parts of an array along an axis are written so, or fail so, and these items are left.
+pub fn are_halves_written<D: Lengths>(row: &mut Reading<'_>, array: &mut OwnedArray<usize, D>) -> Option<bool> {
+    let cut = (row.given.length()?, row.given.length()?);
+    let one = (row.given.dim()?, row.given.length()?);
+    let other = (row.given.dim()?, row.given.length()?);
+    let name = match halves_written(array, cut, &[one, other]) {
+        Ok(true) => "true",
+        Ok(false) => "false",
+        Err(fault) => layout_fault_name(&fault),
+    };
+    Some(row.answer.is(name) && row.answer.is_list(array.stored()))
+}
