@@ -11,6 +11,8 @@ mod model;
 mod numbers;
 mod own_items;
 mod random;
+mod steps;
+mod threads;
 
 use ndarray_layout::{ArrayViewMut, ErrorKind, Ix2, Ix3, LayoutError};
 

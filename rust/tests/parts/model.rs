@@ -50,6 +50,12 @@ impl Plain {
         places.into_iter().map(|place| place as usize).collect()
     }
 
+    /// All of it.
+    pub fn whole(&self) -> Picked {
+        let coordinates: Vec<Vec<usize>> = self.shape.iter().map(|len| (0..*len).collect()).collect();
+        Picked { shape: self.shape.clone(), places: self.places(&coordinates) }
+    }
+
     /// What a slice picks whose bounds lie within the axes and whose steps aren't 0; nothing where an index is past its axis.
     pub fn picked(&self, elems: &[SliceInfoElem]) -> Option<Picked> {
         let (mut shape, mut coordinates) = (Vec::new(), Vec::new());
