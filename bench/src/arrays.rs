@@ -7,6 +7,8 @@
 mod by_hand;
 #[path = "arrays/by_package.rs"]
 mod by_package;
+#[path = "arrays/parts.rs"]
+mod parts;
 mod timing;
 
 extern crate ndarray_layout;
@@ -141,6 +143,7 @@ fn rows() -> Vec<Row> {
         by_hand::lend_planes,
         by_package::fill_planes,
     ));
+    rows.extend(parts::rows());
     rows
 }
 

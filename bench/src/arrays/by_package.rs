@@ -125,10 +125,8 @@ pub fn fill_tiles(items: &mut [u8]) {
 #[inline(never)]
 pub fn fill_part_muts(items: &mut [u8]) {
     let slices: Vec<_> = tiles().collect();
-    let tiles = picture(items).multi_slice_mut(&slices).expect("tiles apart");
-    for (number, tile) in tiles.into_iter().enumerate() {
-        tile.into_rows().into_iter().for_each(|row| row.fill(number as u8));
-    }
+    let tiles = picture(items).into_part().multi_slice_mut(&slices).expect("tiles apart");
+    tiles.into_iter().enumerate().for_each(|(number, mut tile)| tile.fill(number as u8));
 }
 
 #[inline(never)]
