@@ -1,14 +1,16 @@
 //! A part is made of a view alone that gives each index an item to itself, whatever call made that view.
 
+use crate::model::Plain;
 use crate::numbers::Numbers;
+use crate::random::array;
 use ndarray_layout::CanIndexCheckMode::{OwnedMutable, ReadOnly};
 use ndarray_layout::PartMut;
-use ndarray_layout::{Ix1, Ix2, IxDyn, ShapeError, Strided, s, unsigned};
+use ndarray_layout::{ArrayViewMut, Axis, Ix1, Ix2, IxDyn, Lengths, ShapeError, Strided, s, unsigned};
 use std::collections::BTreeSet;
 use std::panic::catch_unwind;
 
 /// Whether a part is made of a view and so many items.
-fn is_made<D: ndarray_layout::Lengths + 'static>(view: Result<Strided<D>, ShapeError>, len: usize) -> bool
+fn is_made<D: Lengths + 'static>(view: Result<Strided<D>, ShapeError>, len: usize) -> bool
 where
     Strided<D>: std::panic::UnwindSafe,
 {
@@ -37,6 +39,40 @@ fn each_slice_of_an_accepted_view_is_made_a_part() {
         assert!(is_made(Ok(view().sliced(slice).expect("a slice")), 24), "{slice:?}");
     }
     assert!(is_made(Ok(view().reversed_axes()), 24) && is_made(Ok(view().diag()), 24));
+}
+
+/// Adds 1 to each item of an array as a part, and returns how many there are.
+fn count<D: Lengths>(array: ArrayViewMut<'_, u8, D>) -> usize {
+    let mut part = array.into_part();
+    part.map_in_place(|item| *item += 1);
+    part.len()
+}
+
+#[test]
+fn each_array_that_the_package_lends_is_made_a_part() {
+    let mut numbers = Numbers::new(1_980_001);
+    for _ in 0..3_000 {
+        let plain = Plain::any(&mut numbers);
+        let whole = plain.whole();
+        if whole.shape.is_empty() {
+            continue;
+        }
+        let mut items = vec![0_u8; plain.len];
+        let axis = Axis(numbers.below(whole.shape.len()));
+        let size = 1 + numbers.below(3);
+        let mut array = array::<_, IxDyn>(&plain, &mut items);
+        let mut times = usize::from(count(array.view_mut()) == whole.places.len());
+        times += usize::from(array.axis_iter_mut(axis).is_ok_and(|lent| lent.map(count).sum::<usize>() > 0));
+        times +=
+            usize::from(array.axis_chunks_iter_mut(axis, size).is_ok_and(|lent| lent.map(count).sum::<usize>() > 0));
+        times += usize::from(array.rows_mut().is_ok_and(|lent| lent.map(count).sum::<usize>() > 0));
+        let at = numbers.below(whole.shape[axis.index()] + 1);
+        if let Ok((first, second)) = array.split_at_mut(axis, at) {
+            times += usize::from(count(first) + count(second) > 0);
+        }
+        assert!(whole.places.iter().all(|place| usize::from(items[*place]) == times), "{plain:?}: {times}");
+        assert_eq!(items.iter().map(|item| usize::from(*item)).sum::<usize>(), times * whole.places.len());
+    }
 }
 
 #[test]
