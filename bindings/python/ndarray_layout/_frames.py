@@ -80,17 +80,18 @@ class Frames:
         read, results = (Struct("".join(p.numbers for p in parameters if p.is_result == of)) for of in (False, True))
         memory, ends = (ctypes.c_size_t * ((read.size + results.size) // 8 + 1))(), {False: 0, True: read.size}
         options, arguments = iter(self.options), list[Any]()
+        # (`from_param` makes of a number what ctypes would make of it anew at each call)
         for parameter in parameters:
             place = ends[parameter.is_result]
             ends[parameter.is_result] += Struct(parameter.numbers).size
             if parameter.letter == "i":
-                arguments.append(ctypes.c_int32(next(options)))
+                arguments.append(ctypes.c_int32.from_param(next(options)))
             elif parameter.letter == "z":
                 arguments.append(ctypes.c_size_t.from_buffer(memory, place))
             else:
                 arguments.append(ctypes.byref(ctypes.c_char.from_buffer(memory, place)))
             if parameter.letter in "USEW":
-                arguments.append(ctypes.c_size_t(parameter.items))
+                arguments.append(ctypes.c_size_t.from_param(parameter.items))
         free = self._free.setdefault(counts, [])
         return Frame(read.pack_into, memory, self.call, tuple(arguments), results.unpack_from, read.size, free)
 
