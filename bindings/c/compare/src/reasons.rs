@@ -330,8 +330,8 @@ fn index_reason() {
 fn of_common_shape(first: &[usize], second: &[usize]) -> Told {
     let axes = first.len().max(second.len());
     let pairs = first.iter().rev().zip(second.iter().rev());
-    let apart = pairs.enumerate().filter(|(_, (one, other))| one != other && **one != 1 && **other != 1);
-    apart.last().map_or(NO_REASON, |(from_back, _)| (INCOMPATIBLE_SHAPE, COMMON, axes - 1 - from_back, 0, 0))
+    let mut apart = pairs.enumerate().filter(|(_, (one, other))| one != other && **one != 1 && **other != 1);
+    apart.next_back().map_or(NO_REASON, |(from_back, _)| (INCOMPATIBLE_SHAPE, COMMON, axes - 1 - from_back, 0, 0))
 }
 
 #[test]
