@@ -108,10 +108,8 @@ fn rows() -> Vec<Row> {
         rows.push(reading(named("fold"), form, by_hand::sum, by_package::fold));
         rows.push(reading(named("a[(i, j)]"), form, by_hand::index, by_package::index));
     }
-    for (form, name) in &Form::ALL[..2] {
-        rows.push(reading(format!("blur by 3x3 of rows, {name}"), *form, by_hand::blur, by_package::blur_rows));
-        rows.push(reading(format!("blur by windows(3, 3), {name}"), *form, by_hand::blur, by_package::blur_windows));
-    }
+    rows.push(reading("blur by 3x3 of rows".into(), Form::Whole, by_hand::blur, by_package::blur_rows));
+    rows.push(reading("blur by windows(3, 3)".into(), Form::Whole, by_hand::blur, by_package::blur_windows));
     let (tiles, planes) = (PICTURE * PICTURE, PICTURE * PICTURE * 3);
     rows.push(lending(
         "100 tiles of 10x10, lent and filled, beside a loop",
