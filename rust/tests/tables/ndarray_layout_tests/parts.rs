@@ -71,21 +71,21 @@ pub fn are_parts_written<D: Lengths>(row: &mut Reading<'_>, array: &mut OwnedArr
 fn halves_written<D: Lengths>(
     array: &mut OwnedArray<usize, D>,
     (axis, coordinate): (usize, usize),
-    placed: &[(D, usize); 2],
+    (first, item): (&D, usize),
+    (second, another): (&D, usize),
 ) -> Result<bool, LayoutError> {
     let lent = array.as_view_mut()?;
     let (mut one, mut other) = lent.into_part().split_at(Axis(axis), coordinate)?;
-    let [(first, item), (second, another)] = placed;
-    let is_set = one.set(first, *item);
-    Ok(other.set(second, *another) && is_set)
+    let is_set = one.set(first, item);
+    Ok(other.set(second, another) && is_set)
 }
 
 /// Whether the two parts of an array along an axis are written so, or fail so, and these items are left.
 pub fn are_halves_written<D: Lengths>(row: &mut Reading<'_>, array: &mut OwnedArray<usize, D>) -> Option<bool> {
     let cut = (row.given.length()?, row.given.length()?);
-    let one = (row.given.dim()?, row.given.length()?);
-    let other = (row.given.dim()?, row.given.length()?);
-    let name = match halves_written(array, cut, &[one, other]) {
+    let (first, item): (D, usize) = (row.given.dim()?, row.given.length()?);
+    let (second, another): (D, usize) = (row.given.dim()?, row.given.length()?);
+    let name = match halves_written(array, cut, (&first, item), (&second, another)) {
         Ok(true) => "true",
         Ok(false) => "false",
         Err(fault) => layout_fault_name(&fault),
