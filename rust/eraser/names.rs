@@ -165,18 +165,18 @@ pub const UNSAFE: &[(&str, &str, &str)] = &[
     (
         "nd_parts",
         "Send",
-        "no other `Cells` has a mark that this one has (`array` of `new`, `all` of `split`), so it is sent as a `&mut [T]` of its elements would be.",
+        "no other `Cells` has a mark that this one has (`array` of `new`, `all` of `take_part`), so it is sent as a `&mut [T]` of its elements would be.",
     ),
     ("nd_parts", "Sync", "what is shared only reads (`get`), as a `&[T]` of its elements would."),
     (
         "nd_parts",
         "item_mut",
-        "the place has a mark, which the caller ensures; so it is one of the slice that was lent (`new`), and no other `Cells` has its mark (`all` of `split`). While the result is in use the part is borrowed, so nothing else reads or writes the element.",
+        "the place has a mark, which the caller ensures; so it is one of the slice that was lent (`new`), and no other `Cells` has its mark (`all` of `take_part`). While the result is in use the part is borrowed, so nothing else reads or writes the element.",
     ),
     (
         "nd_parts",
         "get",
-        "the place has a mark, which the caller ensures; so it is one of the slice that was lent (`new`), and no other `Cells` has its mark (`all` of `split`). While the result is in use this one is borrowed, so nothing writes the element.",
+        "the place has a mark, which the caller ensures; so it is one of the slice that was lent (`new`), and no other `Cells` has its mark (`all` of `take_part`). While the result is in use this one is borrowed, so nothing writes the element.",
     ),
     (
         "nd_parts",

@@ -12,13 +12,11 @@ mod rows;
 use crate::arrays::no_such_index;
 use crate::convenience::OUT_OF_MEMORY;
 use crate::nd_base::{LayoutError, Lengths};
-use crate::nd_parts::PartMut;
+use crate::nd_parts::{PartMut, PartRows};
 use crate::nd_shape::NdIndex;
-use crate::nd_slice::Fit;
 use crate::{ArrayViewMut, OwnedArray};
 use core::fmt;
 use core::ops::{Index, IndexMut};
-use elems::{Elems, WHOLE};
 pub use iter::PartIterMut;
 pub use multi_slice::MultiSliceArg;
 pub(crate) use own_items::has_own_items;
@@ -48,7 +46,7 @@ impl<T, D: Lengths> PartMut<'_, T, D> {
         self.view().is_empty()
     }
 
-    /// The part once more, for as long as this one is borrowed: `slice_mut` of all of it. ndarray's `view_mut`. Not proved.
+    /// The part once more, for as long as this one is borrowed: `reborrow`, which is proved. ndarray's `view_mut`. Not proved.
     ///
     /// # Panics
     ///
@@ -69,8 +67,35 @@ impl<T, D: Lengths> PartMut<'_, T, D> {
     #[inline]
     #[must_use]
     pub fn view_mut(&mut self) -> PartMut<'_, T, D> {
-        let whole = Elems::of(self.dim().ndim(), WHOLE).expect(OUT_OF_MEMORY);
-        self.slice_mut(&whole.as_slice(), Fit::Strict).expect(OUT_OF_MEMORY)
+        self.reborrow().expect(OUT_OF_MEMORY)
+    }
+
+    /// The rows along the last axis, in row-major order, each a part of its own, for as long as this one is borrowed:
+    /// `into_row_parts` of `view_mut`. Several may be used at once, and in threads. ndarray's `rows_mut`. Not proved.
+    ///
+    /// # Panics
+    ///
+    /// As `view_mut`.
+    ///
+    /// ```
+    /// use ndarray_layout::{ArrayViewMut, Ix2, LayoutError};
+    /// use std::thread;
+    ///
+    /// # fn main() -> Result<(), LayoutError> {
+    /// let mut items = [0; 6];
+    /// let mut turned = ArrayViewMut::from_shape(Ix2(2, 3).into(), &mut items)?.into_part().reversed_axes();
+    /// thread::scope(|scope| {
+    ///     for (mut row, number) in turned.rows_mut().zip(1..) {
+    ///         scope.spawn(move || row.fill(number));
+    ///     }
+    /// });
+    /// turned[(0, 1)] = 9;
+    /// assert_eq!(items, [1, 2, 3, 9, 2, 3]);
+    /// # Ok(())
+    /// # }
+    /// ```
+    pub fn rows_mut(&mut self) -> PartRows<'_, T, D> {
+        self.view_mut().into_row_parts()
     }
 
     /// Writes a copy of an item at each index. ndarray's `fill`. Not proved.
@@ -237,7 +262,7 @@ impl<T, D: Lengths> OwnedArray<T, D> {
 /// Who may have a part, and for how long. A thread may be lent one whose items it may be lent:
 ///
 /// ```
-/// use ndarray_layout::{Ix1, PartMut};
+/// use ndarray_layout::{Ix1, Ix2, PartItems, PartMut, PartRows};
 /// use std::cell::Cell;
 ///
 /// fn is_send<T: Send>() {}
@@ -245,6 +270,8 @@ impl<T, D: Lengths> OwnedArray<T, D> {
 /// is_send::<PartMut<'_, Cell<u8>, Ix1>>();
 /// is_send::<PartMut<'_, String, Ix1>>();
 /// is_sync::<PartMut<'_, String, Ix1>>();
+/// is_send::<PartItems<'_, Cell<u8>, Ix2>>();
+/// is_send::<PartRows<'_, Cell<u8>, Ix2>>();
 /// ```
 ///
 /// but not one whose items it may not, whether it is given the part or sees it:
@@ -252,6 +279,16 @@ impl<T, D: Lengths> OwnedArray<T, D> {
 /// ```compile_fail,E0277
 /// fn is_send<T: Send>() {}
 /// is_send::<ndarray_layout::PartMut<'_, std::rc::Rc<u8>, ndarray_layout::Ix1>>();
+/// ```
+///
+/// ```compile_fail,E0277
+/// fn is_send<T: Send>() {}
+/// is_send::<ndarray_layout::PartItems<'_, std::rc::Rc<u8>, ndarray_layout::Ix1>>();
+/// ```
+///
+/// ```compile_fail,E0277
+/// fn is_send<T: Send>() {}
+/// is_send::<ndarray_layout::PartRows<'_, std::rc::Rc<u8>, ndarray_layout::Ix1>>();
 /// ```
 ///
 /// ```compile_fail,E0277
@@ -270,6 +307,30 @@ impl<T, D: Lengths> OwnedArray<T, D> {
 ///     part = ArrayViewMut::from_shape(Ix1(2).into(), &mut items).unwrap().into_part();
 /// }
 /// println!("{}", part[0]);
+/// ```
+///
+/// nor does a row of it, or an item:
+///
+/// ```compile_fail,E0597
+/// use ndarray_layout::{ArrayViewMut, Ix2};
+///
+/// let row;
+/// {
+///     let mut items = [1, 2];
+///     row = ArrayViewMut::from_shape(Ix2(1, 2).into(), &mut items).unwrap().into_part().into_row_parts().next();
+/// }
+/// println!("{row:?}");
+/// ```
+///
+/// ```compile_fail,E0597
+/// use ndarray_layout::{ArrayViewMut, Ix2};
+///
+/// let item;
+/// {
+///     let mut items = [1, 2];
+///     item = ArrayViewMut::from_shape(Ix2(1, 2).into(), &mut items).unwrap().into_part().into_items().next();
+/// }
+/// println!("{item:?}");
 /// ```
 ///
 /// nobody else sees these before it is gone:
@@ -303,6 +364,17 @@ impl<T, D: Lengths> OwnedArray<T, D> {
 /// (first[0], second[0]) = (1, 2);
 /// ```
 ///
+/// or a row of it:
+///
+/// ```compile_fail,E0502
+/// use ndarray_layout::{ArrayViewMut, Ix2};
+///
+/// let mut items = [1, 2];
+/// let mut part = ArrayViewMut::from_shape(Ix2(1, 2).into(), &mut items).unwrap().into_part();
+/// let row = part.rows_mut().next();
+/// println!("{} {row:?}", part[(0, 0)]);
+/// ```
+///
 /// there aren't two of it:
 ///
 /// ```compile_fail,E0382
@@ -331,7 +403,7 @@ impl<T, D: Lengths> OwnedArray<T, D> {
 /// What a part stands on is no call of the package:
 ///
 /// ```compile_fail,E0603
-/// let cells = ndarray_layout::nd_cells::cells::Cells::new(&mut [1, 2]);
+/// use ndarray_layout::nd_parts::cells::Cells;
 /// ```
 #[cfg(doctest)]
 struct Lending;

@@ -127,7 +127,7 @@ fn number_columns(items: &mut [u32]) {
 #[inline(never)]
 fn number_items(items: &mut [u32]) {
     let mut number = 0;
-    for item in table(items).reversed_axes() {
+    for item in table(items).reversed_axes().into_items() {
         *item = number;
         number += 1;
     }

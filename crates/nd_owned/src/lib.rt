@@ -10,6 +10,7 @@ mod rows;
 
 pub use iterating::Items;
 pub use nd_lent::{
-    ArrayView, ArrayViewMut, Iter, LentRow, LentRows, PartMut, SplitViews, Unsigned,
+    ArrayView, ArrayViewMut, Iter, LentRow, LentRows, PartItems, PartMut, PartRows, SplitViews,
+    Unsigned,
 };
 pub use owned::OwnedArray;

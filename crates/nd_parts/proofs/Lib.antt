@@ -1,5 +1,7 @@
 pub mod ItemWritten
 pub mod Marks
+pub mod OwnPlaces
+pub mod OwnRows
 pub mod SliceOfPart
 pub mod SlicesApart
 pub mod laws

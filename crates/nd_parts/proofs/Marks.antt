@@ -106,16 +106,21 @@ module _ (marks : List Bool) (view : View) (part : AreMarked marks view) where
       let p = here_at index here in
       ap (has_mark (marks_of (length marks) view)) p.at ∙ marked view (length marks) p.place index here p.at p.below
 
+  -- a mark at a place of none of its indices is left
+  pub mark_left : (at : ℤ) → has_mark marks at ≡ true → ((index : List ℕ) → is_index view.shape index ≡ true → place_at view index ≡ at → ⊥)
+      → has_mark (without (marks_of (length marks) view) marks) at ≡ true
+  mark_left (pos place) mine apart =
+      let free : get_or (marks_of (length marks) view) place false ≡ false = false_from_ne_true _ (λ h.
+      let one = marked_at view (length marks) place h (below_marks marks place mine) in
+      apart one.0 one.1 one.2) in
+      left_by_place (marks_of (length marks) view) marks place (marks-length (length marks) view) mine free
+  mark_left (negsuc below) mine apart = absurd (false≢true mine)
+
   -- and a part that shares no place with it has those that are left
   pub part_of_others : (other : View) → AreMarked marks other → (SharePlace view other → ⊥)
       → AreMarked (without (marks_of (length marks) view) marks) other
   part_of_others other also apart index here =
-      let p = place_of marks other index (place_at other index) refl (also index here) in
-      let free : get_or (marks_of (length marks) view) p.place false ≡ false = false_from_ne_true _ (λ h.
-      let one = marked_at view (length marks) p.place h p.below in
-      apart (one.0, one.1, (index, here, one.2 ∙ sym p.at))) in
-      ap (has_mark (without (marks_of (length marks) view) marks)) p.at
-      ∙ left_by_place (marks_of (length marks) view) marks p.place (marks-length (length marks) view) p.mine free
+      mark_left (place_at other index) (also index here) (λ one is same. apart (one, is, (index, here, same)))
 
 -- a view of a part's items is a part where it was made of the part's view
 pub marked_step : {source : List ℕ → List ℕ} {old new : View} (marks : List Bool) → Descends source old new → AreMarked marks old

@@ -20,7 +20,7 @@ use Rattle.nd_parts.specs.Part.{has_mark, IsPart}
 use Rattle.nd_parts.proofs.laws.Neighbours.{got_between}
 
 -- a place that has a mark is one of those that may have one
-mark_in_bounds : (marks : List Bool) (place : ℕ) → get_or marks place false ≡ true → place < length marks
+pub mark_in_bounds : (marks : List Bool) (place : ℕ) → get_or marks place false ≡ true → place < length marks
 mark_in_bounds [] place h = absurd (false≢true h)
 mark_in_bounds (m ∷ marks) zero h = omega arith
 mark_in_bounds (m ∷ marks) (suc place) h = let below = mark_in_bounds marks place h in omega arith
@@ -30,7 +30,7 @@ marked_in_bounds marks (pos place) h = mark_in_bounds marks place h
 marked_in_bounds marks (negsuc below) h = absurd (false≢true h)
 
 -- marks at so many places from one on, where each of these has one
-span_within : (start len : ℕ) (marks : List Bool) → ((k at : ℕ) → k < len → start + k ≡ at → get_or marks at false ≡ true)
+pub span_within : (start len : ℕ) (marks : List Bool) → ((k at : ℕ) → k < len → start + k ≡ at → get_or marks at false ≡ true)
     → are_within (span_of start len marks) marks ≡ true
 span_within start len [] h = refl
 span_within (suc start) len (m ∷ marks) h =

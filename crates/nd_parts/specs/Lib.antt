@@ -1,7 +1,10 @@
 pub mod ArrayOfStep
 pub mod Cells
 pub mod Items
+pub mod ItemsLeft
 pub mod Lending
 pub mod Lent
+pub mod Own
 pub mod Part
+pub mod RowsLeft
 pub mod Slices

@@ -38,31 +38,6 @@ unsafe impl<T: Send> Send for Cells<'_, T> {}
 unsafe impl<T: Sync> Sync for Cells<'_, T> {}
 
 impl<'a, T> Cells<'a, T> {
-    /// The right to some of the elements, and the right to the others. The caller ensures that the chosen ones have a mark; a proof says
-    /// which they are, by the value that is given, and no code reads that. Both may be used at once, and in threads.
-    ///
-    /// Of 7 8 9 with the first and third chosen: one may write 7 and 9, the other 8. The project's own.
-    pub(crate) fn split<V>(self, _by: &V) -> (Self, Self)
-        ghost chosen: { List Bool }
-        requires { IsTrue (are_within chosen self.marks) }
-        ensures* writes_back { sem 𝓛 (follows_both (Array T.row 0) (Array T.row 0) (Array T.row 0)
-            self.entry.name result.0.name result.1.name (chosen_of chosen)) }
-        ensures all { (result.0.items ≡ self.entry.items) × (result.1.items ≡ self.entry.items)
-            × (result.0.marks ≡ chosen) × (result.1.marks ≡ without chosen self.entry.marks) }
-    {
-        let first = self.first;
-        (
-            Cells {
-                first,
-                mark: PhantomData,
-            },
-            Cells {
-                first,
-                mark: PhantomData,
-            },
-        )
-    }
-
     /// The element at a place, counted in elements from the first of the slice, to be read. The caller ensures that it has a mark.
     ///
     /// Of 7 8 9, place 1 is 8. The project's own.
@@ -71,6 +46,25 @@ impl<'a, T> Cells<'a, T> {
         ensures { slice_get self.now.items place ≡ Some result.now }
     {
         unsafe { &*self.first.add(place) }
+    }
+
+    /// The right to some of the elements, for as long as the whole is lent; the right to the others stays. The caller ensures that the
+    /// chosen ones have a mark; a proof says which they are, by the value that is given, and no code reads that. Both may be used at
+    /// once, and in threads.
+    ///
+    /// Of 7 8 9 with the first and third chosen: one may write 7 and 9, the other 8. The project's own.
+    pub(crate) fn take_part<V>(&mut self, _by: &V) -> Self
+        ghost chosen: { List Bool }
+        requires { IsTrue (are_within chosen self.old.marks) }
+        ensures* writes_back { sem 𝓛 (follows_both (Array T.row 0) (Array T.row 0) (Array T.row 0)
+            self.old.name result.name self.new.name (chosen_of chosen)) }
+        ensures all { (result.items ≡ self.old.items) × (self.new.items ≡ self.old.items)
+            × (result.marks ≡ chosen) × (self.new.marks ≡ without chosen self.old.marks) }
+    {
+        Cells {
+            first: self.first,
+            mark: PhantomData,
+        }
     }
 
     /// So many elements from a place on, as a slice for as long as the whole is lent; the right to the others stays. The caller ensures

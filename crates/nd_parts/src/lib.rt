@@ -4,4 +4,4 @@
 mod cells;
 mod part;
 
-pub use part::PartMut;
+pub use part::{PartItems, PartMut, PartRows};

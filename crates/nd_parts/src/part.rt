@@ -13,12 +13,16 @@ ghost use Rattle.nd_parts.specs.Items.{IsOwned};
 ghost use Rattle.nd_parts.specs.Part.{IsPart, IsPart-prop};
 
 mod axes;
+mod items;
 mod making;
+mod rows;
 mod slices;
 mod steps;
 
 use crate::cells::Cells;
+pub use items::PartItems;
 use ndarray_layout::{Axis, LayoutError, Lengths, NdIndex, Order, Strided};
+pub use rows::PartRows;
 use std::alloc::Global;
 use std::mem::replace;
 
@@ -175,14 +179,15 @@ impl<'a, T: Drop, D: Lengths> PartMut<'a, T, D> {
     {
         let PartMut { cells, view } = self;
         let (first, second) = view.split_at(alloc, axis, index)?;
-        let (one, other) = cells.split(&first);
+        let mut cells = cells;
+        let one = cells.take_part(&first);
         Ok((
             PartMut {
                 cells: one,
                 view: first,
             },
             PartMut {
-                cells: other,
+                cells,
                 view: second,
             },
         ))

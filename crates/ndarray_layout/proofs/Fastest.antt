@@ -1,9 +1,9 @@
 -- A view by the axis that moves fastest in an order: its other axes are a view whose places begin the rows along that axis.
 use Rattle.std.proofs.Common.{◌≡◌, ℕ, zero, suc, ◌+◌, ◌*◌, ◌-◌, ◌/◌, ◌%◌, ◌<◌, ◌≤◌, ℤ, pos, ◌+ℤ◌, ◌*ℤ◌, List, [], ◌∷◌, ◌++◌}
-use Rattle.std.proofs.Common.{true, refl, sym, ap, ◌∙◌, arith, length-append, length, get_or, map, take}
+use Rattle.std.proofs.Common.{true, false, refl, sym, ap, ◌∙◌, arith, length-append, length, get_or, map, take}
 use Rattle.std.proofs.Math.Nat.{div-one, mod-eq_of_lt}
 use Rattle.std.proofs.Math.Seq.{get_or-append_seam, take-append_seam, take-length}
-use Rattle.std.proofs.lemmas.Bool.{and_from, lt-ltb}
+use Rattle.std.proofs.lemmas.Bool.{and_from, and_parts, lt-ltb, ltb-true}
 use Rattle.std.proofs.lemmas.Int.{ints}
 use Rattle.std.proofs.Math.IntN.{zero-*ℤ}
 use Rattle.std.specs.Prelude.{max, nat_lt}
@@ -12,9 +12,9 @@ use Rattle.std.proofs.lemmas.List.{length-map, map-append, reverse-append, take_
 use Rattle.std.proofs.lemmas.Nat.{div-add-mod', mod_below, mod-mul-add, div-mul-add, mul-add-lt}
 use Rattle.nd_base.specs.declared.order.Order.{Order}
 use Rattle.nd_base.specs.declared.order.Order.TheVariants.{RowMajor, ColumnMajor}
-use Rattle.nd_base.proofs.laws.Definitions.{is_index, as_read, index_of_flat, index_of_flat_in, nonzero_size, offset_of}
+use Rattle.nd_base.proofs.laws.Definitions.{is_index, as_read, index_of_flat, index_of_flat_in, limit, nonzero_size, offset_of}
 use Rattle.nd_base.proofs.laws.Definitions.{size}
-use Rattle.nd_base.proofs.laws.NonzeroSize.{length_le_nonzero_size, nonzero_size-push}
+use Rattle.nd_base.proofs.laws.NonzeroSize.{length_le_nonzero_size, nonzero_size-push, nonzero_size_of_other}
 use Rattle.nd_base.proofs.laws.Offset.{offset_of-push}
 use Rattle.nd_base.proofs.laws.AsRead.{as_read-as_read, length-as_read, nonzero_size-as_read, offset_of-as_read}
 use Rattle.nd_base.proofs.laws.AsRead.{size-as_read}
@@ -27,7 +27,7 @@ use Rattle.ndarray_layout.proofs.matching.FlatOffsets.{length-index_of_flat}
 use Rattle.ndarray_layout.proofs.ByRows.{by_last_axis, rows_from}
 use Rattle.ndarray_layout.proofs.ReadView.{places-as_read}
 use Rattle.ndarray_layout.proofs.BlockSteps.{is_index-joined}
-use Rattle.ndarray_layout.proofs.laws.Sources.{IsView-from_filled, at_least, nonzero_size-apart}
+use Rattle.ndarray_layout.proofs.laws.Sources.{IsView-from_filled, at_least, is_index-at_least, nonzero_size-apart}
 
 -- ---- lists with an item for each axis
 -- read from the slowest axis on, the item of the fastest one is the last
@@ -144,6 +144,36 @@ module _ (order : Order) {start : ℕ} {shape lens : List ℕ} {strides others :
       let long = length_of_index (at_least 1 lens) index here in
       let moved = offset_of-with_item order others index stride 0 (omega (arith, long, counts, length-map lens (max 1))) in
       (within index here, omega (arith, ints, ap (λ all. offset_of all (source index)) g.is, moved, zero-*ℤ stride)))
+
+  -- and so is that axis alone, from the place of an index of the others
+  pub IsView-along : {place : ℕ} (at : List ℕ) → is_index lens at ≡ true → 0 < len → pos place ≡ pos start +ℤ offset_of others at
+      → IsView (record { start = place; shape = len ∷ []; strides = stride ∷ [] })
+  IsView-along {place} at there some begins =
+      IsView-from_filled (λ index. with_item order at (get_or index 0 0)) v refl fits along
+    where
+      fits : nonzero_size (len ∷ []) ≤ limit
+      fits = omega (arith, nonzero_size_of_other len [] (λ none. omega (arith, none)), len_le_nonzero_size e, v.valid.size_fits)
+
+      counts : length others ≡ length at
+      counts = omega (arith, length_of_index lens at there, length-others e, length-others g, v.valid.same_count)
+
+      along : (index : List ℕ) → is_index (at_least 1 (len ∷ [])) index ≡ true
+          → (is_index (at_least 1 shape) (with_item order at (get_or index 0 0)) ≡ true)
+          × (pos place +ℤ offset_of (stride ∷ []) index ≡ pos start +ℤ offset_of strides (with_item order at (get_or index 0 0)))
+      along [] here = absurd (cc)
+      along (i ∷ []) here = (
+        ap (λ all. is_index all (with_item order at i)) (ap (at_least 1) e.is ∙ map-with_item order (max 1) lens len)
+            ∙ is_index-with_item order (at_least 1 lens) at (max 1 len) i (is_index-at_least lens at there)
+            (ltb-true i (max 1 len) (and_parts (nat_lt i (max 1 len)) true here).0),
+        omega (
+          arith,
+          ints,
+          begins,
+          ap (λ all. offset_of all (with_item order at i)) g.is,
+          offset_of-with_item order others at stride i counts,
+        ),
+      )
+      along (i ∷ j ∷ index) here = let more = (and_parts (nat_lt i (max 1 len)) false here).1 in absurd (cc)
 
   -- whose places begin the rows
   pub places-others : view_places order (record { start = start; shape = shape; strides = strides })

@@ -10,6 +10,7 @@ pub mod FromStart
 pub mod MarkedAxes
 pub mod Merged
 pub mod NextRow
+pub mod NthRow
 pub mod OneAxis
 pub mod Passed
 pub mod PickedSize

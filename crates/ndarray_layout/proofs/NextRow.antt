@@ -97,7 +97,7 @@ pub flat_within : (order : Order) {view : View} → IsView view → (r : ℕ) �
     → IsPlace (place_at view (index_of_flat_in order view.shape r))
 flat_within order {view} v r below = view_place (index_of_flat_in order view.shape r) v (is_index-index_of_flat_in order view.shape r below)
 
-below_factor : (n len count more : ℕ) → n * len + more ≡ len * count → 0 < more → n < count
+pub below_factor : (n len count more : ℕ) → n * len + more ≡ len * count → 0 < more → n < count
 below_factor n len count more e some = elim (cases_lt n count) [
   | inl below ↦ below
   | inr above ↦ absurd (omega (arith, mul-le-mul_left len above))

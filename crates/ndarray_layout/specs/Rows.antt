@@ -1,6 +1,7 @@
 -- The rows of a view: along the axis that moves fastest in an order, one for each index of the axes that move slower.
 use Rattle.std.specs.Prelude.{◌≡◌, ℕ, ◌-◌, ◌==◌, ℤ, pos, negsuc, ◌+ℤ◌, ◌*ℤ◌, List, [], ◌∷◌, if◌then◌else◌, length, map, take, drop}
-use Rattle.std.specs.Prelude.{slice_index_or, refl}
+use Rattle.std.specs.Prelude.{Some, None, slice_get, slice_index_or, refl}
+use Rattle.std.specs.Option.{option_map}
 use Rattle.std.specs.List.{flat_map}
 use Rattle.nd_base.specs.declared.order.Order.{Order}
 use Rattle.nd_base.specs.declared.order.Order.TheVariants.{RowMajor, ColumnMajor}
@@ -49,6 +50,10 @@ abbrev pub view_rows : Order → View → List Row
 view_rows order view =
     (if size view.shape == 0 then [] else map (row_at order view) (view_places order (slower_view order view)))
 
+-- a row as a view of one axis
+abbrev pub row_view : Row → View
+row_view row = record { start = row.start; shape = row.len ∷ []; strides = row.stride ∷ [] }
+
 -- examples
 backwards : row_places 5 (negsuc 1) 3 ≡ pos 5 ∷ pos 3 ∷ pos 1 ∷ []
 backwards = refl
@@ -62,6 +67,13 @@ two_of_three = record { start = 3; shape = 2 ∷ 3 ∷ []; strides = negsuc 2 �
 by_rows : view_rows RowMajor two_of_three
     ≡ record { start = 3; stride = pos 1; len = 3 } ∷ record { start = 0; stride = pos 1; len = 3 } ∷ []
 by_rows = refl
+
+second_by_rows : option_map row_view (slice_get (view_rows RowMajor two_of_three) 1)
+    ≡ Some (record { start = 0; shape = 3 ∷ []; strides = pos 1 ∷ [] })
+second_by_rows = refl
+
+no_third : option_map row_view (slice_get (view_rows RowMajor two_of_three) 2) ≡ None
+no_third = refl
 
 by_columns : view_rows ColumnMajor two_of_three
     ≡ record { start = 3; stride = negsuc 2; len = 2 } ∷ record { start = 4; stride = negsuc 2; len = 2 }

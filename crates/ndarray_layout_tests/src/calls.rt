@@ -23,10 +23,11 @@ enum Call {
     Array(OfArray),
 }
 
-static CALLS: [(&str, Call); 12] = [
+static CALLS: [(&str, Call); 13] = [
     ("new", View(OfView::New)),
     ("from_shape", View(OfView::FromShape)),
     ("slice_in_order", View(OfView::SliceInOrder)),
+    ("nth_row", View(OfView::NthRow)),
     ("run", Run),
     ("reshape_dim_C", Reshape(RowMajor)),
     ("reshape_dim_F", Reshape(ColumnMajor)),

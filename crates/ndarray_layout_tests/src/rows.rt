@@ -97,6 +97,24 @@ run 4 owned 4 1 clamp 9..;0 => 0 Unsupported 4 1 0";
     hold(&rt, rt.alloc(), table);
 }
 
+/// Rows of views by their numbers: of two axes, of none, where a length is 0, and of five axes.
+const BY_NUMBER: &str = "\
+nth_row Ix2 6 owned 2,3 -3,1 C 1 => 3 1 0 0,1,2
+nth_row Ix2 6 owned 2,3 -3,1 F 1 => 2 -3 4 4,1
+nth_row Ix2 6 owned 2,3 -3,1 C 2 => None
+nth_row Ix2 6 owned 2,3 -3,1 F 3 => None
+nth_row Ix0 1 owned - - C 0 / Ix0 1 owned - - F 0 => 1 0 0 0
+nth_row Ix0 1 owned - - C 1 / Ix0 1 owned - - F 1 => None
+nth_row Ix2 6 owned 2,0 3,1 C 0 / Ix2 6 owned 2,0 3,1 F 0 => None
+nth_row IxDyn 12 owned 2,1,3,1,2 -6,9,1,9,3 C 4 => 2 3 1 1,4
+nth_row IxDyn 12 owned 2,1,3,1,2 -6,9,1,9,3 F 4 => 2 -6 10 10,4
+nth_row IxDyn 12 owned 2,1,3,1,2 -6,9,1,9,3 C 6 => None";
+
+#[test]
+fn rows_by_number(rt: HostRuntime) {
+    hold(&rt, rt.alloc(), BY_NUMBER);
+}
+
 /// Two rows of three items, with a spare one.
 const TWO_ROWS: &str = "\
 items Ix2 2,3 C 7 ..;-1,1.. => 4,5,1,2

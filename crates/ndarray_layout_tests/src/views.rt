@@ -17,7 +17,11 @@ pub enum OfView {
     FromShape,
     /// `LEN owned|read SHAPE STRIDES ARGUMENT => WAY SHAPE STRIDES`: in which ways the places of a slice lie in order.
     SliceInOrder,
+    /// `LEN owned|read SHAPE STRIDES C|F NUMBER => VIEW`: the row of a number, or `None`.
+    NthRow,
 }
+
+static ORDERS: [(&str, Order); 2] = [("C", Order::RowMajor), ("F", Order::ColumnMajor)];
 
 static MODES: [(&str, CanIndexCheckMode); 2] = [("owned", OwnedMutable), ("read", ReadOnly)];
 
@@ -99,6 +103,17 @@ fn is_in_order<D: Lengths>(alloc: Global, row: &mut Reading<'_>) -> Option<bool>
     Some(row.answer.is(ways_of(&slice)) && row.answer.is_list(dim) && row.answer.is_list(strides))
 }
 
+/// Whether a row of a table tells the row of a view by its number.
+fn is_nth_row<D: Lengths>(alloc: Global, row: &mut Reading<'_>) -> Option<bool> {
+    let view = view::<D>(alloc, &mut row.given)?.ok()?;
+    let order = meaning(&ORDERS, row.given.word()?)?;
+    let number = row.given.length()?;
+    match view.nth_row(order, number) {
+        Some(nth) => Some(is_told(alloc, row, Ok(nth))),
+        None => Some(row.answer.is("None")),
+    }
+}
+
 /// A row about a view.
 struct OfRow<'a, 'b> {
     row: &'a mut Reading<'b>,
@@ -120,6 +135,7 @@ impl AtType for OfRow<'_, '_> {
                 Some(is_told(alloc, row, view))
             }
             OfView::SliceInOrder => is_in_order::<D>(alloc, row),
+            OfView::NthRow => is_nth_row::<D>(alloc, row),
         }
     }
 }

@@ -1,11 +1,11 @@
 //! Iterators: over the indices of shapes of any number of axes, and what iterators print.
 
 use super::OUT_OF_MEMORY;
-use crate::nd_base::{IxDyn, new_ixdyn};
+use crate::nd_base::{IxDyn, Lengths, new_ixdyn};
 use crate::nd_dim::Dimension;
 use crate::nd_shape::{IndexCursor, IndexCursorF, IndicesIter, IndicesIterF};
-use crate::ndarray_layout::{Places, Rows};
-use crate::{Items, Iter, LentRows};
+use crate::ndarray_layout::{IntoPlaces, Places, Rows};
+use crate::{Items, Iter, LentRows, PartItems, PartRows};
 use core::fmt;
 use core::iter::FusedIterator;
 
@@ -18,6 +18,13 @@ fn print_left(f: &mut fmt::Formatter<'_>, name: &str, left: usize) -> fmt::Resul
 impl fmt::Debug for Places<'_> {
     fn fmt(&self, f: &mut fmt::Formatter<'_>) -> fmt::Result {
         print_left(f, "Places", self.len())
+    }
+}
+
+/// Not proved.
+impl<D: Lengths> fmt::Debug for IntoPlaces<D> {
+    fn fmt(&self, f: &mut fmt::Formatter<'_>) -> fmt::Result {
+        print_left(f, "IntoPlaces", self.len())
     }
 }
 
@@ -46,6 +53,20 @@ impl<T> fmt::Debug for Iter<'_, T> {
 impl<T> fmt::Debug for LentRows<'_, T> {
     fn fmt(&self, f: &mut fmt::Formatter<'_>) -> fmt::Result {
         print_left(f, "LentRows", self.len())
+    }
+}
+
+/// Not proved.
+impl<T, D: Lengths> fmt::Debug for PartItems<'_, T, D> {
+    fn fmt(&self, f: &mut fmt::Formatter<'_>) -> fmt::Result {
+        print_left(f, "PartItems", self.len())
+    }
+}
+
+/// Not proved.
+impl<T, D: Lengths> fmt::Debug for PartRows<'_, T, D> {
+    fn fmt(&self, f: &mut fmt::Formatter<'_>) -> fmt::Result {
+        print_left(f, "PartRows", self.len())
     }
 }
 

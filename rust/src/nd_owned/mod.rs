@@ -23,6 +23,8 @@ mod owned;
 mod picked_view;
 mod rows;
 
-pub use crate::nd_lent::{ArrayView, ArrayViewMut, Iter, LentRow, LentRows, PartMut, SplitViews, Unsigned};
+pub use crate::nd_lent::{
+    ArrayView, ArrayViewMut, Iter, LentRow, LentRows, PartItems, PartMut, PartRows, SplitViews, Unsigned,
+};
 pub use iterating::Items;
 pub use owned::OwnedArray;

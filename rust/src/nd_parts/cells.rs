@@ -16,38 +16,14 @@ pub(crate) struct Cells<'a, T> {
     mark: PhantomData<&'a mut T>,
 }
 
-// SAFETY: no other `Cells` has a mark that this one has (`array` of `new`, `all` of `split`), so it is sent as a `&mut
-// [T]` of its elements would be.
+// SAFETY: no other `Cells` has a mark that this one has (`array` of `new`, `all` of `take_part`), so it is sent as a
+// `&mut [T]` of its elements would be.
 unsafe impl<T: Send> Send for Cells<'_, T> {}
 
 // SAFETY: what is shared only reads (`get`), as a `&[T]` of its elements would.
 unsafe impl<T: Sync> Sync for Cells<'_, T> {}
 
 impl<'a, T> Cells<'a, T> {
-    /// The right to some of the elements, and the right to the others. Both may be used at once, and in threads.
-    ///
-    /// Of 7 8 9 with the first and third chosen: one may write 7 and 9, the other 8. The project's own.
-    ///
-    /// # Conditions
-    ///
-    /// The caller ensures that the chosen ones have a mark; a proof says which they are, by the value that is given,
-    /// and no code reads that. Otherwise the behaviour is undefined.
-    ///
-    /// <details><summary>Contract (proved)</summary>
-    ///
-    /// ```text
-    /// requires IsTrue (are_within chosen self.marks)
-    /// ensures all: (result.0.items ≡ self.entry.items) × (result.1.items ≡ self.entry.items)
-    ///     × (result.0.marks ≡ chosen) × (result.1.marks ≡ without chosen self.entry.marks)
-    /// ```
-    /// [How to read it](crate::contracts)
-    /// </details>
-    #[inline]
-    pub(crate) fn split<V>(self, _by: &V) -> (Self, Self) {
-        let first = self.first;
-        (Cells { first, mark: PhantomData }, Cells { first, mark: PhantomData })
-    }
-
     /// The element at a place, counted in elements from the first of the slice, to be read.
     ///
     /// Of 7 8 9, place 1 is 8. The project's own.
@@ -67,9 +43,33 @@ impl<'a, T> Cells<'a, T> {
     #[inline]
     pub(crate) fn get(&self, place: usize) -> &T {
         // SAFETY: the place has a mark, which the caller ensures; so it is one of the slice that was lent (`new`), and
-        // no other `Cells` has its mark (`all` of `split`). While the result is in use this one is borrowed, so nothing
-        // writes the element.
+        // no other `Cells` has its mark (`all` of `take_part`). While the result is in use this one is borrowed, so
+        // nothing writes the element.
         unsafe { &*self.first.add(place) }
+    }
+
+    /// The right to some of the elements, for as long as the whole is lent; the right to the others stays. Both may be
+    /// used at once, and in threads.
+    ///
+    /// Of 7 8 9 with the first and third chosen: one may write 7 and 9, the other 8. The project's own.
+    ///
+    /// # Conditions
+    ///
+    /// The caller ensures that the chosen ones have a mark; a proof says which they are, by the value that is given,
+    /// and no code reads that. Otherwise the behaviour is undefined.
+    ///
+    /// <details><summary>Contract (proved)</summary>
+    ///
+    /// ```text
+    /// requires IsTrue (are_within chosen self.old.marks)
+    /// ensures all: (result.items ≡ self.old.items) × (self.new.items ≡ self.old.items)
+    ///     × (result.marks ≡ chosen) × (self.new.marks ≡ without chosen self.old.marks)
+    /// ```
+    /// [How to read it](crate::contracts)
+    /// </details>
+    #[inline]
+    pub(crate) fn take_part<V>(&mut self, _by: &V) -> Self {
+        Cells { first: self.first, mark: PhantomData }
     }
 
     /// So many elements from a place on, as a slice for as long as the whole is lent; the right to the others stays.
@@ -153,8 +153,8 @@ impl<'a, T, D: Lengths> PartMut<'a, T, D> {
     #[inline]
     pub(crate) fn item_mut(&mut self, place: usize) -> &mut T {
         // SAFETY: the place has a mark, which the caller ensures; so it is one of the slice that was lent (`new`), and
-        // no other `Cells` has its mark (`all` of `split`). While the result is in use the part is borrowed, so nothing
-        // else reads or writes the element.
+        // no other `Cells` has its mark (`all` of `take_part`). While the result is in use the part is borrowed, so
+        // nothing else reads or writes the element.
         unsafe { &mut *self.cells.first.add(place) }
     }
 

@@ -2,13 +2,17 @@
 //! A part of an array: a view, and the right to its items alone.
 
 mod making;
+mod rows;
 mod steps;
 mod axes;
+mod items;
 mod slices;
 
 use crate::nd_parts::cells::Cells;
 use crate::ndarray_layout::{Axis, LayoutError, Lengths, NdIndex, Order, Strided};
 use core::mem::replace;
+pub use items::PartItems;
+pub use rows::PartRows;
 
 /// A part of an array, to be read and written beside other parts of the same items: a view, and the right to the items at its
 /// places, at the price of a pointer. Nothing else of the items is read or written.
@@ -306,7 +310,8 @@ impl<'a, T: Sized, D: Lengths> PartMut<'a, T, D> {
     pub fn split_at(self, axis: Axis, index: usize) -> Result<(Self, Self), LayoutError> {
         let PartMut { cells, view } = self;
         let (first, second) = view.split_at(axis, index)?;
-        let (one, other) = cells.split(&first);
-        Ok((PartMut { cells: one, view: first }, PartMut { cells: other, view: second }))
+        let mut cells = cells;
+        let one = cells.take_part(&first);
+        Ok((PartMut { cells: one, view: first }, PartMut { cells, view: second }))
     }
 }

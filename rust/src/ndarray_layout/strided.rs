@@ -23,10 +23,13 @@ mod broadcasting;
 mod stretch;
 mod intersecting;
 mod blocks;
+mod into_places;
 mod moving;
+mod nth_row;
 mod picked_size;
 
 use crate::nd_base::Lengths;
+pub use into_places::IntoPlaces;
 pub use iter_places::Places;
 pub use rows::{Row, Rows};
 

@@ -28,8 +28,9 @@ fn add_rows<'a, T, D: Lengths>(
 }
 
 impl<'a, T, D: Lengths> PartMut<'a, T, D> {
-    /// The rows, each lent on its own, in row-major order, and the end of this value: where the items along the last axis lie side
-    /// by side, each row of these; else each item as a row of its own. ndarray's `rows_mut`. Not proved.
+    /// The rows as slices, each lent on its own, in row-major order, and the end of this value: where the items along the last axis
+    /// lie side by side, each row of these; else each item as a row of its own. `into_row_parts` has rows of any stride, without a
+    /// list of them. Not proved.
     ///
     /// # Errors
     ///

@@ -50,3 +50,23 @@ fn cutting_takes_no_memory_and_rows_take_a_list() {
         Ok(rows_mut(&mut numbers).reversed_axes().into_part().into_rows().map(drop)?)
     });
 }
+
+#[test]
+fn running_over_takes_no_memory_and_lending_again_a_view_of_many_axes() {
+    refuses_each(0, || {
+        let mut numbers = NUMBERS;
+        let mut part = rows_mut(&mut numbers).reversed_axes().into_part();
+        part.reborrow()?.into_items().for_each(|item| *item += 1);
+        part.into_row_parts().for_each(|mut row| row.fill(9));
+        Ok(())
+    });
+    // of more than four axes a shape and strides, twice: of the array, and of the part once more
+    refuses_each(4, || {
+        let mut numbers = NUMBERS;
+        let shape = new_dim(&[1, 1, 1, 3, 2][..])?;
+        let mut part = ArrayViewMut::from_shape(shape.into(), &mut numbers)?.into_part();
+        part.reborrow()?.into_row_parts().for_each(|mut row| row.fill(9));
+        part.into_items().for_each(|item| *item += 1);
+        Ok(())
+    });
+}

@@ -13,7 +13,7 @@ use std::thread;
 const THREADS: usize = 4;
 
 /// How many arrays there are of each type; the variable `ARRAYS` says it for slower runs.
-fn arrays() -> usize {
+pub fn arrays() -> usize {
     env::var("ARRAYS").map_or(1_000, |count| count.parse().expect("a count"))
 }
 

@@ -306,6 +306,13 @@ fn places_of<D: Lengths>(view: &View, order: Order) -> Result<Vec<usize>, Layout
     assert!(view.iter_places(order).eq(places.iter().copied()), "{places:?}");
     assert!(view.rows(order).flat_map(of_row).eq(places.iter().copied()), "{places:?}");
     assert!(view.rows(order).all(|row| row.len > 0 && row.len * view.rows(order).len() == places.len()));
+    let nth_row = |number| view.nth_row(order, number);
+    assert!(
+        view.rows(order)
+            .enumerate()
+            .all(|(k, row)| nth_row(k).is_some_and(|nth| nth.iter_places(order).eq(of_row(row))))
+    );
+    assert!(nth_row(view.rows(order).len()).is_none());
     Ok(places)
 }
 

@@ -2,7 +2,6 @@
 --     word p           the machine value of cells whose first lies at p.        word_typed     it has its type
 --     cells_had        a proof's step: of a value to its machine value and to what it holds.        cells_made     the other way
 use mathlib.Core.Path.{◌≡◌, refl, ◌∙◌}
-use mathlib.Core.Bool.{true, ◌&&◌}
 use mathlib.Core.List.{List, [], ◌∷◌, ◌++◌}
 use seplogic.Ra.Ura.{Ura}
 use lib.Dec.{T, lit<}
@@ -33,12 +32,6 @@ module _ (κ : NamedLft) (R : RattleType) where
   pub word_typed : (p : Ptr) → T (has_ty (layout (C-type.the_row κ R)) (word p)) × WT (word p)
   word_typed (block_ptr b o) = (tt, (tt, (tt, tt)))
   word_typed null_ptr = (tt, (record { fits = lit< tt }, (tt, tt)))
-
-  pub pair_typed : (p : Ptr)
-      → T (has_ty (layout (C-type.the_row κ R)) (word p) && (has_ty (layout (C-type.the_row κ R)) (word p) && true))
-      × (WT (word p) × (WT (word p) × Unit {0}))
-  pair_typed (block_ptr b o) = (tt, ((tt, (tt, tt)), ((tt, (tt, tt)), tt)))
-  pair_typed null_ptr = (tt, ((record { fits = lit< tt }, (tt, tt)), ((record { fits = lit< tt }, (tt, tt)), tt)))
 
   abbrev pub It : RattleType
   It = C-type.the_row κ R

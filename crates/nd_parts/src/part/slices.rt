@@ -28,12 +28,11 @@ fn parts_of_slices<'a, T: Drop, D: Lengths, S: SliceElems>(
     ensures parts { IfOk result (λ parts. map array_of parts.items ≡
         map (slice_array cells.entry.items view.now) (map S.list slices.now)) }
 {
-    let mut parts = Vec::new(alloc);
+    let mut parts = Vec::with_capacity(alloc, slices.len())?;
     let mut left = cells;
     for slice in slices {
         let picked: Strided<IxDyn> = view.slice(alloc, slice, Fit::Strict)?;
-        let (one, others) = left.split(&picked);
-        left = others;
+        let one = left.take_part(&picked);
         parts.push(PartMut::of_cells(one, picked))?;
     }
     Ok(parts)

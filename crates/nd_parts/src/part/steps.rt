@@ -16,7 +16,7 @@ ghost use Rattle.nd_parts.specs.ArrayOfStep.{IsArrayOfStep};
 
 use crate::part::PartMut;
 use ndarray_layout::{Axis, Fit, LayoutError, Lengths, Order, RemoveAxis, SliceElems};
-use std::alloc::Global;
+use std::alloc::{AllocError, Global};
 
 impl<'a, T: Drop, D: Lengths> PartMut<'a, T, D> {
     ghost use Rattle.nd_parts.specs.Lent.{array_of};
@@ -46,7 +46,7 @@ impl<'a, T: Drop, D: Lengths> PartMut<'a, T, D> {
     }
 
     /// The part of the items that a slice argument leaves, for as long as this one is borrowed: `Strided::slice`, with its errors.
-    /// Once it is gone, this part has what was written.
+    /// Once it is gone, this part has what was written; no clause says so.
     ///
     /// `1..` of `[3]` over 7 8 9: 8 9. ndarray's `slice_mut`.
     #[tactic(auto, using(crate::proofs::Marks::part_descendant))]
@@ -65,6 +65,21 @@ impl<'a, T: Drop, D: Lengths> PartMut<'a, T, D> {
             (slice_of fit (S.list slices.now)) (array_of self.old) (array_of a)) }
     {
         let view = self.view.slice(alloc, slices, fit)?;
+        Ok(self.borrowed(view))
+    }
+
+    /// The part once more, for as long as this one is borrowed. Once it is gone, this part has what was written; no clause says so.
+    ///
+    /// # Errors
+    ///
+    /// Out of memory; never where the type fixes the count of axes or there are at most 4.
+    ///
+    /// ndarray's `view_mut`.
+    pub fn reborrow(&mut self, alloc: Global) -> Result<PartMut<'_, T, D>, AllocError>
+        ensures memory { NeedsNoMemory D.NDIM (length (array_of self.old).view.shape) → IsOk result }
+        ensures array { IfOk result (λ a. array_of a ≡ array_of self.old) }
+    {
+        let view = self.view.duplicate(alloc)?;
         Ok(self.borrowed(view))
     }
 

@@ -1,25 +1,29 @@
 -- Laws of the rows of a view: their places one after another are those of the view, each row has one, and each lies where the view does.
 use Rattle.std.proofs.Common.{◌≡◌, ℕ, zero, suc, ◌+◌, ◌*◌, ◌<◌, ◌^◌, ℤ, pos, negsuc, ◌+ℤ◌, ◌*ℤ◌, ◌≤ℤ◌, Bool, true, false, cond, List}
 use Rattle.std.proofs.Common.{[], ◌∷◌, ◌++◌}
-use Rattle.std.proofs.Common.{length, get_or, map, nat_eq, refl, sym, ap, subst, ◌∙◌, arith, pos_of_ne-zero, eqb-true}
+use Rattle.std.proofs.Common.{◌≤◌, Some, None, drop, drop-cons, add-one, length, length-append, get_or, map, nat_eq, refl, sym, ap}
+use Rattle.std.proofs.Common.{subst, ◌∙◌, arith, pos_of_ne-zero, eqb-true}
+use Rattle.std.specs.Prelude.{slice_get}
 use Rattle.std.specs.List.{All}
-use Rattle.std.proofs.Math.Seq.{drop-append_seam, take-append_seam}
+use Rattle.std.proofs.Math.Seq.{drop-append_seam, drop-nil, take-append_seam}
 use Rattle.std.proofs.lemmas.Bool.{eqb-false}
 use Rattle.std.proofs.lemmas.Int.{ints}
 use Rattle.std.proofs.lemmas.List.Elements.{All-cons, All-drop, All-head, All-map, All-nil, All-tail, All-take, All-weaker}
 use Rattle.std.proofs.lemmas.List.FromFn.{get_or-map-range_with_len, length-map-range_with_len, map-range_with_len_more}
+use Rattle.std.proofs.lemmas.Option.{get_or_from_slice_get, none-some, slice_get_within}
 use Rattle.nd_base.specs.declared.order.Order.{Order}
 use Rattle.nd_base.specs.declared.order.Order.TheVariants.{RowMajor, ColumnMajor}
-use Rattle.nd_base.proofs.laws.Definitions.{below, indices_in, is_index, IsInBounds, place, size}
+use Rattle.nd_base.proofs.laws.Definitions.{below, indices_in, is_index, limit, IsInBounds, place, size}
 use Rattle.nd_base.proofs.laws.Indices.{All-indices_in}
 use Rattle.nd_base.proofs.laws.Bounds.{in_bounds_from}
+use Rattle.nd_base.proofs.laws.NonzeroSize.{size_le_nonzero_size}
 use Rattle.nd_base.proofs.laws.Signed.{magnitude_from}
 use Rattle.ndarray_layout.specs.declared.strided.rows.Row.{Row}
 use Rattle.ndarray_layout.specs.Rows.{fastest_item, row_at, row_places, rows_places, slower_items, slower_view, view_rows}
 use Rattle.ndarray_layout.specs.View.{View, IsView, LiesWithin, place_at, view_places}
 use Rattle.ndarray_layout.proofs.ByRows.{row_from, rows_from}
 use Rattle.ndarray_layout.proofs.Fastest.{IsView-others, ends_of_some, places-others, size-others}
-use Rattle.ndarray_layout.proofs.laws.View.{no_places, places_lie_within, view_place}
+use Rattle.ndarray_layout.proofs.laws.View.{length-view_places, no_places, places_lie_within, view_place}
 
 -- ---- a row, and rows
 -- its first place is the start
@@ -143,9 +147,47 @@ some_in_each_row order view = by (nat_eq (size view.shape) 0) refl
         let some = some_of_size order view.shape (omega (arith, pos_of_ne-zero (eqb-false (size view.shape) 0 e))) in
         All-map (λ row. 0 < row.len) (row_at order view) (view_places order (slower_view order view)) (λ k d below. some)
 
+-- so there are as many rows as places, or fewer
+no_more : (rows : List Row) → All (λ row. 0 < row.len) rows → length rows ≤ length (rows_places rows)
+no_more [] some = omega arith
+no_more (row ∷ rows) some =
+    let first = row_places row.start row.stride row.len in
+    omega (
+      arith,
+      All-head (λ row. 0 < row.len) row rows some,
+      no_more rows (All-tail (λ row. 0 < row.len) row rows some),
+      length-append first (rows_places rows),
+      length-row_places row.start row.stride row.len,
+    )
+
+pub few_rows : (order : Order) {view : View} → IsView view → length (view_rows order view) ≤ limit
+few_rows order {view} v =
+    omega (
+      arith,
+      no_more (view_rows order view) (some_in_each_row order view),
+      ap length (rows_places-view_rows order v),
+      length-view_places order view,
+      size_le_nonzero_size view.shape,
+      v.valid.size_fits,
+    )
+
 -- and where a view lies within data, each place of each row does
 pub rows_lie_within : (len : ℕ) (order : Order) {view : View} → IsView view → LiesWithin len view
     → All (λ row. All (IsInBounds len) (row_places row.start row.stride row.len)) (view_rows order view)
 rows_lie_within len order {view} v within =
     All-rows_places (IsInBounds len) (view_rows order view)
     (subst (All (IsInBounds len)) (sym (rows_places-view_rows order v)) (places_lie_within len order view within))
+
+-- ---- rows by their number
+-- what is left from the one of a number on begins with it
+pub left_from : {X : Type 0} (xs : List X) (number : ℕ) {x : X} → Some x ≡ slice_get xs number → drop number xs ≡ x ∷ drop (number + 1) xs
+left_from xs number {x} e =
+    drop-cons xs number x (slice_get_within xs number x (sym e))
+    ∙ ap (λ first. first ∷ drop (suc number) xs) (get_or_from_slice_get xs number x x (sym e))
+    ∙ ap (λ n. x ∷ drop n xs) (sym (add-one number))
+
+-- and nothing is left where there is none
+pub none_left_from : {X : Type 0} (xs : List X) (number : ℕ) → None ≡ slice_get xs number → drop number xs ≡ []
+none_left_from [] number e = drop-nil number
+none_left_from (x ∷ xs) zero e = absurd (none-some x e)
+none_left_from (x ∷ xs) (suc number) e = none_left_from xs number e

@@ -76,7 +76,7 @@ pub up-at_least : (len : ℕ) (stride : ℤ) → reach_up (max 1 len) stride ≡
 up-at_least len (pos s) = reach-at_least len (pos s)
 up-at_least len (negsuc s) = refl
 
-is_index-at_least : (shape index : List ℕ) → is_index shape index ≡ true → is_index (at_least 1 shape) index ≡ true
+pub is_index-at_least : (shape index : List ℕ) → is_index shape index ≡ true → is_index (at_least 1 shape) index ≡ true
 is_index-at_least shape index here =
     is_index_of_larger shape (at_least 1 shape) index (length-map shape (max 1))
     (λ axis h. omega (arith, get_or-map (max 1) shape axis 0 0 h)) here

@@ -34,15 +34,19 @@ pub struct Row {
 
 /// An axis of a layout, and the axes that move slower.
 #[derive(Drop)]
-struct Fastest<'a> {
-    len: usize,
-    stride: usize,
-    lens: &'a [usize],
-    strides: &'a [usize],
+pub(crate) struct Fastest<'a> {
+    pub(crate) len: usize,
+    pub(crate) stride: usize,
+    pub(crate) lens: &'a [usize],
+    pub(crate) strides: &'a [usize],
 }
 
 /// The axis that moves fastest; `None` without axes. The caller ensures that each axis has a stride.
-fn split_fastest<'a>(order: Order, lens: &'a [usize], strides: &'a [usize]) -> Option<Fastest<'a>>
+pub(super) fn split_fastest<'a>(
+    order: Order,
+    lens: &'a [usize],
+    strides: &'a [usize],
+) -> Option<Fastest<'a>>
     requires { length lens.now ≡ length strides.now }
     ensures { MatchOption result (lens.now ≡ []) (λ axis.
         EndsIn order lens.now axis.lens.now axis.len
@@ -61,7 +65,7 @@ fn split_fastest<'a>(order: Order, lens: &'a [usize], strides: &'a [usize]) -> O
 }
 
 /// The axis that moves fastest, or one of length 1 where there is no axis: the rows along it are those of the view.
-fn fastest_axis<'a>(order: Order, lens: &'a [usize], strides: &'a [usize]) -> Fastest<'a>
+pub(super) fn fastest_axis<'a>(order: Order, lens: &'a [usize], strides: &'a [usize]) -> Fastest<'a>
     requires { length lens.now ≡ length strides.now }
     ensures { HasRows order lens.now strides.now result }
 {

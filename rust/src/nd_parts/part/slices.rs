@@ -31,12 +31,11 @@ fn parts_of_slices<'a, T: Sized, D: Lengths, S: SliceElems>(
     view: &Strided<D>,
     slices: &[S],
 ) -> Result<Vec<PartMut<'a, T, IxDyn>>, LayoutError> {
-    let mut parts = Vec::new();
+    let mut parts = Vec::fallible_with_capacity(slices.len())?;
     let mut left = cells;
     for slice in slices {
         let picked: Strided<IxDyn> = view.slice(slice, Fit::Strict)?;
-        let (one, others) = left.split(&picked);
-        left = others;
+        let one = left.take_part(&picked);
         parts.fallible_push(PartMut::of_cells(one, picked))?;
     }
     Ok(parts)

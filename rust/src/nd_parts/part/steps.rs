@@ -1,6 +1,7 @@
 // Made by `rust/erase` of `crates/nd_parts/src/part/steps.rt`: edit that.
 //! Other views of the items of a part: each is made as that of its layout is, and ends the part. No item is read or written.
 
+use crate::memory::AllocError;
 use crate::nd_parts::part::PartMut;
 use crate::ndarray_layout::{Axis, Fit, LayoutError, Lengths, Order, RemoveAxis, SliceElems};
 
@@ -45,7 +46,7 @@ impl<'a, T: Sized, D: Lengths> PartMut<'a, T, D> {
     }
 
     /// The part of the items that a slice argument leaves, for as long as this one is borrowed: `Strided::slice`, with its errors.
-    /// Once it is gone, this part has what was written.
+    /// Once it is gone, this part has what was written; no clause says so.
     ///
     /// `1..` of `[3]` over 7 8 9: 8 9. ndarray's `slice_mut`.
     ///
@@ -84,6 +85,44 @@ impl<'a, T: Sized, D: Lengths> PartMut<'a, T, D> {
         fit: Fit,
     ) -> Result<PartMut<'_, T, E>, LayoutError> {
         let view = self.view.slice(slices, fit)?;
+        Ok(self.borrowed(view))
+    }
+
+    /// The part once more, for as long as this one is borrowed. Once it is gone, this part has what was written; no clause says so.
+    ///
+    /// ndarray's `view_mut`.
+    ///
+    /// # Errors
+    ///
+    /// Out of memory; never where the type fixes the count of axes or there are at most 4.
+    ///
+    /// # Examples
+    ///
+    /// ```
+    /// use ndarray_layout::{ArrayViewMut, Ix2, LayoutError};
+    ///
+    /// # fn main() -> Result<(), LayoutError> {
+    /// let mut items = [7, 8, 9, 10];
+    /// let mut part = ArrayViewMut::from_shape(Ix2(2, 2).into(), &mut items)?.into_part();
+    /// let mut turned = part.reborrow()?.reversed_axes();
+    /// assert!(turned.set(&(0, 1), 0));
+    /// assert!(part.set(&(0, 1), 1));
+    /// assert_eq!(items, [7, 1, 0, 10]);
+    /// # Ok(())
+    /// # }
+    /// ```
+    ///
+    /// <details><summary>Contract (proved)</summary>
+    ///
+    /// ```text
+    /// ensures memory: NeedsNoMemory D.NDIM (length (array_of self.old).view.shape) → IsOk result
+    /// ensures array: IfOk result (λ a. array_of a ≡ array_of self.old)
+    /// ```
+    /// [How to read it](crate::contracts)
+    /// </details>
+    #[inline]
+    pub fn reborrow(&mut self) -> Result<PartMut<'_, T, D>, AllocError> {
+        let view = self.view.duplicate()?;
         Ok(self.borrowed(view))
     }
 

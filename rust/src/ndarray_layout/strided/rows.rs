@@ -44,7 +44,7 @@ pub(crate) struct Fastest<'a> {
 /// [How to read it](crate::contracts)
 /// </details>
 #[inline]
-fn split_fastest<'a>(order: Order, lens: &'a [usize], strides: &'a [usize]) -> Option<Fastest<'a>> {
+pub(super) fn split_fastest<'a>(order: Order, lens: &'a [usize], strides: &'a [usize]) -> Option<Fastest<'a>> {
     let ((len, lens), (stride, strides)) = match order {
         Order::RowMajor => (lens.split_last()?, strides.split_last()?),
         Order::ColumnMajor => (lens.split_first()?, strides.split_first()?),
@@ -63,7 +63,7 @@ fn split_fastest<'a>(order: Order, lens: &'a [usize], strides: &'a [usize]) -> O
 /// [How to read it](crate::contracts)
 /// </details>
 #[inline]
-fn fastest_axis<'a>(order: Order, lens: &'a [usize], strides: &'a [usize]) -> Fastest<'a> {
+pub(super) fn fastest_axis<'a>(order: Order, lens: &'a [usize], strides: &'a [usize]) -> Fastest<'a> {
     match split_fastest(order, lens, strides) {
         Some(axis) => axis,
         None => Fastest { len: 1, stride: 0, lens, strides },

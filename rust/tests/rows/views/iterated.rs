@@ -2,8 +2,9 @@
 
 use super::calls::answer;
 use super::layout::{read_view, shaped};
-use crate::table::{Words, assert_rows, list};
-use ndarray_layout::{Ix2, IxDyn, Lengths, Order, Row, Strided, Strides, unsigned};
+use crate::table::{Words, assert_rows, at_type, dim_of, list};
+use ndarray_layout::CanIndexCheckMode::ReadOnly;
+use ndarray_layout::{Ix2, IxDyn, Lengths, Order, Row, Strided, Strides, signed, unsigned};
 
 /// The items of an iterator, which says each time how many are left, and stays at its end.
 pub fn items_of<I: ExactSizeIterator>(mut items: I) -> Vec<I::Item> {
@@ -30,7 +31,52 @@ pub fn rows<D: Lengths>(words: &mut Words) -> String {
     let rows = items_of(view.rows(order));
     let (stride, len) = rows.first().map_or((0, 0), |row| (row.stride, row.len));
     assert!(rows.iter().all(|row| (row.stride, row.len) == (stride, len)));
+    assert_by_number(&view, order, &rows);
     format!("{} {stride} {len}", list(rows.iter().map(|row| row.start)))
+}
+
+/// Asserts that each of all rows of a view is the one of its number, and that no further number has one.
+fn assert_by_number<D: Lengths>(view: &Strided<D>, order: Order, rows: &[Row]) {
+    for (number, row) in rows.iter().enumerate() {
+        let nth = view.nth_row(order, number).unwrap();
+        let (dim, strides) = (nth.dim(), nth.strides());
+        assert_eq!(
+            (nth.start(), signed(strides[0]), dim[0]),
+            (row.start, row.stride, row.len),
+            "{view:?} {order:?} {number}"
+        );
+    }
+    for past in [rows.len(), rows.len() + 1, usize::MAX] {
+        assert!(view.nth_row(order, past).is_none(), "{view:?} {order:?} {past}");
+    }
+}
+
+/// Asserts that the rows of a view come by their numbers as one after another, at a type.
+fn assert_each_by_number<D: Lengths>(lens: &[usize], strides: &[usize]) {
+    let (dim, strides): (D, D) = (dim_of(lens).unwrap(), dim_of(strides).unwrap());
+    let view = Strided::new(dim, strides, 1, 1_000, ReadOnly).unwrap();
+    for order in [Order::C, Order::F] {
+        assert_by_number(&view, order, &view.rows(order).collect::<Vec<_>>());
+    }
+}
+
+#[test]
+fn rows_of_random_layouts_by_number() {
+    let mut seed = 1u64;
+    let mut below = |end: usize| {
+        // Marsaglia's xorshift of 64 bits.
+        seed ^= seed << 13;
+        seed ^= seed >> 7;
+        seed ^= seed << 17;
+        (seed >> 11) as usize % end
+    };
+    for _ in 0..2_000 {
+        let axes = 1 + below(5);
+        let lens: Vec<usize> = (0..axes).map(|_| if below(12) == 0 { 0 } else { 1 + below(4) }).collect();
+        let strides: Vec<usize> = (0..axes).map(|_| unsigned(below(41) as isize - 20)).collect();
+        assert_each_by_number::<IxDyn>(&lens, &strides);
+        at_type!(Some(axes), D => assert_each_by_number::<D>(&lens, &strides));
+    }
 }
 
 /// The places of a row.

@@ -18,7 +18,11 @@ pub enum OfView {
     FromShape,
     /// `LEN owned|read SHAPE STRIDES ARGUMENT => WAY SHAPE STRIDES`: in which ways the places of a slice lie in order.
     SliceInOrder,
+    /// `LEN owned|read SHAPE STRIDES C|F NUMBER => VIEW`: the row of a number, or `None`.
+    NthRow,
 }
+
+static ORDERS: [(&str, Order); 2] = [("C", Order::RowMajor), ("F", Order::ColumnMajor)];
 
 static MODES: [(&str, CanIndexCheckMode); 2] = [("owned", OwnedMutable), ("read", ReadOnly)];
 
@@ -88,6 +92,17 @@ fn is_in_order<D: Lengths>(row: &mut Reading<'_>) -> Option<bool> {
     Some(row.answer.is(ways_of(&slice)) && row.answer.is_list(dim) && row.answer.is_list(strides))
 }
 
+/// Whether a row of a table tells the row of a view by its number.
+fn is_nth_row<D: Lengths>(row: &mut Reading<'_>) -> Option<bool> {
+    let view = view::<D>(&mut row.given)?.ok()?;
+    let order = meaning(&ORDERS, row.given.word()?)?;
+    let number = row.given.length()?;
+    match view.nth_row(order, number) {
+        Some(nth) => Some(is_told(row, Ok(nth))),
+        None => Some(row.answer.is("None")),
+    }
+}
+
 /// A row about a view.
 struct OfRow<'a, 'b> {
     row: &'a mut Reading<'b>,
@@ -109,6 +124,7 @@ impl AtType for OfRow<'_, '_> {
                 Some(is_told(row, view))
             }
             OfView::SliceInOrder => is_in_order::<D>(row),
+            OfView::NthRow => is_nth_row::<D>(row),
         }
     }
 }

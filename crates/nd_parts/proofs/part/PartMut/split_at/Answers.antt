@@ -7,9 +7,8 @@ use Rattle.ndarray_layout.specs.SharePlace.{SharePlace}
 use Rattle.ndarray_layout.proofs.laws.SplitView.{parts_are_apart}
 use Rattle.nd_parts.proofs.part.PartMut.split_at.Goals as goal
 
--- src/part.rt:93:28
-pub split-one-requires : goal.split-one-requires
-split-one-requires g c κs within = (
+pub take_part-one-requires : goal.take_part-one-requires
+take_part-one-requires g c κs within = (
   search rules,
   (
     search rules,
@@ -18,13 +17,12 @@ split-one-requires g c κs within = (
   ),
 )
 
--- src/part.rt:94:12
 pub invariant_of-result : goal.invariant_of-result
 invariant_of-result g c =
     let marks = c.args.self.cells.marks in
     let part = part_descendant marks c.in_ok-first.ensures.first_kept c.args.self.part in
     record {
-      part = subst (λ own. IsPart own c.in_ok-first.first) (sym c.split-one.ensures.all.2)
+      part = subst (λ own. IsPart own c.in_ok-first.first) (sym c.take_part-one.ensures.all.2)
           (record {
             is_view = part.is_view;
             marked = part_of_own marks c.in_ok-first.first part.marked;
@@ -32,7 +30,6 @@ invariant_of-result g c =
           });
     }
 
--- src/part.rt:94:12
 pub invariant_of-result-2 : goal.invariant_of-result-2
 invariant_of-result-2 g c =
     let marks = c.args.self.cells.marks in
@@ -40,7 +37,7 @@ invariant_of-result-2 g c =
     let first = part_descendant marks c.in_ok-first.ensures.first_kept whole in
     let second = part_descendant marks c.in_ok-first.ensures.second_kept whole in
     record {
-      part = subst (λ left. IsPart left c.in_ok-first.second) (sym c.split-one.ensures.all.3)
+      part = subst (λ left. IsPart left c.in_ok-first.second) (sym c.take_part-one.ensures.all.3)
           (record {
             is_view = second.is_view;
             marked = part_of_others marks c.in_ok-first.first first.marked c.in_ok-first.second second.marked (λ shared.

@@ -14,7 +14,7 @@ use Rattle.nd_parts.proofs.part.slices.parts_of_slices.Goals as goal
 pub loop-slice-init : goal.loop-slice-init
 loop-slice-init g c = (
   parts_begin array_of (slice_array c.args.cells.items c.args.view.now) (map g.S.SliceElems.list c.args.slices.now)
-      c.new-parts.ensures.items,
+      c.in_ok-parts.ensures.items,
   refl,
   left_at_first (map g.S.SliceElems.list c.args.slices.now) c.requires.part c.requires.fits c.requires.apart,
 )
@@ -25,10 +25,11 @@ returns-in_err-picked-clause-fault g c =
     let slices = c.args.slices.now in
     let fits = of_this (λ slice. argument_fault Strict view.shape slice ≡ None) g.S.SliceElems.list slices c.loop-slice.slice-index
     c.loop-slice-test.true c.slice-item.is (slices_fit view.shape (map g.S.SliceElems.list slices) c.requires.fits) in
-    handed_on View c.from_residual.result c.in_err-picked.field-0.0 c.from_residual.ensures.1 (c.in_err-picked.ensures.fault ∙ fits)
+    handed_on View c.from_residual-in_err-picked.result c.in_err-picked.field-0.0 c.from_residual-in_err-picked.ensures.1
+    (c.in_err-picked.ensures.fault ∙ fits)
 
-pub split-one-requires : goal.split-one-requires
-split-one-requires g c κs within = (
+pub take_part-one-requires : goal.take_part-one-requires
+take_part-one-requires g c κs within = (
   search rules,
   (
     search rules,
@@ -45,15 +46,15 @@ of_cells-requires g c =
     (next_marked c.loop-slice.invariant.2
     (next g.S.SliceElems.list c.args.slices.now c.loop-slice.slice-index c.loop-slice-test.true c.slice-item.is)
     c.in_ok-picked.ensures.sliced)
-    c.split-one.ensures.all.2
+    c.take_part-one.ensures.all.2
 
 pub loop-slice-preserved : goal.loop-slice-preserved
 loop-slice-preserved g c =
     let from = next g.S.SliceElems.list c.args.slices.now c.loop-slice.slice-index c.loop-slice-test.true c.slice-item.is in (
       part_pushed array_of (slice_array c.args.cells.items c.args.view.now) c.loop-slice.parts.items c.in_ok-push.ensures.items from
-          (made_so (c.of_cells.ensures.items ∙ c.split-one.ensures.all.0 ∙ c.loop-slice.invariant.1)
+          (made_so (c.of_cells.ensures.items ∙ c.take_part-one.ensures.all.0 ∙ c.loop-slice.invariant.1)
           (c.of_cells.ensures.view ∙ c.in_ok-picked.ensures.sliced))
           c.loop-slice.invariant.0,
-      c.split-one.ensures.all.1 ∙ c.loop-slice.invariant.1,
-      left_by_one c.loop-slice.invariant.2 from c.in_ok-picked.ensures.sliced c.split-one.ensures.all.3,
+      c.take_part-one.ensures.all.1 ∙ c.loop-slice.invariant.1,
+      left_by_one c.loop-slice.invariant.2 from c.in_ok-picked.ensures.sliced c.take_part-one.ensures.all.3,
     )

@@ -6,8 +6,8 @@ use Rattle.nd_parts.specs.Slices.{slice_array}
 use Rattle.nd_parts.proofs.SlicesApart.{AreLeft}
 use Rattle.nd_parts.proofs.part.slices.parts_of_slices.Given as goal
 
-abbrev pub ghost-split : goal.ghost-split
-ghost-split g a = marks_of (length a.self.marks) a._by.now
+abbrev pub ghost-take_part : goal.ghost-take_part
+ghost-take_part g a = marks_of (length a.self.now.marks) a._by.now
 
 abbrev pub invariant-loop-slice : goal.invariant-loop-slice
 invariant-loop-slice g l =

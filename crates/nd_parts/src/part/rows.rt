@@ -1,0 +1,84 @@
+//! The rows of a part one after another, each a part of its own, without a list of them.
+ghost use Rattle.std.specs.Iterator.{UpTo, YieldsFirstBy, item_count};
+ghost use Rattle.std.specs.Iterator.SizeHint.{IsWithinCount};
+ghost use Rattle.std.specs.Prelude.{◌≡◌, IfSome, Some, length, map};
+ghost use Rattle.ndarray_layout.specs.declared.Order.TheVariants.{RowMajor};
+ghost use Rattle.ndarray_layout.specs.Rows.{view_rows};
+ghost use Rattle.nd_parts.specs.Own.{OwnsRows, OwnsRows-prop};
+
+use crate::cells::Cells;
+use crate::part::PartMut;
+use ndarray_layout::{Ix1, Lengths, Order, Strided};
+use std::iter::FusedIterator;
+
+/// The rows of a part that are still to come, along its last axis, in row-major order, each a part of its own. ndarray's `LanesMut`.
+#[derive(Drop)]
+pub struct PartRows<'a, T, D: Lengths> {
+    pub(crate) cells: Cells<'a, T>,
+    pub(crate) view: Strided<D>,
+    // How many rows have begun.
+    pub(crate) number: usize,
+    ghost own: { OwnsRows cells.marks view number } by { OwnsRows-prop cells.marks view number },
+}
+
+impl<'a, T: Drop, D: Lengths> Iterator for PartRows<'a, T, D> {
+    ghost use Rattle.nd_parts.specs.RowsLeft.{rows_left};
+    ghost use Rattle.nd_parts.specs.Lent.{array_of};
+
+    type Item = PartMut<'a, T, Ix1>;
+
+    ghost next_gives = { YieldsFirstBy array_of rows_left };
+
+    ghost remaining = { item_count rows_left };
+
+    #[inline]
+    fn next(&mut self) -> Option<PartMut<'a, T, Ix1>> {
+        let row = self.view.nth_row(Order::RowMajor, self.number)?;
+        self.number += 1;
+        let cells = self.cells.take_part(&row);
+        Some(PartMut::of_cells(cells, row))
+    }
+
+    fn size_hint(&self) -> (usize, Option<usize>)
+        ensures lower { IsWithinCount result.0 (item_count rows_left self.now) }
+        ensures upper { IfSome result.1 (UpTo (item_count rows_left self.now)) }
+        ensures exact { (result.0 ≡ length (rows_left self.now))
+            × (result.1 ≡ Some (length (rows_left self.now))) }
+    {
+        let left = self.len();
+        (left, Some(left))
+    }
+}
+
+impl<'a, T: Drop, D: Lengths> ExactSizeIterator for PartRows<'a, T, D> {
+    fn len(&self) -> usize {
+        self.view.rows(Order::RowMajor).len() - self.number
+    }
+}
+
+impl<'a, T: Drop, D: Lengths> FusedIterator for PartRows<'a, T, D> {}
+
+impl<'a, T: Drop, D: Lengths> PartMut<'a, T, D> {
+    ghost use Rattle.nd_parts.specs.RowsLeft.{row_array, rows_left};
+    ghost use Rattle.nd_parts.specs.Lent.{array_of};
+
+    /// An iterator over the rows along the last axis, in row-major order, each a part of its own: several may be used at once, and in
+    /// threads, whatever the strides are. It knows how many are left. A part without axes has one row, of one item; a part without
+    /// indices has none. What all items are in the end no clause says.
+    ///
+    /// Takes no memory. A row takes the time of `Strided::nth_row`; `len` takes time for each axis.
+    ///
+    /// The transpose of `[2,2]` over 5 6 7 8: the rows 5 7 and 6 8. ndarray's `rows_mut`.
+    pub fn into_row_parts(self) -> PartRows<'a, T, D>
+        ensures rows { rows_left result ≡ map (row_array (array_of self.entry).items)
+            (view_rows RowMajor (array_of self.entry).view) }
+        ensures same_right { result.cells.name ≡ self.entry.cells.name }
+    {
+        let PartMut { cells, view } = self;
+        PartRows {
+            cells,
+            view,
+            number: 0,
+        }
+    }
+}

@@ -1,0 +1,74 @@
+//! One row of a view, by its number.
+ghost use Rattle.std.specs.Option.{option_map};
+ghost use Rattle.std.specs.Prelude.{◌≡◌, ◌<◌, IfSome, slice_get};
+ghost use Rattle.nd_base.specs.FlatIndex.{index_of_flat_in};
+ghost use Rattle.nd_base.specs.Offset.{offset_of};
+ghost use Rattle.nd_base.specs.Signed.{all_signed};
+ghost use Rattle.nd_base.specs.Size.{size};
+ghost use Rattle.nd_base.specs.ValidLayout.{IsValidLayout};
+ghost use Rattle.ndarray_layout.specs.Rows.{row_view, view_rows};
+ghost use Rattle.ndarray_layout.specs.View.{IsView};
+
+use crate::strided::Strided;
+use crate::strided::places::offset_place;
+use crate::strided::rows::{Row, fastest_axis, split_fastest};
+use nd_base::{Ix1, Lengths, Order, new_ix1, signed, stride_offset, unsigned};
+use nd_dim::product;
+
+/// How far the index at a flat index lies from the first one, in elements.
+fn offset_of_flat(order: Order, lens: &[usize], strides: &[usize], flat_index: usize) -> isize
+    requires valid { IsValidLayout lens.now (all_signed strides.now) }
+    requires index { flat_index < size lens.now }
+    ensures { result ≡ offset_of (all_signed strides.now) (index_of_flat_in order lens.now flat_index) }
+{
+    let (mut lens, mut strides) = (lens, strides);
+    let (mut offset, mut left) = (0isize, flat_index);
+    'axes: while let Some(axis) = split_fastest(order, lens, strides) {
+        if axis.len > 1 {
+            offset += stride_offset(left % axis.len, axis.stride);
+            left /= axis.len;
+        }
+        (lens, strides) = (axis.lens, axis.strides);
+    }
+    offset
+}
+
+impl<D: Lengths> Strided<D> {
+    /// The row that `rows` gives after so many others; `None` where there are not so many.
+    pub(super) fn row_of_number(&self, order: Order, number: usize) -> Option<Row>
+        ensures row { result ≡ slice_get (view_rows order self.now) number }
+        ensures row_is_view { IfSome result (λ row. IsView (row_view row)) }
+        ensures is_view { IsView self.now }
+    {
+        let axis = fastest_axis(order, self.dim.slice(), self.strides.slice());
+        if axis.len == 0 || number >= product(axis.lens) {
+            return None;
+        }
+        let offset = offset_of_flat(order, axis.lens, axis.strides, number);
+        Some(Row {
+            start: offset_place(self.start, offset),
+            stride: signed(axis.stride),
+            len: axis.len,
+        })
+    }
+
+    /// The row that `rows` gives after so many others, as a layout of one axis; `None` where there are not so many.
+    ///
+    /// Takes no memory. Costs a division and two products for each axis but that of the row, where `rows` costs an addition
+    /// for most rows.
+    ///
+    /// `[2,3]` with strides `[-3,1]` from 3, at the number 1: in row-major order the shape `[3]`, from 0 by 1; in column-major
+    /// order `[2]`, from 4 by -3. ndarray's `row`, of any count of axes.
+    pub fn nth_row(&self, order: Order, number: usize) -> Option<Strided<Ix1>>
+        ensures row { result ≡ option_map row_view (slice_get (view_rows order self.now) number) }
+        ensures row_is_view { IfSome result IsView }
+        ensures is_view { IsView self.now }
+    {
+        let row = self.row_of_number(order, number)?;
+        Some(Strided {
+            start: row.start,
+            dim: new_ix1(row.len),
+            strides: new_ix1(unsigned(row.stride)),
+        })
+    }
+}

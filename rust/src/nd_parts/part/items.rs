@@ -1,0 +1,79 @@
+// Made by `rust/erase` of `crates/nd_parts/src/part/items.rt`: edit that.
+//! The items of a part one after another, each lent to be written, without a list of them.
+
+use crate::nd_parts::cells::Cells;
+use crate::nd_parts::part::PartMut;
+use crate::ndarray_layout::{IntoPlaces, Lengths, Order};
+use core::iter::FusedIterator;
+
+/// The items of a part that are still to come, in row-major order of their indices, each lent to be written. ndarray's `IterMut`.
+pub struct PartItems<'a, T, D: Lengths> {
+    pub(crate) cells: Cells<'a, T>,
+    pub(crate) places: IntoPlaces<D>,
+}
+
+impl<'a, T, D: Lengths> Iterator for PartItems<'a, T, D> {
+    type Item = &'a mut T;
+
+    #[inline]
+    fn next(&mut self) -> Option<&'a mut T> {
+        let place = self.places.next()?;
+        self.cells.take_slice(place, 1).first_mut()
+    }
+
+    #[inline]
+    fn size_hint(&self) -> (usize, Option<usize>) {
+        self.places.size_hint()
+    }
+}
+
+impl<'a, T, D: Lengths> ExactSizeIterator for PartItems<'a, T, D> {
+    #[inline]
+    fn len(&self) -> usize {
+        self.places.len()
+    }
+}
+
+impl<'a, T, D: Lengths> FusedIterator for PartItems<'a, T, D> {}
+
+impl<'a, T: Sized, D: Lengths> PartMut<'a, T, D> {
+    /// An iterator over the items of all indices, in row-major order (the last axis moves fastest), each lent to be written for as long
+    /// as the whole is. It knows how many are left. What all items are in the end no clause says.
+    ///
+    /// Takes no memory. An item takes the time of its place (`Strided::into_places`).
+    ///
+    /// The transpose of `[2,2]` over 5 6 7 8: 5 7 6 8. ndarray's `into_iter` of a view to be written.
+    ///
+    /// # Examples
+    ///
+    /// ```
+    /// use ndarray_layout::{ArrayViewMut, Ix2, LayoutError};
+    ///
+    /// # fn main() -> Result<(), LayoutError> {
+    /// let mut items = [5, 6, 7, 8];
+    /// let mut left = ArrayViewMut::from_shape(Ix2(2, 2).into(), &mut items)?.into_part().reversed_axes().into_items();
+    /// let (first, second) = (left.next(), left.next());
+    /// assert_eq!((&first, &second, left.len()), (&Some(&mut 5), &Some(&mut 7), 2));
+    /// for (item, number) in first.into_iter().chain(second).chain(left).zip(1..) {
+    ///     *item = number;
+    /// }
+    /// assert_eq!(items, [1, 3, 2, 4]);
+    /// # Ok(())
+    /// # }
+    /// ```
+    ///
+    /// <details><summary>Contract (proved)</summary>
+    ///
+    /// ```text
+    /// ensures items: items_left result ≡ map (item_at_place (array_of self.entry).items)
+    ///     (view_places RowMajor (array_of self.entry).view)
+    /// ```
+    /// [How to read it](crate::contracts)
+    /// </details>
+    #[inline]
+    #[must_use]
+    pub fn into_items(self) -> PartItems<'a, T, D> {
+        let PartMut { cells, view } = self;
+        PartItems { cells, places: view.into_places(Order::RowMajor) }
+    }
+}
