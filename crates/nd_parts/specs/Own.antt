@@ -22,6 +22,7 @@ pub record OwnsRows (marks : List Bool) (view : View) (number : ℕ) : Type 0 wh
   pub within : number ≤ length (view_rows RowMajor view)
   pub own : AreOwn marks (rows_places (drop number (view_rows RowMajor view)))
 
+-- and so has this
 pub OwnsRows-prop : (marks : List Bool) (view : View) (number : ℕ) → IsProp (OwnsRows marks view number)
 OwnsRows-prop marks view number = Prim.hlevel (props, AreOwn-prop)
 
