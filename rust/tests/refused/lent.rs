@@ -67,6 +67,7 @@ fn part(call: &Call, mut part: PartMut<'_, usize, IxDyn>) -> Option<String> {
         "PartMut::index_axis" => call.told(|| part.index_axis(axis, index)),
         "PartMut::insert_axis" => call.told(|| part.insert_axis(axis)),
         "PartMut::slice_mut" => call.told(|| part.slice_mut::<IxDyn, _>(&reversed, Strict)),
+        "PartMut::reborrow" => call.told(|| part.reborrow()),
         _ => return None,
     })
 }
