@@ -11,6 +11,7 @@ mod model;
 mod numbers;
 mod own_items;
 mod random;
+mod refused;
 mod run_over;
 mod steps;
 mod threads;
