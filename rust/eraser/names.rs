@@ -189,12 +189,13 @@ pub const UNSAFE: &[(&str, &str, &str)] = &[
 pub const SOUND_BY_CONDITIONS: &[&str] = &["nd_parts"];
 
 /// Calls of these crates that others see, whose condition the package checks, since no proof of its callers does: the type, the call,
-/// what is asserted, and what the panic says.
-pub const CHECKED: &[(&str, &str, &str, &str)] = &[(
+/// what is asserted, what the panic says, and what the docs say of it.
+pub const CHECKED: &[(&str, &str, &str, &str, &str)] = &[(
     "PartMut",
     "new",
     "crate::parts::has_own_items(&view, items.len())",
-    "an index of the part has no item to itself",
+    "two indices of the part may alias, or one lies past the items",
+    "This call panics where two indices may alias by the rule of owned mode, or one lies past the items.",
 )];
 
 /// Structs that files of `rust/src` make and take apart: all of the package sees their fields.
@@ -284,6 +285,7 @@ pub const IN_ORDER: &[&str] = &[
     "places",
     "iter_places",
     "iterating",
+    "reading",
     "rows",
     "folding",
     "mapping",

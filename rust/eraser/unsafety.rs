@@ -38,20 +38,25 @@ impl Eraser<'_> {
         Ok(Some(1))
     }
 
-    /// The assertion of the condition of the function at hand, if the package checks it.
-    pub(crate) fn assertion(&self) -> Option<String> {
+    /// The condition of the function at hand, what a panic says where it is broken, and what the docs say, if the package checks it.
+    fn checked(&self) -> Option<(&'static str, &'static str, &'static str)> {
         let (is_checked, name) = (self.contract.is_public && self.contract.is_function, &self.contract.name);
         let of_list = CHECKED.iter().find(|(ty, call, ..)| self.of_impl == *ty && name == call);
-        let (.., condition, words) = of_list.filter(|_| is_checked && SOUND_BY_CONDITIONS.contains(&self.names.own))?;
-        Some(format!("assert!({condition}, {words:?});"))
+        let found = of_list.filter(|_| is_checked && SOUND_BY_CONDITIONS.contains(&self.names.own));
+        found.map(|(.., condition, words, told)| (*condition, *words, *told))
+    }
+
+    /// The assertion of the condition of the function at hand, if the package checks it.
+    pub(crate) fn assertion(&self) -> Option<String> {
+        self.checked().map(|(condition, words, _)| format!("assert!({condition}, {words:?});"))
     }
 
     /// What is said of a condition of the item at hand that is broken. The error is one that keeps `unsafe` sound, of a call that others
     /// see, which isn't checked.
     pub(crate) fn broken(&self) -> Result<&'static str, &'static str> {
         let own = self.names.own;
-        match self.assertion() {
-            Some(_) => Ok("Otherwise this call panics."),
+        match self.checked() {
+            Some((.., told)) => Ok(told),
             None if !SOUND_BY_CONDITIONS.contains(&own) => {
                 Ok("Otherwise this call or a later one panics or returns unspecified values.")
             }

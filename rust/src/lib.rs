@@ -124,6 +124,6 @@ pub use crate::memory::AllocError;
 pub use crate::nd_owned::{
     ArrayView, ArrayViewMut, Items, Iter, LentRow, LentRows, OwnedArray, PartMut, SplitViews, Unsigned,
 };
-pub use crate::nd_parts::{PartItems, PartRows};
+pub use crate::nd_parts::{PartItems, PartIter, PartRows};
 pub use crate::ndarray_layout::*;
 pub use crate::parts::{LentPart, MultiSliceArg, PartIterMut};

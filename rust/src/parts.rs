@@ -7,6 +7,7 @@ mod iter;
 mod lines;
 mod multi_slice;
 mod own_items;
+mod reading;
 mod rows;
 
 use crate::arrays::no_such_index;

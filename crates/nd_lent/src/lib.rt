@@ -7,4 +7,4 @@ mod indexing;
 
 pub use array_view::{ArrayView, Iter, LentRow, LentRows, Unsigned};
 pub use array_view_mut::{ArrayViewMut, SplitViews};
-pub use nd_parts::{PartItems, PartMut, PartRows};
+pub use nd_parts::{PartItems, PartIter, PartMut, PartRows};

@@ -15,6 +15,7 @@ ghost use Rattle.nd_parts.specs.Part.{IsPart, IsPart-prop};
 mod axes;
 mod items;
 mod making;
+mod reading;
 mod rows;
 mod slices;
 mod steps;
@@ -22,6 +23,7 @@ mod steps;
 use crate::cells::Cells;
 pub use items::PartItems;
 use ndarray_layout::{Axis, LayoutError, Lengths, NdIndex, Order, Strided};
+pub use reading::PartIter;
 pub use rows::PartRows;
 use std::alloc::Global;
 use std::mem::replace;
@@ -29,7 +31,7 @@ use std::mem::replace;
 /// A part of an array, to be read and written beside other parts of the same items: a view, and the right to the items at its
 /// places, at the price of a pointer. Nothing else of the items is read or written.
 ///
-/// The rows 0 and 1 of 7 8 9 10 by two: one part has 7 8, the other 9 10. The project's own.
+/// The rows of `[2,2]` over 7 8 9 10: one part has 7 8, the other 9 10. The project's own.
 #[derive(Drop)]
 pub struct PartMut<'a, T, D: Lengths> {
     pub(crate) cells: Cells<'a, T>,

@@ -5,7 +5,7 @@ use crate::nd_base::{IxDyn, Lengths, new_ixdyn};
 use crate::nd_dim::Dimension;
 use crate::nd_shape::{IndexCursor, IndexCursorF, IndicesIter, IndicesIterF};
 use crate::ndarray_layout::{IntoPlaces, Places, Rows};
-use crate::{Items, Iter, LentRows, PartItems, PartRows};
+use crate::{Items, Iter, LentRows, PartItems, PartIter, PartRows};
 use core::fmt;
 use core::iter::FusedIterator;
 
@@ -60,6 +60,13 @@ impl<T> fmt::Debug for LentRows<'_, T> {
 impl<T, D: Lengths> fmt::Debug for PartItems<'_, T, D> {
     fn fmt(&self, f: &mut fmt::Formatter<'_>) -> fmt::Result {
         print_left(f, "PartItems", self.len())
+    }
+}
+
+/// Not proved.
+impl<T> fmt::Debug for PartIter<'_, '_, T> {
+    fn fmt(&self, f: &mut fmt::Formatter<'_>) -> fmt::Result {
+        print_left(f, "PartIter", self.len())
     }
 }
 

@@ -20,6 +20,6 @@ mod array_view;
 mod array_view_mut;
 mod indexing;
 
-pub use crate::nd_parts::{PartItems, PartMut, PartRows};
+pub use crate::nd_parts::{PartItems, PartIter, PartMut, PartRows};
 pub use array_view::{ArrayView, Iter, LentRow, LentRows, Unsigned};
 pub use array_view_mut::{ArrayViewMut, SplitViews};

@@ -24,7 +24,7 @@ mod picked_view;
 mod rows;
 
 pub use crate::nd_lent::{
-    ArrayView, ArrayViewMut, Iter, LentRow, LentRows, PartItems, PartMut, PartRows, SplitViews, Unsigned,
+    ArrayView, ArrayViewMut, Iter, LentRow, LentRows, PartItems, PartIter, PartMut, PartRows, SplitViews, Unsigned,
 };
 pub use iterating::Items;
 pub use owned::OwnedArray;

@@ -108,7 +108,8 @@ impl<'a, T, D: Lengths> PartMut<'a, T, D> {
     /// # Conditions
     ///
     /// The caller ensures that each index has an item to itself, as `Strided::from_shape`, `new` and `from_parts` check
-    /// it in owned mode; `over` checks it. Otherwise this call panics.
+    /// it in owned mode; `over` checks it. This call panics where two indices may alias by the rule of owned mode, or
+    /// one lies past the items.
     ///
     /// # Examples
     ///
@@ -135,7 +136,10 @@ impl<'a, T, D: Lengths> PartMut<'a, T, D> {
     #[inline]
     #[must_use]
     pub fn new(view: Strided<D>, items: &'a mut [T]) -> Self {
-        assert!(crate::parts::has_own_items(&view, items.len()), "an index of the part has no item to itself");
+        assert!(
+            crate::parts::has_own_items(&view, items.len()),
+            "two indices of the part may alias, or one lies past the items"
+        );
         PartMut { cells: Cells { first: items.as_mut_ptr(), mark: PhantomData }, view }
     }
 

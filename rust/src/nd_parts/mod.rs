@@ -19,4 +19,4 @@
 mod cells;
 mod part;
 
-pub use part::{PartItems, PartMut, PartRows};
+pub use part::{PartItems, PartIter, PartMut, PartRows};

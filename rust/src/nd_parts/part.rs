@@ -2,6 +2,7 @@
 //! A part of an array: a view, and the right to its items alone.
 
 mod making;
+mod reading;
 mod rows;
 mod steps;
 mod axes;
@@ -12,12 +13,13 @@ use crate::nd_parts::cells::Cells;
 use crate::ndarray_layout::{Axis, LayoutError, Lengths, NdIndex, Order, Strided};
 use core::mem::replace;
 pub use items::PartItems;
+pub use reading::PartIter;
 pub use rows::PartRows;
 
 /// A part of an array, to be read and written beside other parts of the same items: a view, and the right to the items at its
 /// places, at the price of a pointer. Nothing else of the items is read or written.
 ///
-/// The rows 0 and 1 of 7 8 9 10 by two: one part has 7 8, the other 9 10. The project's own.
+/// The rows of `[2,2]` over 7 8 9 10: one part has 7 8, the other 9 10. The project's own.
 pub struct PartMut<'a, T, D: Lengths> {
     pub(crate) cells: Cells<'a, T>,
     pub(crate) view: Strided<D>,

@@ -55,8 +55,8 @@ fn a_ghost_parameter_goes() {
 fn a_condition_that_keeps_it_sound_is_checked_where_others_see_the_call() {
     let call = "/// A. The caller ensures that it fits.\npub fn new(n: u8) -> Self requires { IsOwned n } { f(n) }";
     let checked = line_of("nd_parts", &format!("impl<T> PartMut<T> {{ {call} }}"));
-    assert!(checked.contains("{assert!(crate::parts::has_own_items(&view, items.len()), \"an index"), "{checked}");
-    assert!(checked.contains("Otherwise this call panics."), "{checked}");
+    assert!(checked.contains("{assert!(crate::parts::has_own_items(&view, items.len()), \"two indices"), "{checked}");
+    assert!(checked.contains("This call panics where two indices may alias"), "{checked}");
     let due = "2: `{` begins a call that others see, with a condition that keeps `unsafe` sound and isn't checked";
     assert_eq!(line_of("nd_parts", &format!("impl<T> Other<T> {{ {call} }}")), due);
     let private = line_of("nd_parts", &format!("impl<T> Other<T> {{ {} }}", call.replace("pub ", "")));

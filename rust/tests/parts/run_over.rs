@@ -6,8 +6,8 @@ use crate::random::{array, dimension};
 use crate::steps::step;
 use crate::threads::arrays;
 use ndarray_layout::{
-    ArrayViewMut, Dimension, Ix0, Ix1, Ix2, Ix3, Ix4, Ix5, Ix6, IxDyn, LayoutError, Lengths, Order, PartMut, Row,
-    signed,
+    ArrayViewMut, Dimension, Ix0, Ix1, Ix2, Ix3, Ix4, Ix5, Ix6, IxDyn, LayoutError, Lengths, Order, OwnedArray,
+    PartMut, Row, StrideShape, Strides, signed,
 };
 use std::sync::Barrier;
 use std::thread;
@@ -97,6 +97,23 @@ fn items_come_once<D: Lengths>(numbers: &mut Numbers, part: PartMut<'_, usize, D
 #[test]
 fn each_item_of_random_parts_comes_once_in_row_major_order() {
     check_arrays!(items_come_once, 1_970_001);
+}
+
+/// Asserts that each item is read once, while all others are, and that the part is equal to the items that lie in order.
+fn items_are_read<D: Lengths>(_: &mut Numbers, part: PartMut<'_, usize, D>, picked: &Picked) -> Vec<usize> {
+    let read = all_of(part.iter(), picked.places.len());
+    assert!(read.into_iter().eq(&picked.places), "{picked:?}");
+    let shape = StrideShape { dim: dimension::<D>(picked.shape.iter().copied()), strides: Strides::C };
+    let mut in_order = OwnedArray::from_shape_vec(shape, picked.places.clone()).expect("room for the items");
+    assert_eq!((part == in_order, in_order == part), (true, true));
+    let is_changed = in_order.stored_mut().last_mut().map(|item| *item += 1).is_some();
+    assert_eq!((part != in_order, in_order != part), (is_changed, is_changed));
+    picked.places.clone()
+}
+
+#[test]
+fn each_item_of_random_parts_is_read_once_in_row_major_order() {
+    check_arrays!(items_are_read, 1_970_017);
 }
 
 /// Asserts that what is left after some items is what a fold, a count, a skip or the last one sees.

@@ -57,7 +57,7 @@ impl<'a, T: Drop, D: Lengths> PartMut<'a, T, D> {
     ghost use Rattle.nd_parts.specs.Lent.{array_of};
 
     /// An iterator over the items of all indices, in row-major order (the last axis moves fastest), each lent to be written for as long
-    /// as the whole is. It knows how many are left. What all items are in the end no clause says.
+    /// as the whole is. It knows how many are left. That they keep what is written is tested, and in no clause.
     ///
     /// Takes no memory. An item takes the time of its place (`Strided::into_places`).
     ///

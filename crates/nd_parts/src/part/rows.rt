@@ -64,7 +64,7 @@ impl<'a, T: Drop, D: Lengths> PartMut<'a, T, D> {
 
     /// An iterator over the rows along the last axis, in row-major order, each a part of its own: several may be used at once, and in
     /// threads, whatever the strides are. It knows how many are left. A part without axes has one row, of one item; a part without
-    /// indices has none. What all items are in the end no clause says.
+    /// indices has none. That the rows keep what is written is tested, and in no clause.
     ///
     /// Takes no memory. A row takes the time of `Strided::nth_row`; `len` takes time for each axis.
     ///

@@ -46,7 +46,7 @@ impl<'a, T: Drop, D: Lengths> PartMut<'a, T, D> {
     }
 
     /// The part of the items that a slice argument leaves, for as long as this one is borrowed: `Strided::slice`, with its errors.
-    /// Once it is gone, this part has what was written; no clause says so.
+    /// Once it is gone, this part has what was written: that is tested, and in no clause.
     ///
     /// `1..` of `[3]` over 7 8 9: 8 9. ndarray's `slice_mut`.
     #[tactic(auto, using(crate::proofs::Marks::part_descendant))]
@@ -68,7 +68,8 @@ impl<'a, T: Drop, D: Lengths> PartMut<'a, T, D> {
         Ok(self.borrowed(view))
     }
 
-    /// The part once more, for as long as this one is borrowed. Once it is gone, this part has what was written; no clause says so.
+    /// The part once more, for as long as this one is borrowed. Once it is gone, this part has what was written: that is tested, and in
+    /// no clause.
     ///
     /// # Errors
     ///

@@ -23,12 +23,22 @@ fn picks(words: &mut Words<'_>) -> Option<(Vec<Vec<SliceInfoElem>>, Vec<Placed>)
     Some((slices, placed))
 }
 
+/// Whether a part has an item, as it is read item by item.
+fn holds(part: &PartMut<'_, usize, IxDyn>, item: usize) -> bool {
+    for other in part.iter() {
+        if *other == item {
+            return true;
+        }
+    }
+    false
+}
+
 /// Whether this is an index of a part, whose item is replaced, and read then.
 fn is_placed(part: &mut PartMut<'_, usize, IxDyn>, placed: &Placed) -> bool {
     let (index, item) = placed;
     let is_set = part.set(index, *item);
     match part.get(index) {
-        Some(found) => is_set && *found == *item,
+        Some(found) => is_set && *found == *item && holds(part, *item),
         None => false,
     }
 }
