@@ -104,6 +104,26 @@ pub trait SliceNextDim {
     type OutDim: Dimension;
 }
 
+/// The types of an index in `s!`. (One impl for all of them: so rustc knows how many axes a literal leaves whose type is open.)
+trait Coordinate {}
+
+/// Not proved.
+impl Coordinate for isize {}
+
+/// Not proved.
+impl Coordinate for usize {}
+
+/// Not proved.
+impl Coordinate for i32 {}
+
+/// An index: an `isize`, a `usize` or an `i32`. Not proved.
+#[allow(private_bounds, reason = "no other type is an index")]
+impl<I: Coordinate> SliceNextDim for I {
+    type InDim = Ix1;
+
+    type OutDim = Ix0;
+}
+
 /// The dimension types before and after, for some types of elements.
 macro_rules! next_dims {
     ($in_dim:ident to $out_dim:ident: $(impl $(<$number:ident>)? for $slice:ty),*) => {$(
@@ -116,7 +136,6 @@ macro_rules! next_dims {
     )*};
 }
 
-next_dims!(Ix1 to Ix0: impl for isize, impl for usize, impl for i32);
 next_dims!(Ix1 to Ix1: impl for Slice, impl for RangeFull, impl<T> for Range<T>, impl<T> for RangeFrom<T>);
 next_dims!(Ix1 to Ix1: impl<T> for RangeTo<T>, impl<T> for RangeInclusive<T>, impl<T> for RangeToInclusive<T>);
 next_dims!(Ix0 to Ix1: impl for NewAxis);
@@ -240,9 +259,6 @@ impl<D: FixedCount, T: SliceArg<D>> SliceArg<D> for &T {
 
 impl<D: Lengths> Strided<D> {
     /// The view of the same data that a slice argument leaves, of the type that the argument says. Not proved.
-    ///
-    /// Where an index is a bare number, as the 1 of `s![1, ..]`, a call on `dim` of the result may need its type said:
-    /// `let row: Strided<Ix1> = view.sliced(s![1, ..])?`. ndarray asks for the same.
     ///
     /// # Errors
     ///
