@@ -209,6 +209,10 @@ impl<T, D: Lengths> ArrayViewMut<'_, T, D> {
     ///
     /// Takes memory for the list of parts, and time for each of them and for the comparisons of `first_intersection`.
     ///
+    /// # Panics
+    ///
+    /// Where `ArrayViewMut::new` was given a view of which two indices may share an item, or one is past the items.
+    ///
     /// ```
     /// use ndarray_layout::{ArrayViewMut, Ix2, LayoutError, s};
     ///

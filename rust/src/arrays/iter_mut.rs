@@ -1,7 +1,7 @@
 //! The items of an array one after another, lent to be written.
 
 use super::line_mut::{LineMut, take};
-use super::pieces::{Band, Cut, Cutting, Lines, nearest_lines};
+use super::pieces::{Band, Cut, Cutting, Lines, SHARED_OR_PAST, nearest_lines};
 use crate::ArrayViewMut;
 use crate::convenience::OUT_OF_MEMORY;
 use crate::memory::FallibleVec;
@@ -17,8 +17,8 @@ use core::slice;
 ///
 /// Where rows lie one above another, each is cut off as it comes, and no memory is taken. Elsewhere, as in a transpose or where
 /// the first axis is reversed, the iterator has a list: the lines along the axis whose items lie nearest to one another, so of
-/// `[400,300]` transposed 400 lines. `map_in_place` takes no memory for any layout, and a part (`into_part`) iterates any without a
-/// list, in less time.
+/// `[400,300]` transposed 400 lines. `map_in_place` takes no memory for any layout, and `into_items` of a part (`into_part`) iterates
+/// any without a list, in less time, from one end.
 ///
 /// ```
 /// use ndarray_layout::*;
@@ -200,7 +200,7 @@ struct Position {
 }
 
 impl<'a, T> Woven<'a, T> {
-    /// The items of an array, of which each index has an item to itself. Errors: out of memory.
+    /// The items of an array. Errors: those of `nearest_lines`; out of memory.
     fn new<D: Lengths>(view: Strided<D>, items: &'a mut [T]) -> Result<Self, LayoutError> {
         let Lines { lines: pieces, stride, len, beside } = nearest_lines(view, items)?;
         let front = Position { group: 0, line: 0, item: 0 };
@@ -272,7 +272,7 @@ impl<'a, T> Woven<'a, T> {
 }
 
 impl<'a, T, D: Lengths> IterMut<'a, T, D> {
-    /// The items of an array. Panics where an allocation fails.
+    /// The items of an array. Panics where an allocation fails, or the view breaks the condition of `ArrayViewMut::new`.
     #[inline]
     pub(crate) fn new(array: ArrayViewMut<'a, T, D>) -> Self {
         let left = match Cutting::new(array) {
@@ -282,7 +282,11 @@ impl<'a, T, D: Lengths> IterMut<'a, T, D> {
             },
             Cutting::Cut(cut) => Left::new(LineMut::empty(), Some(cut)),
             Cutting::Otherwise(view, items) => {
-                let others = Others::Woven(Woven::new(view, items).expect(OUT_OF_MEMORY)).list();
+                let others = match Woven::new(view, items) {
+                    Ok(woven) => Others::Woven(woven).list(),
+                    Err(LayoutError::Memory(_)) => panic!("{OUT_OF_MEMORY}"),
+                    Err(LayoutError::Shape(_)) => panic!("{SHARED_OR_PAST}"),
+                };
                 return IterMut { stretch: [].iter_mut(), others };
             }
         };

@@ -186,7 +186,7 @@ impl<'a, T, D: Lengths> Cut<'a, T, D> {
     pub fn next_band(&mut self) -> Option<Band<'a, T>> {
         let Column { first, count, stride } = self.runs.next_column()?;
         let (width, step) = (width(first), stride.unsigned_abs());
-        let items = self.left.take_front(first.low(), (count - 1) * step + width).expect(INTERLEAVED);
+        let items = self.left.take_front(first.low(), (count - 1) * step + width).expect(SHARED_OR_PAST);
         let chunks = items.chunks_mut(if count == 1 { width } else { step });
         Some(Band { chunks, width, stride: first.stride, len: first.len })
     }
@@ -195,7 +195,7 @@ impl<'a, T, D: Lengths> Cut<'a, T, D> {
     #[inline]
     fn next(&mut self) -> Option<Piece<'a, T>> {
         let run = self.runs.next()?;
-        let items = self.left.take_front(run.low(), width(run)).expect(INTERLEAVED);
+        let items = self.left.take_front(run.low(), width(run)).expect(SHARED_OR_PAST);
         Some(Piece { items, stride: run.stride, len: run.len })
     }
 
@@ -203,7 +203,7 @@ impl<'a, T, D: Lengths> Cut<'a, T, D> {
     #[inline]
     pub fn next_back(&mut self) -> Option<Piece<'a, T>> {
         let run = self.runs.next_back()?;
-        let items = self.left.take_back(run.low(), width(run)).expect(INTERLEAVED);
+        let items = self.left.take_back(run.low(), width(run)).expect(SHARED_OR_PAST);
         Some(Piece { items, stride: run.stride, len: run.len })
     }
 }
@@ -218,7 +218,7 @@ pub(crate) struct Lines<'a, T> {
     pub beside: usize,
 }
 
-/// The lines of an array, of which each index has an item to itself. Errors: out of memory.
+/// The lines of an array. Errors: those of `list`.
 pub(crate) fn nearest_lines<'a, T, D: Lengths>(
     view: Strided<D>,
     items: &'a mut [T],
@@ -232,7 +232,7 @@ pub(crate) fn nearest_lines<'a, T, D: Lengths>(
 }
 
 /// The items of the lines along an axis, each from its lowest place to its highest one, in row-major order of the other coordinates.
-/// Errors: out of memory, and `IncompatibleLayout` where two interleave.
+/// Errors: out of memory, and `IncompatibleLayout` where two interleave or one is past the items.
 fn list<'a, T, D: Lengths>(
     items: &'a mut [T],
     view: &Strided<D>,
@@ -256,8 +256,8 @@ fn list<'a, T, D: Lengths>(
     Ok(lines)
 }
 
-/// What the caller ensured wasn't so.
-const INTERLEAVED: &str = "two indices of an array to be written have one item";
+/// How a view breaks the condition of `ArrayViewMut::new`.
+pub(crate) const SHARED_OR_PAST: &str = "two indices of the view may share an item, or one is past the items";
 
 impl<'a, T, D: Lengths> Iterator for Pieces<'a, T, D> {
     type Item = Piece<'a, T>;

@@ -3,7 +3,8 @@
 use crate::layouts::{Layout, rounds};
 use crate::numbers::Numbers;
 use crate::{NUMBERS, of_count, owned, rows_mut, texts};
-use ndarray_layout::{ArrayViewMut, Axis, Dimension, IterMut, Lengths};
+use ndarray_layout::CanIndexCheckMode::ReadOnly;
+use ndarray_layout::{ArrayViewMut, Axis, Dimension, IterMut, Ix2, Lengths, Strided};
 use std::collections::VecDeque;
 
 #[test]
@@ -43,6 +44,30 @@ fn an_iterator_over_a_transpose_knows_its_length() {
     assert_eq!((left.nth(1), left.next_back(), left.len()), (Some(&mut 3), Some(&mut 5), 3));
     assert_eq!(format!("{left:?}"), "IterMut { left: 3, .. }");
     assert_eq!(left.map(|item| *item).collect::<Vec<_>>(), [1, 4, 2]);
+}
+
+/// Iterates over an array of two rows of two with these strides, of a view that its maker didn't check.
+fn iterate_unchecked(strides: Ix2, len: usize) {
+    let view = Strided::from_parts(0, Ix2(2, 2), strides, 1, 9, ReadOnly).expect("a view of nine items");
+    ArrayViewMut::new(view, &mut vec![0; len]).iter_mut().for_each(|item| *item += 1);
+}
+
+#[test]
+#[should_panic(expected = "two indices of the view may share an item, or one is past the items")]
+fn indices_that_alias_are_told() {
+    iterate_unchecked(Ix2(1, 1), 3);
+}
+
+#[test]
+#[should_panic(expected = "two indices of the view may share an item, or one is past the items")]
+fn an_index_past_the_items_is_told() {
+    iterate_unchecked(Ix2(1, 2), 3);
+}
+
+#[test]
+#[should_panic(expected = "two indices of the view may share an item, or one is past the items")]
+fn a_row_past_the_items_is_told() {
+    iterate_unchecked(Ix2(3, 1), 4);
 }
 
 /// Takes one item, or some, at an end of an iterator and of the model; whether both are the same.

@@ -33,6 +33,14 @@ fn a_view_that_leaves_its_items_or_has_an_alias_panics() {
 }
 
 #[test]
+#[should_panic(expected = "an index of the part has no item to itself")]
+fn slices_of_an_array_whose_view_has_an_alias_panic() {
+    let view = Strided::from_parts(0, Ix2(2, 2), Ix2(1, 1), 1, 3, ReadOnly).expect("a view of three items");
+    let mut items = [0_u8; 3];
+    let _ = ArrayViewMut::new(view, &mut items).multi_sliced_mut([s![0, ..]]).map(|parts| parts.len());
+}
+
+#[test]
 fn each_slice_of_an_accepted_view_is_made_a_part() {
     let view = || Strided::from_shape(Ix2(4, 6).into(), 1, 24, OwnedMutable).expect("a layout");
     for slice in [s![.., ..;-1], s![..;3, 1..;2], s![4.., 6..], s![..;-3, ..0]] {
