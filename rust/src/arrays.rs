@@ -24,12 +24,13 @@ mod pairs;
 mod pieces;
 mod reading;
 mod rows;
+mod shapes;
 mod writing;
 
 pub use axis_chunks::{AxisChunksIter, AxisChunksIterMut};
 pub use axis_iter::{AxisIter, AxisIterMut};
 pub(crate) use folding::{ColumnsLeft, fold_items, fold_iter, fold_places, nth_place};
-pub use indexed::{IndexedIter, IndexedIterMut};
+pub use indexed::{IndexedIter, IndexedIterMut, PartIndexedIterMut};
 pub(crate) use indexing::no_such_index;
 pub use iter::ViewIter;
 pub use iter_mut::IterMut;

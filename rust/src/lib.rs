@@ -20,7 +20,7 @@
 //! | the places of elements that you keep yourself | [`Strided`]: [`new`](Strided::new), [`place`](Strided::place), [`iter_places`](Strided::iter_places), [`rows`](Strided::rows) |
 //! | a list of yours as an array, to read | [`ArrayView`]: [`from_shape`](ArrayView::from_shape), [`get`](ArrayView::get), [`rows`](ArrayView::rows), [`fold`](ArrayView::fold) |
 //! | .. to write, by threads as well | [`ArrayViewMut`]: [`from_shape`](ArrayViewMut::from_shape), [`set`](ArrayViewMut::set), [`map_in_place`](ArrayViewMut::map_in_place), [`multi_slice_mut`](ArrayViewMut::multi_slice_mut) |
-//! | parts that are written at once, each by a thread | [`ArrayViewMut::multi_sliced_mut`], [`into_part`](ArrayViewMut::into_part), [`PartMut`]: [`split_at`](PartMut::split_at), [`rows_mut`](PartMut::rows_mut), [`get_mut`](PartMut::get_mut), [`fill`](PartMut::fill) |
+//! | parts that are written at once, each by a thread | [`ArrayViewMut::multi_sliced_mut`], [`into_part`](ArrayViewMut::into_part), [`PartMut`]: [`split_at`](PartMut::split_at), [`axis_iter_mut`](PartMut::axis_iter_mut), [`rows_mut`](PartMut::rows_mut), [`get_mut`](PartMut::get_mut), [`fill`](PartMut::fill) |
 //! | an array that owns its items | [`OwnedArray`]: [`from_shape_vec`](OwnedArray::from_shape_vec), [`get`](OwnedArray::get), [`multi_set`](OwnedArray::multi_set) |
 //! | a part of one of these | [`s!`] and `sliced`; [`SliceInfoElem`], [`Slice`] and `slice` for bounds that are known at run time; [`Fit`] |
 //! | other axes, windows, another shape | the methods of [`Strided`], which [`ArrayView`] and [`ArrayViewMut`] have as well; [`run`] for several [`Step`]s |
@@ -115,8 +115,8 @@ struct Readme;
 struct MustUse;
 
 pub use crate::arrays::{
-    AxisChunksIter, AxisChunksIterMut, AxisIter, AxisIterMut, IndexedIter, IndexedIterMut, IntoRows, IterMut, RowsMut,
-    ViewIter,
+    AxisChunksIter, AxisChunksIterMut, AxisIter, AxisIterMut, IndexedIter, IndexedIterMut, IntoRows, IterMut,
+    PartIndexedIterMut, RowsMut, ViewIter,
 };
 pub use crate::convenience::*;
 #[doc(inline)]
@@ -126,4 +126,4 @@ pub use crate::nd_owned::{
 };
 pub use crate::nd_parts::{PartItems, PartIter, PartRows};
 pub use crate::ndarray_layout::*;
-pub use crate::parts::{LentPart, MultiSliceArg, PartIterMut};
+pub use crate::parts::{LentPart, MultiSliceArg, PartAxisChunksIterMut, PartAxisIterMut, PartIterMut};

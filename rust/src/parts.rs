@@ -1,12 +1,16 @@
 //! Parts of an array that are lent at once, to be written, each with a shape of its own: what the package adds to those that are
 //! proved, by their calls alone.
 
+mod axes_mut;
+mod axis_iter;
+mod dimensionality;
 mod each;
 mod elems;
 mod iter;
 mod lines;
 mod multi_slice;
 mod own_items;
+mod pairs;
 mod reading;
 mod rows;
 
@@ -16,6 +20,7 @@ use crate::nd_base::{LayoutError, Lengths};
 use crate::nd_parts::{PartMut, PartRows};
 use crate::nd_shape::NdIndex;
 use crate::{ArrayViewMut, OwnedArray};
+pub use axis_iter::{PartAxisChunksIterMut, PartAxisIterMut};
 use core::fmt;
 use core::ops::{Index, IndexMut};
 pub use iter::PartIterMut;
@@ -204,8 +209,8 @@ impl<T, D: Lengths> ArrayViewMut<'_, T, D> {
     ///
     /// # Errors
     ///
-    /// That of `Strided::slice` for the first slice that doesn't fit; then `Unsupported` where two slices share an index; then
-    /// out of memory, which may come before both. The items are unchanged.
+    /// That of `Strided::slice` for the first slice that doesn't fit; then `Unsupported` where two slices share an index, which
+    /// `Strided::first_intersection` names; then out of memory, which may come before both. The items are unchanged.
     ///
     /// Takes memory for the list of parts, and time for each of them and for the comparisons of `first_intersection`.
     ///
@@ -264,10 +269,32 @@ impl<T, D: Lengths> OwnedArray<T, D> {
     }
 }
 
+impl<T, D: Lengths> PartMut<'_, T, D> {
+    /// The parts that slices pick, all lent at once, for as long as this one is borrowed: `ArrayViewMut::multi_sliced_mut`, with its
+    /// errors. Not proved.
+    ///
+    /// ```
+    /// use ndarray_layout::{ArrayViewMut, Ix2, LayoutError, s};
+    ///
+    /// # fn main() -> Result<(), LayoutError> {
+    /// let mut items = [0, 1, 2, 3, 4, 5];
+    /// let mut table = ArrayViewMut::from_shape(Ix2(2, 3).into(), &mut items)?.into_part();
+    /// let (mut first, second) = table.multi_sliced_mut((s![.., 0], s![.., 1]))?;
+    /// first[0] = second[1];
+    /// assert!(table.multi_sliced_mut((s![0, ..], s![.., 0])).is_err());
+    /// assert_eq!(items, [4, 1, 2, 3, 4, 5]);
+    /// # Ok(())
+    /// # }
+    /// ```
+    pub fn multi_sliced_mut<M: MultiSliceArg<D>>(&mut self, slices: M) -> Result<M::Parts<'_, T>, LayoutError> {
+        slices.lend(self.reborrow()?)
+    }
+}
+
 /// Who may have a part, and for how long. A thread may be lent one whose items it may be lent:
 ///
 /// ```
-/// use ndarray_layout::{Ix1, Ix2, PartItems, PartMut, PartRows};
+/// use ndarray_layout::{Ix1, Ix2, PartAxisChunksIterMut, PartAxisIterMut, PartItems, PartMut, PartRows};
 /// use std::cell::Cell;
 ///
 /// fn is_send<T: Send>() {}
@@ -277,6 +304,8 @@ impl<T, D: Lengths> OwnedArray<T, D> {
 /// is_sync::<PartMut<'_, String, Ix1>>();
 /// is_send::<PartItems<'_, Cell<u8>, Ix2>>();
 /// is_send::<PartRows<'_, Cell<u8>, Ix2>>();
+/// is_send::<PartAxisIterMut<'_, Cell<u8>, Ix2>>();
+/// is_send::<PartAxisChunksIterMut<'_, Cell<u8>, Ix2>>();
 /// ```
 ///
 /// but not one whose items it may not, whether it is given the part or sees it:
@@ -367,6 +396,17 @@ impl<T, D: Lengths> OwnedArray<T, D> {
 /// let mut part = ArrayViewMut::from_shape(Ix1(2).into(), &mut items).unwrap().into_part();
 /// let (mut first, mut second) = (part.view_mut(), part.view_mut());
 /// (first[0], second[0]) = (1, 2);
+/// ```
+///
+/// or what it has at a coordinate of an axis:
+///
+/// ```compile_fail,E0499
+/// use ndarray_layout::{ArrayViewMut, Axis, Ix2};
+///
+/// let mut items = [1, 2];
+/// let mut part = ArrayViewMut::from_shape(Ix2(1, 2).into(), &mut items).unwrap().into_part();
+/// let (first, second) = (part.axis_iter_mut(Axis(1)).unwrap().next(), part.column_mut(0));
+/// println!("{first:?} {second:?}");
 /// ```
 ///
 /// or a row of it:

@@ -103,51 +103,6 @@ macro_rules! axes {
         }
 
         $($matrix_head)* {
-            /// How many rows there are: the length of the first axis. ndarray's `nrows`. Not proved.
-            ///
-            /// ```
-            /// use ndarray_layout::*;
-            ///
-            #[doc = $setup]
-            /// assert_eq!(array.nrows(), 2);
-            /// # Ok::<(), LayoutError>(())
-            /// ```
-            #[inline]
-            #[must_use]
-            pub fn nrows(&self) -> usize {
-                self.dim()[0]
-            }
-
-            /// How many columns there are: the length of the second axis. ndarray's `ncols`. Not proved.
-            ///
-            /// ```
-            /// use ndarray_layout::*;
-            ///
-            #[doc = $setup]
-            /// assert_eq!(array.ncols(), 3);
-            /// # Ok::<(), LayoutError>(())
-            /// ```
-            #[inline]
-            #[must_use]
-            pub fn ncols(&self) -> usize {
-                self.dim()[1]
-            }
-
-            /// Whether there are as many rows as columns. ndarray's `is_square`. Not proved.
-            ///
-            /// ```
-            /// use ndarray_layout::*;
-            ///
-            #[doc = $setup]
-            /// assert!(!array.is_square());
-            /// # Ok::<(), LayoutError>(())
-            /// ```
-            #[inline]
-            #[must_use]
-            pub fn is_square(&self) -> bool {
-                self.nrows() == self.ncols()
-            }
-
             /// The row of a number. ndarray's `row`. Not proved.
             ///
             /// # Errors

@@ -1,10 +1,11 @@
 //! The items of an array with their indices.
 
 use super::{IterMut, ViewIter};
-use crate::ArrayViewMut;
 use crate::convenience::OUT_OF_MEMORY;
 use crate::nd_dim::Dimension;
+use crate::nd_parts::PartItems;
 use crate::ndarray_layout::Strided;
+use crate::{ArrayViewMut, PartMut};
 use core::fmt;
 use core::iter::FusedIterator;
 
@@ -72,6 +73,25 @@ pub struct IndexedIterMut<'a, T, D: Dimension> {
     items: IterMut<'a, T, D>,
 }
 
+/// The items of a part that are still to come, each with its index and lent to be written, in row-major order, whatever the strides
+/// are. ndarray's `IndexedIterMut`. Not proved.
+///
+/// ```
+/// use ndarray_layout::*;
+///
+/// let mut items = [0; 6];
+/// let mut turned = ArrayViewMut::from_shape(Ix2(2, 3).into(), &mut items)?.into_part().reversed_axes();
+/// for ((row, column), item) in turned.indexed_iter_mut() {
+///     *item = 10 * row + column;
+/// }
+/// assert_eq!(items, [0, 10, 20, 1, 11, 21]);
+/// # Ok::<(), LayoutError>(())
+/// ```
+pub struct PartIndexedIterMut<'a, T, D: Dimension> {
+    odometer: Odometer<D>,
+    items: PartItems<'a, T, D>,
+}
+
 impl<'a, T, D: Dimension> IndexedIter<'a, T, D> {
     pub(crate) fn new(items: &'a [T], view: Strided<D>) -> Self {
         IndexedIter { odometer: Odometer::new(&view), items: ViewIter::new(items, view) }
@@ -84,7 +104,13 @@ impl<'a, T, D: Dimension> IndexedIterMut<'a, T, D> {
     }
 }
 
-/// What both have.
+impl<'a, T, D: Dimension> PartIndexedIterMut<'a, T, D> {
+    pub(crate) fn new(part: PartMut<'a, T, D>) -> Self {
+        PartIndexedIterMut { odometer: Odometer::new(part.view()), items: part.into_items() }
+    }
+}
+
+/// What all have.
 macro_rules! indexed {
     ($name:ident, $item:ty) => {
         /// Panics where an allocation fails, never for at most 4 axes. Not proved.
@@ -126,3 +152,4 @@ macro_rules! indexed {
 
 indexed!(IndexedIter, &'a T);
 indexed!(IndexedIterMut, &'a mut T);
+indexed!(PartIndexedIterMut, &'a mut T);

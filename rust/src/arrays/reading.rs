@@ -1,9 +1,9 @@
 //! What may be read of an array of any number of axes.
 
 use super::{AxisChunksIter, IndexedIter, IntoRows, ViewIter};
-use crate::nd_base::{Axis, ErrorKind, LayoutError, Lengths, Order, ShapeError, from_kind, signed};
+use crate::nd_base::{Axis, ErrorKind, LayoutError, Lengths, Order, ShapeError, from_kind};
 use crate::nd_dim::{Dimension, product};
-use crate::nd_shape::{is_layout_c, offset_from_low_addr_ptr_to_logical_ptr};
+use crate::nd_shape::offset_from_low_addr_ptr_to_logical_ptr;
 use crate::ndarray_layout::Strided;
 use crate::{ArrayView, ArrayViewMut, OwnedArray};
 use core::ops::Range;
@@ -74,91 +74,6 @@ macro_rules! reads {
             #[must_use]
             pub fn borrowed(&self) -> ArrayView<$lent, T, D> {
                 ArrayView { items: self.stored(), view: self.view().clone() }
-            }
-
-            /// How many axes there are. ndarray's `ndim`. Not proved.
-            ///
-            /// ```
-            /// use ndarray_layout::*;
-            ///
-            #[doc = $setup]
-            /// assert_eq!(array.ndim(), 2);
-            /// # Ok::<(), LayoutError>(())
-            /// ```
-            #[inline]
-            #[must_use]
-            pub fn ndim(&self) -> usize {
-                self.dim().ndim()
-            }
-
-            /// The lengths of the axes. ndarray's `shape`. Not proved.
-            ///
-            /// ```
-            /// use ndarray_layout::*;
-            ///
-            #[doc = $setup]
-            /// assert_eq!(array.shape(), [2, 3]);
-            /// # Ok::<(), LayoutError>(())
-            /// ```
-            #[inline]
-            #[must_use]
-            pub fn shape(&self) -> &[usize] {
-                self.dim().slice()
-            }
-
-            /// The length of an axis. ndarray's `len_of`. Not proved.
-            ///
-            /// # Panics
-            ///
-            /// Where there is no such axis.
-            ///
-            /// ```
-            /// use ndarray_layout::*;
-            ///
-            #[doc = $setup]
-            /// assert_eq!(array.len_of(Axis(1)), 3);
-            /// # Ok::<(), LayoutError>(())
-            /// ```
-            #[inline]
-            #[must_use]
-            #[track_caller]
-            pub fn len_of(&self, axis: Axis) -> usize {
-                self.shape()[axis.index()]
-            }
-
-            /// The stride of an axis, in items. ndarray's `stride_of`. Not proved.
-            ///
-            /// # Panics
-            ///
-            /// Where there is no such axis.
-            ///
-            /// ```
-            /// use ndarray_layout::*;
-            ///
-            #[doc = $setup]
-            /// assert_eq!(array.stride_of(Axis(0)), 3);
-            /// # Ok::<(), LayoutError>(())
-            /// ```
-            #[inline]
-            #[must_use]
-            #[track_caller]
-            pub fn stride_of(&self, axis: Axis) -> isize {
-                signed(self.view().strides().slice()[axis.index()])
-            }
-
-            /// Whether the items lie one after another in row-major order. ndarray's `is_standard_layout`. Not proved.
-            ///
-            /// ```
-            /// use ndarray_layout::*;
-            ///
-            #[doc = $setup]
-            /// assert!(array.is_standard_layout() && !array.t().is_standard_layout());
-            /// # Ok::<(), LayoutError>(())
-            /// ```
-            #[inline]
-            #[must_use]
-            pub fn is_standard_layout(&self) -> bool {
-                is_layout_c(self.dim(), self.view().strides())
             }
 
             /// The items in row-major order, where they lie one after another so; else `None`. Spare items aren't among them.

@@ -2,7 +2,7 @@
 
 use crate::nd_base::{LayoutError, Lengths};
 use crate::nd_slice::{Fit, SliceArg};
-use crate::{ArrayView, ArrayViewMut, OwnedArray};
+use crate::{ArrayView, ArrayViewMut, OwnedArray, PartMut};
 
 impl<'a, T, D: Lengths> ArrayView<'a, T, D> {
     /// The items that a slice argument leaves, as an array of the type that the argument says: `Strided::sliced`, with its
@@ -153,5 +153,53 @@ impl<T, D: Lengths> OwnedArray<T, D> {
     pub fn sliced_mut<I: SliceArg<D>>(&mut self, slices: I) -> Result<ArrayViewMut<'_, T, I::OutDim>, LayoutError> {
         let (view, items) = self.parts_mut();
         Ok(ArrayViewMut::new(view.slice(&slices, Fit::Strict)?, items))
+    }
+}
+
+impl<'a, T, D: Lengths> PartMut<'a, T, D> {
+    /// The items that a slice argument leaves, to be written, after which this part may be used again: `Strided::sliced`, with its
+    /// errors. Not proved.
+    ///
+    /// ndarray's `slice_mut`, which panics.
+    ///
+    /// ```
+    /// use ndarray_layout::{ArrayViewMut, Ix2, LayoutError, s};
+    ///
+    /// # fn main() -> Result<(), LayoutError> {
+    /// let mut items = [0, 1, 2, 3, 4, 5];
+    /// let mut part = ArrayViewMut::from_shape(Ix2(2, 3).into(), &mut items)?.into_part();
+    /// part.sliced_mut(s![.., 1..;2])?.fill(9);
+    /// part.sliced_mut(s![1, ..])?[0] = 7;
+    /// assert_eq!(items, [0, 9, 2, 7, 9, 5]);
+    /// # Ok(())
+    /// # }
+    /// ```
+    #[inline]
+    pub fn sliced_mut<I: SliceArg<D>>(&mut self, slices: I) -> Result<PartMut<'_, T, I::OutDim>, LayoutError> {
+        self.slice_mut(&slices, Fit::Strict)
+    }
+
+    /// The items that a slice argument leaves, to be written for as long as those of this part, which it ends: `Strided::sliced`,
+    /// with its errors. Not proved.
+    ///
+    /// ndarray's `slice_move`, which panics.
+    ///
+    /// ```
+    /// use ndarray_layout::{ArrayViewMut, Ix1, Ix2, LayoutError, PartMut, s};
+    ///
+    /// fn last_column<'a>(part: PartMut<'a, u8, Ix2>) -> Result<PartMut<'a, u8, Ix1>, LayoutError> {
+    ///     part.sliced_move(s![.., -1])
+    /// }
+    ///
+    /// # fn main() -> Result<(), LayoutError> {
+    /// let mut items = [0, 1, 2, 3];
+    /// last_column(ArrayViewMut::from_shape(Ix2(2, 2).into(), &mut items)?.into_part())?.fill(9);
+    /// assert_eq!(items, [0, 9, 2, 9]);
+    /// # Ok(())
+    /// # }
+    /// ```
+    #[inline]
+    pub fn sliced_move<I: SliceArg<D>>(self, slices: I) -> Result<PartMut<'a, T, I::OutDim>, LayoutError> {
+        self.slice(&slices, Fit::Strict)
     }
 }

@@ -1,9 +1,11 @@
 //! The items of a part one after another, each lent to be written.
 
 use super::lines::{Line, Lines};
+use crate::arrays::PartIndexedIterMut;
 use crate::convenience::OUT_OF_MEMORY;
 use crate::memory::FallibleVec;
 use crate::nd_base::Lengths;
+use crate::nd_dim::Dimension;
 use crate::nd_parts::PartMut;
 use alloc::boxed::Box;
 use alloc::vec::Vec;
@@ -119,13 +121,56 @@ impl<T, D: Lengths> fmt::Debug for PartIterMut<'_, T, D> {
 }
 
 impl<T, D: Lengths> PartMut<'_, T, D> {
-    /// The items in row-major order, each lent to be written. ndarray's `iter_mut`. Not proved.
+    /// An iterator over the items in row-major order, from both ends, each lent to be written. ndarray's `iter_mut`. Not proved.
+    ///
+    /// Takes memory for a list with room for two parts for each axis and two more, and for what it keeps beside a row; for more than 4
+    /// axes also for the shape and the strides of each part. `into_items` of `view_mut`, from one end alone, takes less time, and no
+    /// memory but that of `view_mut`.
     ///
     /// # Panics
     ///
     /// Where an allocation fails.
+    ///
+    /// ```
+    /// use ndarray_layout::*;
+    ///
+    /// let mut items = [0; 6];
+    /// let mut columns = ArrayViewMut::from_shape(Ix2(2, 3).into(), &mut items)?.into_part().reversed_axes();
+    /// for (item, number) in columns.iter_mut().rev().zip(1..) {
+    ///     *item = number;
+    /// }
+    /// for (item, number) in columns.view_mut().into_items().zip(1..) {
+    ///     *item += 10 * number;
+    /// }
+    /// assert_eq!(items, [16, 34, 52, 25, 43, 61]);
+    /// # Ok::<(), LayoutError>(())
+    /// ```
     pub fn iter_mut(&mut self) -> PartIterMut<'_, T, D> {
         PartIterMut::new(self.view_mut())
+    }
+
+    /// An iterator over the items with their indices, in row-major order, each lent to be written. ndarray's `indexed_iter_mut`.
+    /// Not proved.
+    ///
+    /// # Panics
+    ///
+    /// As `view_mut`.
+    ///
+    /// ```
+    /// use ndarray_layout::*;
+    ///
+    /// let mut items = [0; 4];
+    /// let mut turned = ArrayViewMut::from_shape(Ix2(2, 2).into(), &mut items)?.into_part().reversed_axes();
+    /// turned.indexed_iter_mut().for_each(|((row, column), item)| *item = 10 * row + column);
+    /// assert_eq!(items, [0, 10, 1, 11]);
+    /// # Ok::<(), LayoutError>(())
+    /// ```
+    #[must_use]
+    pub fn indexed_iter_mut(&mut self) -> PartIndexedIterMut<'_, T, D>
+    where
+        D: Dimension,
+    {
+        PartIndexedIterMut::new(self.view_mut())
     }
 }
 

@@ -1,11 +1,9 @@
 //! Several slices of one array as one argument.
 
-use super::elems::{Elems, WHOLE};
 use crate::memory::FallibleVec;
 use crate::nd_base::{LayoutError, Lengths};
-use crate::nd_dim::IxDyn;
 use crate::nd_parts::PartMut;
-use crate::nd_slice::{Fit, SliceArg};
+use crate::nd_slice::SliceArg;
 use crate::sealed::Sealed;
 use alloc::vec::Vec;
 
@@ -26,12 +24,6 @@ pub trait MultiSliceArg<D: Lengths>: Sealed {
     fn lend<'a, T>(&self, part: PartMut<'a, T, D>) -> Result<Self::Parts<'a, T>, LayoutError>;
 }
 
-/// A part with its count of axes in the type. Errors: as many axes are not those of the type; out of memory.
-fn typed<T, E: Lengths>(part: PartMut<'_, T, IxDyn>) -> Result<PartMut<'_, T, E>, LayoutError> {
-    let whole = Elems::of(part.dim().ndim(), WHOLE)?;
-    part.slice(&whole.as_slice(), Fit::Strict)
-}
-
 /// Not proved.
 impl<D: Lengths, S: SliceArg<D>> MultiSliceArg<D> for [S] {
     type Parts<'a, T: 'a> = Vec<PartMut<'a, T, S::OutDim>>;
@@ -40,7 +32,7 @@ impl<D: Lengths, S: SliceArg<D>> MultiSliceArg<D> for [S] {
         let picked = part.multi_slice_mut(self)?;
         let mut parts = Vec::fallible_with_capacity(picked.len())?;
         for part in picked {
-            parts.push(typed(part)?);
+            parts.push(part.into_dimensionality()?);
         }
         Ok(parts)
     }
@@ -84,7 +76,7 @@ macro_rules! tuples {
             fn lend<'a, T>(&self, part: PartMut<'a, T, D>) -> Result<Self::Parts<'a, T>, LayoutError> {
                 let mut parts = part.multi_slice_mut(&[$(self.$at.elems()),*])?.into_iter();
                 let mut next = || parts.next().unwrap_or_else(|| unreachable!("each slice has a part"));
-                Ok(($(typed::<T, $slice::OutDim>(next())?,)*))
+                Ok(($(next().into_dimensionality::<$slice::OutDim>()?,)*))
             }
         }
     )*};

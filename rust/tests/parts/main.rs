@@ -2,6 +2,7 @@
 
 #[path = "../refused/allocator.rs"]
 mod allocator;
+mod axes;
 mod iterated;
 mod lent;
 mod memory;
@@ -10,9 +11,11 @@ mod model;
 #[path = "../random/numbers.rs"]
 mod numbers;
 mod own_items;
+mod pairs;
 mod random;
 mod refused;
 mod run_over;
+mod sliced;
 mod steps;
 mod threads;
 

@@ -2,7 +2,7 @@
 
 use crate::allocator::failing_at;
 use crate::{NUMBERS, rows_mut};
-use ndarray_layout::{ArrayViewMut, Axis, LayoutError, new_dim, s};
+use ndarray_layout::{ArrayView, ArrayViewMut, Axis, Ix1, Ix2, LayoutError, new_dim, s};
 
 /// Asserts that a call returns that memory ran out, whichever of its allocations fails, and how many it makes.
 fn refuses_each(allocations: usize, call: impl Fn() -> Result<(), LayoutError>) {
@@ -67,6 +67,58 @@ fn running_over_takes_no_memory_and_lending_again_a_view_of_many_axes() {
         let mut part = ArrayViewMut::from_shape(shape.into(), &mut numbers)?.into_part();
         part.reborrow()?.into_row_parts().for_each(|mut row| row.fill(9));
         part.into_items().for_each(|item| *item += 1);
+        Ok(())
+    });
+}
+
+#[test]
+fn axes_slices_and_pairs_take_no_memory_at_fixed_types() {
+    refuses_each(0, || {
+        let (mut numbers, others) = (NUMBERS, NUMBERS);
+        let mut part = rows_mut(&mut numbers).into_part();
+        part.axis_iter_mut(Axis(1))?.step_by(2).for_each(|mut column| column.fill(1));
+        part.axis_iter_mut(Axis(1))?.rev().for_each(|mut column| column.fill(1));
+        part.axis_chunks_iter_mut(Axis(1), 2)?.skip(1).for_each(|mut columns| columns.fill(2));
+        part.axis_chunks_iter_mut(Axis(1), 2)?.rev().for_each(|mut columns| columns.fill(2));
+        part.index_axis_mut(Axis(1), 2)?.fill(3);
+        part.sliced_mut(s![.., ..;2])?.fill(4);
+        let others = ArrayView::from_shape(Ix2(3, 2).into(), &others)?.reversed_axes();
+        part.assign(&others)?;
+        part.zip_mut_with(&others, |item, other| *item += other)?;
+        assert!(part.swap(&(0, 0), &(1, 2)));
+        part.indexed_iter_mut().for_each(|((row, _), item)| *item += row as u8);
+        part.into_dyn().into_dimensionality::<Ix2>()?.sliced_move(s![0, ..])?.fill(5);
+        Ok(())
+    });
+}
+
+#[test]
+fn an_axis_among_many_takes_memory_for_views() {
+    // of more than four axes a shape and strides: of the array, and of the part once more
+    refuses_each(4, || {
+        let mut numbers = NUMBERS;
+        let mut part = ArrayViewMut::from_shape(new_dim(&[1, 1, 1, 2, 3][..])?.into(), &mut numbers)?.into_part();
+        part.axis_iter_mut(Axis(4)).map(drop)
+    });
+    // and of what has an axis fewer, which has four
+    refuses_each(4, || {
+        let mut numbers = NUMBERS;
+        let mut part = ArrayViewMut::from_shape(new_dim(&[1, 1, 1, 2, 3][..])?.into(), &mut numbers)?.into_part();
+        part.index_axis_mut(Axis(4), 2).map(drop)
+    });
+    // an error comes before any of it
+    refuses_each(2, || {
+        let mut numbers = NUMBERS;
+        let mut part = ArrayViewMut::from_shape(new_dim(&[1, 1, 1, 2, 3][..])?.into(), &mut numbers)?.into_part();
+        assert!(part.index_axis_mut(Axis(4), 3).is_err() && part.axis_iter_mut(Axis(5)).is_err());
+        assert!(part.axis_chunks_iter_mut(Axis(4), 0).is_err());
+        Ok(())
+    });
+    refuses_each(2, || {
+        let mut numbers = NUMBERS;
+        let shape = new_dim(&[1, 1, 1, 1, 1, 1, 2, 3][..])?;
+        let part = ArrayViewMut::from_shape(shape.into(), &mut numbers)?.into_part();
+        assert!(part.into_dimensionality::<Ix1>().is_err());
         Ok(())
     });
 }

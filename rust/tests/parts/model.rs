@@ -24,6 +24,11 @@ impl Plain {
     /// Axes in any order, some backwards, some with gaps, and a few spare items.
     pub fn any(numbers: &mut Numbers) -> Plain {
         let shape = numbers.small_shape();
+        Plain::of(numbers, shape)
+    }
+
+    /// The same of a shape.
+    pub fn of(numbers: &mut Numbers, shape: Vec<usize>) -> Plain {
         let mut strides = vec![0; shape.len()];
         let (mut stride, mut start, mut last) = (1, 0, 0);
         let order = if numbers.once_in(2) { (0..shape.len()).rev().collect() } else { numbers.axis_order(shape.len()) };

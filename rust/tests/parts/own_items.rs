@@ -33,7 +33,7 @@ fn a_view_that_leaves_its_items_or_has_an_alias_panics() {
 }
 
 #[test]
-#[should_panic(expected = "an index of the part has no item to itself")]
+#[should_panic(expected = "two indices of the part may alias, or one lies past the items")]
 fn slices_of_an_array_whose_view_has_an_alias_panic() {
     let view = Strided::from_parts(0, Ix2(2, 2), Ix2(1, 1), 1, 3, ReadOnly).expect("a view of three items");
     let mut items = [0_u8; 3];

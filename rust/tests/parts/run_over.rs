@@ -16,10 +16,10 @@ use std::thread;
 const THREADS: usize = 3;
 
 /// An item that was written is at least this; before that it is its place.
-const WRITTEN: usize = 1_000_000;
+pub const WRITTEN: usize = 1_000_000;
 
 /// Asserts that a part whose items are their places is run over, and returns what it wrote at each of them, in row-major order.
-type Check<D> = fn(&mut Numbers, PartMut<'_, usize, D>, &Picked) -> Vec<usize>;
+pub type Check<D> = fn(&mut Numbers, PartMut<'_, usize, D>, &Picked) -> Vec<usize>;
 
 /// Asserts that so much was written at the places, and nothing elsewhere. Returns how many places there are.
 fn left_as_written(items: &[usize], picked: &Picked, written: &[usize]) -> usize {
@@ -31,14 +31,14 @@ fn left_as_written(items: &[usize], picked: &Picked, written: &[usize]) -> usize
 }
 
 /// Checks the part of a whole array. Returns how many items it has.
-fn whole<D: Lengths>(numbers: &mut Numbers, plain: &Plain, check: Check<D>) -> usize {
+pub fn whole<D: Lengths>(numbers: &mut Numbers, plain: &Plain, check: Check<D>) -> usize {
     let (mut items, picked): (Vec<usize>, Picked) = ((0..plain.len).collect(), plain.whole());
     let written = check(numbers, array(plain, &mut items).into_part(), &picked);
     left_as_written(&items, &picked, &written)
 }
 
 /// Checks what random steps leave of an array. Returns how many items that has.
-fn stepped(numbers: &mut Numbers, plain: &Plain, check: Check<IxDyn>) -> usize {
+pub fn stepped(numbers: &mut Numbers, plain: &Plain, check: Check<IxDyn>) -> usize {
     let mut items: Vec<usize> = (0..plain.len).collect();
     let (part, picked) = step(numbers, array(plain, &mut items).into_part(), plain.whole());
     let written = check(numbers, part, &picked);

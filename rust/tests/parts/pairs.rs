@@ -1,0 +1,125 @@
+//! Parts of random arrays that take the items of others, swap their own or tell their indices, beside the list of their places.
+
+use crate::model::{Picked, Plain, index_of};
+use crate::numbers::Numbers;
+use crate::random::{array, dimension};
+use crate::run_over::{WRITTEN, whole};
+use crate::threads::arrays;
+use crate::{NUMBERS, rows_mut};
+use ndarray_layout::{
+    ArrayView, ArrayViewMut, Dimension, ErrorKind, Ix2, Ix3, IxDyn, LayoutError, Lengths, PartMut, from_kind, s,
+};
+
+/// Asserts that each item meets that of another array, in row-major order, and returns what is written.
+fn takes<D: Lengths>(numbers: &mut Numbers, part: PartMut<'_, usize, D>, picked: &Picked) -> Vec<usize> {
+    let (mut part, other) = (part, Plain::of(numbers, picked.shape.clone()));
+    let places = other.whole().places;
+    let mut others: Vec<usize> = (WRITTEN..).take(other.len).collect();
+    let others: ArrayViewMut<'_, usize, D> = array(&other, &mut others);
+    let mut met = Vec::new();
+    let zipped = part.zip_mut_with(&others.borrowed(), |item, other| {
+        met.push((*item, *other));
+        *item += *other;
+    });
+    assert_eq!(zipped, Ok(()));
+    assert!(met.iter().copied().eq(picked.places.iter().copied().zip(places.iter().map(|place| WRITTEN + place))));
+    if numbers.once_in(2) {
+        return met.iter().map(|(item, other)| item + other).collect();
+    }
+    assert_eq!(part.assign(&others.borrowed()), Ok(()));
+    places.iter().map(|place| WRITTEN + place).collect()
+}
+
+/// Two indices, each of which may be past one axis, as numbers in row-major order and as indices.
+fn indices<D: Lengths>(numbers: &mut Numbers, shape: &[usize]) -> [(Option<usize>, D); 2] {
+    [(); 2].map(|()| {
+        let axis = numbers.below(shape.len() + 1);
+        let number = numbers.below(shape.iter().product());
+        let mut index = index_of(shape, number);
+        let is_past = axis < shape.len() && numbers.once_in(4);
+        if is_past {
+            index[axis] = shape[axis];
+        }
+        ((!is_past).then_some(number), dimension(index.into_iter()))
+    })
+}
+
+/// Asserts that a swap is that of the model.
+fn swaps<D: Lengths>(numbers: &mut Numbers, part: PartMut<'_, usize, D>, picked: &Picked) -> Vec<usize> {
+    let (mut part, mut due) = (part, picked.places.clone());
+    for _ in 0..if due.is_empty() { 0 } else { 3 } {
+        let [(one, index), (two, other)] = indices::<D>(numbers, &picked.shape);
+        let both = one.zip(two);
+        both.into_iter().for_each(|(one, two)| due.swap(one, two));
+        assert_eq!(part.swap(&index, &other), both.is_some(), "{picked:?}");
+    }
+    due
+}
+
+/// Asserts that each item comes with its index.
+fn indices_come<D: Dimension>(numbers: &mut Numbers, part: PartMut<'_, usize, D>, picked: &Picked) -> Vec<usize> {
+    let (mut part, begun) = (part, numbers.below(picked.places.len() + 1));
+    let mut left = part.indexed_iter_mut();
+    for number in 0..begun {
+        let index: D = dimension(index_of(&picked.shape, number).into_iter());
+        let (pattern, item) = left.next().expect("one more");
+        assert_eq!((format!("{pattern:?}"), *item), (format!("{:?}", index.into_pattern()), picked.places[number]));
+        *item = WRITTEN + number;
+    }
+    assert_eq!(left.len(), picked.places.len() - begun);
+    let end = left.fold(begun, |number, (pattern, item)| {
+        let index: D = dimension(index_of(&picked.shape, number).into_iter());
+        assert_eq!(format!("{pattern:?}"), format!("{:?}", index.into_pattern()));
+        *item += WRITTEN;
+        number + 1
+    });
+    assert_eq!(end, picked.places.len());
+    let written = picked.places.iter().enumerate();
+    written.map(|(number, place)| WRITTEN + if number < begun { number } else { *place }).collect()
+}
+
+#[test]
+fn random_parts_take_items_swap_them_and_tell_their_indices() {
+    let mut numbers = Numbers::new(1_995_001);
+    let mut written = 0;
+    for _ in 0..arrays() / 2 {
+        let plain = Plain::any(&mut numbers);
+        for call in [takes::<IxDyn>, swaps::<IxDyn>, indices_come::<IxDyn>] {
+            written += whole(&mut numbers, &plain, call);
+        }
+        let calls: &[_] = if plain.shape.len() == 2 { &[takes::<Ix2>, swaps::<Ix2>, indices_come::<Ix2>] } else { &[] };
+        calls.iter().for_each(|call| written += whole(&mut numbers, &plain, *call));
+        let calls: &[_] = if plain.shape.len() == 3 { &[takes::<Ix3>, swaps::<Ix3>, indices_come::<Ix3>] } else { &[] };
+        calls.iter().for_each(|call| written += whole(&mut numbers, &plain, *call));
+    }
+    assert!(written > 7 * arrays(), "{written} items");
+}
+
+#[test]
+fn an_array_of_another_shape_changes_no_item() -> Result<(), LayoutError> {
+    let mut numbers = NUMBERS;
+    let mut part = rows_mut(&mut numbers).into_part();
+    let others = ArrayView::from_shape(Ix2(3, 2).into(), &NUMBERS)?;
+    let fault = Err(from_kind(ErrorKind::IncompatibleShape));
+    assert_eq!(part.zip_mut_with(&others, |_, _| panic!("no item is called with")), fault);
+    assert_eq!(part.assign(&others), fault);
+    assert!(!part.swap(&(0, 0), &(2, 0)) && !part.swap(&(0, 3), &(0, 0)));
+    assert_eq!(numbers, NUMBERS);
+    let one = ArrayViewMut::from_shape(IxDyn(&[]).into(), &mut numbers)?;
+    assert!(!one.into_part().swap(&IxDyn(&[0]), &IxDyn(&[])));
+    Ok(())
+}
+
+#[test]
+fn lists_are_taken_and_swapped() -> Result<(), LayoutError> {
+    let (mut lists, others) = (crate::lists(), vec![vec![7, 7], vec![8, 8, 8]]);
+    let mut part = rows_mut(&mut lists).into_part();
+    part.sliced_mut(s![.., 2])?.assign(&ArrayView::from_shape([2].into(), &others)?)?;
+    assert!(part.swap(&(0, 1), &(1, 0)) && part.swap(&(1, 1), &(1, 1)));
+    part.view_mut().reversed_axes().indexed_iter_mut().for_each(|((row, _), list)| list.push(row as u8));
+    let rows = ArrayView::from_shape([1, 2].into(), &others)?.broadcast(&Ix2(2, 2))?;
+    part.sliced_mut(s![.., ..2])?.zip_mut_with(&rows, |list, other| list.extend(&other[1..]))?;
+    let due: [&[u8]; 7] = [&[0, 0, 7], &[3, 1, 8, 8], &[7, 7, 2], &[1, 0, 7], &[4, 1, 8, 8], &[8, 8, 8, 2], &[6]];
+    assert_eq!(lists, due);
+    Ok(())
+}
