@@ -49,6 +49,7 @@ fn items_without_note(path: &Path) -> Vec<String> {
 /// The numbers of the lines on which an item without a note in its docs begins.
 fn lines_without_note(text: &str) -> Vec<usize> {
     let lines: Vec<&str> = text.lines().map(str::trim_start).collect();
+    let own_traits = own_traits(&lines);
     let mut found = Vec::new();
     let (mut is_noted, mut is_exported) = (false, false);
     for (at, line) in lines.iter().enumerate() {
@@ -57,7 +58,7 @@ fn lines_without_note(text: &str) -> Vec<usize> {
             is_exported |= line.contains("macro_export");
             continue;
         }
-        if (is_exported || is_public(line) || is_impl_of_trait(&lines[at..])) && !is_noted {
+        if (is_exported || is_public(line) || is_impl_for_callers(&lines[at..], &own_traits)) && !is_noted {
             found.push(at + 1);
         }
         (is_noted, is_exported) = (false, false);
@@ -70,10 +71,20 @@ fn is_public(line: &str) -> bool {
     line.strip_prefix("pub ").is_some_and(|item| ITEMS.iter().any(|word| item.split(' ').next() == Some(word)))
 }
 
-/// Whether lines begin with an implementation of a trait, whose head may take several.
-fn is_impl_of_trait(lines: &[&str]) -> bool {
-    let is_impl = lines[0].starts_with("impl ") || lines[0].starts_with("impl<");
-    is_impl && lines.join(" ").split('{').next().is_some_and(|head| head.contains(" for "))
+/// The names of the traits that no other file sees, so that no caller has what implements them.
+fn own_traits<'a>(lines: &[&'a str]) -> Vec<&'a str> {
+    let names = lines.iter().filter_map(|line| line.strip_prefix("trait "));
+    names.filter_map(|item| item.split(|c: char| !c.is_alphanumeric() && c != '_').next()).collect()
+}
+
+/// Whether lines begin with an implementation, whose head may take several, of a trait that isn't among `own_traits`.
+fn is_impl_for_callers(lines: &[&str], own_traits: &[&str]) -> bool {
+    if !(lines[0].starts_with("impl ") || lines[0].starts_with("impl<")) {
+        return false;
+    }
+    let text = lines.join(" ");
+    let head = text.split('{').next().and_then(|head| head.split_once(" for "));
+    head.is_some_and(|(of, _)| of.rsplit(' ').next().is_none_or(|name| !own_traits.contains(&name)))
 }
 
 #[test]
@@ -104,5 +115,20 @@ fn an_item_without_a_note_is_found() {
     assert_eq!(lines_without_note("/// A macro.\n#[macro_export]\nmacro_rules! m {"), [3]);
     for item in ["fn f() {}", "pub(crate) fn f() {}", "pub mod m;", "impl U {", "impl<A: for<'a> T<'a>> U<A> {"] {
         assert_eq!(lines_without_note(item), [0; 0], "{item}");
+    }
+}
+
+#[test]
+fn an_impl_of_a_trait_of_its_own_file_needs_no_note() {
+    for head in ["impl Own for U {", "impl<A: Other> Own for U<A> {", "impl<A>\n    Own for U {"] {
+        for own in ["trait Own {", "trait Own: Other {", "trait Own<A> {"] {
+            assert_eq!(lines_without_note(&format!("{own}\n}}\n{head}")), [0; 0], "{own} {head}");
+        }
+        for other in ["pub(crate) trait Own {", "trait Owned {", "trait O {", "// trait Own {"] {
+            assert_eq!(lines_without_note(&format!("{other}\n}}\n{head}")), [3], "{other} {head}");
+        }
+    }
+    for head in ["impl Other for U {", "impl a::Own for U {", "impl From<Own> for U {", "impl<A: Own> Other for U {"] {
+        assert_eq!(lines_without_note(&format!("trait Own {{\n}}\n{head}")), [3], "{head}");
     }
 }
