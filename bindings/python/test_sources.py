@@ -7,6 +7,7 @@ import array
 import ctypes
 import gc
 import random
+import tempfile
 import time
 import unittest
 import weakref
@@ -165,6 +166,202 @@ class Interfaces(unittest.TestCase):
             self.assertRaises(TypeError, Layout.of, Interface(wrong))
         self.assertRaises(LayoutError, Layout.of, Interface({**good, "shape": (2, -3)}))
         self.assertRaises(LayoutError, Layout.of, Interface({**good, "strides": (3, 1)}))
+
+
+INTS = {"shape": (4,), "typestr": "<i4", "version": 3}
+"""The interface of four integers, without their memory."""
+
+
+class WithBuffer(bytearray):
+    """A buffer whose `__array_interface__` names no other memory."""
+
+    def __init__(self, items, interface):
+        super().__init__(items)
+        self.__array_interface__ = interface
+
+
+class Picture:
+    """As a picture of PIL: its `data` are bytes, made anew at each time, and all pictures have the same bytes."""
+
+    @property
+    def __array_interface__(self):
+        return {"shape": (40, 60), "typestr": "|u1", "version": 3, "data": bytes([7]) * 2_400}
+
+
+class Copies:
+    """A tensor that gives a copy of its items, which goes with the capsule."""
+
+    def __init__(self, items):
+        self.items = items
+
+    def __dlpack__(self):
+        return self.items.copy().__dlpack__()
+
+
+@unittest.skipIf(np is None, LEFT_OUT)
+class Memory(unittest.TestCase):
+    """Where arrays lie that say so in other ways than by a pair of an address and a flag."""
+
+    def setUp(self):
+        self.bytes = bytearray(range(64))
+        self.numbers = np.frombuffer(self.bytes, "i4")
+
+    def assert_refused(self, text, error, array, base=None):
+        """Compared with another array, and over a base."""
+        base = self.numbers if base is None else base
+        for call in (
+            lambda: nd.share_element(array, base),
+            lambda: nd.share_element(base, array),
+            lambda: Layout.of(array, base=base),
+        ):
+            with self.assertRaisesRegex(error, text) as caught:
+                call()
+            self.assertIn(type(caught.exception), (TypeError, ShapeError, nd.OutOfBoundsError))
+
+    def test_data_is_a_buffer(self):
+        """The memory of the buffer, from the offset on."""
+        for data in (self.bytes, memoryview(self.bytes), self.numbers, np.frombuffer(self.bytes, "c16")):
+            for offset, places in ((None, range(4)), (0, range(4)), (16, range(4, 8)), (48, range(12, 16))):
+                interface = {**INTS, "data": data, **({} if offset is None else {"offset": offset})}
+                array = Interface(interface)
+                for number in range(16):
+                    self.assertIs(nd.share_element(array, self.numbers[number:][:1]), number in places)
+                    self.assertIs(nd.share_element(self.numbers[number, ...], array), number in places)
+                self.assertEqual(Layout.of(array, base=self.bytes_as_ints()).places(), tuple(places))
+                self.assertTrue(nd.share_element(array, array))
+        backwards = Interface({**INTS, "strides": (-4,), "data": self.bytes, "offset": 12})
+        self.assertEqual(Layout.of(backwards, base=self.bytes_as_ints()).places(), (3, 2, 1, 0))
+
+    def bytes_as_ints(self):
+        return memoryview(self.bytes).cast("i")
+
+    def test_data_is_its_own_buffer(self):
+        """Without `data` the object itself is the buffer, as the protocol says."""
+        for interface in (INTS, {**INTS, "data": None}):
+            array = WithBuffer(64, {**interface, "offset": 8})
+            items = np.frombuffer(array, "i4")
+            self.assertTrue(nd.share_element(array, items[2:3]))
+            self.assertFalse(nd.share_element(array, items[:2]))
+            self.assertEqual(Layout.of(array, base=items), Layout.of(items[2:6], base=items))
+            self.assert_refused("^array: .* bytes-like object is required", TypeError, Interface(interface))
+
+    def test_what_no_data_is(self):
+        address = self.numbers.__array_interface__["data"][0]
+        for wrong in (5, "abcdef", 2.5, [address, False], {}, object(), (), (address,), (address, False, 0)):
+            self.assert_refused("^array: ", TypeError, Interface({**INTS, "data": wrong}))
+        for wrong in (None, "64", float(address), True, -1, 2**64, np.zeros(2)):
+            self.assert_refused("^array: .* pair", TypeError, Interface({**INTS, "data": (wrong, False)}))
+        self.assert_refused("address 0", ShapeError, Interface({**INTS, "data": (0, False)}))
+        self.assert_refused("C-contiguous", ShapeError, Interface({**INTS, "data": self.numbers[::2]}))
+        self.assert_refused("is an integer", TypeError, Interface({**INTS, "data": self.bytes, "offset": "4"}))
+        self.assertTrue(nd.share_element(Interface({**INTS, "data": (np.int64(address), False)}), self.numbers))
+
+    def test_data_that_is_too_short(self):
+        """What leaves the buffer would be compared with memory that isn't its own."""
+        for offset, strides in ((49, None), (-1, None), (8, (-4,)), (0, (24,)), (65, None)):
+            array = Interface({**INTS, "data": self.bytes, "offset": offset, "strides": strides})
+            self.assert_refused("bytes", nd.OutOfBoundsError, array)
+        empty = Interface({**INTS, "shape": (0, 4), "data": self.bytes, "offset": 99})
+        self.assertFalse(nd.share_element(empty, self.numbers))
+
+    def test_pictures(self):
+        """A copy shares nothing, whatever its bytes are; both are held until they are compared."""
+        one, other = Picture(), Picture()
+        for _ in range(20):
+            self.assertFalse(nd.share_element(one, other))
+            self.assertEqual(Layout.of(one).shape, (40, 60))
+            self.assertRaises(LayoutError, Layout.of, one, base=bytes(2_400))
+
+    def test_copies_of_tensors(self):
+        class Like(Copies):
+            shape, strides, itemsize = (3_000,), (8,), 8
+
+        for kind in (Copies, Like):
+            one, other = kind(np.zeros(3_000)), kind(np.zeros(3_000))
+            for _ in range(20):
+                self.assertFalse(nd.share_element(one, other))
+
+    def test_tensors_without_memory(self):
+        self.assert_refused("address 0", ShapeError, Tensor(None, (5,), (1,)))
+        self.assert_refused("device 2", ShapeError, Tensor(64, (5,), (1,), device=2))
+
+    def test_scalars(self):
+        """A scalar is a copy, which lies nowhere for long; an array with 0 axes lies where its element does."""
+        records = np.zeros(5, [("a", "i4"), ("b", "f8")])
+        for items in (np.arange(1_000.0), np.zeros(9, "?"), np.zeros(9, "S3"), np.zeros(9, "U3"), np.zeros(9, "M8[s]"), records):
+            self.assert_refused("^array: .* is a scalar of NumPy, .*`a\\[k, ...\\]`", TypeError, items[3], items)
+            with self.assertRaisesRegex(TypeError, "^base: .* is a scalar of NumPy"):
+                Layout.of(items[:1], base=items[0])
+            self.assertEqual(Layout.of(items[3, ...], base=items).places(), (3,))
+            self.assertTrue(nd.share_element(items[3, ...], items[2:4]))
+            self.assertFalse(nd.share_element(items[3, ...], items[4:]))
+        self.assertEqual(Layout.of(np.float64(1)).shape, ())
+        with self.assertRaisesRegex(ShapeError, "in a buffer"):  # (whose items no `memoryview` has)
+            Layout.over(np.zeros(1, [("a", "M8[s]")])[0], 1)
+
+    def test_arrays_of_each_kind(self):
+        """As `numpy.shares_memory`, and where an array has no element False."""
+        strings, objects, rows = np.zeros(6, "S5"), np.array([1, "a", None, 2.5]), np.zeros((3, 0, 2))
+        masked = np.ma.masked_array(self.numbers, self.numbers > 5)
+        only_read = np.broadcast_to(self.numbers[4:5], (3, 4))
+        with tempfile.TemporaryFile() as file:
+            file.write(bytes(64))
+            mapped = np.memmap(file, "i4")
+            for one, other in (
+                (strings, strings[::-2]),
+                (strings[::2], strings[1::2]),
+                (objects[:2], objects[1:]),
+                (objects[:2], objects[2:]),
+                (rows, rows),
+                (masked[1:3], self.numbers[2:]),
+                (masked[1:3], self.numbers[:1]),
+                (only_read, self.numbers[3:5]),
+                (only_read, self.numbers[5:]),
+                (mapped[::2], mapped[1::2]),
+                (mapped[::2], mapped[8:]),
+                (self.numbers.reshape(4, 4).view(np.matrix), self.numbers[15:]),
+                (np.array(5), np.array(5)),
+                (self.numbers[3:].view(np.recarray), self.numbers[3, ...]),
+            ):
+                for first, second in ((one, other), (Interface(one.__array_interface__), other)):
+                    expected = bool(np.shares_memory(one, other))
+                    self.assertIs(nd.share_element(first, second), expected, (one, other))
+                    self.assertIs(nd.share_element(second, first), expected, (one, other))
+        self.assertEqual(Layout.of(objects[1::2], base=objects).places(), (1, 3))
+        for none in ("abc", [1, 2], self.numbers.flat, np.ndarray, object()):
+            self.assert_refused("^(array|length|stride)", TypeError, none)
+
+    def test_other_protocols(self):
+        """`__array_struct__` is read by NumPy; what has an address on another device alone is none."""
+
+        class Struct:
+            def __init__(self, items):
+                self.__array_struct__ = items.__array_struct__
+                self.items = items
+
+        class Wrong:
+            __array_struct__ = 5
+
+        class Cuda:
+            __cuda_array_interface__ = {**INTS, "data": (64, False)}
+
+        struct = Struct(self.numbers[3:9:2])
+        self.assertEqual(Layout.of(struct), Layout.of(self.numbers[3:9:2]))
+        self.assertEqual(Layout.of(struct, base=self.numbers).places(), (3, 5, 7))
+        self.assertTrue(nd.share_element(struct, self.numbers[7:8]))
+        self.assertFalse(nd.share_element(struct, self.numbers[6:7]))
+        self.assert_refused("^array: ", TypeError, Wrong())
+        self.assert_refused("^array: ", TypeError, Cuda())
+
+    def test_attributes_beside_an_interface(self):
+        """What has both is read by its interface, so that the address is that of the shape."""
+
+        class Both(Interface):
+            shape, strides, itemsize = (2,), (999,), 1
+
+        array = Both(self.numbers[2:4].__array_interface__)
+        self.assertEqual(Layout.of(array, base=self.numbers).places(), (2, 3))
+        self.assertEqual(Layout.of(array), Layout.of(self.numbers[2:4]))
 
 
 @unittest.skipIf(np is None, LEFT_OUT)

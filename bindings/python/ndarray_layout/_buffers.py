@@ -2,13 +2,14 @@
 
 from __future__ import annotations
 
+import sys
 from numbers import Integral
 from pickle import PickleBuffer
 from types import SimpleNamespace
 from typing import TYPE_CHECKING, Any, Optional
 
 from ._errors import OutOfBoundsError, ShapeError
-from ._numbers import Lens, as_integer
+from ._numbers import Lens, as_integer, written
 
 if TYPE_CHECKING:
     import numpy
@@ -21,9 +22,28 @@ def shown(buffer: Any, name: str = "buffer") -> memoryview:
     except TypeError as error:
         raise TypeError(f"{name}: {error}") from None
     except (BufferError, ValueError) as error:
-        if not hasattr(buffer, "__array_interface__"):
+        if not is_numpys(buffer) or is_scalar(buffer):
             raise ShapeError("Unsupported", str(error)) from None
     return memoryview(_without_format(buffer))
+
+
+def is_numpys(value: Any) -> bool:
+    """Whether a value is an array of NumPy, or one of its scalars. (there is none before NumPy is imported)"""
+    numpy = sys.modules.get("numpy")
+    return numpy is not None and isinstance(value, (getattr(numpy, "ndarray", ()), getattr(numpy, "generic", ())))
+
+
+def is_scalar(value: Any) -> bool:
+    """Whether a value is a scalar of NumPy: a copy of an element, which says the address of one more copy."""
+    numpy = sys.modules.get("numpy")
+    return numpy is not None and isinstance(value, getattr(numpy, "generic", ()))
+
+
+def refuse_scalar(value: Any, name: str) -> None:
+    """Raises `TypeError` for a scalar of NumPy, where an address is read."""
+    if is_scalar(value):
+        text = "is a scalar of NumPy, which doesn't say where in memory an element lies; an array does, as `a[k, ...]`"
+        raise TypeError(f"{name}: {written(value)} {text}")
 
 
 def _without_format(array: Any) -> Any:
@@ -126,18 +146,19 @@ def dtype_as(dtype: Any, buffer: Any, items: memoryview) -> numpy.dtype[Any]:
 # ---- Where they lie
 
 
-def items_of_size(base: Any, itemsize: int) -> int:
-    """How many items a base has, of the size of an array's."""
+def items_of_size(base: Any, itemsize: int) -> memoryview:
+    """The items of a base, which are of the size of an array's."""
+    refuse_scalar(base, "base")
     view = side_by_side(base, name="base")
     if view.itemsize != itemsize:
         numbers = {"itemsize": itemsize, "base": view.itemsize}
         raise ShapeError("Unsupported", f"items of {itemsize} bytes, in a base of {view.itemsize}", None, numbers)
-    return view.nbytes // itemsize
+    return view
 
 
-def items_before(address: int, base: Any, itemsize: int) -> int:
+def items_before(address: int, base: memoryview) -> int:
     """How many items of a base lie in memory before an address, where element (0, .., 0) of an array lies."""
-    start, rest = divmod(address - address_in(base, "base"), itemsize)
+    start, rest = divmod(address - address_of(base), base.itemsize)
     if start < 0:
         raise OutOfBoundsError("OutOfBounds", f"the array begins {-start} items below the base", None, {"start": start})
     if rest:
@@ -146,7 +167,9 @@ def items_before(address: int, base: Any, itemsize: int) -> int:
     return start
 
 
-def address_in(buffer: Any, name: str) -> int:
-    """Where the first element of an array, or of what a `memoryview` shows, lies in memory."""
-    array = buffer if hasattr(buffer, "__array_interface__") else _as_numpy(shown(buffer, name))
+def address_of(view: memoryview) -> int:
+    """Where the first element of what a `memoryview` shows lies in memory."""
+    import numpy
+
+    array = numpy.asarray(PickleBuffer(view).raw()) if view.contiguous else _as_numpy(view)
     return int(array.__array_interface__["data"][0])

@@ -2,7 +2,7 @@
 
 from __future__ import annotations
 
-from typing import Any, Optional, overload
+from typing import Any, NamedTuple, Optional, overload
 
 from . import _library as library
 from ._arrays import Array, in_bytes, read_array
@@ -12,7 +12,7 @@ from ._numbers import LIMIT, Lens, not_64_bits, one_answer, signed, unsigned, wo
 from ._reasons import of_array
 from ._sharing import MAX_WORK, Part, share_byte
 from ._slices import packed_key, slice_by_key
-from ._sources import address_of, read_source
+from ._sources import Memory, read_in_memory
 from ._views import Fields
 
 _NOTHING: Any = type("Nothing", (), {"__repr__": lambda self: "nothing"})()
@@ -37,9 +37,12 @@ def share_element(a: Any, first: Any, second: Any = _NOTHING, max_work: Optional
     keys, such as booleans and arrays with 0 axes.
 
     Two arrays share an element where they share a byte of memory, as `numpy.shares_memory` says. They may be of any
-    layout and of different items: arrays of NumPy, `memoryview`s, what has `__array_interface__`, tensors of DLPack in
-    the memory of this process. NumPy is needed for an address that no such array tells. Two layouts are of one buffer,
-    and share an element where they share a place.
+    layout and of different items: arrays of NumPy, buffers, what has `__array_interface__` or `__array_struct__`,
+    tensors of DLPack in the memory of this process. Each is read once, and its memory is held until they are compared.
+    What shows a copy of its memory, as a picture of PIL does, shares none. NumPy is needed for the address of a buffer.
+    Raises `TypeError` for a scalar of NumPy, which is a copy: `x[k]` is one, and `x[k, ...]` an array. Raises
+    `ShapeError` for memory of other devices, and `IndexError` where an array leaves the buffer that it names as its
+    `data`. Two layouts are of one buffer, and share an element where they share a place.
 
     Where the bytes of `a` break the no-alias rule (`has_overlap`), as windows and broadcasts do, and for two arrays or
     layouts, places are compared in Python, in at most `max_work` steps of some 2 microseconds: `None` is without end, 0
@@ -97,23 +100,35 @@ def _share_memory(a: Any, b: Any, max_work: Optional[int]) -> bool:
     """`share_element` of two arrays, or of two layouts of one buffer."""
     if isinstance(a, Fields) != isinstance(b, Fields):
         raise TypeError("an array and a layout are compared with nothing but their like")
-    (one, size), (other, other_size) = _part_of(a), _part_of(b)
-    shared = share_byte(one, other, size, max_work, other_size) if max_work != 0 else None
+    one, other = _part_of(a), _part_of(b)
+    shared = share_byte(one.part, other.part, one.itemsize, max_work, other.itemsize) if max_work != 0 else None
     if shared is None:
-        shapes = f"shapes {written(one.shape)} and {written(other.shape)}"
+        shapes = f"shapes {written(one.part.shape)} and {written(other.part.shape)}"
         text = f"arrays of the {shapes} may overlap, and {written(max_work)} steps don't decide whether they do"
         raise ShapeError("Unsupported", text)
     return shared
 
 
-def _part_of(a: Any) -> tuple[Part, int]:
-    """An array as a part of the memory, in bytes, or a layout as one of its buffer; and the size of an item."""
+class _Held(NamedTuple):
+    """A part, the size of an item, and what keeps the items where they lie."""
+
+    part: Part
+    itemsize: int
+    memory: Optional[Memory]
+
+
+_NO_ITEMS = _Held(Part(0, (0,), (1,)), 1, None)
+
+
+def _part_of(a: Any) -> _Held:
+    """An array as a part of the memory, in bytes, or a layout as one of its buffer."""
     if isinstance(a, Fields):
-        return Part(a.start, a.shape, a.strides), 1
-    source = read_source(a)
+        return _Held(Part(a.start, a.shape, a.strides), 1, None)
+    source = read_in_memory(a)
     unsigned(source.shape), signed(source.strides)  # (which refuse what has no 64 bits)
     if not 0 <= source.itemsize < 2**64:
         raise not_64_bits("itemsize", source.itemsize, True, None)
     if 0 in source.shape or source.itemsize == 0:
-        return Part(0, (0,), (1,)), 1
-    return Part(address_of(a, source, "array"), source.shape, source.strides), source.itemsize
+        return _NO_ITEMS
+    memory = source.memory()
+    return _Held(Part(memory.address, source.shape, source.strides), source.itemsize, memory)

@@ -53,7 +53,7 @@ from ._numbers import (
 )
 from ._sharing import MAX_WORK, share_byte
 from ._slices import Elems, basic_key, first_intersection, slices_intersect
-from ._sources import address_of, read_source
+from ._sources import read_in_memory, read_source
 from ._views import Fields, Views, made
 
 if TYPE_CHECKING:
@@ -172,20 +172,22 @@ class Layout(Views):
 
         Raises `ShapeError` where a stride is no multiple of the item size, as of packed records, where the base has
         gaps or items of another size, and where the layout is to be owned and breaks the no-alias rule; `IndexError`
-        where the array doesn't lie within the base. A base needs NumPy.
+        where the array doesn't lie within the base. A base needs NumPy. With one a scalar of NumPy, as `x[k]`, is a
+        `TypeError`: it is a copy, and `x[k, ...]` an array.
 
         >>> Layout.of(memoryview(b"abcdef")[::-2])
         Layout(start=4, shape=(3,), strides=(-2,), length=5, owned=False)
         """
-        source, owned = read_source(array), flag(owned, "owned")
+        source, owned = (read_source if base is None else read_in_memory)(array), flag(owned, "owned")
         shape, byte_strides, itemsize, kind, _ = source
         strides = default_strides(shape) if 0 in shape else element_strides(byte_strides, itemsize)
         if base is None:
             start = _start_of(shape, strides, itemsize, LIMIT + 1, owned)
             spans = [(length - 1) * abs(stride) for length, stride in zip(shape, strides)]
             return made(start, shape, strides, 0 if 0 in shape else sum(spans) + 1, owned, itemsize, kind)
-        length = items_of_size(base, itemsize)
-        start = 0 if 0 in shape else items_before(address_of(array, source, "array"), base, itemsize)
+        items = items_of_size(base, itemsize)
+        length = items.nbytes // itemsize
+        start = 0 if 0 in shape else items_before(source.memory().address, items)
         check_layout(start, shape, strides, elem_size=itemsize, length=length, owned=owned)
         return made(start, shape, strides, length, owned, itemsize, kind)
 

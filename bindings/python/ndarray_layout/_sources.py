@@ -1,6 +1,7 @@
 """What is read of arrays: shape, strides, item size, format and address, of whatever says them.
 
-An array says them by its attributes, by `__array_interface__`, by a DLPack capsule, or as a buffer. No element is read.
+An array says them by its attributes, by `__array_interface__` or `__array_struct__`, by a DLPack capsule, or as a buffer.
+No element is read.
 """
 
 from __future__ import annotations
@@ -9,25 +10,39 @@ import ctypes
 from itertools import accumulate
 from operator import mul
 from sys import byteorder
-from typing import Any, NamedTuple, Optional
+from typing import Any, Callable, NamedTuple, Optional
 
-from ._arrays import read_array
-from ._buffers import address_in, shown
+from ._arrays import lay_over, read_array
+from ._buffers import address_of, is_numpys, refuse_scalar, shown, side_by_side
 from ._errors import ShapeError
 from ._frames import WIDEST
-from ._numbers import Lens, integers, written
+from ._numbers import Lens, as_integer, integer, integers, written
+
+
+class Memory(NamedTuple):
+    """Where element (0, .., 0) of an array lies, and what keeps it there: as long as that lives no other memory has the
+    address. So two addresses are compared while both of these live.
+    """
+
+    address: int
+    held: Any
 
 
 class Source(NamedTuple):
-    """An array: its strides count in bytes, and `format` is `struct`'s. `address` is where element (0, .., 0) lies in
-    memory, where that is read already.
-    """
+    """An array: its strides count in bytes, and `format` is `struct`'s. `find` is called where it has an element."""
 
     shape: Lens
     strides: Lens
     itemsize: int
     format: Optional[str]
-    address: Optional[int]
+    find: Callable[[], Memory]
+
+    def memory(self) -> Memory:
+        """Where an array lies that has an element, or the error of one that doesn't say it."""
+        found = self.find()
+        if found.address == 0:
+            raise ShapeError("Unsupported", "array: no element lies at address 0")
+        return found
 
 
 class _Kind(ctypes.Structure):
@@ -60,23 +75,58 @@ _FORMATS = {
 _CODES = {"i": 0, "u": 1, "f": 2, "c": 5, "b": 6}
 """The codes of the letters of NumPy's `typestr`."""
 
+_LETTERS = {*_CODES, *"mMOSUV"}
+"""All letters of a `typestr` whose number counts bytes, or characters of four."""
+
 _CPU, _CUDA_HOST = 1, 3
 """Devices whose memory has addresses of this process."""
 
 
 def read_source(array: Any) -> Source:
     """What an array says of itself. Raises `TypeError` for what says nothing, and what the array itself raises."""
-    if not isinstance(array, memoryview):
-        if hasattr(array, "strides"):
-            return Source(*read_array(array), _format_of(array), None)
-        if hasattr(array, "__array_interface__"):
-            return _read_interface(array.__array_interface__)
-        if hasattr(array, "__dlpack__") or type(array).__name__ == "PyCapsule":
-            return _read_capsule(array)
-    view = shown(array, "array")
+    if isinstance(array, memoryview):
+        return _of_view(shown(array, "array"))
+    if is_numpys(array):
+        return Source(*read_array(array), _format_of(array), lambda: _memory_of_numpys(array))
+    interface = getattr(array, "__array_interface__", None)  # (once: a picture makes a copy for it)
+    if interface is not None:
+        return _of_interface(array, interface)
+    if hasattr(array, "strides"):
+        return Source(*read_array(array), _format_of(array), lambda: _without_attributes(array).find())
+    return _without_attributes(array)
+
+
+def read_in_memory(array: Any) -> Source:
+    """The same of an array whose address is to be read, which a scalar of NumPy hasn't."""
+    refuse_scalar(array, "array")
+    return read_source(array)
+
+
+def _without_attributes(array: Any) -> Source:
+    """What an array says of itself by a protocol, and not by attributes."""
+    if hasattr(array, "__dlpack__") or type(array).__name__ == "PyCapsule":
+        return _of_capsule(array)
+    return read_source(_as_numpys(array)) if hasattr(array, "__array_struct__") else _of_view(shown(array, "array"))
+
+
+def _of_view(view: memoryview) -> Source:
     if view.suboffsets:
         raise ShapeError("Unsupported", "a layout has no suboffsets")
-    return Source(*read_array(view), view.format, None)  # type: ignore[arg-type]
+    return Source(*read_array(view), view.format, lambda: Memory(address_of(view), view))  # type: ignore[arg-type]
+
+
+def _as_numpys(array: Any) -> Any:
+    """An array as NumPy reads its `__array_struct__`."""
+    import numpy
+
+    try:
+        return numpy.asarray(array)
+    except ValueError as error:
+        raise TypeError(f"array: {error}") from None
+
+
+def _memory_of_numpys(array: Any) -> Memory:
+    return Memory(int(array.__array_interface__["data"][0]), array)
 
 
 def _format_of(array: Any) -> Optional[str]:
@@ -87,18 +137,47 @@ def _format_of(array: Any) -> Optional[str]:
         return None
 
 
-def _read_interface(interface: Any) -> Source:
+# ---- __array_interface__
+
+
+def _of_interface(array: Any, interface: Any) -> Source:
     try:
         typestr, shape = interface["typestr"], integers(interface["shape"], "length")
-        order, letter, size = typestr[0], typestr[1], int(typestr[2:].partition("[")[0])  # (as <M8[s])
+        order, letter, size = typestr[0], typestr[1], _size_of(typestr[1], typestr[2:].partition("[")[0])  # (as <M8[s])
     except (KeyError, IndexError, TypeError, ValueError) as error:
         raise TypeError(f"array: its __array_interface__ is none: {written(error)}") from None
     itemsize = 4 * size if letter == "U" else size
     strides = interface.get("strides")
     steps = tuple([step * itemsize for step in _row_strides(shape)]) if strides is None else integers(strides, "stride")
-    kind = f"{size}s" if letter == "S" else _FORMATS.get((_CODES.get(letter, -1), 8 * size))
+    kind = {"S": f"{size}s", "O": "O"}.get(letter) or _FORMATS.get((_CODES.get(letter, -1), 8 * size))
     is_other = order == (">" if byteorder == "little" else "<")
-    return Source(shape, steps, itemsize, f"{order}{kind}" if kind and is_other else kind, None)
+    form = f"{order}{kind}" if kind and is_other else kind
+    return Source(shape, steps, itemsize, form, lambda: _memory_of(array, interface, shape, steps, itemsize))
+
+
+def _size_of(letter: str, digits: str) -> int:
+    """The number of a `typestr`: that of references to objects may be left out."""
+    if letter not in _LETTERS:
+        raise ValueError(f"no type of items: {letter}")
+    return ctypes.sizeof(ctypes.c_void_p) if letter == "O" and not digits else int(digits)
+
+
+def _memory_of(array: Any, interface: Any, shape: Lens, strides: Lens, itemsize: int) -> Memory:
+    """The memory that an interface says: by an address, or as a buffer, of which an array of such a layout is a part."""
+    data = interface.get("data")
+    if isinstance(data, tuple):
+        return Memory(_address_of_pair(data), (array, interface))
+    view = side_by_side(array if data is None else data, in_rows=True, name="array: its data")
+    offset = integer(interface.get("offset", 0), "array: its offset")
+    offset = lay_over(shape, strides, itemsize=itemsize, nbytes=view.nbytes, offset=offset)  # (which refuses what leaves it)
+    return Memory(address_of(view) + offset, view)
+
+
+def _address_of_pair(data: tuple[Any, ...]) -> int:
+    address = as_integer(data[0]) if len(data) == 2 else None
+    if address is None or not 0 <= address < 2**64:
+        raise TypeError(f"array: its data are no pair of an address and a flag, but {written(data)}")
+    return address
 
 
 def _row_strides(shape: Lens) -> Lens:
@@ -106,7 +185,10 @@ def _row_strides(shape: Lens) -> Lens:
     return tuple(accumulate((max(length, 1) for length in shape[:0:-1]), mul, initial=1))[::-1] if shape else ()
 
 
-def _read_capsule(array: Any) -> Source:
+# ---- DLPack
+
+
+def _of_capsule(array: Any) -> Source:
     """An array of DLPack. The capsule is let go as it came, and then its maker frees what it made for it."""
     capsule = array.__dlpack__() if hasattr(array, "__dlpack__") else array
     pointer = ctypes.pythonapi.PyCapsule_GetPointer
@@ -125,10 +207,13 @@ def _read_capsule(array: Any) -> Source:
     strides = tuple(tensor.strides[: tensor.ndim]) if tensor.strides else _row_strides(shape)
     found = tuple([stride * itemsize for stride in strides])
     kind = _FORMATS.get((tensor.kind.code, tensor.kind.bits)) if tensor.kind.lanes == 1 else None
-    address = (tensor.data or 0) + tensor.byte_offset if tensor.device[0] in (_CPU, _CUDA_HOST) else None
-    return Source(shape, found, itemsize, kind, address)
+    address, device = (tensor.data + tensor.byte_offset if tensor.data else 0), int(tensor.device[0])
+    return Source(shape, found, itemsize, kind, lambda: _memory_of_tensor(address, device, capsule))
 
 
-def address_of(array: Any, source: Source, name: str) -> int:
-    """Where element (0, .., 0) of an array lies in memory, of which `source` was read."""
-    return address_in(array, name) if source.address is None else source.address
+def _memory_of_tensor(address: int, device: int, capsule: Any) -> Memory:
+    """The memory of a tensor. Raises `ShapeError` where its device has no addresses of this process."""
+    if device in (_CPU, _CUDA_HOST):
+        return Memory(address, capsule)
+    text = f"array: the memory of a tensor on a device {device} has no address here"
+    raise ShapeError("Unsupported", text, None, {"device": device})
