@@ -88,6 +88,9 @@ NO_ELEMS = [
         [Slice(FAR), 0],
         [0, -FAR],
         [Far(), 0],
+        [Slice(True), 0],
+        [0, Slice(0, False)],
+        [0, Slice(0, 1, True)],
         [0, Slice(0, Far())],
         [NoText(), 0],
     ),
@@ -119,8 +122,12 @@ BAD = {
     "chunks": [*(chunks for chunks in NO_LISTS[1:] if type(chunks) is not list or chunks[0] != [2]), *FAR_LISTS, ((2,), (2,)), ((2,), (4, -1))],
     "number": NO_NUMBERS + FAR_NUMBERS,
     "number or None": NO_NUMBERS[1:] + FAR_NUMBERS,
-    "steps": NO_NUMBERS[1:],
-    "flag": with_numpy(lambda: [np.array([1, 2]), np.ones((2, 2))]),
+    "steps": NO_NUMBERS[1:] + [-1, -FAR],
+    "place": NO_NUMBERS,
+    "flag": [
+        *(None, 0, 1, 2.5, "false", "", b"", [], [True], {}, object(), NoText(), FAR),
+        *with_numpy(lambda: [np.array([1, 2]), np.ones((2, 2)), np.array(True), np.int8(1)]),
+    ],
     "order": [None, 5, FAR, [], {}, "K", "", b"C", NoText(), *with_numpy(lambda: [np.array(["C", "F"]), np.zeros(2)])],
     "order or None": [5, FAR, [], {}, "K", "", b"C", NoText()],
     "elems": NO_ELEMS,
@@ -153,6 +160,7 @@ BAD = {
 """Values of which no one is what a parameter of the kind takes."""
 
 LAYOUT = Layout.over(6, (2, 3))
+OWNED = Layout.over(6, (2, 3), owned=True)
 ONES = Layout.over(1, (1, 1))
 REPEATED = LAYOUT.broadcast((2, 2, 3))
 SHAPED = {"shape": ((2, 3), "list"), "strides": ((3, 1), "list")}
@@ -210,11 +218,11 @@ CALLS = {
     Layout.over: {
         "buffer": (6, "buffer or number"),
         "shape": ((2, 3), "list"),
-        "strides": ((3, 1), "list or None"),
+        "strides": (None, "list or None"),
         "start": (0, "number or None"),
+        "order": (None, "order or None"),
         "owned": (False, "flag"),
-    }
-    | ORDER,
+    },
     Layout.of: {"array": (b"abc", "array or buffer"), "owned": (False, "flag")},
     LAYOUT.__getitem__: {"key": (0, "key")},
     LAYOUT.slice: {"elems": ((0, 0), "elems")} | CLAMP,
@@ -223,7 +231,7 @@ CALLS = {
     LAYOUT.expand_dims: {"axis": ((0, 1), "list")},
     ONES.squeeze: {"axis": ((0, 1), "list or None")},
     LAYOUT.moveaxis: {"source": ((0, 1), "list"), "destination": ((0, 1), "list")},
-    LAYOUT.index_of: {"place": (0, "steps")},
+    LAYOUT.index_of: {"place": (0, "place")},
     LAYOUT.joined_rows: ORDER,
     LAYOUT.to_svg: {},
     LAYOUT.broadcast: {"shape": ((2, 3), "list")},
@@ -236,6 +244,7 @@ CALLS = {
     LAYOUT.rows: ORDER,
     LAYOUT.first_intersection: {"keys": ([0], "keys")},
     LAYOUT.intersects: BOTH,
+    OWNED.has_distinct_places: {"max_work": (10, "steps")},
     REPEATED.intersects: BOTH,
     REPEATED.has_distinct_places: {"max_work": (10, "steps")},
     LAYOUT.as_memoryview: {"buffer": (b"abcdef", "buffer")},

@@ -6,6 +6,7 @@
 import pickle
 import random
 import unittest
+from array import array
 from collections import Counter
 from itertools import product
 from types import SimpleNamespace
@@ -257,6 +258,63 @@ class Texts(unittest.TestCase):
         self.assertIs(type(again), nd.OutOfBoundsError)
         self.assertEqual((again.kind, again.axis, again.numbers), ("OutOfBounds", 1, {"index": 3, "length": 3}))
         self.assertEqual(str(again), str(caught.exception))
+
+
+class NotTakenForAnother(unittest.TestCase):
+    """What could be read as something else is refused."""
+
+    def assert_refused(self, error, text, call, *arguments, **named):
+        with self.assertRaises(error) as caught:
+            call(*arguments, **named)
+        self.assertEqual(str(caught.exception), text)
+
+    def test_flags(self):
+        """A word or a number is neither yes nor no, also where Python takes it for one of them."""
+        for wrong in ("false", "", 1, 0, None, []):
+            text = f"owned is true or false, not {wrong!r}"
+            self.assert_refused(TypeError, text, nd.Layout.over, 6, 6, owned=wrong)
+            self.assert_refused(TypeError, text, nd.Layout, 0, (6,), (1,), length=6, owned=wrong)
+            text = f"clamp is true or false, not {wrong!r}"
+            self.assert_refused(TypeError, text, nd.picked, 4, [Slice(0, 9)], clamp=wrong)
+        self.assertIs(nd.Layout.over(6, 6, owned=True).owned, True)
+
+    def test_order_beside_strides(self):
+        for order in "CFcf":
+            text = f"Unsupported: the order {order!r} beside strides, which say the order themselves"
+            self.assert_refused(nd.ShapeError, text, nd.Layout.over, 6, (2, 3), (3, 1), order=order)
+        self.assertEqual(nd.Layout.over(6, (2, 3), (1, 2)), nd.Layout.over(6, (2, 3), order="F"))
+        self.assertEqual(nd.Layout.over(7, (2, 3), start=1, order="F").strides, (1, 2))
+        self.assertEqual(nd.Layout.over(7, (2, 3), start=1).strides, (3, 1))
+
+    def test_limits(self):
+        """A count of steps or of parts isn't negative: NumPy's -1 for 'without end' is `None`."""
+        text = "max_work -1 is negative, and `None` is without end"
+        layout, windows = nd.Layout.over(6, 6, owned=True), nd.Layout.over(6, 6).windows(2)
+        for call, arguments in (
+            (nd.share_element, (ROWS, 0, 1)),
+            (nd.share_element, (layout, layout)),
+            (nd.has_distinct_places, ((4, 3), (1, 1))),
+            (layout.has_distinct_places, ()),
+            (windows.has_distinct_places, ()),
+            (windows.intersects, (0, 1)),
+        ):
+            self.assert_refused(OverflowError, text, call, *arguments, max_work=-1)
+        self.assert_refused(OverflowError, "max_parts -1 is negative", nd.first_conflict, 3, [], max_parts=-1)
+        self.assertIsNone(nd.first_conflict(3, [], max_parts=0))
+
+    def test_two_buffers(self):
+        """Layouts of two buffers share no element that a number could tell."""
+        items, bytes_of_them = nd.Layout.over(array("i", range(10)), 10), nd.Layout.over(40, 40)
+        for one, other, text in (
+            (nd.Layout.over(10, 10), nd.Layout.over(20, 10), "10 items of size 1, and 20 of size 1"),
+            (items, nd.Layout.over(10, 10), "10 items of size 4, and 10 of size 1"),
+            (bytes_of_them, items, "40 items of size 1, and 10 of size 4"),
+        ):
+            text = f"IncompatibleLayout: the layouts are of two buffers: {text}"
+            self.assert_refused(nd.ShapeError, text, nd.share_element, one, other)
+            self.assert_refused(nd.ShapeError, text, nd.share_element, one[:0], other, max_work=0)
+        self.assertTrue(nd.share_element(items, nd.Layout.over(array("f", range(10)), 10)))
+        self.assertFalse(nd.share_element(items[::2], items[1::2]))
 
 
 class AsNumpyTakesThem(unittest.TestCase):

@@ -11,7 +11,7 @@ from ._boxes import Intervals, Pair, find_in_groups, first_pair
 from ._chunks import Chunking, Chunks, Even, block_length, lengths_of, read_chunks
 from ._errors import LayoutError, ShapeError, of_one
 from ._layouts import default_strides
-from ._numbers import LIMIT, Lens, Numbers, Packed, entries, integer, listing, said, unsigned
+from ._numbers import LIMIT, Lens, Numbers, Packed, entries, limit, listing, said, unsigned
 from ._slices import SLICE_WITH_END, Elem, Slice, basic_key, intersection, picked, slice_view
 
 MAX_PARTS = 1_000_000
@@ -74,7 +74,7 @@ def first_conflict(
     lens = lengths_of(shape, "length")
     default_strides(lens)  # (which refuses a size above the limit)
     chunk = (Even(1),) * len(lens) if chunks is None else read_chunks(lens, chunks)
-    parts, max_parts = list[_Part](), integer(max_parts, "max_parts")
+    parts, max_parts = list[_Part](), limit(max_parts, "max_parts")
     alone: Optional[int] = None
     for position, (key, lengths) in enumerate(_with_blocks(keys, blocks)):
         picks = _at(position, _picks, lens, key)

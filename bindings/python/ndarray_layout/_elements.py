@@ -8,7 +8,7 @@ from . import _library as library
 from ._arrays import Array, in_bytes, read_array
 from ._errors import LayoutError, ShapeError
 from ._layouts import layout_start
-from ._numbers import LIMIT, Lens, not_64_bits, one_answer, signed, unsigned, work_limit, written
+from ._numbers import LIMIT, Lens, not_64_bits, one_answer, said, signed, unsigned, work_limit, written
 from ._reasons import of_array
 from ._sharing import MAX_WORK, Part, share_byte
 from ._slices import packed_key, slice_by_key
@@ -42,7 +42,11 @@ def share_element(a: Any, first: Any, second: Any = _NOTHING, max_work: Optional
     What shows a copy of its memory, as a picture of PIL does, shares none. NumPy is needed for the address of a buffer.
     Raises `TypeError` for a scalar of NumPy, which is a copy: `x[k]` is one, and `x[k, ...]` an array. Raises
     `ShapeError` for memory of other devices, and `IndexError` where an array leaves the buffer that it names as its
-    `data`. Two layouts are of one buffer, and share an element where they share a place.
+    `data`.
+
+    Two layouts are of one buffer, and share an element where they share a place. Raises `ShapeError` where they are of
+    another length or item size: of two buffers. `Layout.of(x)` has its own lowest element at place 0, so
+    `Layout.of(x[:2])` and `Layout.of(x[2:4])` share one here; `Layout.of(x[:2], base=x)` lies where it lies in `x`.
 
     Where the bytes of `a` break the no-alias rule (`has_overlap`), as windows and broadcasts do, and for two arrays or
     layouts, places are compared in Python, in at most `max_work` steps of some 2 microseconds: `None` is without end, 0
@@ -100,6 +104,8 @@ def _share_memory(a: Any, b: Any, max_work: Optional[int]) -> bool:
     """`share_element` of two arrays, or of two layouts of one buffer."""
     if isinstance(a, Fields) != isinstance(b, Fields):
         raise TypeError("an array and a layout are compared with nothing but their like")
+    if isinstance(a, Fields) and isinstance(b, Fields) and (a.length, a.itemsize) != (b.length, b.itemsize):
+        raise _of_two_buffers(a, b)
     one, other = _part_of(a), _part_of(b)
     shared = share_byte(one.part, other.part, one.itemsize, max_work, other.itemsize) if max_work != 0 else None
     if shared is None:
@@ -107,6 +113,13 @@ def _share_memory(a: Any, b: Any, max_work: Optional[int]) -> bool:
         text = f"arrays of the {shapes} may overlap, and {written(max_work)} steps don't decide whether they do"
         raise ShapeError("Unsupported", text)
     return shared
+
+
+def _of_two_buffers(a: Fields, b: Fields) -> ShapeError:
+    """The error of layouts that were accepted over buffers of another length, or of other items."""
+    one, other = f"{said(a.length)} items of size {a.itemsize}", f"{said(b.length)} of size {b.itemsize}"
+    numbers = {"length": a.length, "itemsize": a.itemsize, "other_length": b.length, "other_itemsize": b.itemsize}
+    return ShapeError("IncompatibleLayout", f"the layouts are of two buffers: {one}, and {other}", None, numbers)
 
 
 class _Held(NamedTuple):

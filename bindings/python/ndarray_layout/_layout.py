@@ -135,14 +135,15 @@ class Layout(Views):
         strides: Optional[Numbers] = None,
         *,
         start: Optional[SupportsIndex] = None,
-        order: str = "C",
+        order: Optional[str] = None,
         owned: bool = False,
     ) -> Layout:
         """Accepts a layout over a buffer, or over so many elements.
 
         The elements of a buffer are its items, in the order of memory: those of `bytes` are bytes, those of an array
-        its numbers. Without strides the layout has no gaps, in the order 'C' or 'F'. Without a start its lowest place
-        is 0. Raises what `layout_start` and `check_layout` do, and `ShapeError` where items have 0 bytes.
+        its numbers. Without strides the layout has no gaps, in the order 'C', or 'F' where that is given. Without a
+        start its lowest place is 0. Raises what `layout_start` and `check_layout` do, and `ShapeError` where items have
+        0 bytes, or there is an order beside strides.
 
         >>> Layout.over(b"abcdef", (2, 3))
         Layout(start=0, shape=(2, 3), strides=(3, 1), length=6, owned=False)
@@ -150,7 +151,7 @@ class Layout(Views):
         5
         """
         length, itemsize, kind = count_items(buffer)
-        lens, number, owned = integers(shape, "length"), order_number(order), flag(owned, "owned")
+        lens, number, owned = integers(shape, "length"), _order_without(strides, order), flag(owned, "owned")
         if strides is None and start is None:
             steps, first = _without_gaps(lens, number, itemsize, length, owned)
             return made(first, lens, steps, length, owned, itemsize, kind)
@@ -286,6 +287,7 @@ class Layout(Views):
 
     def has_distinct_places(self, max_work: Optional[int] = MAX_WORK) -> bool:
         """Whether no two indices have one place: exact. An owned layout has distinct places."""
+        max_work = work_limit(max_work)
         return self.owned or has_distinct_places(self.shape, self.strides, max_work)
 
     def first_intersection(self, keys: Sequence[Any]) -> Optional[tuple[int, int]]:
@@ -426,6 +428,14 @@ def _is_accepted(start: Any, shape: Any, strides: Any, itemsize: Any, length: An
         return frames.check_layout[owned]((len(shape), len(strides)), numbers) is not None
     except StructError:  # (a number without 64 bits)
         return False
+
+
+def _order_without(strides: Optional[Numbers], order: Optional[str]) -> int:
+    """How the exports write an order, which is given where strides aren't."""
+    if strides is not None and order is not None:
+        text = f"the order {written(order)} beside strides, which say the order themselves"
+        raise ShapeError("Unsupported", text)
+    return 0 if order is None else order_number(order)
 
 
 def _start_of(shape: Lens, strides: Lens, itemsize: int, length: int, owned: bool) -> int:

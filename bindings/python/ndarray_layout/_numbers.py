@@ -159,16 +159,23 @@ _BOOLEANS = ("bool", "bool_")
 
 
 def flag(value: Any, name: str) -> bool:
-    """Yes or no, of whatever says one of them: an array of several items doesn't."""
-    try:
-        return bool(value)
-    except ValueError:
-        raise TypeError(f"{name} is true or false, not {written(value)}") from None
+    """Yes or no, of a boolean of Python or of NumPy. Words and numbers say neither, whatever Python takes them for."""
+    if type(value).__name__ not in _BOOLEANS:
+        raise TypeError(f"{name} is true or false, not {written(value)}")
+    return bool(value)
 
 
 def work_limit(max_work: Optional[SupportsIndex]) -> Optional[int]:
     """How many steps a comparison may take, or `None`."""
-    return None if max_work is None else integer(max_work, "max_work")
+    return None if max_work is None else limit(max_work, "max_work", ", and `None` is without end")
+
+
+def limit(number: SupportsIndex, name: str, what_else: str = "") -> int:
+    """How many of something there may be: of any size, and not negative."""
+    most = integer(number, name)
+    if most < 0:
+        raise SizeOverflowError("Overflow", f"{name} {said(most)} is negative{what_else}", None, {name: most})
+    return most
 
 
 def size(number: SupportsIndex, name: str) -> ctypes.c_size_t:

@@ -112,6 +112,8 @@ def _fields_of(elems: Elems) -> list[Any]:
         if isinstance(elem, Slice):
             start, end, step = elem
             fields += (_SLICE, start, 0, step) if end is None else (SLICE_WITH_END, start, end, step)
+            if bool in map(type, elem):
+                raise _no_element(fields, len(fields) - 3 + [*map(type, elem)].index(bool))
         elif elem is None:
             fields += (_NEW_AXIS, 0, 0, 1)
         else:
