@@ -124,6 +124,7 @@ BAD = {
     "number or None": NO_NUMBERS[1:] + FAR_NUMBERS,
     "steps": NO_NUMBERS[1:] + [-1, -FAR],
     "place": NO_NUMBERS,
+    "itemsize": NO_NUMBERS[1:] + FAR_NUMBERS + [0, -1],
     "flag": [
         *(None, 0, 1, 2.5, "false", "", b"", [], [True], {}, object(), NoText(), FAR),
         *with_numpy(lambda: [np.array([1, 2]), np.ones((2, 2)), np.array(True), np.int8(1)]),
@@ -163,7 +164,7 @@ LAYOUT = Layout.over(6, (2, 3))
 OWNED = Layout.over(6, (2, 3), owned=True)
 ONES = Layout.over(1, (1, 1))
 REPEATED = LAYOUT.broadcast((2, 2, 3))
-SHAPED = {"shape": ((2, 3), "list"), "strides": ((3, 1), "list")}
+SHAPED = {"shape": ((2, 3), "list"), "strides": ((3, 1), "list"), "itemsize": (1, "itemsize")}
 START = {"start": (0, "number")}
 SIZES = {"elem_size": (1, "number"), "length": (6, "number"), "owned": (False, "flag")}
 ORDER = {"order": ("C", "order")}
@@ -174,7 +175,7 @@ CALLS = {
     nd.check_layout: START | SHAPED | SIZES,
     nd.layout_start: SHAPED | SIZES,
     **{call: SHAPED for call in (nd.has_overlap, nd.is_contiguous, nd.is_layout_c, nd.is_layout_f)},
-    nd.has_distinct_places: {"shape": ((2, 3), "list"), "strides": ((1, 1), "list"), "max_work": (10, "steps")},
+    nd.has_distinct_places: SHAPED | {"strides": ((1, 1), "list"), "max_work": (10, "steps")},
     **{call: {"shape": ((2, 3), "list")} for call in (nd.default_strides, nd.fortran_strides)},
     nd.place: START | SHAPED | {"index": ((0, 0), "list")},
     nd.next_index: {"shape": ((2, 3), "list"), "index": ((0, 0), "list")} | ORDER,
@@ -214,7 +215,7 @@ CALLS = {
         "max_parts": (10, "steps"),
         "blocks": ([((3,),), ((3,),)], "blocks"),
     },
-    Layout: START | SHAPED | {"length": (6, "number"), "owned": (False, "flag")},
+    Layout: START | SHAPED | {"itemsize": (4, "number"), "length": (6, "number"), "owned": (False, "flag")},
     Layout.over: {
         "buffer": (6, "buffer or number"),
         "shape": ((2, 3), "list"),

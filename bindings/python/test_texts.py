@@ -50,7 +50,7 @@ class Texts(unittest.TestCase):
         self.assert_error(text, {"index": 4, "length": 3}, nd.split_at, 0, (2, 3), (3, 1), 1, 4)
         text = "the layout needs 6 elements of 5"
         self.assert_error(text, {"needed": 6, "length": 5}, nd.layout_start, (2, 3), (-3, 1), length=5)
-        text = "Unsupported: axis 0: stride 2 isn't past 3, the reach of the axes with no greater stride"
+        text = "Unsupported: axis 0: stride 2 isn't past 3, the reach of the axes with no greater stride (in elements)"
         self.assert_error(text, {"stride": 2, "reach": 3}, nd.layout_start, (2, 4), (2, 1), length=9, owned=True)
 
     def test_numbers_without_64_bits(self):
@@ -81,11 +81,11 @@ class Texts(unittest.TestCase):
         self.assert_error(text, {"size": 0, "others": 0}, nd.Layout.over(0, 0).reshape, (-1, 0))
         text = "IncompatibleShape: axis 0: no length times 5 is the size 24"
         self.assert_error(text, {"size": 24, "others": 5}, layout.reshape, (-1, 5))
-        text = "IncompatibleLayout: axis 0: stride 1 isn't 4 times 6, the stride of axis 1, and size 24 isn't 25"
+        text = "IncompatibleLayout: axis 0: stride 1 isn't 4 times 6, the stride of axis 1 (in elements), and size 24 isn't 25"
         numbers = {"stride": 1, "fast": 1, "size": 24, "new_size": 25}
         self.assert_error(text, numbers, nd.reshape, (6, 4), (1, 6), (25,))
         self.assert_error(text, numbers, layout.T.reshape, 25)
-        text = "IncompatibleLayout: axis 0: stride 1 isn't 4 times 6, the stride of axis 1"
+        text = "IncompatibleLayout: axis 0: stride 1 isn't 4 times 6, the stride of axis 1 (in elements)"
         self.assert_error(text, {"stride": 1, "fast": 1}, nd.reshape, (6, 4), (1, 6), 24)
 
     def test_texts_count_bytes(self):
@@ -107,9 +107,9 @@ class Texts(unittest.TestCase):
         for strides, needed in (((-12, 4), 24), ((-14, 4), 26)):
             text, numbers = f"the array needs {needed} bytes of 23", {"needed": needed, "nbytes": 23}
             self.assert_error(text, numbers, nd.lay_over, (2, 3), strides, itemsize=4, nbytes=23)
-        text = "Unsupported: axis 0: stride 3 isn't past 3, the reach of the axes with no greater stride"
+        text = "Unsupported: axis 0: stride 3 isn't past 3, the reach of the axes with no greater stride (in bytes)"
         self.assert_error(text, {"stride": 3, "reach": 3}, nd.lay_over, 2, 3, itemsize=4, nbytes=20, owned=True)
-        text = "Unsupported: axis 0: stride 8 isn't past 11, the reach of the axes with no greater stride"
+        text = "Unsupported: axis 0: stride 8 isn't past 11, the reach of the axes with no greater stride (in bytes)"
         self.assert_error(
             text, {"stride": 8, "reach": 11}, nd.lay_over, (2, 2), (8, 8), itemsize=4, nbytes=20, owned=True
         )
@@ -193,7 +193,7 @@ class Texts(unittest.TestCase):
     def test_each_is_a_layout_error(self):
         records = array_of((3,), (7,), 4)
         self.assert_error("no memory for 2**61 places", {"places": 2**61}, nd.places, 0, 2**61, 1)
-        text = "IncompatibleLayout: axis 0: stride 7 is no multiple of the item size 4"
+        text = "IncompatibleLayout: axis 0: stride 7 is no multiple of the item size 4 (in bytes)"
         self.assert_error(text, {"stride": 7, "itemsize": 4}, nd.Layout.of, records)
         text = "Unsupported: the item size 0 isn't above 0"
         self.assert_error(text, {"itemsize": 0}, nd.lay_over, 2, 4, itemsize=0, nbytes=9)

@@ -5,15 +5,13 @@ from __future__ import annotations
 from typing import Any, NamedTuple, Optional, overload
 
 from . import _library as library
-from ._arrays import Array, in_bytes, read_array
-from ._errors import LayoutError, ShapeError
-from ._layouts import layout_start
+from ._accepted import layout_start
+from ._errors import ShapeError
 from ._numbers import LIMIT, Lens, not_64_bits, one_answer, said, signed, unsigned, work_limit, written
-from ._reasons import of_array
 from ._sharing import MAX_WORK, Part, share_byte
 from ._slices import packed_key, slice_by_key
 from ._sources import Memory, read_in_memory
-from ._views import Fields
+from ._units import Array, Fields, ask_of_bytes, read_array
 
 _NOTHING: Any = type("Nothing", (), {"__repr__": lambda self: "nothing"})()
 
@@ -63,7 +61,7 @@ def share_element(a: Any, first: Any, second: Any = _NOTHING, max_work: Optional
     (True, False)
     >>> share_element(Windows, 0, 1, max_work=0)
     Traceback (most recent call last):
-    ndarray_layout.ShapeError: Unsupported: elements of shape (4, 3) and strides (8, 8) may overlap
+    ndarray_layout.ShapeError: Unsupported: elements of shape (4, 3) and strides (8, 8) in bytes may overlap
     >>> whole = Layout.over(10**12, (10**6, 10**6))
     >>> share_element(whole[::6, 1::4], whole[3::4, 1::2]), share_element(whole[::6], whole[3::9])
     (False, True)
@@ -71,17 +69,12 @@ def share_element(a: Any, first: Any, second: Any = _NOTHING, max_work: Optional
     max_work = work_limit(max_work)
     if second is _NOTHING:
         return _share_memory(a, first, max_work)
-    (shape, strides, itemsize), answer = read_array(a), one_answer()
+    shape, strides, itemsize = read_array(a)
     if not 0 <= itemsize < 2**64:
         raise not_64_bits("itemsize", itemsize, True, None)
-    lens, steps = unsigned((*shape, itemsize)), signed((*strides, 1))
-    try:
-        library.has_overlap(*lens, *steps, answer)
-    except LayoutError as error:
-        raise in_bytes(error, lambda: of_array(shape, strides, itemsize)) from None
-    if answer[0]:
+    if ask_of_bytes(library.has_overlap, shape, strides, itemsize):
         return _share_byte((shape, strides, itemsize), first, second, max_work)
-    keys = *packed_key(shape, first), *packed_key(shape, second)
+    keys, answer = (*packed_key(shape, first), *packed_key(shape, second)), one_answer()
     library.slices_intersect(*unsigned(shape), *keys, False, answer)
     return bool(answer[0])
 
@@ -90,7 +83,7 @@ def _share_byte(array: tuple[Lens, Lens, int], first: Any, second: Any, max_work
     """`share_element` of an array whose elements may overlap."""
     shape, strides, itemsize = array
     start = layout_start(shape, strides, length=LIMIT + 1)
-    refusal = f"elements of shape {written(shape)} and strides {written(strides)} may overlap"
+    refusal = f"elements of shape {written(shape)} and strides {written(strides)} in bytes may overlap"
     if max_work == 0:
         raise ShapeError("Unsupported", refusal)
     one, other = (slice_by_key(start, shape, strides, key) for key in (first, second))

@@ -138,6 +138,7 @@ layout_start = _run_of(library.layout_start, "Q", 0), _run_of(library.layout_sta
 without_gaps = [[WithStrides(call, mode).run for mode in (0, 1)] for call in (library.default_strides, library.fortran_strides)]
 """By the order, and by whether it is owned."""
 
+place = _run_of(library.place, "Q")
 reshape = _run_of(library.reshape, "q", 0), _run_of(library.reshape, "q", 1)
 permuted_axes = _run_of(library.permuted_axes, "Qq")
 slices = Frames(library.slice_view, "QQq", (1,))

@@ -10,6 +10,7 @@ from typing import TYPE_CHECKING, Any, Iterator, Optional, Sequence, SupportsInd
 
 from . import _frames as frames
 from . import _picture as picture
+from ._accepted import check_layout, layout_start
 from ._arrays import element_strides
 from ._buffers import (
     array_over,
@@ -24,7 +25,6 @@ from ._buffers import (
 from ._errors import LayoutError, OutOfBoundsError, ShapeError, of_one
 from ._layouts import (
     Row,
-    check_layout,
     default_strides,
     fortran_strides,
     has_distinct_places,
@@ -33,7 +33,6 @@ from ._layouts import (
     is_layout_c,
     is_layout_f,
     joined_rows,
-    layout_start,
     place,
     places,
     rows,
@@ -54,7 +53,8 @@ from ._numbers import (
 from ._sharing import MAX_WORK, share_byte
 from ._slices import Elems, basic_key, first_intersection, slices_intersect
 from ._sources import read_in_memory, read_source
-from ._views import Fields, Views, made
+from ._units import Fields
+from ._views import Views, made
 
 if TYPE_CHECKING:
     import numpy
@@ -84,7 +84,7 @@ class Layout(Views):
     (3, 0, 4, 1, 5, 2)
     >>> Layout(2, (2, 3), (-3, 1), length=6)
     Traceback (most recent call last):
-    ndarray_layout.OutOfBoundsError: the lowest place -1 is below 0
+    ndarray_layout.OutOfBoundsError: the lowest place -1 is below 0 (in elements)
     """
 
     __slots__ = ()
@@ -142,8 +142,9 @@ class Layout(Views):
 
         The elements of a buffer are its items, in the order of memory: those of `bytes` are bytes, those of an array
         its numbers. Without strides the layout has no gaps, in the order 'C', or 'F' where that is given. Without a
-        start its lowest place is 0. Raises what `layout_start` and `check_layout` do, and `ShapeError` where items have
-        0 bytes, or there is an order beside strides.
+        start its lowest place is 0. Strides count elements: `element_strides` makes such of NumPy's, and `of` reads an
+        array. Raises what `layout_start` and `check_layout` do, and `ShapeError` where items have 0 bytes, or there is
+        an order beside strides.
 
         >>> Layout.over(b"abcdef", (2, 3))
         Layout(start=0, shape=(2, 3), strides=(3, 1), length=6, owned=False)
@@ -233,6 +234,14 @@ class Layout(Views):
 
     def place(self, index: Numbers) -> int:
         """The place of an index. Raises what `place` does."""
+        if type(index) is tuple and INTEGERS.issuperset(map(type, index)):
+            axes = len(self.shape)
+            try:
+                found = frames.place((axes, axes, len(index)), (self.start, *self.shape, *self.strides, *index))
+            except StructError:  # (a coordinate that is negative, or has no 64 bits)
+                found = None
+            if found is not None:
+                return found[0]
         return place(self.start, self.shape, self.strides, index)
 
     def index_of(self, place: SupportsIndex) -> Optional[Lens]:
@@ -397,7 +406,7 @@ class Layout(Views):
             raise ShapeError("Unsupported", text, axis, {"length": 0})
         for axis, (stride, wanted) in enumerate(zip(self.strides, default_strides(self.shape))):
             if self.shape[axis] > 1 and stride != wanted:
-                text = f"axis {axis}: a memoryview of several axes can't have the stride {stride}, but {wanted}"
+                text = f"axis {axis}: a memoryview of several axes can't have the stride {stride}, but {wanted} (in elements)"
                 raise ShapeError("Unsupported", text, axis, {"stride": stride, "wanted": wanted})
 
     def _check_room(self, items: int, elem_size: int) -> None:

@@ -1,4 +1,4 @@
-"""Which layouts are accepted, where their indices lie, and in which order."""
+"""What layouts are like, where their indices lie, and in which order."""
 
 from __future__ import annotations
 
@@ -6,7 +6,7 @@ from array import array
 from ctypes import c_size_t, c_void_p
 from itertools import repeat
 from math import prod
-from typing import Callable, Iterator, NamedTuple, Optional, Sequence, SupportsIndex
+from typing import Iterator, NamedTuple, Optional, Sequence, SupportsIndex
 
 from . import _library as library
 from ._errors import OutOfMemoryError, ShapeError
@@ -16,7 +16,6 @@ from ._numbers import (
     Lens,
     Numbers,
     Packed,
-    flag,
     one_answer,
     one_number,
     one_stride,
@@ -24,63 +23,38 @@ from ._numbers import (
     said,
     signed,
     size,
+    unit_of,
     unsigned,
     work_limit,
     written,
 )
 from ._sharing import MAX_WORK, repeat_a_place
+from ._units import Given, ask, given, takes_array, takes_array_after_start, unpacked
 
 
-def layout_start(
-    shape: Numbers, strides: Numbers, *, elem_size: SupportsIndex = 1, length: SupportsIndex, owned: bool = False
-) -> int:
-    """The start of a layout over `length` elements of `elem_size` bytes, at which its lowest place is 0.
-
-    Raises `ShapeError` for different counts of axes, `OverflowError` where the layout is too large, `IndexError` where
-    it spans more than the elements, and `ShapeError` where `owned` is true and it breaks the no-alias rule.
-
-    >>> layout_start((2, 3), (-3, 1), length=6)
-    3
-    >>> layout_start((2, 2), (3, 1), length=4)
-    Traceback (most recent call last):
-    ndarray_layout.OutOfBoundsError: the layout needs 5 elements of 4
-    """
-    start, sizes = one_number(), (size(elem_size, "elem_size"), size(length, "length"))
-    library.layout_start(*unsigned(shape), *signed(strides), *sizes, flag(owned, "owned"), start)
-    return int(start[0])
-
-
-def check_layout(
-    start: SupportsIndex,
-    shape: Numbers,
-    strides: Numbers,
-    *,
-    elem_size: SupportsIndex = 1,
-    length: SupportsIndex,
-    owned: bool = False,
-) -> None:
-    """Raises what `layout_start` does where a layout with this start doesn't lie within `length` elements.
-
-    >>> check_layout(3, (2, 2), (-2, 1), length=5)
-    >>> check_layout(1, (2, 2), (-2, 1), length=5)
-    Traceback (most recent call last):
-    ndarray_layout.OutOfBoundsError: the lowest place -1 is below 0
-    """
-    first, sizes = size(start, "start"), (size(elem_size, "elem_size"), size(length, "length"))
-    library.check_layout(first, *unsigned(shape), *signed(strides), *sizes, flag(owned, "owned"))
-
-
-def has_overlap(shape: Numbers, strides: Numbers) -> bool:
+@takes_array
+def has_overlap(shape: Numbers, strides: Numbers, *, itemsize: Optional[SupportsIndex] = None) -> bool:
     """Whether a layout breaks the no-alias rule. One that keeps it has no two indices with one place.
+
+    Of an array, or with `itemsize`, it is the rule of the bytes of all elements, and strides count bytes.
 
     >>> has_overlap((2, 3), (3, 1)), has_overlap((2, 3), (0, 1))
     (False, True)
     """
-    return _answer(library.has_overlap, unsigned(shape), signed(strides))
+    return ask(library.has_overlap, given(shape, strides, itemsize))
 
 
-def has_distinct_places(shape: Numbers, strides: Numbers, max_work: Optional[int] = MAX_WORK) -> bool:
+@takes_array
+def has_distinct_places(
+    shape: Numbers,
+    strides: Numbers,
+    max_work: Optional[int] = MAX_WORK,
+    *,
+    itemsize: Optional[SupportsIndex] = None,
+) -> bool:
     """Whether no two indices of a layout have one place: exact, where the no-alias rule is only sufficient.
+
+    Of an array, or with `itemsize`: whether no two elements share a byte. Strides then count bytes.
 
     A layout that breaks the rule is decided in Python, in at most `max_work` steps of some 2 microseconds for each
     axis: `None` is without end, 0 tries nothing. Raises `ShapeError` of the kind 'Unsupported' where these don't
@@ -91,65 +65,66 @@ def has_distinct_places(shape: Numbers, strides: Numbers, max_work: Optional[int
     >>> has_distinct_places((4, 3), (2, 3))
     False
     """
-    lens, steps, max_work = unsigned(shape), signed(strides), work_limit(max_work)
-    if not _answer(library.has_overlap, lens, steps):
+    layout, max_work = given(shape, strides, itemsize), work_limit(max_work)
+    if not ask(library.has_overlap, layout):
         return True
-    layout = lens[1].unpack_unsigned(lens[0]), steps[1].unpack_signed(steps[0])
-    repeats = repeat_a_place(*layout, max_work) if max_work != 0 else None
+    lengths, step_of = unpacked(layout)
+    repeats = None
+    if max_work != 0:
+        items = () if layout[2] is None else (layout[2],)
+        repeats = repeat_a_place((*lengths, *items), (*step_of, *(1 for _ in items)), max_work)
     if repeats is None:
-        shown = f"shape {written(layout[0])} and strides {written(layout[1])}"
+        shown = f"shape {written(lengths)} and strides {written(tuple(step_of))} in {unit_of(step_of)}"
         text = f"{shown} may have one place twice, and {written(max_work)} steps don't decide"
         raise ShapeError("Unsupported", text)
     return not repeats
 
 
-def is_contiguous(shape: Numbers, strides: Numbers) -> bool:
+@takes_array
+def is_contiguous(shape: Numbers, strides: Numbers, *, itemsize: Optional[SupportsIndex] = None) -> bool:
     """Whether no two indices have one place, and all fill a stretch of the buffer without a gap, in any order of the axes.
+
+    Of an array, or with `itemsize`, strides count bytes.
 
     >>> is_contiguous((2, 3), (-3, -1)), is_contiguous((5,), (2,))
     (True, False)
     """
-    return _answer(library.is_contiguous, unsigned(shape), signed(strides))
+    return ask(library.is_contiguous, given(shape, strides, itemsize))
 
 
-def is_layout_c(shape: Numbers, strides: Numbers) -> bool:
+@takes_array
+def is_layout_c(shape: Numbers, strides: Numbers, *, itemsize: Optional[SupportsIndex] = None) -> bool:
     """Whether the places follow one another in row-major order.
+
+    Of an array, or with `itemsize`, strides count bytes.
 
     >>> is_layout_c((2, 3), (3, 1)), is_layout_c((2, 3), (1, 2))
     (True, False)
+    >>> class Pixels: shape, strides, itemsize = (2, 3), (12, 4), 4
+    >>> is_layout_c(Pixels), is_layout_c((2, 3), (12, 4), itemsize=4), is_layout_c((2, 3), (12, 4))
+    (True, True, False)
     """
-    return _answer(library.is_layout_c, unsigned(shape), signed(strides))
+    return ask(library.is_layout_c, given(shape, strides, itemsize))
 
 
-def is_layout_f(shape: Numbers, strides: Numbers) -> bool:
+@takes_array
+def is_layout_f(shape: Numbers, strides: Numbers, *, itemsize: Optional[SupportsIndex] = None) -> bool:
     """Whether the places follow one another in column-major order.
+
+    Of an array, or with `itemsize`, strides count bytes.
 
     >>> is_layout_f((2, 3), (3, 1)), is_layout_f((2, 3), (1, 2))
     (False, True)
     """
-    return _answer(library.is_layout_f, unsigned(shape), signed(strides))
+    return ask(library.is_layout_f, given(shape, strides, itemsize), items_first=True)
 
 
-def _answer(call: library.Call, lens: Packed, steps: Packed) -> bool:
-    answer = one_answer()
-    call(*lens, *steps, answer)
-    return bool(answer[0])
-
-
-def order_of(order: str, lens: Packed, steps: Packed) -> int:
+def order_of(order: str, layout: Given) -> int:
     """How the exports write an order. 'A' is 'F' for what is column-major and not row-major, else 'C', as in NumPy."""
     if isinstance(order, str) and order in ORDERS:
         return ORDERS[order]
-    is_f, is_c = library.is_layout_f, library.is_layout_c
-    return order_by(order, lambda: _answer(is_f, lens, steps) and not _answer(is_c, lens, steps))
-
-
-def order_by(order: str, is_column_major: Callable[[], bool]) -> int:
-    """How the exports write an order, where 'A' is decided by a question."""
     if isinstance(order, str) and order in ("A", "a"):
-        return int(is_column_major())
-    if isinstance(order, str) and order in ORDERS:
-        return ORDERS[order]
+        return int(ask(library.is_layout_f, layout, items_first=True) and not ask(library.is_layout_c, layout))
     raise ShapeError("Unsupported", f"order must be 'C', 'F' or 'A', not {written(order)}")
 
 
@@ -178,8 +153,18 @@ def _strides_by(call: library.Call, packed: Packed) -> Lens:
     return axes.unpack_signed(strides)
 
 
-def place(start: SupportsIndex, shape: Numbers, strides: Numbers, index: Numbers) -> int:
+@takes_array_after_start
+def place(
+    start: SupportsIndex,
+    shape: Numbers,
+    strides: Numbers,
+    index: Numbers,
+    *,
+    itemsize: Optional[SupportsIndex] = None,
+) -> int:
     """The place of an index. Raises `IndexError` where it is no index of the shape.
+
+    Of an array, or with `itemsize`, the start, the strides and the place count bytes.
 
     A negative coordinate is an `OverflowError`, first of all: it never counts from the end.
 
@@ -189,8 +174,8 @@ def place(start: SupportsIndex, shape: Numbers, strides: Numbers, index: Numbers
     Traceback (most recent call last):
     ndarray_layout.OutOfBoundsError: axis 1: index 3 is out of bounds of length 3
     """
-    found = one_number()
-    library.place(size(start, "start"), *unsigned(shape), *signed(strides), *unsigned(index, "index"), found)
+    found, first, (lens, steps, _) = one_number(), size(start, "start"), given(shape, strides, itemsize)
+    library.place(first, *lens, *steps, *unsigned(index, "index"), found)
     return int(found[0])
 
 
@@ -206,26 +191,35 @@ def next_index(shape: Numbers, index: Numbers, order: str = "C") -> Optional[Len
     return axes.unpack_unsigned(coordinates) if has_next[0] else None
 
 
-def places(start: SupportsIndex, shape: Numbers, strides: Numbers, order: str = "C") -> Lens:
+@takes_array_after_start
+def places(
+    start: SupportsIndex,
+    shape: Numbers,
+    strides: Numbers,
+    order: str = "C",
+    *,
+    itemsize: Optional[SupportsIndex] = None,
+) -> Lens:
     """The places of all indices, in an order. Takes time and memory for each index.
 
-    The order 'A' is 'F' for a layout that is column-major and not row-major, else 'C'.
+    The order 'A' is 'F' for a layout that is column-major and not row-major, else 'C'. Of an array, or with `itemsize`,
+    the start, the strides and the places count bytes: each is that of the first byte of an element.
 
     >>> places(3, (2, 3), (-3, 1))
     (3, 4, 5, 0, 1, 2)
     """
-    lens, steps, first = _view_of(start, shape, strides)
-    count = prod(lens[1].unpack_unsigned(lens[0]))
+    layout, first = given(shape, strides, itemsize), size(start, "start")
+    _check_places(first, layout)
+    count, (lens, steps, _) = prod(unpacked(layout)[0]), layout
     found, written = _room_for(count)
-    library.places(first, *lens, *steps, order_of(order, lens, steps), *written)
+    library.places(first, *lens, *steps, order_of(order, layout), *written)
     return tuple(found) if count else ()
 
 
-def _view_of(start: SupportsIndex, shape: Numbers, strides: Numbers) -> tuple[Packed, Packed, c_size_t]:
-    """A layout whose places are within the limit, so that they can be counted."""
-    lens, steps, first = unsigned(shape), signed(strides), size(start, "start")
+def _check_places(first: c_size_t, layout: Given) -> None:
+    """Raises an error where places are past the limit: else they can be counted."""
+    lens, steps, _ = layout
     library.check_layout(first, *lens, *steps, c_size_t(1), c_size_t(LIMIT + 1), False)
-    return lens, steps, first
 
 
 def _room_for(count: int) -> tuple[array[int], tuple[c_void_p, c_size_t]]:
@@ -279,48 +273,65 @@ class Row(NamedTuple):
         return slice(self.start, None if stop < 0 else stop, step)
 
 
-def rows(start: SupportsIndex, shape: Numbers, strides: Numbers, order: str = "C") -> Iterator[Row]:
+@takes_array_after_start
+def rows(
+    start: SupportsIndex,
+    shape: Numbers,
+    strides: Numbers,
+    order: str = "C",
+    *,
+    itemsize: Optional[SupportsIndex] = None,
+) -> Iterator[Row]:
     """The places along the axis that moves fastest in an order, for each index of the others, in that order.
 
     One call is made for all rows, in time, and with memory for a number, for each. A layout without axes has one row,
-    of one place.
+    of one place. Of an array, or with `itemsize`, starts and strides count bytes.
 
     >>> list(rows(3, (2, 3), (-3, 1)))
     [Row(start=3, stride=1, length=3), Row(start=0, stride=1, length=3)]
     >>> list(rows(3, (2, 3), (-3, 1), order="F"))[0]
     Row(start=3, stride=-3, length=2)
     """
-    lens, steps, first = _view_of(start, shape, strides)
-    number = order_of(order, lens, steps)
-    lengths = lens[1].unpack_unsigned(lens[0])
+    layout, first = given(shape, strides, itemsize), size(start, "start")
+    _check_places(first, layout)
+    number, lengths = order_of(order, layout), unpacked(layout)[0]
     others = lengths[:-1] if number == 0 else lengths[1:]
     count = prod(others) if 0 not in lengths else 0
     starts, written = _room_for(count)
-    stride, length = one_stride(), one_number()
+    (lens, steps, _), stride, length = layout, one_stride(), one_number()
     library.rows(first, *lens, *steps, number, *written, stride, length)
     each = zip(starts, repeat(stride[0], count), repeat(length[0]))
     return map(tuple.__new__, repeat(Row), each)  # (in half the time of `map(Row, ..)`)
 
 
-def joined_rows(start: SupportsIndex, shape: Numbers, strides: Numbers, order: str = "C") -> Iterator[Row]:
+@takes_array_after_start
+def joined_rows(
+    start: SupportsIndex,
+    shape: Numbers,
+    strides: Numbers,
+    order: str = "C",
+    *,
+    itemsize: Optional[SupportsIndex] = None,
+) -> Iterator[Row]:
     """The places in an order in few rows: axes of one stride are one row, and so are rows that touch.
 
     Read in their order they are the places of `rows`, and no two that follow each other make up one row; a row of one
     place alone has the stride 1. So many reads of a file as there are rows, of stride 1, read a part of it. A call is
-    made for each axis at most, and one for all rows; what touches is joined as the rows are taken.
+    made for each axis at most, and one for all rows; what touches is joined as the rows are taken. Of an array, or with
+    `itemsize`, starts and strides count bytes, and rows whose stride is the item size have no gaps.
 
     >>> list(joined_rows(0, (2, 3, 4), (100, 4, 1)))
     [Row(start=0, stride=1, length=12), Row(start=100, stride=1, length=12)]
     >>> list(joined_rows(0, (2, 2, 3), (7, 4, 1)))
     [Row(start=0, stride=1, length=3), Row(start=4, stride=1, length=6), Row(start=11, stride=1, length=3)]
     """
-    lens, steps, first = _view_of(start, shape, strides)
-    number = order_of(order, lens, steps)
-    lengths, step_of = lens[1].unpack_unsigned(lens[0]), steps[1].unpack_signed(steps[0])
+    layout, first = given(shape, strides, itemsize), size(start, "start")
+    _check_places(first, layout)
+    number, (lengths, step_of) = order_of(order, layout), unpacked(layout)
     in_order = range(len(lengths)) if number == 0 else reversed(range(len(lengths)))
     axes = [axis for axis in in_order if lengths[axis] != 1]
     if not axes:
-        return iter((Row(first.value, 1, 1),))
+        return iter((Row(first.value, layout[2] or 1, 1),))
     merged = tuple([lengths[axis] for axis in axes]), tuple([step_of[axis] for axis in axes])
     while len(merged[0]) > 1:
         fewer = _merge_last(*merged)

@@ -44,9 +44,29 @@ class Count(ctypes.c_size_t):
         self.pack_unsigned = unsigned_numbers.pack
         self.unpack_unsigned = unsigned_numbers.unpack
         self.pack_signed = signed_numbers.pack
-        self.unpack_signed = signed_numbers.unpack
+        self.unpack_signed: Callable[[Any], Lens] = signed_numbers.unpack
         self.unsigned_room: Any = ctypes.c_size_t * number
         self.signed_room: Any = ctypes.c_ssize_t * number
+
+
+class ByteStrides(tuple[int, ...]):
+    """Strides that count bytes."""
+
+    __slots__ = ()
+
+
+class ByteCount(Count):
+    """The count of a list of strides that count bytes."""
+
+    def __init__(self, number: int) -> None:
+        Count.__init__(self, number)  # (for `super` ctypes' own classes have no place)
+        unpack = self.unpack_signed
+        self.unpack_signed = lambda numbers: ByteStrides(unpack(numbers))
+
+
+def unit_of(strides: Lens) -> str:
+    """What strides count."""
+    return "bytes" if isinstance(strides, ByteStrides) else "elements"
 
 
 Packed = tuple[bytes, Count]

@@ -13,7 +13,7 @@ from typing import Any, Callable, Iterable, Mapping, NamedTuple, Optional, Seque
 
 from . import _loaded as library
 from ._loaded import Broken, Rule
-from ._numbers import LIMIT, Lens, Packed, count_of, product, said, signed, unsigned, written
+from ._numbers import LIMIT, ByteStrides, Lens, Packed, count_of, product, said, signed, unit_of, unsigned, written
 
 
 class Reason(NamedTuple):
@@ -86,7 +86,8 @@ def of_layout_start(shape: Lens, strides: Lens, elem_size: int, length: int, own
     broken = library.layout_start_reason(*lists, c_size_t(elem_size), c_size_t(length), 0)
     if broken.rule == Rule.LENGTH:
         needed = broken.size + (0 not in shape)
-        return _of(broken.kind, "the layout needs {needed} elements of {length}", needed=needed, length=length)
+        text = f"the layout needs {{needed}} {unit_of(strides)} of {{length}}"
+        return _of(broken.kind, text, needed=needed, length=length)
     return _of_limits(broken, shape, strides, elem_size) or (of_overlap(shape, strides) if owned else None)
 
 
@@ -97,7 +98,7 @@ def of_check_layout(
     broken = library.check_layout_reason(c_size_t(start), *lists, c_size_t(elem_size), c_size_t(length), 0)
     return (
         _of_limits(broken, shape, strides, elem_size)
-        or _of_bounds(broken, start, length)
+        or _of_bounds(broken, start, length, unit_of(strides))
         or (of_overlap(shape, strides) if owned else None)
     )
 
@@ -109,9 +110,9 @@ def _of_limits(broken: Broken, shape: Lens, strides: Lens, elem_size: int) -> Op
     if broken.rule == Rule.SIZE:
         return _past_size(shape)
     if broken.rule == Rule.SPAN:
-        return past_limit("span {span}", span=sum(_reaches(shape, strides)))
+        return past_limit("span {span}", f" (in {unit_of(strides)})", span=sum(_reaches(shape, strides)))
     if broken.rule == Rule.BYTES:
-        return past_limit("span {span} times elem_size {elem_size}", span=broken.size, elem_size=elem_size)
+        return past_limit("span {span} times elem_size {elem_size}", " (in bytes)", span=broken.size, elem_size=elem_size)
     return None
 
 
@@ -120,23 +121,23 @@ def _past_size(shape: Lens) -> Reason:
     return past_limit("size {size}", size=product([length for length in shape if length]))
 
 
-def past_limit(what: str, **numbers: int) -> Reason:
+def past_limit(what: str, unit: str = "", **numbers: int) -> Reason:
     """The reason of what is above the limit."""
-    return _of("Overflow", f"{what} is above the limit {said(LIMIT)}", **numbers)
+    return _of("Overflow", f"{what} is above the limit {said(LIMIT)}{unit}", **numbers)
 
 
 def _reaches(shape: Lens, strides: Lens) -> list[int]:
     return [max(length - 1, 0) * abs(stride) for length, stride in zip(shape, strides)]
 
 
-def _of_bounds(broken: Broken, start: int, length: int) -> Optional[Reason]:
+def _of_bounds(broken: Broken, start: int, length: int, unit: str) -> Optional[Reason]:
     if broken.rule == Rule.LOWEST:
-        return _of(broken.kind, "the lowest place {lowest} is below 0", lowest=start - broken.size)
+        return _of(broken.kind, f"the lowest place {{lowest}} is below 0 (in {unit})", lowest=start - broken.size)
     if broken.rule == Rule.HIGHEST:
-        text = f"the highest place {{highest}} is above the limit {said(LIMIT)}"
+        text = f"the highest place {{highest}} is above the limit {said(LIMIT)} (in {unit})"
         return _of(broken.kind, text, highest=start + broken.size)
     if broken.rule == Rule.LENGTH:
-        text = "the highest place {highest} is past {length} elements"
+        text = f"the highest place {{highest}} is past {{length}} {unit}"
         return _of(broken.kind, text, highest=broken.size, length=length)
     return None
 
@@ -147,7 +148,7 @@ def of_overlap(shape: Lens, strides: Lens) -> Optional[Reason]:
     broken = library.layout_start_reason(*unsigned(lens), *signed(steps), c_size_t(1), c_size_t(_NO_END), 1)
     if broken.rule != Rule.ALIAS:
         return None
-    text = "stride {stride} isn't past {reach}, the reach of the axes with no greater stride"
+    text = f"stride {{stride}} isn't past {{reach}}, the reach of the axes with no greater stride (in {unit_of(strides)})"
     return _of(broken.kind, text, axes[broken.axis], stride=broken.number, reach=broken.size)
 
 
@@ -162,10 +163,10 @@ def _without_ones(shape: Lens, strides: Lens) -> tuple[Lens, Lens, Lens]:
 
 def of_array(shape: Lens, strides: Lens, itemsize: int) -> Optional[Reason]:
     """Of the bytes of an array."""
-    found = of_layout(shape, strides)
+    found = of_layout(shape, ByteStrides(strides))
     if found:
         return found
-    lens, steps = (*shape, itemsize), (*strides, 1)
+    lens, steps = (*shape, itemsize), ByteStrides((*strides, 1))
     broken = library.layout_start_reason(*unsigned(lens), *signed(steps), c_size_t(1), c_size_t(_NO_END), 0)
     if broken.rule == Rule.SIZE:
         text, size = f"{{size}} bytes are above the limit {said(LIMIT)}", prod(length for length in lens if length)
@@ -180,7 +181,7 @@ def of_lay_over(
     return (
         of_array(shape, strides, itemsize)
         or _of_bytes(shape, strides, itemsize, nbytes, offset)
-        or (of_overlap((*shape, itemsize), (*strides, 1)) if owned else None)
+        or (of_overlap((*shape, itemsize), ByteStrides((*strides, 1))) if owned else None)
     )
 
 
@@ -388,6 +389,7 @@ def _of_new_shape(shape: Lens, strides: Lens, new_shape: Lens, order: int) -> Op
     if broken.rule != Rule.COPY:
         return None
     slow, fast = axes[broken.axis - 1 if order == 0 else broken.axis + 1], axes[broken.axis]
-    loose = f"stride {{stride}} isn't {said(shape[fast])} times {said(strides[fast])}, the stride of axis {{fast}}"
+    product_of = f"{said(shape[fast])} times {said(strides[fast])}, the stride of axis {{fast}} (in {unit_of(strides)})"
+    loose = f"stride {{stride}} isn't {product_of}"
     text, numbers = (loose, {}) if sizes["size"] == sizes["new_size"] else (f"{loose}, and {text}", sizes)
     return _of(broken.kind, text, slow, stride=strides[slow], fast=fast, **numbers)

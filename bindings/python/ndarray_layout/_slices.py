@@ -36,6 +36,7 @@ from ._numbers import (
     written,
 )
 from ._reasons import out_of_axis
+from ._units import given, takes_array_after_start
 
 
 class Slice(NamedTuple):
@@ -128,8 +129,19 @@ def _axes_left(fields: Sequence[Any]) -> Count:
     return count_of(len(fields) // 4 - fields[::4].count(INDEX_HEAD))
 
 
-def slice_view(start: SupportsIndex, shape: Numbers, strides: Numbers, elems: Elems, clamp: bool = False) -> View:
+@takes_array_after_start
+def slice_view(
+    start: SupportsIndex,
+    shape: Numbers,
+    strides: Numbers,
+    elems: Elems,
+    clamp: bool = False,
+    *,
+    itemsize: Optional[SupportsIndex] = None,
+) -> View:
     """The view that a slice leaves of a view: one range or index for each axis, and any new axes.
+
+    Of an array, or with `itemsize`, starts and strides count bytes.
 
     Raises `ShapeError` for another count of axes, `IndexError` for a bound or an index outside of its axis, and
     `ShapeError` for a step of 0. Where `clamp` is true a bound outside is moved to the nearest end, an index never.
@@ -140,8 +152,8 @@ def slice_view(start: SupportsIndex, shape: Numbers, strides: Numbers, elems: El
     Traceback (most recent call last):
     ndarray_layout.OutOfBoundsError: axis 1: bound 4 is past length 3
     """
-    fields = _fields_of(elems)
-    return _sliced(size(start, "start"), unsigned(shape), signed(strides), fields, clamp)
+    fields, first, (lens, steps, _) = _fields_of(elems), size(start, "start"), given(shape, strides, itemsize)
+    return _sliced(first, lens, steps, fields, clamp)
 
 
 def _sliced(start: c_size_t, shape: Packed, strides: Packed, fields: Sequence[Any], clamp: bool) -> View:

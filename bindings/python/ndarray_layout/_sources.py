@@ -12,11 +12,12 @@ from operator import mul
 from sys import byteorder
 from typing import Any, Callable, NamedTuple, Optional
 
-from ._arrays import lay_over, read_array
+from ._accepted import lay_over
 from ._buffers import address_of, is_numpys, refuse_scalar, shown, side_by_side
 from ._errors import ShapeError
 from ._frames import WIDEST
 from ._numbers import Lens, as_integer, integer, integers, written
+from ._units import Fields, read_array
 
 
 class Memory(NamedTuple):
@@ -130,7 +131,9 @@ def _memory_of_numpys(array: Any) -> Memory:
 
 
 def _format_of(array: Any) -> Optional[str]:
-    """The format of an array's items, where it is a buffer that has one."""
+    """The format of an array's items, where it is a buffer that has one, or a `Layout`."""
+    if isinstance(array, Fields):
+        return array.format
     try:
         return memoryview(array).format
     except (TypeError, BufferError, ValueError):

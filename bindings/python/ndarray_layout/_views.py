@@ -16,23 +16,10 @@ from ._errors import OutOfBoundsError, ShapeError
 from ._numbers import INTEGERS, ORDERS, Lens, Numbers, View, integer, integers, listing, said
 from ._shapes import broadcast, exact_chunks, permuted_axes, reshape, split_at, windows
 from ._slices import Elems, slice_by_key, slice_view, unbounded_fields
+from ._units import Fields
 
 if TYPE_CHECKING:
     from ._layout import Layout
-
-
-class Fields:
-    """The fields of a `Layout`, which is one that is frozen."""
-
-    __slots__ = ("start", "shape", "strides", "length", "owned", "itemsize", "format", "__weakref__")
-
-    start: int
-    shape: Lens
-    strides: Lens
-    length: int
-    owned: bool
-    itemsize: int
-    format: Optional[str]
 
 
 def made(

@@ -1,0 +1,157 @@
+"""Which layouts are accepted over so many elements, or bytes, and where they begin there."""
+
+from __future__ import annotations
+
+from ctypes import c_size_t
+from math import gcd
+from typing import Any, Optional, SupportsIndex, overload
+
+from . import _library as library
+from ._errors import LayoutError, OutOfBoundsError, ShapeError
+from ._numbers import Lens, Numbers, flag, integer, integers, one_number, said, signed, size, unsigned
+from ._reasons import of_lay_over as reason_of_lay_over
+from ._units import Array, above_0, by_bytes, takes_array, takes_array_after_start, with_array
+
+
+@takes_array
+def layout_start(
+    shape: Numbers,
+    strides: Numbers,
+    *,
+    elem_size: SupportsIndex = 1,
+    length: SupportsIndex,
+    owned: bool = False,
+    itemsize: Optional[SupportsIndex] = None,
+) -> int:
+    """The start of a layout over `length` elements of `elem_size` bytes, at which its lowest place is 0.
+
+    Of an array, or with `itemsize`, the strides, the length and the start count bytes, as those of `lay_over`.
+
+    Raises `ShapeError` for different counts of axes, `OverflowError` where the layout is too large, `IndexError` where
+    it spans more than the elements, and `ShapeError` where `owned` is true and it breaks the no-alias rule.
+
+    >>> layout_start((2, 3), (-3, 1), length=6)
+    3
+    >>> layout_start((2, 2), (3, 1), length=4)
+    Traceback (most recent call last):
+    ndarray_layout.OutOfBoundsError: the layout needs 5 elements of 4
+    """
+    start, sizes = one_number(), (size(elem_size, "elem_size"), size(length, "length"))
+    if itemsize is not None:
+        _refuse_elem_size(sizes[0].value)
+        return lay_over(shape, strides, itemsize=itemsize, nbytes=length, owned=owned)
+    library.layout_start(*unsigned(shape), *signed(strides), *sizes, flag(owned, "owned"), start)
+    return int(start[0])
+
+
+@takes_array_after_start
+def check_layout(
+    start: SupportsIndex,
+    shape: Numbers,
+    strides: Numbers,
+    *,
+    elem_size: SupportsIndex = 1,
+    length: SupportsIndex,
+    owned: bool = False,
+    itemsize: Optional[SupportsIndex] = None,
+) -> None:
+    """Raises what `layout_start` does where a layout with this start doesn't lie within `length` elements.
+
+    Of an array, or with `itemsize`, the start, the strides and the length count bytes, as those of `lay_over`.
+
+    >>> check_layout(3, (2, 2), (-2, 1), length=5)
+    >>> check_layout(1, (2, 2), (-2, 1), length=5)
+    Traceback (most recent call last):
+    ndarray_layout.OutOfBoundsError: the lowest place -1 is below 0 (in elements)
+    """
+    first, sizes = size(start, "start"), (size(elem_size, "elem_size"), size(length, "length"))
+    if itemsize is None:
+        library.check_layout(first, *unsigned(shape), *signed(strides), *sizes, flag(owned, "owned"))
+    else:
+        _refuse_elem_size(sizes[0].value)
+        lay_over(shape, strides, itemsize=itemsize, nbytes=length, offset=first.value, owned=owned)
+
+
+def _refuse_elem_size(elem_size: int) -> None:
+    """Raises `ShapeError` for a size of elements beside that of items, which they are."""
+    if elem_size != 1:
+        raise ShapeError("Unsupported", f"elem_size {said(elem_size)} beside an itemsize", None, {"elem_size": elem_size})
+
+
+@overload
+def lay_over(
+    shape: Numbers,
+    strides: Numbers,
+    *,
+    itemsize: SupportsIndex,
+    nbytes: SupportsIndex,
+    offset: Optional[SupportsIndex] = None,
+    owned: bool = False,
+) -> int:
+    ...
+
+
+@overload
+def lay_over(
+    array: Array, /, *, nbytes: SupportsIndex, offset: Optional[SupportsIndex] = None, owned: bool = False
+) -> int:
+    ...
+
+
+@with_array
+def lay_over(
+    shape: Any,
+    strides: Any,
+    *,
+    itemsize: SupportsIndex,
+    nbytes: SupportsIndex,
+    offset: Optional[SupportsIndex] = None,
+    owned: bool = False,
+) -> int:
+    """The offset of element (0, .., 0) of an array with these strides, in bytes, over a buffer of `nbytes` bytes.
+
+    An array may stand in the place of the shape, the strides and the item size.
+
+    Strides and `offset` count in bytes. Without an offset the lowest element begins at byte 0. Raises what
+    `layout_start` does where the array doesn't lie within the buffer. What it returns is what
+    `numpy.ndarray(shape, dtype, buffer, offset, strides)` takes.
+
+    A stride may be no multiple of the item size, as that of a field of packed records is. Errors count bytes. Of an
+    array without an element the strides alone have to fit, so 0 records fit 0 bytes.
+
+    >>> lay_over((2, 3), (-12, 4), itemsize=4, nbytes=24)
+    12
+    >>> lay_over((2, 3), (-12, 4), itemsize=4, nbytes=23)
+    Traceback (most recent call last):
+    ndarray_layout.OutOfBoundsError: the array needs 24 bytes of 23
+    >>> lay_over(3, 7, itemsize=4, nbytes=20, offset=2, owned=True)    # of 4 bytes in each 7, the last at 16
+    2
+    """
+    lens, steps, unit = integers(shape, "length"), integers(strides, "stride"), above_0(itemsize)
+    unsigned(lens), signed(steps), size(unit, "itemsize")  # (which refuse what has no 64 bits, before a division)
+    room, owned = size(nbytes, "nbytes").value, flag(owned, "owned")
+    first = None if offset is None else integer(offset, "offset")
+    if first is not None and not 0 <= first <= room:
+        text = f"offset {said(first)} lies outside of {said(room)} bytes"
+        raise OutOfBoundsError("OutOfBounds", text, None, {"offset": first, "nbytes": room})
+    try:
+        return _laid_over(lens, steps, unit, room, first, owned)
+    except LayoutError as error:
+        raise by_bytes(error, lambda: reason_of_lay_over(lens, steps, unit, room, first, owned)) from None
+
+
+def _laid_over(lens: Lens, steps: Lens, itemsize: int, nbytes: int, offset: Optional[int], owned: bool) -> int:
+    """`lay_over`: of elements, or where a stride is no multiple of their size of bytes, with an axis more."""
+    unit = itemsize if gcd(itemsize, *steps) == itemsize else 1
+    if unit == itemsize:
+        steps = tuple([stride // unit for stride in steps])
+    elif 0 not in lens:
+        lens, steps = (*lens, itemsize), (*steps, 1)
+    packed_lens, packed_steps = unsigned(lens), signed(steps)
+    if offset is None:
+        start, sizes = one_number(), (c_size_t(unit), c_size_t(nbytes // unit))
+        library.layout_start(*packed_lens, *packed_steps, *sizes, owned, start)
+        return unit * int(start[0])
+    sizes = c_size_t(unit), size((nbytes - offset % unit) // unit, "nbytes")
+    library.check_layout(size(offset // unit, "offset"), *packed_lens, *packed_steps, *sizes, owned)
+    return offset
