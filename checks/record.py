@@ -1,16 +1,29 @@
 #!/usr/bin/env -S python3 -B
-"""proved.txt has what the last gate that passed has proved: the kit's words, the date, and for each crate of crates.txt two checksums, of its
-code with its line there, and of its definitions and proofs. checks/gate writes it. Run as a program, this says of which crates the sources are
-others now, and then its status is 1: what makes a package, a wheel or a tarball asks it first.
+"""The two records that a release is compared with: both are committed.
 
-usage: checks/record.py
+proved.txt has what the last gate that passed has proved: the kit's words, the date, and for each crate of crates.txt two checksums, of its
+code with its line there, and of its definitions and proofs. checks/gate writes it.
+
+checked.txt has what the last whole check passed on: one checksum of all that was committed but these two, so hand-written Rust and Python too;
+the kit's words, how many steps passed, how many tests the sources have, and the date. ./check writes it where each step passed, none
+was left out, and nothing but what is committed stood here from its begin to its end.
+
+usage: checks/record.py               says of which crates the sources are others than proved.txt has, and whether the kit is
+       checks/record.py --release     as well whether anything isn't committed, or is other than checked.txt has: what makes a release asks this
+       checks/record.py --committed   prints the checksum of what is committed, if nothing else stands here: ./check, at its begin
+       checks/record.py --checked PASSED FAILED LEFT_OUT COMMITTED    ./check, at its end: how many steps ended so, and that checksum
+The status of the first two is 1 where they say something.
 """
-import datetime, hashlib, re, subprocess, sys
+import datetime, hashlib, pathlib, re, subprocess, sys
 
 from rattle_source import TOP, read, read_list, sources
 
-RECORD = "proved.txt"
-HEAD = "# What the last gate that passed has proved (checks/record.py): the checksums of each crate's code, and of its definitions and proofs.\n"
+PROVED, CHECKED = RECORDS = "proved.txt", "checked.txt"
+HEADS = {
+    PROVED: "# What the last gate that passed has proved (checks/record.py): the checksums of each crate's code, and of its definitions and proofs.",
+    CHECKED: "# What the last whole check passed on (checks/record.py): the checksum of all that was committed but this and proved.txt.",
+}
+TESTS = {"Rust": ("rust", "*.rs", r"^ *#\[test\]"), "Python": ("bindings/python", "test_*.py", r"^ +def test_")}
 
 
 def sum_of(paths, *texts):
@@ -31,25 +44,107 @@ def kit():
     return re.search(r"logic \w+", subprocess.check_output(["rt", "version"], text=True))[0]
 
 
+def named_kit():
+    """Those of the kit that README names."""
+    return ", ".join(re.findall(r"`(logic \w+)`", read("README.md")))
+
+
+def has_kit(record, words):
+    """Whether a record is of the kit with these words."""
+    return f"kit: {words}" in read(record).splitlines()
+
+
+def write(record, words, *lines):
+    """Writes a record of today, by the kit with these words."""
+    text = "\n".join([HEADS[record], f"kit: {words}", f"date: {datetime.date.today()}", *lines, ""])
+    pathlib.Path(TOP, record).write_text(text, encoding="utf-8")
+
+
 def recorded():
-    """The lines of the crates in the record."""
-    return re.findall(r"^\w+ \w{64} \w{64}$", read(RECORD), re.M)
+    """The lines of the crates that were proved."""
+    return re.findall(r"^\w+ \w{64} \w{64}$", read(PROVED), re.M)
 
 
-def write(proved):
-    """Writes the record of a gate that has passed over sources of these checksums, where it says something else and none has changed since."""
-    same = f"kit: {kit()}\n" in read(RECORD) and recorded() == proved
+def keep_proved(proved):
+    """Keeps what a gate that has passed over sources of these checksums has proved, where the record is another and no source has changed since."""
+    same = has_kit(PROVED, kit()) and recorded() == proved
     if not same and proved == [*sums()]:
-        with open(f"{TOP}/{RECORD}", "w", encoding="utf-8") as file:
-            file.write(HEAD + "\n".join([f"kit: {kit()}", f"date: {datetime.date.today()}", *proved]) + "\n")
+        write(PROVED, kit(), *proved)
 
 
-def main():
-    changed = sorted({line.split()[0] for line in {*sums()} ^ {*recorded()}})
-    for name in changed:
-        print(f"{RECORD}: the gate hasn't proved {name} as it is; ./check does, and writes this file")
-    return 1 if changed else 0
+def git(*words):
+    return subprocess.check_output(["git", *words], cwd=TOP, text=True).split("\0")[:-1]
+
+
+def uncommitted(*but):
+    """What stands here and isn't committed, by git's two letters and its name, but for some files."""
+    return [line for line in git("status", "--porcelain", "-z", "--no-renames", "--untracked-files=normal") if line[3:] not in but]
+
+
+def tree():
+    """The checksum of what is committed, but for the records: of each file's kind, its checksum by git and its name."""
+    lines = [line for line in git("ls-tree", "-r", "-z", "HEAD") if line.partition("\t")[2] not in RECORDS]
+    return hashlib.sha256("\0".join(lines).encode()).hexdigest()
+
+
+def committed():
+    """The checksum of what is committed, empty where something else stands here, but for the records."""
+    return "" if uncommitted(*RECORDS) else tree()
+
+
+def tests():
+    """How many tests the sources have, by language."""
+    for language, (folder, files, test) in TESTS.items():
+        texts = (path.read_text(encoding="utf-8") for path in pathlib.Path(TOP, folder).rglob(files))
+        yield f"{sum(len(re.findall(test, text, re.M)) for text in texts)} of {language}"
+
+
+def keep_checked(passed, failed, left_out, before):
+    """Keeps what a whole check has passed on, where it has; says what it did."""
+    reasons = [
+        (failed != "0", f"{failed} failed"),
+        (left_out != "0", f"{left_out} left out"),
+        (not before, "the check began with something that isn't committed"),
+        (committed() != before, "something changed while the check ran"),
+    ]
+    for holds, reason in reasons:
+        if holds:
+            return f"{CHECKED} isn't written: {reason}"
+    write_checked(before, f"{passed} passed")
+    return f"{CHECKED} is written: commit it, and {PROVED}"
+
+
+def write_checked(of, steps):
+    write(CHECKED, named_kit(), f"steps: {steps}", f"tests: {', '.join(tests())}", f"tree: {of}")
+
+
+def not_proved():
+    """What is other than proved.txt has."""
+    if not has_kit(PROVED, named_kit()):
+        yield f"{PROVED}: the gate hasn't proved this by the kit that README names, {named_kit()}; ./check does, and writes this file"
+    for name in sorted({line.split()[0] for line in {*sums()} ^ {*recorded()}}):
+        yield f"{PROVED}: the gate hasn't proved {name} as it is; ./check does, and writes this file"
+
+
+def not_checked():
+    """What isn't committed, or is other than checked.txt has."""
+    for line in uncommitted():
+        yield f"{line[3:]} isn't committed as it is: a release is made of what is"
+    if f"tree: {tree()}" not in read(CHECKED).splitlines() or not has_kit(CHECKED, named_kit()):
+        yield f"{CHECKED}: the whole check hasn't passed on what is committed; ./check writes this file where it has: commit it"
+
+
+def main(words):
+    if words == ["--committed"]:
+        return print(committed())
+    if words[:1] == ["--checked"]:
+        return print(keep_checked(*words[1:]))
+    if words not in ([], ["--release"]):
+        return "usage: checks/record.py [--release]"
+    wrong = [*not_proved(), *(not_checked() if words == ["--release"] else [])]
+    print(*wrong, sep="\n", end="\n" * bool(wrong))
+    return 1 if wrong else 0
 
 
 if __name__ == "__main__":
-    sys.exit(main())
+    sys.exit(main(sys.argv[1:]))
