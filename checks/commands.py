@@ -28,7 +28,7 @@ OTHERS = [
     (r"bindings/c/build --proved", "checks/bindings", "run_both"),
     (r"bindings/python/build_wheel", "bindings/python/test_wheel", "build_wheel"),
     (r"make -C bindings/c dist", "bindings/c/test_install", "dist"),
-    (r"tools/package", "checks/releases", "for made in tools/package"),
+    (r"tools/package", "checks/releases", "from_rust=(tools/package"),
 ]
 PROGRAMS = "awk cargo cat cc cp echo git grep make mkdir pip printf python3 rm rt sed sudo tail touch".split()
 

@@ -2,7 +2,8 @@
 
 The wheel holds the package and the shared library that `bindings/c/build` makes by cargo. With NDARRAY_LAYOUT_PROVED=1
 in the environment, or the setting `proved`, it holds the proved library of `bindings/c/proved`, which `build --proved`
-makes where the one that is there isn't of the sources as they are.
+makes where the one that is there isn't of the sources as they are. With the setting `checked`, which `build_wheel` of this
+repository gives, it is a release: it holds `checked.txt` beside METADATA, and is refused where that isn't of these sources.
 """
 
 from __future__ import annotations
@@ -12,6 +13,7 @@ import hashlib
 import os
 import re
 import subprocess
+import sys
 import sysconfig
 import zipfile
 from pathlib import Path
@@ -23,16 +25,18 @@ LIBRARY = "libndarray_layout.so"
 MADE = (1980, 1, 1, 0, 0, 0)  # (the first moment that a zip file can state: the same files make the same wheel)
 
 Settings = Optional[Mapping[str, Any]]
+Files = list[tuple[str, bytes]]
 
 
 def build_wheel(
     wheel_directory: str, config_settings: Settings = None, metadata_directory: Optional[str] = None
 ) -> str:
     """Makes the wheel in a folder, and returns its name."""
+    record = _record() if "checked" in (config_settings or {}) else []
     library = _library(_is_proved(config_settings))
     files = [(f"ndarray_layout/{path.name}", path.read_bytes()) for path in _modules()]
     name = next(library.parent.glob(f"{LIBRARY}.*")).name  # (a file `.so` Python would take for a module)
-    return _write_wheel(wheel_directory, [*files, (f"ndarray_layout/{name}", library.read_bytes())])
+    return _write_wheel(wheel_directory, [*files, (f"ndarray_layout/{name}", library.read_bytes())], record)
 
 
 def build_editable(
@@ -40,7 +44,7 @@ def build_editable(
 ) -> str:
     """Makes a wheel that leads to this folder, and builds the library that the package takes from there."""
     _library(proved=False)
-    return _write_wheel(wheel_directory, [("ndarray_layout.pth", f"{HERE}\n".encode())])
+    return _write_wheel(wheel_directory, [("ndarray_layout.pth", f"{HERE}\n".encode())], [])
 
 
 def build_sdist(sdist_directory: str, config_settings: Settings = None) -> str:
@@ -50,6 +54,14 @@ def build_sdist(sdist_directory: str, config_settings: Settings = None) -> str:
 
 def _is_proved(settings: Settings) -> bool:
     return "proved" in (settings or {}) or os.environ.get("NDARRAY_LAYOUT_PROVED", "0") not in ("", "0")
+
+
+def _record() -> Files:
+    """The record of the whole check, where it is of what is committed, and nothing else stands here."""
+    for words in ["checks/record.py", "--release"], ["rust/erase", "--check"]:
+        if subprocess.run([TOP / words[0], *words[1:]], stdout=sys.stderr).returncode != 0:
+            raise SystemExit("no wheel is made")
+    return [("checked.txt", (TOP / "checked.txt").read_bytes())]
 
 
 def _library(proved: bool) -> Path:
@@ -76,11 +88,11 @@ def version() -> str:
     return found[1]
 
 
-def _write_wheel(folder: str, files: list[tuple[str, bytes]]) -> str:
+def _write_wheel(folder: str, files: Files, stated: Files) -> str:
     tag = f"py3-none-{sysconfig.get_platform().replace('-', '_').replace('.', '_')}"
     name = f"ndarray_layout-{version()}-{tag}.whl"
     info = f"ndarray_layout-{version()}.dist-info"
-    files = [*files, *((f"{info}/{file}", content) for file, content in _info(tag))]
+    files = [*files, *((f"{info}/{file}", content) for file, content in [*_info(tag), *stated])]
     record = "".join(f"{path},sha256={_checksum(content)},{len(content)}\n" for path, content in files)
     with zipfile.ZipFile(Path(folder) / name, "w", zipfile.ZIP_DEFLATED) as wheel:
         for path, content in [*files, (f"{info}/RECORD", f"{record}{info}/RECORD,,\n".encode())]:
