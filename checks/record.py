@@ -5,13 +5,14 @@ proved.txt has what the last gate that passed has proved: the kit's words, the d
 code with its line there, and of its definitions and proofs. checks/gate writes it.
 
 checked.txt has what the last whole check passed on: one checksum of all that was committed but these two, so hand-written Rust and Python too;
-the kit's words, how many steps passed, how many tests the sources have, and the date. ./check writes it where each step passed, none
-was left out, and nothing but what is committed stood here from its begin to its end.
+the kit's words, how many steps passed and were left out, how many tests there are, and the date. ./check writes it where no step failed or lacked a
+tool, and nothing but what is committed stood here from its begin to its end.
 
 usage: checks/record.py               says of which crates the sources are others than proved.txt has, and whether the kit is
        checks/record.py --release     as well whether anything isn't committed, or is other than checked.txt has: what makes a release asks this
        checks/record.py --committed   prints the checksum of what is committed, if nothing else stands here: ./check, at its begin
-       checks/record.py --checked PASSED FAILED LEFT_OUT COMMITTED    ./check, at its end: how many steps ended so, and that checksum
+       checks/record.py --checked PASSED FAILED LEFT_OUT LACKING COMMITTED    ./check, at its end: how many steps ended so, how many of
+                                      those that were left out lack a tool, and that checksum
 The status of the first two is 1 where they say something.
 """
 import datetime, hashlib, pathlib, re, subprocess, sys
@@ -23,7 +24,8 @@ HEADS = {
     PROVED: "# What the last gate that passed has proved (checks/record.py): the checksums of each crate's code, and of its definitions and proofs.",
     CHECKED: "# What the last whole check passed on (checks/record.py): the checksum of all that was committed but this and proved.txt.",
 }
-TESTS = {"Rust": ("rust", "*.rs", r"^ *#\[test\]"), "Python": ("bindings/python", "test_*.py", r"^ +def test_")}
+# the kinds of checks/counts.txt that are tests
+TESTS = {"Rust": ("tests", "docs"), "Python": ("python", "numpys_own", "browser", "python_examples"), "C": ("c", "c_examples")}
 
 
 def sum_of(paths, *texts):
@@ -93,24 +95,24 @@ def committed():
 
 
 def tests():
-    """How many tests the sources have, by language."""
-    for language, (folder, files, test) in TESTS.items():
-        texts = (path.read_text(encoding="utf-8") for path in pathlib.Path(TOP, folder).rglob(files))
-        yield f"{sum(len(re.findall(test, text, re.M)) for text in texts)} of {language}"
+    """How many tests there are, by language."""
+    for language, kinds in TESTS.items():
+        numbers = re.findall(rf"^(?:{'|'.join(kinds)}) .* (\d+)$", read("checks/counts.txt"), re.M)
+        yield f"{sum(map(int, numbers))} of {language}"
 
 
-def keep_checked(passed, failed, left_out, before):
+def keep_checked(passed, failed, left_out, lacking, before):
     """Keeps what a whole check has passed on, where it has; says what it did."""
     reasons = [
         (failed != "0", f"{failed} failed"),
-        (left_out != "0", f"{left_out} left out"),
+        (lacking != "0", f"{lacking} lack a tool"),
         (not before, "the check began with something that isn't committed"),
         (committed() != before, "something changed while the check ran"),
     ]
     for holds, reason in reasons:
         if holds:
             return f"{CHECKED} isn't written: {reason}"
-    write_checked(before, f"{passed} passed")
+    write_checked(before, f"{passed} passed, {left_out} left out")
     return f"{CHECKED} is written: commit it, and {PROVED}"
 
 
