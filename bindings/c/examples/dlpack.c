@@ -45,11 +45,31 @@ int main(void) {
     print_tensor("the last row first, each second column", &sliced);
     printf("strides %d and %d, from byte %d\n", (int)new_strides[0], (int)new_strides[1], (int)sliced.byte_offset);
 
+    sliced.data = numbers + 8; /* (as NumPy lends it: the first element, and no offset to it) */
+    sliced.byte_offset = 0;
+    print_tensor("the same from its first element", &sliced);
+    sliced.byte_offset = 4;
+    print_tensor("and from the next", &sliced);
+    sliced.byte_offset = UINT64_MAX;
+    print_tensor("past all memory", &sliced);
+    sliced.data = (void *)(uintptr_t)32; /* (of its elements the lowest would lie at null) */
+    sliced.byte_offset = 0;
+    print_tensor("below all memory", &sliced);
+    sliced.data = (void *)(UINTPTR_MAX - 11); /* (from 32 bytes lower on 44 bytes) */
+    print_tensor("up to past all memory", &sliced);
+    sliced.data = NULL;
+    print_tensor("no data", &sliced);
+    sliced.data = numbers;
+    sliced.byte_offset = 32;
+
     new_strides[0] = new_strides[1] = 0;
     print_tensor("one element, read as 3x2", &sliced);
     printf("owned: %s\n", nd_status_message(nd_tensor_from_dlpack(&sliced, ND_OWNED, &read)));
     new_shape[0] = 0;
     print_tensor("no element", &sliced);
+    sliced.data = NULL;
+    print_tensor("no element, and no data", &sliced);
+    sliced.data = numbers;
     new_shape[0] = -1;
     print_tensor("a length below 0", &sliced);
     new_shape[0] = INT64_MAX;

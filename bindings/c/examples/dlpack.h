@@ -43,6 +43,7 @@ typedef struct nd_tensor {
 ND_CHECKED((1, 2)) int nd_put_tensor(const DLTensor *tensor, nd_layout *layout) {
     int32_t axis;
     if (tensor->ndim < 0 || tensor->ndim > ND_MAX_AXES) return 0;
+    if (tensor->ndim > 0 && tensor->shape == NULL) return 0;
     layout->axes = (size_t)tensor->ndim;
     for (axis = 0; axis < tensor->ndim; axis++) {
         if (tensor->shape[axis] < 0 || tensor->shape[axis] > PTRDIFF_MAX) return 0;
@@ -66,13 +67,32 @@ ND_INLINE void nd_take_reach(nd_layout *layout, size_t *len) {
 }
 
 /*
+ * (of this header alone) The lowest of the `nbytes` bytes of elements, of which the first element has `below` bytes below it.
+ * NumPy lends the first element's pointer without an offset, so that the lowest one may be less than `data`. All is compared
+ * before it is added or subtracted: a pointer to no byte of the elements isn't made.
+ */
+ND_CHECKED((1, 4)) int32_t nd_put_lowest(const DLTensor *tensor, size_t below, size_t nbytes, unsigned char **lowest) {
+    unsigned char *const data = tensor->data;
+    const uint64_t address = (uintptr_t)data, offset = tensor->byte_offset;
+    const uint64_t up = offset > below ? offset - below : 0, down = offset < below ? below - offset : 0;
+    *lowest = data;
+    if (nbytes == 0) return ND_OK;
+    if (data == NULL) return ND_BAD_ARGUMENT;
+    if (down >= address || up > UINTPTR_MAX - address || nbytes > UINTPTR_MAX - (address + up - down)) return ND_OUT_OF_BOUNDS;
+    *lowest = down > 0 ? data - down : data + up;
+    return ND_OK;
+}
+
+/*
  * Makes a view of a tensor in the memory of this machine, of elements of whole bytes. ND_BAD_ARGUMENT: of another device, of
- * elements that aren't whole bytes, of too many axes, or of a number below 0; then the statuses of nd_layout_start.
+ * elements that aren't whole bytes, of too many axes, of a number below 0, or null where numbers or elements are read; the
+ * statuses of nd_layout_start; ND_OUT_OF_BOUNDS where an element would lie outside all memory.
  */
 ND_CHECKED((1, 3)) int32_t nd_tensor_from_dlpack(const DLTensor *tensor, int32_t mode, nd_tensor *made) {
     const size_t bits = (size_t)tensor->dtype.bits * tensor->dtype.lanes;
     nd_data data;
     nd_layout layout;
+    unsigned char *lowest;
     int32_t status;
     if (tensor->device.device_type != kDLCPU || bits == 0 || bits % 8 != 0) return ND_BAD_ARGUMENT;
     if (!nd_put_tensor(tensor, &layout)) return ND_BAD_ARGUMENT;
@@ -83,9 +103,10 @@ ND_CHECKED((1, 3)) int32_t nd_tensor_from_dlpack(const DLTensor *tensor, int32_t
         status = nd_layout_from_strides(layout.shape, layout.axes, layout.strides, layout.axes, data, mode, &layout);
     if (status != ND_OK) return status;
     nd_take_reach(&layout, &data.len);
-    made->lowest = tensor->data;
-    if (data.len > 0) made->lowest += tensor->byte_offset - layout.start * data.elem_size;
-    return nd_view_of(&layout, data, mode, &made->view);
+    status = nd_put_lowest(tensor, layout.start * data.elem_size, data.len * data.elem_size, &lowest);
+    if (status == ND_OK) status = nd_view_of(&layout, data, mode, &made->view);
+    if (status == ND_OK) made->lowest = lowest;
+    return status;
 }
 
 /*
