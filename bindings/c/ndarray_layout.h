@@ -688,10 +688,11 @@ ND_INLINE const char *nd_status_message(int32_t status) {
 /* ---- Layouts as one value -------------------------------------------------------------------------------------------- */
 
 /*
- * The functions below are of this header, and not of the library; ndarray_layout_inline.h, which it includes, has more of
- * them. Each but the two that count makes one call from above with the fields of a layout. It returns the call's status, and
- * after any but ND_OK nothing has been written. The layout that is written comes last, and may be the one that is read.
- * ND_BAD_ARGUMENT, before every other status, also says that a layout has more than ND_MAX_AXES axes, or would have.
+ * The functions below are of this header, and not of the library; ndarray_layout_inline.h and ndarray_layout_bytes.h, which
+ * it includes, have more of them. Each but the two that count makes one call from above with the fields of a layout. It
+ * returns the call's status, and after any but ND_OK nothing has been written. The layout that is written comes last, and may
+ * be the one that is read. ND_BAD_ARGUMENT, before every other status, also says that a layout has more than ND_MAX_AXES axes,
+ * or would have.
  */
 #define ND_MAX_AXES 32
 
@@ -908,6 +909,7 @@ ND_CHECKED((1, 4, 5)) int32_t nd_layout_split_at(const nd_layout *layout, size_t
 }
 
 #include "ndarray_layout_inline.h"
+#include "ndarray_layout_bytes.h"
 
 #ifdef __cplusplus
 }

@@ -1,6 +1,6 @@
 /*
  * What ndarray_layout.h has beside the calls of the library, and includes: access that is checked, rows one by one, calls for
- * `struct nd_layout`, elements of slices, and strides in bytes. C89, C99 and C++; `nd_at` needs C99 or C++11.
+ * `struct nd_layout` and `struct nd_view`, and elements of slices. C89, C99 and C++; `nd_at` needs C99 or C++11.
  */
 #ifndef NDARRAY_LAYOUT_INLINE_H
 #define NDARRAY_LAYOUT_INLINE_H
@@ -12,20 +12,97 @@
 /* ---- Views: checked access ------------------------------------------------------------------------------------------- */
 
 /*
+ * The buffer of a view, which the calls below write: an element may begin at each of `len` places, `place_size` bytes apart,
+ * and takes `elem_places` of them. That is 1, and a place has the size of an element; but over bytes (nd_view_over_bytes) a
+ * place is a byte, and an element takes as many as it has bytes. An element begins `place * place_size` bytes after place 0.
+ */
+typedef struct nd_buffer {
+    size_t place_size;
+    size_t len;
+    size_t elem_places;
+} nd_buffer;
+
+/*
  * A layout, and the buffer over which it was accepted. `view.layout` may be given to the nd_layout_* functions, and what they
- * make of it may be written there: each new layout lies in every buffer in which the given one lies.
+ * make of it may be written there: each new layout lies in every buffer in which the given one lies. Those that take an nd_data
+ * count elements: of a view over bytes nd_view_check says what nd_layout_check and nd_view_of say of others.
  */
 typedef struct nd_view {
     nd_layout layout;
-    nd_data data;
+    nd_buffer data;
 } nd_view;
+
+/* (of this header alone) The lists of a layout, with room for an axis along the places of an element. */
+typedef struct nd_lists {
+    int has_index;
+    size_t axes;
+    size_t shape[ND_MAX_AXES + 1];
+    ptrdiff_t strides[ND_MAX_AXES + 1];
+} nd_lists;
+
+/*
+ * (of this header alone) Writes the lists of a view's layout; where there is an index and an element takes several places,
+ * with an axis along these, which moves fastest in an order. Whether there is room, as there is for every accepted layout.
+ */
+ND_CHECKED((1, 3)) int nd_put_lists(const nd_view *view, int32_t order, nd_lists *lists) {
+    const nd_layout *const layout = &view->layout;
+    size_t axis, first;
+    int has_places;
+    if (layout->axes > ND_MAX_AXES) return 0;
+    lists->has_index = 1;
+    for (axis = 0; axis < layout->axes; axis++)
+        if (layout->shape[axis] == 0) lists->has_index = 0;
+    has_places = lists->has_index && view->data.elem_places > 1;
+    first = has_places && order == ND_COLUMN_MAJOR;
+    for (axis = 0; axis < layout->axes; axis++) {
+        lists->shape[first + axis] = layout->shape[axis];
+        lists->strides[first + axis] = layout->strides[axis];
+    }
+    lists->axes = layout->axes + (size_t)has_places;
+    if (has_places) lists->shape[first ? 0 : layout->axes] = view->data.elem_places;
+    if (has_places) lists->strides[first ? 0 : layout->axes] = 1;
+    return 1;
+}
+
+/* (of this header alone) nd_check_layout of the places of a view, of which the buffer has so many. */
+ND_CHECKED((1)) int32_t nd_check_places(const nd_view *view, size_t len, int32_t mode) {
+    const nd_layout *const of = &view->layout;
+    return nd_check_layout(of->start, of->shape, of->axes, of->strides, of->axes, view->data.place_size, len, mode);
+}
+
+/*
+ * Whether the layout of a view, as it stands, fits the view's buffer: nd_check_layout, with its statuses. Over bytes, owned, no
+ * two elements may share a byte.
+ *
+ * (3), strides (3), over bytes, of 4 bytes: ND_OK read-only, ND_UNSUPPORTED owned.
+ */
+ND_CHECKED((1)) int32_t nd_view_check(const nd_view *view, int32_t mode) {
+    const nd_buffer *const data = &view->data;
+    nd_lists lists;
+    int32_t status;
+    if (view->layout.axes > ND_MAX_AXES) return ND_BAD_ARGUMENT;
+    if (data->elem_places <= 1) return nd_check_places(view, data->len, mode);
+    if (!nd_put_lists(view, ND_ROW_MAJOR, &lists)) return ND_BAD_ARGUMENT;
+    if (!lists.has_index) return nd_check_places(view, data->len + data->elem_places - 1, mode);
+    status = nd_check_places(view, data->len, mode);
+    if (status != ND_OK || mode != ND_OWNED) return status;
+    return nd_check_layout(view->layout.start, lists.shape, lists.axes, lists.strides, lists.axes, data->place_size,
+                           data->len + data->elem_places - 1, mode);
+}
+
+/* (of this header alone) The buffer of a view whose places are elements. */
+ND_INLINE void nd_put_data(nd_data data, nd_view *view) {
+    view->data.place_size = data.elem_size;
+    view->data.len = data.len;
+    view->data.elem_places = 1;
+}
 
 /* Makes a view of a layout that nd_layout_check accepts, with its statuses. The layout may be that of the view. */
 ND_CHECKED((1, 4)) int32_t nd_view_of(const nd_layout *layout, nd_data data, int32_t mode, nd_view *view) {
     int32_t status = nd_layout_check(layout, data, mode);
     if (status != ND_OK) return status;
     if (layout != &view->layout) view->layout = *layout;
-    view->data = data;
+    nd_put_data(data, view);
     return ND_OK;
 }
 
@@ -41,7 +118,7 @@ ND_CHECKED((6)) int32_t nd_view_from_shape(const size_t *shape, size_t shape_len
 ND_CHECKED((7)) int32_t nd_view_from_strides(const size_t *shape, size_t shape_len, const ptrdiff_t *strides,
                                              size_t strides_len, nd_data data, int32_t mode, nd_view *view) {
     int32_t status = nd_layout_from_strides(shape, shape_len, strides, strides_len, data, mode, &view->layout);
-    if (status == ND_OK) view->data = data;
+    if (status == ND_OK) nd_put_data(data, view);
     return status;
 }
 
@@ -134,35 +211,52 @@ ND_CHECKED((1)) size_t nd_at4(const nd_view *view, size_t i, size_t j, size_t k,
 #define ND_INDEX(index) {ND_INDEX, 0, (ptrdiff_t)(index), 0, 0}
 #define ND_NEW_AXIS() {ND_NEW_AXIS, 0, 0, 0, 0}
 
+/* ---- Calls for one view ---------------------------------------------------------------------------------------------- */
+
+/*
+ * nd_has_overlap, nd_is_contiguous, nd_is_layout_c, nd_is_layout_f and nd_stretch of the elements of a view, with their
+ * statuses. Over bytes they speak of elements too: whether two may share a byte, whether all lie without a gap, and the bytes
+ * in which they lie. There ND_OVERFLOW counts bytes, and ND_OUT_OF_MEMORY may come where there are more than three axes. Of
+ * strides in bytes without an index nd_view_is_contiguous reads how many elements they count, rounded towards 0.
+ *
+ * Over bytes, (2,3), strides (12,4): of 4 bytes 0, 1, 1, 0 and the stretch from 0 to 24; of 2 bytes 0, 0, 0, 0 and none; of 5
+ * bytes, read-only, 1, 0, 0, 0 and none.
+ */
+ND_CHECKED((1, 2)) int32_t nd_view_has_overlap(const nd_view *view, int32_t *answer) {
+    nd_lists lists;
+    if (!nd_put_lists(view, ND_ROW_MAJOR, &lists)) return ND_BAD_ARGUMENT;
+    return nd_has_overlap(lists.shape, lists.axes, lists.strides, lists.axes, answer);
+}
+
+ND_CHECKED((1, 2)) int32_t nd_view_is_contiguous(const nd_view *view, int32_t *answer) {
+    nd_lists lists;
+    size_t axis;
+    if (!nd_put_lists(view, ND_ROW_MAJOR, &lists)) return ND_BAD_ARGUMENT;
+    for (axis = 0; axis < lists.axes; axis++)
+        if (!lists.has_index && view->data.elem_places > 1) lists.strides[axis] /= (ptrdiff_t)view->data.elem_places;
+    return nd_is_contiguous(lists.shape, lists.axes, lists.strides, lists.axes, answer);
+}
+
+ND_CHECKED((1, 2)) int32_t nd_view_is_layout_c(const nd_view *view, int32_t *answer) {
+    nd_lists lists;
+    if (!nd_put_lists(view, ND_ROW_MAJOR, &lists)) return ND_BAD_ARGUMENT;
+    return nd_is_layout_c(lists.shape, lists.axes, lists.strides, lists.axes, answer);
+}
+
+ND_CHECKED((1, 2)) int32_t nd_view_is_layout_f(const nd_view *view, int32_t *answer) {
+    nd_lists lists;
+    if (!nd_put_lists(view, ND_COLUMN_MAJOR, &lists)) return ND_BAD_ARGUMENT;
+    return nd_is_layout_f(lists.shape, lists.axes, lists.strides, lists.axes, answer);
+}
+
+ND_CHECKED((1, 3, 4, 5)) int32_t nd_view_stretch(const nd_view *view, int32_t order, size_t *first, size_t *end,
+                                                 int32_t *found) {
+    nd_lists lists;
+    if (!nd_put_lists(view, order, &lists)) return ND_BAD_ARGUMENT;
+    return nd_stretch(view->layout.start, lists.shape, lists.axes, lists.strides, lists.axes, order, first, end, found);
+}
+
 /* ---- Calls for one layout -------------------------------------------------------------------------------------------- */
-
-/* nd_has_overlap, nd_is_contiguous, nd_is_layout_c, nd_is_layout_f. */
-ND_CHECKED((1, 2)) int32_t nd_layout_has_overlap(const nd_layout *layout, int32_t *answer) {
-    if (layout->axes > ND_MAX_AXES) return ND_BAD_ARGUMENT;
-    return nd_has_overlap(layout->shape, layout->axes, layout->strides, layout->axes, answer);
-}
-
-ND_CHECKED((1, 2)) int32_t nd_layout_is_contiguous(const nd_layout *layout, int32_t *answer) {
-    if (layout->axes > ND_MAX_AXES) return ND_BAD_ARGUMENT;
-    return nd_is_contiguous(layout->shape, layout->axes, layout->strides, layout->axes, answer);
-}
-
-ND_CHECKED((1, 2)) int32_t nd_layout_is_layout_c(const nd_layout *layout, int32_t *answer) {
-    if (layout->axes > ND_MAX_AXES) return ND_BAD_ARGUMENT;
-    return nd_is_layout_c(layout->shape, layout->axes, layout->strides, layout->axes, answer);
-}
-
-ND_CHECKED((1, 2)) int32_t nd_layout_is_layout_f(const nd_layout *layout, int32_t *answer) {
-    if (layout->axes > ND_MAX_AXES) return ND_BAD_ARGUMENT;
-    return nd_is_layout_f(layout->shape, layout->axes, layout->strides, layout->axes, answer);
-}
-
-/* nd_stretch. */
-ND_CHECKED((1, 3, 4, 5)) int32_t nd_layout_stretch(const nd_layout *layout, int32_t order, size_t *first, size_t *end,
-                                                   int32_t *found) {
-    if (layout->axes > ND_MAX_AXES) return ND_BAD_ARGUMENT;
-    return nd_stretch(layout->start, layout->shape, layout->axes, layout->strides, layout->axes, order, first, end, found);
-}
 
 /* nd_diag: the diagonal, as a layout of one axis. */
 ND_CHECKED((1, 2)) int32_t nd_layout_diag(const nd_layout *layout, nd_layout *diagonal) {
@@ -321,7 +415,7 @@ ND_INLINE void nd_put_rows(const nd_layout *layout, int32_t order, nd_row_iter *
  * It doesn't refer to the view. A view without axes has one row of one place, one without an index none; after an error the
  * iterator has none. `order`: ND_ROW_MAJOR or ND_COLUMN_MAJOR.
  *
- * ND_BAD_ARGUMENT for the order or the axes; then the statuses of nd_layout_check, read-only: an edited layout that leaves its
+ * ND_BAD_ARGUMENT for the order or the axes; then the statuses of nd_view_check, read-only: an edited layout that leaves its
  * buffer is refused, and each row lies in it.
  *
  * From 3, (2,3), strides (-3,1): two rows of length 3 and stride 1, from 3 and from 0.
@@ -329,7 +423,7 @@ ND_INLINE void nd_put_rows(const nd_layout *layout, int32_t order, nd_row_iter *
 ND_CHECKED((1, 3)) int32_t nd_view_rows(const nd_view *view, int32_t order, nd_row_iter *rows) {
     int32_t status = order == ND_ROW_MAJOR || order == ND_COLUMN_MAJOR ? ND_OK : ND_BAD_ARGUMENT;
     nd_put_no_row(rows);
-    if (status == ND_OK) status = nd_layout_check(&view->layout, view->data, ND_READ_ONLY);
+    if (status == ND_OK) status = nd_view_check(view, ND_READ_ONLY);
     if (status == ND_OK) nd_put_rows(&view->layout, order, rows);
     return status;
 }
@@ -364,97 +458,6 @@ ND_CHECKED((1, 2)) int nd_next_row(nd_row_iter *rows, nd_row *row) {
         rows->index[axis] = 0;
     }
     return 1;
-}
-
-/* ---- Strides in bytes ------------------------------------------------------------------------------------------------ */
-
-/*
- * Writes strides that are given in bytes, as a picture's linesize is, as strides in elements. `strides`: `count` of them, which
- * may be the list that is read.
- *
- * ND_BAD_ARGUMENT: `elem_size` is 0 or past the limit. ND_INCOMPATIBLE_LAYOUT: a stride is no multiple of it, as one of packed
- * records may be: nd_view_over_bytes takes such strides too.
- *
- * (-12,4), of elements of 4 bytes: (-3,1). (7): ND_INCOMPATIBLE_LAYOUT.
- */
-ND_INLINE int32_t nd_strides_from_bytes(const ptrdiff_t *byte_strides, size_t count, size_t elem_size, ptrdiff_t *strides) {
-    const ptrdiff_t size = (ptrdiff_t)elem_size;
-    size_t axis;
-    if (elem_size == 0 || elem_size > (size_t)-1 / 2) return ND_BAD_ARGUMENT;
-    for (axis = 0; axis < count; axis++)
-        if (byte_strides[axis] % size != 0) return ND_INCOMPATIBLE_LAYOUT;
-    for (axis = 0; axis < count; axis++) strides[axis] = byte_strides[axis] / size;
-    return ND_OK;
-}
-
-/* (of this header alone) Strides in bytes, and where there is an index an axis along an element's bytes. Whether there is. */
-ND_INLINE int nd_put_bytes(const size_t *shape, size_t axes, const ptrdiff_t *byte_strides, size_t elem_size,
-                           size_t *lengths, ptrdiff_t *strides) {
-    size_t axis;
-    int has_index = 1;
-    for (axis = 0; axis < axes; axis++) {
-        lengths[axis] = shape[axis];
-        strides[axis] = byte_strides[axis];
-        if (shape[axis] == 0) has_index = 0;
-    }
-    lengths[axes] = elem_size;
-    strides[axes] = 1;
-    return has_index;
-}
-
-/*
- * Makes a view of elements of `elem_size` bytes, whose first one, (0, .., 0), begins at byte `offset` of a buffer of `nbytes`
- * bytes. Strides count bytes, and may be any. So do the places of the view: that of an index is where its element's first byte
- * lies, to be read by `memcpy` where it isn't aligned, and `data.len` is how many bytes an element may begin at, of which
- * `data.elem_size` is 1. Where there is no index, the view has the start 0 and strides 0.
- *
- * ND_BAD_ARGUMENT: a mode that is none, too many axes, or an `elem_size` of 0. ND_INCOMPATIBLE_LAYOUT: not one stride for each
- * length. Then the statuses of nd_check_layout for the bytes of all elements: owned, no two elements may share a byte.
- *
- * (3), strides (7), from 2, of 4 bytes: fits 20 bytes, with places 2, 9 and 16, and not 19.
- */
-ND_INLINE int32_t nd_view_over_bytes(size_t offset, const size_t *shape, size_t shape_len, const ptrdiff_t *byte_strides,
-                                     size_t strides_len, size_t elem_size, size_t nbytes, int32_t mode, nd_view *view) {
-    size_t lengths[ND_MAX_AXES + 1], axes, axis;
-    ptrdiff_t strides[ND_MAX_AXES + 1];
-    int32_t status;
-    int has_index;
-    if (mode != ND_READ_ONLY && mode != ND_OWNED) return ND_BAD_ARGUMENT;
-    if (shape_len > ND_MAX_AXES || elem_size == 0) return ND_BAD_ARGUMENT;
-    if (strides_len != shape_len) return ND_INCOMPATIBLE_LAYOUT;
-    has_index = nd_put_bytes(shape, shape_len, byte_strides, elem_size, lengths, strides);
-    axes = has_index ? shape_len + 1 : shape_len;
-    status = nd_check_layout(offset, lengths, axes, strides, axes, 1, nbytes, mode);
-    if (status != ND_OK) return status;
-    view->layout.start = has_index ? offset : 0;
-    view->layout.axes = shape_len;
-    for (axis = 0; axis < shape_len; axis++) {
-        view->layout.shape[axis] = lengths[axis];
-        view->layout.strides[axis] = has_index ? strides[axis] : 0;
-    }
-    view->data.elem_size = 1;
-    view->data.len = nbytes < elem_size ? 0 : nbytes - elem_size + 1;
-    return ND_OK;
-}
-
-/*
- * nd_view_over_bytes where the lowest byte of all elements is byte 0 of the buffer: a picture whose lines are stored from the
- * last to the first has a negative linesize, and begins at its last line. The statuses of nd_view_over_bytes.
- *
- * (2,3), strides (-12,4), of 4 bytes: fits 24 bytes, and (0,0) begins at byte 12.
- */
-ND_INLINE int32_t nd_view_from_byte_strides(const size_t *shape, size_t shape_len, const ptrdiff_t *byte_strides,
-                                            size_t strides_len, size_t elem_size, size_t nbytes, int32_t mode,
-                                            nd_view *view) {
-    size_t lengths[ND_MAX_AXES + 1], axes, offset = 0;
-    ptrdiff_t strides[ND_MAX_AXES + 1];
-    int32_t status;
-    if (shape_len <= ND_MAX_AXES && strides_len == shape_len && elem_size > 0) {
-        axes = shape_len + (size_t)nd_put_bytes(shape, shape_len, byte_strides, elem_size, lengths, strides);
-        status = nd_layout_start(lengths, axes, strides, axes, 1, nbytes, mode, &offset);
-        if (status != ND_OK) return status;
-    }
-    return nd_view_over_bytes(offset, shape, shape_len, byte_strides, strides_len, elem_size, nbytes, mode, view);
 }
 
 #endif

@@ -1,66 +1,12 @@
 /* What ndarray_layout_inline.h has, beside the calls of the library, over random layouts and edited ones: C89, C99, C++. */
-#include "ndarray_layout.h"
+#include "testing_views.h"
 
-#include <stdio.h>
 #include <stdlib.h>
 #include <string.h>
 
-#define COUNT(list) (sizeof(list) / sizeof *(list))
-/* A list and its count, as the calls take them. */
-#define LIST(list) (list), COUNT(list)
-
-static int checked, failed;
-
-static void check(int holds, int line, const char *what) {
-    checked++;
-    if (holds) return;
-    failed++;
-    printf("test_views.c:%d: %s\n", line, what);
-}
-
-#define CHECK(fact) check((fact), __LINE__, #fact)
-/* A fact of many rounds, which counts where it fails. */
-#define CHECK_QUIETLY(fact) \
-    do { \
-        if (!(fact)) check(0, __LINE__, #fact); \
-    } while (0)
-
 static const size_t two_three[2] = {2, 3}, many[ND_MAX_AXES + 1] = {1};
-static const ptrdiff_t up[2] = {-3, 1}, by_rows[2] = {3, 1};
+static const ptrdiff_t up[2] = {-3, 1};
 static const nd_data five_bytes = {1, 5}, six_bytes = {1, 6};
-
-/* A number from 0 to before `bound`, by a fixed sequence. */
-static size_t below(size_t bound) {
-    static unsigned state = 1;
-    state = state * 1664525u + 1013904223u;
-    return (state >> 8) % bound;
-}
-
-/* A view of up to four axes over a buffer of `elem_size` bytes an element, where one is accepted. */
-static int32_t random_view(nd_view *view, size_t elem_size, int32_t mode) {
-    size_t shape[4], axes = below(5), axis, reach = 1;
-    ptrdiff_t strides[4];
-    nd_data data;
-    for (axis = axes; axis-- > 0;) {
-        shape[axis] = below(9) == 0 ? 0 : 1 + below(4);
-        strides[axis] = (ptrdiff_t)(below(8) == 0 ? below(5) : reach) * (below(3) == 0 ? -1 : 1);
-        reach *= shape[axis] > 0 ? shape[axis] + below(2) : 1;
-    }
-    data.elem_size = elem_size;
-    data.len = below(3) == 0 ? reach : reach + below(9);
-    return nd_view_from_strides(shape, axes, strides, axes, data, mode, view);
-}
-
-/* What nd_at has for as many coordinates as there are axes. */
-static size_t at(const nd_view *view, const size_t *index) {
-    switch (view->layout.axes) {
-    case 1: return nd_at1(view, index[0]);
-    case 2: return nd_at2(view, index[0], index[1]);
-    case 3: return nd_at3(view, index[0], index[1], index[2]);
-    case 4: return nd_at4(view, index[0], index[1], index[2], index[3]);
-    default: return nd_at_n(view, index, view->layout.axes);
-    }
-}
 
 static void test_new_views(void) {
     nd_layout layout;
@@ -82,7 +28,20 @@ static void test_new_views(void) {
     CHECK(view.layout.start == 0 && view.layout.strides[0] == 1 && view.layout.strides[1] == 2 && view.data.len == 6);
     CHECK(nd_view_of(&view.layout, six_bytes, ND_OWNED, &view) == ND_OK && view.layout.strides[1] == 2);
     CHECK(nd_view_from_strides(LIST(two_three), LIST(up), six_bytes, ND_OWNED, &view) == ND_OK && view.layout.start == 3);
-    CHECK(view.data.elem_size == 1 && view.data.len == 6);
+    CHECK(view.data.place_size == 1 && view.data.len == 6 && view.data.elem_places == 1);
+    CHECK(nd_view_check(&view, ND_OWNED) == ND_OK && nd_view_check(&view, ND_READ_ONLY) == ND_OK);
+    CHECK(nd_view_check(&view, 2) == ND_BAD_ARGUMENT && nd_view_check(&view, -1) == ND_BAD_ARGUMENT);
+    view.layout.strides[0] = 1;
+    view.layout.start = 2;
+    CHECK(nd_view_check(&view, ND_OWNED) == ND_UNSUPPORTED && nd_view_check(&view, ND_READ_ONLY) == ND_OK);
+    view.layout.start = 3;
+    CHECK(nd_view_check(&view, ND_OWNED) == ND_OUT_OF_BOUNDS && nd_view_check(&view, ND_READ_ONLY) == ND_OUT_OF_BOUNDS);
+    view.layout.start = 0;
+    view.layout.strides[0] = (ptrdiff_t)((size_t)-1 / 2 - 2);
+    view.data.len = (size_t)-1;
+    CHECK(nd_view_check(&view, ND_READ_ONLY) == ND_OK);
+    view.data.place_size = 2;
+    CHECK(nd_view_check(&view, ND_READ_ONLY) == ND_OVERFLOW);
 }
 
 static void test_at(void) {
@@ -301,16 +260,12 @@ static void test_elems(void) {
     CHECK(elems[6].kind == ND_NEW_AXIS);
 }
 
-/* Whether two answers, and their statuses, are the same. */
-static int is_same(int32_t status, int32_t answer, int32_t expected_status, int32_t expected) {
-    return status == expected_status && (status != ND_OK || answer == expected);
-}
-
-/* The calls for one layout, beside those of the library, over layouts of which some are edited. */
+/* The calls for one view or layout, beside those of the library, over layouts of which some are edited. */
 static void test_twins_beside_calls(void) {
     int round, merged_some = 0, refused = 0;
     for (round = 0; round < 40000; round++) {
         nd_view view;
+        nd_view of_one;
         nd_layout one, made, other;
         int32_t answer = 7, expected = 7, status, got;
         size_t first = 7, end = 7, expected_first = 7, expected_end = 7, take = below(4), into = below(4);
@@ -320,22 +275,24 @@ static void test_twins_beside_calls(void) {
         write_rest(&one);
         if (below(4) == 0) edit(&one);
         if (one.axes > 4) one.axes = 4;
+        of_one = view;
+        of_one.layout = one;
         status = nd_has_overlap(one.shape, one.axes, one.strides, one.axes, &expected);
         if (status != ND_OK) refused++;
-        got = nd_layout_has_overlap(&one, &answer);
+        got = nd_view_has_overlap(&of_one, &answer);
         CHECK_QUIETLY(is_same(got, answer, status, expected));
         status = nd_is_contiguous(one.shape, one.axes, one.strides, one.axes, &expected);
-        got = nd_layout_is_contiguous(&one, &answer);
+        got = nd_view_is_contiguous(&of_one, &answer);
         CHECK_QUIETLY(is_same(got, answer, status, expected));
         status = nd_is_layout_c(one.shape, one.axes, one.strides, one.axes, &expected);
-        got = nd_layout_is_layout_c(&one, &answer);
+        got = nd_view_is_layout_c(&of_one, &answer);
         CHECK_QUIETLY(is_same(got, answer, status, expected));
         status = nd_is_layout_f(one.shape, one.axes, one.strides, one.axes, &expected);
-        got = nd_layout_is_layout_f(&one, &answer);
+        got = nd_view_is_layout_f(&of_one, &answer);
         CHECK_QUIETLY(is_same(got, answer, status, expected));
         status = nd_stretch(one.start, one.shape, one.axes, one.strides, one.axes, order, &expected_first, &expected_end,
                             &expected);
-        got = nd_layout_stretch(&one, order, &first, &end, &answer);
+        got = nd_view_stretch(&of_one, order, &first, &end, &answer);
         CHECK_QUIETLY(is_same(got, answer, status, expected));
         CHECK_QUIETLY(first == expected_first && end == expected_end);
         other = one;
@@ -397,87 +354,43 @@ static void test_co_broadcast(void) {
     CHECK(nd_layout_co_broadcast(&second, &first, &first, &second) == ND_BAD_ARGUMENT);
 }
 
-static void test_too_many_axes(void) {
-    nd_layout layout, made;
-    size_t first, end;
+/* Each call for one view or layout at as many axes as there is room for, of length 1 but for the first and the last. */
+static void test_most_axes(void) {
+    nd_view view, other;
+    size_t shape[ND_MAX_AXES], axis, first = 7, end = 7;
     int32_t answer = 7;
-    CHECK(nd_layout_from_shape(LIST(two_three), ND_ROW_MAJOR, &layout) == ND_OK);
-    layout.axes = ND_MAX_AXES + 1;
+    for (axis = 0; axis < ND_MAX_AXES; axis++) shape[axis] = axis == 0 || axis == ND_MAX_AXES - 1 ? 2 : 1;
+    CHECK(nd_view_from_shape(LIST(shape), ND_ROW_MAJOR, six_bytes, ND_OWNED, &view) == ND_OK);
+    CHECK(nd_view_check(&view, ND_OWNED) == ND_OK);
+    CHECK(nd_view_has_overlap(&view, &answer) == ND_OK && answer == 0);
+    CHECK(nd_view_is_contiguous(&view, &answer) == ND_OK && answer == 1);
+    CHECK(nd_view_is_layout_f(&view, &answer) == ND_OK && answer == 0);
+    CHECK(nd_view_is_layout_c(&view, &answer) == ND_OK && answer == 1);
+    CHECK(nd_view_stretch(&view, ND_ROW_MAJOR, &first, &end, &answer) == ND_OK && answer == 1 && first == 0 && end == 4);
+    CHECK(nd_layout_diag(&view.layout, &other.layout) == ND_OK && other.layout.shape[0] == 1);
+    CHECK(nd_layout_merge_axes(&view.layout, 0, ND_MAX_AXES - 1, &answer, &other.layout) == ND_OK && answer == 1);
+    CHECK(other.layout.shape[0] == 1 && other.layout.shape[ND_MAX_AXES - 1] == 4);
+    CHECK(nd_layout_join_axes(&view.layout, ND_ROW_MAJOR, &other.layout) == ND_OK);
+    CHECK(other.layout.axes == 1 && other.layout.shape[0] == 4 && other.layout.strides[0] == 1);
+}
+
+static void test_too_many_axes(void) {
+    nd_view view;
+    nd_layout made;
+    size_t first = 7, end = 7;
+    int32_t answer = 7;
+    CHECK(nd_view_from_shape(LIST(two_three), ND_ROW_MAJOR, six_bytes, ND_OWNED, &view) == ND_OK);
+    view.layout.axes = ND_MAX_AXES + 1;
     made.axes = 7;
-    CHECK(nd_layout_has_overlap(&layout, &answer) == ND_BAD_ARGUMENT);
-    CHECK(nd_layout_is_contiguous(&layout, &answer) == ND_BAD_ARGUMENT);
-    CHECK(nd_layout_is_layout_c(&layout, &answer) == ND_BAD_ARGUMENT);
-    CHECK(nd_layout_is_layout_f(&layout, &answer) == ND_BAD_ARGUMENT);
-    CHECK(nd_layout_stretch(&layout, ND_ROW_MAJOR, &first, &end, &answer) == ND_BAD_ARGUMENT);
-    CHECK(nd_layout_merge_axes(&layout, 0, 1, &answer, &made) == ND_BAD_ARGUMENT);
-    CHECK(nd_layout_diag(&layout, &made) == ND_BAD_ARGUMENT);
-    CHECK(answer == 7 && made.axes == 7);
-}
-
-static void test_bytes(void) {
-    const size_t three[1] = {3}, none[2] = {3, 0};
-    const ptrdiff_t seven[1] = {7}, lines[2] = {-12, 4}, back[2] = {-7, 4};
-    ptrdiff_t strides[2] = {77, 77};
-    nd_view view, before;
-    memset(&view, 7, sizeof view);
-    before = view;
-    CHECK(nd_strides_from_bytes(seven, 1, 4, strides) == ND_INCOMPATIBLE_LAYOUT && strides[0] == 77);
-    CHECK(nd_strides_from_bytes(lines, 2, 0, strides) == ND_BAD_ARGUMENT && strides[0] == 77);
-    CHECK(nd_strides_from_bytes(lines, 2, (size_t)-1, strides) == ND_BAD_ARGUMENT && strides[0] == 77);
-    CHECK(nd_strides_from_bytes(lines, 2, 4, strides) == ND_OK && strides[0] == -3 && strides[1] == 1);
-    CHECK(nd_view_over_bytes(2, LIST(three), LIST(seven), 4, 19, ND_OWNED, &view) == ND_OUT_OF_BOUNDS);
-    CHECK(nd_view_over_bytes(2, LIST(three), LIST(seven), 8, 99, ND_OWNED, &view) == ND_UNSUPPORTED);
-    CHECK(nd_view_over_bytes(2, LIST(three), LIST(seven), 0, 99, ND_OWNED, &view) == ND_BAD_ARGUMENT);
-    CHECK(nd_view_over_bytes(2, LIST(three), LIST(seven), 4, 99, 2, &view) == ND_BAD_ARGUMENT);
-    CHECK(nd_view_over_bytes(2, LIST(three), lines, 2, 4, 99, 2, &view) == ND_BAD_ARGUMENT);
-    CHECK(nd_view_over_bytes(2, LIST(many), LIST(seven), 4, 99, ND_OWNED, &view) == ND_BAD_ARGUMENT);
-    CHECK(nd_view_over_bytes(2, LIST(three), lines, 2, 4, 99, ND_OWNED, &view) == ND_INCOMPATIBLE_LAYOUT);
-    CHECK(nd_view_from_byte_strides(LIST(three), lines, 2, 4, 99, ND_OWNED, &view) == ND_INCOMPATIBLE_LAYOUT);
-    CHECK(nd_view_from_byte_strides(LIST(three), LIST(seven), 0, 99, ND_OWNED, &view) == ND_BAD_ARGUMENT);
-    CHECK(nd_view_from_byte_strides(LIST(three), LIST(seven), 4, 99, 2, &view) == ND_BAD_ARGUMENT);
-    CHECK(nd_view_from_byte_strides(LIST(two_three), LIST(lines), 4, 23, 2, &view) == ND_BAD_ARGUMENT);
-    CHECK(nd_view_from_byte_strides(LIST(two_three), LIST(lines), 4, 23, ND_OWNED, &view) == ND_OUT_OF_BOUNDS);
-    CHECK(memcmp(&view, &before, sizeof view) == 0);
-    CHECK(nd_view_over_bytes(2, LIST(three), LIST(seven), 8, 24, ND_READ_ONLY, &view) == ND_OK && nd_at1(&view, 2) == 16);
-    CHECK(nd_view_over_bytes(2, LIST(three), LIST(seven), 4, 20, ND_OWNED, &view) == ND_OK && view.data.len == 17);
-    CHECK(nd_at1(&view, 0) == 2 && nd_at1(&view, 1) == 9 && nd_at1(&view, 2) == 16 && nd_at1(&view, 3) == ND_NO_PLACE);
-    view.layout.shape[0] = 4; /* (its last byte would be past the buffer) */
-    CHECK(nd_at1(&view, 3) == ND_NO_PLACE);
-    CHECK(nd_view_from_byte_strides(LIST(two_three), LIST(lines), 4, 24, ND_OWNED, &view) == ND_OK);
-    CHECK(nd_at2(&view, 0, 0) == 12 && nd_at2(&view, 1, 2) == 8 && nd_at2(&view, 0, 2) == 20);
-    CHECK(nd_view_from_byte_strides(LIST(none), LIST(back), 4, 14, ND_OWNED, &view) == ND_OK && view.layout.start == 0);
-    CHECK(nd_view_from_byte_strides(none, 2, by_rows, 2, 9, 6, ND_OWNED, &view) == ND_OK && view.data.len == 0);
-    CHECK(nd_layout_check(&view.layout, view.data, ND_OWNED) == ND_OK && nd_at2(&view, 0, 0) == ND_NO_PLACE);
-    CHECK(nd_view_from_byte_strides(LIST(none), LIST(back), 4, 13, ND_OWNED, &view) == ND_OUT_OF_BOUNDS);
-}
-
-/* Strides in bytes: multiples of the elements' size beside the layout of elements, and any, whose elements lie within. */
-static void test_bytes_beside_elements(void) {
-    int round, accepted = 0;
-    for (round = 0; round < 40000; round++) {
-        const size_t size = 1 + below(5);
-        nd_view view, bytes;
-        ptrdiff_t strides[4];
-        size_t index[4], axis, place;
-        if (random_view(&view, size, ND_READ_ONLY) != ND_OK) continue;
-        for (axis = 0; axis < view.layout.axes; axis++) {
-            strides[axis] = view.layout.strides[axis] * (ptrdiff_t)size;
-            index[axis] = below(4);
-        }
-        CHECK_QUIETLY(nd_view_from_byte_strides(view.layout.shape, view.layout.axes, strides, view.layout.axes, size,
-                                                view.data.len * size, ND_READ_ONLY, &bytes) == ND_OK);
-        place = at(&view, index);
-        CHECK_QUIETLY(at(&bytes, index) == (place == ND_NO_PLACE ? place : place * size));
-        for (axis = 0; axis < view.layout.axes; axis++) strides[axis] += (ptrdiff_t)below(5) - 2;
-        if (nd_view_over_bytes(view.layout.start * size, view.layout.shape, view.layout.axes, strides, view.layout.axes, size,
-                               view.data.len * size, (int32_t)below(2), &bytes) != ND_OK)
-            continue;
-        place = at(&bytes, index);
-        if (place == ND_NO_PLACE) continue;
-        accepted++;
-        CHECK_QUIETLY(place + size <= view.data.len * size);
-    }
-    CHECK(accepted > 2000);
+    CHECK(nd_view_check(&view, ND_OWNED) == ND_BAD_ARGUMENT && nd_view_check(&view, ND_READ_ONLY) == ND_BAD_ARGUMENT);
+    CHECK(nd_view_has_overlap(&view, &answer) == ND_BAD_ARGUMENT);
+    CHECK(nd_view_is_contiguous(&view, &answer) == ND_BAD_ARGUMENT);
+    CHECK(nd_view_is_layout_c(&view, &answer) == ND_BAD_ARGUMENT);
+    CHECK(nd_view_is_layout_f(&view, &answer) == ND_BAD_ARGUMENT);
+    CHECK(nd_view_stretch(&view, ND_ROW_MAJOR, &first, &end, &answer) == ND_BAD_ARGUMENT);
+    CHECK(nd_layout_merge_axes(&view.layout, 0, 1, &answer, &made) == ND_BAD_ARGUMENT);
+    CHECK(nd_layout_diag(&view.layout, &made) == ND_BAD_ARGUMENT);
+    CHECK(first == 7 && end == 7 && answer == 7 && made.axes == 7);
 }
 
 int main(void) {
@@ -491,9 +404,8 @@ int main(void) {
     test_twins_beside_calls();
     test_slices_of_layouts();
     test_co_broadcast();
+    test_most_axes();
     test_too_many_axes();
-    test_bytes();
-    test_bytes_beside_elements();
     printf("%d checked, %d failed\n", checked, failed);
     return failed != 0;
 }

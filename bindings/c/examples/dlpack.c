@@ -12,12 +12,16 @@ static void expect_ok(int32_t status) {
     exit(EXIT_FAILURE);
 }
 
+static void print_status(const char *what, int32_t status) {
+    printf("%s: %s\n", what, nd_status_message(status));
+}
+
 /* Prints a tensor of two axes, or why it is none for a view. */
 static void print_tensor(const char *what, const DLTensor *tensor) {
     nd_tensor read;
     const int32_t status = nd_tensor_from_dlpack(tensor, ND_READ_ONLY, &read);
     if (status != ND_OK) {
-        printf("%s: %s\n", what, nd_status_message(status));
+        print_status(what, status);
         return;
     }
     printf("%s: %d elements reached\n", what, (int)read.view.data.len);
@@ -32,10 +36,13 @@ static void print_tensor(const char *what, const DLTensor *tensor) {
 
 int main(void) {
     const nd_slice_elem back[2] = {ND_FROM_BY(0, -1), ND_RANGE_BY(0, 4, 2)};
+    const size_t lens[2] = {2, 3};
+    const ptrdiff_t byte_strides[2] = {16, 4};
     float numbers[12];
     int64_t shape[2] = {3, 4}, new_shape[2], new_strides[2];
     DLTensor tensor = {numbers, {kDLCPU, 0}, 2, {kDLFloat, 32, 1}, shape, NULL, 0}, sliced;
     nd_tensor read;
+    int32_t status;
 
     for (int at = 0; at < 12; at++) numbers[at] = (float)at;
     print_tensor("row-major", &tensor);
@@ -64,7 +71,7 @@ int main(void) {
 
     new_strides[0] = new_strides[1] = 0;
     print_tensor("one element, read as 3x2", &sliced);
-    printf("owned: %s\n", nd_status_message(nd_tensor_from_dlpack(&sliced, ND_OWNED, &read)));
+    print_status("owned", nd_tensor_from_dlpack(&sliced, ND_OWNED, &read));
     new_shape[0] = 0;
     print_tensor("no element", &sliced);
     sliced.data = NULL;
@@ -76,5 +83,15 @@ int main(void) {
     print_tensor("more than memory has", &sliced);
     sliced.device.device_type = 2;
     print_tensor("another device", &sliced);
+
+    expect_ok(nd_view_over_bytes(4, lens, 2, byte_strides, 2, sizeof(float), sizeof numbers, ND_READ_ONLY, &read.view));
+    expect_ok(nd_tensor_to_dlpack(&read.view, numbers, float32, new_shape, new_strides, &sliced));
+    print_tensor("by strides in bytes", &sliced);
+    read.view.layout.strides[0] = 10;
+    status = nd_tensor_to_dlpack(&read.view, numbers, float32, new_shape, new_strides, &sliced);
+    print_status("a stride of two and a half elements", status);
+    sliced.dtype.bits = 8;
+    status = nd_tensor_to_dlpack(&read.view, numbers, sliced.dtype, new_shape, new_strides, &sliced);
+    print_status("given back as bytes", status);
     return EXIT_SUCCESS;
 }

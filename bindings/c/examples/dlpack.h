@@ -111,17 +111,21 @@ ND_CHECKED((1, 3)) int32_t nd_tensor_from_dlpack(const DLTensor *tensor, int32_t
 
 /*
  * Writes a tensor of a view over a buffer. `shape` and `strides`: room for as many numbers as the view has axes, which the
- * tensor keeps. ND_BAD_ARGUMENT: elements of other sizes than the view's; then the statuses of nd_layout_check.
+ * tensor keeps. ND_BAD_ARGUMENT: elements of no bytes, or of other sizes than the view's; then the statuses of nd_view_check;
+ * ND_INCOMPATIBLE_LAYOUT: over bytes, a stride that is no multiple of an element's bytes, as DLPack's strides are.
  */
 ND_CHECKED((1, 2, 4, 5, 6)) int32_t nd_tensor_to_dlpack(const nd_view *view, void *buffer, DLDataType dtype, int64_t *shape,
                                                         int64_t *strides, DLTensor *tensor) {
     const DLDevice cpu = {kDLCPU, 0};
-    const int32_t status = nd_layout_check(&view->layout, view->data, ND_READ_ONLY);
-    if ((size_t)dtype.bits * dtype.lanes != 8 * view->data.elem_size) return ND_BAD_ARGUMENT;
+    const size_t bits = (size_t)dtype.bits * dtype.lanes, places = view->data.elem_places;
+    ptrdiff_t steps[ND_MAX_AXES];
+    int32_t status = nd_view_check(view, ND_READ_ONLY);
+    if (bits == 0 || bits % 8 != 0 || bits / 8 != view->data.place_size * places) return ND_BAD_ARGUMENT;
+    if (status == ND_OK) status = nd_strides_from_bytes(view->layout.strides, view->layout.axes, places, steps);
     if (status != ND_OK) return status;
     for (size_t axis = 0; axis < view->layout.axes; axis++) {
         shape[axis] = (int64_t)view->layout.shape[axis];
-        strides[axis] = (int64_t)view->layout.strides[axis];
+        strides[axis] = (int64_t)steps[axis];
     }
     tensor->data = buffer;
     tensor->device = cpu;
@@ -129,7 +133,7 @@ ND_CHECKED((1, 2, 4, 5, 6)) int32_t nd_tensor_to_dlpack(const nd_view *view, voi
     tensor->dtype = dtype;
     tensor->shape = shape;
     tensor->strides = strides;
-    tensor->byte_offset = (uint64_t)view->layout.start * view->data.elem_size;
+    tensor->byte_offset = (uint64_t)view->layout.start * view->data.place_size;
     return ND_OK;
 }
 
