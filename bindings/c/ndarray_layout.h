@@ -121,10 +121,12 @@
 #define ND_INLINE static
 #endif
 
-/* A function of this header whose result is to be looked at; the parameters at these positions are no null pointers. */
+/* A call whose result is to be looked at, and a function of this header whose parameters at these positions are no null. */
 #ifdef __GNUC__
+#define ND_USED __attribute__((warn_unused_result))
 #define ND_CHECKED(positions) ND_INLINE __attribute__((warn_unused_result, nonnull positions))
 #else
+#define ND_USED
 #define ND_CHECKED(positions) ND_INLINE
 #endif
 
@@ -185,7 +187,7 @@ typedef struct nd_slice_elem {
  * (3), strides (-1), over 3 elements: 2. (2,0), strides (-3,-1), over 3: 3. (0,3), strides (1,PTRDIFF_MAX): ND_OVERFLOW.
  */
 int32_t nd_layout_start(const size_t *shape, size_t shape_len, const ptrdiff_t *strides, size_t strides_len,
-                        size_t elem_size, size_t len, int32_t mode, size_t *start);
+                        size_t elem_size, size_t len, int32_t mode, size_t *start) ND_USED;
 
 /*
  * Accepts a layout whose first index lies at `start`, over a buffer of `len` elements of `elem_size` bytes.
@@ -197,7 +199,7 @@ int32_t nd_layout_start(const size_t *shape, size_t shape_len, const ptrdiff_t *
  * ND_OUT_OF_BOUNDS from 6.
  */
 int32_t nd_check_layout(size_t start, const size_t *shape, size_t shape_len, const ptrdiff_t *strides, size_t strides_len,
-                        size_t elem_size, size_t len, int32_t mode);
+                        size_t elem_size, size_t len, int32_t mode) ND_USED;
 
 /*
  * Writes 1 where two indices of a layout may alias, else 0: it has an index, and breaks the no-alias rule. After 0 no two
@@ -207,7 +209,8 @@ int32_t nd_check_layout(size_t start, const size_t *shape, size_t shape_len, con
  *
  * (2,3), strides (3,1): 0. (3,2), strides (2,3): 1.
  */
-int32_t nd_has_overlap(const size_t *shape, size_t shape_len, const ptrdiff_t *strides, size_t strides_len, int32_t *answer);
+int32_t nd_has_overlap(const size_t *shape, size_t shape_len, const ptrdiff_t *strides, size_t strides_len,
+                       int32_t *answer) ND_USED;
 
 /*
  * Writes the strides by which the last axis of a shape moves fastest (nd_default_strides) or the first one
@@ -217,8 +220,8 @@ int32_t nd_has_overlap(const size_t *shape, size_t shape_len, const ptrdiff_t *s
  *
  * (3,4,5): (20,5,1), and (1,3,12).
  */
-int32_t nd_default_strides(const size_t *shape, size_t shape_len, ptrdiff_t *strides, size_t strides_len);
-int32_t nd_fortran_strides(const size_t *shape, size_t shape_len, ptrdiff_t *strides, size_t strides_len);
+int32_t nd_default_strides(const size_t *shape, size_t shape_len, ptrdiff_t *strides, size_t strides_len) ND_USED;
+int32_t nd_fortran_strides(const size_t *shape, size_t shape_len, ptrdiff_t *strides, size_t strides_len) ND_USED;
 
 /*
  * Writes 1 or 0. nd_is_contiguous: whether no two indices have one place, and all fill a stretch of the buffer without a gap,
@@ -232,11 +235,11 @@ int32_t nd_fortran_strides(const size_t *shape, size_t shape_len, ptrdiff_t *str
  * (2,3), strides (-3,1): 1, 0, 0. (2,2), strides (1,1): 0, 0, 0. (0,3), strides (3,1): 1, 1, 1; strides (9,9): 0, 1, 1.
  */
 int32_t nd_is_contiguous(const size_t *shape, size_t shape_len, const ptrdiff_t *strides, size_t strides_len,
-                         int32_t *answer);
+                         int32_t *answer) ND_USED;
 int32_t nd_is_layout_c(const size_t *shape, size_t shape_len, const ptrdiff_t *strides, size_t strides_len,
-                       int32_t *answer);
+                       int32_t *answer) ND_USED;
 int32_t nd_is_layout_f(const size_t *shape, size_t shape_len, const ptrdiff_t *strides, size_t strides_len,
-                       int32_t *answer);
+                       int32_t *answer) ND_USED;
 
 /* ---- Indices --------------------------------------------------------------------------------------------------------- */
 
@@ -249,7 +252,7 @@ int32_t nd_is_layout_f(const size_t *shape, size_t shape_len, const ptrdiff_t *s
  * From 3, (2,3), strides (-3,1): (1,2) lies at 2. From 0, (2,2), strides (1,1): (0,1) and (1,0) lie at 1.
  */
 int32_t nd_place(size_t start, const size_t *shape, size_t shape_len, const ptrdiff_t *strides, size_t strides_len,
-                 const size_t *index, size_t index_len, size_t *place);
+                 const size_t *index, size_t index_len, size_t *place) ND_USED;
 
 /*
  * Moves an index of a shape to the next one in an order, and writes 1. The last index becomes the first one, (0, .., 0),
@@ -260,7 +263,7 @@ int32_t nd_place(size_t start, const size_t *shape, size_t shape_len, const ptrd
  * (2,3): (0,2) becomes (1,0) in row-major order, (1,2) in column-major order.
  */
 int32_t nd_next_index(const size_t *shape, size_t shape_len, size_t *index, size_t index_len, int32_t order,
-                      int32_t *has_next);
+                      int32_t *has_next) ND_USED;
 
 /*
  * Writes the places of all indices, in an order. `places`: as many as the product of the lengths.
@@ -270,7 +273,7 @@ int32_t nd_next_index(const size_t *shape, size_t shape_len, size_t *index, size
  * From 3, (2,3), strides (-3,1): 3 4 5 0 1 2 in row-major order, 3 0 4 1 5 2 in column-major order.
  */
 int32_t nd_places(size_t start, const size_t *shape, size_t shape_len, const ptrdiff_t *strides, size_t strides_len,
-                  int32_t order, size_t *places, size_t places_len);
+                  int32_t order, size_t *places, size_t places_len) ND_USED;
 
 /*
  * Writes the start of each row of a layout in an order: the places along the axis that moves fastest, one row for each index
@@ -283,7 +286,7 @@ int32_t nd_places(size_t start, const size_t *shape, size_t shape_len, const ptr
  * order.
  */
 int32_t nd_rows(size_t start, const size_t *shape, size_t shape_len, const ptrdiff_t *strides, size_t strides_len,
-                int32_t order, size_t *starts, size_t starts_len, ptrdiff_t *stride, size_t *len);
+                int32_t order, size_t *starts, size_t starts_len, ptrdiff_t *stride, size_t *len) ND_USED;
 
 /* ---- Slices ---------------------------------------------------------------------------------------------------------- */
 
@@ -302,7 +305,7 @@ int32_t nd_rows(size_t start, const size_t *shape, size_t shape_len, const ptrdi
  */
 int32_t nd_slice(size_t start, const size_t *shape, size_t shape_len, const ptrdiff_t *strides, size_t strides_len,
                  const nd_slice_elem *elems, size_t elems_len, int32_t fit, size_t *new_start, size_t *new_shape,
-                 size_t new_shape_len, ptrdiff_t *new_strides, size_t new_strides_len);
+                 size_t new_shape_len, ptrdiff_t *new_strides, size_t new_strides_len) ND_USED;
 
 /*
  * Writes 1 where two slices of a shape share an index, else 0. Where no two indices of a layout of the shape alias, this is
@@ -314,7 +317,7 @@ int32_t nd_slice(size_t start, const size_t *shape, size_t shape_len, const ptrd
  * (2,3), the first row and the last column: 1. The first row and the last row: 0.
  */
 int32_t nd_slices_intersect(const size_t *shape, size_t shape_len, const nd_slice_elem *first, size_t first_len,
-                            const nd_slice_elem *second, size_t second_len, int32_t fit, int32_t *answer);
+                            const nd_slice_elem *second, size_t second_len, int32_t fit, int32_t *answer) ND_USED;
 
 /*
  * Writes the positions of two of many slices of a shape that share an index, the less first, and 1; else writes 0 and leaves
@@ -333,7 +336,7 @@ int32_t nd_slices_intersect(const size_t *shape, size_t shape_len, const nd_slic
  */
 int32_t nd_first_intersection(const size_t *shape, size_t shape_len, const nd_slice_elem *elems, size_t elems_len,
                               const size_t *counts, size_t counts_len, int32_t fit, size_t *pair, size_t pair_len,
-                              int32_t *found);
+                              int32_t *found) ND_USED;
 
 /*
  * Writes how many indices a slice leaves of a shape.
@@ -343,7 +346,7 @@ int32_t nd_first_intersection(const size_t *shape, size_t shape_len, const nd_sl
  * (4), by `1..` with a step of -2: 2.
  */
 int32_t nd_picked(const size_t *shape, size_t shape_len, const nd_slice_elem *elems, size_t elems_len, int32_t fit,
-                  size_t *count);
+                  size_t *count) ND_USED;
 
 /* ---- Shapes ---------------------------------------------------------------------------------------------------------- */
 
@@ -355,7 +358,7 @@ int32_t nd_picked(const size_t *shape, size_t shape_len, const nd_slice_elem *el
  * (4,1) and (3): (4,3).
  */
 int32_t nd_co_broadcast(const size_t *first, size_t first_len, const size_t *second, size_t second_len, size_t *common,
-                        size_t common_len);
+                        size_t common_len) ND_USED;
 
 /*
  * Writes the strides along which a layout is read as one of the shape `target`: 0 along new axes, which come first, and
@@ -367,7 +370,7 @@ int32_t nd_co_broadcast(const size_t *first, size_t first_len, const size_t *sec
  * (1,4), strides (9,-1), to (2,3,4): (0,0,-1).
  */
 int32_t nd_broadcast(const size_t *shape, size_t shape_len, const ptrdiff_t *strides, size_t strides_len,
-                     const size_t *target, size_t target_len, ptrdiff_t *new_strides, size_t new_strides_len);
+                     const size_t *target, size_t target_len, ptrdiff_t *new_strides, size_t new_strides_len) ND_USED;
 
 /*
  * Merges the axis `take` into the axis `into`, in place, where one stride serves for both, and writes 1; else writes
@@ -382,7 +385,7 @@ int32_t nd_broadcast(const size_t *shape, size_t shape_len, const ptrdiff_t *str
  * Axis 0 into axis 1 of (2,3), strides (3,1): (1,6), strides (3,1). Of (2,0), strides (3,1): (0,0), strides (3,3).
  */
 int32_t nd_merge_axes(size_t *shape, size_t shape_len, ptrdiff_t *strides, size_t strides_len, size_t take, size_t into,
-                      int32_t *merged);
+                      int32_t *merged) ND_USED;
 
 /*
  * Writes the strides along which the shape `new_shape` has the places of a layout in an order. The start is unchanged.
@@ -403,7 +406,7 @@ int32_t nd_merge_axes(size_t *shape, size_t shape_len, ptrdiff_t *strides, size_
  */
 int32_t nd_reshape(const size_t *shape, size_t shape_len, const ptrdiff_t *strides, size_t strides_len,
                    const size_t *new_shape, size_t new_shape_len, int32_t order, ptrdiff_t *new_strides,
-                   size_t new_strides_len);
+                   size_t new_strides_len) ND_USED;
 
 /*
  * Writes the shape and the strides with the axes in another order: axis k is axis `axes[k]`. The start is unchanged.
@@ -416,7 +419,7 @@ int32_t nd_reshape(const size_t *shape, size_t shape_len, const ptrdiff_t *strid
  */
 int32_t nd_permuted_axes(const size_t *shape, size_t shape_len, const ptrdiff_t *strides, size_t strides_len,
                          const size_t *axes, size_t axes_len, size_t *new_shape, size_t new_shape_len,
-                         ptrdiff_t *new_strides, size_t new_strides_len);
+                         ptrdiff_t *new_strides, size_t new_strides_len) ND_USED;
 
 /*
  * Writes the shape and the strides of all windows of a layout: first an axis for each axis along which the windows move, then
@@ -430,7 +433,7 @@ int32_t nd_permuted_axes(const size_t *shape, size_t shape_len, const ptrdiff_t 
  */
 int32_t nd_windows(const size_t *shape, size_t shape_len, const ptrdiff_t *strides, size_t strides_len,
                    const size_t *window, size_t window_len, size_t *new_shape, size_t new_shape_len,
-                   ptrdiff_t *new_strides, size_t new_strides_len);
+                   ptrdiff_t *new_strides, size_t new_strides_len) ND_USED;
 
 /*
  * The same for the chunks that lie side by side from the first index on: an axis has len / chunk of them, and what is left
@@ -442,7 +445,7 @@ int32_t nd_windows(const size_t *shape, size_t shape_len, const ptrdiff_t *strid
  */
 int32_t nd_exact_chunks(const size_t *shape, size_t shape_len, const ptrdiff_t *strides, size_t strides_len,
                         const size_t *chunk, size_t chunk_len, size_t *new_shape, size_t new_shape_len,
-                        ptrdiff_t *new_strides, size_t new_strides_len);
+                        ptrdiff_t *new_strides, size_t new_strides_len) ND_USED;
 
 /*
  * Splits a layout along an axis: the first part has the coordinates below `index`, the second those from `index` on. Writes
@@ -457,7 +460,7 @@ int32_t nd_exact_chunks(const size_t *shape, size_t shape_len, const ptrdiff_t *
  */
 int32_t nd_split_at(size_t start, const size_t *shape, size_t shape_len, const ptrdiff_t *strides, size_t strides_len,
                     size_t axis, size_t index, size_t *new_starts, size_t new_starts_len, size_t *new_shapes,
-                    size_t new_shapes_len, ptrdiff_t *new_strides, size_t new_strides_len);
+                    size_t new_shapes_len, ptrdiff_t *new_strides, size_t new_strides_len) ND_USED;
 
 /*
  * Writes the length and the stride of the diagonal of a layout, whose start stays: the indices that have the same coordinate
@@ -469,7 +472,7 @@ int32_t nd_split_at(size_t start, const size_t *shape, size_t shape_len, const p
  * (2,3), strides (3,1): length 2, stride 4.
  */
 int32_t nd_diag(const size_t *shape, size_t shape_len, const ptrdiff_t *strides, size_t strides_len, size_t *len,
-                ptrdiff_t *stride);
+                ptrdiff_t *stride) ND_USED;
 
 /*
  * Writes whether the places of a layout follow one another without a gap in an order (1) or don't (0); where they do, the
@@ -481,7 +484,7 @@ int32_t nd_diag(const size_t *shape, size_t shape_len, const ptrdiff_t *strides,
  * From 4, (2,3), strides (3,1), row-major: 1, from 4 to 10; column-major: 0.
  */
 int32_t nd_stretch(size_t start, const size_t *shape, size_t shape_len, const ptrdiff_t *strides, size_t strides_len,
-                   int32_t order, size_t *first, size_t *end, int32_t *found);
+                   int32_t order, size_t *first, size_t *end, int32_t *found) ND_USED;
 
 /* ---- Reasons --------------------------------------------------------------------------------------------------------- */
 
@@ -551,7 +554,7 @@ typedef struct nd_reason {
  * ND_RULE_COUNT, size 1.
  */
 int32_t nd_slice_reason(const size_t *shape, size_t shape_len, const nd_slice_elem *elems, size_t elems_len, int32_t fit,
-                        nd_reason *reason);
+                        nd_reason *reason) ND_USED;
 
 /*
  * Writes why nd_layout_start doesn't accept a layout. The lowest place is 0, so ND_RULE_LOWEST and ND_RULE_HIGHEST never come.
@@ -562,7 +565,7 @@ int32_t nd_slice_reason(const size_t *shape, size_t shape_len, const nd_slice_el
  * ND_UNSUPPORTED, ND_RULE_ALIAS, axis 1, number 3, size 4.
  */
 int32_t nd_layout_start_reason(const size_t *shape, size_t shape_len, const ptrdiff_t *strides, size_t strides_len,
-                               size_t elem_size, size_t len, int32_t mode, nd_reason *reason);
+                               size_t elem_size, size_t len, int32_t mode, nd_reason *reason) ND_USED;
 
 /*
  * Writes why nd_check_layout doesn't accept a layout. With an element of one byte and `len` SIZE_MAX, read-only, that is why
@@ -573,7 +576,7 @@ int32_t nd_layout_start_reason(const size_t *shape, size_t shape_len, const ptrd
  * (3), strides (-1), over 5 elements, from 1: ND_OUT_OF_BOUNDS, ND_RULE_LOWEST, size 2; from 5: ND_RULE_LENGTH, size 5.
  */
 int32_t nd_check_layout_reason(size_t start, const size_t *shape, size_t shape_len, const ptrdiff_t *strides,
-                               size_t strides_len, size_t elem_size, size_t len, int32_t mode, nd_reason *reason);
+                               size_t strides_len, size_t elem_size, size_t len, int32_t mode, nd_reason *reason) ND_USED;
 
 /*
  * Writes why a layout can't be read along another shape. On the layout that is what nd_layout_start_reason writes, with an
@@ -586,7 +589,7 @@ int32_t nd_check_layout_reason(size_t start, const size_t *shape, size_t shape_l
  * (2,2,2,2): ND_OK. (2,3), strides (3,1), along (4): ND_INCOMPATIBLE_SHAPE, ND_RULE_OTHER_SIZE, size 4.
  */
 int32_t nd_reshape_reason(const size_t *shape, size_t shape_len, const ptrdiff_t *strides, size_t strides_len,
-                          const size_t *new_shape, size_t new_shape_len, int32_t order, nd_reason *reason);
+                          const size_t *new_shape, size_t new_shape_len, int32_t order, nd_reason *reason) ND_USED;
 
 /*
  * Writes why a list of axes is no order of the axes of a shape: of nd_permuted_axes after the rules on the layout. Always
@@ -595,7 +598,7 @@ int32_t nd_reshape_reason(const size_t *shape, size_t shape_len, const ptrdiff_t
  * (2,3,4) by (0,2,2): ND_INCOMPATIBLE_SHAPE, ND_RULE_MISSING, axis 1. (2,3) by (1,0,1): ND_RULE_COUNT, size 3.
  */
 int32_t nd_permuted_axes_reason(const size_t *shape, size_t shape_len, const size_t *axes, size_t axes_len,
-                                nd_reason *reason);
+                                nd_reason *reason) ND_USED;
 
 /*
  * Writes why a list is no index of a shape: of nd_place after the rules on the layout, and of nd_next_index. Always ND_OK.
@@ -603,7 +606,8 @@ int32_t nd_permuted_axes_reason(const size_t *shape, size_t shape_len, const siz
  *
  * (2,3) by (1,3): ND_OUT_OF_BOUNDS, ND_RULE_COORDINATE, axis 1, size 3; by (2): ND_RULE_COUNT, size 1.
  */
-int32_t nd_index_reason(const size_t *shape, size_t shape_len, const size_t *index, size_t index_len, nd_reason *reason);
+int32_t nd_index_reason(const size_t *shape, size_t shape_len, const size_t *index, size_t index_len,
+                        nd_reason *reason) ND_USED;
 
 /*
  * Writes why two shapes have no common one. Always ND_OK.
@@ -611,7 +615,7 @@ int32_t nd_index_reason(const size_t *shape, size_t shape_len, const size_t *ind
  * (4,2,5) and (3,1): ND_INCOMPATIBLE_SHAPE, ND_RULE_COMMON, axis 1, where one has length 2 and the other 3.
  */
 int32_t nd_co_broadcast_reason(const size_t *first, size_t first_len, const size_t *second, size_t second_len,
-                               nd_reason *reason);
+                               nd_reason *reason) ND_USED;
 
 /*
  * Writes why a layout of a shape can't be broadcast to another: of nd_broadcast after the rules on the layout. Always ND_OK.
@@ -620,7 +624,7 @@ int32_t nd_co_broadcast_reason(const size_t *first, size_t first_len, const size
  * (1,4) to (2,5,3): ND_INCOMPATIBLE_SHAPE, ND_RULE_STRETCH, axis 2, size 4; to (4): ND_RULE_COUNT, size 1.
  */
 int32_t nd_broadcast_reason(const size_t *shape, size_t shape_len, const size_t *target, size_t target_len,
-                            nd_reason *reason);
+                            nd_reason *reason) ND_USED;
 
 /*
  * Write why the windows of a shape, or its chunks, can't be taken: of nd_windows and nd_exact_chunks after the rules on the
@@ -629,16 +633,17 @@ int32_t nd_broadcast_reason(const size_t *shape, size_t shape_len, const size_t 
  * (4,4) by (2,0): ND_UNSUPPORTED, ND_RULE_EMPTY, axis 1; by (0): ND_INCOMPATIBLE_SHAPE, ND_RULE_COUNT, size 1. (2^33) by
  * (2^32): windows ND_OVERFLOW, ND_RULE_SIZE; chunks ND_OK.
  */
-int32_t nd_windows_reason(const size_t *shape, size_t shape_len, const size_t *window, size_t window_len, nd_reason *reason);
+int32_t nd_windows_reason(const size_t *shape, size_t shape_len, const size_t *window, size_t window_len,
+                          nd_reason *reason) ND_USED;
 int32_t nd_exact_chunks_reason(const size_t *shape, size_t shape_len, const size_t *chunk, size_t chunk_len,
-                               nd_reason *reason);
+                               nd_reason *reason) ND_USED;
 
 /*
  * Writes why a shape can't be split along an axis: of nd_split_at after the rules on the layout. Always ND_OK.
  *
  * (2,3) along axis 1 at 4: ND_OUT_OF_BOUNDS, ND_RULE_SPLIT, axis 1, size 3; along axis 2: ND_RULE_AXIS, axis 2, size 2.
  */
-int32_t nd_split_at_reason(const size_t *shape, size_t shape_len, size_t axis, size_t index, nd_reason *reason);
+int32_t nd_split_at_reason(const size_t *shape, size_t shape_len, size_t axis, size_t index, nd_reason *reason) ND_USED;
 
 /*
  * Writes why an axis can't be merged into another: of nd_merge_axes after the rules on the layout. Always ND_OK. ND_RULE_AXIS
@@ -646,7 +651,7 @@ int32_t nd_split_at_reason(const size_t *shape, size_t shape_len, size_t axis, s
  *
  * (2,3), 1 into 2: ND_OUT_OF_BOUNDS, ND_RULE_AXIS, axis 2, size 2; 1 into 1: ND_UNSUPPORTED, ND_RULE_SAME_AXIS, axis 1.
  */
-int32_t nd_merge_axes_reason(const size_t *shape, size_t shape_len, size_t take, size_t into, nd_reason *reason);
+int32_t nd_merge_axes_reason(const size_t *shape, size_t shape_len, size_t take, size_t into, nd_reason *reason) ND_USED;
 
 /* ---- Statuses -------------------------------------------------------------------------------------------------------- */
 
@@ -659,10 +664,10 @@ int32_t nd_merge_axes_reason(const size_t *shape, size_t shape_len, size_t take,
  *
  * ND_BAD_ARGUMENT: a number that is no status, or less room.
  */
-int32_t nd_status_text(int32_t status, char *text, size_t text_len, size_t *used);
+int32_t nd_status_text(int32_t status, char *text, size_t text_len, size_t *used) ND_USED;
 
 /* Writes the three numbers of the version of the library that a program has loaded. Always ND_OK. */
-int32_t nd_version(int32_t *major, int32_t *minor, int32_t *patch);
+int32_t nd_version(int32_t *major, int32_t *minor, int32_t *patch) ND_USED;
 
 /* The version of the header that a program was compiled with. */
 ND_INLINE const char *nd_header_version(void) {

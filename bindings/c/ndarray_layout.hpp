@@ -32,15 +32,35 @@ inline void expect_ok(std::int32_t status) {
     if (status != ND_OK) throw error(status);
 }
 
+// Whether a type is one of coordinates, bounds and steps: integers, and enumerations without `class`, of no more bits than a
+// size has. A bool is none, as in Python: `view(row, column == 2)` compares where it should count.
+template <class Number>
+inline constexpr bool is_coordinate_v = sizeof(Number) <= sizeof(std::size_t) && !std::is_same_v<Number, bool> &&
+                                        (std::is_integral_v<Number> ||
+                                         (std::is_enum_v<Number> && std::is_convertible_v<Number, std::ptrdiff_t>));
+
+#define ND_EXPECT_COORDINATES(holds) \
+    static_assert(holds, "coordinates, bounds and steps are integers, not bool, of no more bits than std::size_t")
+
 // Elements of slices, as ND_ALL, ND_RANGE, ND_RANGE_BY, ND_FROM, ND_FROM_BY, ND_INDEX and ND_NEW_AXIS() are.
 using elem = nd_slice_elem;
 inline constexpr elem all ND_ALL;
 inline constexpr elem new_axis ND_NEW_AXIS();
-constexpr elem range(std::ptrdiff_t start, std::ptrdiff_t end, std::ptrdiff_t step = 1) {
+template <class Start, class End, class Step = int>
+constexpr elem range(Start start, End end, Step step = 1) {
+    ND_EXPECT_COORDINATES((is_coordinate_v<Start> && is_coordinate_v<End> && is_coordinate_v<Step>));
     return ND_RANGE_BY(start, end, step);
 }
-constexpr elem from(std::ptrdiff_t start, std::ptrdiff_t step = 1) { return ND_FROM_BY(start, step); }
-constexpr elem index(std::ptrdiff_t coordinate) { return ND_INDEX(coordinate); }
+template <class Start, class Step = int>
+constexpr elem from(Start start, Step step = 1) {
+    ND_EXPECT_COORDINATES((is_coordinate_v<Start> && is_coordinate_v<Step>));
+    return ND_FROM_BY(start, step);
+}
+template <class Coordinate>
+constexpr elem index(Coordinate coordinate) {
+    ND_EXPECT_COORDINATES(is_coordinate_v<Coordinate>);
+    return ND_INDEX(coordinate);
+}
 
 // The elements of a row, `stride()` apart. Where that is 1, `data()` and `size()` are those of a std::span.
 template <class T>
@@ -141,9 +161,11 @@ public:
         return axis < axes() ? view_.layout.shape[axis] : throw error(ND_OUT_OF_BOUNDS);
     }
 
-    // The element of an index, each coordinate and the place compared; null, or an error, where it is no index.
+    // The element of an index, each coordinate and the place compared; null, or an error, where it is no index. Coordinates are
+    // integers: others don't compile.
     template <class... Coordinates>
     T *find(Coordinates... coordinates) const {
+        ND_EXPECT_COORDINATES((is_coordinate_v<Coordinates> && ...));
         const std::array<std::size_t, sizeof...(coordinates)> list{static_cast<std::size_t>(coordinates)...};
         const std::size_t place = nd_at_n(&view_, list.data(), list.size());
         return place == ND_NO_PLACE ? nullptr : data_ + place;

@@ -15,7 +15,8 @@
  *
  * (-12,4), of elements of 4 bytes: (-3,1). (7): ND_INCOMPATIBLE_LAYOUT.
  */
-ND_INLINE int32_t nd_strides_from_bytes(const ptrdiff_t *byte_strides, size_t count, size_t elem_size, ptrdiff_t *strides) {
+ND_INLINE ND_USED int32_t nd_strides_from_bytes(const ptrdiff_t *byte_strides, size_t count, size_t elem_size,
+                                                ptrdiff_t *strides) {
     const ptrdiff_t size = (ptrdiff_t)elem_size;
     size_t axis;
     if (elem_size == 0 || elem_size > (size_t)-1 / 2) return ND_BAD_ARGUMENT;
