@@ -25,7 +25,7 @@ HEADS = {
     CHECKED: "# What the last whole check passed on (checks/record.py): the checksum of all that was committed but this and proved.txt.",
 }
 # the kinds of checks/counts.txt that are tests
-TESTS = {"Rust": ("tests", "docs"), "Python": ("python", "numpys_own", "browser", "python_examples"), "C": ("c", "c_examples")}
+TESTS = {"Rust": ("tests", "docs"), "Python": ("python", "numpys_own", "browser", "python_examples"), "C": ("c",)}
 
 
 def sum_of(paths, *texts):
