@@ -1,0 +1,91 @@
+"""The wrong bodies of crates/NAME/wrong, as the checks that list and try them read them, and what is wrong with one in itself.
+
+A file NAME.edit is one wrong body. Its line 'refused by: FUNCTION GOAL' names the public call and the goal, that of a clause, which has to be
+left open. Then come a file of the crate and, as often as need be, what stands once in it and what is put in its place, each text in a line.
+"""
+import dataclasses, pathlib, re
+
+from rattle_source import TOP, read
+
+LINE = re.compile(r"(refused by|file|old|new): ?(.*)")
+IN_ORDER = re.compile(r"refused by (?:file (?:old new )+)+")
+# the goals of clauses, and of the invariant of a type that a call returns, which says what no clause sees
+PROMISE = re.compile(r"(?:returns|invariant_of-result)(?:-\S+)?")
+FUNCTION = re.compile(r"^( *)(pub(?:\(\w+\))? )?(?:final |const |unsafe |extern \"C\" )*fn (\w+)", re.M)
+# what a function stands in: an impl for a type, or a public trait, whose functions are as public as it is
+OWNER = re.compile(r"^(?:impl(?:<.*?>)? (?P<trait>.* for )?(?:&\S* )?|(?P<public>pub )?(?:pub\(\w+\) )?trait )(?P<type>\w+)", re.M)
+PUBLIC = re.compile(r"^pub use [^;]*;", re.M)
+
+
+@dataclasses.dataclass(frozen=True)
+class Edit:
+    """A wrong body: its file, the function that has it, the goal that refuses it, and its changes, each a file, an old text and a new one."""
+
+    path: str
+    function: str
+    goal: str
+    changes: tuple
+
+    @property
+    def crate(self):
+        return self.path.split("/")[1]
+
+    @property
+    def name(self):
+        return pathlib.PurePath(self.path).stem
+
+
+def read_edit(path):
+    """The edit that a file has. A `ValueError` says what it lacks."""
+    lines = [LINE.fullmatch(line) for line in read(path).splitlines()]
+    if not path.endswith(".edit") or not all(lines) or not IN_ORDER.fullmatch("".join(f"{line[1]} " for line in lines)):
+        raise ValueError(f"{path}: an edit is NAME.edit, with lines 'refused by', 'file', 'old' and 'new'")
+    if len(lines[0][2].split()) != 2:
+        raise ValueError(f"{path}: 'refused by' names a function and a goal")
+    told, changes = {}, []
+    for word, text in (line.groups() for line in lines):
+        told[word] = text
+        if word == "new":
+            changes.append((told["file"], told["old"], text))
+    return Edit(path, *lines[0][2].split(), tuple(changes))
+
+
+def faults_of(edit):
+    """What is wrong with an edit in itself, whatever the prover says of it: it changes nothing, or what isn't there, or what is no code; or what
+    refuses it is no promise of a public call."""
+    texts = [read(f"crates/{edit.crate}/{file}") if file.startswith("src/") else "" for file, _, _ in edit.changes]
+    for text, (file, old, new) in zip(texts, edit.changes):
+        if not old or text.count(old) != 1:
+            yield f"{edit.path}: what it replaces doesn't stand once in src/, in {file}"
+        if old.split() == new.split():
+            yield f"{edit.path}: the new text is the old one"
+    if not PROMISE.fullmatch(edit.goal):
+        yield f"{edit.path}: {edit.goal} is the goal of no clause"
+    if not any(is_in_call(edit, text.partition(old)[0]) for text, (_, old, _) in zip(texts, edit.changes)):
+        yield f"{edit.path}: {edit.function} is no public call in which it changes something"
+
+
+def is_in_call(edit, text):
+    """Whether a text of a file of the crate, up to what an edit replaces, ends in the edit's function, and this is a public one."""
+    functions, owners = FUNCTION.findall(text), [*OWNER.finditer(text)]
+    if not functions or functions[-1][2] != edit.function.rpartition("::")[2]:
+        return False
+    indent, access, name = functions[-1]
+    owner = owners[-1] if indent and owners else None
+    is_public = access == "pub " or owner and (owner["trait"] or owner["public"])
+    passed_on = " ".join(PUBLIC.findall(read(f"crates/{edit.crate}/src/lib.rt")))
+    is_reached = re.search(rf"\b{owner['type'] if owner else name}\b", passed_on)
+    return bool(is_public and (is_reached or "no_mangle" in text[text.rindex("\n\n") :]))
+
+
+def read_edits():
+    """The edits that can be tried, and what is wrong with the others."""
+    edits, faults = [], []
+    for path in sorted(str(file.relative_to(TOP)) for file in pathlib.Path(TOP).glob("crates/*/wrong/*")):
+        try:
+            found = [*faults_of(edit := read_edit(path))]
+            edits += [] if found else [edit]
+        except ValueError as error:
+            found = [str(error)]
+        faults += found
+    return edits, faults
