@@ -11,7 +11,7 @@ LINE = re.compile(r"(refused by|file|old|new): ?(.*)")
 IN_ORDER = re.compile(r"refused by (?:file (?:old new )+)+")
 # the goals of clauses, and of the invariant of a type that a call returns, which says what no clause sees
 PROMISE = re.compile(r"(?:returns|invariant_of-result)(?:-\S+)?")
-FUNCTION = re.compile(r"^( *)(pub(?:\(\w+\))? )?(?:final |const |unsafe |extern \"C\" )*fn (\w+)", re.M)
+FUNCTION = re.compile(r"^(?P<indent> *)(?P<access>pub(?:\(\w+\))? )?(?:final |const |unsafe |extern \"C\" )*fn (?P<name>\w+)", re.M)
 # what a function stands in: an impl for a type, or a public trait, whose functions are as public as it is
 OWNER = re.compile(r"^(?:impl(?:<.*?>)? (?P<trait>.* for )?(?:&\S* )?|(?P<public>pub )?(?:pub\(\w+\) )?trait )(?P<type>\w+)", re.M)
 PUBLIC = re.compile(r"^pub use [^;]*;", re.M)
@@ -67,15 +67,15 @@ def faults_of(edit):
 
 def is_in_call(edit, text):
     """Whether a text of a file of the crate, up to what an edit replaces, ends in the edit's function, and this is a public one."""
-    functions, owners = FUNCTION.findall(text), [*OWNER.finditer(text)]
-    if not functions or functions[-1][2] != edit.function.rpartition("::")[2]:
+    *_, function = [None, *FUNCTION.finditer(text)]
+    if not function or function["name"] != edit.function.rpartition("::")[2]:
         return False
-    indent, access, name = functions[-1]
-    owner = owners[-1] if indent and owners else None
-    is_public = access == "pub " or owner and (owner["trait"] or owner["public"])
+    *_, owner = [None, *OWNER.finditer(text)] if function["indent"] else [None]
+    is_public = function["access"] == "pub " or owner and (owner["trait"] or owner["public"])
     passed_on = " ".join(PUBLIC.findall(read(f"crates/{edit.crate}/src/lib.rt")))
-    is_reached = re.search(rf"\b{owner['type'] if owner else name}\b", passed_on)
-    return bool(is_public and (is_reached or "no_mangle" in text[text.rindex("\n\n") :]))
+    is_reached = re.search(rf"\b{owner['type'] if owner else function['name']}\b", passed_on)
+    is_export = "no_mangle" in text[: function.start()].rpartition("\n\n")[2]
+    return bool(is_public and (is_reached or is_export))
 
 
 def read_edits():
