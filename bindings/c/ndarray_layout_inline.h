@@ -15,6 +15,7 @@
  * The buffer of a view, which the calls below write: an element may begin at each of `len` places, `place_size` bytes apart,
  * and takes `elem_places` of them. That is 1, and a place has the size of an element; but over bytes (nd_view_over_bytes) a
  * place is a byte, and an element takes as many as it has bytes. An element begins `place * place_size` bytes after place 0.
+ * (0 `elem_places`, of a view that no call has made, are 1.)
  */
 typedef struct nd_buffer {
     size_t place_size;
@@ -64,29 +65,20 @@ ND_CHECKED((1, 3)) int nd_put_lists(const nd_view *view, int32_t order, nd_lists
     return 1;
 }
 
-/* (of this header alone) nd_check_layout of the places of a view, of which the buffer has so many. */
-ND_CHECKED((1)) int32_t nd_check_places(const nd_view *view, size_t len, int32_t mode) {
-    const nd_layout *const of = &view->layout;
-    return nd_check_layout(of->start, of->shape, of->axes, of->strides, of->axes, view->data.place_size, len, mode);
-}
-
 /*
  * Whether the layout of a view, as it stands, fits the view's buffer: nd_check_layout, with its statuses. Over bytes, owned, no
- * two elements may share a byte.
+ * two elements may share a byte, and ND_OVERFLOW counts bytes.
  *
  * (3), strides (3), over bytes, of 4 bytes: ND_OK read-only, ND_UNSUPPORTED owned.
  */
 ND_CHECKED((1)) int32_t nd_view_check(const nd_view *view, int32_t mode) {
+    const nd_layout *const of = &view->layout;
     const nd_buffer *const data = &view->data;
     nd_lists lists;
-    int32_t status;
-    if (view->layout.axes > ND_MAX_AXES) return ND_BAD_ARGUMENT;
-    if (data->elem_places <= 1) return nd_check_places(view, data->len, mode);
     if (!nd_put_lists(view, ND_ROW_MAJOR, &lists)) return ND_BAD_ARGUMENT;
-    if (!lists.has_index) return nd_check_places(view, data->len + data->elem_places - 1, mode);
-    status = nd_check_places(view, data->len, mode);
-    if (status != ND_OK || mode != ND_OWNED) return status;
-    return nd_check_layout(view->layout.start, lists.shape, lists.axes, lists.strides, lists.axes, data->place_size,
+    if (data->elem_places <= 1 || (lists.has_index && mode != ND_OWNED))
+        return nd_check_layout(of->start, of->shape, of->axes, of->strides, of->axes, data->place_size, data->len, mode);
+    return nd_check_layout(of->start, lists.shape, lists.axes, lists.strides, lists.axes, data->place_size,
                            data->len + data->elem_places - 1, mode);
 }
 

@@ -1,6 +1,6 @@
 /*
- * What compilers warn of in calls of the headers, never run: by the line, a result that nobody looks at (`unused`), and null where
- * a function of the headers takes none (`null`). The lines without a mark have neither: test_refused.
+ * What compilers warn of in calls of the headers, never run: by the line, a result that nobody looks at (`unused`), and null
+ * where a function of the headers takes none (`null`). The lines without a mark have neither: test_refused.
  */
 #include "ndarray_layout.h"
 
@@ -83,7 +83,6 @@ void unused(void) {
     nd_layout_exact_chunks(&layout, sizes, 2, &made); /* unused */
     nd_layout_split_at(&layout, 2, 2, &made, &made); /* unused */
     nd_put_lists(&view, 1, &lists); /* unused */
-    nd_check_places(&view, 2, 1); /* unused */
     nd_view_check(&view, 1); /* unused */
     nd_view_of(&layout, data, 1, &other); /* unused */
     nd_view_from_shape(sizes, 2, 1, data, 1, &other); /* unused */
@@ -150,7 +149,6 @@ size_t nulls(void) {
     used += (size_t)nd_layout_split_at(&layout, 2, 2, &made, NULL); /* null */
     used += (size_t)nd_put_lists(NULL, 1, &lists); /* null */
     used += (size_t)nd_put_lists(&view, 1, NULL); /* null */
-    used += (size_t)nd_check_places(NULL, 2, 1); /* null */
     used += (size_t)nd_view_check(NULL, 1); /* null */
     used += (size_t)nd_view_of(NULL, data, 1, &other); /* null */
     used += (size_t)nd_view_of(&layout, data, 1, NULL); /* null */

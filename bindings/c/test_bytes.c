@@ -3,38 +3,42 @@
 
 #include <string.h>
 
+#define LIMIT ((size_t)-1 / 2)
+
 static const size_t two_three[2] = {2, 3}, many[ND_MAX_AXES + 1] = {1};
 static const ptrdiff_t by_rows[2] = {3, 1};
 
 static void test_bytes(void) {
-    const size_t three[1] = {3}, none[2] = {3, 0}, half = (size_t)-1 / 2;
+    const size_t three[1] = {3}, none[2] = {3, 0};
     const ptrdiff_t seven[1] = {7}, lines[2] = {-12, 4}, back[2] = {-7, 4};
     ptrdiff_t strides[2] = {77, 77};
     nd_view view, before;
     memset(&view, 7, sizeof view);
     before = view;
     CHECK(nd_strides_from_bytes(seven, 1, 4, strides) == ND_INCOMPATIBLE_LAYOUT && strides[0] == 77);
+    CHECK(nd_strides_from_bytes(back, 2, 4, strides) == ND_INCOMPATIBLE_LAYOUT && strides[0] == 77);
     CHECK(nd_strides_from_bytes(lines, 2, 0, strides) == ND_BAD_ARGUMENT && strides[0] == 77);
-    CHECK(nd_strides_from_bytes(lines, 2, half + 1, strides) == ND_BAD_ARGUMENT && strides[0] == 77);
-    CHECK(nd_strides_from_bytes(lines, 2, half, strides) == ND_INCOMPATIBLE_LAYOUT && strides[0] == 77);
+    CHECK(nd_strides_from_bytes(lines, 2, LIMIT + 1, strides) == ND_BAD_ARGUMENT && strides[0] == 77);
+    CHECK(nd_strides_from_bytes(lines, 2, LIMIT, strides) == ND_INCOMPATIBLE_LAYOUT && strides[0] == 77);
     CHECK(nd_strides_from_bytes(lines, 2, 4, strides) == ND_OK && strides[0] == -3 && strides[1] == 1);
     CHECK(nd_view_over_bytes(2, LIST(three), LIST(seven), 4, 19, ND_OWNED, &view) == ND_OUT_OF_BOUNDS);
     CHECK(nd_view_over_bytes(2, LIST(three), LIST(seven), 8, 99, ND_OWNED, &view) == ND_UNSUPPORTED);
     CHECK(nd_view_over_bytes(2, LIST(three), LIST(seven), 0, 99, ND_OWNED, &view) == ND_BAD_ARGUMENT);
-    CHECK(nd_view_over_bytes(2, LIST(three), LIST(seven), half + 1, (size_t)-1, ND_OWNED, &view) == ND_OVERFLOW);
-    CHECK(nd_view_over_bytes(2, LIST(none), LIST(lines), half + 1, (size_t)-1, ND_OWNED, &view) == ND_OVERFLOW);
+    CHECK(nd_view_over_bytes(2, LIST(three), LIST(seven), LIMIT + 1, (size_t)-1, ND_OWNED, &view) == ND_OVERFLOW);
+    CHECK(nd_view_over_bytes(2, LIST(none), LIST(lines), LIMIT + 1, (size_t)-1, ND_OWNED, &view) == ND_OVERFLOW);
     CHECK(nd_view_from_byte_strides(LIST(none), LIST(lines), (size_t)-1, 9, ND_OWNED, &view) == ND_OVERFLOW);
     CHECK(nd_view_over_bytes(2, LIST(three), LIST(seven), 4, 99, 2, &view) == ND_BAD_ARGUMENT);
     CHECK(nd_view_over_bytes(2, LIST(three), lines, 2, 4, 99, 2, &view) == ND_BAD_ARGUMENT);
     CHECK(nd_view_over_bytes(2, LIST(many), LIST(seven), 4, 99, ND_OWNED, &view) == ND_BAD_ARGUMENT);
     CHECK(nd_view_over_bytes(2, LIST(three), lines, 2, 4, 99, ND_OWNED, &view) == ND_INCOMPATIBLE_LAYOUT);
     CHECK(nd_view_from_byte_strides(LIST(three), lines, 2, 4, 99, ND_OWNED, &view) == ND_INCOMPATIBLE_LAYOUT);
+    CHECK(nd_view_from_byte_strides(LIST(three), lines, 2, 4, 99, 2, &view) == ND_BAD_ARGUMENT);
     CHECK(nd_view_from_byte_strides(LIST(three), LIST(seven), 0, 99, ND_OWNED, &view) == ND_BAD_ARGUMENT);
     CHECK(nd_view_from_byte_strides(LIST(three), LIST(seven), 4, 99, 2, &view) == ND_BAD_ARGUMENT);
     CHECK(nd_view_from_byte_strides(LIST(two_three), LIST(lines), 4, 23, 2, &view) == ND_BAD_ARGUMENT);
     CHECK(nd_view_from_byte_strides(LIST(two_three), LIST(lines), 4, 23, ND_OWNED, &view) == ND_OUT_OF_BOUNDS);
     CHECK(memcmp(&view, &before, sizeof view) == 0);
-    CHECK(nd_view_over_bytes(24, none, 2, lines, 2, half, half, ND_OWNED, &view) == ND_OK && view.data.len == 1);
+    CHECK(nd_view_over_bytes(24, none, 2, lines, 2, LIMIT, LIMIT, ND_OWNED, &view) == ND_OK && view.data.len == 1);
     CHECK(nd_view_over_bytes(2, none, 2, lines, 2, 9, 30, ND_READ_ONLY, &view) == ND_OUT_OF_BOUNDS);
     CHECK(nd_view_over_bytes(24, none, 2, lines, 2, 28, 28, ND_READ_ONLY, &view) == ND_OK && view.data.len == 1);
     CHECK(nd_view_over_bytes(2, LIST(three), LIST(seven), 8, 24, ND_READ_ONLY, &view) == ND_OK && nd_at1(&view, 2) == 16);
@@ -137,6 +141,10 @@ static void test_elements(void) {
     part.layout.shape[0] = 1;
     part.layout.strides[1] = 7; /* (one element and a part of the next: rounded, it is the stride of a shape without gaps) */
     CHECK(says(&part, 0, 1, 1, 1));
+    part.layout.start = 29; /* (without an index the highest place may be the count of bytes) */
+    CHECK(nd_view_check(&part, ND_OWNED) == ND_OK && nd_view_check(&part, ND_READ_ONLY) == ND_OK);
+    part.layout.start = 30;
+    CHECK(nd_view_check(&part, ND_OWNED) == ND_OUT_OF_BOUNDS && nd_view_check(&part, ND_READ_ONLY) == ND_OUT_OF_BOUNDS);
     view.data.len--; /* (a buffer that has become less by a byte) */
     CHECK(nd_view_check(&view, ND_OWNED) == ND_OUT_OF_BOUNDS && nd_view_check(&view, ND_READ_ONLY) == ND_OUT_OF_BOUNDS);
     CHECK(nd_view_over_bytes(0, LIST(two_three), LIST(rows), 2, 24, ND_OWNED, &view) == ND_OK && says(&view, 0, 0, 0, 0));
@@ -145,6 +153,22 @@ static void test_elements(void) {
     CHECK(nd_view_over_bytes(0, LIST(two_three), LIST(columns), 4, 24, ND_OWNED, &view) == ND_OK);
     CHECK(says(&view, 0, 1, 0, 1));
     CHECK(nd_view_stretch(&view, ND_COLUMN_MAJOR, &first, &end, &found) == ND_OK && found == 1 && first == 0 && end == 24);
+}
+
+/* Sizes up to the limit: of strides in bytes, and of elements that all have one place, whose bytes aren't counted. */
+static void test_limits(void) {
+    const size_t two[1] = {2}, one[1] = {1}, most[1] = {LIMIT / 2 + 1};
+    const ptrdiff_t far[1] = {(ptrdiff_t)(LIMIT - 2)}, none[1] = {0};
+    nd_view view;
+    nd_row_iter rows;
+    CHECK(nd_view_over_bytes(0, LIST(two), LIST(far), 2, LIMIT, ND_OWNED, &view) == ND_OK && nd_at1(&view, 1) == LIMIT - 2);
+    CHECK(nd_view_from_byte_strides(LIST(two), LIST(far), 2, LIMIT, ND_OWNED, &view) == ND_OK);
+    CHECK(nd_view_check(&view, ND_OWNED) == ND_OK && nd_view_check(&view, ND_READ_ONLY) == ND_OK);
+    CHECK(nd_view_over_bytes(0, LIST(two), LIST(far), 3, LIMIT, ND_OWNED, &view) == ND_OUT_OF_BOUNDS);
+    CHECK(nd_view_over_bytes(7, LIST(one), LIST(none), 2, 9, ND_OWNED, &view) == ND_OK);
+    CHECK(nd_layout_broadcast(&view.layout, LIST(most), &view.layout) == ND_OK && view.layout.shape[0] == most[0]);
+    CHECK(nd_view_check(&view, ND_READ_ONLY) == ND_OK && nd_view_check(&view, ND_OWNED) == ND_OVERFLOW);
+    CHECK(nd_view_rows(&view, ND_ROW_MAJOR, &rows) == ND_OK && rows.left == 1 && rows.len == most[0] && rows.start == 7);
 }
 
 /* A view over bytes at as many axes as there is room for, of length 1 but for the first and the last. */
@@ -286,6 +310,7 @@ int main(void) {
     test_bytes();
     test_bytes_beside_elements();
     test_elements();
+    test_limits();
     test_most_axes();
     test_twins_of_elements();
     test_beside_marks();

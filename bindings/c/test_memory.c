@@ -69,6 +69,7 @@ static const size_t ones[6] = {1, 1, 1, 1, 1, 1}, target[6] = {2, 4, 3, 1, 2, 1}
 static const ptrdiff_t long_strides[6] = {6, 9, 2, 9, 1, 9};
 static const size_t shape[2] = {2, 3}, index_of_shape[2] = {1, 2}, axes[2] = {1, 0}, two[2] = {1, 1};
 static const size_t third_target[3] = {4, 2, 3}, flat[1] = {6}, counts[2] = {2, 2}, long_counts[6] = {1, 1, 1, 1, 1, 1};
+static const size_t square[4] = {2, 2, 1, 1};
 static const ptrdiff_t strides[2] = {3, 1};
 #define LAYOUT LIST(shape), LIST(strides)
 #define LONG_LAYOUT LIST(long_shape), LIST(long_strides)
@@ -186,8 +187,34 @@ static void test_inline_functions(void) {
     REQUESTS(2, make_rows(nd_view_joined_rows, &view));
 }
 
+/* The calls for one view: over bytes they have an axis more. */
+static void test_views(void) {
+    static const nd_data data = {2, 4};
+    static const ptrdiff_t byte_strides[4] = {4, 2, 2, 2};
+    static nd_view few, many, elements;
+    refused = 0;
+    CHECK(nd_view_from_shape(square, 4, ND_ROW_MAJOR, data, ND_OWNED, &elements) == ND_OK);
+    CHECK(nd_view_over_bytes(0, square, 3, byte_strides, 3, 2, 8, ND_OWNED, &few) == ND_OK);
+    CHECK(nd_view_over_bytes(0, square, 4, byte_strides, 4, 2, 8, ND_OWNED, &many) == ND_OK);
+    REQUESTS(0, nd_view_check(&elements, ND_OWNED));
+    REQUESTS(0, nd_view_check(&few, ND_OWNED));
+    REQUESTS(0, nd_view_check(&many, ND_READ_ONLY));
+    REQUESTS(2, nd_view_check(&many, ND_OWNED));
+    REQUESTS(0, nd_view_has_overlap(&many, &written.answer));
+    REQUESTS(0, nd_view_is_contiguous(&elements, &written.answer));
+    REQUESTS(0, nd_view_is_contiguous(&few, &written.answer));
+    REQUESTS(2, nd_view_is_contiguous(&many, &written.answer));
+    REQUESTS(0, nd_view_is_layout_c(&elements, &written.answer));
+    REQUESTS(2, nd_view_is_layout_c(&many, &written.answer));
+    REQUESTS(0, nd_view_is_layout_f(&elements, &written.answer));
+    REQUESTS(2, nd_view_is_layout_f(&many, &written.answer));
+    REQUESTS(0, nd_view_stretch(&elements, ND_ROW_MAJOR, &written.number, written.starts, &written.answer));
+    REQUESTS(2, nd_view_stretch(&many, ND_ROW_MAJOR, &written.number, written.starts, &written.answer));
+}
+
 int main(void) {
     test_inline_functions();
+    test_views();
     test_short_lists();
     test_no_memory();
     test_long_lists();

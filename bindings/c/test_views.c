@@ -6,7 +6,7 @@
 
 static const size_t two_three[2] = {2, 3}, many[ND_MAX_AXES + 1] = {1};
 static const ptrdiff_t up[2] = {-3, 1};
-static const nd_data five_bytes = {1, 5}, six_bytes = {1, 6};
+static const nd_data five_bytes = {1, 5}, six_bytes = {1, 6}, six_words = {4, 6};
 
 static void test_new_views(void) {
     nd_layout layout;
@@ -28,9 +28,18 @@ static void test_new_views(void) {
     CHECK(view.layout.start == 0 && view.layout.strides[0] == 1 && view.layout.strides[1] == 2 && view.data.len == 6);
     CHECK(nd_view_of(&view.layout, six_bytes, ND_OWNED, &view) == ND_OK && view.layout.strides[1] == 2);
     CHECK(nd_view_from_strides(LIST(two_three), LIST(up), six_bytes, ND_OWNED, &view) == ND_OK && view.layout.start == 3);
+    CHECK(nd_view_of(&view.layout, six_words, ND_OWNED, &view) == ND_OK && view.data.place_size == 4);
+    CHECK(nd_view_from_strides(LIST(two_three), LIST(up), six_words, ND_OWNED, &view) == ND_OK && view.data.place_size == 4);
+    CHECK(nd_view_of(&view.layout, six_bytes, ND_OWNED, &view) == ND_OK && view.layout.start == 3);
     CHECK(view.data.place_size == 1 && view.data.len == 6 && view.data.elem_places == 1);
     CHECK(nd_view_check(&view, ND_OWNED) == ND_OK && nd_view_check(&view, ND_READ_ONLY) == ND_OK);
     CHECK(nd_view_check(&view, 2) == ND_BAD_ARGUMENT && nd_view_check(&view, -1) == ND_BAD_ARGUMENT);
+    view.data.elem_places = 0; /* (as a list of the other two numbers leaves it) */
+    CHECK(nd_view_check(&view, ND_OWNED) == ND_OK);
+    view.layout.shape[0] = 0;
+    view.layout.start = 4; /* (without an index: 2 columns further lies the count) */
+    CHECK(nd_view_check(&view, ND_OWNED) == ND_OK && nd_view_check(&view, ND_READ_ONLY) == ND_OK);
+    view.layout.shape[0] = 2;
     view.layout.strides[0] = 1;
     view.layout.start = 2;
     CHECK(nd_view_check(&view, ND_OWNED) == ND_UNSUPPORTED && nd_view_check(&view, ND_READ_ONLY) == ND_OK);
@@ -374,6 +383,38 @@ static void test_most_axes(void) {
     CHECK(other.layout.axes == 1 && other.layout.shape[0] == 4 && other.layout.strides[0] == 1);
 }
 
+/* The calls that read or make a layout of as many axes. */
+static void test_layouts_of_most_axes(void) {
+    size_t shape[ND_MAX_AXES], index[ND_MAX_AXES], axis, numbers[4] = {7, 7, 7, 7}, len = 7;
+    ptrdiff_t stride = 7;
+    nd_slice_elem whole[ND_MAX_AXES];
+    nd_layout layout, made, second;
+    int32_t has_next = 7;
+    for (axis = 0; axis < ND_MAX_AXES; axis++) {
+        const nd_slice_elem all = ND_ALL;
+        whole[axis] = all;
+        shape[axis] = axis == 0 || axis == ND_MAX_AXES - 1 ? 2 : 1;
+        index[axis] = shape[axis] - 1;
+    }
+    CHECK(nd_layout_from_shape(LIST(shape), ND_ROW_MAJOR, &layout) == ND_OK && nd_layout_size(&layout) == 4);
+    CHECK(nd_layout_row_count(&layout, ND_ROW_MAJOR) == 2);
+    CHECK(nd_layout_place(&layout, LIST(index), numbers) == ND_OK && numbers[0] == 3);
+    CHECK(nd_layout_places(&layout, ND_COLUMN_MAJOR, LIST(numbers)) == ND_OK && numbers[0] == 0 && numbers[1] == 2);
+    CHECK(nd_layout_rows(&layout, ND_ROW_MAJOR, numbers, 2, &stride, &len) == ND_OK && numbers[1] == 2 && len == 2);
+    CHECK(nd_layout_next_index(&layout, LIST(index), ND_ROW_MAJOR, &has_next) == ND_OK && has_next == 0 && index[0] == 0);
+    CHECK(nd_layout_slice(&layout, LIST(whole), ND_STRICT, &made) == ND_OK && made.axes == ND_MAX_AXES);
+    CHECK(nd_layout_reshape(&layout, LIST(shape), ND_ROW_MAJOR, &made) == ND_OK && made.axes == ND_MAX_AXES);
+    CHECK(nd_layout_broadcast(&layout, LIST(shape), &made) == ND_OK && made.axes == ND_MAX_AXES);
+    CHECK(nd_layout_co_broadcast(&layout, &made, &made, &second) == ND_OK && second.axes == ND_MAX_AXES);
+    CHECK(nd_layout_picked(&layout, LIST(whole), ND_STRICT, &len) == ND_OK && len == 4);
+    CHECK(nd_layout_slices_intersect(&layout, LIST(whole), LIST(whole), ND_STRICT, &has_next) == ND_OK && has_next == 1);
+    len = ND_MAX_AXES;
+    CHECK(nd_layout_first_intersection(&layout, LIST(whole), &len, 1, ND_STRICT, numbers, &has_next) == ND_OK && has_next == 0);
+    layout.axes = ND_MAX_AXES / 2;
+    CHECK(nd_layout_windows(&layout, shape + 1, ND_MAX_AXES / 2, &made) == ND_OK && made.axes == ND_MAX_AXES);
+    CHECK(nd_layout_exact_chunks(&layout, shape + 1, ND_MAX_AXES / 2, &made) == ND_OK && made.axes == ND_MAX_AXES);
+}
+
 static void test_too_many_axes(void) {
     nd_view view;
     nd_layout made;
@@ -405,6 +446,7 @@ int main(void) {
     test_slices_of_layouts();
     test_co_broadcast();
     test_most_axes();
+    test_layouts_of_most_axes();
     test_too_many_axes();
     printf("%d checked, %d failed\n", checked, failed);
     return failed != 0;

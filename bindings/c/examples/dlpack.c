@@ -81,6 +81,10 @@ int main(void) {
     print_tensor("a length below 0", &sliced);
     new_shape[0] = INT64_MAX;
     print_tensor("more than memory has", &sliced);
+    new_shape[0] = 3;
+    sliced.shape = NULL;
+    print_tensor("no shape", &sliced);
+    sliced.shape = new_shape;
     sliced.device.device_type = 2;
     print_tensor("another device", &sliced);
 
@@ -93,5 +97,8 @@ int main(void) {
     sliced.dtype.bits = 8;
     status = nd_tensor_to_dlpack(&read.view, numbers, sliced.dtype, new_shape, new_strides, &sliced);
     print_status("given back as bytes", status);
+    sliced.dtype.bits = 36;
+    status = nd_tensor_to_dlpack(&read.view, numbers, sliced.dtype, new_shape, new_strides, &sliced);
+    print_status("given back as elements of four bytes and a half", status);
     return EXIT_SUCCESS;
 }
