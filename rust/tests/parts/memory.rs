@@ -2,7 +2,9 @@
 
 use crate::allocator::failing_at;
 use crate::{NUMBERS, rows_mut};
-use ndarray_layout::{ArrayView, ArrayViewMut, Axis, Ix1, Ix2, LayoutError, new_dim, s};
+use ndarray_layout::{
+    ArrayView, ArrayViewMut, Axis, Fit, Ix1, Ix2, IxDyn, LayoutError, Lengths, OwnedArray, PartMut, Strided, new_dim, s,
+};
 
 /// Asserts that a call returns that memory ran out, whichever of its allocations fails, and how many it makes.
 fn refuses_each(allocations: usize, call: impl Fn() -> Result<(), LayoutError>) {
@@ -69,6 +71,38 @@ fn running_over_takes_no_memory_and_lending_again_a_view_of_many_axes() {
         part.into_items().for_each(|item| *item += 1);
         Ok(())
     });
+}
+
+/// Asserts that a view is that of five axes whose last one was inverted, over six items.
+fn assert_inverted(view: &Strided<IxDyn>) {
+    let strides: Vec<isize> = view.strides().slice().iter().map(|stride| *stride as isize).collect();
+    assert_eq!((view.dim().slice(), &strides[..], view.start()), (&[1, 1, 1, 2, 3][..], &[6, 6, 6, 3, -1][..], 2));
+}
+
+#[test]
+fn what_lends_is_as_before_where_memory_ran_out() {
+    let shape = || new_dim(&[1, 1, 1, 2, 3][..]).unwrap();
+    let mut numbers = NUMBERS;
+    let mut part = ArrayViewMut::from_shape(shape().into(), &mut numbers).unwrap().into_part();
+    part.invert_axis(Axis(4)).unwrap();
+    let mut owned = OwnedArray::from_shape_vec(shape().into(), NUMBERS.to_vec()).unwrap();
+    let all = s![.., .., .., .., ..];
+    let mut turned = owned.as_view_mut().unwrap();
+    turned.invert_axis(Axis(4)).unwrap();
+    for failing in 0..2 {
+        assert!(failing_at(failing, || part.reborrow().is_err()).0);
+        assert_inverted(part.view());
+        let sliced: Result<PartMut<'_, u8, IxDyn>, _> = failing_at(failing, || part.slice_mut(&all, Fit::Strict)).0;
+        assert!(matches!(sliced, Err(LayoutError::Memory(_))));
+        assert_inverted(part.view());
+        assert!(failing_at(failing, || turned.multi_sliced_mut([&all]).is_err()).0);
+        assert_inverted(turned.view());
+    }
+    for failing in 0..2 {
+        assert!(failing_at(failing, || owned.as_view_mut().is_err()).0);
+        assert_eq!((owned.view().start(), owned.view().strides().slice()), (0, &[6, 6, 6, 3, 1][..]));
+    }
+    assert_eq!((&numbers, owned.stored()), (&NUMBERS, &NUMBERS[..]));
 }
 
 #[test]

@@ -1,78 +1,179 @@
-//! Calls that lend items to be written, and are refused: each item is as it was. No clause can say so.
+//! Calls that lend items to be written, and are refused: each item is as it was, and so is the view of the array or the part that
+//! lent them. No clause can say so of the items, nor of the view where a struct is lent.
 
 use crate::{NUMBERS, rows_mut};
 use ndarray_layout::CanIndexCheckMode::{OwnedMutable, ReadOnly};
-use ndarray_layout::{ArrayViewMut, Axis, Fit, Ix1, Ix2, Ix4, Order, PartMut, Strided, s};
+use ndarray_layout::{
+    ArrayView, ArrayViewMut, Axis, Fit, Ix1, Ix2, Ix4, Lengths, Order, OwnedArray, PartMut, Strided, s, unsigned,
+};
+
+/// The shape, the strides and the start of a view.
+type Layout<'a, D> = (&'a D, &'a D, usize);
+
+fn layout<D: Lengths>(view: &Strided<D>) -> Layout<'_, D> {
+    (view.dim(), view.strides(), view.start())
+}
 
 /// Rows of three, the second one first, over six of seven items.
-fn turned<T>(items: &mut [T]) -> PartMut<'_, T, Ix2> {
-    let mut rows = rows_mut(items).into_part();
+fn turned<T>(items: &mut [T]) -> ArrayViewMut<'_, T, Ix2> {
+    let mut rows = rows_mut(items);
     rows.invert_axis(Axis(0)).expect("an axis");
     rows
 }
 
-/// Whether a call is refused, of which the items are left as they were.
-fn is_refused(call: impl FnOnce(&mut [u8]) -> bool) -> bool {
+/// Asserts that a view is that of `turned`, and returns true.
+fn is_turned(view: &Strided<Ix2>) -> bool {
+    assert_eq!(layout(view), (&Ix2(2, 3), &Ix2(unsigned(-3), 1), 3));
+    true
+}
+
+/// Asserts that a view is that of rows of three in order, and returns true.
+fn is_in_order(view: &Strided<Ix2>) -> bool {
+    assert_eq!(layout(view), (&Ix2(2, 3), &Ix2(3, 1), 0));
+    true
+}
+
+/// What a call of items returns, which leaves them as they were.
+fn keeps(call: impl FnOnce(&mut [u8]) -> bool) -> bool {
     let mut numbers = NUMBERS;
-    let refused = call(&mut numbers);
+    let returned = call(&mut numbers);
     assert_eq!(numbers, NUMBERS);
-    refused
+    returned
 }
 
-fn part_is_refused(call: impl FnOnce(PartMut<'_, u8, Ix2>) -> bool) {
-    assert!(is_refused(|items| call(turned(items))));
+/// Asserts that a call of a part returns true, and leaves the part's view and the items as they were.
+fn keeps_part(call: impl FnOnce(&mut PartMut<'_, u8, Ix2>) -> bool) {
+    assert!(keeps(|items| {
+        let mut part = turned(items).into_part();
+        call(&mut part) && is_turned(part.view())
+    }));
 }
 
-fn array_is_refused(call: impl FnOnce(ArrayViewMut<'_, u8, Ix2>) -> bool) {
-    assert!(is_refused(|items| call(rows_mut(items))));
+/// The same of a call of an array.
+fn keeps_array(call: impl FnOnce(&mut ArrayViewMut<'_, u8, Ix2>) -> bool) {
+    assert!(keeps(|items| {
+        let mut array = turned(items);
+        call(&mut array) && is_turned(array.view())
+    }));
+}
+
+/// The same of a call of an array that owns its items.
+fn keeps_owned(call: impl FnOnce(&mut OwnedArray<u8, Ix2>) -> bool) {
+    let mut array = OwnedArray::from_shape_vec(Ix2(2, 3).into(), NUMBERS.to_vec()).expect("six items");
+    assert!(call(&mut array) && is_in_order(array.view()));
+    assert_eq!(array.stored(), NUMBERS);
 }
 
 #[test]
 fn items_that_are_too_few_or_shared_are_as_they_were() {
     let view = |stride, mode| Strided::new(Ix2(2, 3), Ix2(stride, 1), 1, 7, mode).unwrap();
-    assert!(is_refused(|items| PartMut::over(view(3, OwnedMutable), &mut items[2..]).is_err()));
-    assert!(is_refused(|items| PartMut::over(view(1, ReadOnly), items).is_err()));
-    assert!(is_refused(|items| ArrayViewMut::over(view(3, OwnedMutable), &mut items[2..]).is_err()));
-    assert!(is_refused(|items| ArrayViewMut::over(view(1, ReadOnly), items).is_err()));
-    assert!(is_refused(|items| ArrayViewMut::from_shape(Ix2(2, 4).into(), items).is_err()));
+    assert!(keeps(|items| PartMut::over(view(3, OwnedMutable), &mut items[2..]).is_err()));
+    assert!(keeps(|items| PartMut::over(view(1, ReadOnly), items).is_err()));
+    assert!(keeps(|items| ArrayViewMut::over(view(3, OwnedMutable), &mut items[2..]).is_err()));
+    assert!(keeps(|items| ArrayViewMut::over(view(1, ReadOnly), items).is_err()));
+    assert!(keeps(|items| ArrayViewMut::from_shape(Ix2(2, 4).into(), items).is_err()));
 }
 
 #[test]
 fn an_item_at_no_index_is_lent_to_none() {
-    part_is_refused(|mut part| part.get_mut(&(2, 0)).is_none() && part.get_mut(&(0, 3)).is_none());
-    part_is_refused(|mut part| !part.set(&(2, 0), 9) && part.replace(&(0, 3), 9) == Err(9));
-    array_is_refused(|mut array| array.get_mut(&(2, 0)).is_none() && !array.set(&(0, 3), 9));
-    array_is_refused(|mut array| array.replace(&(0, 3), 9) == Err(9) && !array.swap(&(0, 0), &(2, 0)));
+    keeps_part(|part| part.get_mut(&(2, 0)).is_none());
+    keeps_part(|part| part.get_mut(&(0, 3)).is_none());
+    keeps_part(|part| !part.set(&(2, 0), 9));
+    keeps_part(|part| part.replace(&(0, 3), 9) == Err(9));
+    keeps_part(|part| !part.swap(&(0, 0), &(2, 0)));
+    keeps_array(|array| array.get_mut(&(2, 0)).is_none());
+    keeps_array(|array| !array.set(&(0, 3), 9));
+    keeps_array(|array| array.replace(&(0, 3), 9) == Err(9));
+    keeps_array(|array| !array.swap(&(0, 0), &(2, 0)));
+    keeps_owned(|array| array.get_mut(&(2, 0)).is_none());
+    keeps_owned(|array| !array.set(&(0, 3), 9));
+    keeps_owned(|array| !array.swap(&(0, 0), &(2, 0)));
 }
 
 #[test]
 fn a_slice_that_does_not_fit_changes_no_item() {
-    part_is_refused(|mut part| part.slice_mut::<Ix2, _>(&s![..3, ..], Fit::Strict).is_err());
-    part_is_refused(|part| part.slice::<Ix1, _>(&s![.., ..], Fit::Strict).is_err());
-    part_is_refused(|part| part.multi_slice_mut(&[s![0, ..], s![2, ..]]).is_err());
-    part_is_refused(|part| part.multi_slice_mut(&[s![0, ..], s![.., 2]]).is_err());
-    part_is_refused(|part| part.split_at(Axis(1), 4).is_err());
-    part_is_refused(|part| part.crop(&Ix2(0, 0), &Ix2(2, 4)).is_none());
-    part_is_refused(|part| part.index_axis(Axis(0), 2).is_err());
-    part_is_refused(|part| part.into_slice().is_err());
-    array_is_refused(|array| array.slice::<Ix1, _>(&s![.., ..], Fit::Strict).is_err());
-    array_is_refused(|array| array.crop(&Ix2(0, 0), &Ix2(2, 4)).is_none());
-    array_is_refused(|array| array.index_axis(Axis(0), 2).is_err());
-    array_is_refused(|mut array| array.sliced_mut(s![..3, ..]).is_err());
-    array_is_refused(|array| array.multi_slice_mut(&[s![0, ..], s![.., 2]]).is_err());
-    array_is_refused(|array| array.split_at_mut(Axis(1), 1).is_err());
+    keeps_part(|part| part.slice_mut::<Ix2, _>(&s![..3, ..], Fit::Strict).is_err());
+    keeps_part(|part| part.sliced_mut(s![..3, ..]).is_err());
+    keeps_part(|part| part.multi_sliced_mut((s![0, ..], s![.., 2])).is_err());
+    keeps_part(|part| part.view_mut().slice::<Ix1, _>(&s![.., ..], Fit::Strict).is_err());
+    keeps_part(|part| part.view_mut().multi_slice_mut(&[s![0, ..], s![2, ..]]).is_err());
+    keeps_part(|part| part.view_mut().multi_slice_mut(&[s![0, ..], s![.., 2]]).is_err());
+    keeps_part(|part| part.view_mut().split_at(Axis(1), 4).is_err());
+    keeps_part(|part| part.view_mut().crop(&Ix2(0, 0), &Ix2(2, 4)).is_none());
+    keeps_part(|part| part.view_mut().into_slice().is_err());
+    keeps_array(|array| array.sliced_mut(s![..3, ..]).is_err());
+    keeps_array(|array| array.multi_sliced_mut((s![0, ..], s![.., 2])).is_err());
+    keeps_array(|array| array.view_mut().slice::<Ix1, _>(&s![.., ..], Fit::Strict).is_err());
+    keeps_array(|array| array.view_mut().crop(&Ix2(0, 0), &Ix2(2, 4)).is_none());
+    keeps_array(|array| array.view_mut().multi_slice_mut(&[s![0, ..], s![.., 2]]).is_err());
+    keeps_array(|array| array.view_mut().split_at_mut(Axis(1), 1).is_err());
+    keeps_array(|array| array.as_slice_mut().is_none());
+    keeps_owned(|array| array.sliced_mut(s![..3, ..]).is_err());
+    keeps_owned(|array| array.multi_sliced_mut((s![0, ..], s![.., 2])).is_err());
+    keeps_owned(|array| array.map_in_place(&s![..3, ..], |item| *item = 9).is_err());
+    keeps_owned(|array| array.multi_set(&[(s![..3, ..].to_vec(), vec![9; 9])]).is_err());
+}
+
+#[test]
+fn a_coordinate_past_an_axis_changes_no_item() {
+    keeps_part(|part| part.index_axis_mut(Axis(0), 2).is_err());
+    keeps_part(|part| part.axis_iter_mut(Axis(2)).is_err());
+    keeps_part(|part| part.axis_chunks_iter_mut(Axis(0), 0).is_err());
+    keeps_part(|part| part.row_mut(2).is_err());
+    keeps_part(|part| part.column_mut(3).is_err());
+    keeps_part(|part| part.view_mut().index_axis(Axis(0), 2).is_err());
+    keeps_array(|array| array.axis_iter_mut(Axis(2)).is_err());
+    keeps_array(|array| array.axis_chunks_iter_mut(Axis(0), 0).is_err());
+    keeps_array(|array| array.row_mut(2).is_err());
+    keeps_array(|array| array.column_mut(3).is_err());
+    keeps_array(|array| array.lanes_mut(Axis(2)).is_err());
+    keeps_array(|array| array.view_mut().index_axis(Axis(0), 2).is_err());
+    keeps_owned(|array| array.axis_iter_mut(Axis(2)).is_err());
+    keeps_owned(|array| array.axis_chunks_iter_mut(Axis(0), 0).is_err());
+    keeps_owned(|array| array.row_mut(2).is_err());
+    keeps_owned(|array| array.column_mut(3).is_err());
+    keeps_owned(|array| array.lanes_mut(Axis(2)).is_err());
 }
 
 #[test]
 fn axes_and_shapes_that_are_refused_change_no_item() {
-    part_is_refused(|part| part.permuted_axes(&[Axis(0), Axis(0)]).is_err());
-    part_is_refused(|part| part.reshape(&Ix1(6), Order::RowMajor).is_err());
-    part_is_refused(|part| part.exact_chunks::<Ix4>(&Ix2(0, 1)).is_err());
-    part_is_refused(|part| part.insert_axis(Axis(3)).is_err());
-    part_is_refused(|mut part| part.invert_axis(Axis(2)).is_err() && part.swap_axes(Axis(0), Axis(2)).is_err());
-    array_is_refused(|array| array.permuted_axes(&[Axis(0), Axis(0)]).is_err());
-    array_is_refused(|array| array.reversed_axes().reshape(&Ix1(6), Order::RowMajor).is_err());
-    array_is_refused(|array| array.exact_chunks::<Ix4>(&Ix2(0, 1)).is_err());
-    array_is_refused(|array| array.insert_axis(Axis(3)).is_err());
-    array_is_refused(|mut array| array.invert_axis(Axis(2)).is_err() && array.swap_axes(Axis(0), Axis(2)).is_err());
+    keeps_part(|part| part.invert_axis(Axis(2)).is_err());
+    keeps_part(|part| part.swap_axes(Axis(0), Axis(2)).is_err());
+    keeps_part(|part| part.view_mut().permuted_axes(&[Axis(0), Axis(0)]).is_err());
+    keeps_part(|part| part.view_mut().reshape(&Ix1(6), Order::RowMajor).is_err());
+    keeps_part(|part| part.view_mut().exact_chunks::<Ix4>(&Ix2(0, 1)).is_err());
+    keeps_part(|part| part.view_mut().insert_axis(Axis(3)).is_err());
+    keeps_array(|array| array.invert_axis(Axis(2)).is_err());
+    keeps_array(|array| array.swap_axes(Axis(0), Axis(2)).is_err());
+    keeps_array(|array| array.view_mut().permuted_axes(&[Axis(0), Axis(0)]).is_err());
+    keeps_array(|array| array.view_mut().reshape(&Ix1(6), Order::RowMajor).is_err());
+    keeps_array(|array| array.view_mut().exact_chunks::<Ix4>(&Ix2(0, 1)).is_err());
+    keeps_array(|array| array.view_mut().insert_axis(Axis(3)).is_err());
+}
+
+#[test]
+fn items_of_another_shape_change_none() {
+    let others = || ArrayView::from_shape(Ix2(3, 2).into(), &NUMBERS).expect("six items");
+    keeps_part(|part| part.assign(&others()).is_err());
+    keeps_part(|part| part.zip_mut_with(&others(), |item, _| *item = 9).is_err());
+    keeps_array(|array| array.assign(&others()).is_err());
+    keeps_array(|array| array.zip_mut_with(&others(), |item, _| *item = 9).is_err());
+    keeps_owned(|array| array.assign(&others()).is_err());
+    keeps_owned(|array| array.zip_mut_with(&others(), |item, _| *item = 9).is_err());
+}
+
+#[test]
+fn what_is_lent_leaves_the_view() {
+    keeps_part(|part| is_turned(part.reborrow().expect("memory").view()));
+    keeps_part(|part| is_turned(part.slice_mut(&s![.., ..], Fit::Strict).expect("a slice").view()));
+    keeps_part(|part| is_turned(part.sliced_mut(s![.., ..]).expect("a slice").view()));
+    keeps_part(|part| part.get_mut(&(1, 2)) == Some(&mut 2));
+    keeps_array(|array| is_turned(array.parts_mut().0));
+    keeps_array(|array| is_turned(array.view_mut().view()));
+    keeps_array(|array| is_turned(array.sliced_mut(s![.., ..]).expect("a slice").view()));
+    keeps_array(|array| array.get_mut(&(1, 2)) == Some(&mut 2));
+    keeps_owned(|array| is_in_order(array.parts_mut().0));
+    keeps_owned(|array| is_in_order(array.as_view_mut().expect("memory").view()));
+    keeps_owned(|array| is_in_order(array.sliced_mut(s![.., ..]).expect("a slice").view()));
+    keeps_owned(|array| array.stored_mut() == NUMBERS);
 }
