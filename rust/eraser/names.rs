@@ -194,8 +194,8 @@ pub const CHECKED: &[(&str, &str, &str, &str, &str)] = &[(
     "PartMut",
     "new",
     "crate::parts::has_own_items(&view, items.len())",
-    "two indices of the part may alias, or one lies past the items",
-    "This call panics where two indices may alias by the rule of owned mode, or one lies past the items.",
+    "two indices of the view share an item, or one is past the items",
+    "This call panics where two indices have one item, or one lies past the items. Where the rule of owned mode does not show that none have, it takes memory and time for a sort of the places.",
 )];
 
 /// Structs that files of `rust/src` make and take apart: all of the package sees their fields.

@@ -216,7 +216,7 @@ impl<T, D: Lengths> ArrayViewMut<'_, T, D> {
     ///
     /// # Panics
     ///
-    /// Where `ArrayViewMut::new` was given a view of which two indices may share an item, or one is past the items.
+    /// Where `ArrayViewMut::new` was given a view of which two indices share an item, or one is past the items.
     ///
     /// ```
     /// use ndarray_layout::{ArrayViewMut, Ix2, LayoutError, s};

@@ -1,12 +1,15 @@
 //! The items of an array one after another, lent to be written.
 
+use super::layout::Layout;
 use super::line_mut::{LineMut, take};
 use super::pieces::{Band, Cut, Cutting, Lines, SHARED_OR_PAST, nearest_lines};
-use crate::ArrayViewMut;
 use crate::convenience::OUT_OF_MEMORY;
 use crate::memory::FallibleVec;
 use crate::nd_base::{LayoutError, Lengths};
+use crate::nd_shape::has_overlap;
 use crate::ndarray_layout::Strided;
+use crate::parts::PartIterMut;
+use crate::{ArrayViewMut, PartMut};
 use alloc::vec::Vec;
 use core::fmt;
 use core::iter::FusedIterator;
@@ -45,6 +48,8 @@ enum Others<'a, T, D: Lengths> {
     Runs(Left<'a, T, D>),
     /// An item of each line of a group, then the next of each.
     Woven(Woven<'a, T>),
+    /// Those of lines that interleave.
+    Part(PartIterMut<'a, T, D>),
 }
 
 /// Runs that are left, in this order.
@@ -137,6 +142,7 @@ impl<'a, T, D: Lengths> Others<'a, T, D> {
         match self {
             Others::Runs(left) => left.len(),
             Others::Woven(woven) => woven.left,
+            Others::Part(items) => items.len(),
         }
     }
 
@@ -146,6 +152,7 @@ impl<'a, T, D: Lengths> Others<'a, T, D> {
         match self {
             Others::Runs(left) => left.next(),
             Others::Woven(woven) => (woven.next(), [].iter_mut()),
+            Others::Part(items) => (items.next(), [].iter_mut()),
         }
     }
 
@@ -153,6 +160,7 @@ impl<'a, T, D: Lengths> Others<'a, T, D> {
         match self {
             Others::Runs(left) => left.next_back(),
             Others::Woven(woven) => woven.next_back(),
+            Others::Part(items) => items.next_back(),
         }
     }
 
@@ -161,6 +169,7 @@ impl<'a, T, D: Lengths> Others<'a, T, D> {
         match self {
             Others::Runs(left) => left.skip(n),
             Others::Woven(woven) => woven.skip(n),
+            Others::Part(items) => items.by_ref().take(n).for_each(drop),
         }
     }
 
@@ -282,12 +291,15 @@ impl<'a, T, D: Lengths> IterMut<'a, T, D> {
             },
             Cutting::Cut(cut) => Left::new(LineMut::empty(), Some(cut)),
             Cutting::Otherwise(view, items) => {
-                let others = match Woven::new(view, items) {
-                    Ok(woven) => Others::Woven(woven).list(),
-                    Err(LayoutError::Memory(_)) => panic!("{OUT_OF_MEMORY}"),
-                    Err(LayoutError::Shape(_)) => panic!("{SHARED_OR_PAST}"),
+                let others = match has_overlap(view.lens(), view.steps()) {
+                    true => Others::Part(PartIterMut::new(PartMut::new(view, items))),
+                    false => match Woven::new(view, items) {
+                        Ok(woven) => Others::Woven(woven),
+                        Err(LayoutError::Memory(_)) => panic!("{OUT_OF_MEMORY}"),
+                        Err(LayoutError::Shape(_)) => panic!("{SHARED_OR_PAST}"),
+                    },
                 };
-                return IterMut { stretch: [].iter_mut(), others };
+                return IterMut { stretch: [].iter_mut(), others: others.list() };
             }
         };
         IterMut { stretch: [].iter_mut(), others: Others::Runs(left).list() }
@@ -341,6 +353,7 @@ impl<'a, T, D: Lengths> Iterator for IterMut<'a, T, D> {
             total = match others {
                 Others::Runs(left) => left.fold(total, &mut f),
                 Others::Woven(woven) => woven.fold(total, &mut f),
+                Others::Part(items) => items.fold(total, &mut f),
             };
         }
         total

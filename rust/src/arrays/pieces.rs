@@ -63,16 +63,16 @@ fn width(run: Run) -> usize {
     if run.len == 0 { 0 } else { run.reach() + 1 }
 }
 
-/// Whether each run is above the one before. The caller ensures that no two indices alias.
+/// Whether each run is above the one before.
 fn ascend(lens: &[usize], strides: &[usize], inner: Inner) -> bool {
-    let mut below = if inner.len == 1 { 0 } else { inner.stride.unsigned_abs() };
+    let mut below = inner.stride.unsigned_abs() * inner.len.saturating_sub(1);
     for axis in (0..inner.outer).rev() {
         if lens[axis] != 1 {
             let stride = signed(strides[axis]);
             if stride <= 0 || stride.unsigned_abs() <= below {
                 return false;
             }
-            below = stride.unsigned_abs();
+            below += stride.unsigned_abs() * (lens[axis] - 1);
         }
     }
     true
@@ -257,7 +257,7 @@ fn list<'a, T, D: Lengths>(
 }
 
 /// How a view breaks the condition of `ArrayViewMut::new`.
-pub(crate) const SHARED_OR_PAST: &str = "two indices of the view may share an item, or one is past the items";
+pub(crate) const SHARED_OR_PAST: &str = "two indices of the view share an item, or one is past the items";
 
 impl<'a, T, D: Lengths> Iterator for Pieces<'a, T, D> {
     type Item = Piece<'a, T>;

@@ -108,8 +108,9 @@ impl<'a, T, D: Lengths> PartMut<'a, T, D> {
     /// # Conditions
     ///
     /// The caller ensures that each index has an item to itself, as `Strided::from_shape`, `new` and `from_parts` check
-    /// it in owned mode; `over` checks it. This call panics where two indices may alias by the rule of owned mode, or
-    /// one lies past the items.
+    /// it in owned mode; `over` checks it. This call panics where two indices have one item, or one lies past the
+    /// items. Where the rule of owned mode does not show that none have, it takes memory and time for a sort of the
+    /// places.
     ///
     /// # Examples
     ///
@@ -138,7 +139,7 @@ impl<'a, T, D: Lengths> PartMut<'a, T, D> {
     pub fn new(view: Strided<D>, items: &'a mut [T]) -> Self {
         assert!(
             crate::parts::has_own_items(&view, items.len()),
-            "two indices of the part may alias, or one lies past the items"
+            "two indices of the view share an item, or one is past the items"
         );
         PartMut { cells: Cells { first: items.as_mut_ptr(), mark: PhantomData }, view }
     }

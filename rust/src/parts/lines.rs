@@ -86,14 +86,14 @@ pub(super) struct Lines<'a, T, D: Lengths> {
 }
 
 /// The first axis with several coordinates; whether another one follows that has.
-pub(super) fn first_axis(lens: &[usize]) -> Option<(usize, bool)> {
+fn first_axis(lens: &[usize]) -> Option<(usize, bool)> {
     let mut several = (0..lens.len()).filter(|axis| lens[*axis] > 1);
     let first = several.next()?;
     Some((first, several.next().is_some()))
 }
 
 /// A part of which one axis at most has several coordinates, as a line.
-pub(super) fn line_of<T, D: Lengths>(part: PartMut<'_, T, D>) -> PartMut<'_, T, Ix1> {
+fn line_of<T, D: Lengths>(part: PartMut<'_, T, D>) -> PartMut<'_, T, Ix1> {
     let (ndim, axis) = (part.dim().ndim(), first_axis(part.dim().slice()));
     let count = ndim + usize::from(axis.is_none());
     let mut elems = Elems::of(count, SliceInfoElem::Index(0)).expect(OUT_OF_MEMORY);

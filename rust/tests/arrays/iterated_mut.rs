@@ -53,19 +53,19 @@ fn iterate_unchecked(strides: Ix2, len: usize) {
 }
 
 #[test]
-#[should_panic(expected = "two indices of the view may share an item, or one is past the items")]
+#[should_panic(expected = "two indices of the view share an item, or one is past the items")]
 fn indices_that_alias_are_told() {
     iterate_unchecked(Ix2(1, 1), 3);
 }
 
 #[test]
-#[should_panic(expected = "two indices of the view may share an item, or one is past the items")]
+#[should_panic(expected = "two indices of the view share an item, or one is past the items")]
 fn an_index_past_the_items_is_told() {
     iterate_unchecked(Ix2(1, 2), 3);
 }
 
 #[test]
-#[should_panic(expected = "two indices of the view may share an item, or one is past the items")]
+#[should_panic(expected = "two indices of the view share an item, or one is past the items")]
 fn a_row_past_the_items_is_told() {
     iterate_unchecked(Ix2(3, 1), 4);
 }

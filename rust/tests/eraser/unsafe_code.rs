@@ -56,7 +56,7 @@ fn a_condition_that_keeps_it_sound_is_checked_where_others_see_the_call() {
     let call = "/// A. The caller ensures that it fits.\npub fn new(n: u8) -> Self requires { IsOwned n } { f(n) }";
     let checked = line_of("nd_parts", &format!("impl<T> PartMut<T> {{ {call} }}"));
     assert!(checked.contains("{assert!(crate::parts::has_own_items(&view, items.len()), \"two indices"), "{checked}");
-    assert!(checked.contains("This call panics where two indices may alias"), "{checked}");
+    assert!(checked.contains("This call panics where two indices have one item"), "{checked}");
     let due = "2: `{` begins a call that others see, with a condition that keeps `unsafe` sound and isn't checked";
     assert_eq!(line_of("nd_parts", &format!("impl<T> Other<T> {{ {call} }}")), due);
     let private = line_of("nd_parts", &format!("impl<T> Other<T> {{ {} }}", call.replace("pub ", "")));

@@ -33,7 +33,7 @@ fn a_view_that_leaves_its_items_or_has_an_alias_panics() {
 }
 
 #[test]
-#[should_panic(expected = "two indices of the part may alias, or one lies past the items")]
+#[should_panic(expected = "two indices of the view share an item, or one is past the items")]
 fn slices_of_an_array_whose_view_has_an_alias_panic() {
     let view = Strided::from_parts(0, Ix2(2, 2), Ix2(1, 1), 1, 3, ReadOnly).expect("a view of three items");
     let mut items = [0_u8; 3];
@@ -83,10 +83,58 @@ fn each_array_that_the_package_lends_is_made_a_part() {
     }
 }
 
+/// Three rows of two over eight items, by the strides 2 and 3: the places 0 3 2 5 4 7. They are distinct, and break the no-alias rule.
+fn interleaved(items: &mut [u8; 8]) -> ArrayViewMut<'_, u8, Ix2> {
+    let view = |mode| Strided::from_parts(0, Ix2(3, 2), Ix2(2, 3), 1, 8, mode);
+    assert!(view(OwnedMutable).is_err());
+    ArrayViewMut::new(view(ReadOnly).expect("a view of eight items"), items)
+}
+
+/// The items of `interleaved` after a call that writes 1 to 6 in row-major order.
+fn written(call: impl FnOnce(ArrayViewMut<'_, u8, Ix2>)) -> [u8; 8] {
+    let mut items = [0; 8];
+    call(interleaved(&mut items));
+    items
+}
+
 #[test]
-fn random_numbers_make_a_part_if_and_only_if_the_rules_hold() {
+fn items_at_distinct_places_are_lent_though_the_rule_is_broken() {
+    let in_order = [1, 0, 3, 2, 5, 4, 0, 6];
+    let columns = [s![.., 0], s![.., 1]];
+    let write = |items: &mut dyn Iterator<Item = &mut u8>| items.zip(1..).for_each(|(item, number)| *item = number);
+    assert_eq!(written(|array| write(&mut array.into_part().into_items())), in_order);
+    assert_eq!(written(|mut array| write(&mut array.iter_mut())), in_order);
+    assert_eq!(
+        written(|mut array| array.iter_mut().rev().zip(1..).for_each(|(item, number)| *item = 7 - number)),
+        in_order
+    );
+    assert_eq!(
+        written(|mut array| {
+            for (column, first) in array.multi_sliced_mut(&columns).expect("two columns").iter_mut().zip(1..) {
+                column.iter_mut().zip(0..).for_each(|(item, number)| *item = first + 2 * number);
+            }
+        }),
+        in_order
+    );
+    assert_eq!(
+        written(|array| {
+            let parts = array.multi_slice_mut(&columns).expect("two columns");
+            parts.into_iter().zip(1..).for_each(|(mut column, number)| column.fill(number));
+        }),
+        [1, 0, 1, 2, 1, 2, 0, 2]
+    );
+}
+
+#[test]
+fn blocks_that_interleave_are_lent_in_order() {
+    let view = Strided::from_parts(0, IxDyn(&[2, 3, 2]), IxDyn(&[6, 4, 1]), 1, 16, ReadOnly).expect("a view");
+    assert_lent(view, 16, &[0, 1, 4, 5, 8, 9, 6, 7, 10, 11, 14, 15], 4);
+}
+
+#[test]
+fn random_numbers_make_a_part_if_and_only_if_each_index_has_an_item() {
     let mut numbers = Numbers::new(1_900_001);
-    let (mut made, mut refused) = (0, 0);
+    let (mut made, mut refused, mut past_the_rule) = (0, 0, 0);
     for _ in 0..6_000 {
         let axes = numbers.below(4);
         let lens: Vec<usize> = (0..axes).map(|_| numbers.below(4)).collect();
@@ -99,10 +147,29 @@ fn random_numbers_make_a_part_if_and_only_if_the_rules_hold() {
         let distinct: BTreeSet<usize> = places.iter().copied().collect();
         let fits = places.iter().all(|place| *place < len);
         let owned = view.duplicate().expect("memory").moved_to(start, 1, len, OwnedMutable).is_ok();
-        let is_part = is_made(Ok(view), len);
-        assert_eq!(is_part, owned || places.is_empty());
-        assert!(!is_part || fits && distinct.len() == places.len());
+        let is_part = is_made(Ok(view.duplicate().expect("memory")), len);
+        assert_eq!(is_part, fits && distinct.len() == places.len(), "{view:?}");
+        assert!(is_part || !owned);
         *(if is_part { &mut made } else { &mut refused }) += 1;
+        if is_part && !places.is_empty() {
+            past_the_rule += usize::from(!owned);
+            assert_lent(view, len, &places, numbers.below(places.len()));
+        }
     }
-    assert!(made > 300 && refused > 300, "{made} {refused}");
+    assert!(made > 300 && refused > 300 && past_the_rule > 20, "{made} {refused} {past_the_rule}");
+}
+
+/// Asserts that the items that an array lends are those at places, from each end and past some.
+fn assert_lent(view: Strided<IxDyn>, len: usize, places: &[usize], skipped: usize) {
+    let mut items: Vec<usize> = (0..len).collect();
+    let mut array = ArrayViewMut::new(view, &mut items);
+    assert!(array.iter_mut().eq(places));
+    assert!(array.iter_mut().rev().eq(places.iter().rev()));
+    let (mut lent, mut left) = (array.iter_mut(), places.iter());
+    assert_eq!((lent.next_back().as_deref(), lent.nth(skipped).as_deref()), (left.next_back(), left.nth(skipped)));
+    assert_eq!(lent.len(), left.len());
+    assert_eq!(lent.fold(0, |sum, item| 3 * sum + *item), left.fold(0, |sum, place| 3 * sum + place));
+    array.map_in_place(|item| *item += 100);
+    assert!(array.iter().eq(&places.iter().map(|place| place + 100).collect::<Vec<_>>()));
+    assert_eq!(items.iter().filter(|item| **item >= 100).count(), places.len());
 }
