@@ -2,7 +2,33 @@
 
 use super::OUT_OF_MEMORY;
 use crate::nd_base::{ErrorKind, IxDyn, LayoutError, Lengths, from_kind, new_ixdyn};
+use crate::nd_shape::NdIndex;
 use crate::ndarray_layout::Strided;
+use alloc::vec::Vec;
+
+/// As the slice of it is an index: so `get(&index)` takes a list of coordinates, where a slice needs `get(&&index[..])`. Not proved.
+///
+/// ```
+/// use ndarray_layout::{IxDyn, LayoutError, OwnedArray};
+///
+/// # fn main() -> Result<(), LayoutError> {
+/// let table = OwnedArray::from_shape_vec(IxDyn(&[2, 2]).into(), vec![7, 8, 9, 10])?;
+/// let index: Vec<usize> = "1 0".split(' ').filter_map(|word| word.parse().ok()).collect();
+/// assert_eq!((table.get(&index), table[&index[..]]), (Some(9), 9));
+/// # Ok(())
+/// # }
+/// ```
+impl NdIndex<IxDyn> for Vec<usize> {
+    #[inline]
+    fn index_checked(&self, dim: &IxDyn, strides: &IxDyn) -> Option<isize> {
+        self.as_slice().index_checked(dim, strides)
+    }
+
+    #[inline]
+    fn index_unchecked(&self, strides: &IxDyn) -> isize {
+        self.as_slice().index_unchecked(strides)
+    }
+}
 
 /// The same lengths, or strides, as a list of any count.
 fn any_of<D: Lengths>(lens: &D) -> IxDyn {

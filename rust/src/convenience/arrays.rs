@@ -3,7 +3,7 @@
 use super::OUT_OF_MEMORY;
 use crate::arrays::no_such_index;
 use crate::memory::FallibleVec;
-use crate::nd_base::{Dim, Lengths};
+use crate::nd_base::{Dim, ErrorKind, LayoutError, Lengths, from_kind};
 use crate::nd_dim::product;
 use crate::nd_shape::{NdIndex, StrideShape, Strides};
 use crate::{ArrayView, Items, LentRow, OwnedArray};
@@ -15,6 +15,36 @@ fn array_of<T, D: Lengths>(shape: StrideShape<D>, items: Vec<T>) -> OwnedArray<T
     match OwnedArray::from_shape_vec(shape, items) {
         Ok(array) => array,
         Err((fault, _)) => panic!("the array is not made: {fault}"),
+    }
+}
+
+impl<T, D: Lengths> OwnedArray<T, D> {
+    /// The array of a shape and of as many items as it has indices: `from_shape_vec`, whose items may be more, and whose error gives
+    /// them back. ndarray's `from_shape_vec`. Not proved.
+    ///
+    /// # Errors
+    ///
+    /// Those of `from_shape_vec`; then `IncompatibleShape` where there are more items, unless the strides are given. The items are
+    /// dropped.
+    ///
+    /// ```
+    /// use ndarray_layout::{Ix2, OwnedArray};
+    /// use std::error::Error;
+    ///
+    /// fn table(items: Vec<u8>) -> Result<OwnedArray<u8, Ix2>, Box<dyn Error>> {
+    ///     Ok(OwnedArray::from_exact_vec(Ix2(2, 2).into(), items)?)
+    /// }
+    ///
+    /// assert_eq!(table(vec![7, 8, 9, 10]).unwrap()[(1, 0)], 9);
+    /// assert!(table(vec![7; 3]).is_err() && table(vec![7; 5]).is_err());
+    /// ```
+    pub fn from_exact_vec(shape: StrideShape<D>, items: Vec<T>) -> Result<Self, LayoutError> {
+        let (count, may_be_more) = (items.len(), shape.strides.is_custom());
+        let array = Self::from_shape_vec(shape, items)?;
+        match array.len() == count || may_be_more {
+            true => Ok(array),
+            false => Err(LayoutError::Shape(from_kind(ErrorKind::IncompatibleShape))),
+        }
     }
 }
 

@@ -61,9 +61,11 @@ macro_rules! s {
     (@element $slice:expr) => { $slice };
     (@element $slice:expr; $step:expr) => { $crate::stepped($slice, $step) };
     ($($slice:expr $(; $step:expr)?),* $(,)?) => {
-        $crate::SliceBuilder::<{ <[&str]>::len(&[$(stringify!($slice)),*]) }>::new()
-            $(.and($crate::s!(@element $slice $(; $step)?)))*
-            .info()
+        match $crate::SliceBuilder::<{ <[&str]>::len(&[$(stringify!($slice)),*]) }>::new() {
+            // (`1..-1` isn't empty here)
+            #[allow(clippy::reversed_empty_ranges)]
+            builder => builder$(.and($crate::s!(@element $slice $(; $step)?)))*.info(),
+        }
     };
 }
 

@@ -17,6 +17,54 @@ pub fn hash_of(value: &impl Hash) -> u64 {
     hasher.finish()
 }
 
+/// The array of a shape and a list, in a function whose errors are those of any kind.
+fn exact<S: Into<StrideShape<Ix2>>>(shape: S, items: Vec<u8>) -> Result<OwnedArray<u8, Ix2>, Box<dyn Error>> {
+    Ok(OwnedArray::from_exact_vec(shape.into(), items)?)
+}
+
+/// The error of such an array.
+fn exact_fault<S: Into<StrideShape<Ix2>>>(shape: S, count: usize) -> Option<ErrorKind> {
+    match *exact(shape, vec![0; count]).err()?.downcast::<LayoutError>().expect("an error of the layout") {
+        LayoutError::Shape(error) => Some(error.kind()),
+        LayoutError::Memory(error) => panic!("{error}"),
+    }
+}
+
+#[test]
+fn a_list_of_another_length_than_the_shape_is_refused() -> Result<(), Box<dyn Error>> {
+    assert_eq!(exact(Ix2(2, 3), vec![7, 8, 9, 10, 11, 12])?[(1, 0)], 10);
+    assert_eq!(exact((2, 3).f()?, vec![7, 8, 9, 10, 11, 12])?[(1, 0)], 8);
+    for (count, due) in [(5, ErrorKind::OutOfBounds), (7, ErrorKind::IncompatibleShape)] {
+        assert_eq!(exact_fault(Ix2(2, 3), count), Some(due));
+        assert_eq!(exact_fault((2, 3).f()?, count), Some(due));
+    }
+    // rows of three, with one item between them
+    let spaced = || Ix2(2, 3).strides(Ix2(4, 1));
+    assert_eq!(exact(spaced()?, (0..9).collect())?[(1, 2)], 6);
+    assert_eq!(exact_fault(spaced()?, 6), Some(ErrorKind::OutOfBounds));
+    assert_eq!(exact_fault(Ix2(0, 3), 1), Some(ErrorKind::IncompatibleShape));
+    Ok(())
+}
+
+#[test]
+fn a_list_of_coordinates_is_an_index() -> Result<(), LayoutError> {
+    let mut table = OwnedArray::from_exact_vec(IxDyn(&[2, 2]).into(), vec![7, 8, 9, 10])?;
+    let index = vec![1, 0];
+    assert_eq!((table.get(&index), table.view().place(&index), table[&index[..]]), (Some(9), Some(2), 9));
+    assert!(table.set(&index, 5) && !table.set(&vec![0, 2], 5) && !table.set(&vec![0], 5));
+    table[vec![0, 1]] = 6;
+    assert_eq!(table.stored(), [7, 6, 5, 10]);
+    Ok(())
+}
+
+#[test]
+fn a_range_that_ends_before_the_last_coordinate_is_no_empty_one() -> Result<(), LayoutError> {
+    let table = OwnedArray::from_exact_vec(Ix2(4, 2).into(), (0..8).collect())?;
+    assert_eq!(table.sliced(s![1..-1, ..])?.to_vec()?, [2, 3, 4, 5]);
+    assert_eq!(table.sliced(s![2..-1;-1, 1])?.to_vec()?, [5]);
+    Ok(())
+}
+
 #[test]
 fn builders_become_shapes_with_strides() -> Result<(), LayoutError> {
     let shape: StrideShape<Ix2> = (2, 3).into();
