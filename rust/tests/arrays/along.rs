@@ -2,8 +2,9 @@
 
 use crate::layouts::{Layout, interleave, rounds};
 use crate::{NUMBERS, kind, owned, rows, rows_mut, texts};
+use ndarray_layout::CanIndexCheckMode::OwnedMutable;
 use ndarray_layout::ErrorKind::{IncompatibleLayout, OutOfBounds};
-use ndarray_layout::{ArrayView, Axis, IxDyn};
+use ndarray_layout::{ArrayView, ArrayViewMut, Axis, Ix1, Ix3, IxDyn, Lengths, Strided};
 
 #[test]
 fn arrays_of_an_axis_are_read() {
@@ -33,6 +34,37 @@ fn rows_of_an_axis_are_mapped() {
     let none = ArrayView::from_shape(ndarray_layout::Ix2(0, 3).into(), &NUMBERS).unwrap();
     assert_eq!(none.map_axis(Axis(0), |column| column.len()).unwrap().into_stored(), [0; 3]);
     assert!(none.map_axis(Axis(1), |_| ()).unwrap().is_empty());
+}
+
+/// Two by none by three, by strides of 9, 3 and 1 from place 1, over twenty items.
+fn without_items() -> Strided<Ix3> {
+    Strided::from_parts(1, Ix3(2, 0, 3), Ix3(9, 3, 1), 1, 20, OwnedMutable).expect("a view of twenty items")
+}
+
+#[test]
+fn arrays_without_items_lie_at_the_start_of_what_is_lent() {
+    let mut items = [0_u8; 20];
+    for axis in [Axis(0), Axis(2)] {
+        let whole = ArrayView::over(without_items(), &items).unwrap();
+        let read: Vec<_> = whole.axis_iter(axis).unwrap().map(|part| part.view().clone()).collect();
+        assert_eq!(read.len(), whole.shape()[axis.index()]);
+        // they begin where the whole does, and have the strides of a shape without an index
+        assert!(read.iter().all(|view| view.start() == 1 && view.strides().slice() == [0, 0]), "{read:?}");
+        let mut lent = ArrayViewMut::over(without_items(), &mut items).unwrap();
+        let written: Vec<_> = lent.axis_iter_mut(axis).unwrap().collect();
+        assert_eq!(written.len(), read.len());
+        assert!(written.iter().all(|part| part.stored().is_empty() && part.view().start() == 0));
+        assert!(written.iter().all(|part| part.view().strides().slice() == [0, 0]));
+    }
+}
+
+#[test]
+fn a_line_without_items_lies_as_a_list_of_none() {
+    let none = ArrayView::over(without_items(), &[0_u8; 20]).unwrap();
+    let lines = none.map_axis(Axis(1), |line| (line.view().start(), line.view().strides()[0], line.len())).unwrap();
+    let list = ArrayView::<u8, Ix1>::from_shape(Ix1(0).into(), &[]).unwrap();
+    assert_eq!((list.view().start(), list.view().strides()[0], list.len()), (0, 0, 0));
+    assert_eq!(lines.into_stored(), [(0, 0, 0); 6]);
 }
 
 #[test]
