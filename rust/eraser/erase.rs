@@ -99,7 +99,7 @@ pub(crate) struct Eraser<'a> {
 type Form<'a> = fn(&mut Eraser<'a>, &[Tree]) -> Result<Option<usize>, Fault>;
 
 impl<'a> Eraser<'a> {
-    const FORMS: [Form<'a>; 30] = [
+    const FORMS: [Form<'a>; 31] = [
         Self::doc,
         Self::clause,
         Self::ghost,
@@ -110,6 +110,7 @@ impl<'a> Eraser<'a> {
         Self::export,
         Self::finality,
         Self::unsafety,
+        Self::own_crate,
         Self::seal,
         Self::type_bounds,
         Self::listed_impl,

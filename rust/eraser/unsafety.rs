@@ -38,6 +38,19 @@ impl Eraser<'_> {
         Ok(Some(1))
     }
 
+    /// What all of a crate sees, whose conditions keep `unsafe` sound, its module sees alone: no other file of the package.
+    pub(crate) fn own_crate(&mut self, trees: &[Tree]) -> Result<Option<usize>, Fault> {
+        let [word, Tree::Group(seen), ..] = trees else {
+            return Ok(None);
+        };
+        let is_of_crate = word.is("pub") && matches!(&seen.trees[..], [only] if only.is("crate"));
+        if !is_of_crate || !self.names.is_packed() || !SOUND_BY_CONDITIONS.contains(&self.names.own) {
+            return Ok(None);
+        }
+        self.put(word.first().lead, &format!("pub(in crate::{})", self.names.own));
+        Ok(Some(2))
+    }
+
     /// The condition of the function at hand, what a panic says where it is broken, and what the docs say, if the package checks it.
     fn checked(&self) -> Option<(&'static str, &'static str, &'static str)> {
         let (is_checked, name) = (self.contract.is_public && self.contract.is_function, &self.contract.name);

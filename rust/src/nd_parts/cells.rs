@@ -11,7 +11,7 @@ use core::slice::from_raw_parts_mut;
 /// The right to read and write some elements of a slice, at the price of a pointer: those that have a mark.
 ///
 /// The project's own.
-pub(crate) struct Cells<'a, T> {
+pub(in crate::nd_parts) struct Cells<'a, T> {
     first: *mut T,
     mark: PhantomData<&'a mut T>,
 }
@@ -41,7 +41,7 @@ impl<'a, T> Cells<'a, T> {
     /// [How to read it](crate::contracts)
     /// </details>
     #[inline]
-    pub(crate) fn get(&self, place: usize) -> &T {
+    pub(in crate::nd_parts) fn get(&self, place: usize) -> &T {
         // SAFETY: the place has a mark, which the caller ensures; so it is one of the slice that was lent (`new`), and
         // no other `Cells` has its mark (`all` of `take_part`). While the result is in use this one is borrowed, so
         // nothing writes the element.
@@ -68,7 +68,7 @@ impl<'a, T> Cells<'a, T> {
     /// [How to read it](crate::contracts)
     /// </details>
     #[inline]
-    pub(crate) fn take_part<V>(&mut self, _by: &V) -> Self {
+    pub(in crate::nd_parts) fn take_part<V>(&mut self, _by: &V) -> Self {
         Cells { first: self.first, mark: PhantomData }
     }
 
@@ -91,7 +91,7 @@ impl<'a, T> Cells<'a, T> {
     /// [How to read it](crate::contracts)
     /// </details>
     #[inline]
-    pub(crate) fn take_slice(&mut self, start: usize, len: usize) -> &'a mut [T] {
+    pub(in crate::nd_parts) fn take_slice(&mut self, start: usize, len: usize) -> &'a mut [T] {
         // SAFETY: each of these places has a mark, which the caller ensures, and has none afterwards (`all`, here). So
         // they are those of the slice that was lent (`new`), and no call of this `Cells` or of another reads or writes
         // them again.
@@ -156,7 +156,7 @@ impl<'a, T, D: Lengths> PartMut<'a, T, D> {
     /// [How to read it](crate::contracts)
     /// </details>
     #[inline]
-    pub(crate) fn item_mut(&mut self, place: usize) -> &mut T {
+    pub(in crate::nd_parts) fn item_mut(&mut self, place: usize) -> &mut T {
         // SAFETY: the place has a mark, which the caller ensures; so it is one of the slice that was lent (`new`), and
         // no other `Cells` has its mark (`all` of `take_part`). While the result is in use the part is borrowed, so
         // nothing else reads or writes the element.
@@ -168,7 +168,7 @@ impl<'a, T, D: Lengths> PartMut<'a, T, D> {
     ///
     /// `[2]` from 1 of 7 8 9: 8 and 9. The project's own.
     #[inline]
-    pub(crate) fn borrowed<E: Lengths>(&mut self, view: Strided<E>) -> PartMut<'_, T, E> {
+    pub(in crate::nd_parts) fn borrowed<E: Lengths>(&mut self, view: Strided<E>) -> PartMut<'_, T, E> {
         PartMut { cells: Cells { first: self.cells.first, mark: PhantomData }, view }
     }
 }

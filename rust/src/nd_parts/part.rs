@@ -21,8 +21,8 @@ pub use rows::PartRows;
 ///
 /// The rows of `[2,2]` over 7 8 9 10: one part has 7 8, the other 9 10. The project's own.
 pub struct PartMut<'a, T, D: Lengths> {
-    pub(crate) cells: Cells<'a, T>,
-    pub(crate) view: Strided<D>,
+    pub(in crate::nd_parts) cells: Cells<'a, T>,
+    pub(in crate::nd_parts) view: Strided<D>,
 }
 
 impl<'a, T: Sized, D: Lengths> PartMut<'a, T, D> {

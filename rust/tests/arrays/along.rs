@@ -46,7 +46,7 @@ fn arrays_without_items_lie_at_the_start_of_what_is_lent() {
     let mut items = [0_u8; 20];
     for axis in [Axis(0), Axis(2)] {
         let whole = ArrayView::over(without_items(), &items).unwrap();
-        let read: Vec<_> = whole.axis_iter(axis).unwrap().map(|part| part.view().clone()).collect();
+        let read: Vec<_> = whole.axis_iter(axis).unwrap().map(|part| *part.view()).collect();
         assert_eq!(read.len(), whole.shape()[axis.index()]);
         // they begin where the whole does, and have the strides of a shape without an index
         assert!(read.iter().all(|view| view.start() == 1 && view.strides().slice() == [0, 0]), "{read:?}");

@@ -45,6 +45,14 @@ fn unsafe_stays_where_it_is_told_why_it_is_sound() {
 }
 
 #[test]
+fn what_keeps_it_sound_is_seen_by_its_own_module_alone() {
+    let source = "pub struct S { pub(crate) cells: u8, pub view: u8 } pub(crate) fn f() {}";
+    let due = "pub struct S { pub(in crate::nd_parts) cells: u8, pub view: u8 } pub(in crate::nd_parts) fn f() {}";
+    assert_eq!(line_of("nd_parts", source), due);
+    assert_eq!(line_of("upper", source), source);
+}
+
+#[test]
 fn a_ghost_parameter_goes() {
     let head = "fn f<V>(by: &V) -> u8 ghost chosen: { List Bool } requires { IsTrue chosen }";
     assert_eq!(line_of("upper", &format!("{head} {{ 1 }}")), "fn f<V>(by: &V) -> u8 { 1 }");

@@ -8,8 +8,8 @@ use core::iter::FusedIterator;
 
 /// The items of a part that are still to come, in row-major order of their indices, each lent to be written. ndarray's `IterMut`.
 pub struct PartItems<'a, T, D: Lengths> {
-    pub(crate) cells: Cells<'a, T>,
-    pub(crate) places: IntoPlaces<D>,
+    pub(in crate::nd_parts) cells: Cells<'a, T>,
+    pub(in crate::nd_parts) places: IntoPlaces<D>,
 }
 
 impl<'a, T, D: Lengths> Iterator for PartItems<'a, T, D> {

@@ -8,10 +8,10 @@ use core::iter::FusedIterator;
 
 /// The rows of a part that are still to come, along its last axis, in row-major order, each a part of its own. ndarray's `LanesMut`.
 pub struct PartRows<'a, T, D: Lengths> {
-    pub(crate) cells: Cells<'a, T>,
-    pub(crate) view: Strided<D>,
+    pub(in crate::nd_parts) cells: Cells<'a, T>,
+    pub(in crate::nd_parts) view: Strided<D>,
     // How many rows have begun.
-    pub(crate) number: usize,
+    pub(in crate::nd_parts) number: usize,
 }
 
 impl<'a, T: Sized, D: Lengths> Iterator for PartRows<'a, T, D> {
