@@ -202,14 +202,11 @@ pub const CHECKED: &[(&str, &str, &str, &str, &str)] = &[(
 pub const OPENED: &[&str] = &[
     "ArrayView",
     "ArrayViewMut",
-    "Fastest",
     "Indices",
     "Items",
     "Iter",
     "LentRow",
     "OwnedArray",
-    "Places",
-    "Rows",
     "Strided",
 ];
 

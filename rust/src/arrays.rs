@@ -29,11 +29,11 @@ mod writing;
 
 pub use axis_chunks::{AxisChunksIter, AxisChunksIterMut};
 pub use axis_iter::{AxisIter, AxisIterMut};
-pub(crate) use folding::{ColumnsLeft, fold_items, fold_iter, fold_places, nth_place};
+pub(crate) use folding::{fold_items, fold_iter, fold_places};
 pub use indexed::{IndexedIter, IndexedIterMut, PartIndexedIterMut};
 pub(crate) use indexing::no_such_index;
 pub use iter::ViewIter;
 pub use iter_mut::IterMut;
-pub(crate) use line::fold_column;
+pub(crate) use line::fold_row;
 pub(crate) use pairs::same_items;
 pub use rows::{IntoRows, RowsMut};

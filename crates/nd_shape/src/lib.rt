@@ -30,7 +30,7 @@ pub use indexes::{
 pub use layout::Layout;
 pub use layout_start::{low_span, offset_from_low_addr_ptr_to_logical_ptr};
 pub use major_order::{is_layout_c, is_layout_f};
-pub use merge::{merge_axes, merge_fitting};
+pub use merge::{goes_on, merge_axes, merge_fitting};
 pub use min_stride::move_min_stride_axis_to_last;
 pub use ndindex::NdIndex;
 pub use no_alias::{dim_stride_overlap, has_overlap};

@@ -9,9 +9,16 @@ ghost use Rattle.nd_shape.specs.Merge.{IsMergedStride, MergeFits, merged_shape, 
 
 use nd_base::{Axis, Lengths, signed, stride_offset};
 
-/// Whether a stride goes on where another axis ends: whether it is that axis' length times that axis' stride.
+/// Whether a stride goes on where another axis ends: whether it is `len` times `other`, which are that axis' length and
+/// stride.
+///
+/// Strides are in elements, with their sign (`signed`). The caller ensures that the axis has more than one coordinate, and
+/// that both strides are of one valid layout (`span_of_lengths`): the reach of the other axis and one step of this one fit.
+///
+/// A stride 6 after the length 3 with the stride 2: true, for 0 2 4 is followed by 6; a stride 5: false. The test of
+/// ndarray's `merge_axes`.
 #[inline(always)]
-fn goes_on(stride: usize, len: usize, other: usize) -> bool
+pub fn goes_on(stride: usize, len: usize, other: usize) -> bool
     requires long { 1 < len }
     requires small { len ≤ limit }
     requires fits { magnitude (signed_reading stride) + reach len (signed_reading other) ≤ limit }

@@ -7,6 +7,8 @@ pub mod ByRows
 pub mod CroppedAxes
 pub mod Fastest
 pub mod FromStart
+pub mod KeptRows
+pub mod LaterPlaces
 pub mod MarkedAxes
 pub mod Merged
 pub mod NextRow

@@ -1,14 +1,14 @@
 -- From one row of a view to the next: along a column, and to the first row of the next one.
-use Rattle.std.proofs.Common.{◌≡◌, ℕ, zero, suc, ◌+◌, ◌*◌, ◌-◌, ◌/◌, ◌%◌, ◌<◌, ◌≤◌, ℤ, pos, ◌+ℤ◌, ◌*ℤ◌, Bool, true, false}
-use Rattle.std.proofs.Common.{inl, inr, List, [], ◌∷◌, replicate, length, length-append, length-drop, map, drop, refl, sym, ap, ◌∙◌}
+use Rattle.std.proofs.Common.{◌≡◌, ℕ, suc, ◌+◌, ◌*◌, ◌-◌, ◌/◌, ◌%◌, ◌<◌, ◌≤◌, ℤ, pos, ◌+ℤ◌, ◌*ℤ◌, Bool, true, false}
+use Rattle.std.proofs.Common.{inl, inr, List, [], ◌∷◌, replicate, length, drop, refl, sym, ap, ◌∙◌}
 use Rattle.std.proofs.Common.{arith, add-one, drop-cons}
 use Rattle.std.proofs.Math.Nat.{mul-le-mul_left, mul-le-mul_right}
 use Rattle.std.proofs.lemmas.Bool.{cases_lt}
 use Rattle.std.proofs.lemmas.Int.{ints}
-use Rattle.std.proofs.lemmas.List.{get_or-map, length-map}
+use Rattle.std.proofs.lemmas.List.{get_or-map}
 use Rattle.std.proofs.lemmas.Nat.{div-add-mod', div-mul-add, mod-mul-add, mod_below, mul-add-lt}
 use Rattle.nd_base.specs.declared.order.Order.{Order}
-use Rattle.nd_base.proofs.laws.Definitions.{all_signed, index_of_flat_in, indices_in, is_empty, limit, magnitude, offset_of, place}
+use Rattle.nd_base.proofs.laws.Definitions.{all_signed, index_of_flat_in, indices_in, is_empty, limit, offset_of, place}
 use Rattle.nd_base.proofs.laws.Definitions.{signed, size}
 use Rattle.nd_base.proofs.laws.FlatIndex.{flat_index_in-zeros, index_of_flat_in-flat_index_in, is_index-index_of_flat_in}
 use Rattle.nd_base.proofs.laws.Indices.{get_or-indices_in, length-indices_in}
@@ -17,20 +17,18 @@ use Rattle.nd_base.proofs.laws.NonzeroSize.{size_le_nonzero_size}
 use Rattle.nd_base.proofs.laws.Offset.{offset_of-zeros}
 use Rattle.nd_base.proofs.laws.Size.{size_of_empty}
 use Rattle.ndarray_layout.specs.declared.strided.rows.Fastest.{Fastest}
-use Rattle.ndarray_layout.specs.declared.strided.rows.Row.{Row}
-use Rattle.ndarray_layout.specs.Rows.{row_places, rows_places}
 use Rattle.ndarray_layout.specs.View.{View, IsPlace, IsView, place_at, view_of, view_places}
-use Rattle.ndarray_layout.specs.RowsLeft.{AreRowsLeft, axis_view, count_of_rows, moved_to, row_place, rows_left}
+use Rattle.ndarray_layout.specs.RowsLeft.{axis_view, row_place}
 use Rattle.ndarray_layout.specs.private.Fastest.{EndsIn, IsColumn}
 use Rattle.ndarray_layout.proofs.Fastest.{EndsIn-map, IsView-others, len_le_nonzero_size, offset_of-flat_index}
 use Rattle.ndarray_layout.proofs.Fastest.{size-others, some_coordinate}
-use Rattle.ndarray_layout.proofs.laws.Rows.{length-row_places, no_step, one_more_step}
+use Rattle.ndarray_layout.proofs.laws.Rows.{no_step, one_more_step}
 use Rattle.ndarray_layout.proofs.laws.View.{length-view_places, view_place}
 use Rattle.ndarray_layout.proofs.RowsLeft.{IsView-slower, ends, factor_of_some, size-axis_view, steps}
 
 -- ---- flat indices
 -- the place of each
-next_place : (order : Order) (view : View) (k : ℕ) → k < size view.shape
+pub next_place : (order : Order) (view : View) (k : ℕ) → k < size view.shape
     → drop k (view_places order view) ≡ place_at view (index_of_flat_in order view.shape k) ∷ drop (k + 1) (view_places order view)
 next_place order view k below =
     let places = view_places order view in
@@ -166,10 +164,6 @@ first_place order view some =
     by true e = absurd (omega (arith, size_of_empty view.shape e))
     by false e = e
 
-some_rows : (columns len in_column : ℕ) → 0 < columns + in_column → in_column < len → 0 < columns * len + in_column
-some_rows zero len in_column some on = omega arith
-some_rows (suc columns) len in_column some on = omega arith
-
 -- ---- the place of a row, by that of the one before it
 module _ (order : Order) (start : ℕ) (column : Fastest) (v : IsView (axis_view order start column)) where
   -- a stride on in its column
@@ -223,106 +217,3 @@ module _ {order : Order} {start : ℕ} {column : Fastest} {number : ℕ} (b : Is
     offsets =
         let moved = after_axis (ends order start column) (steps order start column) b.is_view.valid.same_count first more first_below in
         (omega (arith, ints, moved.0), omega (arith, ints, moved.1))
-
--- ---- from one row to the next
-module _ {order : Order} {start : ℕ} {column : Fastest} {row : Row} {in_column columns columns_left : ℕ}
-    (l : AreRowsLeft order start column row in_column columns columns_left) (some : 0 < columns_left + in_column) where
-  abbrev pub given : ℕ
-  given = columns * column.len - in_column
-
-  whole : columns * column.len + columns_left * column.len ≡ size (axis_view order start column).shape
-  whole = omega (arith, size-axis_view order start column, ap (λ n. n * column.len) (l.number some))
-
-  given_below : given < size (axis_view order start column).shape
-  given_below = omega (arith, whole, l.begun, some_rows columns_left column.len in_column some (l.on_axis some))
-
-  -- a row from the next place on comes, and then those that are left
-  pub row_comes : {start' : ℕ} (left : ℕ) → pos start' ≡ row_place order start column given
-      → count_of_rows column in_column columns_left ≡ left + 1
-      → rows_left order start column row (count_of_rows column in_column columns_left)
-      ≡ record row { start = start' } ∷ rows_left order start column row left
-  row_comes {start'} left e count =
-      let view = axis_view order start column in
-      let before : size view.shape - count_of_rows column in_column columns_left ≡ given = omega (arith, whole, l.begun) in
-      let after : given + 1 ≡ size view.shape - left = omega (arith, whole, l.begun) in
-      ap (λ n. map (moved_to row) (drop n (view_places order view))) before
-      ∙ ap (map (moved_to row)) (next_place order view given given_below)
-      ∙ ap (λ place. moved_to row place ∷ map (moved_to row) (drop (given + 1) (view_places order view))) (sym e)
-      ∙ ap (λ n. record row { start = start' } ∷ map (moved_to row) (drop n (view_places order view))) after
-
-  pub left_after : {start' in_column' columns' columns_left' : ℕ} → pos start' ≡ row_place order start column given
-      → count_of_rows column in_column columns_left ≡ count_of_rows column in_column' columns_left' + 1
-      → columns' + columns_left' ≡ columns + columns_left → in_column' < column.len → in_column' ≤ columns' * column.len
-      → AreRowsLeft order start column (record row { start = start' }) in_column' columns' columns_left'
-  left_after {start'} {in_column'} {columns'} {columns_left'} e count number on begun =
-      let less : count_of_rows column in_column' columns_left' ≤ count_of_rows column in_column columns_left = omega (arith, count) in
-      let at : given ≡ columns' * column.len - in_column' - 1 =
-      omega (arith, whole, l.begun, count, begun, ap (λ n. n * column.len) (number ∙ l.number some), size-axis_view order start column) in
-      record {
-        is_view = l.is_view;
-        here = omega (arith, ints, e, (flat_within order l.is_view given given_below).1);
-        fits = omega (arith, l.fits, mul-le-mul_right row.len less);
-        within = omega (arith, l.within, less);
-        number = λ _. number ∙ l.number some;
-        on_axis = λ _. on;
-        begun = begun;
-        last = λ _ _. e ∙ ap (row_place order start column) at;
-      }
-
-  -- in a column it lies a stride on
-  module _ (more : 0 < in_column) where
-    begun : (columns : ℕ) → in_column ≤ columns * column.len → 0 < columns
-    begun zero within = absurd (omega arith)
-    begun (suc columns) within = omega arith
-
-    pub next_in_column : pos row.start +ℤ signed column.stride ≡ row_place order start column given
-    next_in_column =
-        let one = begun columns l.begun in
-        let coordinate : IsOnAxis column.len (columns - 1) (column.len - in_column) given = record {
-          on = omega (arith, l.on_axis some);
-          is = omega (arith, l.on_axis some, ap (λ n. n * column.len) (is_next one));
-        } in
-        ap (λ z. z +ℤ signed column.stride) (l.last some one)
-        ∙ row_on order start column l.is_view coordinate (omega (arith, l.on_axis some)) given_below
-      where
-        is_next : {n : ℕ} → 0 < n → n ≡ n - 1 + 1
-        is_next one = omega arith
-
-    pub next_within : IsPlace (pos row.start +ℤ signed column.stride)
-    next_within =
-        let here = flat_within order l.is_view given given_below in
-        (omega (arith, ints, here.0, next_in_column), omega (arith, ints, here.1, next_in_column))
-
--- ---- how many
-pub count_fits : {order : Order} {start : ℕ} {column : Fastest} {row : Row} {in_column columns columns_left : ℕ}
-    → AreRowsLeft order start column row in_column columns columns_left → count_of_rows column in_column columns_left ≤ limit
-count_fits {order} {start} {column} l =
-    omega (arith, l.within, size_le_nonzero_size (axis_view order start column).shape, l.is_view.valid.size_fits)
-
-pub length-rows_left : (order : Order) (start : ℕ) (column : Fastest) (row : Row) (left : ℕ)
-    → left ≤ size (axis_view order start column).shape
-    → length (rows_left order start column row left) ≡ left
-length-rows_left order start column row left within =
-    let view = axis_view order start column in
-    let places = view_places order view in
-    length-map (drop (size view.shape - left) places) (moved_to row)
-    ∙ length-drop (size view.shape - left) places
-    ∙ omega (arith, length-view_places order view)
-
--- rows of one length
-places_of_rows : (row : Row) (starts : List ℤ) → length (rows_places (map (moved_to row) starts)) ≡ length starts * row.len
-places_of_rows row [] = omega arith
-places_of_rows row (start ∷ starts) =
-    omega (
-      arith,
-      length-append (row_places (magnitude start) row.stride row.len) (rows_places (map (moved_to row) starts)),
-      length-row_places (magnitude start) row.stride row.len,
-      places_of_rows row starts,
-    )
-
-pub length-places_left : (order : Order) (start : ℕ) (column : Fastest) (row : Row) (left : ℕ)
-    → left ≤ size (axis_view order start column).shape → length (rows_places (rows_left order start column row left)) ≡ left * row.len
-length-places_left order start column row left within =
-    let starts = drop (size (axis_view order start column).shape - left) (view_places order (axis_view order start column)) in
-    places_of_rows row starts
-    ∙ ap (λ n. n * row.len) (sym (length-map starts (moved_to row)) ∙ length-rows_left order start column row left within)

@@ -22,7 +22,7 @@ one_further first stride a (suc n) =
     rw (here, one_further first stride (a + 1) n) refl
 
 -- the first place, and then the row from the next one on
-row_first : (first stride : ℤ) (n : ℕ) → row_from first stride (suc n) ≡ first ∷ row_from (first +ℤ stride) stride n
+pub row_first : (first stride : ℤ) (n : ℕ) → row_from first stride (suc n) ≡ first ∷ row_from (first +ℤ stride) stride n
 row_first first stride n =
     ap (λ z. z ∷ map (λ i. first +ℤ (pos i *ℤ stride)) (range_with_len (0 + 1) n)) (no_step first stride)
     ∙ ap (λ places. first ∷ places) (one_further first stride 0 n)
@@ -85,7 +85,7 @@ rest_of_row : (first stride : ℤ) (left : ℕ) → drop 1 (row_from first strid
 rest_of_row first stride left =
     ap (λ n. drop 1 (row_from first stride n)) (add-one left) ∙ ap (drop 1) (row_first first stride left)
 
-after : (place : ℕ) (stride : ℤ) (left : ℕ) (rows : List Row)
+pub after : (place : ℕ) (stride : ℤ) (left : ℕ) (rows : List Row)
     → places_after place stride left rows ≡ row_from (pos place +ℤ stride) stride left ++ rows_places rows
 after place stride left rows = ap (λ row. row ++ rows_places rows) (rest_of_row (pos place) stride left)
 

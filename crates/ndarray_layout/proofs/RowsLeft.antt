@@ -1,9 +1,10 @@
 -- The rows of a view by an axis and the axes that move slower: those that an iterator begins with.
-use Rattle.std.proofs.Common.{◌≡◌, ℕ, zero, suc, ◌+◌, ◌*◌, ◌-◌, ◌<◌, ◌≤◌, ℤ, pos, Bool, true, false, cond, ◌||◌}
-use Rattle.std.proofs.Common.{List, [], ◌∷◌, length, map, drop, nat_eq, refl, sym, ap, subst, ◌∙◌, arith}
-use Rattle.std.proofs.Common.{drop_of_length-le, eqb-true, pos_of_ne-zero}
+use Rattle.std.proofs.Common.{◌≡◌, ℕ, zero, suc, ◌*◌, ◌<◌, ◌≤◌, ℤ, pos, Bool, true, false, cond}
+use Rattle.std.proofs.Common.{List, [], ◌∷◌, length, map, take, nat_eq, refl, sym, ap, subst, ◌∙◌, arith}
+use Rattle.std.proofs.Common.{eqb-true}
 use Rattle.std.proofs.Math.Dec.{lit≤}
 use Rattle.std.proofs.Math.Nat.{mul-le-mul_right}
+use Rattle.std.proofs.Math.Seq.{take-length}
 use Rattle.std.proofs.lemmas.Bool.{eqb-false}
 use Rattle.std.proofs.lemmas.List.{nil_from_length}
 use Rattle.nd_base.specs.declared.order.Order.{Order}
@@ -14,7 +15,7 @@ use Rattle.ndarray_layout.specs.declared.strided.rows.Fastest.{Fastest}
 use Rattle.ndarray_layout.specs.declared.strided.rows.Row.{Row}
 use Rattle.ndarray_layout.specs.Rows.{row_at, slower_view, view_rows}
 use Rattle.ndarray_layout.specs.View.{IsView, view_of, view_places}
-use Rattle.ndarray_layout.specs.RowsLeft.{AreRowsLeft, axis_view, count_of_rows, moved_to, rows_left, with_item}
+use Rattle.ndarray_layout.specs.RowsLeft.{AreRowsLeft, axis_view, count_given, count_left, moved_to, rows_left, with_item}
 use Rattle.ndarray_layout.specs.private.Fastest.{EndsIn, HasPlaces, HasRows}
 use Rattle.ndarray_layout.proofs.ByRows.{rows_from}
 use Rattle.ndarray_layout.proofs.Fastest.{EndsIn-map, IsView-others, fastest_item-ends, length-others}
@@ -163,16 +164,16 @@ other_factor zero b some none = absurd (some refl)
 other_factor (suc a) b some none = omega arith
 
 -- what is left before the first row: all of them, or none where they have no place
-pub record IsFirst (order : Order) (start : ℕ) (axis column : Fastest) (row : Row) (columns : ℕ) : Type 0 where
+pub record IsFirst (order : Order) (start : ℕ) (axis column : Fastest) (row : Row) (rows : ℕ) : Type 0 where
   pub view : IsView (axis_view order start axis)
   pub column_places : HasPlaces order axis.lens.now axis.strides.now column
   pub begins : row.start ≡ start
   pub steps : row.stride ≡ signed axis.stride
   pub long : row.len ≡ axis.len
-  pub count : columns ≡ cond (nat_eq axis.len 0 || nat_eq column.len 0) 0 (size column.lens.now)
+  pub count : rows ≡ cond (nat_eq axis.len 0) 0 (column.len * size column.lens.now)
 
-module _ {order : Order} {start : ℕ} {axis column : Fastest} {row : Row} {columns : ℕ}
-    (f : IsFirst order start axis column row columns) where
+module _ {order : Order} {start : ℕ} {axis column : Fastest} {row : Row} {rows : ℕ}
+    (f : IsFirst order start axis column row rows) where
   known : IsView (axis_view order start column)
       × (view_places order (axis_view order start column) ≡ view_places order (view_of start axis.lens.now axis.strides.now))
   known =
@@ -186,83 +187,67 @@ module _ {order : Order} {start : ℕ} {axis column : Fastest} {row : Row} {colu
       ∙ length-view_places order (view_of start axis.lens.now axis.strides.now)
 
   -- as many as the slower axes have indices, or none where there is no row
-  left_first : (count_of_rows column 0 columns ≡ cond (nat_eq axis.len 0) 0 (size axis.lens.now)) × (0 < columns + 0 → 0 < column.len)
-  left_first = by (nat_eq axis.len 0) (nat_eq column.len 0) refl f.count
-    where
-      sizes : column.len * size column.lens.now ≡ size axis.lens.now
-      sizes = sym (size-axis_view order start column) ∙ count_of_starts
+  left_first : rows ≡ cond (nat_eq axis.len 0) 0 (size axis.lens.now)
+  left_first = f.count ∙ ap (cond (nat_eq axis.len 0) 0) (sym (size-axis_view order start column) ∙ count_of_starts)
 
-      by : (none empty : Bool) → nat_eq column.len 0 ≡ empty → columns ≡ cond (none || empty) 0 (size column.lens.now)
-          → (count_of_rows column 0 columns ≡ cond none 0 (size axis.lens.now)) × (0 < columns + 0 → 0 < column.len)
-      by true empty g e = (omega (arith, ap (λ n. n * column.len) e), λ some. absurd (omega arith))
-      by false true g e =
-          let no_len = eqb-true column.len 0 g in
-          (omega (arith, ap (λ n. n * column.len) e, sizes, ap (λ n. n * size column.lens.now) no_len), λ some. absurd (omega arith))
-      by false false g e = (
-        omega (arith, ap (λ n. n * column.len) e, sizes),
-        λ some. omega (arith, pos_of_ne-zero (eqb-false column.len 0 g)),
-      )
-
-  few : (none : Bool) → count_of_rows column 0 columns ≡ cond none 0 (size axis.lens.now)
-      → count_of_rows column 0 columns ≤ size axis.lens.now
+  few : (none : Bool) → rows ≡ cond none 0 (size axis.lens.now) → rows ≤ size axis.lens.now
   few true e = omega arith
   few false e = omega arith
 
+  whole_count : (rows : ℕ) → count_left rows 0 0 ≡ rows
+  whole_count rows = omega arith
+
   -- which is what the iterator keeps
-  pub all_left : AreRowsLeft order start column row 0 0 columns
+  pub all_left : AreRowsLeft order start column row 0 0 0 rows
   all_left =
-      let within = few (nat_eq axis.len 0) left_first.0 in
+      let within = few (nat_eq axis.len 0) left_first in
       record {
         is_view = known.0;
         here = omega (arith, f.begins, f.view.high);
         fits = omega (
           arith,
           mul-le-mul_right row.len within,
+          ap (λ n. n * row.len) (whole_count rows),
           ap (λ n. n * size axis.lens.now) f.long,
           size-axis_view order start axis,
           size_le_nonzero_size (axis_view order start axis).shape,
           f.view.valid.size_fits,
         );
+        number = omega arith;
         within = omega (arith, within, count_of_starts);
-        number = λ some. some_columns (nat_eq axis.len 0 || nat_eq column.len 0) some f.count;
-        on_axis = left_first.1;
-        begun = omega arith;
+        given = omega arith;
+        whole = λ more. omega arith;
+        front = λ more. absurd (omega arith);
         last = λ some begun. absurd (omega arith);
       }
-    where
-      some_columns : (none : Bool) → 0 < columns + 0 → columns ≡ cond none 0 (size column.lens.now) → 0 + columns ≡ size column.lens.now
-      some_columns true some e = absurd (omega arith)
-      some_columns false some e = omega arith
 
   -- and they are the rows of the view
   left_of : (none empty : Bool) → nat_eq axis.len 0 ≡ none → nat_eq (size (axis_view order start axis).shape) 0 ≡ empty
-      → count_of_rows column 0 columns ≡ cond none 0 (size axis.lens.now) → (starts : List ℤ) → length starts ≡ size axis.lens.now
-      → drop (size (axis_view order start column).shape - count_of_rows column 0 columns) starts ≡ cond empty [] starts
-  left_of true true e g count starts all = drop_of_length-le starts (omega (arith, all, count_of_starts))
+      → rows ≡ cond none 0 (size axis.lens.now) → (starts : List ℤ) → length starts ≡ size axis.lens.now
+      → take rows starts ≡ cond empty [] starts
+  left_of true true e g count starts all = ap (λ n. take n starts) count
   left_of false true e g count starts all =
       let no_size = sym (size-axis_view order start axis) ∙ eqb-true (size (axis_view order start axis).shape) 0 g in
-      drop_of_length-le starts
-      (omega (arith, all, count_of_starts, other_factor axis.len (size axis.lens.now) (eqb-false axis.len 0 e) no_size))
+      let no_rows : rows ≡ 0 = omega (arith, count, other_factor axis.len (size axis.lens.now) (eqb-false axis.len 0 e) no_size) in
+      ap (λ n. take n starts) no_rows
   left_of true false e g count starts all =
       absurd (eqb-false (size (axis_view order start axis).shape) 0 g
       (size-axis_view order start axis ∙ ap (λ n. n * size axis.lens.now) (eqb-true axis.len 0 e) ∙ omega arith))
-  left_of false false e g count starts all =
-      let whole : size (axis_view order start column).shape - count_of_rows column 0 columns ≡ 0 = omega (arith, count_of_starts) in
-      ap (λ n. drop n starts) whole
+  left_of false false e g count starts all = ap (λ n. take n starts) (count ∙ sym all) ∙ take-length starts
 
   none_or_map : {A B : Type 0} (g : A → B) (empty : Bool) (xs : List A) → map g (cond empty [] xs) ≡ cond empty [] (map g xs)
   none_or_map g true xs = refl
   none_or_map g false xs = refl
 
-  pub first_rows : rows_left order start column row (count_of_rows column 0 columns) ≡ view_rows order (axis_view order start axis)
+  pub first_rows : rows_left order start column row (count_given 0 0) (count_left rows 0 0) ≡ view_rows order (axis_view order start axis)
   first_rows =
       let view = axis_view order start axis in
       let inner = view_of start axis.lens.now axis.strides.now in
       let starts = view_places order inner in
       let empty = nat_eq (size view.shape) 0 in
-      let given = size (axis_view order start column).shape - count_of_rows column 0 columns in
-      ap (λ xs. map (moved_to row) (drop given xs)) known.1
-      ∙ ap (map (moved_to row)) (left_of (nat_eq axis.len 0) empty refl refl left_first.0 starts (length-view_places order inner))
+      ap (rows_left order start column row 0) (whole_count rows)
+      ∙ ap (λ xs. map (moved_to row) (take rows xs)) known.1
+      ∙ ap (map (moved_to row)) (left_of (nat_eq axis.len 0) empty refl refl left_first starts (length-view_places order inner))
       ∙ map_all (moved_to row) (row_at order view) (row-axis_view order start axis row f.steps f.long) (cond empty [] starts)
       ∙ none_or_map (row_at order view) empty starts
       ∙ ap (λ v. cond empty [] (map (row_at order view) (view_places order v))) (sym (slower-axis_view order start axis))

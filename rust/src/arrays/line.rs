@@ -1,6 +1,7 @@
 //! Items at the places of columns of runs.
 
 use super::layout::{Column, Run};
+use crate::ndarray_layout::Row;
 
 /// The place that is so many steps farther.
 #[inline]
@@ -28,6 +29,13 @@ pub(crate) fn fold_column<'a, T, B>(items: &'a [T], column: Column, init: B, f: 
         row = row.wrapping_add_signed(step);
     }
     total
+}
+
+/// Folds the items of a row.
+#[inline]
+pub(crate) fn fold_row<'a, T, B>(items: &'a [T], row: Row, init: B, f: &mut impl FnMut(B, &'a T) -> B) -> B {
+    let Row { start, stride, len } = row;
+    fold_column(items, Column::of_run(Run { start, stride, len }), init, f)
 }
 
 /// Folds the items of a run from the last one on.

@@ -3,7 +3,29 @@
 
 use crate::nd_base::{Axis, Lengths, signed, stride_offset};
 
-/// Whether a stride goes on where another axis ends: whether it is that axis' length times that axis' stride.
+/// Whether a stride goes on where another axis ends: whether it is `len` times `other`, which are that axis' length and
+/// stride.
+///
+/// Strides are in elements, with their sign (`signed`).
+///
+/// A stride 6 after the length 3 with the stride 2: true, for 0 2 4 is followed by 6; a stride 5: false. The test of
+/// ndarray's `merge_axes`.
+///
+/// # Conditions
+///
+/// The caller ensures that the axis has more than one coordinate, and that both strides are of one valid layout
+/// (`span_of_lengths`): the reach of the other axis and one step of this one fit. Otherwise this call or a later one
+/// panics or returns unspecified values.
+///
+/// # Examples
+///
+/// ```
+/// use ndarray_layout::{goes_on, unsigned};
+///
+/// assert!(goes_on(6, 3, 2));
+/// assert!(!goes_on(5, 3, 2));
+/// assert!(goes_on(unsigned(-6), 3, unsigned(-2)));
+/// ```
 ///
 /// <details><summary>Contract (proved)</summary>
 ///
@@ -15,8 +37,9 @@ use crate::nd_base::{Axis, Lengths, signed, stride_offset};
 /// ```
 /// [How to read it](crate::contracts)
 /// </details>
+#[must_use]
 #[inline(always)]
-fn goes_on(stride: usize, len: usize, other: usize) -> bool {
+pub fn goes_on(stride: usize, len: usize, other: usize) -> bool {
     // (from the other axis' second coordinate on, since the whole length may pass 64 bits)
     signed(stride) - signed(other) == stride_offset(len - 1, other)
 }

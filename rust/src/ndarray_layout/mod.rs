@@ -38,9 +38,9 @@ pub use crate::nd_shape::{
     Axes, AxisDescription, CanIndexCheckMode, IndexCursor, IndexCursorF, Indices, IndicesIter, IndicesIterF, Layout,
     NdIndex, Shape, ShapeBuilder, StrideShape, Strides, accept, all_indices, axes_of, can_index_slice,
     can_index_slice_not_custom, can_index_slice_with_strides, co_broadcast, dim_stride_overlap, fill_common_shape,
-    has_overlap, have_common_shape, indices_iter_f, is_layout_c, is_layout_f, low_span, max_abs_offset_check_overflow,
-    merge_axes, merge_fitting, move_min_stride_axis_to_last, offset_from_low_addr_ptr_to_logical_ptr,
-    size_of_shape_checked, span_of_lengths, strides_non_negative,
+    goes_on, has_overlap, have_common_shape, indices_iter_f, is_layout_c, is_layout_f, low_span,
+    max_abs_offset_check_overflow, merge_axes, merge_fitting, move_min_stride_axis_to_last,
+    offset_from_low_addr_ptr_to_logical_ptr, size_of_shape_checked, span_of_lengths, strides_non_negative,
 };
 
 // Slices, and arguments of slices.

@@ -126,8 +126,8 @@ fn what_the_package_adds_is_made_of_a_source() {
             "pub struct Iter<'a, T> where T: Eq { /// A.\n a: &'a [T], b: Rest<'a, T>, pub c: u8, ghost d: { 1 }, }",
             "pub struct Iter<'a, T> where T: Eq { /// A. pub(crate) a: &'a [T], pub(crate) b: Rest<'a, T>, pub c: u8, }",
         ),
-        ("struct Fastest { len: usize }", "pub(crate) struct Fastest { pub(crate) len: usize }"),
-        ("pub(crate) struct Rows {}", "pub(crate) struct Rows {}"),
+        ("struct LentRow { len: usize }", "pub(crate) struct LentRow { pub(crate) len: usize }"),
+        ("pub(crate) struct LentRow {}", "pub(crate) struct LentRow {}"),
         ("struct Other { len: usize }", "struct Other { len: usize }"),
         (
             "impl<T> Iterator for Iter<'_, T> { fn next(&mut self) {} } fn f();",

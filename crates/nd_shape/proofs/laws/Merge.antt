@@ -1,11 +1,12 @@
--- Laws of two axes as one: where one stride has the coordinates of both, and which stride does.
+-- Laws of two axes as one: where one stride has the coordinates of both, and which stride does; an axis of length at most 1 adds nothing to
+-- another one (short_taken, into_short), and else it goes on where that one ends (steps_on, steps_on_from_fit).
 use Rattle.std.proofs.Common.{◌≡◌, ◌⊎◌, ℕ, ◌≤◌, ◌<◌, ℤ, pos, ◌*ℤ◌, true, inl, inr, refl, arith}
 use Rattle.std.specs.Bool.{Decides}
 use Rattle.std.specs.Ordering.{int_eq}
 use Rattle.std.proofs.lemmas.Bool.{cases_lt, le-leb, lt-leb}
 use Rattle.std.proofs.lemmas.Bool.Decides.{Decides-int_eq, nat_tests}
 use Rattle.nd_shape.specs.Merge.{IsMergedStride, MergeFits, merge_fits, merged_stride}
-use Rattle.nd_shape.proofs.MergedStride.{short_taken, into_short, steps_on, steps_on_from_fit}
+pub use Rattle.nd_shape.proofs.MergedStride.{short_taken, into_short, steps_on, steps_on_from_fit}
 
 -- why a merge fits, and which stride the merged axis has
 pub record FewTaken (take_len : ℕ) (take_stride : ℤ) (into_len : ℕ) (into_stride : ℤ) : Type 0 where

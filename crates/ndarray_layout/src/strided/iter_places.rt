@@ -2,13 +2,14 @@
 ghost use Rattle.std.specs.Iterator.{UpTo, YieldsFirstBy, item_count};
 ghost use Rattle.std.specs.Iterator.Runs.{EveryRun, ItemsMapTo};
 ghost use Rattle.std.specs.Iterator.SizeHint.{IsWithinCount};
-ghost use Rattle.std.specs.Prelude.{◌≡◌, pos, IfSome, Some, length};
+ghost use Rattle.std.specs.Prelude.{◌≡◌, ◌<◌, ◌++◌, [], pos, IfSome, MatchOption, Some, drop, length};
+ghost use Rattle.ndarray_layout.specs.Rows.{row_places};
 ghost use Rattle.ndarray_layout.specs.View.{IsView, view_of, view_places};
 
 use crate::strided::Strided;
-use crate::strided::places::offset_place;
-use crate::strided::rows::Rows;
-use nd_base::{Lengths, Order};
+use crate::strided::places::{offset_place, place_along_axis};
+use crate::strided::rows::{Row, Rows};
+use nd_base::{Lengths, Order, unsigned};
 use std::iter::FusedIterator;
 use std::marker::Model;
 
@@ -44,6 +45,61 @@ impl<'a> Places<'a> {
             place: 0,
             left: 0,
             stride: 0,
+        }
+    }
+
+    /// The places that come next and lie evenly, at once: what is left of the row in progress, or else the next row;
+    /// `None` after the last place.
+    ///
+    /// Takes no memory. Costs as much as a place.
+    ///
+    /// Of the places of `[2,3]` with strides `[5,1]` from 0, after one place: the row of 1 2, and then that of 5 6 7.
+    /// The project's own.
+    pub fn next_row(&mut self) -> Option<Row>
+        ensures { MatchOption result ((self.old ≡ []) × (self.new ≡ [])) (λ row. (0 < row.len)
+            × (self.old ≡ row_places row.start row.stride row.len ++ self.new)) }
+    {
+        if self.left == 0 {
+            let row = self.rows.next()?;
+            return Some(row);
+        }
+        let row = Row {
+            start: offset_place(self.place, self.stride),
+            stride: self.stride,
+            len: self.left,
+        };
+        self.left = 0;
+        Some(row)
+    }
+
+    /// Leaves out so many places, or all where fewer are left: the next one is the one that comes after them.
+    ///
+    /// Takes no memory. Costs a division and two products for each axis, however many places are left out.
+    ///
+    /// Of the places of `[2,3]` with strides `[5,1]` from 0, after 4 places: 6 7. What `nth` of std's iterators leaves
+    /// out one by one.
+    pub fn advance(&mut self, count: usize)
+        ensures { self.new ≡ drop count self.old }
+    {
+        if count <= self.left {
+            self.place = place_along_axis(self.place, count, unsigned(self.stride));
+            self.left -= count;
+            return;
+        }
+        let (count, len) = (count - self.left, self.rows.row_len());
+        self.left = 0;
+        if len == 0 {
+            return;
+        }
+        self.rows.advance(count / len);
+        let in_row = count % len;
+        if in_row == 0 {
+            return;
+        }
+        if let Some(row) = self.rows.next() {
+            self.place = place_along_axis(row.start, in_row - 1, unsigned(row.stride));
+            self.stride = row.stride;
+            self.left = len - in_row;
         }
     }
 }

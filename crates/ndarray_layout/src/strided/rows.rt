@@ -3,7 +3,7 @@ ghost use Rattle.std.specs.Iterator.{UpTo, YieldsFirst, item_count};
 ghost use Rattle.std.specs.Iterator.Runs.{YieldsInOrder};
 ghost use Rattle.std.specs.Iterator.SizeHint.{IsWithinCount};
 ghost use Rattle.std.specs.List.{All};
-ghost use Rattle.std.specs.Prelude.{◌≡◌, ◌==◌, ◌-◌, ◌*◌, ◌<◌, ◌^◌, pos, ◌+ℤ◌, [], if◌then◌else◌, ◌||◌, IfSome, MatchOption, Some, length};
+ghost use Rattle.std.specs.Prelude.{◌≡◌, ◌==◌, ◌-◌, ◌*◌, ◌<◌, ◌^◌, pos, ◌+ℤ◌, [], if◌then◌else◌, drop, IfSome, MatchOption, Some, length};
 ghost use Rattle.nd_base.specs.FlatIndex.{index_of_flat_in};
 ghost use Rattle.nd_base.specs.Offset.{offset_of};
 ghost use Rattle.nd_base.specs.Signed.{all_signed};
@@ -15,6 +15,7 @@ ghost use Rattle.ndarray_layout.specs.RowsLeft.{axis_view, row_place};
 ghost use Rattle.ndarray_layout.specs.private.Fastest.{EndsIn, HasRows, HasPlaces, IsColumn};
 
 use crate::strided::Strided;
+use crate::strided::nth_row::start_of_row;
 use crate::strided::places::offset_place;
 use nd_base::{Lengths, Order, signed, stride_offset};
 use nd_dim::product;
@@ -101,16 +102,17 @@ fn longer_axis<'a>(order: Order, lens: &'a [usize], strides: &'a [usize]) -> Fas
     }
 }
 
-/// How many columns there are: one for each index of the axes that move slower than a column. None where rows, which
-/// have this length, have no place, or where a column has no row.
-fn count_of_columns(len: usize, column: &Fastest<'_>) -> usize
-    requires { size column.now.lens.now < 2 ^ 64 }
-    ensures { result ≡ (if len == 0 || column.now.len == 0 then 0 else size column.now.lens.now) }
+/// How many rows begin at the places of a column and of the axes that move slower: none where rows of this length have no
+/// place.
+fn count_of_rows(len: usize, column: &Fastest<'_>) -> usize
+    requires all { column.now.len * size column.now.lens.now < 2 ^ 64 }
+    requires lens { size column.now.lens.now < 2 ^ 64 }
+    ensures { result ≡ (if len == 0 then 0 else column.now.len * size column.now.lens.now) }
 {
-    if len == 0 || column.len == 0 {
+    if len == 0 {
         return 0;
     }
-    product(column.lens)
+    column.len * product(column.lens)
 }
 
 /// How far the index at a flat index lies from the one before it: a stride along the fastest axis that was not at its
@@ -167,11 +169,13 @@ pub struct Rows<'a> {
     // The row that came last.
     row: Row,
     // Of the axes that move slower than the rows, the fastest: rows that follow one another along it are a column. How
-    // many are left of the column of the last row, how many columns have begun, and how many are left.
+    // many rows are left of the last column that has begun, how many columns have begun, and how many rows these have.
     column: Fastest<'a>,
     left_in_column: usize,
     columns: usize,
-    columns_left: usize,
+    begun: usize,
+    // The number after that of the last row that is left.
+    end: usize,
     // The place of the first row.
     start: usize,
 }
@@ -179,15 +183,15 @@ pub struct Rows<'a> {
 impl<'a> Model for Rows<'a> {
     ghost use Rattle.std.specs.Prelude.{List};
     ghost use Rattle.ndarray_layout.specs.declared.strided.rows.Row.{Row};
-    ghost use Rattle.ndarray_layout.specs.RowsLeft.{AreRowsLeft, count_of_rows, rows_left};
+    ghost use Rattle.ndarray_layout.specs.RowsLeft.{AreRowsLeft, count_given, count_left, rows_left};
 
     ghost Value = { List Row };
 
     ghost view = { λ rows. rows_left rows.order rows.start rows.column rows.row
-        (count_of_rows rows.column rows.left_in_column rows.columns_left) };
+        (count_given rows.begun rows.left_in_column) (count_left rows.end rows.begun rows.left_in_column) };
 
     ghost invariant = { λ rows. AreRowsLeft rows.order rows.start rows.column rows.row
-        rows.left_in_column rows.columns rows.columns_left };
+        rows.left_in_column rows.columns rows.begun rows.end };
 }
 
 impl<'a> Rows<'a> {
@@ -197,7 +201,7 @@ impl<'a> Rows<'a> {
         ensures { result ≡ view_rows order (axis_view order start axis.entry) }
     {
         let column = longer_axis(order, axis.lens, axis.strides);
-        let columns_left = count_of_columns(axis.len, &column);
+        let end = count_of_rows(axis.len, &column);
         Rows {
             order,
             row: Row {
@@ -208,7 +212,8 @@ impl<'a> Rows<'a> {
             column,
             left_in_column: 0,
             columns: 0,
-            columns_left,
+            begun: 0,
+            end,
             start,
         }
     }
@@ -235,6 +240,38 @@ impl<'a> Rows<'a> {
         Rows::along(order, start, longer_axis(order, lens, strides))
     }
 
+    /// Leaves out so many rows, or all where fewer are left: the next one is the one that comes after them.
+    ///
+    /// Takes no memory. Costs a division and two products for each axis but that of the rows.
+    ///
+    /// Of the rows of `[4,2]` with strides `[2,1]` from 0, which begin at 0 2 4 6, after 3 rows: 6. What `nth` of std's
+    /// iterators leaves out one by one.
+    pub fn advance(&mut self, count: usize)
+        ensures { self.new ≡ drop count self.old }
+    {
+        if count >= self.len() {
+            self.begun = self.end;
+            self.left_in_column = 0;
+            return;
+        }
+        if count > 0 {
+            let number = self.begun - self.left_in_column + count;
+            let columns = (number - 1) / self.column.len + 1;
+            let begun = self.end.min(columns * self.column.len);
+            self.row.start = start_of_row(self.order, self.start, &self.column, number - 1);
+            self.columns = columns;
+            self.begun = begun;
+            self.left_in_column = begun - number;
+        }
+    }
+
+    /// How many places each row has; unspecified where none is left.
+    pub(super) fn row_len(&self) -> usize
+        ensures { All (λ row. row.len ≡ result) self.now }
+    {
+        self.row.len
+    }
+
     /// How many places the rows have that are left.
     pub(super) fn count_of_places(&self) -> usize
         ensures { result ≡ length (rows_places self.now) }
@@ -257,7 +294,8 @@ impl Iterator for Rows<'_> {
             self.row.start = offset_place(self.row.start, signed(self.column.stride));
             return Some(self.row);
         }
-        if self.columns_left == 0 {
+        let in_column = self.column.len.min(self.end - self.begun);
+        if in_column == 0 {
             return None;
         }
         self.row.start = first_of_column(
@@ -267,9 +305,9 @@ impl Iterator for Rows<'_> {
             self.columns,
             self.row.start,
         );
-        self.left_in_column = self.column.len - 1;
         self.columns += 1;
-        self.columns_left -= 1;
+        self.begun += in_column;
+        self.left_in_column = in_column - 1;
         Some(self.row)
     }
 
@@ -285,7 +323,7 @@ impl Iterator for Rows<'_> {
 
 impl ExactSizeIterator for Rows<'_> {
     fn len(&self) -> usize {
-        self.columns_left * self.column.len + self.left_in_column
+        self.end - self.begun + self.left_in_column
     }
 }
 

@@ -1,19 +1,19 @@
 // Made by `rust/erase` of `crates/ndarray_layout/src/strided/iter_places.rt`: edit that.
 //! The places of a view one after another, without a list of them.
 
-use crate::nd_base::{Lengths, Order};
+use crate::nd_base::{Lengths, Order, unsigned};
 use crate::ndarray_layout::strided::Strided;
-use crate::ndarray_layout::strided::places::offset_place;
-use crate::ndarray_layout::strided::rows::Rows;
+use crate::ndarray_layout::strided::places::{offset_place, place_along_axis};
+use crate::ndarray_layout::strided::rows::{Row, Rows};
 use core::iter::FusedIterator;
 
 /// The places of a view that are still to come, in an order.
 pub struct Places<'a> {
-    pub(crate) rows: Rows<'a>,
+    rows: Rows<'a>,
     // The place that was given last, and how many are left after it in its row.
-    pub(crate) place: usize,
-    pub(crate) left: usize,
-    pub(crate) stride: isize,
+    place: usize,
+    left: usize,
+    stride: isize,
 }
 
 impl<'a> Places<'a> {
@@ -30,6 +30,103 @@ impl<'a> Places<'a> {
     #[inline]
     fn new(order: Order, start: usize, lens: &'a [usize], strides: &'a [usize]) -> Self {
         Places { rows: Rows::of_places(order, start, lens, strides), place: 0, left: 0, stride: 0 }
+    }
+
+    /// The places that come next and lie evenly, at once: what is left of the row in progress, or else the next row;
+    /// `None` after the last place.
+    ///
+    /// Takes no memory. Costs as much as a place.
+    ///
+    /// Of the places of `[2,3]` with strides `[5,1]` from 0, after one place: the row of 1 2, and then that of 5 6 7.
+    /// The project's own.
+    ///
+    /// # Examples
+    ///
+    /// ```
+    /// use ndarray_layout::{CanIndexCheckMode, Ix2, LayoutError, Order, Row, Strided};
+    ///
+    /// # fn main() -> Result<(), LayoutError> {
+    /// let view = Strided::new(Ix2(2, 3), Ix2(5, 1), 1, 8, CanIndexCheckMode::ReadOnly)?;
+    /// let mut places = view.iter_places(Order::RowMajor);
+    /// assert_eq!(places.next(), Some(0));
+    /// let numbers = |row: Row| (row.start, row.stride, row.len);
+    /// assert_eq!(places.next_row().map(numbers), Some((1, 1, 2)));
+    /// assert_eq!(places.next_row().map(numbers), Some((5, 1, 3)));
+    /// assert!(places.next_row().is_none());
+    /// # Ok(())
+    /// # }
+    /// ```
+    ///
+    /// <details><summary>Contract (proved)</summary>
+    ///
+    /// ```text
+    /// ensures MatchOption result ((self.old ≡ []) × (self.new ≡ [])) (λ row. (0 < row.len)
+    ///     × (self.old ≡ row_places row.start row.stride row.len ++ self.new))
+    /// ```
+    /// [How to read it](crate::contracts)
+    /// </details>
+    #[inline]
+    #[must_use]
+    pub fn next_row(&mut self) -> Option<Row> {
+        if self.left == 0 {
+            let row = self.rows.next()?;
+            return Some(row);
+        }
+        let row = Row { start: offset_place(self.place, self.stride), stride: self.stride, len: self.left };
+        self.left = 0;
+        Some(row)
+    }
+
+    /// Leaves out so many places, or all where fewer are left: the next one is the one that comes after them.
+    ///
+    /// Takes no memory. Costs a division and two products for each axis, however many places are left out.
+    ///
+    /// Of the places of `[2,3]` with strides `[5,1]` from 0, after 4 places: 6 7. What `nth` of std's iterators leaves
+    /// out one by one.
+    ///
+    /// # Examples
+    ///
+    /// ```
+    /// use ndarray_layout::{CanIndexCheckMode, Ix2, LayoutError, Order, Strided};
+    ///
+    /// # fn main() -> Result<(), LayoutError> {
+    /// let view = Strided::new(Ix2(2, 3), Ix2(5, 1), 1, 8, CanIndexCheckMode::ReadOnly)?;
+    /// let mut places = view.iter_places(Order::RowMajor);
+    /// places.advance(4);
+    /// assert!(places.eq([6, 7]));
+    /// # Ok(())
+    /// # }
+    /// ```
+    ///
+    /// <details><summary>Contract (proved)</summary>
+    ///
+    /// ```text
+    /// ensures self.new ≡ drop count self.old
+    /// ```
+    /// [How to read it](crate::contracts)
+    /// </details>
+    #[inline]
+    pub fn advance(&mut self, count: usize) {
+        if count <= self.left {
+            self.place = place_along_axis(self.place, count, unsigned(self.stride));
+            self.left -= count;
+            return;
+        }
+        let (count, len) = (count - self.left, self.rows.row_len());
+        self.left = 0;
+        if len == 0 {
+            return;
+        }
+        self.rows.advance(count / len);
+        let in_row = count % len;
+        if in_row == 0 {
+            return;
+        }
+        if let Some(row) = self.rows.next() {
+            self.place = place_along_axis(row.start, in_row - 1, unsigned(row.stride));
+            self.stride = row.stride;
+            self.left = len - in_row;
+        }
     }
 }
 

@@ -4,6 +4,7 @@
 use crate::nd_base::{Lengths, Order, signed, stride_offset};
 use crate::nd_dim::product;
 use crate::ndarray_layout::strided::Strided;
+use crate::ndarray_layout::strided::nth_row::start_of_row;
 use crate::ndarray_layout::strided::places::offset_place;
 use core::iter::FusedIterator;
 
@@ -93,23 +94,24 @@ fn longer_axis<'a>(order: Order, lens: &'a [usize], strides: &'a [usize]) -> Fas
     Fastest { len: 1, stride: 0, lens, strides }
 }
 
-/// How many columns there are: one for each index of the axes that move slower than a column. None where rows, which
-/// have this length, have no place, or where a column has no row.
+/// How many rows begin at the places of a column and of the axes that move slower: none where rows of this length have no
+/// place.
 ///
 /// <details><summary>Contract (proved)</summary>
 ///
 /// ```text
-/// requires size column.now.lens.now < 2 ^ 64
-/// ensures result ≡ (if len == 0 || column.now.len == 0 then 0 else size column.now.lens.now)
+/// requires all: column.now.len * size column.now.lens.now < 2 ^ 64
+/// requires lens: size column.now.lens.now < 2 ^ 64
+/// ensures result ≡ (if len == 0 then 0 else column.now.len * size column.now.lens.now)
 /// ```
 /// [How to read it](crate::contracts)
 /// </details>
 #[inline]
-fn count_of_columns(len: usize, column: &Fastest<'_>) -> usize {
-    if len == 0 || column.len == 0 {
+fn count_of_rows(len: usize, column: &Fastest<'_>) -> usize {
+    if len == 0 {
         return 0;
     }
-    product(column.lens)
+    column.len * product(column.lens)
 }
 
 /// How far the index at a flat index lies from the one before it: a stride along the fastest axis that was not at its
@@ -166,17 +168,19 @@ fn first_of_column(order: Order, start: usize, column: &Fastest<'_>, number: usi
 
 /// The rows of a view that are still to come, in an order.
 pub struct Rows<'a> {
-    pub(crate) order: Order,
+    order: Order,
     // The row that came last.
-    pub(crate) row: Row,
+    row: Row,
     // Of the axes that move slower than the rows, the fastest: rows that follow one another along it are a column. How
-    // many are left of the column of the last row, how many columns have begun, and how many are left.
-    pub(crate) column: Fastest<'a>,
-    pub(crate) left_in_column: usize,
-    pub(crate) columns: usize,
-    pub(crate) columns_left: usize,
+    // many rows are left of the last column that has begun, how many columns have begun, and how many rows these have.
+    column: Fastest<'a>,
+    left_in_column: usize,
+    columns: usize,
+    begun: usize,
+    // The number after that of the last row that is left.
+    end: usize,
     // The place of the first row.
-    pub(crate) start: usize,
+    start: usize,
 }
 
 impl<'a> Rows<'a> {
@@ -193,14 +197,15 @@ impl<'a> Rows<'a> {
     #[inline]
     fn along(order: Order, start: usize, axis: Fastest<'a>) -> Self {
         let column = longer_axis(order, axis.lens, axis.strides);
-        let columns_left = count_of_columns(axis.len, &column);
+        let end = count_of_rows(axis.len, &column);
         Rows {
             order,
             row: Row { start, stride: signed(axis.stride), len: axis.len },
             column,
             left_in_column: 0,
             columns: 0,
-            columns_left,
+            begun: 0,
+            end,
             start,
         }
     }
@@ -236,6 +241,66 @@ impl<'a> Rows<'a> {
         Rows::along(order, start, longer_axis(order, lens, strides))
     }
 
+    /// Leaves out so many rows, or all where fewer are left: the next one is the one that comes after them.
+    ///
+    /// Takes no memory. Costs a division and two products for each axis but that of the rows.
+    ///
+    /// Of the rows of `[4,2]` with strides `[2,1]` from 0, which begin at 0 2 4 6, after 3 rows: 6. What `nth` of std's
+    /// iterators leaves out one by one.
+    ///
+    /// # Examples
+    ///
+    /// ```
+    /// use ndarray_layout::{CanIndexCheckMode, Ix2, LayoutError, Order, Strided};
+    ///
+    /// # fn main() -> Result<(), LayoutError> {
+    /// let view = Strided::from_shape(Ix2(4, 2).into(), 1, 8, CanIndexCheckMode::ReadOnly)?;
+    /// let mut rows = view.rows(Order::RowMajor);
+    /// rows.advance(3);
+    /// assert!(rows.map(|row| row.start).eq([6]));
+    /// # Ok(())
+    /// # }
+    /// ```
+    ///
+    /// <details><summary>Contract (proved)</summary>
+    ///
+    /// ```text
+    /// ensures self.new ≡ drop count self.old
+    /// ```
+    /// [How to read it](crate::contracts)
+    /// </details>
+    #[inline]
+    pub fn advance(&mut self, count: usize) {
+        if count >= self.len() {
+            self.begun = self.end;
+            self.left_in_column = 0;
+            return;
+        }
+        if count > 0 {
+            let number = self.begun - self.left_in_column + count;
+            let columns = (number - 1) / self.column.len + 1;
+            let begun = self.end.min(columns * self.column.len);
+            self.row.start = start_of_row(self.order, self.start, &self.column, number - 1);
+            self.columns = columns;
+            self.begun = begun;
+            self.left_in_column = begun - number;
+        }
+    }
+
+    /// How many places each row has; unspecified where none is left.
+    ///
+    /// <details><summary>Contract (proved)</summary>
+    ///
+    /// ```text
+    /// ensures All (λ row. row.len ≡ result) self.now
+    /// ```
+    /// [How to read it](crate::contracts)
+    /// </details>
+    #[inline]
+    pub(super) fn row_len(&self) -> usize {
+        self.row.len
+    }
+
     /// How many places the rows have that are left.
     ///
     /// <details><summary>Contract (proved)</summary>
@@ -261,13 +326,14 @@ impl Iterator for Rows<'_> {
             self.row.start = offset_place(self.row.start, signed(self.column.stride));
             return Some(self.row);
         }
-        if self.columns_left == 0 {
+        let in_column = self.column.len.min(self.end - self.begun);
+        if in_column == 0 {
             return None;
         }
         self.row.start = first_of_column(self.order, self.start, &self.column, self.columns, self.row.start);
-        self.left_in_column = self.column.len - 1;
         self.columns += 1;
-        self.columns_left -= 1;
+        self.begun += in_column;
+        self.left_in_column = in_column - 1;
         Some(self.row)
     }
 
@@ -281,7 +347,7 @@ impl Iterator for Rows<'_> {
 impl ExactSizeIterator for Rows<'_> {
     #[inline]
     fn len(&self) -> usize {
-        self.columns_left * self.column.len + self.left_in_column
+        self.end - self.begun + self.left_in_column
     }
 }
 

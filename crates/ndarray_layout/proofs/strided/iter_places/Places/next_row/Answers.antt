@@ -1,0 +1,44 @@
+-- What is left of the row that has begun is a row, and without one the next row is.
+use Rattle.std.proofs.Common.{◌≡◌, ◌++◌, ◌-◌, pos, ◌+ℤ◌, drop, of_z, to_z, w64, refl, sym, ap, ◌∙◌, arith}
+use Rattle.std.proofs.lemmas.Int.{ints}
+use Rattle.ndarray_layout.specs.Rows.{row_places, rows_places}
+use Rattle.ndarray_layout.proofs.ByRows.{row_from}
+use Rattle.ndarray_layout.proofs.LaterPlaces.{left_after_row, left_past, past_row, row_first_of}
+use Rattle.ndarray_layout.proofs.RowSteps.{after, bounds_of_place, left_after_end, next_in_bounds, some_in_row}
+use Rattle.ndarray_layout.proofs.strided.iter_places.Places.next_row.Goals as goal
+
+pub offset_place-requires-clause-there : goal.offset_place-requires-clause-there
+offset_place-requires-clause-there c =
+    let bounds = bounds_of_place _ (next_in_bounds c.self.invariant (omega (arith, c.if-self-eq0.false))) in
+    (omega (arith, ints, bounds.0), omega (arith, ints, bounds.1))
+
+pub invariant_of-self-2 : goal.invariant_of-self-2
+invariant_of-self-2 c =
+    let places = c.self.inside in
+    let none : places.left - places.left ≡ 0 = omega arith in
+    left_past c.self.invariant places.left 0 refl
+    (past_row c.self.invariant places.left (omega arith) ∙ ap (λ n. drop n (rows_places places.rows)) none)
+
+pub returns : goal.returns
+returns c =
+    let places = c.self.inside in
+    let at : pos c.offset_place.result ≡ pos places.place +ℤ places.stride = omega (arith, ints, c.offset_place.ensures) in
+    let steps : places.stride ≡ to_z w64 (of_z w64 places.stride) = omega (arith, ints) in (
+      omega (arith, c.if-self-eq0.false),
+      sym c.self.view_is
+          ∙ after places.place places.stride places.left places.rows
+          ∙ ap (λ z. row_from z places.stride places.left ++ rows_places places.rows) (sym at)
+          ∙ ap (λ s. row_places c.offset_place.result s places.left ++ rows_places places.rows) steps,
+    )
+
+pub invariant_of-self : goal.invariant_of-self
+invariant_of-self c = left_after_end c.self.invariant c.if-self-eq0.true c.in_err-row.ensures.steps.1
+
+pub invariant_of-self-then-self-eq0 : goal.invariant_of-self-then-self-eq0
+invariant_of-self-then-self-eq0 c = left_after_row c.self.invariant c.if-self-eq0.true c.in_ok-row.ensures.steps
+
+pub returns-then-self-eq0 : goal.returns-then-self-eq0
+returns-then-self-eq0 c = (
+  some_in_row c.self.invariant c.in_ok-row.ensures.steps,
+  sym c.self.view_is ∙ row_first_of c.self.invariant c.if-self-eq0.true c.in_ok-row.ensures.steps,
+)
