@@ -7,8 +7,10 @@ pub mod ByRows
 pub mod CroppedAxes
 pub mod Fastest
 pub mod FromStart
+pub mod JoinedAxis
 pub mod KeptRows
 pub mod LaterPlaces
+pub mod LongestRow
 pub mod MarkedAxes
 pub mod Merged
 pub mod NextRow

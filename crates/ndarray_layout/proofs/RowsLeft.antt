@@ -18,8 +18,8 @@ use Rattle.ndarray_layout.specs.View.{IsView, view_of, view_places}
 use Rattle.ndarray_layout.specs.RowsLeft.{AreRowsLeft, axis_view, count_given, count_left, moved_to, rows_left, with_item}
 use Rattle.ndarray_layout.specs.private.Fastest.{EndsIn, HasPlaces, HasRows}
 use Rattle.ndarray_layout.proofs.ByRows.{rows_from}
-use Rattle.ndarray_layout.proofs.Fastest.{EndsIn-map, IsView-others, fastest_item-ends, length-others}
-use Rattle.ndarray_layout.proofs.Fastest.{places-others, size-others, slower_items-ends}
+use Rattle.ndarray_layout.proofs.Fastest.{EndsIn-map, IsView-others, fastest_item-ends}
+use Rattle.ndarray_layout.proofs.Fastest.{size-others, slower_items-ends}
 use Rattle.ndarray_layout.proofs.laws.Rows.{no_step}
 use Rattle.ndarray_layout.proofs.laws.View.{length-view_places}
 
@@ -30,13 +30,6 @@ pub axis_view-ends : {order : Order} {lens strides : List ℕ} (axis : Fastest) 
 axis_view-ends {order} {lens} {strides} axis start e g =
     ap (λ xs. view_of start xs strides) e.is
     ∙ ap (view_of start (with_item order axis.lens.now axis.len)) g.is
-
-pub HasPlaces-ends : {order : Order} {lens strides : List ℕ} (axis : Fastest) → EndsIn order lens axis.lens.now axis.len
-    → EndsIn order strides axis.strides.now axis.stride → HasPlaces order lens strides axis
-HasPlaces-ends {order} axis e g = record {
-  is_view = λ start v. subst IsView (axis_view-ends axis start e g) v;
-  places = λ start v. ap (view_places order) (sym (axis_view-ends axis start e g));
-}
 
 pub HasRows-ends : {order : Order} {lens strides : List ℕ} (axis : Fastest) → EndsIn order lens axis.lens.now axis.len
     → EndsIn order strides axis.strides.now axis.stride → HasRows order lens strides axis
@@ -60,10 +53,6 @@ point_is_view start fits = record {
   high = omega (arith, fits);
 }
 
-point_places : (order : Order) (start : ℕ) → view_places order (view_of start (1 ∷ []) (0 ∷ [])) ≡ view_places order (view_of start [] [])
-point_places RowMajor start = refl
-point_places ColumnMajor start = refl
-
 point_rows : (order : Order) (start : ℕ) → view_rows order (view_of start (1 ∷ []) (0 ∷ [])) ≡ view_rows order (view_of start [] [])
 point_rows RowMajor start = refl
 point_rows ColumnMajor start = refl
@@ -78,13 +67,6 @@ module _ (order : Order) (lens strides : List ℕ) (axis : Fastest) (point : IsP
   point_here : (start : ℕ) → IsView (view_of start lens strides) → IsView (axis_view order start axis)
   point_here start v = subst IsView (sym (point_view order start axis point)) (point_is_view start (omega (arith, v.high)))
 
-  pub HasPlaces-point : HasPlaces order lens strides axis
-  HasPlaces-point = record {
-    is_view = point_here;
-    places = λ start v. ap (view_places order) (point_view order start axis point) ∙ point_places order start
-        ∙ sym (ap (view_places order) (nothing start));
-  }
-
   pub HasRows-point : HasRows order lens strides axis
   HasRows-point = record {
     is_view = point_here;
@@ -93,42 +75,10 @@ module _ (order : Order) (lens strides : List ℕ) (axis : Fastest) (point : IsP
   }
 
 -- ---- an axis of length 1 moves no place
-rows_of_one : (stride : ℤ) (places : List ℤ) → rows_from stride 1 places ≡ places
+pub rows_of_one : (stride : ℤ) (places : List ℤ) → rows_from stride 1 places ≡ places
 rows_of_one stride [] = refl
 rows_of_one stride (place ∷ places) =
     ap (λ z. z ∷ rows_from stride 1 places) (no_step place stride) ∙ ap (λ others. place ∷ others) (rows_of_one stride places)
-
-pub record IsWithoutOnes (order : Order) (lens strides fewer others : List ℕ) : Type 0 where
-  pub counts : length fewer ≡ length others
-  pub same : (start : ℕ) → IsView (view_of start lens strides)
-      → IsView (view_of start fewer others)
-      × (view_places order (view_of start fewer others) ≡ view_places order (view_of start lens strides))
-
-pub all_axes : (order : Order) (lens strides : List ℕ) → length lens ≡ length strides → IsWithoutOnes order lens strides lens strides
-all_axes order lens strides counts = record { counts = counts; same = λ start v. (v, refl) }
-
-module _ {order : Order} {lens strides fewer others : List ℕ} (without : IsWithoutOnes order lens strides fewer others)
-    (axis : Fastest) where
-  pub without_one : EndsIn order fewer axis.lens.now axis.len → EndsIn order others axis.strides.now axis.stride → axis.len ≡ 1
-      → IsWithoutOnes order lens strides axis.lens.now axis.strides.now
-  without_one e g one = record {
-    counts = omega (arith, length-others e, length-others g, without.counts);
-    same = λ start v.
-        let known = without.same start v in
-        let signs = EndsIn-map signed g in (
-          IsView-others order e signs known.0,
-          sym (rows_of_one (signed axis.stride) (view_places order (view_of start axis.lens.now axis.strides.now)))
-              ∙ ap (λ n. rows_from (signed axis.stride) n (view_places order (view_of start axis.lens.now axis.strides.now))) (sym one)
-              ∙ sym (places-others order e signs known.0)
-              ∙ known.1,
-        );
-  }
-
-  pub HasPlaces-without : HasPlaces order fewer others axis → HasPlaces order lens strides axis
-  HasPlaces-without has = record {
-    is_view = λ start v. has.is_view start (without.same start v).0;
-    places = λ start v. has.places start (without.same start v).0 ∙ (without.same start v).1;
-  }
 
 -- ---- the rows along an axis, from the places of the others
 module _ (order : Order) (start : ℕ) (axis : Fastest) where

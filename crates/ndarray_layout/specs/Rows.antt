@@ -2,6 +2,10 @@
 use Rattle.std.specs.Prelude.{◌≡◌, ℕ, ◌-◌, ◌==◌, ℤ, pos, negsuc, ◌+ℤ◌, ◌*ℤ◌, List, [], ◌∷◌, if◌then◌else◌, length, map, take, drop}
 use Rattle.std.specs.Prelude.{Some, None, slice_get, slice_index_or, refl}
 use Rattle.std.specs.Option.{option_map}
+use Rattle.std.specs.Ordering.{int_eq}
+use Rattle.std.proofs.Common.{ap}
+use Rattle.std.proofs.lemmas.Bool.{both_ways}
+use Rattle.std.proofs.lemmas.Bool.Decides.{Decides-int_eq}
 use Rattle.std.specs.List.{flat_map}
 use Rattle.nd_base.specs.declared.order.Order.{Order}
 use Rattle.nd_base.specs.declared.order.Order.TheVariants.{RowMajor, ColumnMajor}
@@ -50,6 +54,10 @@ abbrev pub view_rows : Order → View → List Row
 view_rows order view =
     (if size view.shape == 0 then [] else map (row_at order view) (view_places order (slower_view order view)))
 
+-- places begin as a row does: its places come first, one after another
+abbrev pub BeginsAsRow : List ℤ → Row → Type 0
+BeginsAsRow places row = take row.len places ≡ row_places row.start row.stride row.len
+
 -- a row as a view of one axis
 abbrev pub row_view : Row → View
 row_view row = record { start = row.start; shape = row.len ∷ []; strides = row.stride ∷ [] }
@@ -88,3 +96,14 @@ of_no_index = refl
 
 all_of_them : rows_places (view_rows ColumnMajor two_of_three) ≡ view_places ColumnMajor two_of_three
 all_of_them = refl
+
+-- of the places of two rows that lie apart those of the first one lie evenly, and no more
+one_of_two : BeginsAsRow (pos 0 ∷ pos 3 ∷ pos 1 ∷ pos 4 ∷ []) (record { start = 0; stride = pos 3; len = 2 })
+one_of_two = refl
+
+no_places_begin : BeginsAsRow (pos 5 ∷ []) (record { start = 0; stride = pos 1; len = 0 })
+no_places_begin = refl
+
+not_three : BeginsAsRow (pos 0 ∷ pos 3 ∷ pos 1 ∷ []) (record { start = 0; stride = pos 3; len = 3 }) → ⊥
+not_three begins =
+    both_ways (int_eq (pos 1) (pos 6)) refl ((Decides-int_eq (pos 1) (pos 6)).1 (ap (λ xs. slice_index_or xs 2 (pos 0)) begins))

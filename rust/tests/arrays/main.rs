@@ -8,6 +8,7 @@ mod folded;
 mod indexing;
 mod iterated;
 mod iterated_mut;
+mod joined;
 mod layouts;
 mod memory;
 #[allow(dead_code)]

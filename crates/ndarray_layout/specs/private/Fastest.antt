@@ -1,11 +1,14 @@
 -- Words of private contracts alone, of the calls below `Strided::rows`: the axis of a layout that moves fastest.
-use Rattle.std.specs.Prelude.{◌≡◌, ℕ, ◌<◌, List, [], ◌∷◌, nat_eq, slice_index, refl}
-use Rattle.std.proofs.Common.{ap, eq-eqb}
+use Rattle.std.specs.Prelude.{◌≡◌, ℕ, ◌<◌, pos, ◌*ℤ◌, List, [], ◌∷◌, nat_eq, slice_index, refl}
+use Rattle.std.proofs.Common.{ap, eq-eqb, sym, ◌∙◌}
 use Rattle.std.proofs.Math.Nat.{lt_irrefl}
 use Rattle.std.proofs.lemmas.Bool.{both_ways}
 use Rattle.nd_base.specs.declared.order.Order.{Order}
 use Rattle.nd_base.specs.declared.order.Order.TheVariants.{RowMajor, ColumnMajor}
+use Rattle.nd_base.specs.Signed.{signed}
 use Rattle.nd_base.specs.Size.{size}
+use Rattle.nd_shape.specs.Merge.{MergeFits}
+use Rattle.nd_shape.proofs.laws.Merge.{steps_on}
 use Rattle.ndarray_layout.specs.declared.strided.rows.Fastest.{Fastest}
 use Rattle.ndarray_layout.specs.Rows.{view_rows}
 use Rattle.ndarray_layout.specs.RowsLeft.{axis_view, with_item}
@@ -27,6 +30,11 @@ pub record HasPlaces (order : Order) (lens strides : List ℕ) (axis : Fastest) 
   pub places : (start : ℕ) → IsView (view_of start lens strides)
       → view_places order (axis_view order start axis) ≡ view_places order (view_of start lens strides)
 
+-- of the axes that move slower the fastest one doesn't go on where this axis ends: no stride has the coordinates of both
+pub record NoneGoesOn (order : Order) (axis : Fastest) : Type 0 where
+  pub alone : (lens strides : List ℕ) (len stride : ℕ) → EndsIn order axis.lens.now lens len → EndsIn order axis.strides.now strides stride
+      → MergeFits len (signed stride) axis.len (signed axis.stride) → ⊥
+
 -- of the rows that begin at the places of a view, the column of this number
 pub record IsColumn (order : Order) (start : ℕ) (column : Fastest) (number : ℕ) : Type 0 where
   pub is_view : IsView (axis_view order start column)
@@ -42,6 +50,13 @@ first_by_columns = record { is = refl }
 
 not_the_first_by_rows : EndsIn {A = ℕ} RowMajor (2 ∷ 3 ∷ []) (3 ∷ []) 2 → ⊥
 not_the_first_by_rows ends = both_ways (nat_eq 2 3) refl (eq-eqb 2 3 (ap (λ items. slice_index items 0) ends.is))
+
+pixels_go_on : (axis : Fastest) → axis.lens.now ≡ 2 ∷ [] → axis.strides.now ≡ 3 ∷ [] → axis.len ≡ 3 → axis.stride ≡ 1
+    → NoneGoesOn RowMajor axis → ⊥
+pixels_go_on axis lens strides len stride none =
+    let on = sym (ap (λ n. pos n *ℤ signed axis.stride) len ∙ ap (λ s. pos 3 *ℤ signed s) stride) in
+    none.alone [] [] 2 3 (record { is = lens }) (record { is = strides })
+    (signed axis.stride, steps_on 2 (signed 3) axis.len (signed axis.stride) on)
 
 past_the_last_column : (column : Fastest) → IsColumn RowMajor 0 column (size column.lens.now) → ⊥
 past_the_last_column column is = lt_irrefl (size column.lens.now) is.below

@@ -147,8 +147,9 @@ impl<D: Lengths> Strided<D> {
     /// An iterator over the places of all indices, in row-major order (the last axis moves fastest) or in
     /// column-major order (the first one does), which knows how many are left.
     ///
-    /// Takes no memory. A place costs an addition. Past the end of the two fastest axes of other lengths than 1 it
-    /// costs a division for the third one as well, and for the axis after each one that is at its end too.
+    /// Takes no memory. A place costs an addition. Axes that lie evenly together count as one (`joined_rows`): past the end
+    /// of the two fastest it costs a division for the third one as well, and for the axis after each one that is at its
+    /// end too.
     ///
     /// `[2,3]` with strides `[-3,1]` from 3: 3 4 5 0 1 2 in row-major order, 3 0 4 1 5 2 in column-major
     /// order. The project's own, in place of a loop of ndarray's `next_for` and `stride_offset`.

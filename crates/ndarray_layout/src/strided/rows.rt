@@ -3,22 +3,24 @@ ghost use Rattle.std.specs.Iterator.{UpTo, YieldsFirst, item_count};
 ghost use Rattle.std.specs.Iterator.Runs.{YieldsInOrder};
 ghost use Rattle.std.specs.Iterator.SizeHint.{IsWithinCount};
 ghost use Rattle.std.specs.List.{All};
-ghost use Rattle.std.specs.Prelude.{◌≡◌, ◌==◌, ◌-◌, ◌*◌, ◌<◌, ◌^◌, pos, ◌+ℤ◌, [], if◌then◌else◌, drop, IfSome, MatchOption, Some, length};
+ghost use Rattle.std.specs.Prelude.{◌≡◌, ◌==◌, ◌-◌, ◌*◌, ◌<◌, ◌≤◌, ◌^◌, pos, ◌+ℤ◌, [], if◌then◌else◌, drop, length};
+ghost use Rattle.std.specs.Prelude.{IfSome, MatchOption, Some};
 ghost use Rattle.nd_base.specs.FlatIndex.{index_of_flat_in};
 ghost use Rattle.nd_base.specs.Offset.{offset_of};
 ghost use Rattle.nd_base.specs.Signed.{all_signed};
 ghost use Rattle.nd_base.specs.Size.{size};
 ghost use Rattle.nd_base.specs.ValidLayout.{IsValidLayout};
-ghost use Rattle.ndarray_layout.specs.Rows.{rows_places, view_rows};
+ghost use Rattle.ndarray_layout.specs.Rows.{BeginsAsRow, rows_places, view_rows};
 ghost use Rattle.ndarray_layout.specs.View.{IsView, view_of, view_places};
 ghost use Rattle.ndarray_layout.specs.RowsLeft.{axis_view, row_place};
-ghost use Rattle.ndarray_layout.specs.private.Fastest.{EndsIn, HasRows, HasPlaces, IsColumn};
+ghost use Rattle.ndarray_layout.specs.private.Fastest.{EndsIn, HasRows, HasPlaces, IsColumn, NoneGoesOn};
 
 use crate::strided::Strided;
 use crate::strided::nth_row::start_of_row;
 use crate::strided::places::offset_place;
 use nd_base::{Lengths, Order, signed, stride_offset};
 use nd_dim::product;
+use nd_shape::goes_on;
 use std::iter::FusedIterator;
 use std::marker::Model;
 
@@ -81,25 +83,35 @@ pub(super) fn fastest_axis<'a>(order: Order, lens: &'a [usize], strides: &'a [us
     }
 }
 
-/// The axis that moves fastest of those with another length than 1, or one of length 1 where there is none: the axes
-/// that are left out move no place.
-fn longer_axis<'a>(order: Order, lens: &'a [usize], strides: &'a [usize]) -> Fastest<'a>
-    requires { length lens.now ≡ length strides.now }
-    ensures { HasPlaces order lens.now strides.now result }
+/// The axis that moves fastest, joined with each slower one that goes on where it ends: the places of the layout are those
+/// along it, from each place of the axes that are left. An axis of length 1 joins any.
+fn joined_axis<'a>(order: Order, lens: &'a [usize], strides: &'a [usize]) -> Fastest<'a>
+    requires { IsValidLayout lens.now (all_signed strides.now) }
+    ensures places { HasPlaces order lens.now strides.now result }
+    ensures joined { NoneGoesOn order result }
 {
-    let (mut lens, mut strides) = (lens, strides);
-    'axes: while let Some(axis) = split_fastest(order, lens, strides) {
-        if axis.len != 1 {
-            return axis;
-        }
-        (lens, strides) = (axis.lens, axis.strides);
-    }
-    Fastest {
+    let mut axis = Fastest {
         len: 1,
         stride: 0,
         lens,
         strides,
+    };
+    'axes: while let Some(next) = split_fastest(order, axis.lens, axis.strides) {
+        let mut stride = next.stride;
+        if axis.len > 1 {
+            if next.len > 1 && !goes_on(next.stride, axis.len, axis.stride) {
+                return axis;
+            }
+            stride = axis.stride;
+        }
+        axis = Fastest {
+            len: next.len * axis.len,
+            stride,
+            lens: next.lens,
+            strides: next.strides,
+        };
     }
+    axis
 }
 
 /// How many rows begin at the places of a column and of the axes that move slower: none where rows of this length have no
@@ -195,12 +207,14 @@ impl<'a> Model for Rows<'a> {
 }
 
 impl<'a> Rows<'a> {
+    ghost use Rattle.ndarray_layout.specs.declared.strided.rows.Row.{Row};
+
     /// The rows along the fastest axis of a view, from each place of its other axes.
     fn along(order: Order, start: usize, axis: Fastest<'a>) -> Self
         requires { IsView (axis_view order start axis) }
         ensures { result ≡ view_rows order (axis_view order start axis.entry) }
     {
-        let column = longer_axis(order, axis.lens, axis.strides);
+        let column = joined_axis(order, axis.lens, axis.strides);
         let end = count_of_rows(axis.len, &column);
         Rows {
             order,
@@ -226,7 +240,7 @@ impl<'a> Rows<'a> {
         Rows::along(order, start, fastest_axis(order, lens, strides))
     }
 
-    /// The places of a view as rows along an axis of length greater than 1, where it has one.
+    /// The places of a view as the longest rows that its axes allow.
     pub(super) fn of_places(
         order: Order,
         start: usize,
@@ -236,8 +250,10 @@ impl<'a> Rows<'a> {
         requires { IsView (view_of start lens.now strides.now) }
         ensures places { rows_places result ≡ view_places order (view_of start lens.now strides.now) }
         ensures some { All (λ row. 0 < row.len) result }
+        ensures longest { (other : Row) → BeginsAsRow (view_places order (view_of start lens.now strides.now)) other
+            → All (λ row. other.len ≤ row.len) result }
     {
-        Rows::along(order, start, longer_axis(order, lens, strides))
+        Rows::along(order, start, joined_axis(order, lens, strides))
     }
 
     /// Leaves out so many rows, or all where fewer are left: the next one is the one that comes after them.
@@ -340,7 +356,7 @@ impl<D: Lengths> Strided<D> {
     /// has one row, of one place; a view without indices has none.
     ///
     /// Takes no memory. A row costs an addition. Past the end of the second axis it costs a division for the third one
-    /// as well, and for the axis after each one that is at its end too. An axis of length 1 costs none.
+    /// as well, and for the axis after each one that is at its end too. Axes that lie evenly together count as one.
     ///
     /// `[2,3]` with strides `[-3,1]` from 3: in row-major order 3 places from 3 and 3 places from 0, by the stride 1;
     /// in column-major order 2 places from 3, from 4 and from 5, by -3. ndarray's `rows`, of places.
@@ -350,5 +366,27 @@ impl<D: Lengths> Strided<D> {
         ensures is_view { IsView self.now }
     {
         Rows::new(order, self.start, self.dim.slice(), self.strides.slice())
+    }
+    /// An iterator over the places of the view as the longest rows that its axes allow, which knows how many are left.
+    ///
+    /// Axes are joined where one goes on where the next faster one ends: where its stride is that one's length times that
+    /// one's stride. Axes of length 1 are left out. The places of the rows one after another are those of `iter_places`; each
+    /// row has as many, and no longer row begins the view. A view that is contiguous in the order is one row; a view without
+    /// indices has none.
+    ///
+    /// Takes no memory. A row costs an addition; past the end of the next axis that isn't joined, a division for the one after
+    /// it as well.
+    ///
+    /// `[2,2,3]` with strides `[20,3,1]` from 0, two rows of two pixels of 3 bytes: 6 places from 0 and 6 from 20, by the
+    /// stride 1. The project's own.
+    pub fn joined_rows(&self, order: Order) -> Rows<'_>
+        ensures places { rows_places result ≡ view_places order self.now }
+        ensures some { All (λ row. 0 < row.len) result }
+        ensures longest { (other : Row) → BeginsAsRow (view_places order self.now) other
+            → All (λ row. other.len ≤ row.len) result }
+        ensures in_order { YieldsInOrder (YieldsFirst (λ (left : List Row). left)) (λ left. left) }
+        ensures is_view { IsView self.now }
+    {
+        Rows::of_places(order, self.start, self.dim.slice(), self.strides.slice())
     }
 }

@@ -3,6 +3,7 @@
 
 use crate::nd_base::{Lengths, Order, signed, stride_offset};
 use crate::nd_dim::product;
+use crate::nd_shape::goes_on;
 use crate::ndarray_layout::strided::Strided;
 use crate::ndarray_layout::strided::nth_row::start_of_row;
 use crate::ndarray_layout::strided::places::offset_place;
@@ -71,27 +72,32 @@ pub(super) fn fastest_axis<'a>(order: Order, lens: &'a [usize], strides: &'a [us
     }
 }
 
-/// The axis that moves fastest of those with another length than 1, or one of length 1 where there is none: the axes
-/// that are left out move no place.
+/// The axis that moves fastest, joined with each slower one that goes on where it ends: the places of the layout are those
+/// along it, from each place of the axes that are left. An axis of length 1 joins any.
 ///
 /// <details><summary>Contract (proved)</summary>
 ///
 /// ```text
-/// requires length lens.now ≡ length strides.now
-/// ensures HasPlaces order lens.now strides.now result
+/// requires IsValidLayout lens.now (all_signed strides.now)
+/// ensures places: HasPlaces order lens.now strides.now result
+/// ensures joined: NoneGoesOn order result
 /// ```
 /// [How to read it](crate::contracts)
 /// </details>
 #[inline]
-fn longer_axis<'a>(order: Order, lens: &'a [usize], strides: &'a [usize]) -> Fastest<'a> {
-    let (mut lens, mut strides) = (lens, strides);
-    'axes: while let Some(axis) = split_fastest(order, lens, strides) {
-        if axis.len != 1 {
-            return axis;
+fn joined_axis<'a>(order: Order, lens: &'a [usize], strides: &'a [usize]) -> Fastest<'a> {
+    let mut axis = Fastest { len: 1, stride: 0, lens, strides };
+    'axes: while let Some(next) = split_fastest(order, axis.lens, axis.strides) {
+        let mut stride = next.stride;
+        if axis.len > 1 {
+            if next.len > 1 && !goes_on(next.stride, axis.len, axis.stride) {
+                return axis;
+            }
+            stride = axis.stride;
         }
-        (lens, strides) = (axis.lens, axis.strides);
+        axis = Fastest { len: next.len * axis.len, stride, lens: next.lens, strides: next.strides };
     }
-    Fastest { len: 1, stride: 0, lens, strides }
+    axis
 }
 
 /// How many rows begin at the places of a column and of the axes that move slower: none where rows of this length have no
@@ -196,7 +202,7 @@ impl<'a> Rows<'a> {
     /// </details>
     #[inline]
     fn along(order: Order, start: usize, axis: Fastest<'a>) -> Self {
-        let column = longer_axis(order, axis.lens, axis.strides);
+        let column = joined_axis(order, axis.lens, axis.strides);
         let end = count_of_rows(axis.len, &column);
         Rows {
             order,
@@ -225,7 +231,7 @@ impl<'a> Rows<'a> {
         Rows::along(order, start, fastest_axis(order, lens, strides))
     }
 
-    /// The places of a view as rows along an axis of length greater than 1, where it has one.
+    /// The places of a view as the longest rows that its axes allow.
     ///
     /// <details><summary>Contract (proved)</summary>
     ///
@@ -233,12 +239,14 @@ impl<'a> Rows<'a> {
     /// requires IsView (view_of start lens.now strides.now)
     /// ensures places: rows_places result ≡ view_places order (view_of start lens.now strides.now)
     /// ensures some: All (λ row. 0 < row.len) result
+    /// ensures longest: (other : Row) → BeginsAsRow (view_places order (view_of start lens.now strides.now)) other
+    ///     → All (λ row. other.len ≤ row.len) result
     /// ```
     /// [How to read it](crate::contracts)
     /// </details>
     #[inline]
     pub(super) fn of_places(order: Order, start: usize, lens: &'a [usize], strides: &'a [usize]) -> Self {
-        Rows::along(order, start, longer_axis(order, lens, strides))
+        Rows::along(order, start, joined_axis(order, lens, strides))
     }
 
     /// Leaves out so many rows, or all where fewer are left: the next one is the one that comes after them.
@@ -361,7 +369,7 @@ impl<D: Lengths> Strided<D> {
     /// has one row, of one place; a view without indices has none.
     ///
     /// Takes no memory. A row costs an addition. Past the end of the second axis it costs a division for the third one
-    /// as well, and for the axis after each one that is at its end too. An axis of length 1 costs none.
+    /// as well, and for the axis after each one that is at its end too. Axes that lie evenly together count as one.
     ///
     /// `[2,3]` with strides `[-3,1]` from 3: in row-major order 3 places from 3 and 3 places from 0, by the stride 1;
     /// in column-major order 2 places from 3, from 4 and from 5, by -3. ndarray's `rows`, of places.
@@ -395,5 +403,50 @@ impl<D: Lengths> Strided<D> {
     #[must_use]
     pub fn rows(&self, order: Order) -> Rows<'_> {
         Rows::new(order, self.start, self.dim.slice(), self.strides.slice())
+    }
+    /// An iterator over the places of the view as the longest rows that its axes allow, which knows how many are left.
+    ///
+    /// Axes are joined where one goes on where the next faster one ends: where its stride is that one's length times that
+    /// one's stride. Axes of length 1 are left out. The places of the rows one after another are those of `iter_places`; each
+    /// row has as many, and no longer row begins the view. A view that is contiguous in the order is one row; a view without
+    /// indices has none.
+    ///
+    /// Takes no memory. A row costs an addition; past the end of the next axis that isn't joined, a division for the one after
+    /// it as well.
+    ///
+    /// `[2,2,3]` with strides `[20,3,1]` from 0, two rows of two pixels of 3 bytes: 6 places from 0 and 6 from 20, by the
+    /// stride 1. The project's own.
+    ///
+    /// # Examples
+    ///
+    /// ```
+    /// use ndarray_layout::{CanIndexCheckMode, Ix3, LayoutError, Order, Row, Strided};
+    ///
+    /// # fn main() -> Result<(), LayoutError> {
+    /// let view = Strided::new(Ix3(2, 2, 3), Ix3(20, 3, 1), 1, 26, CanIndexCheckMode::ReadOnly)?;
+    /// let numbers = |row: Row| (row.start, row.stride, row.len);
+    /// let rows = view.joined_rows(Order::RowMajor).map(numbers);
+    /// assert!(rows.eq([(0, 1, 6), (20, 1, 6)]));
+    /// assert_eq!(view.rows(Order::RowMajor).len(), 4);
+    /// # Ok(())
+    /// # }
+    /// ```
+    ///
+    /// <details><summary>Contract (proved)</summary>
+    ///
+    /// ```text
+    /// ensures places: rows_places result ≡ view_places order self.now
+    /// ensures some: All (λ row. 0 < row.len) result
+    /// ensures longest: (other : Row) → BeginsAsRow (view_places order self.now) other
+    ///     → All (λ row. other.len ≤ row.len) result
+    /// ensures in_order: YieldsInOrder (YieldsFirst (λ (left : List Row). left)) (λ left. left)
+    /// ensures is_view: IsView self.now
+    /// ```
+    /// [How to read it](crate::contracts)
+    /// </details>
+    #[inline]
+    #[must_use]
+    pub fn joined_rows(&self, order: Order) -> Rows<'_> {
+        Rows::of_places(order, self.start, self.dim.slice(), self.strides.slice())
     }
 }

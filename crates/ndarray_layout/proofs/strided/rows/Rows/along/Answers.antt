@@ -5,27 +5,30 @@ use Rattle.ndarray_layout.proofs.RowsLeft.{IsFirst, IsView-slower, all_left, fir
 use Rattle.ndarray_layout.proofs.laws.View.{size_fits}
 use Rattle.ndarray_layout.proofs.strided.rows.Rows.along.Goals as goal
 
+pub joined_axis-column-requires : goal.joined_axis-column-requires
+joined_axis-column-requires c = (IsView-slower c.args.order c.args.start c.args.axis c.requires).valid
+
 pub count_of_rows-end-requires-clause-all : goal.count_of_rows-end-requires-clause-all
 count_of_rows-end-requires-clause-all c =
     let inner = IsView-slower c.args.order c.args.start c.args.axis c.requires in
-    let column = c.longer_axis-column.result in
+    let column = c.joined_axis-column.result in
     omega (
       arith,
-      size_fits (c.longer_axis-column.ensures.is_view c.args.start inner),
+      size_fits (c.joined_axis-column.ensures.places.is_view c.args.start inner),
       size-axis_view c.args.order c.args.start column,
     )
 
 pub count_of_rows-end-requires-clause-lens : goal.count_of_rows-end-requires-clause-lens
 count_of_rows-end-requires-clause-lens c =
     let inner = IsView-slower c.args.order c.args.start c.args.axis c.requires in
-    size_fits (IsView-slower c.args.order c.args.start c.longer_axis-column.result
-    (c.longer_axis-column.ensures.is_view c.args.start inner))
+    size_fits (IsView-slower c.args.order c.args.start c.joined_axis-column.result
+    (c.joined_axis-column.ensures.places.is_view c.args.start inner))
 
 pub invariant_of-result : goal.invariant_of-result
 invariant_of-result c =
-    let f : IsFirst c.args.order c.args.start c.args.axis c.longer_axis-column.result _ c.count_of_rows-end.result = record {
+    let f : IsFirst c.args.order c.args.start c.args.axis c.joined_axis-column.result _ c.count_of_rows-end.result = record {
       view = c.requires;
-      column_places = c.longer_axis-column.ensures;
+      column_places = c.joined_axis-column.ensures.places;
       begins = refl;
       steps = omega (arith, ints, c.signed.ensures.same_bits);
       long = refl;
@@ -35,9 +38,9 @@ invariant_of-result c =
 
 pub returns : goal.returns
 returns c =
-    let f : IsFirst c.args.order c.args.start c.args.axis c.longer_axis-column.result _ c.count_of_rows-end.result = record {
+    let f : IsFirst c.args.order c.args.start c.args.axis c.joined_axis-column.result _ c.count_of_rows-end.result = record {
       view = c.requires;
-      column_places = c.longer_axis-column.ensures;
+      column_places = c.joined_axis-column.ensures.places;
       begins = refl;
       steps = omega (arith, ints, c.signed.ensures.same_bits);
       long = refl;

@@ -1,0 +1,50 @@
+//! Joined rows of random layouts beside a list of places.
+
+use crate::layouts::{Layout, rounds};
+use crate::numbers::Numbers;
+use ndarray_layout::CanIndexCheckMode::ReadOnly;
+use ndarray_layout::{Order, Row};
+
+/// A layout in which axes often go on where others end.
+fn layout(numbers: &mut Numbers) -> Layout {
+    if numbers.once_in(2) { Layout::random(numbers) } else { Layout::shared(numbers) }
+}
+
+/// The places of a row.
+fn places(row: Row) -> Vec<usize> {
+    (0..row.len).map(|i| row.start.wrapping_add_signed(row.stride * i as isize)).collect()
+}
+
+/// How many places of a list lie evenly from its first one on.
+fn evenly(places: &[usize]) -> usize {
+    let step = |at: usize| places[at].wrapping_sub(places[at - 1]);
+    let more = (2..places.len()).take_while(|at| step(*at) == step(1)).count();
+    places.len().min(2) + more
+}
+
+#[test]
+fn rows_are_as_long_as_the_first_places_lie_evenly() {
+    rounds(10_000, 11, |numbers| {
+        let layout = layout(numbers);
+        let due = layout.places();
+        let view = layout.view(ReadOnly).unwrap();
+        let rows: Vec<Row> = view.joined_rows(Order::RowMajor).collect();
+        assert_eq!(rows.iter().copied().flat_map(places).collect::<Vec<_>>(), due, "{layout:?}");
+        assert!(rows.iter().all(|row| row.len == evenly(&due)), "{layout:?}: {rows:?}");
+        assert_eq!(view.joined_rows(Order::RowMajor).len(), rows.len(), "{layout:?}");
+    });
+}
+
+#[test]
+fn rows_by_columns_are_those_of_turned_axes() {
+    rounds(5_000, 12, |numbers| {
+        let layout = layout(numbers);
+        let mut turned = layout.clone();
+        turned.shape.reverse();
+        turned.strides.reverse();
+        let (view, due) = (layout.view(ReadOnly).unwrap(), turned.places());
+        let rows: Vec<Row> = view.joined_rows(Order::ColumnMajor).collect();
+        assert_eq!(rows.iter().copied().flat_map(places).collect::<Vec<_>>(), due, "{layout:?}");
+        assert!(rows.iter().all(|row| row.len == evenly(&due)), "{layout:?}: {rows:?}");
+    });
+}
