@@ -1,4 +1,5 @@
 pub mod AcceptedRule
+pub mod AlikeRows
 pub mod AxisByAxis
 pub mod BlockSteps
 pub mod BlocksWritten

@@ -1,4 +1,5 @@
 //! Views of data: a shape and strides that were accepted, with the place of the first index.
+mod alike_rows;
 mod blocks;
 mod broadcasting;
 mod chunks;

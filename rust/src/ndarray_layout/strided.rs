@@ -22,6 +22,7 @@ mod reshaping;
 mod broadcasting;
 mod stretch;
 mod intersecting;
+mod alike_rows;
 mod blocks;
 mod into_places;
 mod moving;

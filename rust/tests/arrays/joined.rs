@@ -7,7 +7,15 @@ use ndarray_layout::{Order, Row};
 
 /// A layout in which axes often go on where others end.
 fn layout(numbers: &mut Numbers) -> Layout {
-    if numbers.once_in(2) { Layout::random(numbers) } else { Layout::shared(numbers) }
+    match numbers.below(3) {
+        0 => Layout::random(numbers),
+        1 => Layout::shared(numbers),
+        _ => {
+            let axes = numbers.below(5);
+            let shape = (0..axes).map(|_| numbers.below(5)).collect();
+            Layout::of_shape(shape, numbers)
+        }
+    }
 }
 
 /// The places of a row.
@@ -46,5 +54,30 @@ fn rows_by_columns_are_those_of_turned_axes() {
         let rows: Vec<Row> = view.joined_rows(Order::ColumnMajor).collect();
         assert_eq!(rows.iter().copied().flat_map(places).collect::<Vec<_>>(), due, "{layout:?}");
         assert!(rows.iter().all(|row| row.len == evenly(&due)), "{layout:?}: {rows:?}");
+    });
+}
+
+/// How many places of two lists lie evenly in both from their first ones on.
+fn evenly_in_both(places: &[usize], others: &[usize]) -> usize {
+    evenly(places).min(evenly(others))
+}
+
+#[test]
+fn rows_of_two_views_are_as_long_as_both_lie_evenly() {
+    rounds(10_000, 13, |numbers| {
+        let one = layout(numbers);
+        let mut other = Layout::of_shape(one.shape.clone(), numbers);
+        if numbers.once_in(3) {
+            other.strides.copy_from_slice(&one.strides);
+            (other.start, other.count) = (one.start, one.count);
+        }
+        let (view, another) = (one.view(ReadOnly).unwrap(), other.view(ReadOnly).unwrap());
+        let (rows, others) = view.joined_rows_with(&another, Order::RowMajor);
+        let (rows, others): (Vec<Row>, Vec<Row>) = (rows.collect(), others.collect());
+        let (due, also) = (one.places(), other.places());
+        assert_eq!(rows.iter().copied().flat_map(places).collect::<Vec<_>>(), due, "{one:?}, {other:?}");
+        assert_eq!(others.iter().copied().flat_map(places).collect::<Vec<_>>(), also, "{one:?}, {other:?}");
+        let len = evenly_in_both(&due, &also);
+        assert!(rows.iter().chain(&others).all(|row| row.len == len), "{one:?}, {other:?}: {rows:?}");
     });
 }

@@ -35,6 +35,17 @@ impl Layout {
         Layout::over(shape, strides, numbers)
     }
 
+    /// A layout of a shape whose axes often go on where others end.
+    pub fn of_shape(shape: Vec<usize>, numbers: &mut Numbers) -> Layout {
+        let mut strides = vec![0; shape.len()];
+        let mut stride = numbers.between(-3, 4);
+        for axis in (0..shape.len()).rev() {
+            strides[axis] = stride;
+            stride = if numbers.once_in(3) { numbers.between(-9, 10) } else { stride * shape[axis] as isize };
+        }
+        Layout::over(shape, strides, numbers)
+    }
+
     /// A layout in which indices may share an item, as after a broadcast or in windows.
     pub fn shared(numbers: &mut Numbers) -> Layout {
         let axes = numbers.below(5);

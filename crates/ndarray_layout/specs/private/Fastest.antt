@@ -35,6 +35,17 @@ pub record NoneGoesOn (order : Order) (axis : Fastest) : Type 0 where
   pub alone : (lens strides : List ℕ) (len stride : ℕ) → EndsIn order axis.lens.now lens len → EndsIn order axis.strides.now strides stride
       → MergeFits len (signed stride) axis.len (signed axis.stride) → ⊥
 
+-- two axes have as many coordinates, and as many follow: an index of one is an index of the other
+pub record AreAlike (axis other : Fastest) : Type 0 where
+  pub len : axis.len ≡ other.len
+  pub lens : axis.lens.now ≡ other.lens.now
+
+-- of the axes that move slower the fastest one doesn't go on where both axes end
+pub record NoneGoesOnInBoth (order : Order) (axis other : Fastest) : Type 0 where
+  pub alone : (lens strides others : List ℕ) (len stride step : ℕ) → EndsIn order axis.lens.now lens len
+      → EndsIn order axis.strides.now strides stride → EndsIn order other.strides.now others step
+      → MergeFits len (signed stride) axis.len (signed axis.stride) → MergeFits len (signed step) other.len (signed other.stride) → ⊥
+
 -- of the rows that begin at the places of a view, the column of this number
 pub record IsColumn (order : Order) (start : ℕ) (column : Fastest) (number : ℕ) : Type 0 where
   pub is_view : IsView (axis_view order start column)
@@ -57,6 +68,14 @@ pixels_go_on axis lens strides len stride none =
     let on = sym (ap (λ n. pos n *ℤ signed axis.stride) len ∙ ap (λ s. pos 3 *ℤ signed s) stride) in
     none.alone [] [] 2 3 (record { is = lens }) (record { is = strides })
     (signed axis.stride, steps_on 2 (signed 3) axis.len (signed axis.stride) on)
+
+alike_to_itself : (axis : Fastest) → AreAlike axis axis
+alike_to_itself axis = record { len = refl; lens = refl }
+
+-- what goes on in one alone isn't joined
+one_is_enough : (axis other : Fastest) → NoneGoesOn RowMajor axis → NoneGoesOnInBoth RowMajor axis other
+one_is_enough axis other one =
+    record { alone = λ lens strides others len stride step e g h fits also. one.alone lens strides len stride e g fits }
 
 past_the_last_column : (column : Fastest) → IsColumn RowMajor 0 column (size column.lens.now) → ⊥
 past_the_last_column column is = lt_irrefl (size column.lens.now) is.below

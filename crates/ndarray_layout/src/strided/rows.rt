@@ -210,7 +210,7 @@ impl<'a> Rows<'a> {
     ghost use Rattle.ndarray_layout.specs.declared.strided.rows.Row.{Row};
 
     /// The rows along the fastest axis of a view, from each place of its other axes.
-    fn along(order: Order, start: usize, axis: Fastest<'a>) -> Self
+    pub(super) fn along(order: Order, start: usize, axis: Fastest<'a>) -> Self
         requires { IsView (axis_view order start axis) }
         ensures { result ≡ view_rows order (axis_view order start axis.entry) }
     {

@@ -201,7 +201,7 @@ impl<'a> Rows<'a> {
     /// [How to read it](crate::contracts)
     /// </details>
     #[inline]
-    fn along(order: Order, start: usize, axis: Fastest<'a>) -> Self {
+    pub(super) fn along(order: Order, start: usize, axis: Fastest<'a>) -> Self {
         let column = joined_axis(order, axis.lens, axis.strides);
         let end = count_of_rows(axis.len, &column);
         Rows {
