@@ -75,9 +75,10 @@ ND_CHECKED((1)) int32_t nd_view_check(const nd_view *view, int32_t mode) {
     const nd_layout *const of = &view->layout;
     const nd_buffer *const data = &view->data;
     nd_lists lists;
-    if (!nd_put_lists(view, ND_ROW_MAJOR, &lists)) return ND_BAD_ARGUMENT;
-    if (data->elem_places <= 1 || (lists.has_index && mode != ND_OWNED))
+    if (of->axes > ND_MAX_AXES) return ND_BAD_ARGUMENT;
+    if (data->elem_places <= 1 || (mode != ND_OWNED && nd_layout_size(of) > 0))
         return nd_check_layout(of->start, of->shape, of->axes, of->strides, of->axes, data->place_size, data->len, mode);
+    if (!nd_put_lists(view, ND_ROW_MAJOR, &lists)) return ND_BAD_ARGUMENT;
     return nd_check_layout(of->start, lists.shape, lists.axes, lists.strides, lists.axes, data->place_size,
                            data->len + data->elem_places - 1, mode);
 }
