@@ -6,7 +6,7 @@ use Rattle.std.proofs.Math.Nat.{min-eq_left, min-eq_right, min-le_left, min-le_r
 use Rattle.std.proofs.lemmas.Bool.{cases_lt}
 use Rattle.std.proofs.lemmas.Int.{ints}
 use Rattle.std.proofs.lemmas.List.{drop-drop, drop-map, drop-take, get_or-drop, get_or-map, length-map, length-take-le, map-append}
-use Rattle.std.proofs.lemmas.List.{take_more}
+use Rattle.std.proofs.lemmas.List.{take-map, take-take, take_more}
 use Rattle.std.proofs.lemmas.List.Elements.{All-cons, All-nil}
 use Rattle.nd_base.specs.declared.order.Order.{Order}
 use Rattle.nd_base.proofs.laws.Definitions.{indices_in, magnitude, place, signed, size}
@@ -142,6 +142,70 @@ module _ {order : Order} {start : ℕ} {column : Fastest} {row : Row} {in_column
         let at : given ≡ count_given begun' in_column' - 1 = omega (arith, count) in
         left_later (omega (arith, count)) within' number' (e ∙ ap (row_place order start column) at) whole' below
         (front'.0, omega (arith, front'.1, count))
+
+  -- without so many at the back: as far as the columns that have begun reach, they end there
+  module _ {count begun' : ℕ} (few : count ≤ left) (e : begun' ≡ min begun (end - count)) where
+    least : (begun' ≤ begun) × (begun' ≤ end - count) × (begun' < begun → begun' ≡ end - count)
+    least = lesser begun (end - count) e
+
+    pub cut_in_column : begun - begun' ≤ in_column
+    cut_in_column = elim (cases_lt begun' begun) [
+      | inl cut ↦ omega (arith, least.2 cut, few, l.given, l.number)
+      | inr whole ↦ omega (arith, whole)
+    ]
+
+    same_given : count_given begun' (in_column - (begun - begun')) ≡ given
+    same_given = omega (arith, cut_in_column, least.0, l.given)
+
+    fewer_left : count_left (end - count) begun' (in_column - (begun - begun')) ≡ left - count
+    fewer_left = omega (arith, cut_in_column, least.0, least.1, few, l.given, l.number)
+
+    pub left_cut : AreRowsLeft order start column row (in_column - (begun - begun')) columns begun' (end - count)
+    left_cut =
+        let less : count_left (end - count) begun' (in_column - (begun - begun')) ≤ left = omega (arith, fewer_left) in
+        record {
+          is_view = l.is_view;
+          here = l.here;
+          fits = omega (arith, l.fits, mul-le-mul_right row.len less);
+          number = least.1;
+          within = omega (arith, l.within);
+          given = omega (arith, cut_in_column, least.0, l.given);
+          whole = λ more. elim (cases_lt begun' begun) [
+            | inl cut ↦ absurd (omega (arith, least.2 cut, more))
+            | inr whole ↦ omega (arith, whole, least.0, least.1, more, l.whole (omega (arith, whole, least.0, more)))
+          ];
+          front = λ some.
+              let front = l.front (omega (arith, some)) in
+              (front.0, omega (arith, front.1, same_given), omega (arith, front.2, least.0));
+          last = λ some begins. l.last (omega (arith, some, less)) (omega (arith, begins, same_given))
+              ∙ ap (λ n. row_place order start column (n - 1)) (sym same_given);
+        }
+
+    pub rows_cut : rows_left order start column row (count_given begun' (in_column - (begun - begun')))
+        (count_left (end - count) begun' (in_column - (begun - begun')))
+        ≡ take (left - count) (rows_left order start column row given left)
+    rows_cut =
+        let others = drop given (view_places order (axis_view order start column)) in
+        let less : left - count ≤ left = omega arith in
+        ap (λ n. rows_left order start column row n (count_left (end - count) begun' (in_column - (begun - begun')))) same_given
+        ∙ ap (rows_left order start column row given) fewer_left
+        ∙ ap (map (moved_to row)) (sym (take-take (left - count) left others less))
+        ∙ sym (take-map (moved_to row) (left - count) (take left others))
+
+    -- the last one begins where its number says
+    pub last_of_left : {start' : ℕ} → count ≡ 1 → pos start' ≡ row_place order start column (end - count)
+        → rows_left order start column row given left
+        ≡ rows_left order start column row (count_given begun' (in_column - (begun - begun')))
+        (count_left (end - count) begun' (in_column - (begun - begun'))) ++ record row { start = start' } ∷ []
+    last_of_left {start'} one at =
+        let cut = in_column - (begun - begun') in
+        let all : left ≡ left - count + 1 = omega (arith, few, one) in
+        let number : end - count ≡ given + (left - count) = omega (arith, few, l.given, l.number) in
+        ap (rows_left order start column row given) all
+        ∙ row_before order start column row given (left - count) (omega (arith, all_within, few, one))
+        (at ∙ ap (row_place order start column) number)
+        ∙ ap (λ n. rows_left order start column row n (left - count) ++ record row { start = start' } ∷ []) (sym same_given)
+        ∙ ap (λ n. rows_left order start column row (count_given begun' cut) n ++ record row { start = start' } ∷ []) (sym fewer_left)
 
   -- in a column it lies a stride on
   module _ (more : 0 < in_column) where

@@ -3,7 +3,7 @@
 use crate::layouts::{Layout, rounds};
 use crate::numbers::Numbers;
 use ndarray_layout::CanIndexCheckMode::ReadOnly;
-use ndarray_layout::{Order, Row};
+use ndarray_layout::{Order, Row, Rows};
 
 /// A layout in which axes often go on where others end.
 fn layout(numbers: &mut Numbers) -> Layout {
@@ -79,5 +79,58 @@ fn rows_of_two_views_are_as_long_as_both_lie_evenly() {
         assert_eq!(others.iter().copied().flat_map(places).collect::<Vec<_>>(), also, "{one:?}, {other:?}");
         let len = evenly_in_both(&due, &also);
         assert!(rows.iter().chain(&others).all(|row| row.len == len), "{one:?}, {other:?}: {rows:?}");
+    });
+}
+
+/// Whether an iterator gives a list, taken from both ends in any order, with items left out at either.
+fn gives_from_both_ends(numbers: &mut Numbers, mut rows: Rows<'_>, due: &[Row]) -> bool {
+    let mut left = due.iter();
+    let same = |row: Option<Row>, due: Option<&Row>| match (row, due) {
+        (Some(row), Some(due)) => (row.start, row.stride, row.len) == (due.start, due.stride, due.len),
+        (row, due) => row.is_none() && due.is_none(),
+    };
+    while left.len() > 0 && !numbers.once_in(40) {
+        let skipped = if numbers.once_in(3) { numbers.below(4) } else { 0 };
+        let is_same = if numbers.once_in(2) {
+            rows.advance(skipped);
+            same(rows.next(), left.nth(skipped))
+        } else {
+            rows.advance_back(skipped);
+            same(rows.next_back(), left.nth_back(skipped))
+        };
+        if !is_same || rows.len() != left.len() {
+            return false;
+        }
+    }
+    rows.len() == left.len() && rows.zip(left).all(|(row, due)| same(Some(row), Some(due)))
+}
+
+#[test]
+fn rows_come_from_both_ends() {
+    rounds(20_000, 14, |numbers| {
+        let layout = layout(numbers);
+        let view = layout.view(ReadOnly).unwrap();
+        let order = if numbers.once_in(2) { Order::RowMajor } else { Order::ColumnMajor };
+        let rows = || if layout.count % 2 == 0 { view.rows(order) } else { view.joined_rows(order) };
+        // (forwards they are those of the list of places)
+        let due: Vec<Row> = rows().collect();
+        assert!(gives_from_both_ends(numbers, rows(), &due), "{layout:?} {order:?}");
+        assert!(rows().rev().map(|row| row.start).eq(due.iter().rev().map(|row| row.start)), "{layout:?} {order:?}");
+    });
+}
+
+#[test]
+fn more_rows_than_are_left_leave_none() {
+    rounds(1_000, 15, |numbers| {
+        let layout = layout(numbers);
+        let view = layout.view(ReadOnly).unwrap();
+        for count in [view.rows(Order::RowMajor).len(), usize::MAX] {
+            let (mut rows, mut others) = (view.rows(Order::RowMajor), view.rows(Order::RowMajor));
+            rows.next();
+            rows.advance(count);
+            others.next_back();
+            others.advance_back(count);
+            assert!(rows.next().is_none() && rows.next_back().is_none() && others.next().is_none(), "{layout:?}");
+        }
     });
 }

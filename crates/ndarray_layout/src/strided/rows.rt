@@ -1,9 +1,9 @@
 //! The rows of a view one after another, without a list of them.
-ghost use Rattle.std.specs.Iterator.{UpTo, YieldsFirst, item_count};
+ghost use Rattle.std.specs.Iterator.{UpTo, YieldsFirst, YieldsLast, item_count};
 ghost use Rattle.std.specs.Iterator.Runs.{YieldsInOrder};
 ghost use Rattle.std.specs.Iterator.SizeHint.{IsWithinCount};
 ghost use Rattle.std.specs.List.{All};
-ghost use Rattle.std.specs.Prelude.{◌≡◌, ◌==◌, ◌-◌, ◌*◌, ◌<◌, ◌≤◌, ◌^◌, pos, ◌+ℤ◌, [], if◌then◌else◌, drop, length};
+ghost use Rattle.std.specs.Prelude.{◌≡◌, ◌==◌, ◌-◌, ◌*◌, ◌<◌, ◌≤◌, ◌^◌, pos, ◌+ℤ◌, [], if◌then◌else◌, drop, take, length};
 ghost use Rattle.std.specs.Prelude.{IfSome, MatchOption, Some};
 ghost use Rattle.nd_base.specs.FlatIndex.{index_of_flat_in};
 ghost use Rattle.nd_base.specs.Offset.{offset_of};
@@ -281,6 +281,24 @@ impl<'a> Rows<'a> {
         }
     }
 
+    /// Leaves out so many rows at the back, or all where fewer are left: the last one is the one that comes before them.
+    ///
+    /// Takes no time for each row. Of the rows of `[4,2]` with strides `[2,1]` from 0, which begin at 0 2 4 6, without the
+    /// last 3: 0. What `nth_back` of std's iterators leaves out one by one.
+    pub fn advance_back(&mut self, count: usize)
+        ensures { self.new ≡ take (length self.old - count) self.old }
+    {
+        if count >= self.len() {
+            self.begun = self.end;
+            self.left_in_column = 0;
+            return;
+        }
+        self.end -= count;
+        let begun = self.begun.min(self.end);
+        self.left_in_column -= self.begun - begun;
+        self.begun = begun;
+    }
+
     /// How many places each row has; unspecified where none is left.
     pub(super) fn row_len(&self) -> usize
         ensures { All (λ row. row.len ≡ result) self.now }
@@ -334,6 +352,23 @@ impl Iterator for Rows<'_> {
     {
         let left = self.len();
         (left, Some(left))
+    }
+}
+
+impl DoubleEndedIterator for Rows<'_> {
+    ghost next_back_gives = { YieldsLast (λ left. left) };
+
+    fn next_back(&mut self) -> Option<Row> {
+        if self.len() == 0 {
+            return None;
+        }
+        self.end -= 1;
+        let begun = self.begun.min(self.end);
+        self.left_in_column -= self.begun - begun;
+        self.begun = begun;
+        let mut row = self.row;
+        row.start = start_of_row(self.order, self.start, &self.column, self.end);
+        Some(row)
     }
 }
 

@@ -295,6 +295,46 @@ impl<'a> Rows<'a> {
         }
     }
 
+    /// Leaves out so many rows at the back, or all where fewer are left: the last one is the one that comes before them.
+    ///
+    /// Takes no time for each row. Of the rows of `[4,2]` with strides `[2,1]` from 0, which begin at 0 2 4 6, without the
+    /// last 3: 0. What `nth_back` of std's iterators leaves out one by one.
+    ///
+    /// # Examples
+    ///
+    /// ```
+    /// use ndarray_layout::{CanIndexCheckMode, Ix2, LayoutError, Order, Strided};
+    ///
+    /// # fn main() -> Result<(), LayoutError> {
+    /// let view = Strided::from_shape(Ix2(4, 2).into(), 1, 8, CanIndexCheckMode::ReadOnly)?;
+    /// let mut rows = view.rows(Order::RowMajor);
+    /// rows.advance_back(1);
+    /// assert_eq!((rows.len(), rows.next_back().map(|row| row.start)), (3, Some(4)));
+    /// assert!(rows.map(|row| row.start).eq([0, 2]));
+    /// # Ok(())
+    /// # }
+    /// ```
+    ///
+    /// <details><summary>Contract (proved)</summary>
+    ///
+    /// ```text
+    /// ensures self.new ≡ take (length self.old - count) self.old
+    /// ```
+    /// [How to read it](crate::contracts)
+    /// </details>
+    #[inline]
+    pub fn advance_back(&mut self, count: usize) {
+        if count >= self.len() {
+            self.begun = self.end;
+            self.left_in_column = 0;
+            return;
+        }
+        self.end -= count;
+        let begun = self.begun.min(self.end);
+        self.left_in_column -= self.begun - begun;
+        self.begun = begun;
+    }
+
     /// How many places each row has; unspecified where none is left.
     ///
     /// <details><summary>Contract (proved)</summary>
@@ -349,6 +389,22 @@ impl Iterator for Rows<'_> {
     fn size_hint(&self) -> (usize, Option<usize>) {
         let left = self.len();
         (left, Some(left))
+    }
+}
+
+impl DoubleEndedIterator for Rows<'_> {
+    #[inline]
+    fn next_back(&mut self) -> Option<Row> {
+        if self.len() == 0 {
+            return None;
+        }
+        self.end -= 1;
+        let begun = self.begun.min(self.end);
+        self.left_in_column -= self.begun - begun;
+        self.begun = begun;
+        let mut row = self.row;
+        row.start = start_of_row(self.order, self.start, &self.column, self.end);
+        Some(row)
     }
 }
 
