@@ -28,6 +28,11 @@ def read_list():
     return {head.split()[0]: libraries.replace(",", " ").split() for head, _, libraries in lines if head.strip()}
 
 
+def counted(kind):
+    """How many there are of a kind, by name: lines `KIND NAME NUMBER` of checks/counts.txt."""
+    return {name: int(number) for name, number in re.findall(rf"^{kind} (.+) (\d+)$", read("checks/counts.txt"), re.M)}
+
+
 def crates_below(name):
     """A crate and all that it depends on, each after the libraries that it uses."""
     crates = read_list()

@@ -1,5 +1,7 @@
 # How the checks that are bash run their steps. Each of them reads this file first: `. checks/steps.sh`.
 
+# (a command in `$(..)` that fails ends it there too)
+shopt -s inherit_errexit
 top=$(cd "$(dirname "${BASH_SOURCE[0]}")/.." && pwd)
 
 # The folder of what a check writes, which goes when it ends.

@@ -199,16 +199,8 @@ pub const CHECKED: &[(&str, &str, &str, &str, &str)] = &[(
 )];
 
 /// Structs that files of `rust/src` make and take apart: all of the package sees their fields.
-pub const OPENED: &[&str] = &[
-    "ArrayView",
-    "ArrayViewMut",
-    "Indices",
-    "Items",
-    "Iter",
-    "LentRow",
-    "OwnedArray",
-    "Strided",
-];
+pub const OPENED: &[&str] =
+    &["ArrayView", "ArrayViewMut", "Indices", "Items", "Iter", "LentRow", "OwnedArray", "Strided"];
 
 /// Iterators whose `fold` and `nth` are more than calls of the `next` that is proved, each with the macro of `rust/src/arrays` that
 /// adds them.
