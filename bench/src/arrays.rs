@@ -9,6 +9,8 @@ mod by_hand;
 mod by_package;
 #[path = "arrays/parts.rs"]
 mod parts;
+#[path = "arrays/pictures.rs"]
+mod pictures;
 mod timing;
 
 extern crate ndarray_layout;
@@ -142,6 +144,7 @@ fn rows() -> Vec<Row> {
         by_package::fill_planes,
     ));
     rows.extend(parts::rows());
+    rows.extend(pictures::rows());
     rows
 }
 

@@ -1,26 +1,22 @@
 //! New lists and arrays that are made of the items of an array.
 
-use super::layout::Runs;
 use crate::convenience::OUT_OF_MEMORY;
 use crate::memory::{AllocError, FallibleVec};
 use crate::nd_base::{LayoutError, Lengths, Order};
 use crate::nd_dim::product;
 use crate::nd_shape::{StrideShape, Strides};
 use crate::ndarray_layout::Strided;
-use crate::{ArrayView, ArrayViewMut, OwnedArray};
+use crate::{ArrayView, ArrayViewMut, LentRow, OwnedArray};
 use alloc::vec::{self, Vec};
 
 /// What a closure makes of the items of a view, in row-major order. Errors: out of memory.
 fn made<T, U, D: Lengths>(view: &Strided<D>, items: &[T], mut f: impl FnMut(&T) -> U) -> Result<Vec<U>, AllocError> {
     let mut made = Vec::fallible_with_capacity(product(view.dim().slice()))?;
-    for run in Runs::longest(view) {
-        match run.is_stretch() {
-            true => made.extend(items[run.start..][..run.len].iter().map(&mut f)),
-            false => {
-                let place =
-                    |coordinate: usize| run.start.wrapping_add_signed((coordinate as isize).wrapping_mul(run.stride));
-                made.extend((0..run.len).map(|coordinate| f(&items[place(coordinate)])));
-            }
+    for row in view.joined_rows(Order::RowMajor) {
+        let row = LentRow { items, row };
+        match row.as_slice() {
+            Some(items) => made.extend(items.iter().map(&mut f)),
+            None => made.extend((0..row.len()).map(|coordinate| f(row.item(coordinate)))),
         }
     }
     Ok(made)

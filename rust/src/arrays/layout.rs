@@ -46,28 +46,6 @@ impl<D: Lengths> Layout for Strided<D> {
     }
 }
 
-impl<L: Layout> Layout for &L {
-    #[inline]
-    fn lens(&self) -> &[usize] {
-        L::lens(self)
-    }
-
-    #[inline]
-    fn steps(&self) -> &[usize] {
-        L::steps(self)
-    }
-
-    #[inline]
-    fn start(&self) -> usize {
-        L::start(self)
-    }
-
-    #[inline]
-    fn place_of(&self, axes: usize, number: usize) -> usize {
-        L::place_of(self, axes, number)
-    }
-}
-
 /// The place of an index by its number in row-major order.
 #[inline(never)]
 fn place_at(start: usize, lens: &[usize], steps: &[usize], number: usize) -> usize {
@@ -250,13 +228,6 @@ pub(crate) struct Runs<L> {
 }
 
 impl<L: Layout> Runs<L> {
-    /// Runs as long as may be.
-    #[inline]
-    pub fn longest(layout: L) -> Self {
-        let inner = Inner::of_most(layout.lens(), layout.steps());
-        Runs::of(layout, inner)
-    }
-
     /// The rows along the last axis.
     pub fn rows(layout: L) -> Self {
         let inner = Inner::of_last(layout.lens(), layout.steps());
