@@ -1,6 +1,6 @@
 //! The items of an array one after another, lent for as long as the data is.
 
-use super::layout::{Column, Inner, Layout, Run, Runs};
+use super::layout::{Column, Inner, Run, Runs};
 use super::line::{fold_column, rfold_run};
 use crate::convenience::OUT_OF_MEMORY;
 use crate::memory::FallibleVec;
@@ -41,7 +41,7 @@ pub struct ViewIter<'a, T, D: Lengths> {
 
 /// The columns of which no run has begun, and what is left of the last run.
 struct Tail<D: Lengths> {
-    runs: Option<Runs<Strided<D>>>,
+    runs: Option<Runs<D>>,
     back: Run,
 }
 

@@ -1,6 +1,5 @@
 //! The items of an array one after another, lent to be written.
 
-use super::layout::Layout;
 use super::line_mut::{LineMut, take};
 use super::pieces::{Band, Cut, Cutting, Lines, SHARED_OR_PAST, nearest_lines};
 use crate::convenience::OUT_OF_MEMORY;

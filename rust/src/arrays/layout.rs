@@ -5,34 +5,18 @@ use crate::nd_base::{Lengths, signed};
 use crate::nd_dim::product;
 use crate::ndarray_layout::Strided;
 
-/// A view that is kept or lent.
-pub(crate) trait Layout {
-    fn lens(&self) -> &[usize];
-
-    fn steps(&self) -> &[usize];
-
-    fn start(&self) -> usize;
-
-    /// The place of an index of the first axes, by its number in row-major order.
-    fn place_of(&self, axes: usize, number: usize) -> usize;
-}
-
-impl<D: Lengths> Layout for Strided<D> {
+impl<D: Lengths> Strided<D> {
     #[inline]
-    fn lens(&self) -> &[usize] {
+    pub(crate) fn lens(&self) -> &[usize] {
         self.dim.slice()
     }
 
     #[inline]
-    fn steps(&self) -> &[usize] {
+    pub(crate) fn steps(&self) -> &[usize] {
         self.strides.slice()
     }
 
-    #[inline]
-    fn start(&self) -> usize {
-        self.start
-    }
-
+    /// The place of an index of the first axes, by its number in row-major order.
     #[inline]
     fn place_of(&self, axes: usize, number: usize) -> usize {
         if D::NDIM.is_none() {
@@ -77,8 +61,8 @@ impl Run {
 
     /// All places of a view, where they lie evenly.
     #[inline]
-    pub fn whole(layout: &impl Layout, inner: Inner) -> Option<Self> {
-        (inner.outer == 0).then_some(Run { start: layout.start(), stride: inner.stride, len: inner.len })
+    pub fn whole<D: Lengths>(layout: &Strided<D>, inner: Inner) -> Option<Self> {
+        (inner.outer == 0).then_some(Run { start: layout.start, stride: inner.stride, len: inner.len })
     }
 
     /// Whether the places follow one another.
@@ -212,8 +196,8 @@ struct Cursor {
 
 /// The runs of a view that are still to come, in row-major order, from both ends.
 #[derive(Clone)]
-pub(crate) struct Runs<L> {
-    layout: L,
+pub(crate) struct Runs<D: Lengths> {
+    layout: Strided<D>,
     /// A run, wherever it starts.
     run: Run,
     /// How many axes lead from run to run.
@@ -227,16 +211,16 @@ pub(crate) struct Runs<L> {
     end: usize,
 }
 
-impl<L: Layout> Runs<L> {
+impl<D: Lengths> Runs<D> {
     /// The rows along the last axis.
-    pub fn rows(layout: L) -> Self {
+    pub fn rows(layout: Strided<D>) -> Self {
         let inner = Inner::of_last(layout.lens(), layout.steps());
         Runs::of(layout, inner)
     }
 
     /// The runs of a view's last axes, from each index of the others.
     #[inline]
-    pub fn of(layout: L, inner: Inner) -> Self {
+    pub fn of(layout: Strided<D>, inner: Inner) -> Self {
         let Inner { mut outer, len, stride } = inner;
         let lens = layout.lens();
         let end = if lens.contains(&0) { 0 } else { product(&lens[..outer]) };
@@ -247,7 +231,7 @@ impl<L: Layout> Runs<L> {
             Some(axis) => (lens[axis], signed(layout.steps()[axis])),
             None => (1, 0),
         };
-        let run = Run { start: layout.start(), stride, len };
+        let run = Run { start: layout.start, stride, len };
         Runs { layout, run, outer, column, front: Cursor::default(), back: Cursor::default(), next: 0, end }
     }
 
@@ -286,7 +270,7 @@ impl<L: Layout> Runs<L> {
     }
 }
 
-impl<L: Layout> Iterator for Runs<L> {
+impl<D: Lengths> Iterator for Runs<D> {
     type Item = Run;
 
     #[inline]
@@ -312,7 +296,7 @@ impl<L: Layout> Iterator for Runs<L> {
     }
 }
 
-impl<L: Layout> DoubleEndedIterator for Runs<L> {
+impl<D: Lengths> DoubleEndedIterator for Runs<D> {
     #[inline]
     fn next_back(&mut self) -> Option<Run> {
         if self.next == self.end {
@@ -330,4 +314,4 @@ impl<L: Layout> DoubleEndedIterator for Runs<L> {
     }
 }
 
-impl<L: Layout> ExactSizeIterator for Runs<L> {}
+impl<D: Lengths> ExactSizeIterator for Runs<D> {}

@@ -1,6 +1,6 @@
 //! Items cut into the pieces of runs that don't interleave, in row-major order from both ends.
 
-use super::layout::{Column, Inner, Layout, Run, Runs};
+use super::layout::{Column, Inner, Run, Runs};
 use super::line_mut::{LineMut, Piece};
 use crate::ArrayViewMut;
 use crate::memory::FallibleVec;
@@ -20,7 +20,7 @@ pub(crate) enum Pieces<'a, T, D: Lengths> {
 /// Items of which those of runs are cut off at both ends. The places of the runs ascend.
 pub(crate) struct Cut<'a, T, D: Lengths> {
     left: Left<'a, T>,
-    runs: Runs<Strided<D>>,
+    runs: Runs<D>,
 }
 
 /// Items that are left in the middle, and the place of the first of them.
@@ -79,7 +79,7 @@ fn ascend(lens: &[usize], strides: &[usize], inner: Inner) -> bool {
 }
 
 /// The axis along which places are nearest to one another, of those that have more than one coordinate.
-fn nearest_axis(view: &impl Layout) -> Option<usize> {
+fn nearest_axis<D: Lengths>(view: &Strided<D>) -> Option<usize> {
     let axes = (0..view.lens().len()).filter(|axis| view.lens()[*axis] > 1);
     axes.min_by_key(|axis| signed(view.steps()[*axis]).unsigned_abs())
 }

@@ -24,7 +24,7 @@ use core::iter::FusedIterator;
 /// ```
 pub struct IntoRows<'a, T, D: Lengths> {
     items: &'a [T],
-    runs: Runs<Strided<D>>,
+    runs: Runs<D>,
 }
 
 impl<'a, T, D: Lengths> IntoRows<'a, T, D> {
