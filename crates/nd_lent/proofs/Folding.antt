@@ -2,17 +2,17 @@
 use Rattle.std.proofs.Common.{◌≡◌, ℕ, ◌+◌, ◌<◌, Option, Some, None, List, [], ◌∷◌, ◌++◌, length, get_or, map, take, drop, refl, sym, ap}
 use Rattle.std.proofs.Common.{subst, ◌∙◌, Bor, arith}
 use Rattle.std.specs.Fn.{Called, Mut, Takes}
-use Rattle.std.specs.Iterator.{CallableInFold, CallableInForEach, CallsOnEach, FoldTurn, FoldsItems, Yields}
+use Rattle.std.specs.Iterator.{CallableAtEachTurn, CallableInFold, CallableInForEach, CallsOnEach, FoldTurn, FoldsItems, Yields}
 use Rattle.std.specs.List.{FoldsTo}
 use Rattle.std.proofs.lemmas.List.{append-nil, drop_more, get_or-map, length-map, map-append, take_more}
 use Rattle.nd_lent.specs.Lending.{lends}
-use Rattle.nd_lent.specs.private.Folded.{HasFolded}
+use Rattle.nd_lent.specs.private.Folded.{HasCalled, HasFolded}
 
-abbrev shown : {T : Type 0} → List (Bor T) → List (Option T)
+abbrev pub shown : {T : Type 0} → List (Bor T) → List (Option T)
 shown lent = map (λ item. Some item.now) lent
 
 -- items that are lent one after another leave the others
-lent_first : {T : Type 0} (lent : List (Bor T)) (left : List (Option T)) → Yields lends (shown lent ++ left) lent left
+pub lent_first : {T : Type 0} (lent : List (Bor T)) (left : List (Option T)) → Yields lends (shown lent ++ left) lent left
 lent_first [] left = refl
 lent_first (item ∷ lent) left = (shown lent ++ left, refl, lent_first lent left)
 
@@ -47,68 +47,68 @@ item_of_slice slice {i} {x} below is = record {
   is = get_or-map Some slice i x None below ∙ ap Some (sym is);
 }
 
-module _ {F B T : Type 0} {g : Mut F (B × (Bor T × Unit {0})) B} where
+module _ {P T : Type 0} {call : P → Bor T → P → Type 0} where
   -- ---- the items so far
-  pub none_folded : {p : F × B} → HasFolded g p [] p
-  none_folded = record { lent = []; are = refl; calls = refl }
+  pub none_called : {p : P} → HasCalled call p [] p
+  none_called = record { lent = []; are = refl; calls = refl }
 
-  pub both_folded : {p q r : F × B} {first then : List (Option T)} → HasFolded g p first q → HasFolded g q then r
-      → HasFolded g p (first ++ then) r
-  both_folded {p} {q} {r} {first} {then} one other = record {
+  pub both_called : {p q r : P} {first then : List (Option T)} → HasCalled call p first q → HasCalled call q then r
+      → HasCalled call p (first ++ then) r
+  both_called {p} {q} {r} {first} {then} one other = record {
     lent = one.lent ++ other.lent;
     are = map-append (λ item. Some item.now) one.lent other.lent ∙ ap (λ items. items ++ shown other.lent) one.are
         ∙ ap (λ items. first ++ items) other.are;
-    calls = then_folded (FoldTurn g) p q r one.lent other.lent one.calls other.calls;
+    calls = then_folded call p q r one.lent other.lent one.calls other.calls;
   }
 
-  pub one_folded : {p q : F × B} (item : Bor T) → FoldTurn g p item q → HasFolded g p (Some item.now ∷ []) q
-  one_folded {q = q} item turn = record { lent = item ∷ []; are = refl; calls = (q, turn, refl) }
+  one_called : {p q : P} (item : Bor T) → call p item q → HasCalled call p (Some item.now ∷ []) q
+  one_called {q = q} item called = record { lent = item ∷ []; are = refl; calls = (q, called, refl) }
 
-  -- ---- whether it may be called
-  pub callable_after : {f h : F} {total sum : B} {items left : List (Option T)} → HasFolded g (f, total) items (h, sum)
-      → CallableInFold lends g (items ++ left) f total → CallableInFold lends g left h sum
-  callable_after {f} {h} {total} {sum} {items} {left} done callable =
-      let all = subst (λ items. CallableInFold lends g (items ++ left) f total) (sym done.are) callable in
-      record {
-        at = λ xs t q x u yields calls step. all.at (done.lent ++ xs) t q x u (then_lent left t done.lent xs yields)
-            (then_folded (FoldTurn g) (f, total) (h, sum) q done.lent xs done.calls calls) step;
-      }
+  -- one item more
+  pub one_more_called : {p q r : P} {items : List (Option T)} {i : ℕ} (item : Bor T) → IsItemAt items i item.now → call q item r
+      → HasCalled call p (take i items) q → HasCalled call p (take (i + 1) items) r
+  one_more_called {p} {r = r} {items} {i} item at called done =
+      subst (λ items. HasCalled call p items r) (sym (take_more items i None at.below ∙ ap (λ y. take i items ++ y ∷ []) at.is))
+      (both_called done (one_called item called))
 
-  -- where it may be called at items and others, it may be at the items alone
-  pub callable_in_part : {f : F} {total : B} (items left : List (Option T)) → CallableInFold lends g (items ++ left) f total
-      → CallableInFold lends g items f total
-  callable_in_part items left callable = record {
-    at = λ xs t q x u yields calls step.
-        callable.at xs (t ++ left) q x (u ++ left) (lent_before items t left xs yields) calls (ap (λ s. s ++ left) step);
-  }
+  -- ---- whether the function may be called
+  module _ {Q : P → Bor T → Type 0} where
+    pub callable_after : {p q : P} {items left : List (Option T)} → HasCalled call p items q
+        → CallableAtEachTurn lends call Q (items ++ left) p → CallableAtEachTurn lends call Q left q
+    callable_after {p} {q} {items} {left} done callable =
+        let all = subst (λ items. CallableAtEachTurn lends call Q (items ++ left) p) (sym done.are) callable in
+        record {
+          at = λ xs t r x u yields calls step. all.at (done.lent ++ xs) t r x u (then_lent left t done.lent xs yields)
+              (then_folded call p q r done.lent xs done.calls calls) step;
+        }
 
-  -- ---- one item more
-  pub may_be_called : {f : F} {total : B} {items : List (Option T)} {i : ℕ} {x : T} → IsItemAt items i x
-      → CallableInFold lends g (drop i items) f total → (item : Bor T) → item.now ≡ x → Takes g f (total, (item, tt))
-  may_be_called {f} {total} {items} {i} at callable item is =
-      callable.at [] (drop i items) (f, total) item (drop (i + 1) items) refl refl
-      (drop_more items i None at.below ∙ ap (λ y. y ∷ drop (i + 1) items) (at.is ∙ ap Some (sym is)))
+    -- where it may be called at items and others, it may be at the items alone
+    pub callable_in_part : {p : P} (items left : List (Option T)) → CallableAtEachTurn lends call Q (items ++ left) p
+        → CallableAtEachTurn lends call Q items p
+    callable_in_part items left callable = record {
+      at = λ xs t q x u yields calls step.
+          callable.at xs (t ++ left) q x (u ++ left) (lent_before items t left xs yields) calls (ap (λ s. s ++ left) step);
+    }
 
-  pub one_more_folded : {p q r : F × B} {items : List (Option T)} {i : ℕ} (item : Bor T) → IsItemAt items i item.now → FoldTurn g q item r
-      → HasFolded g p (take i items) q → HasFolded g p (take (i + 1) items) r
-  one_more_folded {p} {r = r} {items} {i} item at turn done =
-      subst (λ items. HasFolded g p items r) (sym (take_more items i None at.below ∙ ap (λ y. take i items ++ y ∷ []) at.is))
-      (both_folded done (one_folded item turn))
+    pub may_be_called : {p : P} {items : List (Option T)} {i : ℕ} {x : T} → IsItemAt items i x
+        → CallableAtEachTurn lends call Q (drop i items) p → (item : Bor T) → item.now ≡ x → Q p item
+    may_be_called {p} {items} {i} at callable item is =
+        callable.at [] (drop i items) p item (drop (i + 1) items) refl refl
+        (drop_more items i None at.below ∙ ap (λ y. y ∷ drop (i + 1) items) (at.is ∙ ap Some (sym is)))
 
-  pub still_callable : {f h : F} {total sum : B} {items : List (Option T)} {i : ℕ} (item : Bor T) → IsItemAt items i item.now
-      → FoldTurn g (f, total) item (h, sum) → CallableInFold lends g (drop i items) f total
-      → CallableInFold lends g (drop (i + 1) items) h sum
-  still_callable {f} {total = total} {items = items} {i} item at turn callable =
-      callable_after (one_folded item turn)
-      (subst (λ left. CallableInFold lends g left f total)
-      (drop_more items i None at.below ∙ ap (λ y. y ∷ drop (i + 1) items) at.is) callable)
+    pub still_callable : {p q : P} {items : List (Option T)} {i : ℕ} (item : Bor T) → IsItemAt items i item.now → call p item q
+        → CallableAtEachTurn lends call Q (drop i items) p → CallableAtEachTurn lends call Q (drop (i + 1) items) q
+    still_callable {p} {items = items} {i} item at called callable =
+        callable_after (one_called item called)
+        (subst (λ left. CallableAtEachTurn lends call Q left p)
+        (drop_more items i None at.below ∙ ap (λ y. y ∷ drop (i + 1) items) at.is) callable)
 
-  -- ---- all items
-  pub all_folded : {f h : F} {init result : B} {items : List (Option T)} → HasFolded g (f, init) items (h, result)
-      → FoldsItems lends g items f init result
-  all_folded {h = h} {items = items} done =
-      let yields = subst (λ s. Yields lends s done.lent []) (append-nil (shown done.lent) ∙ done.are) (lent_first done.lent []) in
-      (done.lent, h, ([], ([], yields, (refl, refl))), done.calls)
+-- ---- all items
+pub all_folded : {F B T : Type 0} {g : Mut F (B × (Bor T × Unit {0})) B} {f h : F} {init result : B} {items : List (Option T)}
+    → HasFolded g (f, init) items (h, result) → FoldsItems lends g items f init result
+all_folded {h = h} {items = items} done =
+    let yields = subst (λ s. Yields lends s done.lent []) (append-nil (shown done.lent) ∙ done.are) (lent_first done.lent []) in
+    (done.lent, h, ([], ([], yields, (refl, refl))), done.calls)
 
 -- ---- a function that keeps no total, as one that does: `inside` reads it from the state of the other one
 calls_inside : {F C T : Type 0} (g : Mut F (Bor T × Unit {0}) (Unit {0})) (other : Mut C (Unit {0} × (Bor T × Unit {0})) (Unit {0}))

@@ -1,109 +1,80 @@
 -- The rows of items that are lent: where they lie, and what each shows.
-use Rattle.std.proofs.Common.{◌≡◌, ℕ, zero, suc, ◌+◌, ◌-◌, ◌<◌, ◌≤◌, ◌^◌, ℤ, pos, ◌+ℤ◌, ◌*ℤ◌, Bool, true, false, cond, Some, None, ◌⊎◌, inl}
+use Rattle.std.proofs.Common.{◌≡◌, ℕ, zero, suc, ◌+◌, ◌<◌, ◌≤◌, ◌^◌, ℤ, pos, ◌+ℤ◌, ◌*ℤ◌, true, Some, None, ◌⊎◌, inl}
 use Rattle.std.proofs.Common.{inr}
-use Rattle.std.proofs.Common.{List, [], ◌∷◌, ◌++◌, length, get_or, map, take, drop, nat_eq, refl, sym, ap, subst, ◌∙◌, arith}
+use Rattle.std.proofs.Common.{List, [], ◌∷◌, ◌++◌, length, get_or, map, take, drop, refl, sym, ap, subst, ◌∙◌, arith}
 use Rattle.std.specs.List.{All, AllZip}
 use Rattle.std.specs.Ordering.{int_eq}
 use Rattle.std.specs.Prelude.{nat_le}
 use Rattle.std.proofs.lemmas.Bool.{leb-true, or_cases}
 use Rattle.std.proofs.lemmas.Bool.Decides.{Decides-int_eq}
-use Rattle.std.proofs.lemmas.List.{get_or-map, get_or_past, length-map, map-append}
-use Rattle.std.proofs.lemmas.List.Elements.{All-head, All-map, All-nil, All-tail}
+use Rattle.std.proofs.lemmas.List.{get_or-map, get_or_past, length-append, length-map, map-append}
+use Rattle.std.proofs.lemmas.List.Elements.{All-cons, All-head, All-nil, All-tail, All-weaker}
 use Rattle.std.proofs.lemmas.Option.{slice_get-get_or}
 use Rattle.ndarray_layout.specs.declared.Order.{Order}
-use Rattle.ndarray_layout.specs.declared.Order.TheVariants.{ColumnMajor, RowMajor}
 use Rattle.ndarray_layout.specs.declared.Row.{Row}
 use Rattle.ndarray_layout.specs.Bounds.{IsInBounds}
-use Rattle.ndarray_layout.specs.Indices.{indices_in}
-use Rattle.ndarray_layout.specs.Rows.{fastest_item, row_at, row_places, rows_places, slower_items, slower_view, view_rows}
-use Rattle.ndarray_layout.specs.Size.{size}
-use Rattle.ndarray_layout.specs.View.{View, IsView, LiesWithin, place_at, view_places}
-use Rattle.ndarray_layout.proofs.laws.Rows.{All-rows_places, get_or-row_places, length-row_places, no_step, places_fit, rows_lie_within}
-use Rattle.ndarray_layout.proofs.laws.Rows.{rows_places-view_rows, some_in_each_row}
-use Rattle.ndarray_layout.proofs.laws.View.{lens_fit}
-use Rattle.nd_lent.specs.LentRow.{HasRow, RowValue, is_contiguous, row_items, row_of, rows_items}
+use Rattle.ndarray_layout.specs.Rows.{row_places, rows_places}
+use Rattle.ndarray_layout.specs.View.{View, IsView, LiesWithin, view_places}
+use Rattle.ndarray_layout.proofs.laws.NonzeroSize.{size_le_nonzero_size}
+use Rattle.ndarray_layout.proofs.laws.Rows.{All-rows_places, get_or-row_places, length-row_places, no_step, places_fit}
+use Rattle.ndarray_layout.proofs.laws.View.{length-view_places, places_lie_within}
+use Rattle.nd_lent.specs.LentRow.{HasRow, is_contiguous, row_items, row_of, rows_items}
 use Rattle.nd_parts.specs.Items.{item_at_place}
 use Rattle.nd_lent.proofs.laws.RowItems.{begins, coordinate_in_bounds, neighbours_within, read_neighbours}
 
--- ---- the rows of a view
-short_row : (order : Order) {view : View} (place : ℤ) → IsView view → (row_at order view place).len < 2 ^ 63
-short_row order {view} place v = by order view.shape (lens_fit v)
-  where
-    by : (order : Order) (shape : List ℕ) → All (λ len. len < 2 ^ 63) shape → fastest_item order shape 1 < 2 ^ 63
-    by RowMajor [] all = omega arith
-    by RowMajor (len ∷ lens) all = all (length (len ∷ lens) - 1) 1 (omega arith)
-    by ColumnMajor [] all = omega arith
-    by ColumnMajor (len ∷ lens) all = all 0 1 (omega arith)
+-- ---- rows whose places are those of a view
+-- none is longer than all of them together
+no_longer : (rows : List Row) → All (λ row. row.len ≤ length (rows_places rows)) rows
+no_longer [] = All-nil (λ row. row.len ≤ length (rows_places []))
+no_longer (row ∷ rows) =
+    let first = row_places row.start row.stride row.len in
+    let all = length (rows_places (row ∷ rows)) in
+    let count : all ≡ row.len + length (rows_places rows) =
+    length-append first (rows_places rows)
+    ∙ ap (λ n. n + length (rows_places rows)) (length-row_places row.start row.stride row.len) in
+    All-cons (λ row. row.len ≤ all) row rows (omega (arith, count))
+    (All-weaker (λ row. row.len ≤ length (rows_places rows)) (λ row. row.len ≤ all) (λ row below. omega (arith, count, below)) rows
+    (no_longer rows))
 
-short_rows : (order : Order) {view : View} → IsView view → All (λ row. row.len < 2 ^ 63) (view_rows order view)
-short_rows order {view} v = by (nat_eq (size view.shape) 0)
-  where
-    by : (none : Bool) → All (λ row. row.len < 2 ^ 63)
-        (cond none [] (map (row_at order view) (view_places order (slower_view order view))))
-    by true = All-nil (λ row. row.len < 2 ^ 63)
-    by false = All-map (λ row. row.len < 2 ^ 63) (row_at order view) (view_places order (slower_view order view))
-        (λ k d below. short_row order (get_or (view_places order (slower_view order view)) k d) v)
+module _ (order : Order) (view : View) (rows : List Row) (are : rows_places rows ≡ view_places order view) where
+  short_rows : IsView view → All (λ row. row.len < 2 ^ 63) rows
+  short_rows v =
+      let few : length (rows_places rows) < 2 ^ 63 =
+      omega (arith, ap length are, length-view_places order view, size_le_nonzero_size view.shape, v.valid.size_fits) in
+      All-weaker (λ row. row.len ≤ length (rows_places rows)) (λ row. row.len < 2 ^ 63) (λ row below. omega (arith, few, below)) rows
+      (no_longer rows)
 
--- two views of one shape have as many rows, of the same lengths
-module _ (order : Order) (view : View) where
-  same_lens : All (λ row. row.len ≡ fastest_item order view.shape 1) (view_rows order view)
-  same_lens = by (nat_eq (size view.shape) 0)
-    where
-      by : (none : Bool) → All (λ row. row.len ≡ fastest_item order view.shape 1)
-          (cond none [] (map (row_at order view) (view_places order (slower_view order view))))
-      by true = All-nil (λ row. row.len ≡ fastest_item order view.shape 1)
-      by false = All-map (λ row. row.len ≡ fastest_item order view.shape 1) (row_at order view)
-          (view_places order (slower_view order view)) (λ k d below. refl)
+  -- where the view lies within items, each row has one at each place
+  pub rows_have_items : {count : ℕ} → IsView view → LiesWithin count view → All (λ row. 0 < row.len) rows → All (HasRow count) rows
+  rows_have_items {count} v within some =
+      let lie = All-rows_places (IsInBounds count) rows
+      (subst (All (IsInBounds count)) (sym are) (places_lie_within count order view within)) in
+      let fit = All-rows_places (IsInBounds (2 ^ 63)) rows (subst (All (IsInBounds (2 ^ 63))) (sym are) (places_fit order v)) in
+      λ k d under. record {
+        some = some k d under;
+        short = short_rows v k d under;
+        within = lie k d under;
+        fit = fit k d under;
+      }
 
-  count_of_rows : length (view_rows order view)
-      ≡ cond (nat_eq (size view.shape) 0) 0 (length (indices_in order (slower_items order view.shape)))
-  count_of_rows = by (nat_eq (size view.shape) 0)
-    where
-      slower : View
-      slower = slower_view order view
+-- ---- rows of the same lengths
+pub All-as_long : (rows others : List Row) → map (λ row. row.len) rows ≡ map (λ row. row.len) others → All (λ row. 0 < row.len) rows
+    → All (λ row. 0 < row.len) others
+All-as_long rows [] same some = All-nil (λ row. 0 < row.len)
+All-as_long [] (other ∷ others) same some = absurd (omega (arith, ap length same))
+All-as_long (row ∷ rows) (other ∷ others) same some =
+    let long : row.len ≡ other.len = ap (λ lens. get_or lens 0 0) same in
+    All-cons (λ row. 0 < row.len) other others (omega (arith, long, All-head (λ row. 0 < row.len) row rows some))
+    (All-as_long rows others (ap (drop 1) same) (All-tail (λ row. 0 < row.len) row rows some))
 
-      by : (none : Bool) → length (cond none [] (map (row_at order view) (view_places order slower)))
-          ≡ cond none 0 (length (indices_in order (slower_items order view.shape)))
-      by true = refl
-      by false = length-map (view_places order slower) (row_at order view)
-          ∙ length-map (indices_in order slower.shape) (place_at slower)
-
-beside : {T : Type 0} (len : ℕ) (rows : List Row) (sources : List (RowValue T)) → length rows ≡ length sources
-    → All (λ row. row.len ≡ len) rows → All (λ source. source.row.len ≡ len) sources
-    → AllZip (λ row source. row.len ≡ source.row.len) rows sources
-beside len [] [] count all each = tt
-beside len [] (source ∷ sources) count all each = absurd (omega arith)
-beside len (row ∷ rows) [] count all each = absurd (omega arith)
-beside len (row ∷ rows) (source ∷ sources) count all each = (
-  All-head (λ r. r.len ≡ len) row rows all ∙ sym (All-head (λ s. s.row.len ≡ len) source sources each),
-  beside len rows sources (omega arith) (All-tail (λ r. r.len ≡ len) row rows all) (All-tail (λ s. s.row.len ≡ len) source sources each),
-)
-
-pub rows_beside : {T : Type 0} (order : Order) (view other : View) (items : List T) → view.shape ≡ other.shape
-    → AllZip (λ row source. row.len ≡ source.row.len) (view_rows order view) (map (row_of items) (view_rows order other))
-rows_beside order view other items same =
-    beside (fastest_item order view.shape 1) (view_rows order view) (map (row_of items) (view_rows order other))
-    (count_of_rows order view
-    ∙ ap (λ shape. cond (nat_eq (size shape) 0) 0 (length (indices_in order (slower_items order shape)))) same
-    ∙ sym (count_of_rows order other)
-    ∙ sym (length-map (view_rows order other) (row_of items)))
-    (same_lens order view)
-    (All-map (λ source. source.row.len ≡ fastest_item order view.shape 1) (row_of items) (view_rows order other)
-    (subst (λ shape. All (λ row. row.len ≡ fastest_item order shape 1) (view_rows order other)) (sym same) (same_lens order other)))
-
--- each row of a view that lies within the items has one at each place
-pub rows_have_items : {count : ℕ} {view : View} (order : Order) → IsView view → LiesWithin count view
-    → All (HasRow count) (view_rows order view)
-rows_have_items {count} {view} order v within =
-    let rows = view_rows order view in
-    let fit = All-rows_places (IsInBounds (2 ^ 63)) rows (subst (All (IsInBounds (2 ^ 63))) (sym (rows_places-view_rows order v))
-    (places_fit order v)) in
-    λ k d under. record {
-      some = some_in_each_row order view k d under;
-      short = short_rows order v k d under;
-      within = rows_lie_within count order v within k d under;
-      fit = fit k d under;
-    }
+-- each has the items of another one beside it
+pub rows_beside : {T : Type 0} (items : List T) (rows others : List Row) → map (λ row. row.len) rows ≡ map (λ row. row.len) others
+    → AllZip (λ row source. row.len ≡ source.row.len) rows (map (row_of items) others)
+rows_beside items [] [] same = tt
+rows_beside items [] (other ∷ others) same = absurd (omega (arith, ap length same))
+rows_beside items (row ∷ rows) [] same = absurd (omega (arith, ap length same))
+rows_beside items (row ∷ rows) (other ∷ others) same =
+    (ap (λ lens. get_or lens 0 0) same, rows_beside items rows others (ap (drop 1) same))
 
 -- their items are those at the places of the view
 rows_items-row_of : {T : Type 0} (items : List T) (rows : List Row)
@@ -113,13 +84,10 @@ rows_items-row_of items (row ∷ rows) =
     ap (λ others. row_items (row_of items row) ++ others) (rows_items-row_of items rows)
     ∙ sym (map-append (item_at_place items) (row_places row.start row.stride row.len) (rows_places rows))
 
-pub items_of_rows : {T : Type 0} (order : Order) (items : List T) {view : View} {rows : List Row} → IsView view
-    → rows ≡ view_rows order view
+pub items_of_rows : {T : Type 0} (order : Order) (items : List T) (view : View) (rows : List Row)
+    → rows_places rows ≡ view_places order view
     → rows_items (map (row_of items) rows) ≡ map (item_at_place items) (view_places order view)
-items_of_rows order items {view} v are =
-    ap (λ rows. rows_items (map (row_of items) rows)) are
-    ∙ rows_items-row_of items (view_rows order view)
-    ∙ ap (map (item_at_place items)) (rows_places-view_rows order v)
+items_of_rows order items view rows are = rows_items-row_of items rows ∙ ap (map (item_at_place items)) are
 
 -- ---- a row
 pub count_of_items : {T : Type 0} (items : List T) (row : Row) → row.len ≡ length (row_items (row_of items row))

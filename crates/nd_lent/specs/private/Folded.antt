@@ -6,12 +6,15 @@ use Rattle.std.specs.List.{FoldsTo}
 use Rattle.std.proofs.Common.{Bor, ap, eq-eqb}
 use Rattle.std.proofs.lemmas.Bool.{both_ways}
 
--- the function was called at each item in turn, which took it and the total before to those after
-pub record HasFolded {F B T : Type 0} (g : Mut F (B × (Bor T × Unit {0})) B) (before : F × B) (items : List (Option T))
-    (after : F × B) : Type 0 where
+-- one call of a function after another, each at the next item that is lent, took the state before to the one after
+pub record HasCalled {P T : Type 0} (call : P → Bor T → P → Type 0) (before : P) (items : List (Option T)) (after : P) : Type 0 where
   pub lent : List (Bor T)
   pub are : map (λ item. Some item.now) lent ≡ items
-  pub calls : FoldsTo {P = F × B} (FoldTurn g) before lent after
+  pub calls : FoldsTo call before lent after
+
+-- so did a function that is called with a total, which is kept beside it
+abbrev pub HasFolded : {F B T : Type 0} → Mut F (B × (Bor T × Unit {0})) B → F × B → List (Option T) → F × B → Type 0
+HasFolded g before items after = HasCalled (FoldTurn g) before items after
 
 -- examples
 one_call : {F B : Type 0} {g : Mut F (B × (Bor ℕ × Unit {0})) B} {before after : F × B} (item : Bor ℕ) → FoldTurn g before item after

@@ -2,12 +2,13 @@
 ghost use Rattle.std.specs.Iterator.{UpTo, YieldsFirst, item_count};
 ghost use Rattle.std.specs.Iterator.Runs.{YieldsInOrder};
 ghost use Rattle.std.specs.Iterator.SizeHint.{IsWithinCount};
+ghost use Rattle.std.specs.List.{All};
 ghost use Rattle.std.specs.Prelude.{◌≡◌, ◌<◌, ◌^◌, ◌↔◌, ◌+ℤ◌, ◌*ℤ◌, pos, None, IfSome, IsSome, IsTrue, List, Some, length, map, option_copied, slice_index_or};
 ghost use Rattle.ndarray_layout.specs.declared.Order.TheVariants.{RowMajor};
 ghost use Rattle.ndarray_layout.specs.Bounds.{IsInBounds};
 ghost use Rattle.ndarray_layout.specs.Rows.{view_rows};
 ghost use Rattle.ndarray_layout.specs.View.{view_places};
-ghost use Rattle.nd_lent.specs.LentRow.{RowValue, is_contiguous, row_items, row_of, rows_items};
+ghost use Rattle.nd_lent.specs.LentRow.{HasRow, RowValue, is_contiguous, row_items, row_of, rows_items};
 ghost use Rattle.nd_parts.specs.Items.{item_at_place};
 
 use crate::array_view::ArrayView;
@@ -122,6 +123,16 @@ impl<'a, T> Model for LentRows<'a, T> {
     ghost invariant = { λ rows. All (HasRow (length rows.items.now)) rows.rows };
 }
 
+impl<'a, T> LentRows<'a, T> {
+    /// These rows, each lent. The caller ensures that each has an item at each place.
+    pub(crate) fn new(items: &'a [T], rows: Rows<'a>) -> Self
+        requires { All (HasRow (length items.now)) rows }
+        ensures { result ≡ map (row_of items.now) rows.entry }
+    {
+        LentRows { items, rows }
+    }
+}
+
 impl<'a, T> Iterator for LentRows<'a, T> {
     type Item = LentRow<'a, T>;
 
@@ -156,18 +167,12 @@ impl<T> ExactSizeIterator for LentRows<'_, T> {
 impl<T> FusedIterator for LentRows<'_, T> {}
 
 impl<'a, T, D: Lengths> ArrayView<'a, T, D> {
-    /// The rows along the axis that moves fastest in an order, in that order.
-    pub(crate) fn rows_in(&self, order: Order) -> LentRows<'_, T>
-        ensures rows { result ≡ map (row_of self.now.items) (view_rows order self.now.view) }
-        ensures items { rows_items result
-            ≡ map (item_at_place self.now.items) (view_places order self.now.view) }
-        ensures in_order { YieldsInOrder
-            (YieldsFirst (λ (left : List (RowValue T)). left)) (λ left. left) }
+    /// The items of all indices as the longest rows that the axes allow, in row-major order.
+    pub(crate) fn joined_rows(&self) -> LentRows<'_, T>
+        ensures { rows_items result
+            ≡ map (item_at_place self.now.items) (view_places RowMajor self.now.view) }
     {
-        LentRows {
-            items: self.stored(),
-            rows: self.view().rows(order),
-        }
+        LentRows::new(self.stored(), self.view().joined_rows(Order::RowMajor))
     }
 
     /// An iterator over the rows along the last axis, in row-major order, which knows how many are left. Each is lent. An
@@ -183,6 +188,6 @@ impl<'a, T, D: Lengths> ArrayView<'a, T, D> {
         ensures in_order { YieldsInOrder
             (YieldsFirst (λ (left : List (RowValue T)). left)) (λ left. left) }
     {
-        self.rows_in(Order::RowMajor)
+        LentRows::new(self.stored(), self.view().rows(Order::RowMajor))
     }
 }

@@ -15,8 +15,9 @@ impl<'a, T: Copy, D: Lengths> ArrayViewMut<'a, T, D> {
 
     /// Writes an item at each index. Spare items are unchanged.
     ///
-    /// Takes no memory. A row whose items follow one another is a loop over a slice, and so is such a column where the rows are none;
-    /// else each index takes the time of its place.
+    /// Takes no memory. Goes over the longest rows that the axes allow, or such columns where the items of a column follow one another
+    /// and those of a row don't: one whose items follow one another is a loop over a slice; in others each index takes the time of its
+    /// place.
     ///
     /// 5 to `a`: 5 5 9. ndarray's `fill`.
     pub fn fill(&mut self, item: T)
@@ -36,7 +37,7 @@ impl<'a, T: Copy, D: Lengths> ArrayViewMut<'a, T, D> {
 
     /// Writes at each index a copy of the item that another array of the same shape has there. Spare items are unchanged.
     ///
-    /// Takes no memory, and the time of `fill`, where the other array has its rows or columns so too.
+    /// Takes no memory. Goes over the longest rows or columns that the axes of both allow, as `fill` does.
     ///
     /// # Errors
     ///

@@ -66,7 +66,8 @@ impl<T, D: Lengths> ArrayView<'_, T, D> {
     /// The last result of a function that is called at each item in turn, in row-major order, with the result before, first
     /// with `init`.
     ///
-    /// It is what `iter().fold(init, f)` returns: a row whose items follow one another is a loop over a slice.
+    /// It is what `iter().fold(init, f)` returns. Goes over the longest rows that the axes allow (`Strided::joined_rows`): one
+    /// whose items follow one another is a loop over a slice.
     ///
     /// `a.fold(0, |sum, item| sum + item)` is 15. ndarray's `fold`.
     ///
@@ -102,7 +103,7 @@ impl<T, D: Lengths> ArrayView<'_, T, D> {
     #[inline]
     pub fn fold<B, F: FnMut(B, &T) -> B>(&self, init: B, f: F) -> B {
         let (mut total, mut f) = (init, f);
-        for row in self.rows() {
+        for row in self.joined_rows() {
             (total, f) = fold_row(&row, total, f);
         }
         total
@@ -110,7 +111,7 @@ impl<T, D: Lengths> ArrayView<'_, T, D> {
 
     /// Calls a function at each item in turn, in row-major order.
     ///
-    /// It is what `iter().for_each(f)` does.
+    /// It is what `iter().for_each(f)` does, in the time of `fold`.
     ///
     /// Of `a`: at 8, then at 7. ndarray's `for_each`.
     ///

@@ -179,6 +179,28 @@ pub struct LentRows<'a, T> {
     rows: Rows<'a>,
 }
 
+impl<'a, T> LentRows<'a, T> {
+    /// These rows, each lent.
+    ///
+    /// # Conditions
+    ///
+    /// The caller ensures that each has an item at each place. Otherwise this call or a later one panics or returns
+    /// unspecified values.
+    ///
+    /// <details><summary>Contract (proved)</summary>
+    ///
+    /// ```text
+    /// requires All (HasRow (length items.now)) rows
+    /// ensures result ≡ map (row_of items.now) rows.entry
+    /// ```
+    /// [How to read it](crate::contracts)
+    /// </details>
+    #[inline]
+    pub(crate) fn new(items: &'a [T], rows: Rows<'a>) -> Self {
+        LentRows { items, rows }
+    }
+}
+
 impl<'a, T> Iterator for LentRows<'a, T> {
     type Item = LentRow<'a, T>;
 
@@ -204,20 +226,18 @@ impl<T> ExactSizeIterator for LentRows<'_, T> {
 impl<T> FusedIterator for LentRows<'_, T> {}
 
 impl<'a, T, D: Lengths> ArrayView<'a, T, D> {
-    /// The rows along the axis that moves fastest in an order, in that order.
+    /// The items of all indices as the longest rows that the axes allow, in row-major order.
     ///
     /// <details><summary>Contract (proved)</summary>
     ///
     /// ```text
-    /// ensures rows: result ≡ map (row_of self.now.items) (view_rows order self.now.view)
-    /// ensures items: rows_items result ≡ map (item_at_place self.now.items) (view_places order self.now.view)
-    /// ensures in_order: YieldsInOrder (YieldsFirst (λ (left : List (RowValue T)). left)) (λ left. left)
+    /// ensures rows_items result ≡ map (item_at_place self.now.items) (view_places RowMajor self.now.view)
     /// ```
     /// [How to read it](crate::contracts)
     /// </details>
     #[inline]
-    pub(crate) fn rows_in(&self, order: Order) -> LentRows<'_, T> {
-        LentRows { items: self.stored(), rows: self.view().rows(order) }
+    pub(crate) fn joined_rows(&self) -> LentRows<'_, T> {
+        LentRows::new(self.stored(), self.view().joined_rows(Order::RowMajor))
     }
 
     /// An iterator over the rows along the last axis, in row-major order, which knows how many are left. Each is lent. An
@@ -255,6 +275,6 @@ impl<'a, T, D: Lengths> ArrayView<'a, T, D> {
     #[inline]
     #[must_use]
     pub fn rows(&self) -> LentRows<'_, T> {
-        self.rows_in(Order::RowMajor)
+        LentRows::new(self.stored(), self.view().rows(Order::RowMajor))
     }
 }

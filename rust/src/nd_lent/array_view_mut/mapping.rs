@@ -212,14 +212,14 @@ impl<'a, T: Sized, D: Lengths> ArrayViewMut<'a, T, D> {
     /// </details>
     #[inline]
     pub(crate) fn map_in_order<F: FnMut(&mut T)>(&mut self, order: Order, f: F) {
-        let rows = self.view.rows(order);
+        let rows = self.view.joined_rows(order);
         map_rows(self.items, rows, f);
     }
 
     /// Calls a closure at the item of each index, in row-major order, to change it in place. Spare items are unchanged.
     ///
-    /// Takes no memory. A row whose items follow one another is a loop over a slice; in others each index takes the time of its
-    /// place.
+    /// Takes no memory. Goes over the longest rows that the axes allow (`Strided::joined_rows`): one whose items follow one
+    /// another is a loop over a slice; in others each index takes the time of its place.
     ///
     /// `|item| *item = item.wrapping_mul(2)` at `a`: 14 16 9. ndarray's `map_inplace`.
     ///
@@ -292,16 +292,16 @@ impl<T, D: Lengths> ArrayView<'_, T, D> {
         if !to.view.dim().equal(self.dim()) {
             return Err(from_kind(ErrorKind::IncompatibleShape));
         }
-        let rows = to.view.rows(order);
-        write_rows(to.items, rows, self.rows_in(order), f);
+        let (rows, sources) = to.view.joined_rows_with(self.view(), order);
+        write_rows(to.items, rows, LentRows::new(self.stored(), sources), f);
         Ok(())
     }
 
     /// Writes at each index of another array of the same shape what a closure makes of the item here, in row-major order. Spare
     /// items are unchanged.
     ///
-    /// Takes no memory. Two rows whose items follow one another are a loop over two slices; in others each index takes the time
-    /// of its place in both.
+    /// Takes no memory. Goes over the longest rows that the axes of both allow (`Strided::joined_rows_with`): two whose items
+    /// follow one another are a loop over two slices; in others each index takes the time of its place in both.
     ///
     /// `|item| *item < 6` of 5 6 to `[2]` with the stride `[-1]`: the second item is `true`, and the first `false`. ndarray's
     /// `map`, which makes a new array, and `Zip::map_assign_into`.

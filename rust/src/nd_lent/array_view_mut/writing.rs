@@ -9,8 +9,9 @@ use crate::ndarray_layout::{Lengths, ShapeError};
 impl<'a, T: Copy, D: Lengths> ArrayViewMut<'a, T, D> {
     /// Writes an item at each index. Spare items are unchanged.
     ///
-    /// Takes no memory. A row whose items follow one another is a loop over a slice, and so is such a column where the rows are none;
-    /// else each index takes the time of its place.
+    /// Takes no memory. Goes over the longest rows that the axes allow, or such columns where the items of a column follow one another
+    /// and those of a row don't: one whose items follow one another is a loop over a slice; in others each index takes the time of its
+    /// place.
     ///
     /// 5 to `a`: 5 5 9. ndarray's `fill`.
     ///
@@ -45,7 +46,7 @@ impl<'a, T: Copy, D: Lengths> ArrayViewMut<'a, T, D> {
 
     /// Writes at each index a copy of the item that another array of the same shape has there. Spare items are unchanged.
     ///
-    /// Takes no memory, and the time of `fill`, where the other array has its rows or columns so too.
+    /// Takes no memory. Goes over the longest rows or columns that the axes of both allow, as `fill` does.
     ///
     /// 5 6 to `a`: 6 5 9. ndarray's `assign`.
     ///

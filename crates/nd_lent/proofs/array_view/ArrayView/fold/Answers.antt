@@ -4,7 +4,7 @@ use Rattle.std.specs.Iterator.{CallableInFold}
 use Rattle.nd_lent.specs.LentRow.{row_items, rows_items}
 use Rattle.nd_lent.specs.Lending.{lends}
 use Rattle.nd_lent.specs.private.Folded.{HasFolded}
-use Rattle.nd_lent.proofs.Folding.{all_folded, both_folded, callable_after, callable_in_part, none_folded}
+use Rattle.nd_lent.proofs.Folding.{all_folded, both_called, callable_after, callable_in_part, none_called}
 use Rattle.nd_lent.proofs.array_view.ArrayView.fold.Goals as goal
 
 pub fold_row-requires : goal.fold_row-requires
@@ -21,8 +21,8 @@ loop-row-preserved g c =
       folded = λ h result others. c.loop-row.invariant.folded h result
           (subst (λ items. HasFolded g.F.FnMut (c.loop-row.f, c.loop-row.total) items (h, result))
           (sym (ap rows_items c.in-Some.ensures.steps))
-          (both_folded c.fold_row.ensures others));
-      callable = callable_after c.fold_row.ensures all;
+          (both_called {p = (c.loop-row.f, c.loop-row.total)} c.fold_row.ensures others));
+      callable = callable_after {p = (c.loop-row.f, c.loop-row.total)} c.fold_row.ensures all;
     }
 
 pub returns : goal.returns
@@ -30,5 +30,5 @@ returns g c =
     record {
       ran = all_folded (c.loop-row.invariant.folded c.loop-row.f c.loop-row.total
           (subst (λ items. HasFolded g.F.FnMut (c.loop-row.f, c.loop-row.total) items (c.loop-row.f, c.loop-row.total))
-          (sym (ap rows_items c.in-None.ensures.steps.0)) none_folded));
+          (sym (ap rows_items c.in-None.ensures.steps.0)) none_called));
     }

@@ -1,7 +1,7 @@
 -- One item more is folded.
 use Rattle.std.proofs.Common.{rules, ◌<◌, subst, refl}
 use Rattle.std.proofs.lemmas.Fn.{called}
-use Rattle.nd_lent.proofs.Folding.{item_in_list, may_be_called, one_more_folded, still_callable}
+use Rattle.nd_lent.proofs.Folding.{item_in_list, may_be_called, one_more_called, still_callable}
 use Rattle.nd_lent.proofs.array_view.folding.fold_places.Goals as goal
 
 pub f-total-requires : goal.f-total-requires
@@ -15,6 +15,6 @@ loop-coordinate-preserved g c =
     let at = item_in_list below c.item-item.ensures in
     let turn = called g.F.FnMut c.f-total.ensures refl in
     record {
-      folded = one_more_folded _ at turn c.loop-coordinate.invariant.folded;
+      folded = one_more_called _ at turn c.loop-coordinate.invariant.folded;
       callable = still_callable _ at turn c.loop-coordinate.invariant.callable;
     }

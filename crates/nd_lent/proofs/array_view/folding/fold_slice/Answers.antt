@@ -1,7 +1,7 @@
 -- One item more is folded.
 use Rattle.std.proofs.Common.{rules, refl}
 use Rattle.std.proofs.lemmas.Fn.{called}
-use Rattle.nd_lent.proofs.Folding.{item_of_slice, may_be_called, one_more_folded, still_callable}
+use Rattle.nd_lent.proofs.Folding.{item_of_slice, may_be_called, one_more_called, still_callable}
 use Rattle.nd_lent.proofs.array_view.folding.fold_slice.Goals as goal
 
 pub f-total-requires : goal.f-total-requires
@@ -14,6 +14,6 @@ loop-item-preserved g c =
     let at = item_of_slice c.args.items.now c.loop-item-test.true c.item-item.is in
     let turn = called g.F.FnMut c.f-total.ensures refl in
     record {
-      folded = one_more_folded _ at turn c.loop-item.invariant.folded;
+      folded = one_more_called _ at turn c.loop-item.invariant.folded;
       callable = still_callable _ at turn c.loop-item.invariant.callable;
     }
