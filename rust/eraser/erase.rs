@@ -7,7 +7,7 @@ use crate::docs::{Contract, indexes, is_called_for_its_result};
 use crate::errors;
 use crate::examples::Example;
 use crate::library::without_memory;
-use crate::names::{ATTRIBUTES, DERIVES, OPEN, PRINTED, REFUSED, SEALED};
+use crate::names::{ATTRIBUTES, DERIVES, LEFT_OUT, OPEN, PRINTED, REFUSED, SEALED};
 use crate::proofs;
 use crate::tokens::{Fault, Group, Kind, Token, Tree, begins_with, fault, length_of_generics, text_of};
 
@@ -99,7 +99,7 @@ pub(crate) struct Eraser<'a> {
 type Form<'a> = fn(&mut Eraser<'a>, &[Tree]) -> Result<Option<usize>, Fault>;
 
 impl<'a> Eraser<'a> {
-    const FORMS: [Form<'a>; 31] = [
+    const FORMS: [Form<'a>; 32] = [
         Self::doc,
         Self::clause,
         Self::ghost,
@@ -122,6 +122,7 @@ impl<'a> Eraser<'a> {
         Self::folded,
         Self::index_method,
         Self::import,
+        Self::left_out,
         Self::module,
         Self::allocator,
         Self::difference,
@@ -227,6 +228,19 @@ impl<'a> Eraser<'a> {
             return Err(fault(trees[0].first(), "is public"));
         }
         Ok(length)
+    }
+
+    /// `mod NAME;` of the list `LEFT_OUT` goes, and `pub use PATH::ITEM;` of what that module has.
+    fn left_out(&mut self, trees: &[Tree]) -> Result<Option<usize>, Fault> {
+        let Some(end) = trees.iter().position(|tree| tree.is(";")).filter(|end| *end > 0) else {
+            return Ok(None);
+        };
+        let (name, is_module) = (trees[end - 1].first().text, trees[0].is("mod") && end == 2);
+        let is_left_out = LEFT_OUT.iter().any(|(own, module, items)| match is_module {
+            true => *own == self.names.own && *module == name,
+            false => begins_with(trees, &["pub", "use"]) && items.contains(&name),
+        });
+        Ok(is_left_out.then_some(end + 1))
     }
 
     /// `mod NAME;` becomes a module with a body, which the file of that name has.

@@ -198,6 +198,11 @@ pub const CHECKED: &[(&str, &str, &str, &str, &str)] = &[(
     "This call panics where two indices have one item, or one lies past the items. Where the rule of owned mode does not show that none have, it takes memory and time for a sort of the places.",
 )];
 
+/// Modules that only a proof calls, each with its crate and what it hands on: a condition on the right to all items, which no code can
+/// check, keeps `unsafe` sound there. Plain Rust needs none of it, for once the parts are gone the items are what they left.
+pub const LEFT_OUT: &[(&str, &str, &[&str])] =
+    &[("nd_parts", "whole", &["Whole"]), ("example_callers", "wholes", &["set_first"])];
+
 /// Structs that files of `rust/src` make and take apart: all of the package sees their fields.
 pub const OPENED: &[&str] =
     &["ArrayView", "ArrayViewMut", "Indices", "Items", "Iter", "LentRow", "OwnedArray", "Strided"];

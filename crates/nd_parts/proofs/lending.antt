@@ -7,6 +7,7 @@ pub mod PartLends
 pub mod Parted
 pub mod Passed
 pub mod Places
+pub mod SameName
 pub mod Shared
 pub mod Stretch
 pub mod Taken

@@ -9,10 +9,13 @@ ghost use Rattle.nd_parts.specs.Items.{IsOwned};
 ghost use Rattle.nd_parts.specs.Part.{IsPart};
 ghost use Rattle.nd_parts.specs.Cells.{are_within, chosen_of, holds_cells, shows_cells, span_of, without, written_at};
 
+mod whole;
+
 use crate::part::PartMut;
 use ndarray_layout::{Lengths, Strided};
 use std::marker::{Model, PhantomData, Send, Sync};
 use std::slice::from_raw_parts_mut;
+pub use whole::Whole;
 
 /// The right to read and write some elements of a slice, at the price of a pointer: those that have a mark. A proof knows all elements
 /// of the slice; those without a mark are as they were when the right was made, and no call reads them.

@@ -4,4 +4,5 @@
 mod cells;
 mod part;
 
+pub use cells::Whole;
 pub use part::{PartItems, PartIter, PartMut, PartRows};

@@ -100,6 +100,7 @@ impl<'a, T: Drop, D: Lengths> PartMut<'a, T, D> {
         ensures written { array_of self.new ≡
             with_item (array_of self.old) (I.index_list index.now) item }
         ensures same_right { self.new.cells.name ≡ self.old.cells.name }
+        ensures same_marks { self.new.cells.marks ≡ self.old.cells.marks }
     {
         match self.view.place(index) {
             Some(place) => {
@@ -124,6 +125,7 @@ impl<'a, T: Drop, D: Lengths> PartMut<'a, T, D> {
         ensures written { array_of self.new ≡
             with_item (array_of self.old) (I.index_list index.now) item }
         ensures same_right { self.new.cells.name ≡ self.old.cells.name }
+        ensures same_marks { self.new.cells.marks ≡ self.old.cells.marks }
     {
         match self.view.place(index) {
             Some(place) => Ok(replace(self.item_mut(place), item)),

@@ -18,5 +18,4 @@
 
 mod cells;
 mod part;
-
 pub use part::{PartItems, PartIter, PartMut, PartRows};

@@ -120,6 +120,20 @@ fn each_form_becomes_plain_rust() {
 }
 
 #[test]
+fn a_module_that_only_a_proof_calls_is_left_out() {
+    const ROWS: &[(&str, &str, &str)] = &[
+        ("nd_parts", "mod whole; pub use whole::Whole; pub use part::Part;", "pub use part::Part;"),
+        ("nd_lent", "pub use nd_parts::Whole; struct S;", "struct S;"),
+        ("nd_lent", "mod whole; use whole::Whole;", "mod whole use whole::Whole;"),
+    ];
+    for (own, source, due) in ROWS {
+        let names = Names { own, ..NAMES };
+        let text = trees_of(source).and_then(|(trees, _)| erase(&trees, &names)).expect("known forms").text;
+        assert_eq!(text.split_whitespace().collect::<Vec<_>>().join(" "), *due, "{source}");
+    }
+}
+
+#[test]
 fn what_the_package_adds_is_made_of_a_source() {
     const ROWS: &[(&str, &str)] = &[
         (
