@@ -1,3 +1,4 @@
+pub mod Comparing
 pub mod Extremes
 pub mod Folding
 pub mod RowRuns

@@ -1,38 +1,93 @@
 // Made by `rust/erase` of `crates/nd_lent/src/array_view/comparing.rt`: edit that.
 //! Whether two arrays have the same items.
 
-use crate::nd_lent::array_view::{ArrayView, Iter};
-use crate::ndarray_layout::Lengths;
+use crate::nd_lent::array_view::{ArrayView, LentRow, LentRows};
+use crate::ndarray_layout::{Lengths, Order};
 
-/// Whether there are as many items on either side, and each equals the one beside it.
+/// Whether the items of two rows of one length are equal, one after another.
 ///
 /// <details><summary>Contract (proved)</summary>
 ///
 /// ```text
-/// ensures result ≡ pointwise (both_equal T.eq) one.entry other.entry
+/// requires one.now.row.len ≡ other.now.row.len
+/// ensures result ≡ pointwise (both_equal T.eq) (row_items one.now) (row_items other.now)
 /// ```
 /// [How to read it](crate::contracts)
 /// </details>
 #[inline]
-fn have_equal_items<T: PartialEq>(one: Iter<'_, T>, other: Iter<'_, T>) -> bool {
-    let mut other = other;
-    for item in one {
-        match other.next() {
-            Some(beside) => {
-                if *item != *beside {
-                    return false;
-                }
-            }
-            None => return false,
+fn have_equal_places<T: PartialEq>(one: &LentRow<'_, T>, other: &LentRow<'_, T>) -> bool {
+    for coordinate in 0..one.len() {
+        if *one.item(coordinate) != *other.item(coordinate) {
+            return false;
         }
     }
-    other.next().is_none()
+    true
+}
+
+/// Whether two rows of one length are equal: as slices where both are.
+///
+/// <details><summary>Contract (proved)</summary>
+///
+/// ```text
+/// requires one.now.row.len ≡ other.now.row.len
+/// ensures result ≡ pointwise (both_equal T.eq) (row_items one.now) (row_items other.now)
+/// ```
+/// [How to read it](crate::contracts)
+/// </details>
+#[inline]
+fn are_equal_rows<T: PartialEq>(one: &LentRow<'_, T>, other: &LentRow<'_, T>) -> bool {
+    match (one.as_slice(), other.as_slice()) {
+        (Some(items), Some(others)) => items == others,
+        _ => have_equal_places(one, other),
+    }
+}
+
+/// Whether each row is equal to the one beside it, of the same length.
+///
+/// <details><summary>Contract (proved)</summary>
+///
+/// ```text
+/// requires AllZip (λ row other. row.row.len ≡ other.row.len) rows others
+/// ensures result ≡ pointwise (both_equal T.eq) (rows_items rows.entry) (rows_items others.entry)
+/// ```
+/// [How to read it](crate::contracts)
+/// </details>
+#[inline]
+fn have_equal_rows<T: PartialEq>(rows: LentRows<'_, T>, others: LentRows<'_, T>) -> bool {
+    let mut others = others;
+    for row in rows {
+        if let Some(other) = others.next() {
+            if !are_equal_rows(&row, &other) {
+                return false;
+            }
+        }
+    }
+    true
 }
 
 impl<T: PartialEq, D: Lengths> ArrayView<'_, T, D> {
+    /// Whether each item is equal to that at the same index of an array of the same shape.
+    ///
+    /// <details><summary>Contract (proved)</summary>
+    ///
+    /// ```text
+    /// requires self.now.view.shape ≡ other.now.view.shape
+    /// ensures result ≡ pointwise (both_equal T.eq)
+    ///     (map (item_at_place self.now.items) (view_places RowMajor self.now.view))
+    ///     (map (item_at_place other.now.items) (view_places RowMajor other.now.view))
+    /// ```
+    /// [How to read it](crate::contracts)
+    /// </details>
+    #[inline]
+    fn has_equal_items(&self, other: &ArrayView<'_, T, D>) -> bool {
+        let (rows, others) = self.view().joined_rows_with(other.view(), Order::RowMajor);
+        have_equal_rows(LentRows::new(self.stored(), rows), LentRows::new(other.stored(), others))
+    }
+
     /// Whether another array has the same shape, and an equal item at each index. Spare items don't count.
     ///
-    /// Time in proportion to the indices before the first where the items differ; none where the shapes do.
+    /// Time in proportion to the indices before the first where the items differ; none where the shapes do. Rows whose items
+    /// follow one another in both arrays are compared as slices.
     ///
     /// `[2]` with the stride `[-1]` over 7 8 9, and `[2]` over 8 7: `true`. ndarray's `eq`.
     ///
@@ -60,6 +115,6 @@ impl<T: PartialEq, D: Lengths> ArrayView<'_, T, D> {
     #[inline]
     #[must_use]
     pub fn eq(&self, other: &ArrayView<'_, T, D>) -> bool {
-        self.dim().equal(other.dim()) && have_equal_items(self.iter(), other.iter())
+        self.dim().equal(other.dim()) && self.has_equal_items(other)
     }
 }
