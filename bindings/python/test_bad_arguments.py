@@ -150,6 +150,7 @@ BAD = {
         ),
         *([((3,),), (lengths,)] for lengths in [*NO_LISTS[:6], (2,), (4, -1), (FAR,), (True, 2), ("a",), (NoText(),)]),
     ],
+    "dims": [5, 2.5, object(), NoText(), {"x", "y"}, {"x": 0, "y": 1}, ("x",), ("x", "x"), ("x", [2]), "xyz", "x", (), FAR],
     "keys": [None, 5, 2.5, object(), NoText(), {0, 1}, *([0, key] for key in NO_KEYS)],
     "array": NO_ARRAYS + [array_of(**wrong) for wrong in WRONG_ARRAYS],
     "array or buffer": NO_BUFFERS + [array_of(**wrong) for wrong in WRONG_ARRAYS],
@@ -208,12 +209,25 @@ CALLS = {
         "new_shape": ((3, 2), "list"),
         "order": ("A", "order or None"),
     },
-    nd.first_conflict: {
-        "shape": ((2, 3), "list"),
-        "keys": ([0, 1], "keys"),
-        "chunks": ((1, 1), "chunks"),
-        "max_parts": (10, "steps"),
-        "blocks": ([((3,),), ((3,),)], "blocks"),
+    **{
+        call: {
+            "shape": ((2, 3), "list"),
+            "regions": ([0, 1], "keys"),
+            "chunks": ((1, 1), "chunks"),
+            "max_parts": (10, "steps"),
+            "blocks": ([((3,),), ((3,),)], "blocks"),
+            "dims": (("x", "y"), "dims"),
+        }
+        for call in (nd.first_conflict, nd.waves)
+    },
+    **{
+        call: {
+            "shape": ((2, 3), "list"),
+            "region": (0, "key"),
+            "chunks": ((1, 1), "chunks"),
+            "dims": (("x", "y"), "dims"),
+        }
+        for call in (nd.chunks_of, nd.aligned)
     },
     Layout: START | SHAPED | {"itemsize": (4, "number"), "length": (6, "number"), "owned": (False, "flag")},
     Layout.over: {
@@ -256,8 +270,8 @@ if np:
     CALLS[LAYOUT.as_array] = {"buffer": (b"abcdef", "buffer"), "dtype": (None, "dtype")}
 
 NAMED = (
-    r"^((slice|key) \d+: )?(axis \d+: )?"
-    r"(an array|array|axis|base|buffer|blocks|chunk|clamp|dtype|elem_size|elems|index|itemsize|items of the dtype|keys|"
+    r"^((slice|region) \d+: )?(axis \d+: )?"
+    r"(an array|array|axis|base|buffer|blocks|chunk|clamp|dims|dtype|elem_size|elems|index|itemsize|items of the dtype|keys|regions|"
     r"length|max_parts|max_work|nbytes|offset|owned|place|slices|start|stride|the length of a (block|chunk)|"
     r"slice indices must be integers|(?s:.+) is no (basic slice|integer|start|end|step)|"
     r"only integer scalar arrays can be converted)\b"

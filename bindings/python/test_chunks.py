@@ -78,7 +78,7 @@ class BesideEachIndex(unittest.TestCase):
         self.assertRaises(ShapeError, nd.first_conflict, 9, [0], (2, (3, 3)))
         self.assertRaises(TypeError, nd.first_conflict, 9, [0], ((4, 5.0),))
         self.assertRaises(TypeError, nd.first_conflict, 9, [0], ({9},))
-        with self.assertRaisesRegex(ShapeError, "more than 2 parts"):
+        with self.assertRaisesRegex(ShapeError, "more than max_parts=2 parts"):
             nd.first_conflict(9, [slice(None, None, 4)], ((1, 2) * 3,), max_parts=2)
 
 

@@ -105,6 +105,50 @@ class Plans(unittest.TestCase):
             self.compare(found, [indices_of(shape, key) for key in keys], (shape, keys))
 
 
+class SlicesOfTheLayer(unittest.TestCase):
+    """`first_intersection` beside `slices_intersect` of each two, with any bounds: what it takes, and what it refuses."""
+
+    LISTS = 10_000
+
+    def test_lists(self):
+        numbers, seen = random.Random("slices"), Counter()
+        for _ in range(self.LISTS):
+            shape = [numbers.choice((0, 1, 5, 9)) for _ in range(numbers.choice((1, 1, 2)))]
+            clamp = numbers.random() < 0.5
+            slices = [[self.elem(numbers, length) for length in shape] for _ in range(numbers.choice((2, 3, 5)))]
+            for elems in slices:
+                if numbers.random() < 0.1:
+                    elems.insert(0, None)
+            expected, found = self.of_each(shape, slices, clamp), self.outcome(nd.first_intersection, shape, slices, clamp)
+            if isinstance(expected, str):
+                self.assertEqual(found, expected, (shape, slices, clamp))
+            else:
+                self.assertIn(found, expected or {None}, (shape, slices, clamp))
+            seen["refused" if isinstance(expected, str) else "conflicts" if expected else "none"] += 1
+        print(f"test_lists of slices: {dict(sorted(seen.items()))}")
+        self.assertGreater(min(seen.values()), self.LISTS // 10)
+
+    def elem(self, numbers, length):
+        if numbers.random() < 0.2:
+            return numbers.randint(0, length)
+        end = numbers.choice((None, numbers.randint(-length, length), length + numbers.choice((0, 0, 0, 2))))
+        return Slice(numbers.randint(-length, length), end, numbers.choice((1, 1, 2, 3, -1, -2, 2**62, -(2**62))))
+
+    def of_each(self, shape, slices, clamp):
+        for position, elems in enumerate(slices):
+            error = self.outcome(nd.picked, shape, elems, clamp)
+            if isinstance(error, str):
+                return f"slice {position}: {error}"
+        pairs = combinations(range(len(slices)), 2)
+        return {(one, other) for one, other in pairs if nd.slices_intersect(shape, slices[one], slices[other], clamp)}
+
+    def outcome(self, call, *arguments):
+        try:
+            return call(*arguments)
+        except LayoutError as error:
+            return error.text
+
+
 class ManyKeys(unittest.TestCase):
     """Plans of up to 60 keys, most of which share nothing with an earlier one: so all of them have to be compared.
 
@@ -287,19 +331,19 @@ class Blocks(unittest.TestCase):
             return nd.first_conflict((10, 6), keys, (4, 6), blocks=blocks)
 
         for blocks, text, axis in (
-            ((None,), "1 lists of blocks for 2 keys", None),
-            ((None, ((6,),)), "key 1: blocks of 1 axes for 2", None),
-            ((None, ((6,), (3, 4))), "key 1: axis 1: the blocks have 7 of 6 indices", 1),
-            ((((), (6,)), None), "key 0: axis 0: the blocks have 0 of 4 indices", 0),
+            ((None,), "1 lists of blocks for 2 regions", None),
+            ((None, ((6,),)), "region 1: blocks of 1 axes for 2", None),
+            ((None, ((6,), (3, 4))), "region 1: axis 1: the blocks have 7 of 6 indices", 1),
+            ((((), (6,)), None), "region 0: axis 0: the blocks have 0 of 4 indices", 0),
         ):
             with self.assertRaises(ShapeError) as caught:
                 call(*blocks)
             self.assertEqual((caught.exception.text, caught.exception.axis), (text, axis))
             self.assertEqual(caught.exception.kind, "IncompatibleShape")
-        with self.assertRaisesRegex(OverflowError, "key 0: axis 0: block -1 is negative"):
+        with self.assertRaisesRegex(OverflowError, "region 0: axis 0: block -1 is negative"):
             call(((5, -1), (6,)), None)
         for length in (float("nan"), None, "2"):
-            with self.assertRaisesRegex(TypeError, "^key 1: axis 1: the length of a block is an integer"):
+            with self.assertRaisesRegex(TypeError, "^region 1: axis 1: the length of a block is an integer"):
                 call(None, ((6,), (length,)))
         self.assertRaises(TypeError, call, 5, None)
         for blocks in (5, {0: None, 1: None}):
@@ -363,20 +407,20 @@ class Conflicts(unittest.TestCase):
         self.assertRaises(ShapeError, nd.first_conflict, (4,), [0], chunks=((10**5_000,),))
         with self.assertRaisesRegex(TypeError, "^axis 1: chunk is an integer, not None"):
             nd.first_conflict((4, 4), [0], chunks=(2, None))
-        with self.assertRaisesRegex(TypeError, "^key 1: axis 0: slice indices must be integers"):
+        with self.assertRaisesRegex(TypeError, "^region 1: axis 0: slice indices must be integers"):
             nd.first_conflict((4, 4), [0, slice("a", 2)])
-        with self.assertRaisesRegex(IndexError, "^key 1: 2 of the indices are '...'"):
+        with self.assertRaisesRegex(IndexError, "^region 1: 2 of the indices are '...'"):
             nd.first_conflict((4, 4), [0, (slice("a", 2), ..., ...)])
         for outside in (4, -5, (0, 0), (..., ...), (..., 0, ...), (slice(4), 0, ...)):
             self.assertRaises(IndexError, nd.first_conflict, (4,), [outside])
         self.assertRaises(ValueError, nd.first_conflict, (4,), [slice(0, 4, 0)])
         with self.assertRaises(IndexError) as caught:
             nd.first_conflict((4, 4), [0, (slice(0, 0), 9)])
-        self.assertEqual(str(caught.exception), "key 1: axis 1: index 9 is out of bounds of length 4")
-        self.assertEqual((caught.exception.axis, caught.exception.numbers["key"]), (1, 1))
+        self.assertEqual(str(caught.exception), "region 1: axis 1: index 9 is out of bounds of length 4")
+        self.assertEqual((caught.exception.axis, caught.exception.numbers["region"]), (1, 1))
         with self.assertRaises(IndexError) as caught:
             nd.first_conflict((4, 4), [0, 1, (2, Slice(0, 5))])
-        self.assertEqual(str(caught.exception), "key 2: axis 1: bound 5 is past length 4")
+        self.assertEqual(str(caught.exception), "region 2: axis 1: bound 5 is past length 4")
         with self.assertRaises(LayoutError) as caught:
             nd.first_intersection((4, 4), [[0, 0], [0, Slice(0, 9)]])
         self.assertEqual(str(caught.exception), "slice 1: axis 1: bound 9 is past length 4")
@@ -454,6 +498,17 @@ class Times(unittest.TestCase):
         run = subprocess.run([sys.executable, "-c", program], capture_output=True, text=True)
         self.assertEqual((run.stdout, run.stderr), ("None\n", ""))
 
+    def test_slices_in_no_order(self):
+        """20,000 rows in no order, as slices of the layer and as keys: each with each took seconds, and heard nothing."""
+        rows = [*range(20_000)]
+        random.Random(1).shuffle(rows)
+        slices = [[row, Slice()] for row in rows]
+        layout, began = nd.Layout.over(100_000, (20_000, 5)), time.process_time()
+        self.assertIsNone(nd.first_intersection((20_000, 5), slices))
+        self.assertIsNone(layout.first_intersection(rows))
+        self.assertLess(time.process_time() - began, 2)
+        self.assertEqual(nd.first_intersection((20_000, 5), [*slices, [rows[7], 4]]), (7, 20_000))
+
     def test_lines(self):
         """90,000 lines that cross: rows of one plane over columns of another, and lines along three axes."""
         rows, columns = "[(0, at) for at in range(45_000)]", "[(1, slice(None), at) for at in range(45_000)]"
@@ -471,7 +526,15 @@ class Times(unittest.TestCase):
 
     def test_interrupt(self):
         """Boxes, and steps that differ, which the library compares each with each."""
-        for call in ("nd.first_conflict(*lines(5, 75))", "nd.first_conflict(*columns(20_000))"):
+        lines, columns = "*lines(5, 75)", "*columns(20_000)"
+        slices = "shape, [[nd.Slice(*entry.indices(length)) for length, entry in zip(shape, key)] for key in keys]"
+        for call in (
+            f"nd.first_conflict({lines})",
+            f"nd.first_conflict({columns})",
+            f"nd.waves({columns})",
+            f"shape, keys = columns(20_000); nd.first_intersection({slices})",
+            f"nd.Layout.over(2**40, {columns}[0]).first_intersection({columns}[1])".replace("*columns", "columns"),
+        ):
             self.assertLess(self.seconds_to_interrupt(call), 1, call)
 
     def seconds_to_interrupt(self, call):

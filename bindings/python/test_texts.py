@@ -164,8 +164,8 @@ class Texts(unittest.TestCase):
     def test_one_of_many(self):
         """The key, the slice, the axis or the count that an error is of."""
         layout = nd.Layout.over(3, 3)
-        text = "Unsupported: key 1: axis 0: the step is 0"
-        self.assert_error(text, {"key": 1, "step": 0}, nd.first_conflict, 3, [0, slice(0, 3, 0)])
+        text = "Unsupported: region 1: axis 0: the step is 0"
+        self.assert_error(text, {"region": 1, "step": 0}, nd.first_conflict, 3, [0, slice(0, 3, 0)])
         text = "slice 1: axis 0: index 3 is out of bounds of length 3"
         self.assert_error(text, {"slice": 1, "index": 3, "length": 3}, layout.first_intersection, [0, 3])
         text = "Unsupported: axis 0: the step is 0"
@@ -174,10 +174,13 @@ class Texts(unittest.TestCase):
         self.assert_error(
             "axis -3: there are 2 axes", {"axis": -3, "axes": 2}, nd.Layout.over(6, (2, 3)).transpose, -3, 0
         )
-        text = "Unsupported: the keys up to 1 have more than 1 parts"
-        self.assert_error(text, {"key": 1, "max_parts": 1}, nd.first_conflict, 3, [0, 1], max_parts=1)
+        text = (
+            "Unsupported: the regions up to 1 have more than max_parts=1 parts, so nothing was decided; "
+            "a greater max_parts takes more memory"
+        )
+        self.assert_error(text, {"region": 1, "max_parts": 1}, nd.first_conflict, 3, [0, 1], max_parts=1)
         for text, call in (
-            ("^key 1: axis 0: 'a' is no basic slice", lambda: nd.first_conflict(3, [0, "a"])),
+            ("^region 1: axis 0: 'a' is no basic slice", lambda: nd.first_conflict(3, [0, "a"])),
             ("^slice 1: axis 0: 'a' is no basic slice", lambda: layout.first_intersection([0, "a"])),
             ("^axis 0: slice indices must be integers", lambda: layout["a":]),
             (

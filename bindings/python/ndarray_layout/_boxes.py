@@ -1,4 +1,4 @@
-"""Which two of many boxes share an index. A box has an interval of numbers along each axis.
+"""Which of many boxes share an index. A box has an interval of numbers along each axis.
 
 Boxes that an axis sets apart are told from each other first, one axis after another. What hangs together on every axis
 is halved along one, as in a segment tree: a box over a whole half is compared on the other axes alone.
@@ -7,7 +7,7 @@ is halved along one, as in a segment tree: a box over a whole half is compared o
 from __future__ import annotations
 
 from itertools import combinations, product
-from typing import Callable, Iterable, Iterator, NamedTuple, Optional
+from typing import Iterable, Iterator, NamedTuple
 
 Pair = tuple[int, int]
 
@@ -37,10 +37,8 @@ class _Group(NamedTuple):
     tries: int
 
 
-def find_in_groups(
-    axes: list[Intervals], members: list[int], find: Callable[[list[int]], Optional[Pair]]
-) -> Optional[Pair]:
-    """What `find` returns of a group of boxes, the first that isn't `None`. No two of different groups share an index.
+def groups_of(axes: list[Intervals], members: list[int]) -> Iterator[list[int]]:
+    """The boxes in groups, without those that are alone. No two of different groups share an index.
 
     A group is tried on one axis after another, until no axis sets it apart or `TRIES` for each axis don't halve it.
     """
@@ -49,11 +47,8 @@ def find_in_groups(
         group = pending.pop()
         if len(group.members) > FEW and group.in_vain < len(axes) and group.tries < TRIES * len(axes):
             pending += _smaller_groups(axes, group)
-            continue
-        pair = find(group.members)
-        if pair is not None:
-            return pair
-    return None
+        else:
+            yield group.members
 
 
 def _smaller_groups(axes: list[Intervals], group: _Group) -> Iterator[_Group]:
@@ -81,11 +76,11 @@ def _set_apart(axis: Intervals, members: list[int]) -> list[list[int]]:
     return groups
 
 
-def first_pair(axes: list[Intervals], members: list[int]) -> Optional[Pair]:
-    """Two of the boxes that share an index."""
+def pairs_of(axes: list[Intervals], members: list[int]) -> Iterator[Pair]:
+    """Each two of the boxes that share an index, some of them more than once."""
     axes = [axis for axis in axes if _sets_two_apart(axis, members)]
     if len(members) <= FEW or not axes:
-        return _one_of(axes, combinations(members, 2))
+        return _of_those(axes, combinations(members, 2))
     in_order = sorted(members, key=axes[-1].lows.__getitem__)
     return _halved(axes, in_order, in_order)
 
@@ -94,61 +89,61 @@ def _sets_two_apart(axis: Intervals, members: list[int]) -> bool:
     return max(map(axis.lows.__getitem__, members)) > min(map(axis.highs.__getitem__, members))
 
 
-def _one_of(axes: list[Intervals], pairs: Iterable[Pair]) -> Optional[Pair]:
+def _of_those(axes: list[Intervals], pairs: Iterable[Pair]) -> Iterator[Pair]:
     for one, other in pairs:
         if one != other and all(lows[one] <= highs[other] and lows[other] <= highs[one] for lows, highs in axes):
-            return one, other
-    return None
+            yield one, other
 
 
-def _halved(axes: list[Intervals], spans: list[int], begins: list[int]) -> Optional[Pair]:
-    """A box of each list, two that share an index: along the first axis the second begins within the first.
+def _halved(axes: list[Intervals], spans: list[int], begins: list[int]) -> Iterator[Pair]:
+    """A box of each list, each two that share an index: along the first axis the second begins within the first.
 
-    Each list is in order along the last axis, and so are all that are made of them.
+    Each list is in order along the last axis, and so are all that are made of them. What a list has on the axes before
+    one was compared when it comes to that axis.
     """
-    if len(axes) == 1:
-        return _merged(axes[0], spans, begins)
-    if len(spans) * len(begins) <= FEW * FEW:
-        return _one_of(axes, product(spans, begins))
-    lows, highs = axes[0]
-    numbers = [lows[box] for box in begins]
-    first, last = min(numbers), max(numbers)
-    near = [box for box in spans if lows[box] <= last and highs[box] >= first]
-    whole = [box for box in near if lows[box] <= first and highs[box] >= last]
-    pair = _on_the_others(axes[1:], whole, begins) if whole else None
-    if pair is not None or len(whole) == len(near):
-        return pair
-    parted = [box for box in near if lows[box] > first or highs[box] < last]
-    middle = (first + last) // 2
-    pair = _halved(axes, parted, [box for box in begins if lows[box] <= middle])
-    return pair or _halved(axes, parted, [box for box in begins if lows[box] > middle])
+    pending, last_axis = [(0, spans, begins)], len(axes) - 1
+    while pending:
+        at, spans, begins = pending.pop()
+        if at == last_axis:
+            yield from _merged(axes[at], spans, begins)
+            continue
+        if len(spans) * len(begins) <= FEW * FEW:
+            yield from _of_those(axes[at:], product(spans, begins))
+            continue
+        lows, highs = axes[at]
+        numbers = [lows[box] for box in begins]
+        first, last = min(numbers), max(numbers)
+        near = [box for box in spans if lows[box] <= last and highs[box] >= first]
+        whole = [box for box in near if lows[box] <= first and highs[box] >= last]
+        if len(whole) < len(near):
+            parted = [box for box in near if lows[box] > first or highs[box] < last]
+            middle = (first + last) // 2
+            pending.append((at, parted, [box for box in begins if lows[box] > middle]))
+            pending.append((at, parted, [box for box in begins if lows[box] <= middle]))
+        if whole and at + 1 < last_axis:  # (on the others either may begin within the other)
+            pending.append((at + 1, begins, whole))
+        if whole:
+            pending.append((at + 1, whole, begins))
 
 
-def _on_the_others(axes: list[Intervals], spans: list[int], begins: list[int]) -> Optional[Pair]:
-    """A box of each list, two that share an index: either may begin within the other."""
-    pair = _halved(axes, spans, begins)
-    return pair if pair is not None or len(axes) == 1 else _halved(axes, begins, spans)
-
-
-def _merged(axis: Intervals, ones: list[int], others: list[int]) -> Optional[Pair]:
-    """A box of each list, two whose intervals overlap. Each list ascends.
+def _merged(axis: Intervals, ones: list[int], others: list[int]) -> Iterator[Pair]:
+    """A box of each list, each two whose intervals overlap. Each list ascends.
 
     A box that ends before one of the other list begins is apart from all that come later there.
     """
     lows, highs = axis
-    one_at = other_at = 0
-    while one_at < len(ones) and other_at < len(others):
-        one, other = ones[one_at], others[other_at]
-        if one == other:
-            following = [*ones[one_at + 1 : one_at + 2], *others[other_at + 1 : other_at + 2]]
-            pair = next(((one, box) for box in following if lows[box] <= highs[one]), None)
-            if pair is not None:
-                return pair
-            one_at, other_at = one_at + 1, other_at + 1
-        elif highs[one] < lows[other]:
-            one_at += 1
-        elif highs[other] < lows[one]:
-            other_at += 1
-        else:
-            return one, other
-    return None
+    near: tuple[list[int], list[int]] = ([], [])
+    starts = [lows[box] for box in ones], [lows[box] for box in others]
+    at = [0, 0]
+    while at[0] < len(ones) or at[1] < len(others):
+        side = int(at[0] == len(ones) or at[1] < len(others) and starts[1][at[1]] < starts[0][at[0]])
+        box, low = (ones, others)[side][at[side]], starts[side][at[side]]
+        at[side] += 1
+        left = [other for other in near[1 - side] if highs[other] >= low]
+        near[1 - side][:] = left
+        near[side].append(box)
+        if not left and at[1 - side] == len((ones, others)[1 - side]):
+            return
+        for other in left:
+            if other != box:
+                yield other, box

@@ -24,6 +24,10 @@ class Even(NamedTuple):
         """The number of the chunk of an index."""
         return index // self.length
 
+    def begin(self, number: int) -> int:
+        """The first index of a chunk, or where the chunks end."""
+        return number * self.length
+
     def count(self, picks: range) -> int:
         """How many runs the numbers of the chunks make up: `touched` without a list."""
         step = abs(picks.step)
@@ -50,6 +54,10 @@ class Uneven(NamedTuple):
     def number(self, index: int) -> int:
         """The number of the chunk of an index."""
         return bisect_right(self.ends, index)
+
+    def begin(self, number: int) -> int:
+        """The first index of a chunk, or where the chunks end."""
+        return self.ends[number - 1] if number else 0
 
     def count(self, picks: range) -> int:
         """How many runs the numbers of the chunks make up."""

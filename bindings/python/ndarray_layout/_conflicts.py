@@ -1,63 +1,62 @@
-"""Which two of many parts of an array share an index, or a chunk of its store."""
+"""Which of many regions of an array share an index, or a chunk of its store."""
 
 from __future__ import annotations
 
 from array import array
-from itertools import accumulate, combinations_with_replacement, count, product, repeat
-from math import gcd, prod
-from typing import Any, Callable, Iterable, NamedTuple, Optional, Sequence, TypeVar
+from itertools import combinations_with_replacement
+from math import gcd
+from typing import Any, Callable, Iterable, Iterator, NamedTuple, Optional
 
-from ._boxes import Intervals, Pair, find_in_groups, first_pair
-from ._chunks import Chunking, Chunks, Even, block_length, lengths_of, read_chunks
-from ._errors import LayoutError, ShapeError, of_one
-from ._layouts import default_strides
-from ._numbers import LIMIT, Lens, Numbers, Packed, entries, limit, listing, said, unsigned
-from ._slices import SLICE_WITH_END, Elem, Slice, basic_key, intersection, picked, slice_view
-
-MAX_PARTS = 1_000_000
-"""How many parts all keys together may have, where no other number is given."""
+from . import _library as library
+from ._boxes import Intervals, Pair, groups_of, pairs_of
+from ._chunks import Chunks
+from ._numbers import LIMIT, Numbers, Packed, count_of, entries, flag, one_answer, unsigned
+from ._regions import MAX_PARTS, Blocks, Part, at_position, parts_of_slices, picks_of, picks_of_elems, read_plan, read_store
+from ._slices import SLICE_WITH_END, Elems, intersection
 
 PIECE = 500
 """How many parts of two lists are compared in one call, in which Python hears no signal."""
 
-
-_Found = TypeVar("_Found")
-
-_Part = tuple[int, tuple[range, ...]]
-"""The position of a key, and along each axis the numbers of its indices, or of some of its chunks: they ascend."""
+Compare = Callable[[list[Part]], Iterator[Pair]]
+"""Pairs of positions of parts that share a number on each axis, of a group whose steps differ."""
 
 
 def first_conflict(
     shape: Numbers,
-    keys: Iterable[Any],
+    regions: Iterable[Any],
     chunks: Optional[Chunks] = None,
+    blocks: Optional[Blocks] = None,
+    *,
+    dims: Optional[Iterable[Any]] = None,
     max_parts: int = MAX_PARTS,
-    blocks: Optional[Iterable[Optional[Iterable[Numbers]]]] = None,
 ) -> Optional[Pair]:
-    """Two of many parts of an array that conflict: the positions of their keys, the less first. `None` if no two do.
+    """Two of many regions of an array that conflict: their positions, the less first. `None` if no two do.
 
-    Exact. It is any pair that conflicts, not the least one. Without `chunks` two parts conflict where they share an
-    index; with `chunks`, where each has an index in the same chunk, so that two who write them race. Keys are NumPy's
-    basic ones: integers, slices, `...` and `None`. Raises what `basic_key` does, of the first key with an error, and
-    `ShapeError` where `chunks` hasn't one length for each axis, or one is 0. All keys are read before any two are
-    compared.
+    Exact. It is any pair that conflicts, not the least one. Without `chunks` two regions conflict where they share an
+    index; with `chunks`, where each has an index in the same chunk, so that two who write them race. `waves` groups
+    the regions so that no two of a group conflict.
+
+    Regions are basic keys of NumPy: integers, slices, `...` and `None`. With `dims`, the names of all axes, a region
+    may be a dict of an integer or a slice for a name, as xarray has them. Raises what `basic_key` does, of the first
+    region with an error, and `ShapeError` where `chunks` hasn't one length for each axis, or one is 0, and for a name
+    that isn't in `dims`. All regions are read before any two are compared.
 
     `chunks` has the length of a chunk along each axis, as Zarr's `chunks` and HDF5's have; a number stands for one
     axis, and nothing for the whole length of one. Where a Zarr array has `shards`, each of which is written as a whole,
     they are the chunks. An axis may also have a list of lengths that add up to its own, as Dask's `chunks` have.
 
-    `blocks` has for each key the lengths of the blocks of what is written there, along each axis: of a Dask array its
-    `chunks`. Dask writes each block on its own, so two blocks of one key that have an index in the same chunk conflict
-    too: the pair is its position twice. Without `blocks`, or with `None` for a key, one writer writes the whole part.
-    Raises `ShapeError` where `blocks` isn't as long as `keys`, or the blocks of a key don't make up its part.
+    `blocks` has for each region the lengths of the blocks of what is written there, along each axis: of a Dask array its
+    `chunks`. Dask writes each block on its own, so two blocks of one region that have an index in the same chunk conflict
+    too: the pair is its position twice. Without `blocks`, or with `None` for a region, one writer writes the whole region.
+    Raises `ShapeError` where `blocks` isn't as long as `regions`, or the blocks of a region don't make it up.
 
     Takes time n log n for each axis, for n parts which an axis sets apart, another each group of them, and so on, as
     tiles, rows and chunks are. Others take up to n times the logarithm of n, or of a length, to the power of the axes.
     Only where two steps above 1 along an axis differ, parts whose stretches overlap on each axis may be compared each
     with each. It can be interrupted.
 
-    On an axis on which a key steps further than a chunk, by no multiple of its length, it touches chunks in up to
-    chunk / gcd(step, chunk) progressions; each counts as a part. Past `max_parts` parts of all keys it raises
+    On an axis on which a region steps further than a chunk, by no multiple of its length, it touches chunks in up to
+    chunk / gcd(step, chunk) progressions; each counts as a part. Past `max_parts` parts of all regions it raises
     `ShapeError` of the kind 'Unsupported'.
 
     >>> halves = [slice(0, 3), slice(3, 6)]
@@ -66,154 +65,74 @@ def first_conflict(
     (0, 1)
     >>> first_conflict((6, 6), [(..., 0), (0, slice(1, 6)), (-1, slice(None, None, 2))])
     (0, 2)
+    >>> first_conflict((6, 6), [{"x": 0}, {"y": slice(2, 4)}], dims=("y", "x"))
+    (0, 1)
     >>> first_conflict((6, 6), halves, (3, 6), blocks=[((3,), (6,)), ((2, 1), (6,))])    # rows 3, 4 and row 5
     (1, 1)
     >>> first_conflict(9, [slice(0, 4), slice(4, 9)], chunks=((4, 3, 2),)), first_conflict(9, [3, 4], chunks=4)
     (None, None)
     """
-    lens = lengths_of(shape, "length")
-    default_strides(lens)  # (which refuses a size above the limit)
-    chunk = (Even(1),) * len(lens) if chunks is None else read_chunks(lens, chunks)
-    parts, max_parts = list[_Part](), limit(max_parts, "max_parts")
-    alone: Optional[int] = None
-    for position, (key, lengths) in enumerate(_with_blocks(keys, blocks)):
-        picks = _at(position, _picks, lens, key)
-        parts += _parts_of(position, picks, chunk, len(parts), max_parts)
-        if lengths is not None and _at(position, _blocks_conflict, lens, key, picks, chunk, lengths):
-            alone = position if alone is None else alone
-    pair = _first_conflict(len(lens), parts) if alone is None else (alone, alone)
+    plan = read_plan(shape, regions, chunks, blocks, dims, max_parts)
+    return (plan.alone, plan.alone) if plan.alone is not None else first_of(plan.axes, plan.parts)
+
+
+def first_intersection(shape: Numbers, slices: Iterable[Elems], clamp: bool = False) -> Optional[Pair]:
+    """Two of many slices of one shape that share an index: their positions, the less first. `None` if no two do.
+
+    Exact. It is any pair that shares one. Raises what `slice_view` does, of the first slice with an error, before any
+    two are compared. Slices may come in any order; the time is that of `first_conflict`, and it can be interrupted.
+
+    >>> first_intersection((2, 3), [[0, Slice()], [1, Slice()], [Slice(), 2]])
+    (0, 2)
+    >>> first_intersection((2, 3), [[0, Slice()], [1, Slice()]])
+    """
+    lens, clamp, parts = read_store(shape, None, None)[0], flag(clamp, "clamp"), list[Part]()
+    for position, elems in enumerate(entries(slices, "slices", "slices")):
+        parts += parts_of_slices(position, at_position("slice", position, picks_of_elems, lens, elems, clamp))
+    return first_of(len(lens), parts)
+
+
+def first_intersection_of_keys(shape: Numbers, keys: Iterable[Any]) -> Optional[Pair]:
+    """`first_intersection` of slices by NumPy's keys."""
+    lens, parts = read_store(shape, None, None)[0], list[Part]()
+    for position, key in enumerate(entries(keys, "keys", "slices")):
+        parts += parts_of_slices(position, at_position("slice", position, picks_of, lens, key))
+    return first_of(len(lens), parts)
+
+
+def first_of(axes: int, parts: list[Part]) -> Optional[Pair]:
+    """The positions of two parts that share a number on each axis, the less first."""
+    pair = next(conflicts_of(axes, parts, _first_compared), None)
     return None if pair is None else (min(pair), max(pair))
-
-
-def _with_blocks(keys: Iterable[Any], blocks: Optional[Iterable[Any]]) -> Iterable[tuple[Any, Any]]:
-    """Each key with its blocks, or with `None`."""
-    listed = entries(keys, "keys", "keys")
-    if blocks is None:
-        return zip(listed, repeat(None))
-    of_keys = entries(blocks, "blocks", "blocks")
-    if len(listed) != len(of_keys):
-        numbers = {"keys": len(listed), "blocks": len(of_keys)}
-        raise ShapeError("IncompatibleShape", f"{len(of_keys)} lists of blocks for {len(listed)} keys", None, numbers)
-    return zip(listed, of_keys)
-
-
-def _at(position: int, call: Callable[..., _Found], *arguments: Any) -> _Found:
-    """What a call returns for a key, or its error, which names the key."""
-    try:
-        return call(*arguments)
-    except (LayoutError, TypeError) as error:
-        raise of_one("key", position, error) from None
-
-
-def _picks(shape: Lens, key: Any) -> list[range]:
-    """Slices and integers, the usual keys, are read without another call."""
-    entries = key if type(key) is tuple else (key,)
-    given = entries[:-1] if entries and entries[-1] is Ellipsis else entries
-    if len(given) > len(shape):
-        return _picks_of_any(shape, key)
-    found = []
-    try:
-        for length, entry in zip(shape, given):
-            if type(entry) is slice:
-                found.append(range(length)[entry])
-            elif type(entry) is int and -length <= entry < length:
-                found.append(range(length)[entry:][:1])
-            else:
-                return _picks_of_any(shape, key)
-    except (TypeError, ValueError):  # (of a slice whose bounds are no numbers, or whose step is 0)
-        return _picks_of_any(shape, key)
-    return [*found, *map(range, shape[len(given) :])]
-
-
-def _picks_of_any(shape: Lens, key: Any) -> list[range]:
-    """`_picks` of any key, or its error."""
-    elems = [elem for elem in basic_key(shape, key) if elem is not None]
-    picked(shape, elems)  # (which refuses a `Slice` that leaves its axis)
-    return [_picks_of(length, elem) for length, elem in zip(shape, elems)]
-
-
-def _picks_of(length: int, elem: Elem) -> range:
-    """The indices that an element of a slice takes of one axis."""
-    start, lens, strides = slice_view(0, (length,), (1,), elem if isinstance(elem, Slice) else (elem,))
-    count, step = (lens[0], strides[0] or 1) if lens else (1, 1)
-    return range(start, start + count * step, step)
-
-
-# ---- The chunks that a key touches
-
-
-def _parts_of(
-    position: int, picks: list[range], chunk: Sequence[Chunking], others: int, max_parts: int
-) -> Iterable[_Part]:
-    """The parts of a key. Raises `ShapeError` where there are more than `max_parts` with the others."""
-    counts = [along.count(picked) for picked, along in zip(picks, chunk)]
-    if others + prod(counts) > max_parts:
-        text = f"the keys up to {position} have more than {said(max_parts)} parts"
-        raise ShapeError("Unsupported", text, None, {"key": position, "max_parts": max_parts})
-    return zip(repeat(position), product(*[along.touched(picked) for picked, along in zip(picks, chunk)]))
-
-
-def _blocks_conflict(
-    shape: Lens, key: Any, picks: list[range], chunk: Sequence[Chunking], blocks: Iterable[Numbers]
-) -> bool:
-    """Whether two blocks of a part have an index in the same chunk."""
-    axes, lengths = _axes_of_part(shape, key), [listing(numbers) for numbers in entries(blocks, "blocks", "axes")]
-    if len(lengths) != len(axes):
-        numbers = {"blocks": len(lengths), "axes": len(axes)}
-        raise ShapeError("IncompatibleShape", f"blocks of {len(lengths)} axes for {len(axes)}", None, numbers)
-    one: tuple[range, Chunking] = range(1), Even(1)
-    along = [one if axis is None else (picks[axis], chunk[axis]) for axis in axes]
-    shared = [_share_a_chunk(at, *pair, numbers) for at, (pair, numbers) in enumerate(zip(along, lengths))]
-    return any(shared) and all(picks)
-
-
-def _axes_of_part(shape: Lens, key: Any) -> list[Optional[int]]:
-    """Which axis of the array each axis of a part is: `None` for a new one."""
-    numbers = count()
-    axes = [(elem, None if elem is None else next(numbers)) for elem in basic_key(shape, key)]
-    return [axis for elem, axis in axes if elem is None or isinstance(elem, Slice)]
-
-
-def _share_a_chunk(axis: int, picks: range, chunk: Chunking, lengths: Iterable[Any]) -> bool:
-    """Whether two blocks along an axis have an index in the same chunk: then two that follow each other have."""
-    ends = tuple(accumulate(block_length(axis, length) for length in lengths))
-    total = ends[-1] if ends else 0
-    if total != len(picks):
-        text = f"axis {axis}: the blocks have {said(total)} of {said(len(picks))} indices"
-        raise ShapeError("IncompatibleShape", text, axis, {"blocks": total, "length": len(picks)})
-    return any(chunk.number(picks[end - 1]) == chunk.number(picks[end]) for end in ends if 0 < end < total)
 
 
 # ---- Parts that conflict
 
 
-def _first_conflict(dimensions: int, parts: list[_Part]) -> Optional[Pair]:
-    """The positions of two parts that share a number on each axis."""
-    steps = _steps(dimensions, parts)
+def conflicts_of(axes: int, parts: list[Part], compare: Compare) -> Iterator[Pair]:
+    """The positions of each two parts that share a number on each axis, some of them more than once."""
+    steps = _steps(axes, parts)
     stepped = [(axis, gcd(*along)) for axis, along in enumerate(steps) if gcd(*along) > 1]
     for axis, unit in stepped:
         parts = _unwrapped(parts, axis, unit)
-    axes = [_stretches(parts, axis) for axis in range(dimensions)]
-    axes += [_remainders(parts, axis, unit) for axis, unit in stepped]
+    along_axes = [_stretches(parts, axis) for axis in range(axes)]
+    along_axes += [_remainders(parts, axis, unit) for axis, unit in stepped]
     are_boxes = max(map(len, steps), default=0) < 2
-
-    def find(group: list[int]) -> Optional[Pair]:
+    for group in groups_of(along_axes, list(range(len(parts)))):
         if are_boxes:
-            pair = first_pair(axes, group)
-            return None if pair is None else (parts[pair[0]][0], parts[pair[1]][0])
+            yield from ((parts[one][0], parts[other][0]) for one, other in pairs_of(along_axes, group))
+            continue
         some = [parts[place] for place in group]
-        differ = max(map(len, _steps(dimensions, some))) > 1
-        return _compared(some) if differ else _first_conflict(dimensions, some)
-
-    return find_in_groups(axes, list(range(len(parts))), find)
+        differ = max(map(len, _steps(axes, some))) > 1
+        yield from compare(some) if differ else conflicts_of(axes, some, compare)
 
 
-def _steps(dimensions: int, parts: list[_Part]) -> list[set[int]]:
+def _steps(dimensions: int, parts: list[Part]) -> list[set[int]]:
     """The steps above 1 along each axis."""
     return [{runs[axis].step for _, runs in parts if len(runs[axis]) > 1} - {1} for axis in range(dimensions)]
 
 
-def _stretches(parts: list[_Part], axis: int) -> Intervals:
+def _stretches(parts: list[Part], axis: int) -> Intervals:
     """From the first number of each part to the last."""
     return Intervals([runs[axis][0] for _, runs in parts], [runs[axis][-1] for _, runs in parts])
 
@@ -222,7 +141,7 @@ def _stretches(parts: list[_Part], axis: int) -> Intervals:
 # remainders by the step do. With more steps, all that have a number in common have it by their greatest divisor.
 
 
-def _remainders(parts: list[_Part], axis: int, step: int) -> Intervals:
+def _remainders(parts: list[Part], axis: int, step: int) -> Intervals:
     """The remainders of the numbers by a step: all, one, or those of a short run."""
     runs = [runs[axis] for _, runs in parts]
     covers = [run.step == 1 and len(run) >= step for run in runs]
@@ -230,9 +149,9 @@ def _remainders(parts: list[_Part], axis: int, step: int) -> Intervals:
     return Intervals(lows, [step - 1 if all_of_them else run[-1] % step for run, all_of_them in zip(runs, covers)])
 
 
-def _unwrapped(parts: list[_Part], axis: int, step: int) -> list[_Part]:
+def _unwrapped(parts: list[Part], axis: int, step: int) -> list[Part]:
     """The same parts, with two for each whose remainders along an axis begin again: they have no least one to last."""
-    found: list[_Part] = []
+    found: list[Part] = []
     for position, runs in parts:
         run = runs[axis]
         cut = run[-1] // step * step
@@ -256,8 +175,8 @@ class _Piece(NamedTuple):
     last: int
 
 
-def _compared(parts: list[_Part]) -> Optional[Pair]:
-    """The positions of two parts that share a number on each axis.
+def _first_compared(parts: list[Part]) -> Iterator[Pair]:
+    """The positions of some two parts that share a number on each axis.
 
     They are compared in their order along the axis that comes first: there the most begin apart.
     """
@@ -267,10 +186,22 @@ def _compared(parts: list[_Part]) -> Optional[Pair]:
     in_order = sorted(parts, key=lambda part: part[1][axes[0]].start)
     pieces = [_piece(axes, in_order[at : at + PIECE]) for at in range(0, len(parts), PIECE)]
     pairs = (_pair_of(shape, one, other) for one, other in combinations_with_replacement(pieces, 2))
-    return next((pair for pair in pairs if pair is not None), None)
+    return (pair for pair in pairs if pair is not None)
 
 
-def _piece(axes: list[int], parts: list[_Part]) -> _Piece:
+def each_compared(parts: list[Part]) -> Iterator[Pair]:
+    """The positions of each two parts that share a number on each axis: of those whose stretches overlap."""
+    axes = range(len(parts[0][1]))
+    stretches, answer = [_stretches(parts, axis) for axis in axes], one_answer()
+    shape, count = unsigned([1 + max(along.highs) for along in stretches]), count_of(len(axes))
+    packed = [count_of(4 * len(axes)).pack_signed(*sum(map(_fields, runs), ())) for _, runs in parts]
+    for one, other in pairs_of(stretches, list(range(len(parts)))):
+        library.slices_intersect(*shape, packed[one], count, packed[other], count, False, answer)
+        if answer[0]:
+            yield parts[one][0], parts[other][0]
+
+
+def _piece(axes: list[int], parts: list[Part]) -> _Piece:
     fields = [field for _, runs in parts for axis in axes for field in _fields(runs[axis])]
     positions, stretches = [position for position, _ in parts], _stretches(parts, axes[0])
     return _Piece(positions, array("q", fields).tobytes(), stretches.lows[0], max(stretches.highs))

@@ -6,7 +6,7 @@ from dataclasses import dataclass, field
 from math import prod
 from operator import index as as_int
 from struct import error as StructError
-from typing import TYPE_CHECKING, Any, Iterator, Optional, Sequence, SupportsIndex
+from typing import TYPE_CHECKING, Any, Iterable, Iterator, Optional, SupportsIndex
 
 from . import _frames as frames
 from . import _picture as picture
@@ -22,7 +22,8 @@ from ._buffers import (
     no_bytes,
     side_by_side,
 )
-from ._errors import LayoutError, OutOfBoundsError, ShapeError, of_one
+from ._conflicts import first_intersection_of_keys
+from ._errors import OutOfBoundsError, ShapeError
 from ._layouts import (
     Row,
     default_strides,
@@ -42,7 +43,6 @@ from ._numbers import (
     LIMIT,
     Lens,
     Numbers,
-    entries,
     flag,
     integer,
     integers,
@@ -51,7 +51,7 @@ from ._numbers import (
     written,
 )
 from ._sharing import MAX_WORK, share_byte
-from ._slices import Elems, basic_key, first_intersection, slices_intersect
+from ._slices import basic_key, slices_intersect
 from ._sources import read_in_memory, read_source
 from ._units import Fields
 from ._views import Views, made
@@ -299,7 +299,7 @@ class Layout(Views):
         max_work = work_limit(max_work)
         return self.owned or has_distinct_places(self.shape, self.strides, max_work)
 
-    def first_intersection(self, keys: Sequence[Any]) -> Optional[tuple[int, int]]:
+    def first_intersection(self, keys: Iterable[Any]) -> Optional[tuple[int, int]]:
         """Two slices by NumPy's keys that share an index: their positions, the less first; `None` if no two do.
 
         Where the layout has distinct places these are the slices that share one. See `first_intersection`.
@@ -307,14 +307,7 @@ class Layout(Views):
         >>> Layout.over(6, (2, 3)).first_intersection([0, (1, 0), (..., -1)])
         (0, 2)
         """
-        listed = entries(keys, "keys", "slices")
-        return first_intersection(self.shape, [self._elems_at(position, key) for position, key in enumerate(listed)])
-
-    def _elems_at(self, position: int, key: Any) -> Elems:
-        try:
-            return basic_key(self.shape, key)
-        except (LayoutError, TypeError) as error:
-            raise of_one("slice", position, error) from None
+        return first_intersection_of_keys(self.shape, keys)
 
     def intersects(self, first: Any, second: Any, max_work: Optional[int] = MAX_WORK) -> bool:
         """Whether two slices by NumPy's keys share a place: exact. See `share_element` for `max_work`.

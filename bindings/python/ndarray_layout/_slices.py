@@ -10,7 +10,7 @@ from struct import error as StructError
 from typing import Any, Iterable, NamedTuple, Optional, Sequence, SupportsIndex, Union
 
 from . import _library as library
-from ._errors import LayoutError, OutOfBoundsError, ShapeError, SizeOverflowError, error_of_kind, of_one
+from ._errors import OutOfBoundsError, ShapeError, SizeOverflowError, error_of_kind
 from ._numbers import (
     COUNTS,
     INDEX,
@@ -177,34 +177,8 @@ def slices_intersect(shape: Numbers, first: Elems, second: Elems, clamp: bool = 
     return bool(answer[0])
 
 
-def first_intersection(shape: Numbers, slices: Iterable[Elems], clamp: bool = False) -> Optional[tuple[int, int]]:
-    """Two of many slices of one shape that share an index: their positions, the less first. `None` if no two do.
-
-    Raises what `slice_view` does, of the first slice with an error, before any two are compared. Slices that begin in
-    their order along an axis, as rows and tiles do, are compared with few others each; in no order each with each.
-
-    >>> first_intersection((2, 3), [[0, Slice()], [1, Slice()], [Slice(), 2]])
-    (0, 2)
-    >>> first_intersection((2, 3), [[0, Slice()], [1, Slice()]])
-    """
-    packed = _packed_each(entries(slices, "slices", "slices"))
-    counts = [count.value for _, count in packed]
-    numbers = b"".join([numbers for numbers, _ in packed])
-    return intersection(unsigned(shape), numbers, counts, flag(clamp, "clamp"))
-
-
-def _packed_each(slices: Sequence[Elems]) -> list[Packed]:
-    packed = []
-    for position, elems in enumerate(slices):
-        try:
-            packed.append(_packed(_fields_of(elems)))
-        except (LayoutError, TypeError) as error:
-            raise of_one("slice", position, error) from None
-    return packed
-
-
 def intersection(shape: Packed, elems: bytes, counts: Sequence[int], clamp: bool) -> Optional[tuple[int, int]]:
-    """`first_intersection` of slices that are packed one after another, with the count of elements of each."""
+    """Two slices that share an index, of slices that are packed one after another, with the count of elements of each."""
     two, found = count_of(2), one_answer()
     pair, listed = two.unsigned_room(), (array("Q", counts).tobytes(), count_of(len(counts)))
     library.first_intersection(*shape, elems, c_size_t(sum(counts)), *listed, clamp, pair, two, found)
