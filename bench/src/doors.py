@@ -11,7 +11,7 @@ import numpy as np
 
 SIDE, ROUND_S, ROUNDS = 1000, 0.02, int(sys.argv[1])
 ARRAY = np.zeros((SIDE, SIDE), np.uint8)
-LAYOUT = nd.Layout.over(ARRAY, ARRAY.shape, owned=True)
+LAYOUT = nd.Layout.over(ARRAY, ARRAY.shape, writable=True)
 ODD, EVEN = (slice(1, None, 2), 3), (slice(0, None, 2), slice(None))
 CUBE = np.lib.stride_tricks.as_strided(np.zeros(1, np.uint8), (10**6,) * 3, (10**12, 10**6, 1))
 ONE, OTHER = CUBE[::6, 1::4, ::9], CUBE[2::4, 0::6, 3::6]
@@ -28,14 +28,14 @@ def first_marked(shape, keys):
 
 def of_many(count):
     shape, keys = (count, 8), [(row, slice(None)) for row in range(count)]
-    layout = nd.Layout.over(count * 8, shape, owned=True)
+    layout = nd.Layout.over(count * 8, shape, writable=True)
     return f"first_intersection of {count:,}, a slice", lambda: layout.first_intersection(keys), lambda: first_marked(shape, keys), count
 
 
 ROWS = [
     (
         "a layout, accepted",
-        lambda: nd.Layout.over(SIDE * SIDE, (SIDE, SIDE), (SIDE, 1), owned=True),
+        lambda: nd.Layout.over(SIDE * SIDE, (SIDE, SIDE), (SIDE, 1), writable=True),
         lambda: np.ndarray((SIDE, SIDE), np.uint8, ARRAY, 0, (SIDE, 1)),
         1,
     ),

@@ -24,7 +24,7 @@ CONTRAST = 4.5
 """What the Web Content Accessibility Guidelines ask of text."""
 
 LAYOUTS = (
-    Layout.over(6, (2, 3), (-3, 1), owned=True),
+    Layout.over(6, (2, 3), (-3, 1), writable=True),
     Layout.over(24, (2, 3, 4))[:, ::-1, ::2],
     Layout.over(64, (2,) * 6),
     Layout.over(5, 5).windows(3),

@@ -161,13 +161,15 @@ BAD = {
 }
 """Values of which no one is what a parameter of the kind takes."""
 
+BAD["flag or None"] = BAD["flag"][1:]
+
 LAYOUT = Layout.over(6, (2, 3))
-OWNED = Layout.over(6, (2, 3), owned=True)
+WRITABLE = Layout.over(6, (2, 3), writable=True)
 ONES = Layout.over(1, (1, 1))
 REPEATED = LAYOUT.broadcast((2, 2, 3))
 SHAPED = {"shape": ((2, 3), "list"), "strides": ((3, 1), "list"), "itemsize": (1, "itemsize")}
 START = {"start": (0, "number")}
-SIZES = {"elem_size": (1, "number"), "length": (6, "number"), "owned": (False, "flag")}
+SIZES = {"elem_size": (1, "number"), "length": (6, "number"), "writable": (False, "flag")}
 ORDER = {"order": ("C", "order")}
 CLAMP = {"clamp": (False, "flag")}
 BOTH = {"first": (0, "key"), "second": (0, "key"), "max_work": (10, "steps")}
@@ -201,7 +203,7 @@ CALLS = {
         "itemsize": (8, "number"),
         "nbytes": (48, "number"),
         "offset": (0, "number or None"),
-        "owned": (False, "flag"),
+        "writable": (False, "flag"),
     },
     nd.share_element: {"a": (array_of(), "array")} | BOTH,
     nd.reshape_without_copy: {
@@ -229,16 +231,16 @@ CALLS = {
         }
         for call in (nd.chunks_of, nd.aligned)
     },
-    Layout: START | SHAPED | {"itemsize": (4, "number"), "length": (6, "number"), "owned": (False, "flag")},
+    Layout: START | SHAPED | {"itemsize": (4, "number"), "length": (6, "number"), "writable": (False, "flag or None")},
     Layout.over: {
         "buffer": (6, "buffer or number"),
         "shape": ((2, 3), "list"),
         "strides": (None, "list or None"),
         "start": (0, "number or None"),
         "order": (None, "order or None"),
-        "owned": (False, "flag"),
+        "writable": (False, "flag or None"),
     },
-    Layout.of: {"array": (b"abc", "array or buffer"), "owned": (False, "flag")},
+    Layout.of: {"array": (b"abc", "array or buffer"), "writable": (False, "flag or None")},
     LAYOUT.__getitem__: {"key": (0, "key")},
     LAYOUT.slice: {"elems": ((0, 0), "elems")} | CLAMP,
     LAYOUT.reshape: {"shape": ((3, 2), "list")} | ORDER,
@@ -259,7 +261,7 @@ CALLS = {
     LAYOUT.rows: ORDER,
     LAYOUT.first_intersection: {"keys": ([0], "keys")},
     LAYOUT.intersects: BOTH,
-    OWNED.has_distinct_places: {"max_work": (10, "steps")},
+    WRITABLE.has_distinct_places: {"max_work": (10, "steps")},
     REPEATED.intersects: BOTH,
     REPEATED.has_distinct_places: {"max_work": (10, "steps")},
     LAYOUT.as_memoryview: {"buffer": (b"abcdef", "buffer")},
@@ -272,7 +274,7 @@ if np:
 NAMED = (
     r"^((slice|region) \d+: )?(axis \d+: )?"
     r"(an array|array|axis|base|buffer|blocks|chunk|clamp|dims|dtype|elem_size|elems|index|itemsize|items of the dtype|keys|regions|"
-    r"length|max_parts|max_work|nbytes|offset|owned|place|slices|start|stride|the length of a (block|chunk)|"
+    r"length|max_parts|max_work|nbytes|offset|writable|place|slices|start|stride|the length of a (block|chunk)|"
     r"slice indices must be integers|(?s:.+) is no (basic slice|integer|start|end|step)|"
     r"only integer scalar arrays can be converted)\b"
 )
@@ -466,8 +468,8 @@ class ManyAxes(unittest.TestCase):
         self.refuse(nd.permuted_axes, ones, ones, (*axes[1:], 1))
         self.refuse(nd.permuted_axes, ones, ones, (*axes, 0))
         self.refuse(nd.permuted_axes, ones, ones, self.ZEROS)
-        self.refuse(nd.layout_start, ones + (2, 2), axes + (1, 1), length=9, owned=True)
-        self.refuse(nd.lay_over, ones + (2, 2), axes + (8, 8), itemsize=8, nbytes=99, owned=True)
+        self.refuse(nd.layout_start, ones + (2, 2), axes + (1, 1), length=9, writable=True)
+        self.refuse(nd.lay_over, ones + (2, 2), axes + (8, 8), itemsize=8, nbytes=99, writable=True)
         self.refuse(nd.reshape, (2, 2) * 30 + ones, (7, 3) * 30 + ones, ones + (3,))
         self.refuse(nd.place, 0, ones, ones, self.ZEROS[1:] + (1,))
         self.refuse(nd.place, 0, ones, ones, self.ZEROS[1:] + (FAR,))

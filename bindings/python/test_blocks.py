@@ -126,23 +126,23 @@ class BesideNumpy(Counted):
         for _ in range(ARRAYS):
             shape = tuple(self.numbers.choices((1, 2, 3, 4), k=self.numbers.randint(1, 3)))
             strides = tuple(self.numbers.randint(-25, 25) for _ in shape)
-            nbytes, offset, owned = (
+            nbytes, offset, writable = (
                 self.numbers.randint(1, 120),
                 self.numbers.randint(0, 60),
                 self.numbers.random() < 0.5,
             )
             expected = outcome(lambda: np.ndarray(shape, np.int32, bytes(nbytes), offset, strides).shape == shape)
-            how = {"itemsize": 4, "nbytes": nbytes, "owned": owned}
+            how = {"itemsize": 4, "nbytes": nbytes, "writable": writable}
             ours = outcome(lambda: nd.lay_over(shape, strides, **how, offset=offset) == offset)
             each_byte = nd.places(2_000, (*shape, 4), (*strides, 1))
             lie_apart = len(set(each_byte)) == len(each_byte)
-            if owned and ours is True:
+            if writable and ours is True:
                 self.assertTrue(lie_apart)
-            if not owned or not nd.has_overlap((*shape, 4), (*strides, 1)):
+            if not writable or not nd.has_overlap((*shape, 4), (*strides, 1)):
                 self.assertEqual(ours is True, expected is True, (shape, strides, nbytes, offset))
-            self.seen[f"{'owned' if owned else 'read'}, {'accepted' if ours is True else 'refused'}"] += 1
+            self.seen[f"{'writable' if writable else 'read'}, {'accepted' if ours is True else 'refused'}"] += 1
             lowest, span = 2_000 - min(each_byte), max(each_byte) - min(each_byte) + 1
-            if not owned:
+            if not writable:
                 self.assertEqual(nd.lay_over(shape, strides, itemsize=4, nbytes=span), lowest)
                 self.assertRaises(IndexError, nd.lay_over, shape, strides, itemsize=4, nbytes=span - 1)
 
@@ -151,7 +151,7 @@ class BesideNumpy(Counted):
         records = np.zeros(5, [("key", np.int32), ("text", "S3"), ("value", np.float64)])
         for name, (dtype, at) in records.dtype.fields.items():
             field = records[name]
-            how = {"itemsize": dtype.itemsize, "nbytes": records.nbytes, "owned": True}
+            how = {"itemsize": dtype.itemsize, "nbytes": records.nbytes, "writable": True}
             offset = nd.lay_over(field.shape, field.strides, **how, offset=at)
             again = np.ndarray(field.shape, dtype, records, offset, field.strides)
             again[2] = 1
@@ -205,12 +205,12 @@ class DistinctPlaces(Counted):
 class Layouts(unittest.TestCase):
     """The methods of `Layout` go by the functions, and keep what they promise."""
 
-    LAYOUT = Layout.over(24, (2, 3, 4), owned=True)[:, ::-1]
+    LAYOUT = Layout.over(24, (2, 3, 4), writable=True)[:, ::-1]
 
     def test_blocks(self):
         windows, chunks = self.LAYOUT.windows((1, 2, 3)), self.LAYOUT.exact_chunks((1, 2, 3))
-        self.assertEqual((windows.shape, windows.owned), ((2, 2, 2, 1, 2, 3), False))
-        self.assertEqual((chunks.shape, chunks.owned), ((2, 1, 1, 1, 2, 3), True))
+        self.assertEqual((windows.shape, windows.writable), ((2, 2, 2, 1, 2, 3), False))
+        self.assertEqual((chunks.shape, chunks.writable), ((2, 1, 1, 1, 2, 3), True))
         self.assertEqual(windows[1, 0, 1, 0].places(), self.LAYOUT[1, :2, 1:].places())
         self.assertEqual(chunks[1, 0, 0, 0].places(), self.LAYOUT[1, :2, :3].places())
         self.assertRaises(ShapeError, self.LAYOUT.windows, (1, 2))
@@ -219,7 +219,7 @@ class Layouts(unittest.TestCase):
     def test_parts(self):
         first, second = self.LAYOUT.split_at(1, 2)
         self.assertEqual(first, self.LAYOUT[:, :2])
-        self.assertEqual((second.places(), second.owned), (self.LAYOUT[:, 2:].places(), True))
+        self.assertEqual((second.places(), second.writable), (self.LAYOUT[:, 2:].places(), True))
         self.assertRaises(IndexError, self.LAYOUT.split_at, 1, 4)
         self.assertRaises(IndexError, self.LAYOUT.split_at, 3, 0)
         self.assertRaises(OverflowError, self.LAYOUT.split_at, -1, 0)

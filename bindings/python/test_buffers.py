@@ -76,7 +76,7 @@ class Held(unittest.TestCase):
     def test_the_hold_ends_with_the_array(self):
         for view_of in (lambda memory: memory, memoryview, lambda memory: memoryview(memory).cast("i", (4, 4))):
             memory = mmap.mmap(-1, 64)
-            made = Layout.over(16, 4, owned=True).as_array(view_of(memory))
+            made = Layout.over(16, 4, writable=True).as_array(view_of(memory))
             self.assertRaises(BufferError, memory.close)
             part = made[1:]
             del made
@@ -130,7 +130,7 @@ class Items(unittest.TestCase):
 
     def test_dates(self):
         for items in self.arrays():
-            layout = Layout.over(items, (2, 3), owned=True, order="F" if np.isfortran(items) else "C")
+            layout = Layout.over(items, (2, 3), writable=True, order="F" if np.isfortran(items) else "C")
             made = layout[::-1, 1:].as_array(items)
             self.assertEqual((made.dtype, made.tolist()), (items.dtype, items[::-1, 1:].tolist()))
             made[1, 0] = items[1, 2]

@@ -41,7 +41,7 @@ class Rules:
         return [start + sum(corner) for corner in product(*ends)]
 
     @staticmethod
-    def accepted(start, length, shape, strides, elem_size, owned):
+    def accepted(start, length, shape, strides, elem_size, writable):
         found = Rules.layout(shape, strides, elem_size)
         if found:
             return found
@@ -50,7 +50,7 @@ class Rules:
         corners, is_empty = Rules.corners(start, shape, strides), 0 in shape
         if min(corners) < 0 or max(corners) > MAX or max(corners) >= length + is_empty:
             return ("OutOfBounds", None)
-        return Rules.alone(shape, strides) if owned else OK
+        return Rules.alone(shape, strides) if writable else OK
 
     @staticmethod
     def alone(shape, strides):
@@ -231,13 +231,13 @@ class BesideRules(unittest.TestCase):
     def test_layouts(self):
         for _ in range(CALLS):
             shape, numbers = self.shape(), self.numbers
-            strides, owned, elem_size = self.strides(shape), numbers.random() < 0.5, numbers.choice((0, 1, 8, 2**40))
+            strides, writable, elem_size = self.strides(shape), numbers.random() < 0.5, numbers.choice((0, 1, 8, 2**40))
             length = numbers.choice((numbers.randint(0, 150), 2**64 - 1, MAX))
-            sizes = {"elem_size": elem_size, "length": length, "owned": owned}
-            expected = Rules.accepted(None, length, shape, strides, elem_size, owned)
+            sizes = {"elem_size": elem_size, "length": length, "writable": writable}
+            expected = Rules.accepted(None, length, shape, strides, elem_size, writable)
             self.compare(expected, nd.layout_start, shape, strides, **sizes)
             start = numbers.choice((0, numbers.randint(0, 30), numbers.randint(0, 150), MAX))
-            expected = Rules.accepted(start, length, shape, strides, elem_size, owned)
+            expected = Rules.accepted(start, length, shape, strides, elem_size, writable)
             self.compare(expected, nd.check_layout, start, shape, strides, **sizes)
 
     def test_shapes_alone(self):

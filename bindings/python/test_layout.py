@@ -32,13 +32,13 @@ class Accepted(unittest.TestCase):
     def test_over(self):
         self.assertEqual(Layout.over(6, (2, 3)), Layout(0, (2, 3), (3, 1), length=6))
         self.assertEqual(Layout.over(6, (2, 3), order="F"), Layout(0, (2, 3), (1, 2), length=6))
-        self.assertEqual(Layout.over(6, (2, 3), (-3, 1), owned=True), Layout(3, (2, 3), (-3, 1), length=6, owned=True))
+        self.assertEqual(Layout.over(6, (2, 3), (-3, 1), writable=True), Layout(3, (2, 3), (-3, 1), length=6, writable=True))
         self.assertEqual(Layout.over(9, 3, 2, start=1), Layout(1, (3,), (2,), length=9))
         self.assertEqual(Layout.over(bytearray(24), (4, 6)).length, 24)
         self.assertEqual(Layout.over(array.array("q", range(6)), (2, 3)).length, 6)
         self.assertRaises(IndexError, Layout.over, 5, (2, 3))
         self.assertRaises(IndexError, Layout.over, 6, 3, 2, start=2)
-        self.assertRaises(ShapeError, Layout.over, 9, (3, 2), (2, 3), owned=True)
+        self.assertRaises(ShapeError, Layout.over, 9, (3, 2), (2, 3), writable=True)
         self.assertRaises(OverflowError, Layout.over, array.array("q", [0]), (1, 3), (1, 2**60))
         self.assertRaises(ValueError, Layout.over, 6, (2, 3), order="A")
         self.assertRaises(TypeError, Layout.over, 6.0, (2, 3))
@@ -47,7 +47,7 @@ class Accepted(unittest.TestCase):
         """The constructor accepts too: none can be made that leaves its elements."""
         for start, shape, strides, length in ((2, (2,), (1,), 3), (0, (2,), (-1,), 3), (0, (2,), (1, 1), 3)):
             self.assertRaises((IndexError, ShapeError), Layout, start, shape, strides, length=length)
-        self.assertRaises(ShapeError, Layout, 0, (3, 2), (2, 3), length=9, owned=True)
+        self.assertRaises(ShapeError, Layout, 0, (3, 2), (2, 3), length=9, writable=True)
         self.assertRaises(TypeError, Layout, 0, (3, 2), (2, 3), 9)
         layout = Layout(0, [2, 3], iter((3, 1)), length=6)
         self.assertEqual((layout.shape, layout.strides), ((2, 3), (3, 1)))
@@ -75,15 +75,46 @@ class Accepted(unittest.TestCase):
 
 
 class Methods(unittest.TestCase):
-    LAYOUT = Layout.over(24, (2, 3, 4), owned=True)
+    LAYOUT = Layout.over(24, (2, 3, 4), writable=True)
 
-    def test_owned(self):
+    def test_writable(self):
         for made in (self.LAYOUT[1], self.LAYOUT.T, self.LAYOUT.reshape(-1), self.LAYOUT.slice([0, Slice(), Slice()])):
-            self.assertTrue(made.owned)
+            self.assertTrue(made.writable)
             self.assertEqual(made.length, 24)
-        self.assertFalse(self.LAYOUT.broadcast((5, 2, 3, 4)).owned)
+        self.assertFalse(self.LAYOUT.broadcast((5, 2, 3, 4)).writable)
         self.assertFalse(self.LAYOUT.has_overlap)
         self.assertTrue(self.LAYOUT.broadcast((5, 2, 3, 4)).has_overlap)
+
+    def test_where_nothing_is_said(self):
+        """A layout is writable that keeps the no-alias rule, however it is made; as one to be read any is accepted."""
+        numbers, seen = random.Random("writable"), {True: 0, False: 0}
+        for _ in range(LAYOUTS // 2):
+            shape = tuple(numbers.choice((0, 1, 2, 3)) for _ in range(numbers.randint(0, 3)))
+            strides = tuple(numbers.choice((0, 1, -1, 2, 3, -4, 6)) for _ in shape)
+            keeps = not nd.has_overlap(shape, strides)
+            layout = Layout.over(99, shape, strides)
+            made = [
+                layout,
+                Layout.over(99, [*shape], [*strides], start=layout.start),
+                Layout(layout.start, shape, strides, length=99),
+                Layout(layout.start, [*shape], strides, length=99),
+            ]
+            if np is not None:
+                items = np.zeros(99, "i2")
+                array = np.ndarray(shape, "i2", items, 2 * layout.start, [2 * stride for stride in strides])
+                made += [Layout.of(array), Layout.of(array, base=items)]
+            for one in made:
+                self.assertIs(one.writable, keeps, (shape, strides))
+                self.assertNotEqual(one.writable, one.has_overlap)
+            self.assertIs(Layout.over(99, shape, strides, writable=False).writable, False)
+            if keeps:
+                self.assertEqual(len({*layout.places()}), layout.size)
+                self.assertEqual(Layout.over(99, shape, strides, writable=True), layout)
+            else:
+                self.assertRaises(ShapeError, Layout.over, 99, shape, strides, writable=True)
+            seen[keeps] += 1
+        self.assertGreater(min(seen.values()), LAYOUTS // 20)
+        self.assertTrue(Layout.over(6, (2, 3)).writable and Layout.over(6, (2, 3), order="F").writable)
 
     def test_slices(self):
         self.assertEqual(self.LAYOUT[1, ..., ::-2].places(), (15, 13, 19, 17, 23, 21))
@@ -173,7 +204,7 @@ class Memoryviews(unittest.TestCase):
     ITEMS = array.array("i", range(12))
 
     def test_out(self):
-        layout = Layout.over(self.ITEMS, (3, 4), owned=True)
+        layout = Layout.over(self.ITEMS, (3, 4), writable=True)
         self.assertEqual(layout.as_memoryview(self.ITEMS).tolist(), [[0, 1, 2, 3], [4, 5, 6, 7], [8, 9, 10, 11]])
         self.assertEqual(layout[1:].as_memoryview(self.ITEMS).tolist(), [[4, 5, 6, 7], [8, 9, 10, 11]])
         self.assertEqual(layout[1, 2].as_memoryview(self.ITEMS).tolist(), 6)
@@ -214,8 +245,8 @@ class Memoryviews(unittest.TestCase):
 
     def test_only_to_be_read(self):
         items = array.array("i", range(3))
-        self.assertTrue(Layout.over(3, 3).as_memoryview(items).readonly)
-        Layout.over(3, 3, owned=True).as_memoryview(items)[1] = 9
+        self.assertTrue(Layout.over(3, 3, writable=False).as_memoryview(items).readonly)
+        Layout.over(3, 3, writable=True).as_memoryview(items)[1] = 9
         self.assertEqual(items.tolist(), [0, 9, 2])
 
 
@@ -226,7 +257,7 @@ class Arrays(unittest.TestCase):
         numbers, base = random.Random("arrays"), np.arange(360)
         for _ in range(LAYOUTS):
             shape = numbers.choice(((360,), (2, 180), (3, 4, 30), (5, 6, 12), (2, 3, 5, 12)))
-            expected, layout = base.reshape(shape), Layout.over(base, shape, owned=True)
+            expected, layout = base.reshape(shape), Layout.over(base, shape, writable=True)
             axes = numbers.sample(range(len(shape)), len(shape))
             expected, layout = expected.transpose(axes), layout.transpose(axes)
             key = tuple(self.entry(numbers, length) for length in expected.shape)
@@ -248,11 +279,11 @@ class Arrays(unittest.TestCase):
 
     def test_only_to_be_read(self):
         numbers = np.zeros(3)
-        self.assertFalse(Layout.over(3, 3).as_array(numbers).flags.writeable)
-        self.assertFalse(Layout.over(3, 3, owned=True).broadcast((2, 3)).as_array(numbers).flags.writeable)
-        Layout.over(3, 3, owned=True).as_array(numbers)[:] = 1
+        self.assertFalse(Layout.over(3, 3, writable=False).as_array(numbers).flags.writeable)
+        self.assertFalse(Layout.over(3, 3, writable=True).broadcast((2, 3)).as_array(numbers).flags.writeable)
+        Layout.over(3, 3, writable=True).as_array(numbers)[:] = 1
         self.assertEqual(numbers.tolist(), [1, 1, 1])
-        self.assertFalse(Layout.over(3, 3, owned=True).as_array(b"abc").flags.writeable)
+        self.assertFalse(Layout.over(3, 3, writable=True).as_array(b"abc").flags.writeable)
 
     def test_room(self):
         self.assertRaises(IndexError, Layout.over(4, 3).as_array, np.zeros(3))
@@ -266,7 +297,7 @@ class Arrays(unittest.TestCase):
         a = np.arange(24, dtype=np.int32).reshape(2, 3, 4)
         self.assertEqual(Layout.of(a[::-1, 1:, ::2]), Layout(12, (2, 2, 2), (-12, 4, 2), length=19))
         self.assertEqual(Layout.of(a[:, :0]).size, 0)
-        self.assertRaises(ShapeError, Layout.of, np.broadcast_to(a, (2, 2, 3, 4)), owned=True)
+        self.assertRaises(ShapeError, Layout.of, np.broadcast_to(a, (2, 2, 3, 4)), writable=True)
         records = np.zeros(3, [("key", np.int32), ("text", "S3")])
         self.assertRaises(ShapeError, Layout.of, records["key"])
         self.assertEqual(Layout.of(records["key"][:0]).length, 0)
@@ -290,14 +321,14 @@ class Arrays(unittest.TestCase):
     def test_of_a_base(self):
         a = np.arange(12).reshape(4, 3)
         self.assertEqual(Layout.of(a[2:], base=a), Layout(6, (2, 3), (3, 1), length=12))
-        self.assertEqual(Layout.of(a[2:], base=a, owned=True).as_array(a).tolist(), [[6, 7, 8], [9, 10, 11]])
+        self.assertEqual(Layout.of(a[2:], base=a, writable=True).as_array(a).tolist(), [[6, 7, 8], [9, 10, 11]])
         self.assertEqual(Layout.of(memoryview(a.ravel())[::-4], base=a), Layout(11, (3,), (-4,), length=12))
         self.assertRaises(IndexError, Layout.of, a, base=a[1:])
         self.assertRaises(IndexError, Layout.of, a, base=a[:3])
         self.assertRaises(IndexError, Layout.of, a, base=np.zeros((4, 3), int))
         self.assertRaises(ShapeError, Layout.of, a[2:], base=a[::2])
         self.assertRaises(ShapeError, Layout.of, a[2:], base=a.view(np.int32))
-        self.assertRaises(ShapeError, Layout.of, np.broadcast_to(a[0], (2, 3)), base=a, owned=True)
+        self.assertRaises(ShapeError, Layout.of, np.broadcast_to(a[0], (2, 3)), base=a, writable=True)
         data = np.zeros(50, np.uint8)
         with self.assertRaises(ShapeError) as caught:
             Layout.of(data[3:43].view(np.int64), base=data[:48].view(np.int64))
@@ -325,7 +356,7 @@ class Arrays(unittest.TestCase):
 
     def test_no_bytes_become_objects(self):
         """References to objects are taken from objects alone, and bytes never from them."""
-        layout, objects = Layout.over(3, 3, owned=True), np.array([1, "b", None], object)
+        layout, objects = Layout.over(3, 3, writable=True), np.array([1, "b", None], object)
         records = np.zeros(3, [("a", object), ("b", np.int64)])
         for buffer, dtype in (
             (b"\1" * 48, object),

@@ -51,7 +51,7 @@ class Texts(unittest.TestCase):
         text = "the layout needs 6 elements of 5"
         self.assert_error(text, {"needed": 6, "length": 5}, nd.layout_start, (2, 3), (-3, 1), length=5)
         text = "Unsupported: axis 0: stride 2 isn't past 3, the reach of the axes with no greater stride (in elements)"
-        self.assert_error(text, {"stride": 2, "reach": 3}, nd.layout_start, (2, 4), (2, 1), length=9, owned=True)
+        self.assert_error(text, {"stride": 2, "reach": 3}, nd.layout_start, (2, 4), (2, 1), length=9, writable=True)
 
     def test_numbers_without_64_bits(self):
         self.assert_error("axis 1: length -1 is negative", {"length": -1}, nd.default_strides, (2, -1))
@@ -108,10 +108,10 @@ class Texts(unittest.TestCase):
             text, numbers = f"the array needs {needed} bytes of 23", {"needed": needed, "nbytes": 23}
             self.assert_error(text, numbers, nd.lay_over, (2, 3), strides, itemsize=4, nbytes=23)
         text = "Unsupported: axis 0: stride 3 isn't past 3, the reach of the axes with no greater stride (in bytes)"
-        self.assert_error(text, {"stride": 3, "reach": 3}, nd.lay_over, 2, 3, itemsize=4, nbytes=20, owned=True)
+        self.assert_error(text, {"stride": 3, "reach": 3}, nd.lay_over, 2, 3, itemsize=4, nbytes=20, writable=True)
         text = "Unsupported: axis 0: stride 8 isn't past 11, the reach of the axes with no greater stride (in bytes)"
         self.assert_error(
-            text, {"stride": 8, "reach": 11}, nd.lay_over, (2, 2), (8, 8), itemsize=4, nbytes=20, owned=True
+            text, {"stride": 8, "reach": 11}, nd.lay_over, (2, 2), (8, 8), itemsize=4, nbytes=20, writable=True
         )
         for stride in (8, 9):
             text, numbers = f"the array needs {4 * stride} bytes of 20", {"needed": 4 * stride, "nbytes": 20}
@@ -274,12 +274,14 @@ class NotTakenForAnother(unittest.TestCase):
     def test_flags(self):
         """A word or a number is neither yes nor no, also where Python takes it for one of them."""
         for wrong in ("false", "", 1, 0, None, []):
-            text = f"owned is true or false, not {wrong!r}"
-            self.assert_refused(TypeError, text, nd.Layout.over, 6, 6, owned=wrong)
-            self.assert_refused(TypeError, text, nd.Layout, 0, (6,), (1,), length=6, owned=wrong)
+            text = f"writable is true or false, not {wrong!r}"
+            self.assert_refused(TypeError, text, nd.layout_start, 6, 1, length=6, writable=wrong)
+            if wrong is not None:
+                self.assert_refused(TypeError, text, nd.Layout.over, 6, 6, writable=wrong)
+                self.assert_refused(TypeError, text, nd.Layout, 0, (6,), (1,), length=6, writable=wrong)
             text = f"clamp is true or false, not {wrong!r}"
             self.assert_refused(TypeError, text, nd.picked, 4, [Slice(0, 9)], clamp=wrong)
-        self.assertIs(nd.Layout.over(6, 6, owned=True).owned, True)
+        self.assertIs(nd.Layout.over(6, 6, writable=True).writable, True)
 
     def test_order_beside_strides(self):
         for order in "CFcf":
@@ -292,7 +294,7 @@ class NotTakenForAnother(unittest.TestCase):
     def test_limits(self):
         """A count of steps or of parts isn't negative: NumPy's -1 for 'without end' is `None`."""
         text = "max_work -1 is negative, and `None` is without end"
-        layout, windows = nd.Layout.over(6, 6, owned=True), nd.Layout.over(6, 6).windows(2)
+        layout, windows = nd.Layout.over(6, 6, writable=True), nd.Layout.over(6, 6).windows(2)
         for call, arguments in (
             (nd.share_element, (ROWS, 0, 1)),
             (nd.share_element, (layout, layout)),

@@ -95,8 +95,8 @@ class Worked(unittest.TestCase):
         backwards = array_of((2, 3), (-12, 4), 4)
         self.assert_both(12, nd.layout_start, backwards, length=24)
         self.assertEqual(nd.lay_over(backwards, nbytes=24), 12)
-        self.assertEqual(nd.lay_over(backwards, nbytes=30, offset=14, owned=True), 14)
-        self.assert_both(None, nd.check_layout, 12, backwards, at=1, length=24, owned=True)
+        self.assertEqual(nd.lay_over(backwards, nbytes=30, offset=14, writable=True), 14)
+        self.assert_both(None, nd.check_layout, 12, backwards, at=1, length=24, writable=True)
         for call in (nd.layout_start, nd.lay_over):
             length = "nbytes" if call is nd.lay_over else "length"
             with self.assertRaisesRegex(IndexError, "^the array needs 24 bytes of 23$"):
@@ -224,7 +224,7 @@ class EachCall(unittest.TestCase):
             with self.assertRaisesRegex(ShapeError, rf"stride 12 isn't 2 times 12, the stride of axis 1 \(in {text}\)$"):
                 nd.reshape((2, 2), (12, 12), 4, **named)
             with self.assertRaisesRegex(ShapeError, rf"stride 2 isn't past 2, the reach of the axes .* \(in {text}\)$"):
-                nd.layout_start((2, 2), (2, 2), length=99, owned=True, **named)
+                nd.layout_start((2, 2), (2, 2), length=99, writable=True, **named)
         for text, named in (("elements", {}), ("bytes", {"itemsize": 2})):
             with self.assertRaisesRegex(IndexError, rf"^the lowest place -3 is below 0 \(in {text}\)$"):
                 nd.place(1, (3,), (-2,), (0,), **named)

@@ -55,7 +55,7 @@ class BesideNumPy(unittest.TestCase):
         made = of_layout(layout)
         self.assertEqual(made.shape, expected.shape, layout)
         self.assertEqual(made.places(), tuple(expected.ravel().tolist()), layout)
-        self.assertEqual((made.length, made.owned), (layout.length, layout.owned))
+        self.assertEqual((made.length, made.writable), (layout.length, layout.writable))
         return "the same"
 
     def run_calls(self, name, calls):

@@ -20,7 +20,7 @@ def layout_start(
     *,
     elem_size: SupportsIndex = 1,
     length: SupportsIndex,
-    owned: bool = False,
+    writable: bool = False,
     itemsize: Optional[SupportsIndex] = None,
 ) -> int:
     """The start of a layout over `length` elements of `elem_size` bytes, at which its lowest place is 0.
@@ -28,7 +28,7 @@ def layout_start(
     Of an array, or with `itemsize`, the strides, the length and the start count bytes, as those of `lay_over`.
 
     Raises `ShapeError` for different counts of axes, `OverflowError` where the layout is too large, `IndexError` where
-    it spans more than the elements, and `ShapeError` where `owned` is true and it breaks the no-alias rule.
+    it spans more than the elements, and `ShapeError` where `writable` is true and it breaks the no-alias rule.
 
     >>> layout_start((2, 3), (-3, 1), length=6)
     3
@@ -39,8 +39,8 @@ def layout_start(
     start, sizes = one_number(), (size(elem_size, "elem_size"), size(length, "length"))
     if itemsize is not None:
         _refuse_elem_size(sizes[0].value)
-        return lay_over(shape, strides, itemsize=itemsize, nbytes=length, owned=owned)
-    library.layout_start(*unsigned(shape), *signed(strides), *sizes, flag(owned, "owned"), start)
+        return lay_over(shape, strides, itemsize=itemsize, nbytes=length, writable=writable)
+    library.layout_start(*unsigned(shape), *signed(strides), *sizes, flag(writable, "writable"), start)
     return int(start[0])
 
 
@@ -52,7 +52,7 @@ def check_layout(
     *,
     elem_size: SupportsIndex = 1,
     length: SupportsIndex,
-    owned: bool = False,
+    writable: bool = False,
     itemsize: Optional[SupportsIndex] = None,
 ) -> None:
     """Raises what `layout_start` does where a layout with this start doesn't lie within `length` elements.
@@ -66,10 +66,10 @@ def check_layout(
     """
     first, sizes = size(start, "start"), (size(elem_size, "elem_size"), size(length, "length"))
     if itemsize is None:
-        library.check_layout(first, *unsigned(shape), *signed(strides), *sizes, flag(owned, "owned"))
+        library.check_layout(first, *unsigned(shape), *signed(strides), *sizes, flag(writable, "writable"))
     else:
         _refuse_elem_size(sizes[0].value)
-        lay_over(shape, strides, itemsize=itemsize, nbytes=length, offset=first.value, owned=owned)
+        lay_over(shape, strides, itemsize=itemsize, nbytes=length, offset=first.value, writable=writable)
 
 
 def _refuse_elem_size(elem_size: int) -> None:
@@ -86,14 +86,14 @@ def lay_over(
     itemsize: SupportsIndex,
     nbytes: SupportsIndex,
     offset: Optional[SupportsIndex] = None,
-    owned: bool = False,
+    writable: bool = False,
 ) -> int:
     ...
 
 
 @overload
 def lay_over(
-    array: Array, /, *, nbytes: SupportsIndex, offset: Optional[SupportsIndex] = None, owned: bool = False
+    array: Array, /, *, nbytes: SupportsIndex, offset: Optional[SupportsIndex] = None, writable: bool = False
 ) -> int:
     ...
 
@@ -106,7 +106,7 @@ def lay_over(
     itemsize: SupportsIndex,
     nbytes: SupportsIndex,
     offset: Optional[SupportsIndex] = None,
-    owned: bool = False,
+    writable: bool = False,
 ) -> int:
     """The offset of element (0, .., 0) of an array with these strides, in bytes, over a buffer of `nbytes` bytes.
 
@@ -124,23 +124,23 @@ def lay_over(
     >>> lay_over((2, 3), (-12, 4), itemsize=4, nbytes=23)
     Traceback (most recent call last):
     ndarray_layout.OutOfBoundsError: the array needs 24 bytes of 23
-    >>> lay_over(3, 7, itemsize=4, nbytes=20, offset=2, owned=True)    # of 4 bytes in each 7, the last at 16
+    >>> lay_over(3, 7, itemsize=4, nbytes=20, offset=2, writable=True)    # of 4 bytes in each 7, the last at 16
     2
     """
     lens, steps, unit = integers(shape, "length"), integers(strides, "stride"), above_0(itemsize)
     unsigned(lens), signed(steps), size(unit, "itemsize")  # (which refuse what has no 64 bits, before a division)
-    room, owned = size(nbytes, "nbytes").value, flag(owned, "owned")
+    room, writable = size(nbytes, "nbytes").value, flag(writable, "writable")
     first = None if offset is None else integer(offset, "offset")
     if first is not None and not 0 <= first <= room:
         text = f"offset {said(first)} lies outside of {said(room)} bytes"
         raise OutOfBoundsError("OutOfBounds", text, None, {"offset": first, "nbytes": room})
     try:
-        return _laid_over(lens, steps, unit, room, first, owned)
+        return _laid_over(lens, steps, unit, room, first, writable)
     except LayoutError as error:
-        raise by_bytes(error, lambda: reason_of_lay_over(lens, steps, unit, room, first, owned)) from None
+        raise by_bytes(error, lambda: reason_of_lay_over(lens, steps, unit, room, first, writable)) from None
 
 
-def _laid_over(lens: Lens, steps: Lens, itemsize: int, nbytes: int, offset: Optional[int], owned: bool) -> int:
+def _laid_over(lens: Lens, steps: Lens, itemsize: int, nbytes: int, offset: Optional[int], writable: bool) -> int:
     """`lay_over`: of elements, or where a stride is no multiple of their size of bytes, with an axis more."""
     unit = itemsize if gcd(itemsize, *steps) == itemsize else 1
     if unit == itemsize:
@@ -150,8 +150,8 @@ def _laid_over(lens: Lens, steps: Lens, itemsize: int, nbytes: int, offset: Opti
     packed_lens, packed_steps = unsigned(lens), signed(steps)
     if offset is None:
         start, sizes = one_number(), (c_size_t(unit), c_size_t(nbytes // unit))
-        library.layout_start(*packed_lens, *packed_steps, *sizes, owned, start)
+        library.layout_start(*packed_lens, *packed_steps, *sizes, writable, start)
         return unit * int(start[0])
     sizes = c_size_t(unit), size((nbytes - offset % unit) // unit, "nbytes")
-    library.check_layout(size(offset // unit, "offset"), *packed_lens, *packed_steps, *sizes, owned)
+    library.check_layout(size(offset // unit, "offset"), *packed_lens, *packed_steps, *sizes, writable)
     return offset

@@ -131,12 +131,12 @@ def _run_of(call: library.Call, written: str = "", *options: int) -> Run:
 
 
 check_layout = _run_of(library.check_layout, "", 0), _run_of(library.check_layout, "", 1)
-"""Of a layout that is only read, and of one that is owned."""
+"""Of a layout that is only read, and of one that is writable."""
 
 layout_start = _run_of(library.layout_start, "Q", 0), _run_of(library.layout_start, "Q", 1)
 
 without_gaps = [[WithStrides(call, mode).run for mode in (0, 1)] for call in (library.default_strides, library.fortran_strides)]
-"""By the order, and by whether it is owned."""
+"""By the order, and by whether it is writable."""
 
 place = _run_of(library.place, "Q")
 reshape = _run_of(library.reshape, "q", 0), _run_of(library.reshape, "q", 1)

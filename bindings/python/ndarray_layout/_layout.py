@@ -43,7 +43,7 @@ from ._numbers import (
     LIMIT,
     Lens,
     Numbers,
-    flag,
+    flag_or_none,
     integer,
     integers,
     order_number,
@@ -59,8 +59,8 @@ from ._views import Views, made
 if TYPE_CHECKING:
     import numpy
 
-set_start, set_shape, set_strides, set_length, set_owned, set_itemsize, set_format = (
-    vars(Fields)[name].__set__ for name in ("start", "shape", "strides", "length", "owned", "itemsize", "format")
+set_start, set_shape, set_strides, set_length, set_writable, set_itemsize, set_format = (
+    vars(Fields)[name].__set__ for name in ("start", "shape", "strides", "length", "writable", "itemsize", "format")
 )
 
 
@@ -68,18 +68,20 @@ set_start, set_shape, set_strides, set_length, set_owned, set_itemsize, set_form
 class Layout(Views):
     """A layout that was accepted over `length` elements, so every index lies within them.
 
-    Where it was accepted as `owned` no two indices have one place. Strides, places and the length count elements. What
-    is made of an accepted layout is accepted: a slice, a reshape or a permutation keeps `owned`, and what is broadcast
-    is only to be read.
+    It is `writable` where it keeps the no-alias rule, so no two indices have one place: `has_overlap` is false. Then its
+    arrays may be written, if their buffer may; else they are only to be read, as a write at one index would change
+    another. Asked for by `writable=True`, a layout that breaks the rule is a `ShapeError`; `writable=False` makes any
+    one only to be read. What is made of an accepted layout is accepted: a slice, a reshape or a permutation keeps
+    `writable`, and windows and what is broadcast are only to be read. Strides, places and the length count elements.
 
     Of a buffer or an array it keeps the `itemsize`, the bytes of an element, and their `format`, as `memoryview` has
     them; of a count these are 1 and `None`. Layouts that differ in these alone are equal.
 
-    >>> layout = Layout.over(6, (2, 3), (-3, 1), owned=True)
+    >>> layout = Layout.over(6, (2, 3), (-3, 1))
     >>> layout
-    Layout(start=3, shape=(2, 3), strides=(-3, 1), length=6, owned=True)
+    Layout(start=3, shape=(2, 3), strides=(-3, 1), length=6, writable=True)
     >>> layout[1, ::-1]
-    Layout(start=2, shape=(3,), strides=(-1,), length=6, owned=True)
+    Layout(start=2, shape=(3,), strides=(-1,), length=6, writable=True)
     >>> layout.T.places()
     (3, 0, 4, 1, 5, 2)
     >>> Layout(2, (2, 3), (-3, 1), length=6)
@@ -93,7 +95,7 @@ class Layout(Views):
     shape: Lens
     strides: Lens
     length: int
-    owned: bool
+    writable: bool
     itemsize: int = field(compare=False, repr=False)
     format: Optional[str] = field(compare=False, repr=False)
 
@@ -104,24 +106,25 @@ class Layout(Views):
         strides: Numbers,
         *,
         length: SupportsIndex,
-        owned: bool = False,
+        writable: Optional[bool] = None,
         itemsize: SupportsIndex = 1,
         format: Optional[str] = None,
     ) -> None:
-        if not _is_accepted(start, shape, strides, itemsize, length, owned):
+        may_write = _accepted_as(start, shape, strides, itemsize, length, writable)
+        if may_write is None:
             shape, strides = integers(shape, "length"), integers(strides, "stride")
-            check_layout(start, shape, strides, elem_size=itemsize, length=length, owned=owned)
+            may_write = _checked(start, shape, strides, itemsize, length, flag_or_none(writable, "writable"))
             start, length, itemsize = as_int(start), as_int(length), as_int(itemsize)
         set_start(self, start)
         set_shape(self, shape)
         set_strides(self, strides)
         set_length(self, length)
-        set_owned(self, bool(owned))
+        set_writable(self, may_write)
         set_itemsize(self, itemsize)
         set_format(self, format)
 
     def __reduce__(self) -> tuple[Any, ...]:
-        numbers = self.start, self.shape, self.strides, self.length, self.owned, self.itemsize, self.format
+        numbers = self.start, self.shape, self.strides, self.length, self.writable, self.itemsize, self.format
         return _accepted, numbers  # (which is checked anew: bytes from elsewhere may be unpickled)
 
     __iter__ = None  # (a row is `layout[k]`; places come from `places` and `rows`)
@@ -136,7 +139,7 @@ class Layout(Views):
         *,
         start: Optional[SupportsIndex] = None,
         order: Optional[str] = None,
-        owned: bool = False,
+        writable: Optional[bool] = None,
     ) -> Layout:
         """Accepts a layout over a buffer, or over so many elements.
 
@@ -147,25 +150,26 @@ class Layout(Views):
         an order beside strides.
 
         >>> Layout.over(b"abcdef", (2, 3))
-        Layout(start=0, shape=(2, 3), strides=(3, 1), length=6, owned=False)
+        Layout(start=0, shape=(2, 3), strides=(3, 1), length=6, writable=True)
         >>> Layout.over(6, 6, -1).start
         5
         """
         length, itemsize, kind = count_items(buffer)
-        lens, number, owned = integers(shape, "length"), _order_without(strides, order), flag(owned, "owned")
+        lens, number = integers(shape, "length"), _order_without(strides, order)
+        writable = flag_or_none(writable, "writable")
         if strides is None and start is None:
-            steps, first = _without_gaps(lens, number, itemsize, length, owned)
-            return made(first, lens, steps, length, owned, itemsize, kind)
+            may_write = writable is not False  # (without gaps no two indices have one place)
+            steps, first = _without_gaps(lens, number, itemsize, length, may_write)
+            return made(first, lens, steps, length, may_write, itemsize, kind)
         steps = (default_strides, fortran_strides)[number](lens) if strides is None else integers(strides, "stride")
         if start is None:
-            first = _start_of(lens, steps, itemsize, length, owned)
+            first, may_write = _start_of(lens, steps, itemsize, length, writable)
         else:
-            check_layout(start, lens, steps, elem_size=itemsize, length=length, owned=owned)
-            first = as_int(start)
-        return made(first, lens, steps, length, owned, itemsize, kind)
+            may_write, first = _checked(start, lens, steps, itemsize, length, writable), as_int(start)
+        return made(first, lens, steps, length, may_write, itemsize, kind)
 
     @staticmethod
-    def of(array: Any, *, base: Any = None, owned: bool = False) -> Layout:
+    def of(array: Any, *, base: Any = None, writable: Optional[bool] = None) -> Layout:
         """The layout of an array, or of what a `memoryview` shows, over its elements from the lowest to the highest.
 
         With a `base` it is one over the items of that buffer, from the lowest: what `as_array(base)` takes. Without
@@ -173,25 +177,25 @@ class Layout(Views):
         `Layout.of(a[2:], base=a).as_array(a)`. Of an array without an element all strides are 0, and it needs no items.
 
         Raises `ShapeError` where a stride is no multiple of the item size, as of packed records, where the base has
-        gaps or items of another size, and where the layout is to be owned and breaks the no-alias rule; `IndexError`
+        gaps or items of another size, and where the layout is to be writable and breaks the no-alias rule; `IndexError`
         where the array doesn't lie within the base. A base needs NumPy. With one a scalar of NumPy, as `x[k]`, is a
         `TypeError`: it is a copy, and `x[k, ...]` an array.
 
         >>> Layout.of(memoryview(b"abcdef")[::-2])
-        Layout(start=4, shape=(3,), strides=(-2,), length=5, owned=False)
+        Layout(start=4, shape=(3,), strides=(-2,), length=5, writable=True)
         """
-        source, owned = (read_source if base is None else read_in_memory)(array), flag(owned, "owned")
+        source, writable = (read_source if base is None else read_in_memory)(array), flag_or_none(writable, "writable")
         shape, byte_strides, itemsize, kind, _ = source
         strides = default_strides(shape) if 0 in shape else element_strides(byte_strides, itemsize)
         if base is None:
-            start = _start_of(shape, strides, itemsize, LIMIT + 1, owned)
+            start, may_write = _start_of(shape, strides, itemsize, LIMIT + 1, writable)
             spans = [(length - 1) * abs(stride) for length, stride in zip(shape, strides)]
-            return made(start, shape, strides, 0 if 0 in shape else sum(spans) + 1, owned, itemsize, kind)
+            return made(start, shape, strides, 0 if 0 in shape else sum(spans) + 1, may_write, itemsize, kind)
         items = items_of_size(base, itemsize)
         length = items.nbytes // itemsize
         start = 0 if 0 in shape else items_before(source.memory().address, items)
-        check_layout(start, shape, strides, elem_size=itemsize, length=length, owned=owned)
-        return made(start, shape, strides, length, owned, itemsize, kind)
+        may_write = _checked(start, shape, strides, itemsize, length, writable)
+        return made(start, shape, strides, length, may_write, itemsize, kind)
 
     # ---- What it is
 
@@ -227,8 +231,8 @@ class Layout(Views):
 
     @property
     def has_overlap(self) -> bool:
-        """Whether it breaks the no-alias rule. An owned layout never does."""
-        return not self.owned and has_overlap(self.shape, self.strides)
+        """Whether it breaks the no-alias rule. A writable layout never does."""
+        return not self.writable and has_overlap(self.shape, self.strides)
 
     # ---- Places
 
@@ -295,9 +299,9 @@ class Layout(Views):
         return joined_rows(self.start, self.shape, self.strides, order)
 
     def has_distinct_places(self, max_work: Optional[int] = MAX_WORK) -> bool:
-        """Whether no two indices have one place: exact. An owned layout has distinct places."""
+        """Whether no two indices have one place: exact. A writable layout has distinct places."""
         max_work = work_limit(max_work)
-        return self.owned or has_distinct_places(self.shape, self.strides, max_work)
+        return self.writable or has_distinct_places(self.shape, self.strides, max_work)
 
     def first_intersection(self, keys: Iterable[Any]) -> Optional[tuple[int, int]]:
         """Two slices by NumPy's keys that share an index: their positions, the less first; `None` if no two do.
@@ -348,7 +352,7 @@ class Layout(Views):
         """A NumPy array of this layout over a buffer, whose items it has without a `dtype`.
 
         Place k is the k-th item in memory, from the lowest, also where the buffer is an array in another order.
-        A layout that isn't owned gives an array that is only to be read, as `numpy.broadcast_to` does. While the array
+        A layout that isn't writable gives an array that is only to be read, as `numpy.broadcast_to` does. While the array
         lives the buffer can't be closed or resized: its own methods raise `BufferError`, as after `numpy.frombuffer`.
 
         Raises `ShapeError` for an array with gaps or in no order, as `a[::2]` and `a[::-1]`, whose `base` may have
@@ -363,14 +367,14 @@ class Layout(Views):
         self._check_room(items.nbytes // kind.itemsize, kind.itemsize)
         byte_strides = tuple([stride * kind.itemsize for stride in self.strides])
         array = array_over(items, kind, self.start * kind.itemsize, self.shape, byte_strides)
-        array.flags.writeable = array.flags.writeable and self.owned
+        array.flags.writeable = array.flags.writeable and self.writable
         return array
 
     def as_memoryview(self, buffer: Any) -> memoryview:
         """A `memoryview` of this layout over the items of a buffer, which has to be contiguous.
 
         A `memoryview` of several axes has no gaps and isn't empty: other layouts raise `ShapeError` of the kind
-        'Unsupported', as a buffer that isn't C-contiguous does. A layout that isn't owned gives one that is only to
+        'Unsupported', as a buffer that isn't C-contiguous does. A layout that isn't writable gives one that is only to
         be read. Raises what `as_array` does.
 
         >>> Layout.over(b"abcdef", 3, -2).as_memoryview(b"abcdef").tobytes()
@@ -379,7 +383,7 @@ class Layout(Views):
         items = side_by_side(buffer, in_rows=True)
         self._check_room(items.nbytes // items.itemsize, items.itemsize)
         try:
-            items = (items if self.owned else items.toreadonly()).cast("B").cast(items.format)
+            items = (items if self.writable else items.toreadonly()).cast("B").cast(items.format)
         except ValueError:
             raise ShapeError("Unsupported", f"a memoryview can't have items of the format {items.format!r}") from None
         if self.ndim == 1:
@@ -413,23 +417,48 @@ Views.frozen = Layout
 
 
 def _accepted(
-    start: int, shape: Lens, strides: Lens, length: int, owned: bool, itemsize: int, format: Optional[str]
+    start: int, shape: Lens, strides: Lens, length: int, writable: bool, itemsize: int, format: Optional[str]
 ) -> Layout:
     """`Layout` as `pickle` and `copy` call it."""
-    return Layout(start, shape, strides, length=length, owned=owned, itemsize=itemsize, format=format)
+    return Layout(start, shape, strides, length=length, writable=writable, itemsize=itemsize, format=format)
 
 
-def _is_accepted(start: Any, shape: Any, strides: Any, itemsize: Any, length: Any, owned: Any) -> bool:
-    """Whether Python's own integers, in tuples, are a layout that is accepted. Else `check_layout` says why not."""
-    if type(shape) is not tuple or type(strides) is not tuple or type(owned) is not bool:
-        return False
+_MODES = {None: (True, False), True: (True,), False: (False,)}
+"""As what a layout may be accepted: where nothing is said, as one that may be written, else as one to be read."""
+
+
+def _accepted_as(
+    start: Any, shape: Any, strides: Any, itemsize: Any, length: Any, writable: Any
+) -> Optional[bool]:
+    """Whether a layout may be written, of Python's own integers, in tuples, that are one which is accepted, or `None`.
+
+    Then `_checked` says why not.
+    """
+    if type(shape) is not tuple or type(strides) is not tuple or not (writable is None or type(writable) is bool):
+        return None
     numbers = start, *shape, *strides, itemsize, length
     if not INTEGERS.issuperset(map(type, numbers)):
-        return False
+        return None
     try:
-        return frames.check_layout[owned]((len(shape), len(strides)), numbers) is not None
+        for mode in _MODES[writable]:
+            if frames.check_layout[mode]((len(shape), len(strides)), numbers) is not None:
+                return mode
     except StructError:  # (a number without 64 bits)
-        return False
+        pass
+    return None
+
+
+def _checked(
+    start: SupportsIndex,
+    shape: Lens,
+    strides: Lens,
+    itemsize: SupportsIndex,
+    length: SupportsIndex,
+    writable: Optional[bool],
+) -> bool:
+    """Whether a layout may be written that is accepted, or the error of one that isn't."""
+    check_layout(start, shape, strides, elem_size=itemsize, length=length, writable=writable is True)
+    return not has_overlap(shape, strides) if writable is None else writable
 
 
 def _order_without(strides: Optional[Numbers], order: Optional[str]) -> int:
@@ -440,23 +469,29 @@ def _order_without(strides: Optional[Numbers], order: Optional[str]) -> int:
     return 0 if order is None else order_number(order)
 
 
-def _start_of(shape: Lens, strides: Lens, itemsize: int, length: int, owned: bool) -> int:
-    """`layout_start` of Python's own integers."""
-    try:
-        found = frames.layout_start[owned]((len(shape), len(strides)), (*shape, *strides, itemsize, length))
-    except StructError:
-        found = None
-    return layout_start(shape, strides, elem_size=itemsize, length=length, owned=owned) if found is None else found[0]
+def _start_of(
+    shape: Lens, strides: Lens, itemsize: int, length: int, writable: Optional[bool]
+) -> tuple[int, bool]:
+    """`layout_start` of Python's own integers, and whether the layout may be written."""
+    for mode in _MODES[writable]:
+        try:
+            found = frames.layout_start[mode]((len(shape), len(strides)), (*shape, *strides, itemsize, length))
+        except StructError:
+            found = None
+        if found is not None:
+            return found[0], mode
+    start = layout_start(shape, strides, elem_size=itemsize, length=length, writable=writable is True)
+    return start, not has_overlap(shape, strides) if writable is None else writable
 
 
-def _without_gaps(shape: Lens, order: int, itemsize: int, length: int, owned: bool) -> tuple[Lens, int]:
+def _without_gaps(shape: Lens, order: int, itemsize: int, length: int, writable: bool) -> tuple[Lens, int]:
     """The strides of a shape in an order, and `layout_start` of them, of Python's own integers."""
     axes = len(shape)
     try:
-        found = frames.without_gaps[order][owned]((axes, axes), (*shape, *shape, itemsize, length))
+        found = frames.without_gaps[order][writable]((axes, axes), (*shape, *shape, itemsize, length))
     except StructError:
         found = None
     if found is not None:
         return found[:axes], found[-1]
     strides = (default_strides, fortran_strides)[order](shape)
-    return strides, layout_start(shape, strides, elem_size=itemsize, length=length, owned=owned)
+    return strides, layout_start(shape, strides, elem_size=itemsize, length=length, writable=writable)

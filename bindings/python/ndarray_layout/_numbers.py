@@ -185,6 +185,11 @@ def flag(value: Any, name: str) -> bool:
     return bool(value)
 
 
+def flag_or_none(value: Any, name: str) -> Optional[bool]:
+    """Yes or no, or `None` where that is to be found."""
+    return None if value is None else flag(value, name)
+
+
 def work_limit(max_work: Optional[SupportsIndex]) -> Optional[int]:
     """How many steps a comparison may take, or `None`."""
     return None if max_work is None else limit(max_work, "max_work", ", and `None` is without end")

@@ -49,7 +49,7 @@ def html_of(layout: Layout) -> str:
         "over": f"{layout.length:,} elements",
         "bytes": f"{layout.nbytes:,}, {layout.itemsize} each",
         "format": layout.format or "none",
-        "owned": "yes" if layout.owned else "no, only to be read",
+        "writable": "yes" if layout.writable else "no, only to be read",
     }
     rows = "".join(f"<tr><th>{name}</th><td>{escape(str(value))}</td></tr>" for name, value in numbers.items())
     return f"<table><tr><td><table>{rows}</table></td><td>{svg_of(layout)}</td></tr></table>"

@@ -81,25 +81,25 @@ def of_layout(shape: Lens, strides: Lens) -> Optional[Reason]:
     return of_layout_start(shape, strides, 1, _NO_END, 0)
 
 
-def of_layout_start(shape: Lens, strides: Lens, elem_size: int, length: int, owned: int) -> Optional[Reason]:
+def of_layout_start(shape: Lens, strides: Lens, elem_size: int, length: int, writable: int) -> Optional[Reason]:
     lists = *unsigned(shape), *signed(strides)
     broken = library.layout_start_reason(*lists, c_size_t(elem_size), c_size_t(length), 0)
     if broken.rule == Rule.LENGTH:
         needed = broken.size + (0 not in shape)
         text = f"the layout needs {{needed}} {unit_of(strides)} of {{length}}"
         return _of(broken.kind, text, needed=needed, length=length)
-    return _of_limits(broken, shape, strides, elem_size) or (of_overlap(shape, strides) if owned else None)
+    return _of_limits(broken, shape, strides, elem_size) or (of_overlap(shape, strides) if writable else None)
 
 
 def of_check_layout(
-    start: int, shape: Lens, strides: Lens, elem_size: int, length: int, owned: int
+    start: int, shape: Lens, strides: Lens, elem_size: int, length: int, writable: int
 ) -> Optional[Reason]:
     lists = *unsigned(shape), *signed(strides)
     broken = library.check_layout_reason(c_size_t(start), *lists, c_size_t(elem_size), c_size_t(length), 0)
     return (
         _of_limits(broken, shape, strides, elem_size)
         or _of_bounds(broken, start, length, unit_of(strides))
-        or (of_overlap(shape, strides) if owned else None)
+        or (of_overlap(shape, strides) if writable else None)
     )
 
 
@@ -175,13 +175,13 @@ def of_array(shape: Lens, strides: Lens, itemsize: int) -> Optional[Reason]:
 
 
 def of_lay_over(
-    shape: Lens, strides: Lens, itemsize: int, nbytes: int, offset: Optional[int], owned: bool
+    shape: Lens, strides: Lens, itemsize: int, nbytes: int, offset: Optional[int], writable: bool
 ) -> Optional[Reason]:
     """Of the bytes of an array over a buffer."""
     return (
         of_array(shape, strides, itemsize)
         or _of_bytes(shape, strides, itemsize, nbytes, offset)
-        or (of_overlap((*shape, itemsize), ByteStrides((*strides, 1))) if owned else None)
+        or (of_overlap((*shape, itemsize), ByteStrides((*strides, 1))) if writable else None)
     )
 
 

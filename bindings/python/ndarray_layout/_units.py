@@ -43,13 +43,13 @@ class Array(Protocol):
 class Fields:
     """The fields of a `Layout`, which is one that is frozen. Its strides count elements."""
 
-    __slots__ = ("start", "shape", "strides", "length", "owned", "itemsize", "format", "__weakref__")
+    __slots__ = ("start", "shape", "strides", "length", "writable", "itemsize", "format", "__weakref__")
 
     start: int
     shape: Lens
     strides: Lens
     length: int
-    owned: bool
+    writable: bool
     itemsize: int
     format: Optional[str]
 

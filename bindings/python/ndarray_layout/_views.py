@@ -23,12 +23,12 @@ if TYPE_CHECKING:
 
 
 def made(
-    start: int, shape: Lens, strides: Lens, length: int, owned: bool, itemsize: int, format: Optional[str]
+    start: int, shape: Lens, strides: Lens, length: int, writable: bool, itemsize: int, format: Optional[str]
 ) -> Layout:
     """A layout that a call has accepted."""
     fields = Fields()
     fields.start, fields.shape, fields.strides, fields.length = start, shape, strides, length
-    fields.owned, fields.itemsize, fields.format = owned, itemsize, format
+    fields.writable, fields.itemsize, fields.format = writable, itemsize, format
     fields.__class__ = Views.frozen
     return fields  # type: ignore[return-value]
 
@@ -41,9 +41,9 @@ class Views(Fields):
     frozen: type = Fields
     """`Layout`, which comes after this."""
 
-    def _kept(self, start: int, shape: Lens, strides: Lens, owned: bool) -> Layout:
+    def _kept(self, start: int, shape: Lens, strides: Lens, writable: bool) -> Layout:
         """What a call made of this layout, which is accepted by that call's promise."""
-        return made(start, shape, strides, self.length, owned, self.itemsize, self.format)
+        return made(start, shape, strides, self.length, writable, self.itemsize, self.format)
 
     # ---- Slices
 
@@ -60,17 +60,17 @@ class Views(Fields):
                 try:
                     put(memory, 0, self.start, *shape, *self.strides, *fields)
                 except StructError:  # (a bound that is no number, or has no 64 bits)
-                    return self._kept(*slice_by_key(self.start, shape, self.strides, key), self.owned)
+                    return self._kept(*slice_by_key(self.start, shape, self.strides, key), self.writable)
                 if call(*arguments) == 0:
                     found = take(memory, end)
                     free.append(frame)
                     new = Fields()
                     new.start, new.shape, new.strides = found[0], found[1 : left + 1], found[left + 1 :]
-                    new.length, new.owned, new.itemsize, new.format = self.length, self.owned, self.itemsize, self.format
+                    new.length, new.writable, new.itemsize, new.format = self.length, self.writable, self.itemsize, self.format
                     new.__class__ = Views.frozen
                     return new  # type: ignore[return-value]
                 free.append(frame)
-        return self._kept(*slice_by_key(self.start, shape, self.strides, key), self.owned)
+        return self._kept(*slice_by_key(self.start, shape, self.strides, key), self.writable)
 
     def slice(self, elems: Elems, clamp: bool = False) -> Layout:
         """A slice by the layer's elements. Raises what `slice_view` does: a bound outside is an `IndexError`.
@@ -78,7 +78,7 @@ class Views(Fields):
         >>> Layout.over(4, 4).slice([Slice(1, None, -2)]).places()
         (3, 1)
         """
-        return self._kept(*slice_view(self.start, self.shape, self.strides, elems, clamp), self.owned)
+        return self._kept(*slice_view(self.start, self.shape, self.strides, elems, clamp), self.writable)
 
     def flip(self, axis: Optional[Numbers] = None) -> Layout:
         """The coordinates of some axes, or of all, in reverse order: NumPy's `flip`.
@@ -86,7 +86,7 @@ class Views(Fields):
         Axes below 0 count from the end. Raises `IndexError` for an axis that isn't there, `ShapeError` for one twice.
 
         >>> Layout.over(6, (2, 3)).flip(1)
-        Layout(start=2, shape=(2, 3), strides=(3, -1), length=6, owned=False)
+        Layout(start=2, shape=(2, 3), strides=(3, -1), length=6, writable=True)
         """
         axes = range(len(self.shape)) if axis is None else {*self._axes(axis)}
         return self[tuple([slice(None, None, -1 if at in axes else 1) for at in range(len(self.shape))])]
@@ -123,7 +123,7 @@ class Views(Fields):
         [(0, 3), (1, 2, 4, 5)]
         """
         first, second = split_at(self.start, self.shape, self.strides, axis, index)
-        return self._kept(*first, self.owned), self._kept(*second, self.owned)
+        return self._kept(*first, self.writable), self._kept(*second, self.writable)
 
     # ---- Axes
 
@@ -178,9 +178,9 @@ class Views(Fields):
             found = None
         if found is None:
             axes = tuple([axis_of(axis, count) for axis in given]) if given else axes
-            return self._kept(self.start, *permuted_axes(shape, strides, axes), self.owned)
+            return self._kept(self.start, *permuted_axes(shape, strides, axes), self.writable)
         new = self.start, found[:count], found[count:]
-        return made(*new, self.length, self.owned, self.itemsize, self.format)
+        return made(*new, self.length, self.writable, self.itemsize, self.format)
 
     def _axes(self, axes: Numbers, count: Optional[int] = None) -> Sequence[int]:
         """Axes of so many, each once, as numbers from 0."""
@@ -213,8 +213,8 @@ class Views(Fields):
             except StructError:
                 found = None
             if found is not None:
-                return self._kept(self.start, lens, found, self.owned)
-        return self._kept(self.start, lens, reshape(self.shape, self.strides, lens, order), self.owned)
+                return self._kept(self.start, lens, found, self.writable)
+        return self._kept(self.start, lens, reshape(self.shape, self.strides, lens, order), self.writable)
 
     def _with_rest(self, wanted: Lens) -> Lens:
         """A shape whose length -1 is the rest of the size, where the others are above 0."""
@@ -225,10 +225,10 @@ class Views(Fields):
         return (*wanted[:at], prod(self.shape) // others, *wanted[at + 1 :])
 
     def broadcast(self, shape: Numbers) -> Layout:
-        """The layout read as one of another shape. It isn't owned: all coordinates of a new axis have one place.
+        """The layout read as one of another shape. It isn't writable: all coordinates of a new axis have one place.
 
         >>> Layout.over(3, 3).broadcast((2, 3))
-        Layout(start=0, shape=(2, 3), strides=(0, 1), length=3, owned=False)
+        Layout(start=0, shape=(2, 3), strides=(0, 1), length=3, writable=False)
         """
         lens = integers(shape, "length")
         return self._kept(self.start, lens, broadcast(self.shape, self.strides, lens), False)
@@ -236,10 +236,10 @@ class Views(Fields):
     def windows(self, window: Numbers) -> Layout:
         """All windows of a shape: first the index of the window, then the index in it. Raises what `windows` does.
 
-        It isn't owned: windows overlap.
+        It isn't writable: windows overlap.
 
         >>> Layout.over(5, 5).windows(3)
-        Layout(start=0, shape=(3, 3), strides=(1, 1), length=5, owned=False)
+        Layout(start=0, shape=(3, 3), strides=(1, 1), length=5, writable=False)
         """
         return self._kept(self.start, *windows(self.shape, self.strides, window), False)
 
@@ -248,10 +248,10 @@ class Views(Fields):
 
         What is left over at the end of an axis is left out. Raises what `exact_chunks` does.
 
-        >>> Layout.over(7, 7, owned=True).exact_chunks(3)
-        Layout(start=0, shape=(2, 3), strides=(3, 1), length=7, owned=True)
+        >>> Layout.over(7, 7).exact_chunks(3)
+        Layout(start=0, shape=(2, 3), strides=(3, 1), length=7, writable=True)
         """
-        return self._kept(self.start, *exact_chunks(self.shape, self.strides, chunk), self.owned)
+        return self._kept(self.start, *exact_chunks(self.shape, self.strides, chunk), self.writable)
 
     def _view(self, key: Any) -> View:
         return slice_by_key(self.start, self.shape, self.strides, key)
