@@ -13,6 +13,9 @@ pub mod KeptRows
 pub mod LaterPlaces
 pub mod LongestRow
 pub mod MarkedAxes
+pub mod NearestLists
+pub mod NearestOrder
+pub mod TurnedAxes
 pub mod Merged
 pub mod NextRow
 pub mod NthRow

@@ -13,6 +13,7 @@ pub mod InvertedView
 pub mod Keeps
 pub mod KeepsPlaces
 pub mod MergedView
+pub mod Nearest
 pub mod PermutedView
 pub mod ReshapedView
 pub mod RowMajor

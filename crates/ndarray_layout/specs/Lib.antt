@@ -13,6 +13,7 @@ pub mod InsertedView
 pub mod InvertedView
 pub mod KeepsPlaces
 pub mod MergedView
+pub mod Nearest
 pub mod PermutedView
 pub mod PlacesLeft
 pub mod ReshapedView

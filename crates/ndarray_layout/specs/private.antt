@@ -1,3 +1,4 @@
 pub mod Blocks
 pub mod Fastest
+pub mod NearestOrder
 pub mod ReshapeProgress

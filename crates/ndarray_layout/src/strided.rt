@@ -15,6 +15,7 @@ mod inverting;
 mod iter_places;
 mod merging;
 mod moving;
+mod nearest;
 mod nth_row;
 mod permuting;
 mod picked_size;

@@ -26,6 +26,7 @@ mod alike_rows;
 mod blocks;
 mod into_places;
 mod moving;
+mod nearest;
 mod nth_row;
 mod picked_size;
 

@@ -11,6 +11,7 @@ mod iterated_mut;
 mod joined;
 mod layouts;
 mod memory;
+mod nearest;
 #[allow(dead_code)]
 #[path = "../random/numbers.rs"]
 mod numbers;

@@ -49,12 +49,12 @@ opposite_twice stride small = elim (opposite_cases stride) [
 ]
 
 -- an axis with that one has no second coordinate
-none_after_first : (len : ℕ) {stride : ℤ} → stride ≡ negsuc 9223372036854775807 → reach len stride ≤ limit → len - 1 ≡ 0
+pub none_after_first : (len : ℕ) {stride : ℤ} → stride ≡ negsuc 9223372036854775807 → reach len stride ≤ limit → len - 1 ≡ 0
 none_after_first len least fits =
     let far : (len - 1) * 9223372036854775808 ≤ limit = rw least at fits in
     omega arith
 
-times_negative : (i : ℕ) (stride : ℤ) → (pos i *ℤ neg_ℤ stride) +ℤ (pos i *ℤ stride) ≡ pos 0
+pub times_negative : (i : ℕ) (stride : ℤ) → (pos i *ℤ neg_ℤ stride) +ℤ (pos i *ℤ stride) ≡ pos 0
 times_negative i (pos zero) = omega (arith, ints)
 times_negative i (pos (suc s)) = omega (arith, ints)
 times_negative i (negsuc s) = omega (arith, ints)
