@@ -28,14 +28,14 @@ impl Eraser<'_> {
         Ok(Some(at + 1))
     }
 
-    /// `impl Iterator for NAME { .. }` of the list `FOLDED` gets a `fold` and an `nth` of its own.
+    /// `impl Iterator for NAME { .. }` of the list `FOLDED` gets a `fold` and an `nth` of its own, and so from the back.
     pub(crate) fn folded(&mut self, trees: &[Tree]) -> Result<Option<usize>, Fault> {
         let (true, true, Some((at, _))) = (self.names.is_packed(), trees[0].is("impl"), body_of(trees)) else {
             return Ok(None);
         };
-        let is_for = |three: &[Tree], name| three[0].is("Iterator") && three[1].is("for") && three[2].is(name);
-        let added = FOLDED.iter().find(|(name, _)| trees[..at].windows(3).any(|three| is_for(three, name)));
-        let Some((_, name)) = added else {
+        let is_for = |three: &[Tree], of, name| three[0].is(of) && three[1].is("for") && three[2].is(name);
+        let added = FOLDED.iter().find(|(of, name, _)| trees[..at].windows(3).any(|three| is_for(three, of, name)));
+        let Some((_, _, name)) = added else {
             return Ok(None);
         };
         self.difference(trees)?;

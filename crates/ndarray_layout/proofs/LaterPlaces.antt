@@ -13,13 +13,14 @@ use Rattle.ndarray_layout.specs.Rows.{row_places, rows_places}
 use Rattle.ndarray_layout.specs.PlacesLeft.{ArePlacesLeft, places_after}
 use Rattle.ndarray_layout.proofs.ByRows.{row_from}
 use Rattle.ndarray_layout.specs.View.{IsPlace}
-use Rattle.ndarray_layout.proofs.RowSteps.{after, bounds_of_place, left_after_step, length-places_after, next_in_bounds}
+use Rattle.ndarray_layout.proofs.RowSteps.{after, bounds_of_place, left_after_step, next_in_bounds}
 use Rattle.ndarray_layout.proofs.RowSteps.{place_bounds, row_first, start_bound}
 use Rattle.ndarray_layout.proofs.laws.Rows.{All-first_row, length-row_places, no_step, one_more_step}
 
 -- ---- of a row
 -- after so many places it goes on as the row from there
-row_drop : (k n : ℕ) (first stride : ℤ) → k ≤ n → drop k (row_from first stride n) ≡ row_from (first +ℤ (pos k *ℤ stride)) stride (n - k)
+pub row_drop : (k n : ℕ) (first stride : ℤ) → k ≤ n
+    → drop k (row_from first stride n) ≡ row_from (first +ℤ (pos k *ℤ stride)) stride (n - k)
 row_drop zero n first stride few =
     let all : n ≡ n - 0 = omega arith in
     ap (row_from first stride) all ∙ ap (λ z. row_from z stride (n - 0)) (sym (no_step first stride))
@@ -34,7 +35,7 @@ row_drop (suc k) (suc n) first stride few =
     ∙ ap (λ z. row_from z stride (n - k)) there
     ∙ ap (row_from (first +ℤ (pos (suc k) *ℤ stride)) stride) fewer
 
-length-row : (first stride : ℤ) (n : ℕ) → length (row_from first stride n) ≡ n
+pub length-row : (first stride : ℤ) (n : ℕ) → length (row_from first stride n) ≡ n
 length-row first stride zero = refl
 length-row first stride (suc n) =
     ap length (row_first first stride n) ∙ ap suc (length-row (first +ℤ stride) stride n)
@@ -95,22 +96,11 @@ module _ {place left : ℕ} {stride : ℤ} {rows : List Row} (l : ArePlacesLeft 
       ∙ ap (λ n. drop n (row ++ rows_places rows)) all
       ∙ drop-append-add row (rows_places rows) (count - left)
 
-  -- what is left of the rows then: after whole ones, so many places of the next
-  pub past_rows : (count len q r : ℕ) {later : List Row} → left ≤ count → count - left ≡ q * len + r → All (λ row. row.len ≡ len) rows
-      → later ≡ drop q rows → drop count (places_after place stride left rows) ≡ drop r (rows_places later)
-  past_rows count len q r {later} more e all is =
-      past_row count more
-      ∙ ap (λ n. drop n (rows_places rows)) e
-      ∙ sym (drop-drop r (q * len) (rows_places rows))
-      ∙ ap (drop r) (drop_rows len q rows all ∙ ap rows_places (sym is))
-
-  some_later : (q : ℕ) {later : List Row} → later ≡ drop q rows → All (λ row. 0 < row.len) later
-  some_later q is = subst (All (λ row. 0 < row.len)) (sym is) (All-drop (λ row. 0 < row.len) q rows l.some)
-
   -- where none is left of the row, those of the rows are
-  pub left_past : {later : List Row} (count q : ℕ) → later ≡ drop q rows
-      → drop count (places_after place stride left rows) ≡ rows_places later → ArePlacesLeft place stride 0 later
-  left_past count q is e = left_later count l.here (some_later q is) e
+  pub left_ended : ArePlacesLeft place stride 0 rows
+  left_ended =
+      let none : left - left ≡ 0 = omega arith in
+      left_later left l.here l.some (past_row left (omega arith) ∙ ap (λ n. drop n (rows_places rows)) none)
 
   -- and those after a row of them
   module _ {others : List Row} {row : Row} (none : left ≡ 0) (first : rows ≡ row ∷ others) where
@@ -122,85 +112,55 @@ module _ {place left : ℕ} {stride : ℤ} {rows : List Row} (l : ArePlacesLeft 
         ∙ ap (λ n. row_places row.start row.stride row.len ++ places_after place stride n others) (sym none)
 
     pub left_after_row : ArePlacesLeft place stride left others
-    left_after_row = left_later row.len l.here (some_later 1 (sym (ap (drop 1) first)))
+    left_after_row = left_later row.len l.here
+        (All-tail (λ row. 0 < row.len) row others (subst (All (λ row. 0 < row.len)) first l.some))
         (ap (drop row.len) row_first_of
         ∙ drop_at (row_places row.start row.stride row.len) (places_after place stride left others) row.len
         (length-row_places row.start row.stride row.len))
 
-  -- else the next row has begun
-  module _ {later others : List Row} {row : Row} (q r len : ℕ) (is : later ≡ drop q rows) (first : later ≡ row ∷ others)
-      (all : All (λ row. row.len ≡ len) rows) (some : 0 < r) (few : r < len) where
-    row_len : row.len ≡ len
-    row_len = All-head (λ row. row.len ≡ len) row others
-        (subst (All (λ row. row.len ≡ len)) (sym is ∙ first) (All-drop (λ row. row.len ≡ len) q rows all))
-
+  -- else a row has begun: so many of its places are left out after those before it
+  module _ (row : Row) (others : List Row) (before r : ℕ)
+      (e : drop before (places_after place stride left rows) ≡ rows_places (row ∷ others)) (some : 0 < r) (few : r < row.len) where
     in_bounds : All (IsInBounds (2 ^ 63)) (row_places row.start row.stride row.len)
-    in_bounds =
-        let row_in = row_from (pos place +ℤ stride) stride left in
-        let of_rows = subst (All (IsInBounds (2 ^ 63)))
-        (drop_at row_in (rows_places rows) left (length-row (pos place +ℤ stride) stride left))
-        (All-drop (IsInBounds (2 ^ 63)) left (row_in ++ rows_places rows)
-        (subst (All (IsInBounds (2 ^ 63))) (after place stride left rows) l.in_bounds)) in
-        let of_later = subst (All (IsInBounds (2 ^ 63))) (drop_rows len q rows all ∙ ap rows_places (sym is ∙ first))
-        (All-drop (IsInBounds (2 ^ 63)) (q * len) (rows_places rows) of_rows) in
-        (All-first_row (IsInBounds (2 ^ 63)) row others of_later).0
+    in_bounds = (All-first_row (IsInBounds (2 ^ 63)) row others (subst (All (IsInBounds (2 ^ 63))) e
+        (All-drop (IsInBounds (2 ^ 63)) before (places_after place stride left rows) l.in_bounds))).0
 
     pub start_fits : row.start ≤ limit
-    start_fits = start_bound row.start row.stride row.len in_bounds (omega (arith, row_len, few))
+    start_fits = start_bound row.start row.stride row.len in_bounds (omega (arith, few))
 
     pub place_fits : IsPlace (pos row.start +ℤ (pos (r - 1) *ℤ row.stride))
-    place_fits = place_bounds row.start row.stride row.len (r - 1) in_bounds (omega (arith, row_len, few))
+    place_fits = place_bounds row.start row.stride row.len (r - 1) in_bounds (omega (arith, few))
 
     pub coordinate_fits : r ≤ limit
-    coordinate_fits =
-        let all_of = length-places_after place stride left rows in
-        let row_within : row.len ≤ length (rows_places later) =
-        omega (
-          arith,
-          ap (λ rows. length (rows_places rows)) first,
-          length-append (row_places row.start row.stride row.len) (rows_places others),
-          length-row_places row.start row.stride row.len,
-        ) in
-        omega (
-          arith,
-          few,
-          row_len,
-          row_within,
-          ap length (drop_rows len q rows all ∙ ap rows_places (sym is)),
-          length-drop (q * len) (rows_places rows),
-          all_of,
-          l.fits,
-        )
+    coordinate_fits = omega (
+      arith,
+      few,
+      length-append (row_places row.start row.stride row.len) (rows_places others),
+      length-row_places row.start row.stride row.len,
+      ap length e,
+      length-drop before (places_after place stride left rows),
+      l.fits,
+    )
 
     pub row_entered : {place' : ℕ} {step : ℤ} → pos place' ≡ pos row.start +ℤ (pos (r - 1) *ℤ row.stride) → row.stride ≡ step
-        → drop r (rows_places later) ≡ places_after place' step (len - r) others
+        → drop (before + r) (places_after place stride left rows) ≡ places_after place' step (row.len - r) others
     row_entered {place'} at steps =
-        let last : r ≡ r - 1 + 1 = omega arith in
+        let last : r ≡ r - 1 + 1 = omega (arith, some) in
         let there : pos row.start +ℤ (pos r *ℤ row.stride) ≡ pos place' +ℤ row.stride =
         omega (arith, ints, at, ap (λ i. pos i *ℤ row.stride) last, one_more_step (r - 1) row.stride) in
-        ap (λ rows. drop r (rows_places rows)) first
+        sym (drop-drop r before (places_after place stride left rows))
+        ∙ ap (drop r) e
         ∙ drop-append-le r (row_places row.start row.stride row.len) (rows_places others)
-        (omega (arith, few, row_len, length-row_places row.start row.stride row.len))
-        ∙ ap (λ xs. xs ++ rows_places others) (row_drop r row.len (pos row.start) row.stride (omega (arith, few, row_len)))
+        (omega (arith, few, length-row_places row.start row.stride row.len))
+        ∙ ap (λ xs. xs ++ rows_places others) (row_drop r row.len (pos row.start) row.stride (omega (arith, few)))
         ∙ ap (λ z. row_from z row.stride (row.len - r) ++ rows_places others) there
-        ∙ ap (λ n. row_from (pos place' +ℤ row.stride) row.stride (n - r) ++ rows_places others) row_len
-        ∙ sym (after place' row.stride (len - r) others)
-        ∙ ap (λ s. places_after place' s (len - r) others) steps
+        ∙ sym (after place' row.stride (row.len - r) others)
+        ∙ ap (λ s. places_after place' s (row.len - r) others) steps
 
-    pub left_entered : {place' : ℕ} {step : ℤ} (count : ℕ) → pos place' ≡ pos row.start +ℤ (pos (r - 1) *ℤ row.stride) → row.stride ≡ step
-        → drop count (places_after place stride left rows) ≡ drop r (rows_places later)
-        → ArePlacesLeft place' step (len - r) others
-    left_entered count at steps e = left_later count (omega (arith, ints, at, place_fits.1))
-        (All-tail (λ row. 0 < row.len) row others (subst (All (λ row. 0 < row.len)) first (some_later q is))) (e ∙ row_entered at steps)
-
--- rows of no places are none
-pub no_rows : (rows : List Row) → All (λ row. 0 < row.len) rows → All (λ row. row.len ≡ 0) rows → rows ≡ []
-no_rows [] some none = refl
-no_rows (row ∷ rows) some none =
-    absurd (omega (arith, All-head (λ row. 0 < row.len) row rows some, All-head (λ row. row.len ≡ 0) row rows none))
-
-pub nothing_left : (n : ℕ) {rows : List Row} → rows ≡ [] → drop n (rows_places rows) ≡ rows_places rows
-nothing_left n e = ap (λ rows. drop n (rows_places rows)) e ∙ drop-nil n ∙ sym (ap rows_places e)
+    pub left_entered : {place' : ℕ} {step : ℤ} → All (λ row. 0 < row.len) others
+        → pos place' ≡ pos row.start +ℤ (pos (r - 1) *ℤ row.stride) → row.stride ≡ step
+        → ArePlacesLeft place' step (row.len - r) others
+    left_entered some_of at steps = left_later (before + r) (omega (arith, ints, at, place_fits.1)) some_of (row_entered at steps)
 
 -- each place of the row that has begun lies in bounds
 pub place_in_row : (count : ℕ) {place left : ℕ} {stride : ℤ} {rows : List Row} → ArePlacesLeft place stride left rows → count ≤ left

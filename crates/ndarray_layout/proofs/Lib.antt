@@ -3,6 +3,7 @@ pub mod AlikeRows
 pub mod AxisByAxis
 pub mod BlockSteps
 pub mod BlocksWritten
+pub mod BothEnds
 pub mod Broadcasts
 pub mod ByRows
 pub mod CroppedAxes

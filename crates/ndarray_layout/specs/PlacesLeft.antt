@@ -1,5 +1,6 @@
 -- The places that an iterator has still to give.
-use Rattle.std.specs.Prelude.{◌≡◌, ℕ, ◌+◌, ◌<◌, ◌≤◌, ◌^◌, ℤ, pos, negsuc, List, [], ◌∷◌, ◌++◌, drop, length, refl}
+use Rattle.std.specs.Prelude.{◌≡◌, ℕ, ◌+◌, ◌<◌, ◌≤◌, ◌^◌, ◌==◌, ℤ, pos, negsuc, List, [], ◌∷◌, ◌++◌, if◌then◌else◌}
+use Rattle.std.specs.Prelude.{drop, length, refl}
 use Rattle.std.proofs.lemmas.Bool.{ltb-true}
 use Rattle.std.specs.List.{All}
 use Rattle.nd_base.specs.Bounds.{IsInBounds}
@@ -11,6 +12,10 @@ use Rattle.ndarray_layout.specs.Rows.{row_places, rows_places}
 abbrev pub places_after : ℕ → ℤ → ℕ → List Row → List ℤ
 places_after place stride left rows = drop 1 (row_places place stride (left + 1)) ++ rows_places rows
 
+-- rows, and a last one behind them, which is none where it has no place
+abbrev pub rows_and : List Row → Row → List Row
+rows_and rows last = rows ++ (if last.len == 0 then [] else last ∷ [])
+
 -- an iterator has these places left: each is an `isize` from 0 on, as is how many they are, and no row is empty
 pub record ArePlacesLeft (place : ℕ) (stride : ℤ) (left : ℕ) (rows : List Row) : Type 0 where
   pub here : place ≤ limit
@@ -21,6 +26,14 @@ pub record ArePlacesLeft (place : ℕ) (stride : ℤ) (left : ℕ) (rows : List 
 -- examples
 rest_of_a_row : places_after 3 (pos 1) 1 (record { start = 0; stride = pos 1; len = 2 } ∷ []) ≡ pos 4 ∷ pos 0 ∷ pos 1 ∷ []
 rest_of_a_row = refl
+
+two_rows : rows_places (rows_and (record { start = 0; stride = pos 1; len = 2 } ∷ []) (record { start = 5; stride = pos 1; len = 1 }))
+    ≡ pos 0 ∷ pos 1 ∷ pos 5 ∷ []
+two_rows = refl
+
+one_row : rows_and (record { start = 0; stride = pos 1; len = 2 } ∷ []) (record { start = 5; stride = pos 1; len = 0 })
+    ≡ record { start = 0; stride = pos 1; len = 2 } ∷ []
+one_row = refl
 
 at_the_end : places_after 3 (pos 1) 0 [] ≡ []
 at_the_end = refl

@@ -20,6 +20,7 @@ mod nth_row;
 mod permuting;
 mod picked_size;
 mod places;
+mod places_of_rows;
 mod readers;
 mod reshaping;
 mod rows;

@@ -29,6 +29,7 @@ mod moving;
 mod nearest;
 mod nth_row;
 mod picked_size;
+mod places_of_rows;
 
 use crate::nd_base::Lengths;
 pub use into_places::IntoPlaces;

@@ -15,6 +15,7 @@ mod nearest;
 #[allow(dead_code)]
 #[path = "../random/numbers.rs"]
 mod numbers;
+mod places;
 mod reads;
 mod rows;
 mod writes;

@@ -148,7 +148,7 @@ some_in_each_row order view = by (nat_eq (size view.shape) 0) refl
         All-map (λ row. 0 < row.len) (row_at order view) (view_places order (slower_view order view)) (λ k d below. some)
 
 -- so there are as many rows as places, or fewer
-no_more : (rows : List Row) → All (λ row. 0 < row.len) rows → length rows ≤ length (rows_places rows)
+pub no_more : (rows : List Row) → All (λ row. 0 < row.len) rows → length rows ≤ length (rows_places rows)
 no_more [] some = omega arith
 no_more (row ∷ rows) some =
     let first = row_places row.start row.stride row.len in

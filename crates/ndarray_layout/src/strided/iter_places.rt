@@ -1,37 +1,30 @@
 //! The places of a view one after another, without a list of them.
-ghost use Rattle.std.specs.Iterator.{UpTo, YieldsFirstBy, item_count};
+ghost use Rattle.std.specs.Iterator.{UpTo, YieldsFirstBy, YieldsLastBy, item_count};
 ghost use Rattle.std.specs.Iterator.Runs.{EveryRun, ItemsMapTo};
 ghost use Rattle.std.specs.Iterator.SizeHint.{IsWithinCount};
-ghost use Rattle.std.specs.Prelude.{◌≡◌, ◌<◌, ◌++◌, [], pos, IfSome, MatchOption, Some, drop, length};
+ghost use Rattle.std.specs.Prelude.{◌≡◌, ◌-◌, ◌<◌, ◌++◌, [], pos, IfSome, MatchOption, Some, drop, take, length};
 ghost use Rattle.ndarray_layout.specs.Rows.{row_places};
 ghost use Rattle.ndarray_layout.specs.View.{IsView, view_of, view_places};
 
 use crate::strided::Strided;
-use crate::strided::places::{offset_place, place_along_axis};
+use crate::strided::places_of_rows::PlacesOf;
 use crate::strided::rows::{Row, Rows};
-use nd_base::{Lengths, Order, unsigned};
+use nd_base::{Lengths, Order};
 use std::iter::FusedIterator;
 use std::marker::Model;
 
-/// The places of a view that are still to come, in an order. A contract sees the list of them.
+/// The places of a view that are still to come, in an order, from both ends. A contract sees the list of them.
 #[derive(Drop)]
 pub struct Places<'a> {
-    rows: Rows<'a>,
-    // The place that was given last, and how many are left after it in its row.
-    place: usize,
-    left: usize,
-    stride: isize,
+    places: PlacesOf<Rows<'a>>,
 }
 
 impl<'a> Model for Places<'a> {
     ghost use Rattle.std.specs.Prelude.{ℤ, List};
-    ghost use Rattle.ndarray_layout.specs.PlacesLeft.{ArePlacesLeft, places_after};
 
     ghost Value = { List ℤ };
 
-    ghost view = { λ places. places_after places.place places.stride places.left places.rows };
-
-    ghost invariant = { λ places. ArePlacesLeft places.place places.stride places.left places.rows };
+    ghost view = { λ places. places.places };
 }
 
 impl<'a> Places<'a> {
@@ -41,10 +34,7 @@ impl<'a> Places<'a> {
         ensures { result ≡ view_places order (view_of start lens.now strides.now) }
     {
         Places {
-            rows: Rows::of_places(order, start, lens, strides),
-            place: 0,
-            left: 0,
-            stride: 0,
+            places: PlacesOf::new(Rows::of_places(order, start, lens, strides)),
         }
     }
 
@@ -59,17 +49,21 @@ impl<'a> Places<'a> {
         ensures { MatchOption result ((self.old ≡ []) × (self.new ≡ [])) (λ row. (0 < row.len)
             × (self.old ≡ row_places row.start row.stride row.len ++ self.new)) }
     {
-        if self.left == 0 {
-            let row = self.rows.next()?;
-            return Some(row);
-        }
-        let row = Row {
-            start: offset_place(self.place, self.stride),
-            stride: self.stride,
-            len: self.left,
-        };
-        self.left = 0;
-        Some(row)
+        self.places.next_row()
+    }
+
+    /// The last places that lie evenly, at once: what is left of the row in progress at the back, or else the last row;
+    /// `None` before the first place.
+    ///
+    /// Takes no memory. Costs as much as a place from the back.
+    ///
+    /// Of the places of `[2,3]` with strides `[5,1]` from 0, without the last one: the row of 5 6, and then that of 0 1 2.
+    /// The project's own.
+    pub fn next_row_back(&mut self) -> Option<Row>
+        ensures { MatchOption result ((self.old ≡ []) × (self.new ≡ [])) (λ row. (0 < row.len)
+            × (self.old ≡ self.new ++ row_places row.start row.stride row.len)) }
+    {
+        self.places.next_row_back()
     }
 
     /// Leaves out so many places, or all where fewer are left: the next one is the one that comes after them.
@@ -81,26 +75,19 @@ impl<'a> Places<'a> {
     pub fn advance(&mut self, count: usize)
         ensures { self.new ≡ drop count self.old }
     {
-        if count <= self.left {
-            self.place = place_along_axis(self.place, count, unsigned(self.stride));
-            self.left -= count;
-            return;
-        }
-        let (count, len) = (count - self.left, self.rows.row_len());
-        self.left = 0;
-        if len == 0 {
-            return;
-        }
-        self.rows.advance(count / len);
-        let in_row = count % len;
-        if in_row == 0 {
-            return;
-        }
-        if let Some(row) = self.rows.next() {
-            self.place = place_along_axis(row.start, in_row - 1, unsigned(row.stride));
-            self.stride = row.stride;
-            self.left = len - in_row;
-        }
+        self.places.advance(count);
+    }
+
+    /// Leaves out so many places at the back, or all where fewer are left: the last one is the one that comes before them.
+    ///
+    /// Takes no memory. Costs a division and two products for each axis, however many places are left out.
+    ///
+    /// Of the places of `[2,3]` with strides `[5,1]` from 0, without the last 4: 0 1. What `nth_back` of std's iterators leaves
+    /// out one by one.
+    pub fn advance_back(&mut self, count: usize)
+        ensures { self.new ≡ take (length self.old - count) self.old }
+    {
+        self.places.advance_back(count);
     }
 }
 
@@ -113,16 +100,7 @@ impl Iterator for Places<'_> {
 
     #[inline(always)]
     fn next(&mut self) -> Option<usize> {
-        if self.left > 0 {
-            self.left -= 1;
-            self.place = offset_place(self.place, self.stride);
-            return Some(self.place);
-        }
-        let row = self.rows.next()?;
-        self.place = row.start;
-        self.stride = row.stride;
-        self.left = row.len - 1;
-        Some(self.place)
+        self.places.next()
     }
 
     fn size_hint(&self) -> (usize, Option<usize>)
@@ -135,9 +113,17 @@ impl Iterator for Places<'_> {
     }
 }
 
+impl DoubleEndedIterator for Places<'_> {
+    ghost next_back_gives = { YieldsLastBy pos (λ left. left) };
+
+    fn next_back(&mut self) -> Option<usize> {
+        self.places.next_back()
+    }
+}
+
 impl ExactSizeIterator for Places<'_> {
     fn len(&self) -> usize {
-        self.left + self.rows.count_of_places()
+        self.places.len()
     }
 }
 
@@ -145,11 +131,11 @@ impl FusedIterator for Places<'_> {}
 
 impl<D: Lengths> Strided<D> {
     /// An iterator over the places of all indices, in row-major order (the last axis moves fastest) or in
-    /// column-major order (the first one does), which knows how many are left.
+    /// column-major order (the first one does), which knows how many are left and gives the last ones as well.
     ///
     /// Takes no memory. A place costs an addition. Axes that lie evenly together count as one (`joined_rows`): past the end
     /// of the two fastest it costs a division for the third one as well, and for the axis after each one that is at its
-    /// end too.
+    /// end too. From the back it costs a product, and at each row's end a division for each axis that isn't joined.
     ///
     /// `[2,3]` with strides `[-3,1]` from 3: 3 4 5 0 1 2 in row-major order, 3 0 4 1 5 2 in column-major
     /// order. The project's own, in place of a loop of ndarray's `next_for` and `stride_offset`.

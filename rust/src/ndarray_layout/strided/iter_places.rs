@@ -1,19 +1,15 @@
 // Made by `rust/erase` of `crates/ndarray_layout/src/strided/iter_places.rt`: edit that.
 //! The places of a view one after another, without a list of them.
 
-use crate::nd_base::{Lengths, Order, unsigned};
+use crate::nd_base::{Lengths, Order};
 use crate::ndarray_layout::strided::Strided;
-use crate::ndarray_layout::strided::places::{offset_place, place_along_axis};
+use crate::ndarray_layout::strided::places_of_rows::PlacesOf;
 use crate::ndarray_layout::strided::rows::{Row, Rows};
 use core::iter::FusedIterator;
 
-/// The places of a view that are still to come, in an order.
+/// The places of a view that are still to come, in an order, from both ends.
 pub struct Places<'a> {
-    rows: Rows<'a>,
-    // The place that was given last, and how many are left after it in its row.
-    place: usize,
-    left: usize,
-    stride: isize,
+    places: PlacesOf<Rows<'a>>,
 }
 
 impl<'a> Places<'a> {
@@ -29,7 +25,7 @@ impl<'a> Places<'a> {
     /// </details>
     #[inline]
     fn new(order: Order, start: usize, lens: &'a [usize], strides: &'a [usize]) -> Self {
-        Places { rows: Rows::of_places(order, start, lens, strides), place: 0, left: 0, stride: 0 }
+        Places { places: PlacesOf::new(Rows::of_places(order, start, lens, strides)) }
     }
 
     /// The places that come next and lie evenly, at once: what is left of the row in progress, or else the next row;
@@ -68,13 +64,46 @@ impl<'a> Places<'a> {
     #[inline]
     #[must_use]
     pub fn next_row(&mut self) -> Option<Row> {
-        if self.left == 0 {
-            let row = self.rows.next()?;
-            return Some(row);
-        }
-        let row = Row { start: offset_place(self.place, self.stride), stride: self.stride, len: self.left };
-        self.left = 0;
-        Some(row)
+        self.places.next_row()
+    }
+
+    /// The last places that lie evenly, at once: what is left of the row in progress at the back, or else the last row;
+    /// `None` before the first place.
+    ///
+    /// Takes no memory. Costs as much as a place from the back.
+    ///
+    /// Of the places of `[2,3]` with strides `[5,1]` from 0, without the last one: the row of 5 6, and then that of 0 1 2.
+    /// The project's own.
+    ///
+    /// # Examples
+    ///
+    /// ```
+    /// use ndarray_layout::{CanIndexCheckMode, Ix2, LayoutError, Order, Row, Strided};
+    ///
+    /// # fn main() -> Result<(), LayoutError> {
+    /// let view = Strided::new(Ix2(2, 3), Ix2(5, 1), 1, 8, CanIndexCheckMode::ReadOnly)?;
+    /// let mut places = view.iter_places(Order::RowMajor);
+    /// assert_eq!(places.next_back(), Some(7));
+    /// let numbers = |row: Row| (row.start, row.stride, row.len);
+    /// assert_eq!(places.next_row_back().map(numbers), Some((5, 1, 2)));
+    /// assert_eq!(places.next_row_back().map(numbers), Some((0, 1, 3)));
+    /// assert!(places.next_row_back().is_none());
+    /// # Ok(())
+    /// # }
+    /// ```
+    ///
+    /// <details><summary>Contract (proved)</summary>
+    ///
+    /// ```text
+    /// ensures MatchOption result ((self.old ≡ []) × (self.new ≡ [])) (λ row. (0 < row.len)
+    ///     × (self.old ≡ self.new ++ row_places row.start row.stride row.len))
+    /// ```
+    /// [How to read it](crate::contracts)
+    /// </details>
+    #[inline]
+    #[must_use]
+    pub fn next_row_back(&mut self) -> Option<Row> {
+        self.places.next_row_back()
     }
 
     /// Leaves out so many places, or all where fewer are left: the next one is the one that comes after them.
@@ -107,26 +136,40 @@ impl<'a> Places<'a> {
     /// </details>
     #[inline]
     pub fn advance(&mut self, count: usize) {
-        if count <= self.left {
-            self.place = place_along_axis(self.place, count, unsigned(self.stride));
-            self.left -= count;
-            return;
-        }
-        let (count, len) = (count - self.left, self.rows.row_len());
-        self.left = 0;
-        if len == 0 {
-            return;
-        }
-        self.rows.advance(count / len);
-        let in_row = count % len;
-        if in_row == 0 {
-            return;
-        }
-        if let Some(row) = self.rows.next() {
-            self.place = place_along_axis(row.start, in_row - 1, unsigned(row.stride));
-            self.stride = row.stride;
-            self.left = len - in_row;
-        }
+        self.places.advance(count);
+    }
+
+    /// Leaves out so many places at the back, or all where fewer are left: the last one is the one that comes before them.
+    ///
+    /// Takes no memory. Costs a division and two products for each axis, however many places are left out.
+    ///
+    /// Of the places of `[2,3]` with strides `[5,1]` from 0, without the last 4: 0 1. What `nth_back` of std's iterators leaves
+    /// out one by one.
+    ///
+    /// # Examples
+    ///
+    /// ```
+    /// use ndarray_layout::{CanIndexCheckMode, Ix2, LayoutError, Order, Strided};
+    ///
+    /// # fn main() -> Result<(), LayoutError> {
+    /// let view = Strided::new(Ix2(2, 3), Ix2(5, 1), 1, 8, CanIndexCheckMode::ReadOnly)?;
+    /// let mut places = view.iter_places(Order::RowMajor);
+    /// places.advance_back(4);
+    /// assert!(places.eq([0, 1]));
+    /// # Ok(())
+    /// # }
+    /// ```
+    ///
+    /// <details><summary>Contract (proved)</summary>
+    ///
+    /// ```text
+    /// ensures self.new ≡ take (length self.old - count) self.old
+    /// ```
+    /// [How to read it](crate::contracts)
+    /// </details>
+    #[inline]
+    pub fn advance_back(&mut self, count: usize) {
+        self.places.advance_back(count);
     }
 }
 
@@ -135,16 +178,7 @@ impl Iterator for Places<'_> {
 
     #[inline(always)]
     fn next(&mut self) -> Option<usize> {
-        if self.left > 0 {
-            self.left -= 1;
-            self.place = offset_place(self.place, self.stride);
-            return Some(self.place);
-        }
-        let row = self.rows.next()?;
-        self.place = row.start;
-        self.stride = row.stride;
-        self.left = row.len - 1;
-        Some(self.place)
+        self.places.next()
     }
 
     #[inline]
@@ -156,10 +190,19 @@ impl Iterator for Places<'_> {
     crate::arrays::fold_places!();
 }
 
+impl DoubleEndedIterator for Places<'_> {
+    #[inline]
+    fn next_back(&mut self) -> Option<usize> {
+        self.places.next_back()
+    }
+
+    crate::arrays::fold_places_back!();
+}
+
 impl ExactSizeIterator for Places<'_> {
     #[inline]
     fn len(&self) -> usize {
-        self.left + self.rows.count_of_places()
+        self.places.len()
     }
 }
 
@@ -167,11 +210,11 @@ impl FusedIterator for Places<'_> {}
 
 impl<D: Lengths> Strided<D> {
     /// An iterator over the places of all indices, in row-major order (the last axis moves fastest) or in
-    /// column-major order (the first one does), which knows how many are left.
+    /// column-major order (the first one does), which knows how many are left and gives the last ones as well.
     ///
     /// Takes no memory. A place costs an addition. Axes that lie evenly together count as one (`joined_rows`): past the end
     /// of the two fastest it costs a division for the third one as well, and for the axis after each one that is at its
-    /// end too.
+    /// end too. From the back it costs a product, and at each row's end a division for each axis that isn't joined.
     ///
     /// `[2,3]` with strides `[-3,1]` from 3: 3 4 5 0 1 2 in row-major order, 3 0 4 1 5 2 in column-major
     /// order. The project's own, in place of a loop of ndarray's `next_for` and `stride_offset`.

@@ -1,0 +1,42 @@
+-- What is left of the row that has begun is a row, and without one the next row is.
+use Rattle.std.proofs.Common.{◌≡◌, ◌++◌, pos, ◌+ℤ◌, of_z, to_z, w64, sym, ap, ◌∙◌, arith}
+use Rattle.std.proofs.lemmas.Int.{ints}
+use Rattle.ndarray_layout.specs.PlacesLeft.{rows_and}
+use Rattle.ndarray_layout.specs.Rows.{row_places, rows_places}
+use Rattle.ndarray_layout.proofs.ByRows.{row_from}
+use Rattle.ndarray_layout.proofs.LaterPlaces.{left_after_row, left_ended, row_first_of}
+use Rattle.ndarray_layout.proofs.RowSteps.{after, bounds_of_place, left_after_end, next_in_bounds, some_in_row}
+use Rattle.ndarray_layout.proofs.strided.places_of_rows.PlacesOf.next_row.Goals as goal
+
+pub offset_place-requires-clause-there : goal.offset_place-requires-clause-there
+offset_place-requires-clause-there g c =
+    let bounds = bounds_of_place _ (next_in_bounds c.self.invariant (omega (arith, c.if-self-eq0.false))) in
+    (omega (arith, ints, bounds.0), omega (arith, ints, bounds.1))
+
+pub invariant_of-self-2 : goal.invariant_of-self-2
+invariant_of-self-2 g c = left_ended c.self.invariant
+
+pub returns : goal.returns
+returns g c =
+    let places = c.self.inside in
+    let rows = rows_and (g.R.RowEnds.rows places.rows) places.back in
+    let at : pos c.offset_place.result ≡ pos places.place +ℤ places.stride = omega (arith, ints, c.offset_place.ensures) in
+    let steps : places.stride ≡ to_z w64 (of_z w64 places.stride) = omega (arith, ints) in (
+      omega (arith, c.if-self-eq0.false),
+      sym c.self.view_is
+          ∙ after places.place places.stride places.left rows
+          ∙ ap (λ z. row_from z places.stride places.left ++ rows_places rows) (sym at)
+          ∙ ap (λ s. row_places c.offset_place.result s places.left ++ rows_places rows) steps,
+    )
+
+pub invariant_of-self : goal.invariant_of-self
+invariant_of-self g c = left_after_end c.self.invariant c.if-self-eq0.true c.in_err-row.ensures.1
+
+pub invariant_of-self-then-self-eq0 : goal.invariant_of-self-then-self-eq0
+invariant_of-self-then-self-eq0 g c = left_after_row c.self.invariant c.if-self-eq0.true c.in_ok-row.ensures
+
+pub returns-then-self-eq0 : goal.returns-then-self-eq0
+returns-then-self-eq0 g c = (
+  some_in_row c.self.invariant c.in_ok-row.ensures,
+  sym c.self.view_is ∙ row_first_of c.self.invariant c.if-self-eq0.true c.in_ok-row.ensures,
+)

@@ -1,0 +1,30 @@
+-- Without the last row no row has begun at the back.
+use Rattle.std.proofs.Common.{◌≡◌, of_z, to_z, w64, sym, ap, subst, ◌∙◌, ◌++◌, arith}
+use Rattle.std.proofs.lemmas.Int.{ints}
+use Rattle.ndarray_layout.specs.PlacesLeft.{ArePlacesLeft, places_after}
+use Rattle.ndarray_layout.specs.Rows.{row_places}
+use Rattle.ndarray_layout.proofs.BothEnds.{and_none, left_without_row, without_row}
+use Rattle.ndarray_layout.proofs.strided.places_of_rows.PlacesOf.next_row_back.Goals as goal
+
+pub invariant_of-self-2 : goal.invariant_of-self-2
+invariant_of-self-2 g c =
+    let p = c.self.inside in
+    let rows = g.R.RowEnds.rows c.last_row.new.rows in
+    let row = c.in_ok-row.ensures.row in
+    let same : to_z w64 (of_z w64 p.stride) ≡ p.stride = omega (arith, ints) in
+    subst (ArePlacesLeft p.place p.stride c.last_row.new.left) (sym (and_none rows c.last_row.new.back c.in_ok-row.ensures.back))
+    (left_without_row c.self.invariant c.last_row.new.left rows c.in_ok-row.row same row.0 row.1 c.in_ok-row.ensures.some)
+
+pub returns : goal.returns
+returns g c =
+    let p = c.self.inside in
+    let rows = g.R.RowEnds.rows c.last_row.new.rows in
+    let last = c.in_ok-row.row in
+    let row = c.in_ok-row.ensures.row in
+    let same : to_z w64 (of_z w64 p.stride) ≡ p.stride = omega (arith, ints) in (
+      row.0,
+      sym c.self.view_is
+          ∙ without_row c.self.invariant c.last_row.new.left rows last same row.0 row.1
+          ∙ ap (λ xs. places_after p.place p.stride c.last_row.new.left xs ++ row_places last.start last.stride last.len)
+          (sym (and_none rows c.last_row.new.back c.in_ok-row.ensures.back)),
+    )
