@@ -4,6 +4,7 @@ pub mod Folding
 pub mod RowRuns
 pub mod RowsLent
 pub mod Runs
+pub mod Searching
 pub mod Sets
 pub mod SplitItems
 pub mod Steps

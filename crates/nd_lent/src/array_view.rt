@@ -13,7 +13,9 @@ mod folding;
 mod iterating;
 mod making;
 mod rows;
+mod searching;
 mod steps;
+mod summing;
 mod totals;
 
 pub use iterating::Iter;

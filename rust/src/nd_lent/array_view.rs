@@ -8,6 +8,8 @@ mod folding;
 mod steps;
 mod comparing;
 mod extremes;
+mod searching;
+mod summing;
 mod totals;
 
 use crate::memory::AllocError;

@@ -60,9 +60,7 @@ impl<T: PartialEq, D: Lengths> ArrayView<'_, T, D> {
             (map (item_at_place self.now.items) (view_places RowMajor self.now.view))
             (map (item_at_place other.now.items) (view_places RowMajor other.now.view)) }
     {
-        let (rows, others) = self
-            .view()
-            .joined_rows_with(other.view(), Order::RowMajor);
+        let (rows, others) = self.view().joined_rows_with(other.view(), Order::RowMajor);
         have_equal_rows(
             LentRows::new(self.stored(), rows),
             LentRows::new(other.stored(), others),

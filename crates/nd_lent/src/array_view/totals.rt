@@ -7,9 +7,9 @@ ghost use Rattle.ndarray_layout.specs.declared.Order.TheVariants.{RowMajor};
 ghost use Rattle.ndarray_layout.specs.View.{view_places};
 ghost use Rattle.nd_parts.specs.Items.{item_at_place};
 ghost use Rattle.nd_lent.specs.Lending.{lends};
-ghost use Rattle.nd_lent.specs.private.Summed.{sum_with};
 
 use crate::array_view::ArrayView;
+use crate::array_view::summing::sum_row;
 use ndarray_layout::Lengths;
 
 /// An unsigned number of any of the widths. num_traits' `Unsigned`.
@@ -70,7 +70,8 @@ impl Unsigned for usize {
 impl<T: Unsigned, D: Lengths> ArrayView<'_, T, D> {
     /// The sum of the items, an item as often as the array has indices for it; `None` where it passes the greatest `u64`.
     ///
-    /// Time in proportion to the indices, by `fold`.
+    /// Time in proportion to the indices. Goes over the longest rows that the axes allow (`Strided::joined_rows`): in one whose
+    /// items follow one another the sum is tested once for many items.
     ///
     /// `[2]` with the stride `[-1]` over 7 8 9: 15; of `u8` items too, since they are added as `u64`. ndarray's `sum`.
     pub fn sum(&self) -> Option<u64>
@@ -79,18 +80,19 @@ impl<T: Unsigned, D: Lengths> ArrayView<'_, T, D> {
         ensures sum { IfSome result (λ total. total ≡ sum_by (λ item. option_map_or T.number item 0)
             (map (item_at_place self.now.items) (view_places RowMajor self.now.view))) }
     {
-        self.fold(
-            Some(0),
-            |total: Option<u64>, item: &T|
-                ensures { result ≡ sum_with total (T.number item.now) }
-            { total?.checked_add(item.to_u64()) },
-        )
+        let mut total = 0u64;
+        for row in self.joined_rows() {
+            total = total.checked_add(sum_row(&row)?)?;
+        }
+        Some(total)
     }
 }
 
 impl<T, D: Lengths> ArrayView<'_, T, D> {
     /// Whether a function returns `true` at some item. It is called at one item after another, in row-major order, and at none
     /// after the first one that passes. Without items `false`.
+    ///
+    /// Goes over the longest rows that the axes allow, as `fold` does.
     ///
     /// `[2]` with the stride `[-1]` over 7 8 9, by `any(|item| *item > 8)`: `false`. std's `any` of `iter()`.
     pub fn any<F: FnMut(&T) -> bool>(&self, f: F) -> bool
@@ -99,11 +101,13 @@ impl<T, D: Lengths> ArrayView<'_, T, D> {
         ensures ran { (left : List (Option T)) × ChecksAny lends F.FnMut
             (map (item_at_place self.now.items) (view_places RowMajor self.now.view)) f result left }
     {
-        self.iter().any(f)
+        self.search(true, f)
     }
 
     /// Whether a function returns `true` at each item. It is called at one item after another, in row-major order, and at none
     /// after the first one that fails. Without items `true`.
+    ///
+    /// Goes over the longest rows that the axes allow, as `fold` does.
     ///
     /// `[2]` with the stride `[-1]` over 7 8 9, by `all(|item| *item > 6)`: `true`. std's `all` of `iter()`.
     pub fn all<F: FnMut(&T) -> bool>(&self, f: F) -> bool
@@ -112,6 +116,6 @@ impl<T, D: Lengths> ArrayView<'_, T, D> {
         ensures ran { (left : List (Option T)) × ChecksAll lends F.FnMut
             (map (item_at_place self.now.items) (view_places RowMajor self.now.view)) f result left }
     {
-        self.iter().all(f)
+        !self.search(false, f)
     }
 }

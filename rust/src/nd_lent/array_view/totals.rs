@@ -2,6 +2,7 @@
 //! What is known of all items of an array at once: their sum, and whether some or all of them pass a test.
 
 use crate::nd_lent::array_view::ArrayView;
+use crate::nd_lent::array_view::summing::sum_row;
 use crate::ndarray_layout::Lengths;
 
 /// An unsigned number of any of the widths. num_traits' `Unsigned`.
@@ -59,7 +60,8 @@ impl Unsigned for usize {
 impl<T: Unsigned, D: Lengths> ArrayView<'_, T, D> {
     /// The sum of the items, an item as often as the array has indices for it; `None` where it passes the greatest `u64`.
     ///
-    /// Time in proportion to the indices, by `fold`.
+    /// Time in proportion to the indices. Goes over the longest rows that the axes allow (`Strided::joined_rows`): in one whose
+    /// items follow one another the sum is tested once for many items.
     ///
     /// `[2]` with the stride `[-1]` over 7 8 9: 15; of `u8` items too, since they are added as `u64`. ndarray's `sum`.
     ///
@@ -92,13 +94,19 @@ impl<T: Unsigned, D: Lengths> ArrayView<'_, T, D> {
     #[inline]
     #[must_use]
     pub fn sum(&self) -> Option<u64> {
-        self.fold(Some(0), |total: Option<u64>, item: &T| total?.checked_add(item.to_u64()))
+        let mut total = 0u64;
+        for row in self.joined_rows() {
+            total = total.checked_add(sum_row(&row)?)?;
+        }
+        Some(total)
     }
 }
 
 impl<T, D: Lengths> ArrayView<'_, T, D> {
     /// Whether a function returns `true` at some item. It is called at one item after another, in row-major order, and at none
     /// after the first one that passes. Without items `false`.
+    ///
+    /// Goes over the longest rows that the axes allow, as `fold` does.
     ///
     /// `[2]` with the stride `[-1]` over 7 8 9, by `any(|item| *item > 8)`: `false`. std's `any` of `iter()`.
     ///
@@ -132,11 +140,13 @@ impl<T, D: Lengths> ArrayView<'_, T, D> {
     /// </details>
     #[inline]
     pub fn any<F: FnMut(&T) -> bool>(&self, f: F) -> bool {
-        self.iter().any(f)
+        self.search(true, f)
     }
 
     /// Whether a function returns `true` at each item. It is called at one item after another, in row-major order, and at none
     /// after the first one that fails. Without items `true`.
+    ///
+    /// Goes over the longest rows that the axes allow, as `fold` does.
     ///
     /// `[2]` with the stride `[-1]` over 7 8 9, by `all(|item| *item > 6)`: `true`. std's `all` of `iter()`.
     ///
@@ -170,6 +180,6 @@ impl<T, D: Lengths> ArrayView<'_, T, D> {
     /// </details>
     #[inline]
     pub fn all<F: FnMut(&T) -> bool>(&self, f: F) -> bool {
-        self.iter().all(f)
+        !self.search(false, f)
     }
 }

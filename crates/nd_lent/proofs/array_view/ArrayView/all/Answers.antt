@@ -1,9 +1,8 @@
--- The items that come are those of the array.
-use Rattle.std.proofs.Common.{true, sym, subst}
-use Rattle.std.specs.Iterator.{CallableWhile}
-use Rattle.nd_lent.specs.Lending.{lends}
+-- It is the search for an item that doesn't pass.
+use Rattle.std.proofs.Common.{false, true, ap}
+use Rattle.std.specs.Prelude.{not}
+use Rattle.nd_lent.proofs.Searching.{searched_while}
 use Rattle.nd_lent.proofs.array_view.ArrayView.all.Goals as goal
 
-pub all-requires-clause-callable : goal.all-requires-clause-callable
-all-requires-clause-callable g c =
-    subst (λ items. CallableWhile lends g.F.FnMut true items c.args.f) (sym c.iter.ensures.items) c.requires.callable
+pub returns : goal.returns
+returns g c = record { ran = searched_while (not c.search.result) true false (ap not) (ap not) c.search.ensures.1 }
