@@ -14,6 +14,7 @@ pub mod Keeps
 pub mod KeepsPlaces
 pub mod MergedView
 pub mod Nearest
+pub mod Permuted
 pub mod PermutedView
 pub mod ReshapedView
 pub mod RowMajor
