@@ -1,3 +1,5 @@
 pub mod Faults
+pub mod FlatItems
 pub mod Lists
 pub mod Neighbours
+pub mod PermutedItems
