@@ -246,7 +246,7 @@ class BesideNumpy(unittest.TestCase):
         for a, strides, _ in self.arrays():
             first, second = random_key(self.numbers, a.shape), random_key(self.numbers, a.shape)
             if nd.has_overlap(a.shape, strides):
-                self.assert_unsupported(a, first, second)
+                self.assert_undecided(a, first, second)
                 self.seen["arrays that break the no-alias rule"] += 1
             parts = outcome(lambda: (np.asarray(a[first]), np.asarray(a[second])))
             ours = outcome(lambda: nd.share_element(a, first, second))
@@ -261,11 +261,11 @@ class BesideNumpy(unittest.TestCase):
             self.assertEqual(ours, expected, (a.shape, a.strides, first, second))
             self.seen["shared" if ours else "not shared"] += 1
 
-    def assert_unsupported(self, a, first, second):
+    def assert_undecided(self, a, first, second):
         """`share_element` refuses the array where it may not compare the places."""
         with self.assertRaises(ShapeError) as caught:
             nd.share_element(a, first, second, max_work=0)
-        self.assertEqual(caught.exception.kind, "Unsupported")
+        self.assertEqual(caught.exception.kind, "Undecided")
 
     def test_shared_bytes(self):
         """Any strides in bytes, of elements that may overlap."""
@@ -276,7 +276,7 @@ class BesideNumpy(unittest.TestCase):
             lie_apart = len(set(each_byte)) == len(each_byte)
             first, second = self.few_rows(), self.few_rows()
             if nd.has_overlap(*byte_layout):
-                self.assert_unsupported(a, first, second)
+                self.assert_undecided(a, first, second)
                 self.seen["against the rule: elements " + ("lie apart" if lie_apart else "overlap")] += 1
             else:
                 self.assertTrue(lie_apart, (a.shape, a.strides))

@@ -164,7 +164,7 @@ class Items(unittest.TestCase):
         for items in (np.zeros(3, "M8[s]"), np.zeros(3, [("a", np.int64)])):
             with self.assertRaises(ShapeError) as caught:
                 Layout.over(3, 3).as_memoryview(items)
-            self.assertEqual(caught.exception.kind, "Unsupported")
+            self.assertEqual(caught.exception.kind, "IncompatibleBuffer")
 
     def test_formats(self):
         """The dtype of a `memoryview` of an array is the array's."""
@@ -191,7 +191,7 @@ class Items(unittest.TestCase):
         self.assertEqual(Layout.over(2, 2).as_array(pointers).tolist(), [0, 0])
         sizes = memoryview(bytes(16)).cast("n")
         self.assertEqual(Layout.over(2, 2).as_array(sizes, np.intp).tolist(), [0, 0])
-        with self.assertRaisesRegex(ShapeError, "Unsupported: NumPy has no dtype for the format 'n'"):
+        with self.assertRaisesRegex(ShapeError, "IncompatibleBuffer: NumPy has no dtype for the format 'n'"):
             Layout.over(2, 2).as_array(sizes)
 
     def test_what_numpy_has_not(self):
@@ -203,7 +203,7 @@ class Items(unittest.TestCase):
         ):
             with self.assertRaises(ShapeError) as caught:
                 layout.as_array(np.zeros(1))
-            self.assertEqual(caught.exception.kind, "Unsupported")
+            self.assertEqual(caught.exception.kind, "IncompatibleBuffer")
         with self.assertRaises(ShapeError):
             Layout.over(1, (1,) * 70).as_memoryview(b"a")
 

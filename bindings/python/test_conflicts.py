@@ -397,7 +397,7 @@ class Conflicts(unittest.TestCase):
 
     def test_errors(self):
         self.assertRaises(OverflowError, nd.first_conflict, (2**32, 2**32), [])
-        self.assertRaises(OverflowError, nd.first_conflict, (4,), [0], chunks=-1)
+        self.assertRaises(OverflowError, nd.first_conflict, (4,), [0], chunks=-2)
         self.assertRaises(ShapeError, nd.first_conflict, (4, 4), [0], chunks=(2,))
         self.assertRaises(ShapeError, nd.first_conflict, (4, 4), [0], chunks=(2, 0))
         self.assertRaises(TypeError, nd.first_conflict, (4,), [0, [1, 2]])
@@ -405,8 +405,8 @@ class Conflicts(unittest.TestCase):
         self.assertRaises(TypeError, nd.first_conflict, (4,), {0, 1})
         self.assertRaises(TypeError, nd.first_conflict, (4,), [0], max_parts=None)
         self.assertRaises(ShapeError, nd.first_conflict, (4,), [0], chunks=((10**5_000,),))
-        with self.assertRaisesRegex(TypeError, "^axis 1: chunk is an integer, not None"):
-            nd.first_conflict((4, 4), [0], chunks=(2, None))
+        with self.assertRaisesRegex(TypeError, "^axis 1: chunk is an integer, not 2.5"):
+            nd.first_conflict((4, 4), [0], chunks=(2, 2.5))
         with self.assertRaisesRegex(TypeError, "^region 1: axis 0: slice indices must be integers"):
             nd.first_conflict((4, 4), [0, slice("a", 2)])
         with self.assertRaisesRegex(IndexError, "^region 1: 2 of the indices are '...'"):
@@ -420,10 +420,10 @@ class Conflicts(unittest.TestCase):
         self.assertEqual((caught.exception.axis, caught.exception.numbers["region"]), (1, 1))
         with self.assertRaises(IndexError) as caught:
             nd.first_conflict((4, 4), [0, 1, (2, Slice(0, 5))])
-        self.assertEqual(str(caught.exception), "region 2: axis 1: bound 5 is past length 4")
+        self.assertEqual(str(caught.exception), "region 2: axis 1: bound 5 is past length 4; clamp=True moves it to the end, as NumPy does")
         with self.assertRaises(LayoutError) as caught:
             nd.first_intersection((4, 4), [[0, 0], [0, Slice(0, 9)]])
-        self.assertEqual(str(caught.exception), "slice 1: axis 1: bound 9 is past length 4")
+        self.assertEqual(str(caught.exception), "slice 1: axis 1: bound 9 is past length 4; clamp=True moves it to the end, as NumPy does")
 
     def test_one_of_the_first(self):
         """Where each region conflicts with the next, it is the first of them."""
@@ -441,7 +441,7 @@ class Conflicts(unittest.TestCase):
         self.assertIsNone(nd.first_conflict(10**7, [key], chunks=1_000, max_parts=1_000))
         with self.assertRaises(ShapeError) as caught:
             nd.first_conflict(10**7, [key], chunks=1_000, max_parts=999)
-        self.assertEqual(caught.exception.kind, "Unsupported")
+        self.assertEqual(caught.exception.kind, "Undecided")
         with self.assertRaises(ShapeError):  # (at once, without a list of them)
             nd.first_conflict(2**62, [slice(0, None, 10**9 + 1)], chunks=10**9)
         self.assertIsNone(nd.first_conflict((4, 4), []))

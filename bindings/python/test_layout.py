@@ -230,7 +230,7 @@ class Memoryviews(unittest.TestCase):
             with self.assertRaises(ShapeError) as caught:
                 wrong.as_memoryview(self.ITEMS)
             error = caught.exception
-            self.assertEqual((error.kind, error.axis, error.numbers), ("Unsupported", axis, numbers))
+            self.assertEqual((error.kind, error.axis, error.numbers), ("IncompatibleBuffer", axis, numbers))
         with self.assertRaises(ShapeError) as caught:
             Layout.over(12, 1).broadcast(3).as_memoryview(self.ITEMS)
         self.assertEqual(caught.exception.numbers, {"stride": 0, "length": 3})
@@ -350,7 +350,7 @@ class Arrays(unittest.TestCase):
         for gaps in (a[::2, ::-1], a[::-1], a[:, ::2], np.arange(4)[::-1], memoryview(b"abc")[::-1]):
             with self.assertRaisesRegex(ShapeError, "isn't C- or F-contiguous: it has the shape") as caught:
                 Layout.of(gaps).as_array(gaps)
-            self.assertEqual(caught.exception.kind, "Unsupported")
+            self.assertEqual(caught.exception.kind, "IncompatibleBuffer")
         with self.assertRaisesRegex(ShapeError, "isn't C-contiguous"):
             Layout.over(6, 6).as_memoryview(a.T)
 

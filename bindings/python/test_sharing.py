@@ -90,7 +90,7 @@ class Bounds(unittest.TestCase):
         for call in (by_array, by_layout):
             with self.assertRaises(ShapeError) as caught:
                 call(1_000)
-            self.assertEqual(caught.exception.kind, "Unsupported")
+            self.assertEqual(caught.exception.kind, "Undecided")
             self.assertIn("1000 steps don't decide", str(caught.exception))
             self.assertRaises(ShapeError, call, 0)
 

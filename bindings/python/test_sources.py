@@ -243,7 +243,7 @@ class Memory(unittest.TestCase):
             self.assertTrue(nd.share_element(array, items[2:3]))
             self.assertFalse(nd.share_element(array, items[:2]))
             self.assertEqual(Layout.of(array, base=items), Layout.of(items[2:6], base=items))
-            self.assert_refused("^array: .* bytes-like object is required", TypeError, Interface(interface))
+            self.assert_refused("^array: .* has no memory that can be read", TypeError, Interface(interface))
 
     def test_what_no_data_is(self):
         address = self.numbers.__array_interface__["data"][0]
@@ -435,7 +435,7 @@ class TwoArrays(unittest.TestCase):
         for work in (0, 20):
             with self.assertRaises(ShapeError) as caught:
                 nd.share_element(one, other, max_work=work)
-            self.assertEqual(caught.exception.kind, "Unsupported")
+            self.assertEqual(caught.exception.kind, "Undecided")
 
     def test_refusals(self):
         items = np.zeros(3)

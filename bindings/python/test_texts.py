@@ -41,7 +41,7 @@ class Texts(unittest.TestCase):
         self.assert_error(text, bounds, nd.place, 0, (2, 3, 5), (15, 5, 1), (1, 2, 9))
         self.assert_error(text, bounds, nd.picked, (2, 3, 5), [1, 2, 9])
         self.assert_error(text, bounds, nd.basic_key, (2, 3, 5), (1, ..., 9))
-        text = "axis 0: bound 7 is past length 4"
+        text = "axis 0: bound 7 is past length 4; clamp=True moves it to the end, as NumPy does"
         self.assert_error(text, {"bound": 7, "length": 4}, nd.picked, (4,), [Slice(0, 7)])
         text = "size 2**64 is above the limit 2**63 - 1"
         self.assert_error(text, {"size": 2**64}, nd.default_strides, (2**32, 2**32))
@@ -50,13 +50,16 @@ class Texts(unittest.TestCase):
         self.assert_error(text, {"index": 4, "length": 3}, nd.split_at, 0, (2, 3), (3, 1), 1, 4)
         text = "the layout needs 6 elements of 5"
         self.assert_error(text, {"needed": 6, "length": 5}, nd.layout_start, (2, 3), (-3, 1), length=5)
-        text = "Unsupported: axis 0: stride 2 isn't past 3, the reach of the axes with no greater stride (in elements)"
+        text = (
+            "Unsupported: axis 0: two indices may have one place, so it isn't writable: stride 2 isn't past 3, the reach of "
+            "the axes with no greater stride (in elements); without writable=True it is only to be read"
+        )
         self.assert_error(text, {"stride": 2, "reach": 3}, nd.layout_start, (2, 4), (2, 1), length=9, writable=True)
 
     def test_numbers_without_64_bits(self):
         self.assert_error("axis 1: length -1 is negative", {"length": -1}, nd.default_strides, (2, -1))
         self.assert_error("axis 0: length 2**64 is past 64 bits", {"length": 2**64}, nd.default_strides, (2**64,))
-        self.assert_error("axis 1: index -1 is negative", {"index": -1}, nd.place, 0, (2, 3), (3, 1), (0, -1))
+        self.assert_error("axis 1: index -1 is negative, and isn't counted from the end here", {"index": -1}, nd.place, 0, (2, 3), (3, 1), (0, -1))
         self.assert_error("length -1 is negative", {"length": -1}, nd.layout_start, (2,), (1,), length=-1)
         self.assert_error(
             "axis 0: stride -2**64 is past 64 bits", {"stride": -(2**64)}, nd.has_overlap, (2,), (-(2**64),)
@@ -81,17 +84,19 @@ class Texts(unittest.TestCase):
         self.assert_error(text, {"size": 0, "others": 0}, nd.Layout.over(0, 0).reshape, (-1, 0))
         text = "IncompatibleShape: axis 0: no length times 5 is the size 24"
         self.assert_error(text, {"size": 24, "others": 5}, layout.reshape, (-1, 5))
-        text = "IncompatibleLayout: axis 0: stride 1 isn't 4 times 6, the stride of axis 1 (in elements), and size 24 isn't 25"
+        refused = "IncompatibleLayout: axis 0: shape (6, 4) with strides (1, 6) can't become {} in order 'C' without a copy: {}"
+        rule = "stride 1 isn't 4 times 6, the stride of axis 1 (in elements)"
+        text = refused.format("(25,)", f"{rule}, and size 24 isn't 25")
         numbers = {"stride": 1, "fast": 1, "size": 24, "new_size": 25}
         self.assert_error(text, numbers, nd.reshape, (6, 4), (1, 6), (25,))
         self.assert_error(text, numbers, layout.T.reshape, 25)
-        text = "IncompatibleLayout: axis 0: stride 1 isn't 4 times 6, the stride of axis 1 (in elements)"
+        text = refused.format("(24,)", f"{rule}; order='F' can")
         self.assert_error(text, {"stride": 1, "fast": 1}, nd.reshape, (6, 4), (1, 6), 24)
 
     def test_texts_count_bytes(self):
         """What an array says of itself: no axis of bytes, and no unit that wasn't given."""
         counts = {"lengths": 1, "strides": 2}
-        text = "IncompatibleLayout: 1 lengths, but 2 strides"
+        text = "IncompatibleLayout: the shape has 1 lengths and the strides have 2, one for each axis is needed"
         self.assert_error(text, counts, nd.share_element, array_of((2,), (8, 8)), 0, 1)
         for strides in ((8, 8), (7, 8)):
             self.assert_error(text, counts, nd.lay_over, 2, strides, itemsize=8, nbytes=64)
@@ -107,9 +112,13 @@ class Texts(unittest.TestCase):
         for strides, needed in (((-12, 4), 24), ((-14, 4), 26)):
             text, numbers = f"the array needs {needed} bytes of 23", {"needed": needed, "nbytes": 23}
             self.assert_error(text, numbers, nd.lay_over, (2, 3), strides, itemsize=4, nbytes=23)
-        text = "Unsupported: axis 0: stride 3 isn't past 3, the reach of the axes with no greater stride (in bytes)"
+        refused = (
+            "Unsupported: axis 0: two indices may have one place, so it isn't writable: stride {} isn't past {}, the reach of "
+            "the axes with no greater stride (in bytes); without writable=True it is only to be read"
+        )
+        text = refused.format(3, 3)
         self.assert_error(text, {"stride": 3, "reach": 3}, nd.lay_over, 2, 3, itemsize=4, nbytes=20, writable=True)
-        text = "Unsupported: axis 0: stride 8 isn't past 11, the reach of the axes with no greater stride (in bytes)"
+        text = refused.format(8, 11)
         self.assert_error(
             text, {"stride": 8, "reach": 11}, nd.lay_over, (2, 2), (8, 8), itemsize=4, nbytes=20, writable=True
         )
@@ -175,7 +184,7 @@ class Texts(unittest.TestCase):
             "axis -3: there are 2 axes", {"axis": -3, "axes": 2}, nd.Layout.over(6, (2, 3)).transpose, -3, 0
         )
         text = (
-            "Unsupported: the regions up to 1 have more than max_parts=1 parts, so nothing was decided; "
+            "Undecided: the regions up to 1 have more than max_parts=1 parts, so nothing was decided; "
             "a greater max_parts takes more memory"
         )
         self.assert_error(text, {"region": 1, "max_parts": 1}, nd.first_conflict, 3, [0, 1], max_parts=1)
@@ -201,9 +210,9 @@ class Texts(unittest.TestCase):
         text = "Unsupported: the item size 0 isn't above 0"
         self.assert_error(text, {"itemsize": 0}, nd.lay_over, 2, 4, itemsize=0, nbytes=9)
         self.assert_error(text, {"itemsize": 0}, nd.element_strides, (4,), 0)
-        text = "Unsupported: order must be 'C' or 'F', not 'K'"
+        text = "BadArgument: order must be 'C' or 'F', not 'K'"
         self.assert_error(text, {}, nd.next_index, (2,), (0,), "K")
-        text = "Unsupported: order must be 'C', 'F' or 'A', not 'K'"
+        text = "BadArgument: order must be 'C', 'F' or 'A', not 'K'"
         self.assert_error(text, {}, nd.places, 0, (2,), (1,), "K")
 
     def test_another_kind_says_nothing(self):
@@ -285,7 +294,7 @@ class NotTakenForAnother(unittest.TestCase):
 
     def test_order_beside_strides(self):
         for order in "CFcf":
-            text = f"Unsupported: the order {order!r} beside strides, which say the order themselves"
+            text = f"BadArgument: the order {order!r} beside strides, which say the order themselves"
             self.assert_refused(nd.ShapeError, text, nd.Layout.over, 6, (2, 3), (3, 1), order=order)
         self.assertEqual(nd.Layout.over(6, (2, 3), (1, 2)), nd.Layout.over(6, (2, 3), order="F"))
         self.assertEqual(nd.Layout.over(7, (2, 3), start=1, order="F").strides, (1, 2))

@@ -103,9 +103,9 @@ class Worked(unittest.TestCase):
                 call(backwards, **{length: 23})
         with self.assertRaisesRegex(IndexError, "^the array at offset 8 needs bytes -4 to 19 of 24$"):
             nd.check_layout(8, backwards, length=24)
-        with self.assertRaisesRegex(ShapeError, "^Unsupported: elem_size 4 beside an itemsize$"):
+        with self.assertRaisesRegex(ShapeError, "^BadArgument: elem_size 4 beside an itemsize$"):
             nd.layout_start((2, 3), (12, 4), elem_size=4, itemsize=4, length=24)
-        with self.assertRaisesRegex(ShapeError, "^Unsupported: elem_size 4 beside an itemsize$"):
+        with self.assertRaisesRegex(ShapeError, "^BadArgument: elem_size 4 beside an itemsize$"):
             nd.check_layout(0, ROWS, elem_size=4, length=24)
 
     def test_shapes(self):
@@ -198,7 +198,7 @@ class EachCall(unittest.TestCase):
                 call()
         with self.assertRaisesRegex(TypeError, "missing 1 required positional argument: 'new_shape'"):
             nd.reshape((2, 3), strides=(3, 1))
-        with self.assertRaisesRegex(TypeError, r"^an array has a shape, strides and an itemsize, unlike \(2, 3\)$"):
+        with self.assertRaisesRegex(TypeError, r"^array: \(2, 3\) has no shape, strides and itemsize, and no strides are given beside it$"):
             nd.reshape((2, 3), 6)
 
     def test_units_of_errors(self):
@@ -216,14 +216,14 @@ class EachCall(unittest.TestCase):
                 text = "bytes" if array_form or unit else "elements"
                 self.assertRegex(str(caught.exception), rf"^span \d+ is above the limit 2\*\*63 - 1 \(in {text}\)$")
             wrong = (*start, array_of((2, 3), (4,), 4), *others)
-            with self.assertRaisesRegex(ShapeError, "2 lengths, but 1 strides", msg=call.__name__):
+            with self.assertRaisesRegex(ShapeError, "the shape has 2 lengths and the strides have 1, one", msg=call.__name__):
                 call(*wrong, **named)
 
     def test_texts(self):
         for text, named in (("elements", {}), ("bytes", {"itemsize": 1})):
-            with self.assertRaisesRegex(ShapeError, rf"stride 12 isn't 2 times 12, the stride of axis 1 \(in {text}\)$"):
+            with self.assertRaisesRegex(ShapeError, rf"stride 12 isn't 2 times 12, the stride of axis 1 \(in {text}\)"):
                 nd.reshape((2, 2), (12, 12), 4, **named)
-            with self.assertRaisesRegex(ShapeError, rf"stride 2 isn't past 2, the reach of the axes .* \(in {text}\)$"):
+            with self.assertRaisesRegex(ShapeError, rf"stride 2 isn't past 2, the reach of the axes .* \(in {text}\)"):
                 nd.layout_start((2, 2), (2, 2), length=99, writable=True, **named)
         for text, named in (("elements", {}), ("bytes", {"itemsize": 2})):
             with self.assertRaisesRegex(IndexError, rf"^the lowest place -3 is below 0 \(in {text}\)$"):

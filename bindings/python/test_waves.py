@@ -219,10 +219,10 @@ class Names(unittest.TestCase):
             ([0, {"x": 0}], None, TypeError, "region 1: dims= is missing, the names of all axes in their order: {'x': 0} has names"),
             ([{"z": 0}], "yx", ShapeError, "IncompatibleShape: dims has 1 names for 2 axes"),
             ([{"z": 0}], ("y", "x"), ShapeError, "IncompatibleShape: region 0: 'z' is none of the dims ('y', 'x')"),
-            ([0], ("y", "y"), ShapeError, "Unsupported: axis 1: the name 'y' is there twice in dims"),
+            ([0], ("y", "y"), ShapeError, "BadArgument: axis 1: the name 'y' is there twice in dims"),
             ([{"x": None}], ("y", "x"), TypeError, "region 0: axis 1: None is no integer or slice"),
             ([{"x": ...}], ("y", "x"), TypeError, "region 0: axis 1: Ellipsis is no integer or slice"),
-            ([{"x": "auto"}], ("y", "x"), TypeError, "region 0: axis 1: 'auto' is no basic slice"),
+            ([{"x": "auto"}], ("y", "x"), TypeError, "region 0: axis 1: 'auto' is no basic slice: an entry is an integer, a slice, `...` or `None`"),
             ([{"x": 6}], ("y", "x"), IndexError, "region 0: axis 1: index 6 is out of bounds of length 6"),
         ):
             for call in (nd.first_conflict, nd.waves):

@@ -75,7 +75,7 @@ def check_layout(
 def _refuse_elem_size(elem_size: int) -> None:
     """Raises `ShapeError` for a size of elements beside that of items, which they are."""
     if elem_size != 1:
-        raise ShapeError("Unsupported", f"elem_size {said(elem_size)} beside an itemsize", None, {"elem_size": elem_size})
+        raise ShapeError("BadArgument", f"elem_size {said(elem_size)} beside an itemsize", None, {"elem_size": elem_size})
 
 
 @overload

@@ -47,7 +47,7 @@ def reshape_without_copy(a: Array, new_shape: Numbers, order: Optional[str] = "C
     Reshaped(order='C', strides=(16, 8, 32))
     >>> reshape_without_copy(Columns, 12)
     Traceback (most recent call last):
-    ndarray_layout.ShapeError: IncompatibleLayout: axis 0: stride 8 isn't 3 times 32, the stride of axis 1 (in bytes)
+    ndarray_layout.ShapeError: IncompatibleLayout: axis 0: shape (4, 3) with strides (8, 32) can't become (12,) in order 'C' without a copy: stride 8 isn't 3 times 32, the stride of axis 1 (in bytes); order='F' can
     >>> reshape_without_copy(Columns, 12, order=None)
     Reshaped(order='F', strides=(8,))
     """

@@ -19,12 +19,26 @@ def shown(buffer: Any, name: str = "buffer") -> memoryview:
     """A `memoryview` of a buffer. Where NumPy has no format for an array's items, as for dates, they are bytes."""
     try:
         return memoryview(buffer)
-    except TypeError as error:
-        raise TypeError(f"{name}: {error}") from None
+    except TypeError:
+        raise TypeError(f"{name}: {_no_memory(buffer)}") from None
     except (BufferError, ValueError) as error:
         if not is_numpys(buffer) or is_scalar(buffer):
-            raise ShapeError("Unsupported", str(error)) from None
+            raise ShapeError("IncompatibleBuffer", str(error)) from None
     return memoryview(_without_format(buffer))
+
+
+def _no_memory(value: Any) -> str:
+    """That a value has no memory to be read, and what to write instead."""
+    kind = type(value)
+    name = kind.__name__ if kind.__module__ == "builtins" else f"{kind.__module__.partition('.')[0]}.{kind.__name__}"
+    text = f"{name} has no memory that can be read: it is no buffer, array or tensor"
+    if hasattr(value, "chunks"):
+        return f"{text}, but one in chunks; `numpy.asarray` copies it, and `first_conflict` takes its shape and chunks"
+    if isinstance(value, (list, tuple)) or hasattr(value, "to_numpy"):
+        return f"{text}; `numpy.asarray` makes an array of it"
+    if isinstance(value, str):
+        return f"{text}; `encode` makes bytes of it"
+    return f"{text}; a count of elements is an integer, not {written(value)}" if isinstance(value, float) else text
 
 
 def is_numpys(value: Any) -> bool:
@@ -72,7 +86,7 @@ def count_items(buffer: Any) -> tuple[int, int, Optional[str]]:
 
 def no_bytes(what: str) -> ShapeError:
     """The error of items without a byte."""
-    return ShapeError("Unsupported", f"{what} have 0 bytes", None, {"itemsize": 0})
+    return ShapeError("IncompatibleBuffer", f"{what} have 0 bytes", None, {"itemsize": 0})
 
 
 def side_by_side(buffer: Any, in_rows: bool = False, name: str = "buffer") -> memoryview:
@@ -83,7 +97,7 @@ def side_by_side(buffer: Any, in_rows: bool = False, name: str = "buffer") -> me
     if not (view.c_contiguous if in_rows else view.contiguous):
         order = "C-contiguous" if in_rows else "C- or F-contiguous"
         text = f"the buffer isn't {order}: it has the shape {view.shape} and strides of {view.strides} bytes"
-        raise ShapeError("Unsupported", text)
+        raise ShapeError("IncompatibleBuffer", text)
     return view
 
 
@@ -104,7 +118,7 @@ def array_over(
     try:
         return numpy.ndarray(shape, kind, held, offset, byte_strides)
     except ValueError as error:
-        raise ShapeError("Unsupported", f"NumPy has no such array: {error}") from None
+        raise ShapeError("IncompatibleBuffer", f"NumPy has no such array: {error}") from None
 
 
 def dtype_of(buffer: Any, items: memoryview) -> numpy.dtype[Any]:
@@ -124,7 +138,7 @@ def _as_numpy(view: memoryview) -> numpy.ndarray[Any, Any]:
     try:
         return numpy.asarray(view)
     except ValueError:
-        raise ShapeError("Unsupported", f"NumPy has no dtype for the format {view.format!r}") from None
+        raise ShapeError("IncompatibleBuffer", f"NumPy has no dtype for the format {view.format!r}") from None
 
 
 def dtype_as(dtype: Any, buffer: Any, items: memoryview) -> numpy.dtype[Any]:
@@ -152,7 +166,7 @@ def items_of_size(base: Any, itemsize: int) -> memoryview:
     view = side_by_side(base, name="base")
     if view.itemsize != itemsize:
         numbers = {"itemsize": itemsize, "base": view.itemsize}
-        raise ShapeError("Unsupported", f"items of {itemsize} bytes, in a base of {view.itemsize}", None, numbers)
+        raise ShapeError("IncompatibleBuffer", f"items of {itemsize} bytes, in a base of {view.itemsize}", None, numbers)
     return view
 
 

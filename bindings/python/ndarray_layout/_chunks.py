@@ -8,11 +8,11 @@ from math import gcd
 from typing import Any, Iterable, NamedTuple, Sequence, Union
 
 from ._errors import ShapeError, error_of_kind
-from ._numbers import Lens, Numbers, entries, integer, listing, not_64_bits, said, unsigned
+from ._numbers import Lens, Numbers, as_integer, entries, integer, listing, not_64_bits, said, unsigned, written
 from ._reasons import of_block
 
 Chunks = Union[Numbers, Iterable[Union[int, Iterable[int]]]]
-"""The length of a chunk along each axis, or a list of the lengths of all chunks along an axis."""
+"""The length of a chunk along each axis, -1 or `None` for the whole axis, or a list of the lengths of all its chunks."""
 
 
 class Even(NamedTuple):
@@ -95,7 +95,13 @@ def lengths_of(numbers: Numbers, name: str) -> Lens:
 
 def read_chunks(shape: Lens, chunks: Chunks) -> Sequence[Chunking]:
     """The chunks along each axis. Raises `ShapeError` where they aren't those of a shape."""
-    listed = listing(chunks, "chunk")  # type: ignore[arg-type]
+    if isinstance(chunks, str):
+        raise TypeError(f"chunk: {_to_choose(chunks)}")
+    lengths = listing(chunks, "chunk")  # type: ignore[arg-type]
+    listed = [_whole(axis, length, shape) for axis, length in enumerate(lengths)]
+    if len(listed) != len(shape):
+        text = f"chunks has {len(listed)} lengths for {len(shape)} axes, and needs one for each: -1 is the whole axis"
+        raise ShapeError("IncompatibleShape", text, None, {"lengths": len(listed), "axes": len(shape)})
     lists = {axis for axis, length in enumerate(listed) if not hasattr(length, "__index__") and _is_list(length)}
     evens = lengths_of([1 if axis in lists else length for axis, length in enumerate(listed)], "chunk")
     fault = of_block(shape, evens)
@@ -103,6 +109,19 @@ def read_chunks(shape: Lens, chunks: Chunks) -> Sequence[Chunking]:
         raise error_of_kind(*fault)
     along = zip(range(len(shape)), shape, listed, evens)
     return [_along(axis, length, of) if axis in lists else Even(even) for axis, length, of, even in along]
+
+
+def _whole(axis: int, chunk: Any, shape: Lens) -> Any:
+    """The chunk along an axis, where -1 and `None` are its whole length, as Dask takes them."""
+    if isinstance(chunk, str):
+        raise TypeError(f"axis {axis}: chunk: {_to_choose(chunk)}")
+    if axis < len(shape) and (chunk is None or not _is_list(chunk) and as_integer(chunk) == -1):
+        return max(shape[axis], 1)
+    return chunk
+
+
+def _to_choose(chunk: str) -> str:
+    return f"{written(chunk)} leaves the length to Dask: the array's own `chunks` have it, and -1 is the whole axis"
 
 
 def _is_list(value: Any) -> bool:

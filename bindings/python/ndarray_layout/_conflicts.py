@@ -42,7 +42,7 @@ def first_conflict(
     that isn't in `dims`. All regions are read before any two are compared.
 
     `chunks` has the length of a chunk along each axis, as Zarr's `chunks` and HDF5's have; a number stands for one
-    axis, and nothing for the whole length of one. Where a Zarr array has `shards`, each of which is written as a whole,
+    axis, and -1 or `None` for the whole length of one, as in Dask. Where a Zarr array has `shards`, each of which is written as a whole,
     they are the chunks. An axis may also have a list of lengths that add up to its own, as Dask's `chunks` have.
 
     `blocks` has for each region the lengths of the blocks of what is written there, along each axis: of a Dask array its
@@ -57,7 +57,7 @@ def first_conflict(
 
     On an axis on which a region steps further than a chunk, by no multiple of its length, it touches chunks in up to
     chunk / gcd(step, chunk) progressions; each counts as a part. Past `max_parts` parts of all regions it raises
-    `ShapeError` of the kind 'Unsupported'.
+    `ShapeError` of the kind 'Undecided'.
 
     >>> halves = [slice(0, 3), slice(3, 6)]
     >>> first_conflict((6, 6), halves)

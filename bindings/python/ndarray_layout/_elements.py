@@ -48,7 +48,7 @@ def share_element(a: Any, first: Any, second: Any = _NOTHING, max_work: Optional
 
     Where the bytes of `a` break the no-alias rule (`has_overlap`), as windows and broadcasts do, and for two arrays or
     layouts, places are compared in Python, in at most `max_work` steps of some 2 microseconds: `None` is without end, 0
-    compares nothing. Raises `ShapeError` of the kind 'Unsupported' where these don't decide, and never guesses. Parts
+    compares nothing. Raises `ShapeError` of the kind 'Undecided' where these don't decide, and never guesses. Parts
     of one array that keeps the rule take a few steps for each axis, where NumPy may take exponential time.
 
     >>> class Table: shape, strides, itemsize = (10**12, 4), (32, 8), 8
@@ -61,7 +61,7 @@ def share_element(a: Any, first: Any, second: Any = _NOTHING, max_work: Optional
     (True, False)
     >>> share_element(Windows, 0, 1, max_work=0)
     Traceback (most recent call last):
-    ndarray_layout.ShapeError: Unsupported: elements of shape (4, 3) and strides (8, 8) in bytes may overlap
+    ndarray_layout.ShapeError: Undecided: elements of shape (4, 3) and strides (8, 8) in bytes may overlap
     >>> whole = Layout.over(10**12, (10**6, 10**6))
     >>> share_element(whole[::6, 1::4], whole[3::4, 1::2]), share_element(whole[::6], whole[3::9])
     (False, True)
@@ -85,26 +85,26 @@ def _share_byte(array: tuple[Lens, Lens, int], first: Any, second: Any, max_work
     start = layout_start(shape, strides, length=LIMIT + 1)
     refusal = f"elements of shape {written(shape)} and strides {written(strides)} in bytes may overlap"
     if max_work == 0:
-        raise ShapeError("Unsupported", refusal)
+        raise ShapeError("Undecided", refusal)
     one, other = (slice_by_key(start, shape, strides, key) for key in (first, second))
     shared = share_byte(one, other, itemsize, max_work)
     if shared is None:
-        raise ShapeError("Unsupported", f"{refusal}, and {written(max_work)} steps don't decide whether these do")
+        raise ShapeError("Undecided", f"{refusal}, and max_work={written(max_work)} steps don't decide whether these do")
     return shared
 
 
 def _share_memory(a: Any, b: Any, max_work: Optional[int]) -> bool:
     """`share_element` of two arrays, or of two layouts of one buffer."""
     if isinstance(a, Fields) != isinstance(b, Fields):
-        raise TypeError("an array and a layout are compared with nothing but their like")
+        raise TypeError("array: an array and a layout can't be compared; `Layout.of(array, base=buffer)` makes a layout of the array")
     if isinstance(a, Fields) and isinstance(b, Fields) and (a.length, a.itemsize) != (b.length, b.itemsize):
         raise _of_two_buffers(a, b)
     one, other = _part_of(a), _part_of(b)
     shared = share_byte(one.part, other.part, one.itemsize, max_work, other.itemsize) if max_work != 0 else None
     if shared is None:
         shapes = f"shapes {written(one.part.shape)} and {written(other.part.shape)}"
-        text = f"arrays of the {shapes} may overlap, and {written(max_work)} steps don't decide whether they do"
-        raise ShapeError("Unsupported", text)
+        text = f"arrays of the {shapes} may overlap, and max_work={written(max_work)} steps don't decide whether they do"
+        raise ShapeError("Undecided", text)
     return shared
 
 

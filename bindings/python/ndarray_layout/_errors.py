@@ -2,7 +2,9 @@
 
 from __future__ import annotations
 
-from typing import Mapping, Optional
+from functools import update_wrapper
+from types import FunctionType
+from typing import Any, Mapping, Optional
 
 
 class LayoutError(Exception):
@@ -29,7 +31,13 @@ class LayoutError(Exception):
 
 
 class ShapeError(LayoutError, ValueError):
-    """A rule of shapes and layouts is broken: of the kinds 'IncompatibleShape', 'IncompatibleLayout', 'Unsupported'.
+    """A rule of shapes and layouts is broken. Its kind is one of these:
+
+    - 'IncompatibleShape' and 'IncompatibleLayout': shapes, counts of axes or strides that don't go together;
+    - 'Unsupported': what no layout has, as a step of 0, or a writable one whose indices share a place;
+    - 'IncompatibleBuffer': a buffer with gaps, without bytes, or of items that Python or NumPy can't name;
+    - 'Undecided': `max_work` steps or `max_parts` parts didn't decide;
+    - 'BadArgument': a word that says nothing here, as an order 'K', or an order beside strides.
 
     >>> error = ShapeError("Unsupported", "axis 0: the step is 0", axis=0)
     >>> print(error)
@@ -54,6 +62,12 @@ class SizeOverflowError(LayoutError, OverflowError):
     __module__ = "ndarray_layout"
 
 
+class NegativeIndexError(OutOfBoundsError, SizeOverflowError):
+    """An index or an axis is negative where it isn't counted from the end: an `IndexError` and an `OverflowError`."""
+
+    __module__ = "ndarray_layout"
+
+
 class OutOfMemoryError(LayoutError, MemoryError):
     """An allocation failed."""
 
@@ -65,6 +79,34 @@ _CLASSES: Mapping[str, type[LayoutError]] = {
     "Overflow": SizeOverflowError,
     "OutOfMemory": OutOfMemoryError,
 }
+
+
+def _is_of_package(error: BaseException) -> bool:
+    """Whether an error was raised by the package, and not by what it called."""
+    last = error.__traceback__
+    while last is not None and last.tb_next is not None:
+        last = last.tb_next
+    return last is not None and last.tb_frame.f_globals.get("__package__") == __package__
+
+
+def shown_once(call: Any) -> Any:
+    """A public call, whose errors show one frame of the package: that of this call.
+
+    Where the error comes of a caller's own code, such as an iterator, its frames stay.
+    """
+
+    kinds, is_of_package = (LayoutError, TypeError), _is_of_package  # (which a call in another file doesn't name)
+
+    def shown(*arguments: Any, **named: Any) -> Any:
+        try:
+            return call(*arguments, **named)
+        except kinds as error:
+            if not is_of_package(error):
+                raise
+            raise error.with_traceback(None)
+
+    code = shown.__code__.replace(co_name=call.__name__)
+    return update_wrapper(FunctionType(code, call.__globals__, call.__name__, None, shown.__closure__), call)
 
 
 def error_of_kind(
@@ -82,5 +124,5 @@ def of_one(name: str, position: int, error: Exception) -> Exception:
     """
     text = f"{name} {position}: {error.text if isinstance(error, LayoutError) else error}"
     if isinstance(error, LayoutError):
-        return error_of_kind(error.kind, text, error.axis, {name: position, **error.numbers})
+        return type(error)(error.kind, text, error.axis, {name: position, **error.numbers})
     return TypeError(text)

@@ -127,6 +127,9 @@ class Layout(Views):
         numbers = self.start, self.shape, self.strides, self.length, self.writable, self.itemsize, self.format
         return _accepted, numbers  # (which is checked anew: bytes from elsewhere may be unpickled)
 
+    def __array__(self, *_: Any, **__: Any) -> Any:
+        raise TypeError("a Layout has no elements: `as_array(buffer)` makes an array of it")
+
     __iter__ = None  # (a row is `layout[k]`; places come from `places` and `rows`)
 
     # ---- Makers
@@ -162,10 +165,13 @@ class Layout(Views):
             steps, first = _without_gaps(lens, number, itemsize, length, may_write)
             return made(first, lens, steps, length, may_write, itemsize, kind)
         steps = (default_strides, fortran_strides)[number](lens) if strides is None else integers(strides, "stride")
-        if start is None:
-            first, may_write = _start_of(lens, steps, itemsize, length, writable)
-        else:
-            may_write, first = _checked(start, lens, steps, itemsize, length, writable), as_int(start)
+        try:
+            if start is None:
+                first, may_write = _start_of(lens, steps, itemsize, length, writable)
+            else:
+                may_write, first = _checked(start, lens, steps, itemsize, length, writable), as_int(start)
+        except OutOfBoundsError as error:
+            raise _of_byte_strides(error, steps, itemsize) from None
         return made(first, lens, steps, length, may_write, itemsize, kind)
 
     @staticmethod
@@ -328,8 +334,8 @@ class Layout(Views):
             return slices_intersect(self.shape, basic_key(self.shape, first), basic_key(self.shape, second))
         shared = share_byte(self._view(first), self._view(second), 1, max_work) if max_work != 0 else None
         if shared is None:
-            text = f"places of {self} may overlap, and {written(max_work)} steps don't decide whether these do"
-            raise ShapeError("Unsupported", text)
+            text = f"places of {self} may overlap, and max_work={written(max_work)} steps don't decide whether these do"
+            raise ShapeError("Undecided", text)
         return shared
 
     # ---- A picture
@@ -374,7 +380,7 @@ class Layout(Views):
         """A `memoryview` of this layout over the items of a buffer, which has to be contiguous.
 
         A `memoryview` of several axes has no gaps and isn't empty: other layouts raise `ShapeError` of the kind
-        'Unsupported', as a buffer that isn't C-contiguous does. A layout that isn't writable gives one that is only to
+        'IncompatibleBuffer', as a buffer that isn't C-contiguous does. A layout that isn't writable gives one that is only to
         be read. Raises what `as_array` does.
 
         >>> Layout.over(b"abcdef", 3, -2).as_memoryview(b"abcdef").tobytes()
@@ -385,7 +391,7 @@ class Layout(Views):
         try:
             items = (items if self.writable else items.toreadonly()).cast("B").cast(items.format)
         except ValueError:
-            raise ShapeError("Unsupported", f"a memoryview can't have items of the format {items.format!r}") from None
+            raise ShapeError("IncompatibleBuffer", f"a memoryview can't have items of the format {items.format!r}") from None
         if self.ndim == 1:
             return items[Row(self.start, *self.strides, *self.shape).as_slice()]
         self._check_rows()
@@ -393,23 +399,24 @@ class Layout(Views):
         try:
             return run.cast(items.format, self.shape)
         except ValueError as error:  # (of more axes than a `memoryview` has)
-            raise ShapeError("Unsupported", str(error)) from None
+            raise ShapeError("IncompatibleBuffer", str(error)) from None
 
     def _check_rows(self) -> None:
         """Raises `ShapeError` where this is no layout of a `memoryview` of several axes."""
         if 0 in self.shape:
             axis = self.shape.index(0)
             text = f"axis {axis}: a memoryview of several axes can't have the length 0"
-            raise ShapeError("Unsupported", text, axis, {"length": 0})
+            raise ShapeError("IncompatibleBuffer", text, axis, {"length": 0})
         for axis, (stride, wanted) in enumerate(zip(self.strides, default_strides(self.shape))):
             if self.shape[axis] > 1 and stride != wanted:
                 text = f"axis {axis}: a memoryview of several axes can't have the stride {stride}, but {wanted} (in elements)"
-                raise ShapeError("Unsupported", text, axis, {"stride": stride, "wanted": wanted})
+                raise ShapeError("IncompatibleBuffer", text, axis, {"stride": stride, "wanted": wanted})
 
     def _check_room(self, items: int, elem_size: int) -> None:
         if items < self.length:
             numbers = {"length": self.length, "items": items}
-            raise OutOfBoundsError("OutOfBounds", f"the buffer has {items} items of {self.length}", None, numbers)
+            text = f"the layout is over {self.length} elements, and the buffer has {items} of {elem_size} bytes"
+            raise OutOfBoundsError("OutOfBounds", text, None, numbers)
         check_layout(self.start, self.shape, self.strides, elem_size=elem_size, length=items)
 
 
@@ -421,6 +428,14 @@ def _accepted(
 ) -> Layout:
     """`Layout` as `pickle` and `copy` call it."""
     return Layout(start, shape, strides, length=length, writable=writable, itemsize=itemsize, format=format)
+
+
+def _of_byte_strides(error: OutOfBoundsError, strides: Lens, itemsize: int) -> OutOfBoundsError:
+    """The error of a layout that leaves its buffer, which says so where its strides may count bytes."""
+    if itemsize == 1 or any(stride % itemsize for stride in strides):
+        return error
+    text = f"{error.text}; strides count elements here: `element_strides(strides, {itemsize})` makes them of bytes"
+    return type(error)(error.kind, text, error.axis, error.numbers)
 
 
 _MODES = {None: (True, False), True: (True,), False: (False,)}
@@ -465,7 +480,7 @@ def _order_without(strides: Optional[Numbers], order: Optional[str]) -> int:
     """How the exports write an order, which is given where strides aren't."""
     if strides is not None and order is not None:
         text = f"the order {written(order)} beside strides, which say the order themselves"
-        raise ShapeError("Unsupported", text)
+        raise ShapeError("BadArgument", text)
     return 0 if order is None else order_number(order)
 
 

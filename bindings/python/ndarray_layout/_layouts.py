@@ -16,6 +16,7 @@ from ._numbers import (
     Lens,
     Numbers,
     Packed,
+    few,
     one_answer,
     one_number,
     one_stride,
@@ -57,7 +58,7 @@ def has_distinct_places(
     Of an array, or with `itemsize`: whether no two elements share a byte. Strides then count bytes.
 
     A layout that breaks the rule is decided in Python, in at most `max_work` steps of some 2 microseconds for each
-    axis: `None` is without end, 0 tries nothing. Raises `ShapeError` of the kind 'Unsupported' where these don't
+    axis: `None` is without end, 0 tries nothing. Raises `ShapeError` of the kind 'Undecided' where these don't
     decide, and never guesses. Raises what `has_overlap` does.
 
     >>> has_overlap((3, 2), (2, 3)), has_distinct_places((3, 2), (2, 3))
@@ -74,9 +75,9 @@ def has_distinct_places(
         items = () if layout[2] is None else (layout[2],)
         repeats = repeat_a_place((*lengths, *items), (*step_of, *(1 for _ in items)), max_work)
     if repeats is None:
-        shown = f"shape {written(lengths)} and strides {written(tuple(step_of))} in {unit_of(step_of)}"
-        text = f"{shown} may have one place twice, and {written(max_work)} steps don't decide"
-        raise ShapeError("Unsupported", text)
+        shown = f"shape {few(lengths)} and strides {few(step_of)} in {unit_of(step_of)}"
+        text = f"{shown} may have one place twice, and max_work={written(max_work)} steps don't decide"
+        raise ShapeError("Undecided", text)
     return not repeats
 
 
@@ -125,7 +126,7 @@ def order_of(order: str, layout: Given) -> int:
         return ORDERS[order]
     if isinstance(order, str) and order in ("A", "a"):
         return int(ask(library.is_layout_f, layout, items_first=True) and not ask(library.is_layout_c, layout))
-    raise ShapeError("Unsupported", f"order must be 'C', 'F' or 'A', not {written(order)}")
+    raise ShapeError("BadArgument", f"order must be 'C', 'F' or 'A', not {written(order)}")
 
 
 def default_strides(shape: Numbers) -> Lens:

@@ -15,7 +15,7 @@ from struct import error as StructError
 from sys import byteorder
 from typing import Any, Callable, Iterable, NamedTuple, Optional, Sequence, SupportsIndex, Union
 
-from ._errors import ShapeError, SizeOverflowError
+from ._errors import NegativeIndexError, ShapeError, SizeOverflowError
 
 Numbers = Union[SupportsIndex, Iterable[SupportsIndex]]
 """A list of numbers. One number alone is a list of one, as NumPy takes `5` for the shape `(5,)`."""
@@ -213,6 +213,9 @@ def size(number: SupportsIndex, name: str) -> ctypes.c_size_t:
 
 def not_64_bits(name: str, number: int, is_unsigned: bool, axis: Optional[int]) -> SizeOverflowError:
     """The error of a number that is none of C's."""
+    if is_unsigned and number < 0 and name in ("index", "axis"):
+        text = f"{_of_axis(axis)}{name} {said(number)} is negative, and isn't counted from the end here"
+        return NegativeIndexError("OutOfBounds", text, axis, {name: number})
     what = "negative" if is_unsigned and number < 0 else "past 64 bits"
     return SizeOverflowError("Overflow", f"{_of_axis(axis)}{name} {said(number)} is {what}", axis, {name: number})
 
@@ -268,6 +271,15 @@ def written(value: Any) -> str:
         return f"a {type(value).__name__}"
 
 
+def few(numbers: Sequence[int]) -> str:
+    """A shape or strides, as an error shows them beside others.
+
+    >>> few([2, 3]), few((1, 2, 3, 4, 5, 6, 7, 8, 9))
+    ('(2, 3)', '(1, 2, 3, 4, 5, 6, 7, 8, ...)')
+    """
+    return written(tuple(numbers)) if len(numbers) <= 8 else f"({', '.join(map(said, numbers[:8]))}, ...)"
+
+
 FAR = 2**1024 + 1
 """What stands for a product of lengths that is as large or larger. (found, it would take the square of their count)"""
 
@@ -304,7 +316,7 @@ def order_number(order: str) -> int:
     """How the exports write an order, where there is no layout that could say what 'A' is."""
     if isinstance(order, str) and order in ORDERS:
         return ORDERS[order]
-    raise ShapeError("Unsupported", f"order must be 'C' or 'F', not {written(order)}")
+    raise ShapeError("BadArgument", f"order must be 'C' or 'F', not {written(order)}")
 
 
 SLICE, INDEX, NEW_AXIS = 0, 1, 2

@@ -13,7 +13,7 @@ from typing import Any, Callable, Iterable, Mapping, NamedTuple, Optional, Seque
 
 from . import _loaded as library
 from ._loaded import Broken, Rule
-from ._numbers import LIMIT, ByteStrides, Lens, Packed, count_of, product, said, signed, unit_of, unsigned, written
+from ._numbers import LIMIT, ByteStrides, Lens, Packed, count_of, few, product, said, signed, unit_of, unsigned, written
 
 
 class Reason(NamedTuple):
@@ -105,7 +105,7 @@ def of_check_layout(
 
 def _of_limits(broken: Broken, shape: Lens, strides: Lens, elem_size: int) -> Optional[Reason]:
     if broken.rule == Rule.COUNT:
-        text = "{lengths} lengths, but {strides} strides"
+        text = "the shape has {lengths} lengths and the strides have {strides}, one for each axis is needed"
         return _of(broken.kind, text, lengths=len(shape), strides=broken.size)
     if broken.rule == Rule.SIZE:
         return _past_size(shape)
@@ -148,7 +148,8 @@ def of_overlap(shape: Lens, strides: Lens) -> Optional[Reason]:
     broken = library.layout_start_reason(*unsigned(lens), *signed(steps), c_size_t(1), c_size_t(_NO_END), 1)
     if broken.rule != Rule.ALIAS:
         return None
-    text = f"stride {{stride}} isn't past {{reach}}, the reach of the axes with no greater stride (in {unit_of(strides)})"
+    rule = f"stride {{stride}} isn't past {{reach}}, the reach of the axes with no greater stride (in {unit_of(strides)})"
+    text = f"two indices may have one place, so it isn't writable: {rule}; without writable=True it is only to be read"
     return _of(broken.kind, text, axes[broken.axis], stride=broken.number, reach=broken.size)
 
 
@@ -264,11 +265,13 @@ def _of_elements(shape: Lens, elements: Packed, clamp: int) -> Optional[Reason]:
     broken = library.slice_reason(*unsigned(shape), *elements, clamp)
     axis, number, size = broken.axis, broken.number, broken.size
     if broken.rule == Rule.COUNT:
-        return _of(broken.kind, "slices or indices for {elements} of {axes} axes", elements=size, axes=len(shape))
+        text = "the slice has {elements} elements for {axes} axes, and needs one for each: `basic_key` adds what is left out"
+        return _of(broken.kind, text, elements=size, axes=len(shape))
     if broken.rule == Rule.INDEX:
         return out_of_axis(axis, number, size)
     if broken.rule == Rule.BOUND:
-        return _of(broken.kind, "bound {bound} is past length {length}", axis, bound=number, length=size)
+        text = "bound {bound} is past length {length}; clamp=True moves it to the end, as NumPy does"
+        return _of(broken.kind, text, axis, bound=number, length=size)
     return _of(broken.kind, "the step is {step}", axis, step=0) if broken.rule == Rule.STEP else None
 
 
@@ -309,7 +312,7 @@ def _of_two_axes(shape: Lens, take: int, into: int) -> Optional[Reason]:
 
 
 def _of_no_axis(broken: Broken) -> Optional[Reason]:
-    text = "there are {axes} axes"
+    text = "there are {axes} axes, counted from 0"
     return _of(broken.kind, text, broken.axis, axes=broken.size) if broken.rule == Rule.AXIS else None
 
 
@@ -320,7 +323,7 @@ def of_permuted_axes(shape: Lens, strides: Lens, axes: Lens) -> Optional[Reason]
 def _of_axes(shape: Lens, axes: Lens) -> Optional[Reason]:
     broken = library.permuted_axes_reason(*unsigned(shape), *unsigned(axes))
     if broken.rule == Rule.MISSING:
-        return _of(broken.kind, f"it isn't among the axes {written(axes)}", broken.axis)
+        return _of(broken.kind, f"it is missing in {written(axes)}, where each of {len(shape)} axes has to be once", broken.axis)
     if broken.rule == Rule.COUNT:
         return _of(broken.kind, "{listed} axes are listed of {axes}", listed=broken.size, axes=len(shape))
     return None
@@ -351,8 +354,9 @@ def _of_blocks(broken: Broken, shape: Lens, counts: Iterable[int], block: Lens) 
 
 def _of_block(broken: Broken, shape: Lens) -> Optional[Reason]:
     if broken.rule == Rule.COUNT:
-        return _of(broken.kind, "{lengths} lengths of a block for {axes} axes", lengths=broken.size, axes=len(shape))
-    text = "the length of a block is {length}"
+        text = "a block has {lengths} lengths for {axes} axes, and needs one for each"
+        return _of(broken.kind, text, lengths=broken.size, axes=len(shape))
+    text = "the length of a block is {length}, and has to be above 0"
     return _of(broken.kind, text, broken.axis, length=0) if broken.rule == Rule.EMPTY else None
 
 
@@ -385,11 +389,17 @@ def _of_new_shape(shape: Lens, strides: Lens, new_shape: Lens, order: int) -> Op
     broken = library.reshape_reason(*unsigned(lens), *signed(steps), *unsigned(new_shape), order)
     text, sizes = "size {size} isn't {new_size}", {"size": prod(shape), "new_size": prod(new_shape)}
     if broken.rule == Rule.OTHER_SIZE:
-        return _of(broken.kind, text, **sizes)
+        whole = f"shape {few(shape)} has {{size}} indices, and {few(new_shape)} has {{new_size}}"
+        return _of(broken.kind, whole, **sizes)
     if broken.rule != Rule.COPY:
         return None
     slow, fast = axes[broken.axis - 1 if order == 0 else broken.axis + 1], axes[broken.axis]
     product_of = f"{said(shape[fast])} times {said(strides[fast])}, the stride of axis {{fast}} (in {unit_of(strides)})"
     loose = f"stride {{stride}} isn't {product_of}"
-    text, numbers = (loose, {}) if sizes["size"] == sizes["new_size"] else (f"{loose}, and {text}", sizes)
-    return _of(broken.kind, text, slow, stride=strides[slow], fast=fast, **numbers)
+    of_shape = f"shape {few(shape)} with strides {few(strides)}"
+    whole = f"{of_shape} can't become {few(new_shape)} in order {'CF'[order]!r} without a copy: {loose}"
+    if sizes["size"] != sizes["new_size"]:
+        return _of(broken.kind, f"{whole}, and {text}", slow, stride=strides[slow], fast=fast, **sizes)
+    other = library.reshape_reason(*unsigned(lens), *signed(steps), *unsigned(new_shape), 1 - order)
+    also = f"; order={'FC'[order]!r} can" if other.rule == Rule.NONE else ""
+    return _of(broken.kind, whole + also, slow, stride=strides[slow], fast=fast)

@@ -83,7 +83,7 @@ def _names_of(axes: int, dims: Optional[Iterable[Any]]) -> Optional[Sequence[Any
         raise ShapeError("IncompatibleShape", text, None, {"dims": len(names), "axes": axes})
     again = next((axis for axis, name in enumerate(names) if name in names[:axis]), None)
     if again is not None:
-        raise ShapeError("Unsupported", f"axis {again}: the name {written(names[again])} is there twice in dims", again)
+        raise ShapeError("BadArgument", f"axis {again}: the name {written(names[again])} is there twice in dims", again)
     return names
 
 
@@ -213,7 +213,7 @@ def _parts_of(
             f"the regions up to {position} have more than max_parts={said(max_parts)} parts, so nothing was decided; "
             "a greater max_parts takes more memory"
         )
-        raise ShapeError("Unsupported", text, None, {"region": position, "max_parts": max_parts})
+        raise ShapeError("Undecided", text, None, {"region": position, "max_parts": max_parts})
     return zip(repeat(position), product(*[along.touched(picked) for picked, along in zip(picks, chunk)]))
 
 

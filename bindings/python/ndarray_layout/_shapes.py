@@ -92,7 +92,7 @@ def reshape(
     (16, 8, 2, 1)
     >>> reshape((4, 4), (8, 1), (2, 8))
     Traceback (most recent call last):
-    ndarray_layout.ShapeError: IncompatibleLayout: axis 0: stride 8 isn't 4 times 1, the stride of axis 1 (in elements)
+    ndarray_layout.ShapeError: IncompatibleLayout: axis 0: shape (4, 4) with strides (8, 1) can't become (2, 8) in order 'C' without a copy: stride 8 isn't 4 times 1, the stride of axis 1 (in elements)
     >>> class Squares: shape, strides, itemsize = (4, 4), (64, 8), 8
     >>> reshape(Squares, (2, 2, 2, 2)), reshape((4, 4), (64, 8), (2, 2, 2, 2), itemsize=8)
     ((128, 64, 16, 8), (128, 64, 16, 8))
@@ -148,7 +148,7 @@ def windows(
     ((3, 3, 2, 3), (5, 1, 5, 1))
     >>> windows((4, 5), (5, 1), (2, 0))
     Traceback (most recent call last):
-    ndarray_layout.ShapeError: Unsupported: axis 1: the length of a block is 0
+    ndarray_layout.ShapeError: Unsupported: axis 1: the length of a block is 0, and has to be above 0
     """
     return _in_blocks(library.windows, given(shape, strides, itemsize), unsigned(window))
 

@@ -150,7 +150,7 @@ def slice_view(
     View(start=5, shape=(3,), strides=(-1,))
     >>> slice_view(0, (2, 3), (3, 1), [1, Slice(0, 4)])
     Traceback (most recent call last):
-    ndarray_layout.OutOfBoundsError: axis 1: bound 4 is past length 3
+    ndarray_layout.OutOfBoundsError: axis 1: bound 4 is past length 3; clamp=True moves it to the end, as NumPy does
     """
     fields, first, (lens, steps, _) = _fields_of(elems), size(start, "start"), given(shape, strides, itemsize)
     return _sliced(first, lens, steps, fields, clamp)
@@ -354,6 +354,17 @@ def _one_for_each_axis(shape: Sequence[int], key: Any) -> list[Any]:
     return entries
 
 
+def _no_basic_slice(entry: Any) -> str:
+    """What is wrong with an entry of a key, and what to write instead."""
+    if type(entry).__name__ in ("bool", "bool_"):
+        return f"{written(entry)} is no basic slice: NumPy takes it for a mask; an index is 0 or 1"
+    kind, shape = getattr(entry, "dtype", None), getattr(entry, "shape", None)
+    if isinstance(entry, (list, range)) or type(shape) is tuple and shape:
+        array = f"an array of {kind} with shape {written(shape)}" if type(shape) is tuple else written(entry)
+        return f"{array} is no basic slice: NumPy copies what a mask or a list of indices picks, and a layout copies nothing"
+    return f"{written(entry)} is no basic slice: an entry is an integer, a slice, `...` or `None`"
+
+
 def _basic_fields(axis: int, length: int, entry: Any) -> tuple[int, ...]:
     """One entry of a key, for an axis."""
     if isinstance(entry, slice):
@@ -369,7 +380,7 @@ def _basic_fields(axis: int, length: int, entry: Any) -> tuple[int, ...]:
     if isinstance(entry, Slice):
         return tuple(_fields_of(entry))
     if not isinstance(entry, Integral) or isinstance(entry, bool):
-        raise TypeError(f"axis {axis}: {written(entry)} is no basic slice")
+        raise TypeError(f"axis {axis}: {_no_basic_slice(entry)}")
     coordinate = int(entry)
     if not -length <= coordinate < length:
         raise error_of_kind(*out_of_axis(axis, coordinate, length))

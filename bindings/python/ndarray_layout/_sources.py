@@ -42,7 +42,7 @@ class Source(NamedTuple):
         """Where an array lies that has an element, or the error of one that doesn't say it."""
         found = self.find()
         if found.address == 0:
-            raise ShapeError("Unsupported", "array: no element lies at address 0")
+            raise ShapeError("IncompatibleBuffer", "array: no element lies at address 0")
         return found
 
 
@@ -112,7 +112,7 @@ def _without_attributes(array: Any) -> Source:
 
 def _of_view(view: memoryview) -> Source:
     if view.suboffsets:
-        raise ShapeError("Unsupported", "a layout has no suboffsets")
+        raise ShapeError("IncompatibleBuffer", "a layout has no suboffsets")
     return Source(*read_array(view), view.format, lambda: Memory(address_of(view), view))  # type: ignore[arg-type]
 
 
@@ -201,12 +201,12 @@ def _of_capsule(array: Any) -> Source:
     except ValueError as error:
         raise TypeError(f"array: {written(capsule)} is no DLPack capsule that is there to be read: {error}") from None
     if not 0 <= tensor.ndim <= WIDEST:
-        raise ShapeError("Unsupported", f"a tensor of {tensor.ndim} axes", None, {"axes": tensor.ndim})
+        raise ShapeError("IncompatibleBuffer", f"a tensor of {tensor.ndim} axes", None, {"axes": tensor.ndim})
     shape = tuple(tensor.shape[: tensor.ndim])
     itemsize, rest = divmod(tensor.kind.bits * tensor.kind.lanes, 8)
     if rest or itemsize == 0:
         numbers = {"bits": tensor.kind.bits, "lanes": tensor.kind.lanes}
-        raise ShapeError("Unsupported", f"items of {tensor.kind.bits} bits lie within bytes", None, numbers)
+        raise ShapeError("IncompatibleBuffer", f"items of {tensor.kind.bits} bits lie within bytes", None, numbers)
     strides = tuple(tensor.strides[: tensor.ndim]) if tensor.strides else _row_strides(shape)
     found = tuple([stride * itemsize for stride in strides])
     kind = _FORMATS.get((tensor.kind.code, tensor.kind.bits)) if tensor.kind.lanes == 1 else None
@@ -219,4 +219,4 @@ def _memory_of_tensor(address: int, device: int, capsule: Any) -> Memory:
     if device in (_CPU, _CUDA_HOST):
         return Memory(address, capsule)
     text = f"array: the memory of a tensor on a device {device} has no address here"
-    raise ShapeError("Unsupported", text, None, {"device": device})
+    raise ShapeError("IncompatibleBuffer", text, None, {"device": device})

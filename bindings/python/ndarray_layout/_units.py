@@ -70,7 +70,7 @@ def read_array(a: Array) -> tuple[Lens, Lens, int]:
     try:
         shape, strides, itemsize = a.shape, a.strides, a.itemsize
     except AttributeError:
-        raise TypeError(f"an array has a shape, strides and an itemsize, unlike {written(a)}") from None
+        raise TypeError(f"array: {written(a)} has no shape, strides and itemsize, and no strides are given beside it") from None
     return integers(shape, "length"), integers(strides, "stride"), integer(itemsize, "itemsize")
 
 
