@@ -164,6 +164,7 @@ BAD = {
 }
 """Values of which no one is what a parameter of the kind takes."""
 
+BAD["dtype of bytes"] = ["nonsense", 5, object(), NoText(), {"a"}, FAR, "V0", "O", "i8"]
 BAD["flag or None"] = BAD["flag"][1:]
 
 LAYOUT = Layout.over(6, (2, 3))
@@ -204,6 +205,7 @@ CALLS = {
         "shape": ((2, 3), "list"),
         "strides": ((24, 8), "list"),
         "itemsize": (8, "number"),
+        "dtype": (None, "dtype of bytes"),
         "nbytes": (48, "number"),
         "offset": (0, "number or None"),
         "writable": (False, "flag"),

@@ -7,8 +7,9 @@ from math import gcd
 from typing import Any, Optional, SupportsIndex, overload
 
 from . import _library as library
+from ._buffers import read_dtype
 from ._errors import LayoutError, OutOfBoundsError, ShapeError
-from ._numbers import Lens, Numbers, flag, integer, integers, one_number, said, signed, size, unsigned
+from ._numbers import Lens, Numbers, flag, integer, integers, one_number, said, signed, size, unsigned, written
 from ._reasons import of_lay_over as reason_of_lay_over
 from ._units import Array, above_0, by_bytes, takes_array, takes_array_after_start, with_array
 
@@ -83,7 +84,8 @@ def lay_over(
     shape: Numbers,
     strides: Numbers,
     *,
-    itemsize: SupportsIndex,
+    itemsize: Optional[SupportsIndex] = None,
+    dtype: Any = None,
     nbytes: SupportsIndex,
     offset: Optional[SupportsIndex] = None,
     writable: bool = False,
@@ -103,18 +105,24 @@ def lay_over(
     shape: Any,
     strides: Any,
     *,
-    itemsize: SupportsIndex,
+    itemsize: Optional[SupportsIndex] = None,
+    dtype: Any = None,
     nbytes: SupportsIndex,
     offset: Optional[SupportsIndex] = None,
     writable: bool = False,
 ) -> int:
     """The offset of element (0, .., 0) of an array with these strides, in bytes, over a buffer of `nbytes` bytes.
 
-    An array may stand in the place of the shape, the strides and the item size.
+    The size of an item is `itemsize`, or that of a `dtype`, as NumPy's or a word for one; a dtype of references to
+    objects is a `TypeError`, since bytes are none. An array may stand in the place of the shape, the strides and the
+    item size.
 
     Strides and `offset` count in bytes. Without an offset the lowest element begins at byte 0. Raises what
     `layout_start` does where the array doesn't lie within the buffer. What it returns is what
     `numpy.ndarray(shape, dtype, buffer, offset, strides)` takes.
+
+    A stride of 0 lies within any buffer that holds an item: 2**62 indices over one byte are accepted, and no list of them
+    is. Who doesn't trust the shape looks at how many indices there are, or asks for `writable=True`, which refuses them.
 
     A stride may be no multiple of the item size, as that of a field of packed records is. Errors count bytes. Of an
     array without an element the strides alone have to fit, so 0 records fit 0 bytes.
@@ -124,9 +132,12 @@ def lay_over(
     >>> lay_over((2, 3), (-12, 4), itemsize=4, nbytes=23)
     Traceback (most recent call last):
     ndarray_layout.OutOfBoundsError: the array needs 24 bytes of 23
+    >>> lay_over(2**62, 0, itemsize=1, nbytes=1)
+    0
     >>> lay_over(3, 7, itemsize=4, nbytes=20, offset=2, writable=True)    # of 4 bytes in each 7, the last at 16
     2
     """
+    itemsize = _size_of_item(itemsize, dtype)
     lens, steps, unit = integers(shape, "length"), integers(strides, "stride"), above_0(itemsize)
     unsigned(lens), signed(steps), size(unit, "itemsize")  # (which refuse what has no 64 bits, before a division)
     room, writable = size(nbytes, "nbytes").value, flag(writable, "writable")
@@ -138,6 +149,21 @@ def lay_over(
         return _laid_over(lens, steps, unit, room, first, writable)
     except LayoutError as error:
         raise by_bytes(error, lambda: reason_of_lay_over(lens, steps, unit, room, first, writable)) from None
+
+
+def _size_of_item(itemsize: Optional[SupportsIndex], dtype: Any) -> SupportsIndex:
+    """The size of an item, which is given or that of a dtype."""
+    if dtype is None:
+        if itemsize is None:
+            raise TypeError("itemsize is missing: itemsize= or dtype= says how many bytes an item has")
+        return itemsize
+    if itemsize is not None:
+        text = f"itemsize {written(itemsize)} beside a dtype, which says it itself"
+        raise ShapeError("BadArgument", text)
+    kind = read_dtype(dtype)
+    if kind.hasobject:
+        raise TypeError(f"dtype: bytes can't be taken for {kind}: references to objects are no bytes")
+    return kind.itemsize
 
 
 def _laid_over(lens: Lens, steps: Lens, itemsize: int, nbytes: int, offset: Optional[int], writable: bool) -> int:

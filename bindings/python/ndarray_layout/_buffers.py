@@ -141,14 +141,20 @@ def _as_numpy(view: memoryview) -> numpy.ndarray[Any, Any]:
         raise ShapeError("IncompatibleBuffer", f"NumPy has no dtype for the format {view.format!r}") from None
 
 
-def dtype_as(dtype: Any, buffer: Any, items: memoryview) -> numpy.dtype[Any]:
-    """The dtype that items are to have. Raises `TypeError` where bytes would become references, or references bytes."""
+def read_dtype(dtype: Any) -> numpy.dtype[Any]:
+    """A dtype of NumPy, or the error of what says none."""
     import numpy
 
     try:
-        kind = numpy.dtype(dtype)
+        kind: numpy.dtype[Any] = numpy.dtype(dtype)
     except Exception as error:  # (of many classes)
         raise TypeError(f"dtype: {error}") from None
+    return kind
+
+
+def dtype_as(dtype: Any, buffer: Any, items: memoryview) -> numpy.dtype[Any]:
+    """The dtype that items are to have. Raises `TypeError` where bytes would become references, or references bytes."""
+    kind = read_dtype(dtype)
     if not (kind.hasobject or hasattr(buffer, "dtype") or "O" in items.format):
         return kind
     own = dtype_of(buffer, items)
