@@ -207,13 +207,13 @@ pub const LEFT_OUT: &[(&str, &str, &[&str])] =
 pub const OPENED: &[&str] =
     &["ArrayView", "ArrayViewMut", "Indices", "Items", "Iter", "LentRow", "OwnedArray", "Strided"];
 
-/// Iterators whose `fold` and `nth`, or `rfold` and `nth_back`, are more than calls of the `next` or `next_back` that is proved: the
+/// Iterators whose `fold` and `nth`, or `nth_back`, are more than calls of the `next` or `next_back` that is proved: the
 /// trait, the iterator, and the macro of `rust/src/arrays` that adds them.
 pub const FOLDED: &[(&str, &str, &str)] = &[
     ("Iterator", "Items", "fold_items"),
     ("Iterator", "Iter", "fold_iter"),
     ("Iterator", "Places", "fold_places"),
-    ("DoubleEndedIterator", "Places", "fold_places_back"),
+    ("DoubleEndedIterator", "Places", "skip_places_back"),
 ];
 
 /// Structs whose `Debug` files of `rust/src` have, for what is derived prints strides without their signs.

@@ -29,7 +29,7 @@ mod writing;
 
 pub use axis_chunks::{AxisChunksIter, AxisChunksIterMut};
 pub use axis_iter::{AxisIter, AxisIterMut};
-pub(crate) use folding::{fold_items, fold_iter, fold_places, fold_places_back};
+pub(crate) use folding::{fold_items, fold_iter, fold_places, skip_places_back};
 pub use indexed::{IndexedIter, IndexedIterMut, PartIndexedIterMut};
 pub(crate) use indexing::no_such_index;
 pub use iter::ViewIter;

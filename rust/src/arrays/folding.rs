@@ -1,5 +1,5 @@
 //! What the iterators of the sources get beside their `next`: a fold that takes row after row, and an `nth` that leaves out rows;
-//! and beside their `next_back` the same from the back.
+//! and beside `next_back` an `nth_back` that does.
 
 /// Of `Iter`.
 macro_rules! fold_iter {
@@ -68,27 +68,13 @@ macro_rules! fold_places {
 pub(crate) use fold_places;
 
 /// Of `Places`, from the back.
-macro_rules! fold_places_back {
+macro_rules! skip_places_back {
     () => {
         /// What as many calls of `next_back` return last; rows are left out at once. Not proved.
         fn nth_back(&mut self, n: usize) -> Option<usize> {
             self.advance_back(n);
             self.next_back()
         }
-
-        /// What a loop over `next_back` returns, row by row. Not proved.
-        #[inline]
-        fn rfold<B, F: FnMut(B, usize) -> B>(self, init: B, mut f: F) -> B {
-            let (mut places, mut total) = (self, init);
-            while let Some(row) = places.next_row_back() {
-                let mut place = row.start.wrapping_add_signed(row.stride.wrapping_mul(row.len as isize - 1));
-                for _ in 0..row.len {
-                    total = f(total, place);
-                    place = place.wrapping_add_signed(row.stride.wrapping_neg());
-                }
-            }
-            total
-        }
     };
 }
-pub(crate) use fold_places_back;
+pub(crate) use skip_places_back;

@@ -149,7 +149,7 @@ fn what_the_package_adds_is_made_of_a_source() {
         ),
         (
             "impl DoubleEndedIterator for Places<'_> { fn next_back() {} }",
-            "impl DoubleEndedIterator for Places<'_> { fn next_back() {} crate::arrays::fold_places_back!(); }",
+            "impl DoubleEndedIterator for Places<'_> { fn next_back() {} crate::arrays::skip_places_back!(); }",
         ),
         ("impl Iterator for Other { fn next() {} }", "impl Iterator for Other { fn next() {} }"),
         ("impl ExactSizeIterator for Iter<'_> {}", "impl ExactSizeIterator for Iter<'_> {}"),

@@ -196,7 +196,7 @@ impl DoubleEndedIterator for Places<'_> {
         self.places.next_back()
     }
 
-    crate::arrays::fold_places_back!();
+    crate::arrays::skip_places_back!();
 }
 
 impl ExactSizeIterator for Places<'_> {
