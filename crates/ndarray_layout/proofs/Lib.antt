@@ -10,6 +10,7 @@ pub mod CroppedAxes
 pub mod Fastest
 pub mod FromStart
 pub mod JoinedAxis
+pub mod JoinedInAll
 pub mod KeptRows
 pub mod LaterPlaces
 pub mod LongestRow

@@ -11,6 +11,7 @@ pub mod DistinctPlaces
 pub mod IndexedView
 pub mod InsertedView
 pub mod InvertedView
+pub mod JoinedInAll
 pub mod KeepsPlaces
 pub mod MergedView
 pub mod Nearest

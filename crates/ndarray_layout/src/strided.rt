@@ -13,6 +13,7 @@ mod intersecting;
 mod into_places;
 mod inverting;
 mod iter_places;
+mod joining;
 mod merging;
 mod moving;
 mod nearest;
@@ -31,6 +32,7 @@ mod windows;
 
 pub use into_places::IntoPlaces;
 pub use iter_places::Places;
+pub use joining::joined_in_all;
 use nd_base::Lengths;
 pub use rows::{Row, Rows};
 use std::marker::Model;

@@ -3,7 +3,7 @@
 use crate::layouts::{Layout, rounds};
 use crate::numbers::Numbers;
 use ndarray_layout::CanIndexCheckMode::ReadOnly;
-use ndarray_layout::{Order, Row, Rows};
+use ndarray_layout::{Order, Row, Rows, joined_in_all, signed, unsigned};
 
 /// A layout in which axes often go on where others end.
 fn layout(numbers: &mut Numbers) -> Layout {
@@ -79,6 +79,45 @@ fn rows_of_two_views_are_as_long_as_both_lie_evenly() {
         assert_eq!(others.iter().copied().flat_map(places).collect::<Vec<_>>(), also, "{one:?}, {other:?}");
         let len = evenly_in_both(&due, &also);
         assert!(rows.iter().chain(&others).all(|row| row.len == len), "{one:?}, {other:?}: {rows:?}");
+    });
+}
+
+/// The layout with so many of its fastest axes as one of a length and a stride.
+fn with_joined(layout: &Layout, count: usize, len: usize, stride: usize) -> Layout {
+    let mut joined = layout.clone();
+    joined.shape.truncate(layout.shape.len() - count);
+    joined.strides.truncate(layout.shape.len() - count);
+    joined.shape.push(len);
+    joined.strides.push(signed(stride));
+    joined
+}
+
+#[test]
+fn axes_joined_in_all_layouts_are_as_long_as_all_lie_evenly() {
+    rounds(10_000, 18, |numbers| {
+        let first = layout(numbers);
+        let mut layouts = vec![first.clone()];
+        for _ in 0..numbers.below(4) {
+            let other = Layout::of_shape(first.shape.clone(), numbers);
+            layouts.push(if numbers.once_in(3) { first.clone() } else { other });
+        }
+        let strides: Vec<usize> =
+            layouts.iter().flat_map(|layout| layout.strides.iter().map(|stride| unsigned(*stride))).collect();
+        let mut joined = vec![7; layouts.len()];
+        let (count, len) = joined_in_all(Order::RowMajor, &first.shape, &strides, &mut joined);
+        let mut least = usize::MAX;
+        for (layout, stride) in layouts.iter().zip(&joined) {
+            let due = layout.places();
+            assert_eq!(with_joined(layout, count, len, *stride).places(), due, "{layouts:?}: {count} {len} {joined:?}");
+            least = least.min(evenly(&due));
+        }
+        if !first.shape.contains(&0) {
+            assert_eq!(len, least, "{layouts:?}: {count} {joined:?}");
+        }
+        let backwards = |items: &[usize]| -> Vec<usize> { items.iter().rev().copied().collect() };
+        let mut turned = vec![7; layouts.len()];
+        let answer = joined_in_all(Order::ColumnMajor, &backwards(&first.shape), &backwards(&strides), &mut turned);
+        assert_eq!((answer, backwards(&turned)), ((count, len), joined), "{layouts:?}");
     });
 }
 
