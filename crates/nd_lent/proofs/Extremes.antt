@@ -29,7 +29,7 @@ module _ {K : Type 0} {R : K → K → Ordering} (total : IsTotalOrder R) where
   reversed x y o is = total.antisymm y x ∙ ap ordering_reverse is
 
   -- of an order and the same one read from the other side, one is less where the other is greater
-  less_is_greater : (x y : K) → is_lt (R x y) ≡ is_gt (R y x)
+  pub less_is_greater : (x y : K) → is_lt (R x y) ≡ is_gt (R y x)
   less_is_greater x y = by (R x y) refl
     where
       by : (o : Ordering) → R x y ≡ o → is_lt (R x y) ≡ is_gt (R y x)

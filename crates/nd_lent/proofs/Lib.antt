@@ -1,4 +1,5 @@
 pub mod Comparing
+pub mod Equals
 pub mod Extremes
 pub mod Folding
 pub mod RowRuns

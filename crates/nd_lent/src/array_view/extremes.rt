@@ -4,7 +4,7 @@ ghost use Rattle.std.specs.Prelude.{◌≡◌, ◌<◌, ◌↔◌, IfSome, IsSom
 ghost use Rattle.ndarray_layout.specs.declared.Order.TheVariants.{RowMajor};
 ghost use Rattle.ndarray_layout.specs.Size.{size};
 ghost use Rattle.ndarray_layout.specs.View.{view_places};
-ghost use Rattle.nd_lent.specs.Extremes.{IsFirstOf};
+ghost use Rattle.nd_lent.specs.Extremes.{HasNoEqualAfter, HasNoEqualBefore, IsFirstOf};
 ghost use Rattle.nd_parts.specs.Items.{item_at_place};
 ghost use Rattle.nd_lent.specs.private.Picked.{better_of};
 
@@ -12,7 +12,7 @@ use crate::array_view::ArrayView;
 use ndarray_layout::Lengths;
 
 impl<T: Copy + Ord, D: Lengths> ArrayView<'_, T, D> {
-    /// The greatest item; `None` where the array has no index.
+    /// The greatest item, of equal ones the last in row-major order; `None` where the array has no index.
     ///
     /// Time in proportion to the indices, by `fold`.
     ///
@@ -20,6 +20,8 @@ impl<T: Copy + Ord, D: Lengths> ArrayView<'_, T, D> {
     pub fn max(&self) -> Option<T>
         ensures found { IsSome result ↔ (0 < size self.now.view.shape) }
         ensures greatest { IfSome result (IsFirstOf (λ one other. is_gt (T.cmp one other))
+            (map (item_at_place self.now.items) (view_places RowMajor self.now.view))) }
+        ensures last { IfSome result (HasNoEqualAfter T.cmp
             (map (item_at_place self.now.items) (view_places RowMajor self.now.view))) }
     {
         let greater = |greatest: Option<T>, item: &T|
@@ -33,7 +35,7 @@ impl<T: Copy + Ord, D: Lengths> ArrayView<'_, T, D> {
         self.fold(None, greater)
     }
 
-    /// The least item; `None` where the array has no index.
+    /// The least item, of equal ones the first in row-major order; `None` where the array has no index.
     ///
     /// Time in proportion to the indices, by `fold`.
     ///
@@ -41,6 +43,8 @@ impl<T: Copy + Ord, D: Lengths> ArrayView<'_, T, D> {
     pub fn min(&self) -> Option<T>
         ensures found { IsSome result ↔ (0 < size self.now.view.shape) }
         ensures least { IfSome result (IsFirstOf (λ one other. is_lt (T.cmp one other))
+            (map (item_at_place self.now.items) (view_places RowMajor self.now.view))) }
+        ensures first { IfSome result (HasNoEqualBefore T.cmp
             (map (item_at_place self.now.items) (view_places RowMajor self.now.view))) }
     {
         let less = |least: Option<T>, item: &T|

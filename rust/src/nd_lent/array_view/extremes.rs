@@ -5,7 +5,7 @@ use crate::nd_lent::array_view::ArrayView;
 use crate::ndarray_layout::Lengths;
 
 impl<T: Copy + Ord, D: Lengths> ArrayView<'_, T, D> {
-    /// The greatest item; `None` where the array has no index.
+    /// The greatest item, of equal ones the last in row-major order; `None` where the array has no index.
     ///
     /// Time in proportion to the indices, by `fold`.
     ///
@@ -30,6 +30,8 @@ impl<T: Copy + Ord, D: Lengths> ArrayView<'_, T, D> {
     /// ensures found: IsSome result ↔ (0 < size self.now.view.shape)
     /// ensures greatest: IfSome result (IsFirstOf (λ one other. is_gt (T.cmp one other))
     ///     (map (item_at_place self.now.items) (view_places RowMajor self.now.view)))
+    /// ensures last: IfSome result (HasNoEqualAfter T.cmp
+    ///     (map (item_at_place self.now.items) (view_places RowMajor self.now.view)))
     /// ```
     /// [How to read it](crate::contracts)
     /// </details>
@@ -43,7 +45,7 @@ impl<T: Copy + Ord, D: Lengths> ArrayView<'_, T, D> {
         self.fold(None, greater)
     }
 
-    /// The least item; `None` where the array has no index.
+    /// The least item, of equal ones the first in row-major order; `None` where the array has no index.
     ///
     /// Time in proportion to the indices, by `fold`.
     ///
@@ -67,6 +69,8 @@ impl<T: Copy + Ord, D: Lengths> ArrayView<'_, T, D> {
     /// ```text
     /// ensures found: IsSome result ↔ (0 < size self.now.view.shape)
     /// ensures least: IfSome result (IsFirstOf (λ one other. is_lt (T.cmp one other))
+    ///     (map (item_at_place self.now.items) (view_places RowMajor self.now.view)))
+    /// ensures first: IfSome result (HasNoEqualBefore T.cmp
     ///     (map (item_at_place self.now.items) (view_places RowMajor self.now.view)))
     /// ```
     /// [How to read it](crate::contracts)

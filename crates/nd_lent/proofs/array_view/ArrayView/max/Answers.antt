@@ -6,6 +6,7 @@ use Rattle.ndarray_layout.specs.Size.{size}
 use Rattle.ndarray_layout.specs.View.{view_places}
 use Rattle.ndarray_layout.proofs.laws.View.{length-view_places}
 use Rattle.nd_parts.specs.Items.{item_at_place}
+use Rattle.nd_lent.proofs.Equals.{picked_last}
 use Rattle.nd_lent.proofs.Extremes.{picked, picks_greater}
 use Rattle.nd_lent.proofs.array_view.ArrayView.max.Goals as goal
 
@@ -25,3 +26,8 @@ returns-clause-greatest g c =
     (picked _ (picks_greater g.met.T.Ord.total) (map (item_at_place c.args.self.now.items) (view_places RowMajor c.args.self.now.view))
     (λ item f best. search rules)
     (λ item f h best next called. search (rules, called)) c.fold.ensures.ran).first
+
+pub returns-clause-last : goal.returns-clause-last
+returns-clause-last g c =
+    picked_last _ g.met.T.Ord.total (map (item_at_place c.args.self.now.items) (view_places RowMajor c.args.self.now.view))
+    (λ item f best. search rules) c.fold.ensures.ran (λ item f h best next called. search (rules, called))

@@ -6,6 +6,7 @@ use Rattle.ndarray_layout.specs.Size.{size}
 use Rattle.ndarray_layout.specs.View.{view_places}
 use Rattle.ndarray_layout.proofs.laws.View.{length-view_places}
 use Rattle.nd_parts.specs.Items.{item_at_place}
+use Rattle.nd_lent.proofs.Equals.{picked_first}
 use Rattle.nd_lent.proofs.Extremes.{picked, picks_less}
 use Rattle.nd_lent.proofs.array_view.ArrayView.min.Goals as goal
 
@@ -25,3 +26,8 @@ returns-clause-least g c =
     (picked _ (picks_less g.met.T.Ord.total) (map (item_at_place c.args.self.now.items) (view_places RowMajor c.args.self.now.view))
     (λ item f best. search rules)
     (λ item f h best next called. search (rules, called)) c.fold.ensures.ran).first
+
+pub returns-clause-first : goal.returns-clause-first
+returns-clause-first g c =
+    picked_first _ g.met.T.Ord.total (map (item_at_place c.args.self.now.items) (view_places RowMajor c.args.self.now.view))
+    (λ item f best. search rules) c.fold.ensures.ran (λ item f h best next called. search (rules, called))
