@@ -1,56 +1,35 @@
 -- The rows of a view: where they lie, and what is read and written of the first of those that are left.
-use Rattle.std.proofs.Common.{◌≡◌, ℕ, ◌+◌, ◌*◌, ◌^◌, pos, ◌+ℤ◌, ◌*ℤ◌, Some, Option, List, ◌∷◌, ◌++◌, length, get_or, map, append_assoc}
+use Rattle.std.proofs.Common.{◌≡◌, ℕ, ◌+◌, ◌^◌, Some, Option, List, ◌∷◌, ◌++◌, length, map, append_assoc}
 use Rattle.std.proofs.Common.{sym, ap, subst, ◌∙◌, arith}
 use Rattle.std.specs.List.{All}
 use Rattle.std.proofs.lemmas.List.{length-append, map-append}
 use Rattle.ndarray_layout.specs.declared.Order.TheVariants.{RowMajor}
 use Rattle.ndarray_layout.specs.declared.Row.{Row}
-use Rattle.ndarray_layout.specs.Indices.{below}
 use Rattle.ndarray_layout.specs.Bounds.{IsInBounds}
-use Rattle.ndarray_layout.specs.MajorOrder.{LiesInOrder}
-use Rattle.ndarray_layout.specs.Rows.{row_places, rows_places, view_rows}
-use Rattle.ndarray_layout.specs.Size.{size}
+use Rattle.ndarray_layout.specs.Rows.{rows_places}
 use Rattle.ndarray_layout.specs.View.{View, IsView, LiesWithin, view_places}
-use Rattle.ndarray_layout.proofs.laws.Lists.{map_same}
-use Rattle.ndarray_layout.proofs.laws.Rows.{All-rows_places, length-row_places, places_fit, rows_lie_within, rows_places-view_rows}
-use Rattle.ndarray_layout.proofs.laws.View.{length-view_places, places_lie_within}
+use Rattle.ndarray_layout.proofs.laws.Rows.{All-rows_places, length-row_places, places_fit}
+use Rattle.ndarray_layout.proofs.laws.View.{places_lie_within}
 use Rattle.nd_lent.specs.Items.{item_at_place}
 use Rattle.nd_owned.specs.private.Written.{AreInBounds}
 use Rattle.nd_owned.proofs.Placed.{AreBoth}
 use Rattle.nd_lent.specs.LentRow.{places_of}
 
--- places that are neighbours are one row
-pub places_of_one_row : (view : View) → LiesInOrder RowMajor view.shape view.strides
-    → row_places view.start (pos 1) (size view.shape) ≡ view_places RowMajor view
-places_of_one_row view lies =
-    map_same (λ i. pos view.start +ℤ (pos i *ℤ pos 1)) (λ i. pos (view.start + i)) (below (size view.shape))
-    (λ k d under. by (get_or (below (size view.shape)) k d))
-    ∙ sym (lies view.start)
-  where
-    by : (i : ℕ) → pos (view.start + i * 1) ≡ pos (view.start + i)
-    by i =
-        let same : view.start + i * 1 ≡ view.start + i = omega arith in
-        ap pos same
-
--- which has as many as the view has indices
-pub length_of_one_row : (row : Row) (view : View) → places_of row ≡ view_places RowMajor view → row.len ≡ size view.shape
-length_of_one_row row view same =
-    sym (length-row_places row.start row.stride row.len) ∙ ap length same ∙ length-view_places RowMajor view
-
--- all of them lie where the view does
+-- all places lie where the view does
 pub places_in_bounds : {count : ℕ} {view : View} → IsView view → LiesWithin count view → AreInBounds count (view_places RowMajor view)
 places_in_bounds {count} {view} v within = record {
   within = places_lie_within count RowMajor view within;
   fit = places_fit RowMajor v;
 }
 
-pub rows_in_bounds : {count : ℕ} {view : View} → IsView view → LiesWithin count view
-    → All (λ row. AreInBounds count (places_of row)) (view_rows RowMajor view)
-rows_in_bounds {count} {view} v within =
-    let rows = view_rows RowMajor view in
-    let fit = All-rows_places (IsInBounds (2 ^ 63)) rows (subst (All (IsInBounds (2 ^ 63))) (sym (rows_places-view_rows RowMajor v))
-    (places_fit RowMajor v)) in
-    λ k d under. record { within = rows_lie_within count RowMajor v within k d under; fit = fit k d under }
+-- and so do those of each row, where the rows have these places
+pub rows_in_bounds : {count : ℕ} (view : View) (rows : List Row) → rows_places rows ≡ view_places RowMajor view → IsView view
+    → LiesWithin count view → All (λ row. AreInBounds count (places_of row)) rows
+rows_in_bounds {count} view rows are v within =
+    let all = places_in_bounds v within in
+    let here = All-rows_places (IsInBounds count) rows (subst (All (IsInBounds count)) (sym are) all.within) in
+    let fit = All-rows_places (IsInBounds (2 ^ 63)) rows (subst (All (IsInBounds (2 ^ 63))) (sym are) all.fit) in
+    λ k d under. record { within = here k d under; fit = fit k d under }
 
 -- ---- the first of the rows that are left
 module _ {row : Row} {left others : List Row} (first : left ≡ row ∷ others) where

@@ -206,7 +206,8 @@ impl<T: Copy, D: Lengths> OwnedArray<T, D> {
 
     /// Copies of the items that a slice picks, in row-major order.
     ///
-    /// Each row of neighbours is copied as a whole, and neighbouring rows as one where the whole part lies in order.
+    /// Goes over the longest rows that the axes of the part allow (`Strided::joined_rows`): each of 16 neighbours or more is copied
+    /// as a whole.
     ///
     /// # Errors
     ///

@@ -1,40 +1,22 @@
 //! The items at the places of a view, read and written row by row.
 ghost use Rattle.std.specs.List.{All, AllPairs};
-ghost use Rattle.std.specs.Prelude.{◌≡◌, ◌≢◌, ◌+◌, ◌<◌, ◌≤◌, ◌^◌, pos, ◌+ℤ◌, Some, IfOk, IfSome, IsOk, IsTrue, ◌++◌, length, map, vec_capacity, vec_len};
+ghost use Rattle.std.specs.Prelude.{◌≡◌, ◌≢◌, ◌+◌, ◌<◌, ◌≤◌, ◌^◌, pos, ◌+ℤ◌, Some, IfOk, IsOk, IsTrue, ◌++◌, length, map, vec_capacity, vec_len};
 ghost use Rattle.ndarray_layout.specs.declared.Order.TheVariants.{RowMajor};
 ghost use Rattle.ndarray_layout.specs.Bounds.{IsInBounds};
 ghost use Rattle.ndarray_layout.specs.Rows.{row_places};
 ghost use Rattle.ndarray_layout.specs.Size.{size};
-ghost use Rattle.ndarray_layout.specs.View.{IsView, LiesWithin, view_places};
+ghost use Rattle.ndarray_layout.specs.View.{LiesWithin, view_places};
 ghost use Rattle.nd_lent.specs.Items.{item_at_place};
 ghost use Rattle.nd_owned.specs.private.Written.{AreInBounds, HasWritten};
 
-use ndarray_layout::{Lengths, Order, Places, Row, Strided, is_layout_c};
+use ndarray_layout::{Lengths, Order, Places, Row, Strided};
 use std::alloc::{AllocError, Global};
 
 /// How many neighbours are worth the call of a copy.
 const WORTH_A_COPY: usize = 16;
 
-/// The places of a view as one row that is copied, where they are neighbours.
-#[inline]
-fn one_row<D: Lengths>(view: &Strided<D>) -> Option<Row>
-    ensures places { IfSome result (λ row.
-        row_places row.start row.stride row.len ≡ view_places RowMajor view.now) }
-    ensures is_view { IsView view.now }
-{
-    let len = view.len();
-    if len < WORTH_A_COPY || !is_layout_c(view.dim(), view.strides()) {
-        return None;
-    }
-    Some(Row {
-        start: view.start(),
-        stride: 1,
-        len,
-    })
-}
-
-/// Copies of the items at the places of a view, in row-major order. Rows that are neighbours are copied as one, and
-/// short rows are read place by place.
+/// Copies of the items at the places of a view, in row-major order. The longest rows that the axes allow are copied, and
+/// where these are short the view is read place by place.
 pub(crate) fn read_view<T: Copy, D: Lengths>(
     alloc: Global,
     view: &Strided<D>,
@@ -46,43 +28,28 @@ pub(crate) fn read_view<T: Copy, D: Lengths>(
     ensures memory { size view.now.shape ≡ 0 → IsOk result }
 {
     let mut items = Vec::with_capacity(alloc, view.len())?;
-    if let Some(row) = one_row(view) {
-        return Ok(read_row(items, stored, row));
-    }
-    if has_short_rows(view) {
+    let rows = view.joined_rows(Order::RowMajor);
+    if rows.len() > view.len() / WORTH_A_COPY {
         return Ok(read_places(items, stored, view.iter_places(Order::RowMajor)));
     }
-    for row in view.rows(Order::RowMajor) {
+    for row in rows {
         items = read_row(items, stored, row);
     }
     Ok(items)
 }
 
-/// Writes an item at each place of a view, in row-major order. Rows that are neighbours are written as one.
+/// Writes an item at each place of a view, in row-major order, by the longest rows that the axes allow.
 pub(crate) fn write_view<T: Copy, D: Lengths>(stored: &mut [T], view: &Strided<D>, items: &[T])
     requires within { LiesWithin (length stored.old) view.now }
     requires count { size view.now.shape ≡ length items.now }
     ensures { AllPairs (λ one other. one ≢ other) (view_places RowMajor view.now) →
         HasWritten (view_places RowMajor view.now) items.now stored.old stored.new }
 {
-    if let Some(row) = one_row(view) {
-        write_row(stored, row, items);
-        return;
-    }
     let mut left = items;
-    for row in view.rows(Order::RowMajor) {
+    for row in view.joined_rows(Order::RowMajor) {
         let (these, others) = left.split_at(row.len);
         write_row(stored, row, these);
         left = others;
-    }
-}
-
-/// Whether the rows of a view have few places: then its places are read one by one.
-#[inline]
-fn has_short_rows<D: Lengths>(view: &Strided<D>) -> bool {
-    match view.dim().slice().last() {
-        Some(len) => *len < WORTH_A_COPY,
-        None => true,
     }
 }
 

@@ -3,32 +3,13 @@
 
 use crate::memory::AllocError;
 use crate::memory::prelude::{FallibleVec, Vec};
-use crate::ndarray_layout::{Lengths, Order, Places, Row, Strided, is_layout_c};
+use crate::ndarray_layout::{Lengths, Order, Places, Row, Strided};
 
 /// How many neighbours are worth the call of a copy.
 const WORTH_A_COPY: usize = 16;
 
-/// The places of a view as one row that is copied, where they are neighbours.
-///
-/// <details><summary>Contract (proved)</summary>
-///
-/// ```text
-/// ensures places: IfSome result (λ row. row_places row.start row.stride row.len ≡ view_places RowMajor view.now)
-/// ensures is_view: IsView view.now
-/// ```
-/// [How to read it](crate::contracts)
-/// </details>
-#[inline]
-fn one_row<D: Lengths>(view: &Strided<D>) -> Option<Row> {
-    let len = view.len();
-    if len < WORTH_A_COPY || !is_layout_c(view.dim(), view.strides()) {
-        return None;
-    }
-    Some(Row { start: view.start(), stride: 1, len })
-}
-
-/// Copies of the items at the places of a view, in row-major order. Rows that are neighbours are copied as one, and
-/// short rows are read place by place.
+/// Copies of the items at the places of a view, in row-major order. The longest rows that the axes allow are copied, and
+/// where these are short the view is read place by place.
 ///
 /// <details><summary>Contract (proved)</summary>
 ///
@@ -42,19 +23,17 @@ fn one_row<D: Lengths>(view: &Strided<D>) -> Option<Row> {
 #[inline]
 pub(crate) fn read_view<T: Copy, D: Lengths>(view: &Strided<D>, stored: &[T]) -> Result<Vec<T>, AllocError> {
     let mut items = Vec::fallible_with_capacity(view.len())?;
-    if let Some(row) = one_row(view) {
-        return Ok(read_row(items, stored, row));
-    }
-    if has_short_rows(view) {
+    let rows = view.joined_rows(Order::RowMajor);
+    if rows.len() > view.len() / WORTH_A_COPY {
         return Ok(read_places(items, stored, view.iter_places(Order::RowMajor)));
     }
-    for row in view.rows(Order::RowMajor) {
+    for row in rows {
         items = read_row(items, stored, row);
     }
     Ok(items)
 }
 
-/// Writes an item at each place of a view, in row-major order. Rows that are neighbours are written as one.
+/// Writes an item at each place of a view, in row-major order, by the longest rows that the axes allow.
 ///
 /// <details><summary>Contract (proved)</summary>
 ///
@@ -68,24 +47,11 @@ pub(crate) fn read_view<T: Copy, D: Lengths>(view: &Strided<D>, stored: &[T]) ->
 /// </details>
 #[inline]
 pub(crate) fn write_view<T: Copy, D: Lengths>(stored: &mut [T], view: &Strided<D>, items: &[T]) {
-    if let Some(row) = one_row(view) {
-        write_row(stored, row, items);
-        return;
-    }
     let mut left = items;
-    for row in view.rows(Order::RowMajor) {
+    for row in view.joined_rows(Order::RowMajor) {
         let (these, others) = left.split_at(row.len);
         write_row(stored, row, these);
         left = others;
-    }
-}
-
-/// Whether the rows of a view have few places: then its places are read one by one.
-#[inline]
-fn has_short_rows<D: Lengths>(view: &Strided<D>) -> bool {
-    match view.dim().slice().last() {
-        Some(len) => *len < WORTH_A_COPY,
-        None => true,
     }
 }
 

@@ -7,7 +7,6 @@ use Rattle.std.proofs.lemmas.List.Elements.{All-head, All-tail}
 use Rattle.ndarray_layout.specs.declared.Order.TheVariants.{RowMajor}
 use Rattle.ndarray_layout.specs.Bounds.{IsInBounds}
 use Rattle.ndarray_layout.specs.Rows.{rows_places}
-use Rattle.ndarray_layout.proofs.laws.Rows.{length-row_places, rows_places-view_rows}
 use Rattle.ndarray_layout.proofs.laws.View.{length-view_places}
 use Rattle.nd_lent.specs.Items.{item_at_place}
 use Rattle.nd_owned.specs.private.Written.{AreInBounds}
@@ -17,30 +16,6 @@ use Rattle.nd_owned.proofs.rows.read_view.Goals as goal
 
 pub returns-in_err-items-clause-memory : goal.returns-in_err-items-clause-memory
 returns-in_err-items-clause-memory g c = λ none. absurd (false≢true (c.in_err-items.ensures.succeeds (c.len.ensures.size ∙ none)))
-
-pub read_row-requires-clause-in_bounds : goal.read_row-requires-clause-in_bounds
-read_row-requires-clause-in_bounds g c =
-    subst (AreInBounds (length c.args.stored.now)) (sym c.in-Some.ensures.places) (places_in_bounds c.one_row.ensures.is_view c.requires)
-
-pub read_row-requires-clause-room : goal.read_row-requires-clause-room
-read_row-requires-clause-room g c =
-    let row = c.in-Some.row in
-    omega (
-      arith,
-      length-row_places row.start row.stride row.len,
-      ap length c.in-Some.ensures.places,
-      length-view_places RowMajor c.args.view.now,
-      c.len.ensures.size,
-      c.in_ok-items.ensures.len,
-      c.in_ok-items.ensures.exact,
-    )
-
-pub returns-in-Some-clause-items : goal.returns-in-Some-clause-items
-returns-in-Some-clause-items g c =
-    let got = item_at_place c.args.stored.now in
-    c.read_row.ensures.items
-    ∙ ap (λ items. map Some items ++ map got (places_of c.in-Some.row)) c.in_ok-items.ensures.items
-    ∙ ap (map got) c.in-Some.ensures.places
 
 pub read_places-requires-clause-in_bounds : goal.read_places-requires-clause-in_bounds
 read_places-requires-clause-in_bounds g c =
@@ -60,14 +35,13 @@ read_places-requires-clause-room g c = omega (
 pub loop-row-init : goal.loop-row-init
 loop-row-init g c =
     let view = c.args.view.now in
-    let v = c.rows-row-items.ensures.is_view in
-    let all = c.into_iter-row-iterator.ensures.into_iter_gives ∙ c.rows-row-items.ensures.items in
-    let places = ap rows_places all ∙ rows_places-view_rows RowMajor v in
+    let rows = c.joined_rows-rows in
+    let places = ap rows_places c.into_iter-row-iterator.ensures.into_iter_gives ∙ rows.ensures.places in
     record {
       items = ap (λ items. map Some items ++ map (item_at_place c.args.stored.now) (rows_places c.into_iter-row-iterator.result))
           c.in_ok-items.ensures.items
           ∙ ap (map (item_at_place c.args.stored.now)) places;
-      in_bounds = subst (All (λ row. AreInBounds (length c.args.stored.now) (places_of row))) (sym all) (rows_in_bounds v c.requires);
+      in_bounds = rows_in_bounds view c.into_iter-row-iterator.result places rows.ensures.is_view c.requires;
       room = omega (
         arith,
         ap length places,
@@ -81,15 +55,15 @@ loop-row-init g c =
 pub read_row-items-requires-clause-in_bounds : goal.read_row-items-requires-clause-in_bounds
 read_row-items-requires-clause-in_bounds g c =
     All-head (λ row. AreInBounds (length c.args.stored.now) (places_of row)) _ _
-    (subst (All (λ row. AreInBounds (length c.args.stored.now) (places_of row))) c.in-Some-row.ensures.steps c.loop-row.invariant.in_bounds)
+    (subst (All (λ row. AreInBounds (length c.args.stored.now) (places_of row))) c.in-Some.ensures.steps c.loop-row.invariant.in_bounds)
 
 pub read_row-items-requires-clause-room : goal.read_row-items-requires-clause-room
-read_row-items-requires-clause-room g c = omega (arith, length_left c.in-Some-row.ensures.steps, c.loop-row.invariant.room)
+read_row-items-requires-clause-room g c = omega (arith, length_left c.in-Some.ensures.steps, c.loop-row.invariant.room)
 
 pub loop-row-preserved : goal.loop-row-preserved
 loop-row-preserved g c =
-    let first = c.in-Some-row.ensures.steps in
-    let row = c.in-Some-row.row in
+    let first = c.in-Some.ensures.steps in
+    let row = c.in-Some.row in
     record {
       items = read_first first c.args.stored.now c.loop-row.items.items c.read_row-items.result.items c.read_row-items.ensures.items
           c.loop-row.invariant.items;

@@ -5,62 +5,41 @@ use Rattle.std.proofs.lemmas.List.{length-drop, nil_from_length, take-append-dro
 use Rattle.std.proofs.lemmas.List.Elements.{All-head, All-tail}
 use Rattle.ndarray_layout.specs.declared.Order.TheVariants.{RowMajor}
 use Rattle.ndarray_layout.specs.Rows.{row_places, rows_places}
-use Rattle.ndarray_layout.proofs.laws.Rows.{rows_places-view_rows}
 use Rattle.ndarray_layout.proofs.laws.View.{length-view_places}
 use Rattle.nd_owned.specs.private.Written.{AreInBounds, HasWritten}
 use Rattle.nd_owned.proofs.Placed.{first_distinct, none_written, parts_written, second_distinct}
-use Rattle.nd_owned.proofs.ViewRows.{first_and_others, length_left, length_of_one_row, places_in_bounds, rows_in_bounds}
+use Rattle.nd_owned.proofs.ViewRows.{first_and_others, length_left, rows_in_bounds}
 use Rattle.nd_lent.specs.LentRow.{places_of}
 use Rattle.nd_owned.proofs.rows.write_view.Goals as goal
-
-pub write_row-requires : goal.write_row-requires
-write_row-requires g c =
-    let row = c.in-Some.row in
-    let count = length c.args.stored.now in
-    let long : row.len ≡ length c.args.items.now =
-    length_of_one_row row c.args.view.now c.in-Some.ensures.places ∙ c.requires.count in
-    subst (λ n. AreInBounds count (row_places row.start row.stride n)) long
-    (subst (AreInBounds count) (sym c.in-Some.ensures.places) (places_in_bounds c.one_row.ensures.is_view c.requires.within))
-
-pub returns-in-Some : goal.returns-in-Some
-returns-in-Some g c =
-    let row = c.in-Some.row in
-    let long : length c.args.items.now ≡ row.len =
-    sym (length_of_one_row row c.args.view.now c.in-Some.ensures.places ∙ c.requires.count) in
-    subst (λ places. AllPairs (λ one other. one ≢ other) places
-    → HasWritten places c.args.items.now c.args.stored.now c.write_row.new.stored)
-    (ap (row_places row.start row.stride) long ∙ c.in-Some.ensures.places) c.write_row.ensures
 
 pub loop-row-init : goal.loop-row-init
 loop-row-init g c =
     let view = c.args.view.now in
-    let v = c.rows-row-items.ensures.is_view in
-    let all = c.into_iter-row-iterator.ensures.into_iter_gives ∙ c.rows-row-items.ensures.items in
-    let places = ap rows_places all ∙ rows_places-view_rows RowMajor v in
+    let rows = c.joined_rows-row-items in
+    let places = ap rows_places c.into_iter-row-iterator.ensures.into_iter_gives ∙ rows.ensures.places in
     record {
-      in_bounds = subst (All (λ row. AreInBounds (length c.args.stored.now) (places_of row))) (sym all)
-          (rows_in_bounds v c.requires.within);
+      in_bounds = rows_in_bounds view c.into_iter-row-iterator.result places rows.ensures.is_view c.requires.within;
       count = ap length places ∙ length-view_places RowMajor view ∙ c.requires.count;
       distinct = subst (AllPairs (λ one other. one ≢ other)) (sym places);
       written = λ distinct new. subst (λ zs. HasWritten zs c.args.items.now c.args.stored.now new) places;
     }
 
 pub split_at-requires : goal.split_at-requires
-split_at-requires g c = omega (arith, length_left c.in-Some-row.ensures.steps, c.loop-row.invariant.count)
+split_at-requires g c = omega (arith, length_left c.in-Some.ensures.steps, c.loop-row.invariant.count)
 
-pub write_row-requires-in-loop-row : goal.write_row-requires-in-loop-row
-write_row-requires-in-loop-row g c =
-    let row = c.in-Some-row.row in
+pub write_row-requires : goal.write_row-requires
+write_row-requires g c =
+    let row = c.in-Some.row in
     let count = length c.args.stored.now in
     let here = All-head (λ row. AreInBounds count (places_of row)) _ _
-    (subst (All (λ row. AreInBounds count (places_of row))) c.in-Some-row.ensures.steps c.loop-row.invariant.in_bounds) in
+    (subst (All (λ row. AreInBounds count (places_of row))) c.in-Some.ensures.steps c.loop-row.invariant.in_bounds) in
     subst (λ n. AreInBounds n (row_places row.start row.stride (length c.split_at.result.0.now))) (sym c.loop-row.auto.stored)
     (subst (λ n. AreInBounds count (row_places row.start row.stride n)) (sym c.split_at.ensures.front_len) here)
 
 pub loop-row-preserved : goal.loop-row-preserved
 loop-row-preserved g c =
-    let row = c.in-Some-row.row in
-    let first = c.in-Some-row.ensures.steps in
+    let row = c.in-Some.row in
+    let first = c.in-Some.ensures.steps in
     let count = length c.args.stored.now in
     let left : List g.row.T.Denot = c.loop-row.left.now in
     let these : List g.row.T.Denot = c.split_at.result.0.now in
@@ -69,9 +48,9 @@ loop-row-preserved g c =
     let cut = first_and_others first in
     let in_bounds = subst (All (λ row. AreInBounds count (places_of row))) first c.loop-row.invariant.in_bounds in
     let here = subst (λ n. AllPairs (λ one other. one ≢ other) (row_places row.start row.stride n)
-    → HasWritten (row_places row.start row.stride n) these c.loop-row.stored c.write_row-in-loop-row.new.stored)
+    → HasWritten (row_places row.start row.stride n) these c.loop-row.stored c.write_row.new.stored)
     c.split_at.ensures.front_len
-    c.write_row-in-loop-row.ensures in
+    c.write_row.ensures in
     record {
       in_bounds = All-tail (λ row. AreInBounds count (places_of row)) _ _ in_bounds;
       count = omega (arith, length_left first, c.loop-row.invariant.count, ap length back, length-drop row.len left);
