@@ -235,11 +235,16 @@ impl<'a> Eraser<'a> {
         let Some(end) = trees.iter().position(|tree| tree.is(";")).filter(|end| *end > 0) else {
             return Ok(None);
         };
-        let (name, is_module) = (trees[end - 1].first().text, trees[0].is("mod") && end == 2);
-        let is_left_out = LEFT_OUT.iter().any(|(own, module, items)| match is_module {
-            true => *own == self.names.own && *module == name,
-            false => begins_with(trees, &["pub", "use"]) && items.contains(&name),
-        });
+        let last = &trees[end - 1];
+        let is_item = |tree: &Tree| LEFT_OUT.iter().any(|(.., items)| items.contains(&tree.first().text));
+        let is_left_out = match last {
+            name if trees[0].is("mod") && end == 2 => {
+                LEFT_OUT.iter().any(|(own, module, _)| *own == self.names.own && name.is(module))
+            }
+            _ if !begins_with(trees, &["pub", "use"]) => false,
+            Tree::Group(list) => list.trees.iter().all(|tree| tree.is(",") || is_item(tree)),
+            item => is_item(item),
+        };
         Ok(is_left_out.then_some(end + 1))
     }
 

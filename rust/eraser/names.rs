@@ -200,8 +200,11 @@ pub const CHECKED: &[(&str, &str, &str, &str, &str)] = &[(
 
 /// Modules that only a proof calls, each with its crate and what it hands on: a condition on the right to all items, which no code can
 /// check, keeps `unsafe` sound there. Plain Rust needs none of it, for once the parts are gone the items are what they left.
-pub const LEFT_OUT: &[(&str, &str, &[&str])] =
-    &[("nd_parts", "whole", &["Whole"]), ("example_callers", "wholes", &["set_first"])];
+pub const LEFT_OUT: &[(&str, &str, &[&str])] = &[
+    ("nd_parts", "rest", &["Rest", "Taken"]),
+    ("nd_parts", "whole", &["Whole"]),
+    ("example_callers", "wholes", &["set_first", "set_two"]),
+];
 
 /// Structs that files of `rust/src` make and take apart: all of the package sees their fields.
 pub const OPENED: &[&str] =
@@ -246,7 +249,7 @@ pub const MEMORY: &[(&str, &[&str])] = &[
 
 /// Words of clauses that say which reference it is whose items change: only proofs of callers need them, as rustc says it by
 /// lifetimes.
-pub const OF_PROOFS: &[&str] = &["cells.marks", "cells.name", "ghost_name", "names_of", "𝓛"];
+pub const OF_PROOFS: &[&str] = &["cells.marks", "cells.name", "ghost_name", "names_of", "right_of", "𝓛"];
 
 /// A word of a condition that the docs of a source don't tell, and what is said of it.
 pub const CONDITIONS: &[(&str, &str)] = &[

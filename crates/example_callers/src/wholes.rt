@@ -1,5 +1,6 @@
 //! Pixels that are written by parts, and what they are then.
 ghost use Rattle.std.specs.Prelude.{◌≡◌, [], ◌∷◌, length};
+ghost use Rattle.ndarray_layout.specs.SharePlace.{SharePlace};
 ghost use Rattle.nd_parts.specs.Items.{IsOwned, with_item};
 
 use nd_parts::Whole;
@@ -16,4 +17,24 @@ pub fn set_first(view: Strided<Ix2>, pixels: &mut [u8], pixel: u8)
     let mut part = whole.lend(view);
     part.set(&(0, 0), pixel);
     whole.end(part);
+}
+
+/// Writes the first pixel of each of two parts of a picture, which share no pixel. The list's other pixels are unchanged. The caller
+/// ensures that each index of a part has a pixel to itself.
+pub fn set_two(first: Strided<Ix2>, second: Strided<Ix2>, pixels: &mut [u8], one: u8, other: u8)
+    requires first { IsOwned (length pixels.old) first }
+    requires second { IsOwned (length pixels.old) second }
+    requires apart { SharePlace first second → ⊥ }
+    ensures { let written = with_item (record { items = pixels.old; view = second }) (0 ∷ 0 ∷ []) other in
+        pixels.new ≡ (with_item (record { items = written.items; view = first }) (0 ∷ 0 ∷ []) one).items }
+{
+    let mut whole = Whole::new(pixels);
+    let mut rest = whole.rest();
+    let (mut left, left_taken) = rest.take(first);
+    let (mut right, right_taken) = rest.take(second);
+    left.set(&(0, 0), one);
+    right.set(&(0, 0), other);
+    rest.put_back(right, right_taken);
+    rest.put_back(left, left_taken);
+    whole.close(rest);
 }

@@ -1,5 +1,4 @@
 pub mod ItemWritten
-pub mod Marks
 pub mod OwnPlaces
 pub mod OwnRows
 pub mod SliceOfPart

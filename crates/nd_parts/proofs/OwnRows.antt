@@ -19,7 +19,7 @@ use Rattle.nd_parts.specs.Own.{AreOwn}
 use Rattle.nd_parts.specs.RowsLeft.{row_array}
 use Rattle.nd_parts.specs.Part.{has_mark, AreMarked, IsPart, marks_of}
 use Rattle.nd_parts.proofs.laws.Lists.{all_first, other_default, pairs_first, pairs_second, parts_apart}
-use Rattle.nd_parts.proofs.Marks.{mark_left, part_of_own}
+use Rattle.nd_parts.proofs.laws.Marks.{mark_left, part_of_own}
 use Rattle.nd_parts.proofs.SlicesApart.{made_so}
 
 -- an index of a row is a coordinate

@@ -20,7 +20,7 @@ use Rattle.nd_parts.proofs.laws.Lists.{pairs_head, pairs_tail}
 use Rattle.nd_parts.specs.Cells.{without}
 use Rattle.nd_parts.specs.Part.{AreMarked, IsPart, marks_of}
 use Rattle.nd_parts.specs.Slices.{AreApartInPlace}
-use Rattle.nd_parts.proofs.Marks.{marked_step, part_of_others, part_of_own}
+use Rattle.nd_parts.proofs.laws.Marks.{marked_step, part_of_others, part_of_own}
 
 -- each place of the slices that are left has a mark, and no two of these share one
 pub record AreLeft (marks : List Bool) (view : View) (slices : List (List SliceInfoElem)) : Type 0 where

@@ -1,5 +1,7 @@
 pub mod Faults
 pub mod FlatItems
 pub mod Lists
+pub mod Marks
 pub mod Neighbours
 pub mod PermutedItems
+pub mod PutBack

@@ -1,6 +1,8 @@
 pub mod Crosses
 pub mod Handed
 pub mod Held
+pub mod HeldSlot
+pub mod Lent
 pub mod One
 pub mod PartHeld
 pub mod PartLends

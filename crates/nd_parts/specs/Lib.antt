@@ -6,5 +6,8 @@ pub mod Lending
 pub mod Lent
 pub mod Own
 pub mod Part
+pub mod Right
+pub mod Rights
 pub mod RowsLeft
 pub mod Slices
+pub mod Slot

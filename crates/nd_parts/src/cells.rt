@@ -9,10 +9,12 @@ ghost use Rattle.nd_parts.specs.Items.{IsOwned};
 ghost use Rattle.nd_parts.specs.Part.{IsPart};
 ghost use Rattle.nd_parts.specs.Cells.{are_within, chosen_of, holds_cells, shows_cells, span_of, without, written_at};
 
+mod rest;
 mod whole;
 
 use crate::part::PartMut;
 use ndarray_layout::{Lengths, Strided};
+pub use rest::{Rest, Taken};
 use std::marker::{Model, PhantomData, Send, Sync};
 use std::slice::from_raw_parts_mut;
 pub use whole::Whole;

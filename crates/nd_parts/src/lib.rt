@@ -4,5 +4,5 @@
 mod cells;
 mod part;
 
-pub use cells::Whole;
+pub use cells::{Rest, Taken, Whole};
 pub use part::{PartItems, PartIter, PartMut, PartRows};

@@ -43,6 +43,7 @@ impl<'a, T: Drop, D: Lengths> PartMut<'a, T, D> {
     ghost use Rattle.nd_parts.specs.Items.{item_at, item_at_place, with_item};
     ghost use Rattle.nd_parts.specs.Lending.{LendsItemIf};
     ghost use Rattle.nd_parts.specs.Lent.{array_of};
+    ghost use Rattle.nd_parts.specs.Rights.{right_of};
 
     /// The part of all indices of a view. The caller ensures that each index has a place to itself, which has a mark.
     fn of_cells(cells: Cells<'a, T>, view: Strided<D>) -> Self
@@ -101,6 +102,7 @@ impl<'a, T: Drop, D: Lengths> PartMut<'a, T, D> {
             with_item (array_of self.old) (I.index_list index.now) item }
         ensures same_right { self.new.cells.name ≡ self.old.cells.name }
         ensures same_marks { self.new.cells.marks ≡ self.old.cells.marks }
+        ensures same_right_of { right_of self.new.cells ≡ right_of self.old.cells }
     {
         match self.view.place(index) {
             Some(place) => {
@@ -126,6 +128,7 @@ impl<'a, T: Drop, D: Lengths> PartMut<'a, T, D> {
             with_item (array_of self.old) (I.index_list index.now) item }
         ensures same_right { self.new.cells.name ≡ self.old.cells.name }
         ensures same_marks { self.new.cells.marks ≡ self.old.cells.marks }
+        ensures same_right_of { right_of self.new.cells ≡ right_of self.old.cells }
     {
         match self.view.place(index) {
             Some(place) => Ok(replace(self.item_mut(place), item)),

@@ -123,7 +123,8 @@ fn each_form_becomes_plain_rust() {
 fn a_module_that_only_a_proof_calls_is_left_out() {
     const ROWS: &[(&str, &str, &str)] = &[
         ("nd_parts", "mod whole; pub use whole::Whole; pub use part::Part;", "pub use part::Part;"),
-        ("nd_lent", "pub use nd_parts::Whole; struct S;", "struct S;"),
+        ("nd_lent", "pub use nd_parts::Whole; pub use nd_parts::{Rest, Whole}; struct S;", "struct S;"),
+        ("nd_lent", "pub use nd_parts::{A, Whole};", "pub use nd_parts::{A, Whole};"),
         ("nd_lent", "mod whole; use whole::Whole;", "mod whole use whole::Whole;"),
     ];
     for (own, source, due) in ROWS {

@@ -2,7 +2,7 @@
 ghost use Rattle.std.specs.Prelude.{◌≡◌, length, replicate, true};
 ghost use Rattle.nd_parts.specs.Items.{IsOwned};
 
-use crate::cells::Cells;
+use crate::cells::{Cells, Rest};
 use crate::part::PartMut;
 use ndarray_layout::{Lengths, Strided};
 use std::marker::PhantomData;
@@ -69,6 +69,34 @@ impl<'a, T> Whole<'a, T> {
     {
         self.items = part.into_cells().finish(self.len);
     }
+
+    /// All its items, of which parts are taken. It has no items then, until `close` gives them back. Takes no memory.
+    ///
+    /// Of 7 8 9: these three, and none is left. The project's own.
+    pub fn rest(&mut self) -> Rest<'a, T>
+        ensures items { result.cells.items ≡ self.old.items.now }
+        ensures len { self.new.len ≡ self.old.len }
+        ensures counted { length result.cells.marks ≡ length self.old.items.now }
+        ensures marks { result.cells.marks ≡ replicate (length self.old.items.now) true }
+        ensures same_right { result.cells.name ≡ self.old.items.ghost_name }
+    {
+        let items = replace(&mut self.items, &mut []);
+        Rest {
+            cells: Cells::all_of(items),
+        }
+    }
+
+    /// All items come back: the slice holds what the parts left. The caller ensures that each part was put back. Takes no memory.
+    ///
+    /// Of 7 8 9 with 5 set at the last item: 7 8 5. The project's own.
+    pub fn close(&mut self, rest: Rest<'a, T>)
+        requires marks { rest.cells.marks ≡ replicate self.old.len true }
+        ensures items { self.new.items.now ≡ rest.entry.cells.items }
+        ensures same_right { self.new.items.ghost_name ≡ rest.entry.cells.name }
+    {
+        let Rest { cells } = rest;
+        self.items = cells.finish(self.len);
+    }
 }
 
 impl<'a, T> Cells<'a, T> {
@@ -109,7 +137,7 @@ impl<'a, T, D: Lengths> PartMut<'a, T, D> {
     }
 
     /// The right that a part has, without its view.
-    fn into_cells(self) -> Cells<'a, T>
+    pub(crate) fn into_cells(self) -> Cells<'a, T>
         ensures { result ≡ self.entry.cells }
     {
         let PartMut { cells, view: _ } = self;

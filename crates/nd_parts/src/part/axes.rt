@@ -52,7 +52,7 @@ impl<'a, T: Drop, D: Lengths> PartMut<'a, T, D> {
     /// The items of the indices with the same coordinate on each axis: `Strided::diag`.
     ///
     /// `[2,2]` over 5 6 7 8: 5 8. ndarray's `diag_mut`.
-    #[tactic(auto, using(crate::proofs::Marks::part_descendant))]
+    #[tactic(auto, using(crate::proofs::laws::Marks::part_descendant))]
     pub fn diag(self) -> PartMut<'a, T, Ix1>
         ensures array { IsArrayOfStep Descends
             (diagonal_source (length (array_of self.entry).view.shape)) diagonal_of
@@ -71,7 +71,7 @@ impl<'a, T: Drop, D: Lengths + Copy> PartMut<'a, T, D> {
     /// The items of the coordinates from `starts` to `ends`, one of each for each axis: `Strided::crop`.
     ///
     /// From (1) to (3) of `[3]` over 7 8 9: 8 9; to (4) `None`. In place of ndarray's `slice_move` by ranges.
-    #[tactic(auto, using(crate::proofs::Marks::part_descendant))]
+    #[tactic(auto, using(crate::proofs::laws::Marks::part_descendant))]
     pub fn crop(self, starts: &D, ends: &D) -> Option<Self>
         ensures found { IsSome result
             ↔ RangesFit (array_of self.entry).view.shape (D.list starts.now) (D.list ends.now) }
@@ -92,7 +92,7 @@ impl<'a, T: Drop, D: Dimension> PartMut<'a, T, D> {
     /// The part with a new axis of length 1: `Strided::insert_axis`, with its errors.
     ///
     /// ndarray's `insert_axis`.
-    #[tactic(auto, using(crate::proofs::Marks::part_descendant))]
+    #[tactic(auto, using(crate::proofs::laws::Marks::part_descendant))]
     pub fn insert_axis(
         self,
         alloc: Global,

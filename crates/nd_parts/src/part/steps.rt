@@ -24,7 +24,7 @@ impl<'a, T: Drop, D: Lengths> PartMut<'a, T, D> {
     /// The part of the items that a slice argument leaves: `Strided::slice`, with its errors.
     ///
     /// `1..` of `[3]` over 7 8 9: 8 9. ndarray's `slice_move`.
-    #[tactic(auto, using(crate::proofs::Marks::part_descendant))]
+    #[tactic(auto, using(crate::proofs::laws::Marks::part_descendant))]
     pub fn slice<E: Lengths, S: SliceElems>(
         self,
         alloc: Global,
@@ -49,7 +49,7 @@ impl<'a, T: Drop, D: Lengths> PartMut<'a, T, D> {
     /// Once it is gone, this part has what was written: that is tested, and in no clause.
     ///
     /// `1..` of `[3]` over 7 8 9: 8 9. ndarray's `slice_mut`.
-    #[tactic(auto, using(crate::proofs::Marks::part_descendant))]
+    #[tactic(auto, using(crate::proofs::laws::Marks::part_descendant))]
     pub fn slice_mut<E: Lengths, S: SliceElems>(
         &mut self,
         alloc: Global,
@@ -87,7 +87,7 @@ impl<'a, T: Drop, D: Lengths> PartMut<'a, T, D> {
     /// The transpose: `Strided::reversed_axes`.
     ///
     /// (2,1) of the result is (1,2) of the part. ndarray's `reversed_axes`.
-    #[tactic(auto, using(crate::proofs::Marks::part_descendant))]
+    #[tactic(auto, using(crate::proofs::laws::Marks::part_descendant))]
     pub fn reversed_axes(self) -> Self
         ensures array { IsArrayOfStep Descends reverse reversed_of
             (array_of self.entry) (array_of result) }
@@ -101,7 +101,7 @@ impl<'a, T: Drop, D: Lengths> PartMut<'a, T, D> {
     /// The axes in another order: `Strided::permuted_axes`, with its errors.
     ///
     /// ndarray's `permuted_axes`.
-    #[tactic(auto, using(crate::proofs::Marks::part_descendant))]
+    #[tactic(auto, using(crate::proofs::laws::Marks::part_descendant))]
     pub fn permuted_axes(self, alloc: Global, axes: &[Axis]) -> Result<Self, LayoutError>
         ensures fault { shape_fault result ≡
             permute_fault (array_of self.entry).view.shape (axis_numbers axes.now) }
@@ -120,7 +120,7 @@ impl<'a, T: Drop, D: Lengths> PartMut<'a, T, D> {
     /// The same items along another shape, in an order: `Strided::reshape`, with its errors.
     ///
     /// ndarray's `into_shape_with_order`.
-    #[tactic(auto, using(crate::proofs::Marks::part_descendant))]
+    #[tactic(auto, using(crate::proofs::laws::Marks::part_descendant))]
     pub fn reshape<E: Lengths>(
         self,
         alloc: Global,
@@ -150,7 +150,7 @@ impl<'a, T: Drop, D: Lengths> PartMut<'a, T, D> {
     /// All chunks of a shape that lie side by side, as one part: `Strided::exact_chunks`, with its errors.
     ///
     /// Chunks of `[2]` of `[5]` over 5 6 7 8 9: 5 6 and 7 8. ndarray's `exact_chunks_mut`.
-    #[tactic(auto, using(crate::proofs::Marks::part_descendant))]
+    #[tactic(auto, using(crate::proofs::laws::Marks::part_descendant))]
     pub fn exact_chunks<E: Lengths>(
         self,
         alloc: Global,
@@ -178,7 +178,7 @@ impl<'a, T: Drop, D: RemoveAxis> PartMut<'a, T, D> {
     /// The items at one coordinate of an axis, without the axis: `Strided::index_axis`, with its errors.
     ///
     /// Coordinate 1 of axis 0 of `[2,3]`: the second row. ndarray's `index_axis_move`.
-    #[tactic(auto, using(crate::proofs::Marks::part_descendant))]
+    #[tactic(auto, using(crate::proofs::laws::Marks::part_descendant))]
     pub fn index_axis(
         self,
         alloc: Global,

@@ -1,5 +1,5 @@
 -- With a new axis each index has a place to itself, which has a mark.
-use Rattle.nd_parts.proofs.Marks.{part_descendant}
+use Rattle.nd_parts.proofs.laws.Marks.{part_descendant}
 use Rattle.nd_parts.proofs.part.PartMut.insert_axis.Goals as goal
 
 pub of_cells-requires : goal.of_cells-requires

@@ -52,7 +52,7 @@ use Rattle.ndarray_layout.proofs.strided.Strided.TheLaws as V-laws
 use Rattle.nd_parts.specs.Cells.{known}
 use Rattle.nd_parts.specs.Items.{IsOwned}
 use Rattle.nd_parts.specs.Lent.{array_of}
-use Rattle.nd_parts.proofs.Marks.{owned_is_part}
+use Rattle.nd_parts.proofs.laws.Marks.{owned_is_part}
 use Rattle.std.proofs.lemmas.List.{length-replicate}
 use mathlib.Core.Bool.{Bool, true}
 use Rattle.nd_parts.specs.contracts.part.PartMut.new.Key.{name as #self}

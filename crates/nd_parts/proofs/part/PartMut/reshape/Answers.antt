@@ -1,5 +1,5 @@
 -- Each index of the reshaped view has a place to itself, which has a mark.
-use Rattle.nd_parts.proofs.Marks.{part_descendant}
+use Rattle.nd_parts.proofs.laws.Marks.{part_descendant}
 use Rattle.nd_parts.proofs.part.PartMut.reshape.Goals as goal
 
 pub of_cells-requires : goal.of_cells-requires

@@ -2,7 +2,7 @@ use Rattle.std.proofs.Common.{rules}
 use Rattle.ndarray_layout.specs.SplitView.{second_part_of}
 use Rattle.nd_parts.specs.Part.{IsPart}
 use Rattle.std.proofs.Common.{sym, subst}
-use Rattle.nd_parts.proofs.Marks.{part_descendant, part_is_within, part_of_own, part_of_others}
+use Rattle.nd_parts.proofs.laws.Marks.{part_descendant, part_is_within, part_of_own, part_of_others}
 use Rattle.ndarray_layout.specs.SharePlace.{SharePlace}
 use Rattle.ndarray_layout.proofs.laws.SplitView.{parts_are_apart}
 use Rattle.nd_parts.proofs.part.PartMut.split_at.Goals as goal

@@ -1,6 +1,6 @@
 -- Each index has a place to itself as before, which has a mark.
 use Rattle.std.specs.List.{swap}
-use Rattle.nd_parts.proofs.Marks.{part_after}
+use Rattle.nd_parts.proofs.laws.Marks.{part_after}
 use Rattle.nd_parts.proofs.part.PartMut.swap_axes.Goals as goal
 
 pub invariant_of-self : goal.invariant_of-self

@@ -7,7 +7,7 @@ use Rattle.nd_parts.proofs.laws.Faults.{handed_on, slices_fit}
 use Rattle.nd_parts.proofs.laws.Lists.{next, of_this}
 use Rattle.nd_parts.specs.Lent.{array_of}
 use Rattle.nd_parts.specs.Slices.{slice_array}
-use Rattle.nd_parts.proofs.Marks.{part_is_within}
+use Rattle.nd_parts.proofs.laws.Marks.{part_is_within}
 use Rattle.nd_parts.proofs.SlicesApart.{left_at_first, next_marked, left_by_one, own_part, made_so, parts_begin, part_pushed}
 use Rattle.nd_parts.proofs.part.slices.parts_of_slices.Goals as goal
 

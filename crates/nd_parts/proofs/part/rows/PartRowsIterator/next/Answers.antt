@@ -4,7 +4,7 @@ use Rattle.ndarray_layout.specs.declared.Order.TheVariants.{RowMajor}
 use Rattle.ndarray_layout.specs.Rows.{view_rows}
 use Rattle.ndarray_layout.proofs.laws.Rows.{few_rows}
 use Rattle.nd_parts.specs.RowsLeft.{row_array}
-use Rattle.nd_parts.proofs.Marks.{part_is_within}
+use Rattle.nd_parts.proofs.laws.Marks.{part_is_within}
 use Rattle.nd_parts.proofs.OwnRows.{next_below, next_comes, next_is_own, next_is_part, none_left, others_left}
 use Rattle.nd_parts.proofs.part.rows.PartRowsIterator.next.Goals as goal
 

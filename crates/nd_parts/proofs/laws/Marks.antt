@@ -1,4 +1,4 @@
--- Marks at the places of a view.
+-- Laws of marks at the places of a view: where they stand, which a part leaves, and of which views that makes parts.
 use Rattle.std.proofs.Common.{◌≡◌, ℕ, zero, suc, ◌<◌, ℤ, pos, negsuc, Bool, true, false, List, [], ◌∷◌, length, get_or}
 use Rattle.std.proofs.Common.{refl, sym, ap, subst, ◌∙◌, arith}
 use Rattle.std.proofs.Common.{Result, Ok, Err}
@@ -11,7 +11,7 @@ use Rattle.std.proofs.lemmas.Cmp.{int_eq_equiv}
 use Rattle.std.proofs.lemmas.List.FromFn.{get_or-map-range_with_len, length-map-range_with_len}
 use Rattle.std.proofs.lemmas.Map.Views.{list_any-from_Contains, Contains-from_any}
 use Rattle.std.proofs.lemmas.Bool.{false≢true}
-use Rattle.std.proofs.lemmas.List.{get_or-map, get_or-replicate, length-map}
+use Rattle.std.proofs.lemmas.List.{get_or-map, get_or-replicate, length-map, length-replicate}
 use Rattle.ndarray_layout.proofs.laws.Indices.{Contains-indices_in, All-indices_in}
 use Rattle.ndarray_layout.proofs.laws.Lists.{Contains-map}
 use Rattle.ndarray_layout.specs.declared.Order.TheVariants.{RowMajor}
@@ -26,7 +26,7 @@ use Rattle.nd_parts.specs.Part.{has_mark, AreMarked, IsPart, marks_of}
 
 module _ (view : View) where
   -- the place of an index has one of the marks
-  marked : (len k : ℕ) (index : List ℕ) → is_index view.shape index ≡ true → place_at view index ≡ pos k → k < len
+  pub marked : (len k : ℕ) (index : List ℕ) → is_index view.shape index ≡ true → place_at view index ≡ pos k → k < len
       → get_or (marks_of len view) k false ≡ true
   marked len k index here at below =
       get_or-map-range_with_len (λ place. list_any (int_eq (pos place)) (view_places RowMajor view)) 0 len k k false below (omega arith)
@@ -35,7 +35,7 @@ module _ (view : View) where
       (Contains-map (place_at view) (indices_in RowMajor view.shape) (Contains-indices_in RowMajor view.shape index here)))
 
   -- and where a mark is, there is the place of an index
-  marked_at : (len k : ℕ) → get_or (marks_of len view) k false ≡ true → k < len
+  pub marked_at : (len k : ℕ) → get_or (marks_of len view) k false ≡ true → k < len
       → (index : List ℕ) × (is_index view.shape index ≡ true) × (place_at view index ≡ pos k)
   marked_at len k h below =
       let here = sym (get_or-map-range_with_len (λ place. list_any (int_eq (pos place)) (view_places RowMajor view)) 0 len k k false below
@@ -69,6 +69,7 @@ left_by_place (c ∷ chosen) [] k e mine other = absurd (let no : ⊥ = omega ar
 left_by_place (c ∷ chosen) (m ∷ marks) zero e mine other = rw mine (rw other refl)
 left_by_place (c ∷ chosen) (m ∷ marks) (suc k) e mine other = left_by_place chosen marks k (omega arith) mine other
 
+-- there are as many as were asked for
 pub marks-length : (len : ℕ) (view : View) → length (marks_of len view) ≡ len
 marks-length len view = length-map-range_with_len (λ place. list_any (int_eq (pos place)) (view_places RowMajor view)) 0 len
 
@@ -145,9 +146,26 @@ in_bounds_marked : (count : ℕ) (place : ℤ) → IsInBounds count place → ha
 in_bounds_marked count (pos place) below = get_or-replicate count place true false below
 in_bounds_marked count (negsuc below) none = absurd none
 
+-- so an owned view is a part of all items
 pub owned_is_part : (count : ℕ) (view : View) → IsOwned count view → IsPart (replicate count true) view
 owned_is_part count view owned = record {
   is_view = owned.is_view;
   marked = λ index is. in_bounds_marked count (place_at view index) (owned.within index is);
   distinct = owned.distinct;
 }
+
+-- a part that shares no place with one that was taken is a part of those that are left
+pub part_beside : (marks : List Bool) (first second : View) → IsPart marks first → IsPart marks second → (SharePlace first second → ⊥)
+    → IsPart (without (marks_of (length marks) first) marks) second
+part_beside marks first second one other apart = record {
+  is_view = other.is_view;
+  marked = part_of_others marks first one.marked second other.marked apart;
+  distinct = other.distinct;
+}
+
+-- so are two owned views that share no place
+pub owned_beside : (count : ℕ) (first second : View) → IsOwned count first → IsOwned count second → (SharePlace first second → ⊥)
+    → IsPart (without (marks_of count first) (replicate count true)) second
+owned_beside count first second one other apart =
+    subst (λ (n : ℕ). IsPart (without (marks_of n first) (replicate count true)) second) (length-replicate {A = Bool} count true)
+    (part_beside (replicate count true) first second (owned_is_part count first one) (owned_is_part count second other) apart)
