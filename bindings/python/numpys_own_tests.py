@@ -127,7 +127,7 @@ def broadcast_to(array, shape, subok, readonly):
 
 
 def broadcast_shape(*arrays):
-    return reduce(nd.co_broadcast, map(np.shape, arrays), ())
+    return reduce(nd.broadcast_shapes, map(np.shape, arrays), ())
 
 
 def sliding_window_view(x, window_shape, axis=None, *, subok=False, writeable=False):

@@ -170,7 +170,7 @@ BAD["flag or None"] = BAD["flag"][1:]
 LAYOUT = Layout.over(6, (2, 3))
 WRITABLE = Layout.over(6, (2, 3), writable=True)
 ONES = Layout.over(1, (1, 1))
-REPEATED = LAYOUT.broadcast((2, 2, 3))
+REPEATED = LAYOUT.broadcast_to((2, 2, 3))
 SHAPED = {"shape": ((2, 3), "list"), "strides": ((3, 1), "list"), "itemsize": (1, "itemsize")}
 START = {"start": (0, "number")}
 SIZES = {"elem_size": (1, "number"), "length": (6, "number"), "writable": (False, "flag")}
@@ -192,7 +192,6 @@ CALLS = {
     nd.first_intersection: {"shape": ((2, 3), "list"), "slices": ([(0, 0)], "slices")} | CLAMP,
     nd.picked: {"shape": ((2, 3), "list"), "elems": ((0, 0), "elems")} | CLAMP,
     nd.basic_key: {"shape": ((2, 3), "list"), "key": (0, "key")},
-    nd.co_broadcast: {"first": ((2, 3), "list"), "second": ((2, 3), "list")},
     nd.broadcast: SHAPED | {"target": ((2, 3), "list")},
     nd.merge_axes: SHAPED | {"take": (0, "number"), "into": (1, "number")},
     nd.reshape: SHAPED | {"new_shape": ((3, 2), "list")} | ORDER,
@@ -211,6 +210,7 @@ CALLS = {
         "writable": (False, "flag"),
     },
     nd.share_element: {"a": (array_of(), "array")} | BOTH,
+    nd.shares_memory: {"a": (LAYOUT, "array"), "b": (LAYOUT, "array"), "max_work": (10, "steps")},
     nd.reshape_without_copy: {
         "a": (array_of(), "array"),
         "new_shape": ((3, 2), "list"),
@@ -256,7 +256,10 @@ CALLS = {
     LAYOUT.index_of: {"place": (0, "place")},
     LAYOUT.joined_rows: ORDER,
     LAYOUT.to_svg: {},
-    LAYOUT.broadcast: {"shape": ((2, 3), "list")},
+    LAYOUT.broadcast_to: {"shape": ((2, 3), "list")},
+    LAYOUT.ravel: ORDER,
+    LAYOUT.swapaxes: {"axis1": (0, "number"), "axis2": (1, "number")},
+    LAYOUT.diagonal: {"offset": (0, "place"), "axis1": (0, "number"), "axis2": (1, "number")},
     LAYOUT.windows: {"window": ((1, 1), "list")},
     LAYOUT.exact_chunks: {"chunk": ((1, 1), "list")},
     LAYOUT.split_at: {"axis": (0, "number"), "index": (0, "number")},
@@ -278,7 +281,7 @@ if np:
 
 NAMED = (
     r"^((slice|region) \d+: )?(axis \d+: )?"
-    r"(an array|array|axis|base|buffer|blocks|chunk|clamp|dims|dtype|elem_size|elems|index|itemsize|items of the dtype|keys|regions|"
+    r"(an array|array|axis|base|buffer|blocks|chunk|clamp|dims|dtype|elem_size|elems|index|window|itemsize|items of the dtype|keys|regions|"
     r"length|max_parts|max_work|nbytes|offset|writable|place|slices|start|stride|the length of a (block|chunk)|"
     r"slice indices must be integers|(?s:.+) is no (basic slice|integer|start|end|step)|"
     r"only integer scalar arrays can be converted)\b"
@@ -318,8 +321,13 @@ class EachCall(unittest.TestCase):
             for name, value in vars(kind).items()
             if name[0] != "_" and callable(getattr(value, "__func__", value)) and not isinstance(value, type)
         }
-        tested = {call.__name__ for call in CALLS} | {"transpose", "as_array"}
+        tested = {call.__name__ for call in CALLS} | {"transpose", "as_array", "broadcast_shapes"}
         self.assertLessEqual(functions | methods, tested)
+
+    def test_broadcast_shapes(self):
+        for shape in NO_LISTS + FAR_LISTS:
+            self.assert_named(nd.broadcast_shapes, (2, 3), shape)
+            self.assert_named(nd.broadcast_shapes, shape)
 
     def test_transpose(self):
         for axes in (

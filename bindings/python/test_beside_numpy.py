@@ -149,7 +149,7 @@ class BesideNumpy(unittest.TestCase):
             if target and self.numbers.random() < 0.1:
                 target[self.numbers.randrange(len(target))] = 2
             target = tuple(self.numbers.choices((0, 1, 2), k=self.numbers.randint(0, 2))) + tuple(target)
-            common = outcome(lambda: nd.co_broadcast(a.shape, target))
+            common = outcome(lambda: nd.broadcast_shapes(a.shape, target))
             self.assertEqual(common, outcome(lambda: np.broadcast_shapes(a.shape, target)))
             expected = outcome(lambda: np.broadcast_to(a, target))
             ours = outcome(lambda: nd.broadcast(a.shape, strides, target))

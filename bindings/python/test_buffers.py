@@ -157,7 +157,7 @@ class Items(unittest.TestCase):
     def test_dates_with_gaps(self):
         for items in self.arrays():
             for gaps in (items[::-1], items[:, ::2]):
-                with self.assertRaisesRegex(ShapeError, "isn't C- or F-contiguous: it has the shape"):
+                with self.assertRaisesRegex(ShapeError, "isn't contiguous in any order of its axes: it has the shape"):
                     Layout.over(2, 2).as_array(gaps)
 
     def test_items_that_no_memoryview_has(self):
@@ -198,8 +198,8 @@ class Items(unittest.TestCase):
         """NumPy's own refusals, as errors of this package."""
         for layout in (
             Layout.over(1, (1,) * 70),
-            Layout.over(1, 1).broadcast(2**62),
-            Layout(0, (0, 2**40), (0, 0), length=0).broadcast((2**20, 0, 2**40)),
+            Layout.over(1, 1).broadcast_to(2**62),
+            Layout(0, (0, 2**40), (0, 0), length=0).broadcast_to((2**20, 0, 2**40)),
         ):
             with self.assertRaises(ShapeError) as caught:
                 layout.as_array(np.zeros(1))

@@ -284,7 +284,7 @@ class BesideRules(unittest.TestCase):
             strides = self.strides(shape)
             target = [length if length != 1 else self.length() for length in shape]
             target = self.shape()[:2] + target if self.numbers.random() < 0.8 else self.shape()
-            self.compare(Rules.common(shape, target), nd.co_broadcast, shape, target)
+            self.compare(Rules.common(shape, target), nd.broadcast_shapes, shape, target)
             expected = Rules.layout(shape, strides) or Rules.target(shape, target)
             self.compare(expected, nd.broadcast, shape, strides, target)
 

@@ -81,9 +81,9 @@ class Methods(unittest.TestCase):
         for made in (self.LAYOUT[1], self.LAYOUT.T, self.LAYOUT.reshape(-1), self.LAYOUT.slice([0, Slice(), Slice()])):
             self.assertTrue(made.writable)
             self.assertEqual(made.length, 24)
-        self.assertFalse(self.LAYOUT.broadcast((5, 2, 3, 4)).writable)
+        self.assertFalse(self.LAYOUT.broadcast_to((5, 2, 3, 4)).writable)
         self.assertFalse(self.LAYOUT.has_overlap)
-        self.assertTrue(self.LAYOUT.broadcast((5, 2, 3, 4)).has_overlap)
+        self.assertTrue(self.LAYOUT.broadcast_to((5, 2, 3, 4)).has_overlap)
 
     def test_where_nothing_is_said(self):
         """A layout is writable that keeps the no-alias rule, however it is made; as one to be read any is accepted."""
@@ -148,7 +148,7 @@ class Methods(unittest.TestCase):
         self.assertEqual(list(Layout.over(1, (3, 0)).rows()), [])
         self.assertEqual(list(Layout.over(6, (2, 3)).rows("F")), [Row(0, 3, 2), Row(1, 3, 2), Row(2, 3, 2)])
         self.assertEqual(list(Layout.over(6, (2, 3), order="F").rows("A")), [Row(0, 1, 2), Row(2, 1, 2), Row(4, 1, 2)])
-        self.assertRaises(MemoryError, Layout.over(3, 3).broadcast((2**61, 1, 3)).rows)
+        self.assertRaises(MemoryError, Layout.over(3, 3).broadcast_to((2**61, 1, 3)).rows)
         self.assertRaises(IndexError, nd.rows, 0, (2, 3), (-3, 1))
         self.assertEqual(list(self.LAYOUT[:, ::2, ::-3].rows()), [Row(k, -3, 2) for k in (3, 11, 15, 23)])
 
@@ -195,7 +195,7 @@ class Rows(unittest.TestCase):
         self.assertEqual(list(self.ITEMS[Row(2, -1, 3).as_slice()]), [2, 1, 0])
 
     def test_loop(self):
-        for layout in (Layout.over(20, (2, 3), (-9, -2)), Layout.over(20, 5).broadcast((2, 5))):
+        for layout in (Layout.over(20, (2, 3), (-9, -2)), Layout.over(20, 5).broadcast_to((2, 5))):
             places = [place for row in layout.rows() for place in self.ITEMS[row.as_slice()]]
             self.assertEqual(tuple(places), layout.places())
 
@@ -209,7 +209,7 @@ class Memoryviews(unittest.TestCase):
         self.assertEqual(layout[1:].as_memoryview(self.ITEMS).tolist(), [[4, 5, 6, 7], [8, 9, 10, 11]])
         self.assertEqual(layout[1, 2].as_memoryview(self.ITEMS).tolist(), 6)
         self.assertRaises(ShapeError, layout.T.as_memoryview, self.ITEMS)
-        self.assertRaises(ShapeError, Layout.over(12, 1).broadcast(3).as_memoryview, self.ITEMS)
+        self.assertRaises(ShapeError, Layout.over(12, 1).broadcast_to(3).as_memoryview, self.ITEMS)
         self.assertRaises(IndexError, layout.as_memoryview, self.ITEMS[:11])
 
     def test_one_axis(self):
@@ -232,7 +232,7 @@ class Memoryviews(unittest.TestCase):
             error = caught.exception
             self.assertEqual((error.kind, error.axis, error.numbers), ("IncompatibleBuffer", axis, numbers))
         with self.assertRaises(ShapeError) as caught:
-            Layout.over(12, 1).broadcast(3).as_memoryview(self.ITEMS)
+            Layout.over(12, 1).broadcast_to(3).as_memoryview(self.ITEMS)
         self.assertEqual(caught.exception.numbers, {"stride": 0, "length": 3})
         with self.assertRaisesRegex(ShapeError, "isn't C-contiguous"):
             Layout.over(6, 6).as_memoryview(memoryview(self.ITEMS)[::2])
@@ -280,7 +280,7 @@ class Arrays(unittest.TestCase):
     def test_only_to_be_read(self):
         numbers = np.zeros(3)
         self.assertFalse(Layout.over(3, 3, writable=False).as_array(numbers).flags.writeable)
-        self.assertFalse(Layout.over(3, 3, writable=True).broadcast((2, 3)).as_array(numbers).flags.writeable)
+        self.assertFalse(Layout.over(3, 3, writable=True).broadcast_to((2, 3)).as_array(numbers).flags.writeable)
         Layout.over(3, 3, writable=True).as_array(numbers)[:] = 1
         self.assertEqual(numbers.tolist(), [1, 1, 1])
         self.assertFalse(Layout.over(3, 3, writable=True).as_array(b"abc").flags.writeable)
@@ -318,6 +318,21 @@ class Arrays(unittest.TestCase):
                     self.assertEqual(*(array.__array_interface__["data"][0] for array in (view, again)), layout)
             self.assertEqual(Layout.of(view, base=base).places(), tuple(view.ravel().tolist()))
 
+    def test_of_a_base_of_any_order(self):
+        """A base whose axes are in any order has no gaps: its items are counted in the order of memory."""
+        numbers = random.Random("orders")
+        for _ in range(LAYOUTS // 2):
+            shape = [numbers.randint(1, 4) for _ in range(numbers.randint(1, 4))]
+            items = np.arange(int(np.prod(shape)))
+            base = items.reshape(shape).transpose(numbers.sample(range(len(shape)), len(shape)))
+            key = tuple(slice(numbers.choice((None, 1)), None, numbers.choice((1, 2, -1))) for _ in shape)
+            layout = Layout.of(base[key], base=base)
+            self.assertEqual(layout.length, items.size)
+            self.assertEqual(layout.places(), tuple(base[key].ravel().tolist()), (shape, base.strides, key))
+            self.assertEqual(layout.as_array(base).tolist(), base[key].tolist())
+        with self.assertRaisesRegex(ShapeError, r"in any order of its axes: it has the shape \(3, 2\) and strides of \(8, 48\)"):
+            Layout.of(items[:1], base=np.zeros((4, 3), int)[::2].T)
+
     def test_of_a_base(self):
         a = np.arange(12).reshape(4, 3)
         self.assertEqual(Layout.of(a[2:], base=a), Layout(6, (2, 3), (3, 1), length=12))
@@ -348,7 +363,7 @@ class Arrays(unittest.TestCase):
         self.assertEqual(Layout.over(a.T, (3, 2)).as_array(a.T).tolist(), [[0, 1], [2, 3], [4, 5]])
         self.assertTrue(np.array_equal(Layout.of(a.T).as_array(a.T), a.T))
         for gaps in (a[::2, ::-1], a[::-1], a[:, ::2], np.arange(4)[::-1], memoryview(b"abc")[::-1]):
-            with self.assertRaisesRegex(ShapeError, "isn't C- or F-contiguous: it has the shape") as caught:
+            with self.assertRaisesRegex(ShapeError, "isn't contiguous in any order of its axes: it has the shape") as caught:
                 Layout.of(gaps).as_array(gaps)
             self.assertEqual(caught.exception.kind, "IncompatibleBuffer")
         with self.assertRaisesRegex(ShapeError, "isn't C-contiguous"):

@@ -102,8 +102,8 @@ class WorkedRows(Case):
         self.assertEqual(nd.picked((MAX,), [Slice(0, None, MIN)]), 1)
 
     def test_shapes(self):
-        self.assertEqual(nd.co_broadcast((2, 1, 1), (0, 0, 1, 3, 4)), (0, 0, 2, 3, 4))
-        self.assert_kind("IncompatibleShape", nd.co_broadcast, (1, 2, 2), (1, 3, 4))
+        self.assertEqual(nd.broadcast_shapes((2, 1, 1), (0, 0, 1, 3, 4)), (0, 0, 2, 3, 4))
+        self.assert_kind("IncompatibleShape", nd.broadcast_shapes, (1, 2, 2), (1, 3, 4))
         self.assertEqual(nd.broadcast((1, 3), (3, 1), (0, 3)), (0, 1))
         self.assert_kind("IncompatibleShape", nd.broadcast, (2, 3), (3, 1), (0, 3))
         self.assertRaises(OverflowError, nd.broadcast, (1,), (1,), (MAX, 2))
@@ -294,7 +294,7 @@ class CheckedArrays(Checked, Arrays):
 class Errors(Case):
     def test_copies(self):
         with self.assertRaises(ShapeError) as caught:
-            nd.co_broadcast((2,), (3,))
+            nd.broadcast_shapes((2,), (3,))
         error = caught.exception
         pickled = [pickle.dumps(error, protocol) for protocol in range(pickle.HIGHEST_PROTOCOL + 1)]
         for again in (copy.copy(error), copy.deepcopy(error), *map(pickle.loads, pickled)):
@@ -307,7 +307,7 @@ class Errors(Case):
     def test_pool(self):
         """An error in a worker arrives. One that can't be made again there would never."""
         with multiprocessing.get_context("spawn").Pool(1) as pool:
-            result = pool.apply_async(nd.co_broadcast, ((2,), (3,)))
+            result = pool.apply_async(nd.broadcast_shapes, ((2,), (3,)))
             self.assert_kind("IncompatibleShape", result.get, timeout=SECONDS)
 
 

@@ -33,7 +33,7 @@ class Cells(unittest.TestCase):
                 "place 2: 0,0",
             ],
         )
-        self.assertEqual(titles(Layout.over(4, 1).broadcast(3))[3:5], ["place 0: 3 times", "place 1: no index"])
+        self.assertEqual(titles(Layout.over(4, 1).broadcast_to(3))[3:5], ["place 0: 3 times", "place 1: no index"])
 
     def test_random_layouts(self):
         """Each index is drawn with its place, and each element once."""
@@ -64,7 +64,7 @@ class Schemes(unittest.TestCase):
     def test_any_layout_is_drawn(self):
         for layout in (Layout.over(0, 0), Layout.over(2**62, ()), Layout.over(2**63 - 1, 2**63 - 1), Layout.over(1, 1)):
             self.assertTrue(self.texts(layout))
-        self.assertLess(len(Layout.over(1, (1,) * 60).broadcast((2,) * 60).to_svg()), 9_000)
+        self.assertLess(len(Layout.over(1, (1,) * 60).broadcast_to((2,) * 60).to_svg()), 9_000)
 
 
 class Tables(unittest.TestCase):

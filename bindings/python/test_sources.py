@@ -326,7 +326,7 @@ class Memory(unittest.TestCase):
                 for first, second in ((one, other), (Interface(one.__array_interface__), other)):
                     expected = bool(np.shares_memory(one, other))
                     self.assertIs(nd.share_element(first, second), expected, (one, other))
-                    self.assertIs(nd.share_element(second, first), expected, (one, other))
+                    self.assertIs(nd.shares_memory(second, first), expected, (one, other))
         self.assertEqual(Layout.of(objects[1::2], base=objects).places(), (1, 3))
         for none in ("abc", [1, 2], self.numbers.flat, np.ndarray, object()):
             self.assert_refused("^(array|length|stride)", TypeError, none)

@@ -240,7 +240,7 @@ class Texts(unittest.TestCase):
             "reshape_reason": lambda: nd.reshape((2, 2), (4, 1), (4,)),
             "permuted_axes_reason": lambda: nd.permuted_axes((2, 2), (2, 1), (0, 0)),
             "index_reason": lambda: nd.next_index((3,), (3,)),
-            "co_broadcast_reason": lambda: nd.co_broadcast((2,), (3,)),
+            "co_broadcast_reason": lambda: nd.broadcast_shapes((2,), (3,)),
             "broadcast_reason": lambda: nd.broadcast((2,), (1,), (3,)),
             "windows_reason": lambda: nd.windows((4,), (1,), (0,)),
             "exact_chunks_reason": lambda: nd.exact_chunks((4,), (1,), (0,)),

@@ -107,6 +107,67 @@ class BesideNumPy(unittest.TestCase):
 
         self.run_calls("moveaxis", calls)
 
+    def test_swapaxes(self):
+        def calls(numbers, count):
+            one, other = (numbers.randint(-count - (numbers.random() < 0.1), max(count - 1, 0)) for _ in range(2))
+            return lambda layout: layout.swapaxes(one, other), lambda array: np.swapaxes(array, one, other)
+
+        self.run_calls("swapaxes", calls)
+
+    def test_diagonal(self):
+        def calls(numbers, count):
+            axes = [numbers.randint(-count, max(count - 1, 0)) for _ in range(2)]
+            arguments = [numbers.randint(-4, 4), *axes] if numbers.random() < 0.8 else []
+            return lambda layout: self.checked(layout.diagonal(*arguments)), lambda array: array.diagonal(*arguments)
+
+        self.run_calls("diagonal", calls)
+
+    def checked(self, layout):
+        """The layout, which keeps the no-alias rule where it is writable, and lies within its buffer."""
+        self.assertFalse(layout.writable and nd.has_overlap(layout.shape, layout.strides))
+        nd.check_layout(layout.start, layout.shape, layout.strides, length=layout.length)
+        return layout
+
+    def test_broadcast_to(self):
+        numbers, base, seen = random.Random("broadcast_to"), np.arange(400), {"the same": 0, "refused": 0}
+        for _ in range(LAYOUTS):
+            layout = any_layout(numbers, 3)
+            others = [numbers.choice((0, 1, 4) if length == 1 else (length, length, length, 3)) for length in layout.shape]
+            shape = [2] * numbers.choice((0, 0, 1)) + others
+            strides = [8 * step for step in layout.strides]
+            array = np.lib.stride_tricks.as_strided(base[layout.start :], layout.shape, strides)
+            try:
+                expected = np.broadcast_to(array, shape)
+            except ValueError:
+                self.assertRaises(ShapeError, layout.broadcast_to, shape)
+                seen["refused"] += 1
+                continue
+            made = layout.broadcast_to(shape)
+            self.assertEqual((made.shape, made.places()), (expected.shape, tuple(expected.ravel().tolist())))
+            self.assertFalse(made.writable)
+            seen["the same"] += 1
+        self.assertGreater(min(seen.values()), LAYOUTS // 50)
+
+    def test_ravel(self):
+        """Where NumPy makes no copy: then there is a layout."""
+        numbers, seen = random.Random("ravel"), {"a view": 0, "a copy": 0}
+        for _ in range(LAYOUTS):
+            shape = [numbers.choice((1, 2, 3, 4)) for _ in range(numbers.randint(0, 3))]
+            whole = np.zeros((*shape, 2))[..., 0] if numbers.random() < 0.5 else np.zeros(shape)
+            array = whole.transpose(numbers.sample(range(whole.ndim), whole.ndim))
+            layout, order = Layout.of(array), numbers.choice("CFA")
+            try:
+                made = layout.ravel(order)
+            except ShapeError:
+                self.assertFalse(np.shares_memory(array.ravel(order), array), (array.shape, array.strides, order))
+                seen["a copy"] += 1
+                continue
+            numbered = np.arange(layout.length)
+            strided = np.lib.stride_tricks.as_strided(numbered, array.shape, array.strides)
+            self.assertEqual(made.places(), tuple(strided.ravel(order).tolist()))
+            seen["a view"] += 1
+        self.assertGreater(min(seen.values()), LAYOUTS // 20)
+
     def test_keys(self):
         """Keys with `...`, `None`, fewer entries than axes, and too many."""
 
@@ -151,7 +212,7 @@ class BesideNumPy(unittest.TestCase):
                 self.assertEqual((made.shape, made.places()), (expected.shape, tuple(expected.ravel().tolist())))
         self.assertGreater(seen, LAYOUTS // 4)
 
-    def test_co_broadcast_of_many(self):
+    def test_broadcast_shapes_of_many(self):
         numbers, seen = random.Random("co_broadcast"), {"the same": 0, "refused": 0}
         for _ in range(LAYOUTS):
             common = [numbers.choice((1, 2, 3, 0)) for _ in range(numbers.randint(0, 3))]
@@ -159,10 +220,10 @@ class BesideNumPy(unittest.TestCase):
             try:
                 expected = np.broadcast_shapes(*shapes)
             except ValueError:
-                self.assertRaises(ShapeError, nd.co_broadcast, *shapes)
+                self.assertRaises(ShapeError, nd.broadcast_shapes, *shapes)
                 seen["refused"] += 1
             else:
-                self.assertEqual(nd.co_broadcast(*shapes), expected)
+                self.assertEqual(nd.broadcast_shapes(*shapes), expected)
                 seen["the same"] += 1
         self.assertGreater(min(seen.values()), LAYOUTS // 50)
 
@@ -213,7 +274,7 @@ class Fields(unittest.TestCase):
     def test_items(self):
         """The size and the format of the items go along with what is made."""
         whole = Layout.over(memoryview(bytes(48)).cast("d"), (2, 3))
-        for layout in (whole, whole.T, whole[0], whole.reshape(3, 2), whole.broadcast((4, 2, 3)), whole.windows((1, 1))):
+        for layout in (whole, whole.T, whole[0], whole.reshape(3, 2), whole.broadcast_to((4, 2, 3)), whole.windows((1, 1))):
             for same in (layout, pickle.loads(pickle.dumps(layout)), copy.copy(layout)):
                 self.assertEqual((same.itemsize, same.format), (8, "d"))
                 self.assertEqual(same.nbytes, same.size * 8)
@@ -232,7 +293,7 @@ class Fields(unittest.TestCase):
 
     def test_unpickled_layouts_are_accepted(self):
         call, numbers = Layout.over(6, 6).__reduce__()
-        self.assertRaises(IndexError, call, 1, *numbers[1:])
+        self.assertRaises(IndexError, call, Layout, 1, *numbers[2:])
         self.assertEqual(call(*numbers), Layout.over(6, 6))
 
 
@@ -312,6 +373,31 @@ class Frames(unittest.TestCase):
             self.assertEqual(str(found.exception), str(expected.exception))
             self.assertEqual(found.exception.numbers, expected.exception.numbers)
             self.assertEqual(layout[::-1, 1:].places(), (4, 5, 1, 2))
+
+
+class Frame(Layout):
+    """A class that a user makes of `Layout`."""
+
+    def corner(self):
+        return self[0, 0]
+
+
+class Classes(unittest.TestCase):
+    def test_each_call_keeps_the_class(self):
+        frame = Frame.over(24, (4, 6))
+        made = (
+            *(frame, frame[1:, ::2], frame[None, 0], frame.T, frame.reshape(24), frame.ravel()),
+            *(frame.flip(), frame.windows((2, 2)), frame.exact_chunks((2, 3)), frame.broadcast_to((2, 4, 6))),
+            *(frame.swapaxes(0, 1), frame.diagonal(), frame.split_at(0, 1)[1], frame.expand_dims(0).squeeze(0)),
+            *(frame.slice([0, Slice()]), frame.moveaxis(0, 1), frame.permuted_axes((1, 0)), frame.corner()),
+            *(Frame(0, (4,), (1,), length=4), Frame.of(memoryview(b"abc")), Frame.over(9, (3, 3), (3, 1), start=0)),
+            *(copy.copy(frame), copy.deepcopy(frame), pickle.loads(pickle.dumps(frame))),
+        )
+        for one in made:
+            self.assertIs(type(one), Frame)
+        self.assertEqual(made[-1], frame)
+        self.assertEqual(frame[1].places(), Layout.over(24, (4, 6))[1].places())
+        self.assertIs(type(Layout.over(6, (2, 3))[0].T), Layout)
 
 
 if __name__ == "__main__":

@@ -181,7 +181,7 @@ class ChunksOfARegion(unittest.TestCase):
         for call in (nd.chunks_of, nd.aligned):
             with self.assertRaisesRegex(IndexError, "^axis 0: index 9 is out of bounds of length 9"):
                 call(9, 9, 2)
-            with self.assertRaisesRegex(ShapeError, "axis 0: the length of a block is 0"):
+            with self.assertRaisesRegex(ShapeError, "axis 0: the length of a chunk is 0"):
                 call(9, 0, 0)
             self.assertRaises(TypeError, call, 9, [0, 1], 2)
 

@@ -94,9 +94,13 @@ def side_by_side(buffer: Any, in_rows: bool = False, name: str = "buffer") -> me
     view = shown(buffer, name)
     if view.itemsize == 0:
         raise no_bytes("items of the buffer")
+    if not view.contiguous and not in_rows and is_numpys(buffer):
+        axes = sorted(range(buffer.ndim), key=lambda axis: -int(buffer.strides[axis]))
+        view = shown(buffer.transpose(axes), name)  # (its items lie side by side where no axis is backwards or has gaps)
     if not (view.c_contiguous if in_rows else view.contiguous):
-        order = "C-contiguous" if in_rows else "C- or F-contiguous"
-        text = f"the buffer isn't {order}: it has the shape {view.shape} and strides of {view.strides} bytes"
+        order = "C-contiguous" if in_rows else "contiguous in any order of its axes"
+        shape, strides = (buffer.shape, buffer.strides) if is_numpys(buffer) else (view.shape, view.strides)
+        text = f"the buffer isn't {order}: it has the shape {shape} and strides of {strides} bytes"
         raise ShapeError("IncompatibleBuffer", text)
     return view
 

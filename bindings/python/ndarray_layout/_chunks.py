@@ -9,7 +9,7 @@ from typing import Any, Iterable, NamedTuple, Sequence, Union
 
 from ._errors import ShapeError, error_of_kind
 from ._numbers import Lens, Numbers, as_integer, entries, integer, listing, not_64_bits, said, unsigned, written
-from ._reasons import of_block
+from ._reasons import of_chunk
 
 Chunks = Union[Numbers, Iterable[Union[int, Iterable[int]]]]
 """The length of a chunk along each axis, -1 or `None` for the whole axis, or a list of the lengths of all its chunks."""
@@ -104,7 +104,7 @@ def read_chunks(shape: Lens, chunks: Chunks) -> Sequence[Chunking]:
         raise ShapeError("IncompatibleShape", text, None, {"lengths": len(listed), "axes": len(shape)})
     lists = {axis for axis, length in enumerate(listed) if not hasattr(length, "__index__") and _is_list(length)}
     evens = lengths_of([1 if axis in lists else length for axis, length in enumerate(listed)], "chunk")
-    fault = of_block(shape, evens)
+    fault = of_chunk(shape, evens)
     if fault is not None:
         raise error_of_kind(*fault)
     along = zip(range(len(shape)), shape, listed, evens)

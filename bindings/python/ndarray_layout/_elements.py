@@ -79,6 +79,19 @@ def share_element(a: Any, first: Any, second: Any = _NOTHING, max_work: Optional
     return bool(answer[0])
 
 
+def shares_memory(a: Any, b: Any, max_work: Optional[int] = MAX_WORK) -> bool:
+    """Whether two arrays share a byte of memory, or two layouts of one buffer a place: `share_element(a, b)`.
+
+    Exact, as NumPy's is by default. Where `max_work` steps don't decide it raises `ShapeError`, as NumPy raises
+    `TooHardError`; NumPy's -1, without end, is `None` here.
+
+    >>> whole = Layout.over(12, 12)
+    >>> shares_memory(whole[::2], whole[1::2]), shares_memory(whole[::2], whole[1::3])
+    (False, True)
+    """
+    return _share_memory(a, b, work_limit(max_work))
+
+
 def _share_byte(array: tuple[Lens, Lens, int], first: Any, second: Any, max_work: Optional[int]) -> bool:
     """`share_element` of an array whose elements may overlap."""
     shape, strides, itemsize = array

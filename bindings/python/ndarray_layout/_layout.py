@@ -6,7 +6,7 @@ from dataclasses import dataclass, field
 from math import prod
 from operator import index as as_int
 from struct import error as StructError
-from typing import TYPE_CHECKING, Any, Iterable, Iterator, Optional, SupportsIndex
+from typing import TYPE_CHECKING, Any, Iterable, Iterator, Optional, SupportsIndex, TypeVar
 
 from . import _frames as frames
 from . import _picture as picture
@@ -54,7 +54,7 @@ from ._sharing import MAX_WORK, share_byte
 from ._slices import basic_key, slices_intersect
 from ._sources import read_in_memory, read_source
 from ._units import Fields
-from ._views import Views, made
+from ._views import Views, made, of_class
 
 if TYPE_CHECKING:
     import numpy
@@ -62,6 +62,9 @@ if TYPE_CHECKING:
 set_start, set_shape, set_strides, set_length, set_writable, set_itemsize, set_format = (
     vars(Fields)[name].__set__ for name in ("start", "shape", "strides", "length", "writable", "itemsize", "format")
 )
+
+
+Made = TypeVar("Made", bound="Layout")
 
 
 @dataclass(frozen=True, init=False)
@@ -125,7 +128,7 @@ class Layout(Views):
 
     def __reduce__(self) -> tuple[Any, ...]:
         numbers = self.start, self.shape, self.strides, self.length, self.writable, self.itemsize, self.format
-        return _accepted, numbers  # (which is checked anew: bytes from elsewhere may be unpickled)
+        return _accepted, (type(self), *numbers)  # (which is checked anew: bytes from elsewhere may be unpickled)
 
     def __array__(self, *_: Any, **__: Any) -> Any:
         raise TypeError("a Layout has no elements: `as_array(buffer)` makes an array of it")
@@ -134,8 +137,9 @@ class Layout(Views):
 
     # ---- Makers
 
-    @staticmethod
+    @classmethod
     def over(
+        cls: type[Made],
         buffer: Any,
         shape: Numbers,
         strides: Optional[Numbers] = None,
@@ -143,7 +147,7 @@ class Layout(Views):
         start: Optional[SupportsIndex] = None,
         order: Optional[str] = None,
         writable: Optional[bool] = None,
-    ) -> Layout:
+    ) -> Made:
         """Accepts a layout over a buffer, or over so many elements.
 
         The elements of a buffer are its items, in the order of memory: those of `bytes` are bytes, those of an array
@@ -163,7 +167,7 @@ class Layout(Views):
         if strides is None and start is None:
             may_write = writable is not False  # (without gaps no two indices have one place)
             steps, first = _without_gaps(lens, number, itemsize, length, may_write)
-            return made(first, lens, steps, length, may_write, itemsize, kind)
+            return made(first, lens, steps, length, may_write, itemsize, kind, cls)  # type: ignore[no-any-return]
         steps = (default_strides, fortran_strides)[number](lens) if strides is None else integers(strides, "stride")
         try:
             if start is None:
@@ -172,10 +176,10 @@ class Layout(Views):
                 may_write, first = _checked(start, lens, steps, itemsize, length, writable), as_int(start)
         except OutOfBoundsError as error:
             raise _of_byte_strides(error, steps, itemsize) from None
-        return made(first, lens, steps, length, may_write, itemsize, kind)
+        return made(first, lens, steps, length, may_write, itemsize, kind, cls)  # type: ignore[no-any-return]
 
-    @staticmethod
-    def of(array: Any, *, base: Any = None, writable: Optional[bool] = None) -> Layout:
+    @classmethod
+    def of(cls: type[Made], array: Any, *, base: Any = None, writable: Optional[bool] = None) -> Made:
         """The layout of an array, or of what a `memoryview` shows, over its elements from the lowest to the highest.
 
         With a `base` it is one over the items of that buffer, from the lowest: what `as_array(base)` takes. Without
@@ -196,12 +200,12 @@ class Layout(Views):
         if base is None:
             start, may_write = _start_of(shape, strides, itemsize, LIMIT + 1, writable)
             spans = [(length - 1) * abs(stride) for length, stride in zip(shape, strides)]
-            return made(start, shape, strides, 0 if 0 in shape else sum(spans) + 1, may_write, itemsize, kind)
+            return made(start, shape, strides, 0 if 0 in shape else sum(spans) + 1, may_write, itemsize, kind, cls)  # type: ignore[no-any-return]
         items = items_of_size(base, itemsize)
         length = items.nbytes // itemsize
         start = 0 if 0 in shape else items_before(source.memory().address, items)
         may_write = _checked(start, shape, strides, itemsize, length, writable)
-        return made(start, shape, strides, length, may_write, itemsize, kind)
+        return made(start, shape, strides, length, may_write, itemsize, kind, cls)  # type: ignore[no-any-return]
 
     # ---- What it is
 
@@ -361,8 +365,7 @@ class Layout(Views):
         A layout that isn't writable gives an array that is only to be read, as `numpy.broadcast_to` does. While the array
         lives the buffer can't be closed or resized: its own methods raise `BufferError`, as after `numpy.frombuffer`.
 
-        Raises `ShapeError` for an array with gaps or in no order, as `a[::2]` and `a[::-1]`, whose `base` may have
-        none, where items have 0 bytes, and where NumPy has no dtype for them or no array of so many axes or bytes;
+        Raises `ShapeError` for an array with gaps or backwards, as `a[::2]` and `a[::-1]`, whose `base` may have none, where items have 0 bytes, and where NumPy has no dtype for them or no array of so many axes or bytes;
         `TypeError` where items would be read or written as objects that are none, or the other way; `IndexError` where
         the buffer has fewer than `length` items.
         """
@@ -424,10 +427,18 @@ Views.frozen = Layout
 
 
 def _accepted(
-    start: int, shape: Lens, strides: Lens, length: int, writable: bool, itemsize: int, format: Optional[str]
-) -> Layout:
-    """`Layout` as `pickle` and `copy` call it."""
-    return Layout(start, shape, strides, length=length, writable=writable, itemsize=itemsize, format=format)
+    kind: type[Made],
+    start: int,
+    shape: Lens,
+    strides: Lens,
+    length: int,
+    writable: bool,
+    itemsize: int,
+    format: Optional[str],
+) -> Made:
+    """`Layout`, or a class that is made of it, as `pickle` and `copy` call it."""
+    new = Layout(start, shape, strides, length=length, writable=writable, itemsize=itemsize, format=format)
+    return new if kind is Layout else of_class(kind, new)  # type: ignore[no-any-return]
 
 
 def _of_byte_strides(error: OutOfBoundsError, strides: Lens, itemsize: int) -> OutOfBoundsError:

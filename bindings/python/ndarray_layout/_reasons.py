@@ -337,7 +337,7 @@ def of_windows(shape: Lens, strides: Lens, window: Lens) -> Optional[Reason]:
     if found:
         return found
     moves = (max(length - block + 1, 0) for length, block in zip(shape, window))
-    return _of_blocks(library.windows_reason(*unsigned(shape), *unsigned(window)), shape, moves, window)
+    return _of_blocks(library.windows_reason(*unsigned(shape), *unsigned(window)), shape, moves, window, "window")
 
 
 def of_exact_chunks(shape: Lens, strides: Lens, chunk: Lens) -> Optional[Reason]:
@@ -345,24 +345,24 @@ def of_exact_chunks(shape: Lens, strides: Lens, chunk: Lens) -> Optional[Reason]
     if found:
         return found
     counts = (length // block for length, block in zip(shape, chunk))
-    return _of_blocks(library.exact_chunks_reason(*unsigned(shape), *unsigned(chunk)), shape, counts, chunk)
+    return _of_blocks(library.exact_chunks_reason(*unsigned(shape), *unsigned(chunk)), shape, counts, chunk, "chunk")
 
 
-def _of_blocks(broken: Broken, shape: Lens, counts: Iterable[int], block: Lens) -> Optional[Reason]:
-    return _past_size((*counts, *block)) if broken.rule == Rule.SIZE else _of_block(broken, shape)
+def _of_blocks(broken: Broken, shape: Lens, counts: Iterable[int], block: Lens, name: str) -> Optional[Reason]:
+    return _past_size((*counts, *block)) if broken.rule == Rule.SIZE else _of_block(broken, shape, name)
 
 
-def _of_block(broken: Broken, shape: Lens) -> Optional[Reason]:
+def _of_block(broken: Broken, shape: Lens, name: str) -> Optional[Reason]:
     if broken.rule == Rule.COUNT:
-        text = "a block has {lengths} lengths for {axes} axes, and needs one for each"
+        text = f"a {name} has {{lengths}} lengths for {{axes}} axes, and needs one for each"
         return _of(broken.kind, text, lengths=broken.size, axes=len(shape))
-    text = "the length of a block is {length}, and has to be above 0"
+    text = f"the length of a {name} is {{length}}, and has to be above 0"
     return _of(broken.kind, text, broken.axis, length=0) if broken.rule == Rule.EMPTY else None
 
 
-def of_block(shape: Lens, block: Lens) -> Optional[Reason]:
+def of_chunk(shape: Lens, chunk: Lens) -> Optional[Reason]:
     """Of the chunks of a store, which may have any count of indices."""
-    return _of_block(library.exact_chunks_reason(*unsigned(shape), *unsigned(block)), shape)
+    return _of_block(library.exact_chunks_reason(*unsigned(shape), *unsigned(chunk)), shape, "chunk")
 
 
 def of_split_at(start: int, shape: Lens, strides: Lens, axis: int, index: int) -> Optional[Reason]:

@@ -10,18 +10,20 @@ from ._numbers import Lens, Numbers, Packed, View, count_of, one_answer, size, u
 from ._units import Given, given, takes_array, takes_array_after_start
 
 
-def co_broadcast(first: Numbers, second: Numbers, *others: Numbers) -> Lens:
-    """The common shape of two shapes or of more, by NumPy's rule. Raises `ShapeError` where there is none.
+def broadcast_shapes(*shapes: Numbers) -> Lens:
+    """The common shape of some shapes, by NumPy's rule: `co_broadcast` in Rust. Raises `ShapeError` where there is none.
 
-    >>> co_broadcast((2, 1), (3,)), co_broadcast((2, 1), (3,), (5, 1, 1))
-    ((2, 3), (5, 2, 3))
+    >>> broadcast_shapes((2, 1), (3,)), broadcast_shapes((2, 1), (3,), (5, 1, 1)), broadcast_shapes()
+    ((2, 3), (5, 2, 3), ())
     """
-    one, other = unsigned(first), unsigned(second)
-    axes = one[1] if one[1].value > other[1].value else other[1]
-    common = axes.unsigned_room()
-    library.co_broadcast(*one, *other, common, axes)
-    found = axes.unpack_unsigned(common)
-    return co_broadcast(found, *others) if others else found
+    found: Lens = ()
+    for shape in shapes:
+        one, other = unsigned(found), unsigned(shape)
+        axes = one[1] if one[1].value > other[1].value else other[1]
+        common = axes.unsigned_room()
+        library.co_broadcast(*one, *other, common, axes)
+        found = axes.unpack_unsigned(common)
+    return found
 
 
 @takes_array
@@ -148,9 +150,9 @@ def windows(
     ((3, 3, 2, 3), (5, 1, 5, 1))
     >>> windows((4, 5), (5, 1), (2, 0))
     Traceback (most recent call last):
-    ndarray_layout.ShapeError: Unsupported: axis 1: the length of a block is 0, and has to be above 0
+    ndarray_layout.ShapeError: Unsupported: axis 1: the length of a window is 0, and has to be above 0
     """
-    return _in_blocks(library.windows, given(shape, strides, itemsize), unsigned(window))
+    return _in_blocks(library.windows, given(shape, strides, itemsize), unsigned(window, "window"))
 
 
 @takes_array
@@ -167,7 +169,7 @@ def exact_chunks(
     >>> exact_chunks((4, 7), (7, 1), (2, 3))
     ((2, 2, 2, 3), (14, 3, 7, 1))
     """
-    return _in_blocks(library.exact_chunks, given(shape, strides, itemsize), unsigned(chunk))
+    return _in_blocks(library.exact_chunks, given(shape, strides, itemsize), unsigned(chunk, "chunk"))
 
 
 def _in_blocks(call: library.Call, layout: Given, block: Packed) -> tuple[Lens, Lens]:
