@@ -31,6 +31,8 @@ LAYOUTS = (
     Layout.over(1, ()),
     Layout.over(10**6, (1000, 1000))[::3, 5:90],
     Layout.over(bytes(3000), (10, 20, 15)),
+    Layout.over(48, (6, 8)).windows((3, 4)),
+    Layout.over(10**6, 10**6)[::12].broadcast_to((12, 83_334)),
     Layout.over(10**18, (100,) * 9),
     Layout.over(4096, (2,) * 12),
     Layout.over(5, (0, 3)),

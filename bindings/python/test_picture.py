@@ -6,9 +6,12 @@
 import random
 import re
 import unittest
+from collections import Counter
+from itertools import product
 from xml.etree import ElementTree
 
 from ndarray_layout import Layout
+from ndarray_layout._picture import count_places
 
 NAMES = {"svg": "{http://www.w3.org/2000/svg}"}
 
@@ -60,6 +63,39 @@ class Schemes(unittest.TestCase):
         self.assertIn("places 5 to 999,089 of 1,000,000, the start at 999,005", texts)
         self.assertIn("no place of 5", self.texts(Layout.over(5, (0, 3))))
         self.assertIn("3 axes before these, 4,096 indices", self.texts(Layout.over(4096, (2,) * 12)))
+
+    def test_places(self):
+        """How many indices share a place, and how many places have one, in words."""
+        for layout, words in (
+            (Layout.over(48, (6, 8)).windows((3, 4)), ["at most 12 indices share a place"]),
+            (Layout.over(100, 100).broadcast_to((12, 100)), ["12 indices share each place"]),
+            (Layout.over(10**6, 10**6)[::12], ["83,334 of these 999,997 places have an index, one of 12"]),
+            (Layout.over(10**6, (1000, 1000))[:, 100:], ["900,000 of these 999,900 places have an index, 90%"]),
+            (Layout.over(999, (100, 100, 9), (2, 3, 0)), ["some indices share a place, or may share one"]),
+            (Layout.over(10**6, (1000, 1000)), []),
+            (Layout.over(10**6, (0, 1000)), []),
+        ):
+            texts = self.texts(layout)
+            at = next(at for at, text in enumerate(texts) if re.search("^(places .*, the start|no place)", text))
+            self.assertEqual(texts[at + 1 :], words, layout)
+
+    def test_counts_of_places(self):
+        """The counts of places, beside those of each index."""
+        numbers, seen = random.Random("counts"), Counter()
+        for _ in range(10_000):
+            shape = tuple(numbers.randint(1, 4) for _ in range(numbers.randint(0, 4)))
+            strides = tuple(numbers.choice((0, 1, -1, 2, 3, 4, 6, 12)) for _ in shape)
+            places = Counter(sum(map(int.__mul__, index, strides)) for index in product(*map(range, shape)))
+            found = count_places(shape, strides)
+            if found is not None:
+                self.assertEqual(found, (len(places), max(places.values())), (shape, strides))
+            seen["undecided" if found is None else "counted"] += 1
+        print(f"test_counts_of_places: {dict(sorted(seen.items()))}")
+        self.assertGreater(seen["counted"], 8_000)
+
+    def test_axes_are_named(self):
+        texts = self.texts(Layout.over(10**6, (100, 100, 100)))
+        self.assertLess({"axis 0", "axis 1", "axis 2"}, {*texts})
 
     def test_any_layout_is_drawn(self):
         for layout in (Layout.over(0, 0), Layout.over(2**62, ()), Layout.over(2**63 - 1, 2**63 - 1), Layout.over(1, 1)):

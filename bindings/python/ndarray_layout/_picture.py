@@ -8,8 +8,12 @@ from __future__ import annotations
 
 from html import escape
 from itertools import product
-from math import log
-from typing import TYPE_CHECKING, Iterator
+from math import log, prod
+from typing import TYPE_CHECKING, Iterator, Optional
+
+from ._layouts import has_overlap
+from ._numbers import Lens
+from ._sharing import repeat_a_place
 
 if TYPE_CHECKING:
     from ._layout import Layout
@@ -23,6 +27,7 @@ LINE = 16
 _HEIGHT, _GAP, _MARGIN, _LETTER = 34.0, 8.0, 10.0, 6.5
 _SIDE, _LEAST = 120.0, 24.0
 _MOST_AXES = 9
+_STEPS = 2_000
 
 _STYLE = (
     "<style>svg.ndarray-layout:root{color-scheme:light dark;color:#1b1b1b;background:#fff}"
@@ -140,7 +145,8 @@ class _Scheme(_Drawing):
         axes = range(max(len(layout.shape) - _MOST_AXES, 0), len(layout.shape))
         x = _MARGIN
         for group in _in_threes(axes):
-            self._box_of(layout, group, x)
+            name = f"axis {group[0]}"
+            self._box_of(layout, group, x + len(name) * _LETTER if len(group) > 2 else x)
             x = self.width + _GAP
         y = max(self.height, 20.0)
         left_out = f"{axes.start} axes before these, " if axes.start else ""
@@ -160,11 +166,11 @@ class _Scheme(_Drawing):
             self.lines((x, y), (x + back, y - back), (x + back + width, y - back), (x + width, y))
             right = x + width
             self.lines((right, y), (right + back, y - back), (right + back, y - back + height), (right, y + height))
-            self.text(x - 2 + back / 2, y - back / 2 - 3, str(axes[-3]), anchor="end")
+            self.text(x - 2 + back / 2, y - back / 2 - 3, f"axis {axes[-3]}", anchor="end")
         self.box(x, y, width, height, 0.15, ", ".join(f"axis {axis}" for axis in axes))
-        self.text(x + width / 2, y + height + 13, str(axes[-1]), anchor="middle")
+        self.text(x, y + height + 13, f"axis {axes[-1]}")
         if len(axes) > 1:
-            self.text(x + width + back + 4, y + height / 2 + 4 - back, str(axes[-2]))
+            self.text(x + width + back + 4, y + height / 2 + 4 - back, f"axis {axes[-2]}")
 
     def _stretch(self, layout: Layout, y: float) -> None:
         """The elements of the buffer as a bar, and from the lowest to the highest that an index has."""
@@ -180,7 +186,63 @@ class _Scheme(_Drawing):
             words = f"places {lowest:,} to {highest:,} of {layout.length:,}, the start at {layout.start:,}"
         else:
             words = f"no place of {layout.length:,}"
-        self.text(_MARGIN, y + 32, words)
+        for line, said in enumerate([words, *_of_places(layout, highest - lowest + 1)]):
+            self.text(_MARGIN, y + 32 + 16 * line, said)
+
+
+def _of_places(layout: Layout, stretch: int) -> Iterator[str]:
+    """How many indices share a place, and how many places of so many have an index, where few steps decide it."""
+    if not layout.size:
+        return
+    found = count_places(layout.shape, layout.strides)
+    if found is None:
+        yield "some indices share a place, or may share one"
+        return
+    used, most = found
+    if most is None:
+        yield "some indices share a place"
+    elif most > 1:
+        of_each = used * most == layout.size
+        yield f"{most:,} indices share each place" if of_each else f"at most {most:,} indices share a place"
+    if used < stretch:
+        part = f"one of {round(stretch / used):,}" if stretch >= 2 * used else f"{used / stretch:.0%}"
+        yield f"{used:,} of these {stretch:,} places have an index, {part}"
+
+
+def count_places(shape: Lens, strides: Lens) -> Optional[tuple[int, Optional[int]]]:
+    """How many places the indices of a shape with an index have, and how many of these share one at most.
+
+    Exact, or `None` where few steps don't decide. Axes of one stride are one, whose places several indices have.
+
+    >>> count_places((5, 3), (1, 1)), count_places((4, 3), (12, 0)), count_places((3, 4), (4, 1))
+    ((7, 3), (4, 3), (12, 1))
+    """
+    lengths: dict[int, list[int]] = {}
+    for length, stride in zip(shape, strides):
+        if length > 1:
+            lengths.setdefault(abs(stride), []).append(length)
+    most: Optional[int] = prod(lengths.pop(0, []))
+    joined = {stride: 1 + sum(length - 1 for length in along) for stride, along in lengths.items()}
+    lens, steps = tuple(joined.values()), tuple(joined)
+    if has_overlap(lens, steps) and repeat_a_place(lens, steps, _STEPS) is not False:
+        return None
+    for along in lengths.values():
+        share = _most_sums(along)
+        most = None if most is None or share is None else most * share
+    return prod(lens), most
+
+
+def _most_sums(lengths: list[int]) -> Optional[int]:
+    """How many lists of coordinates below some lengths have one sum at most, or `None` for many long axes."""
+    if len(lengths) < 3:
+        return min(lengths) if len(lengths) == 2 else 1
+    if sum(lengths) * len(lengths) > _STEPS:
+        return None
+    counts = [1]
+    for length in lengths:
+        padded = [0] * (length - 1) + counts + [0] * (length - 1)
+        counts = [sum(padded[at : at + length]) for at in range(len(counts) + length - 1)]
+    return max(counts)
 
 
 def _in_threes(axes: range) -> Iterator[list[int]]:
