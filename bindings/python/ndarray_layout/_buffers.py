@@ -47,6 +47,12 @@ def is_numpys(value: Any) -> bool:
     return numpy is not None and isinstance(value, (getattr(numpy, "ndarray", ()), getattr(numpy, "generic", ())))
 
 
+def is_plain_array(value: Any) -> bool:
+    """Whether a value is an array of NumPy's own class, and of no class that is made of it."""
+    numpy = sys.modules.get("numpy")
+    return numpy is not None and type(value) is getattr(numpy, "ndarray", None)
+
+
 def is_scalar(value: Any) -> bool:
     """Whether a value is a scalar of NumPy: a copy of an element, which says the address of one more copy."""
     numpy = sys.modules.get("numpy")

@@ -6,6 +6,7 @@ from typing import Any, NamedTuple, Optional, overload
 
 from . import _library as library
 from ._accepted import layout_start
+from ._buffers import is_plain_array
 from ._errors import ShapeError
 from ._numbers import LIMIT, Lens, not_64_bits, one_answer, said, signed, unsigned, work_limit, written
 from ._sharing import MAX_WORK, Part, share_byte
@@ -143,6 +144,12 @@ def _part_of(a: Any) -> _Held:
     """An array as a part of the memory, in bytes, or a layout as one of its buffer."""
     if isinstance(a, Fields):
         return _Held(Part(a.start, a.shape, a.strides), 1, None)
+    if is_plain_array(a):  # (whose numbers are NumPy's own, and have 64 bits)
+        if 0 in a.shape or a.itemsize == 0:
+            return _NO_ITEMS
+        address = a.__array_interface__["data"][0]
+        if address != 0:
+            return _Held(Part(address, a.shape, a.strides), a.itemsize, Memory(address, a))
     source = read_in_memory(a)
     unsigned(source.shape), signed(source.strides)  # (which refuse what has no 64 bits)
     if not 0 <= source.itemsize < 2**64:
