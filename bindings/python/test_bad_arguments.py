@@ -228,12 +228,7 @@ CALLS = {
         for call in (nd.first_conflict, nd.waves)
     },
     **{
-        call: {
-            "shape": ((2, 3), "list"),
-            "region": (0, "key"),
-            "chunks": ((1, 1), "chunks"),
-            "dims": (("x", "y"), "dims"),
-        }
+        call: {"shape": ((2, 3), "list"), "region": (0, "key"), "chunks": ((1, 1), "chunks"), "dims": (("x", "y"), "dims")}
         for call in (nd.chunks_of, nd.aligned)
     },
     Layout: START | SHAPED | {"itemsize": (4, "number"), "length": (6, "number"), "writable": (False, "flag or None")},
@@ -411,11 +406,8 @@ class LongNumbers(unittest.TestCase):
     def test_errors(self):
         text = "axis 0: index more than 2**16609 is past 64 bits"
         self.assert_far(text, {"index": FAR}, nd.place, 0, [10], [1], [FAR])
-        self.assert_far(
-            "axis 0: index less than -2**16609 is negative, and isn't counted from the end here",
-            {"index": -FAR},
-            *(nd.place, 0, [10], [1], [-FAR]),
-        )
+        text = "axis 0: index less than -2**16609 is negative, and isn't counted from the end here"
+        self.assert_far(text, {"index": -FAR}, nd.place, 0, [10], [1], [-FAR])
         text = "axis 1: step more than 2**16609 is past 64 bits"
         self.assert_far(text, {"step": FAR}, nd.picked, (2, 3), [None, 0, Slice(0, None, FAR)])
         text = "axis 0: index more than 2**16609 is out of bounds of length 2"

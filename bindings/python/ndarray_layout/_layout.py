@@ -38,6 +38,7 @@ from ._layouts import (
     places,
     rows,
 )
+from ._modes import accepted_as, checked, of_byte_strides, order_without, start_of, without_gaps
 from ._numbers import (
     INTEGERS,
     LIMIT,
@@ -46,7 +47,6 @@ from ._numbers import (
     flag_or_none,
     integer,
     integers,
-    order_number,
     work_limit,
     written,
 )
@@ -113,10 +113,10 @@ class Layout(Views):
         itemsize: SupportsIndex = 1,
         format: Optional[str] = None,
     ) -> None:
-        may_write = _accepted_as(start, shape, strides, itemsize, length, writable)
+        may_write = accepted_as(start, shape, strides, itemsize, length, writable)
         if may_write is None:
             shape, strides = integers(shape, "length"), integers(strides, "stride")
-            may_write = _checked(start, shape, strides, itemsize, length, flag_or_none(writable, "writable"))
+            may_write = checked(start, shape, strides, itemsize, length, flag_or_none(writable, "writable"))
             start, length, itemsize = as_int(start), as_int(length), as_int(itemsize)
         set_start(self, start)
         set_shape(self, shape)
@@ -162,20 +162,20 @@ class Layout(Views):
         5
         """
         length, itemsize, kind = count_items(buffer)
-        lens, number = integers(shape, "length"), _order_without(strides, order)
+        lens, number = integers(shape, "length"), order_without(strides, order)
         writable = flag_or_none(writable, "writable")
         if strides is None and start is None:
             may_write = writable is not False  # (without gaps no two indices have one place)
-            steps, first = _without_gaps(lens, number, itemsize, length, may_write)
+            steps, first = without_gaps(lens, number, itemsize, length, may_write)
             return made(first, lens, steps, length, may_write, itemsize, kind, cls)  # type: ignore[no-any-return]
         steps = (default_strides, fortran_strides)[number](lens) if strides is None else integers(strides, "stride")
         try:
             if start is None:
-                first, may_write = _start_of(lens, steps, itemsize, length, writable)
+                first, may_write = start_of(lens, steps, itemsize, length, writable)
             else:
-                may_write, first = _checked(start, lens, steps, itemsize, length, writable), as_int(start)
+                may_write, first = checked(start, lens, steps, itemsize, length, writable), as_int(start)
         except OutOfBoundsError as error:
-            raise _of_byte_strides(error, steps, itemsize) from None
+            raise of_byte_strides(error, steps, itemsize) from None
         return made(first, lens, steps, length, may_write, itemsize, kind, cls)  # type: ignore[no-any-return]
 
     @classmethod
@@ -198,13 +198,13 @@ class Layout(Views):
         shape, byte_strides, itemsize, kind, _ = source
         strides = default_strides(shape) if 0 in shape else element_strides(byte_strides, itemsize)
         if base is None:
-            start, may_write = _start_of(shape, strides, itemsize, LIMIT + 1, writable)
+            start, may_write = start_of(shape, strides, itemsize, LIMIT + 1, writable)
             spans = [(length - 1) * abs(stride) for length, stride in zip(shape, strides)]
             return made(start, shape, strides, 0 if 0 in shape else sum(spans) + 1, may_write, itemsize, kind, cls)  # type: ignore[no-any-return]
         items = items_of_size(base, itemsize)
         length = items.nbytes // itemsize
         start = 0 if 0 in shape else items_before(source.memory().address, items)
-        may_write = _checked(start, shape, strides, itemsize, length, writable)
+        may_write = checked(start, shape, strides, itemsize, length, writable)
         return made(start, shape, strides, length, may_write, itemsize, kind, cls)  # type: ignore[no-any-return]
 
     # ---- What it is
@@ -439,85 +439,3 @@ def _accepted(
     """`Layout`, or a class that is made of it, as `pickle` and `copy` call it."""
     new = Layout(start, shape, strides, length=length, writable=writable, itemsize=itemsize, format=format)
     return new if kind is Layout else of_class(kind, new)  # type: ignore[no-any-return]
-
-
-def _of_byte_strides(error: OutOfBoundsError, strides: Lens, itemsize: int) -> OutOfBoundsError:
-    """The error of a layout that leaves its buffer, which says so where its strides may count bytes."""
-    if itemsize == 1 or any(stride % itemsize for stride in strides):
-        return error
-    text = f"{error.text}; strides count elements here: `element_strides(strides, {itemsize})` makes them of bytes"
-    return type(error)(error.kind, text, error.axis, error.numbers)
-
-
-_MODES = {None: (True, False), True: (True,), False: (False,)}
-"""As what a layout may be accepted: where nothing is said, as one that may be written, else as one to be read."""
-
-
-def _accepted_as(
-    start: Any, shape: Any, strides: Any, itemsize: Any, length: Any, writable: Any
-) -> Optional[bool]:
-    """Whether a layout may be written, of Python's own integers, in tuples, that are one which is accepted, or `None`.
-
-    Then `_checked` says why not.
-    """
-    if type(shape) is not tuple or type(strides) is not tuple or not (writable is None or type(writable) is bool):
-        return None
-    numbers = start, *shape, *strides, itemsize, length
-    if not INTEGERS.issuperset(map(type, numbers)):
-        return None
-    try:
-        for mode in _MODES[writable]:
-            if frames.check_layout[mode]((len(shape), len(strides)), numbers) is not None:
-                return mode
-    except StructError:  # (a number without 64 bits)
-        pass
-    return None
-
-
-def _checked(
-    start: SupportsIndex,
-    shape: Lens,
-    strides: Lens,
-    itemsize: SupportsIndex,
-    length: SupportsIndex,
-    writable: Optional[bool],
-) -> bool:
-    """Whether a layout may be written that is accepted, or the error of one that isn't."""
-    check_layout(start, shape, strides, elem_size=itemsize, length=length, writable=writable is True)
-    return not has_overlap(shape, strides) if writable is None else writable
-
-
-def _order_without(strides: Optional[Numbers], order: Optional[str]) -> int:
-    """How the exports write an order, which is given where strides aren't."""
-    if strides is not None and order is not None:
-        text = f"the order {written(order)} beside strides, which say the order themselves"
-        raise ShapeError("BadArgument", text)
-    return 0 if order is None else order_number(order)
-
-
-def _start_of(
-    shape: Lens, strides: Lens, itemsize: int, length: int, writable: Optional[bool]
-) -> tuple[int, bool]:
-    """`layout_start` of Python's own integers, and whether the layout may be written."""
-    for mode in _MODES[writable]:
-        try:
-            found = frames.layout_start[mode]((len(shape), len(strides)), (*shape, *strides, itemsize, length))
-        except StructError:
-            found = None
-        if found is not None:
-            return found[0], mode
-    start = layout_start(shape, strides, elem_size=itemsize, length=length, writable=writable is True)
-    return start, not has_overlap(shape, strides) if writable is None else writable
-
-
-def _without_gaps(shape: Lens, order: int, itemsize: int, length: int, writable: bool) -> tuple[Lens, int]:
-    """The strides of a shape in an order, and `layout_start` of them, of Python's own integers."""
-    axes = len(shape)
-    try:
-        found = frames.without_gaps[order][writable]((axes, axes), (*shape, *shape, itemsize, length))
-    except StructError:
-        found = None
-    if found is not None:
-        return found[:axes], found[-1]
-    strides = (default_strides, fortran_strides)[order](shape)
-    return strides, layout_start(shape, strides, elem_size=itemsize, length=length, writable=writable)
