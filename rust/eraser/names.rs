@@ -217,6 +217,8 @@ pub const FOLDED: &[(&str, &str, &str)] = &[
     ("Iterator", "Iter", "fold_iter"),
     ("Iterator", "Places", "fold_places"),
     ("DoubleEndedIterator", "Places", "skip_places_back"),
+    ("Iterator", "IntoPlaces", "fold_places"),
+    ("DoubleEndedIterator", "IntoPlaces", "skip_places_back"),
 ];
 
 /// Structs whose `Debug` files of `rust/src` have, for what is derived prints strides without their signs.

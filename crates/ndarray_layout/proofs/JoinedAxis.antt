@@ -1,6 +1,6 @@
 -- Two axes that follow one another as one: its places are those of both, and it is a view where they are.
 use Rattle.std.proofs.Common.{◌≡◌, ℕ, zero, suc, ◌+◌, ◌*◌, ◌-◌, ◌%◌, ◌<◌, ◌≤◌, ℤ, pos, negsuc, ◌+ℤ◌, ◌-ℤ◌, ◌*ℤ◌, List, [], ◌∷◌, ◌++◌}
-use Rattle.std.proofs.Common.{append_assoc, cond, eqb, length, refl, sym, ap, ◌∙◌, arith}
+use Rattle.std.proofs.Common.{append_assoc, cond, eqb, length, refl, sym, ap, subst, ◌∙◌, arith}
 use Rattle.std.proofs.lemmas.Grind.{flat_map-append}
 use Rattle.std.proofs.lemmas.Int.{ints}
 use Rattle.std.proofs.Math.Nat.{mul-le-mul_right}
@@ -18,10 +18,11 @@ use Rattle.nd_shape.proofs.laws.Merge.{steps_on_from_fit}
 use Rattle.ndarray_layout.specs.declared.strided.rows.Fastest.{Fastest}
 use Rattle.ndarray_layout.specs.RowsLeft.{axis_view}
 use Rattle.ndarray_layout.specs.View.{IsView, view_of, view_places}
-use Rattle.ndarray_layout.specs.private.Fastest.{EndsIn, HasPlaces, NoneGoesOn}
+use Rattle.ndarray_layout.specs.private.Fastest.{EndsIn, HasPlaces, IsSlowest, NoneGoesOn}
 use Rattle.ndarray_layout.proofs.ByRows.{row_from, rows_from}
 use Rattle.ndarray_layout.proofs.Fastest.{EndsIn-map, as_read-ends, fastest_item-ends, len_le_nonzero_size, length-others, places-others}
 use Rattle.ndarray_layout.proofs.RowsLeft.{IsView-slower, ends, rows_of_one, steps}
+use Rattle.ndarray_layout.proofs.SlowestAxes.{IsSlowest-all, IsSlowest-next}
 
 -- ---- the places of two axes
 -- one place more comes at the end of a row
@@ -175,6 +176,8 @@ module _ {order : Order} {shape lens : List ℕ} {len : ℕ} (e : EndsIn order s
 -- ---- an axis of length 1 more
 pub HasPlaces-one : (order : Order) (axis : Fastest) → axis.len ≡ 1 → HasPlaces order axis.lens.now axis.strides.now axis
 HasPlaces-one order axis one = record {
+  slower_lens = IsSlowest-all order axis.lens.now;
+  slower_strides = IsSlowest-all order axis.strides.now;
   is_view = is_view;
   places = λ start v.
       let places = view_places order (view_of start axis.lens.now axis.strides.now) in
@@ -330,7 +333,9 @@ module _ {order : Order} {start : ℕ} {axis next joined : Fastest} (f : Joins o
 -- so the places of a layout stay
 pub HasPlaces-joined : {order : Order} {lens strides : List ℕ} {axis next joined : Fastest} → HasPlaces order lens strides axis
     → Joins order axis next joined → HasPlaces order lens strides joined
-HasPlaces-joined has f = record {
+HasPlaces-joined {order} {lens} {strides} has f = record {
+  slower_lens = subst (IsSlowest order lens) (sym f.slower_lens) (IsSlowest-next has.slower_lens f.follows.lens);
+  slower_strides = subst (IsSlowest order strides) (sym f.slower_strides) (IsSlowest-next has.slower_strides f.follows.strides);
   is_view = λ start v. IsView-joined f (has.is_view start v);
   places = λ start v. places-joined f (has.is_view start v) ∙ has.places start v;
 }

@@ -344,7 +344,7 @@ length-rows_left order start column row given left within =
     ∙ length-take-le left (drop given places) (omega (arith, length-drop given places, length-view_places order view))
 
 -- rows of one length
-places_of_rows : (row : Row) (starts : List ℤ) → length (rows_places (map (moved_to row) starts)) ≡ length starts * row.len
+pub places_of_rows : (row : Row) (starts : List ℤ) → length (rows_places (map (moved_to row) starts)) ≡ length starts * row.len
 places_of_rows row [] = omega arith
 places_of_rows row (start ∷ starts) =
     omega (

@@ -21,6 +21,7 @@ pub mod TurnedAxes
 pub mod Merged
 pub mod NextRow
 pub mod NthRow
+pub mod NumberedRows
 pub mod OneAxis
 pub mod Passed
 pub mod PickedSize
@@ -29,6 +30,7 @@ pub mod RowsLeft
 pub mod RowSteps
 pub mod Slices
 pub mod SliceSteps
+pub mod SlowestAxes
 pub mod TakenSteps
 pub mod laws
 pub mod matching

@@ -20,6 +20,7 @@ use Rattle.ndarray_layout.specs.private.Fastest.{EndsIn, HasPlaces, HasRows}
 use Rattle.ndarray_layout.proofs.ByRows.{rows_from}
 use Rattle.ndarray_layout.proofs.Fastest.{EndsIn-map, IsView-others, fastest_item-ends}
 use Rattle.ndarray_layout.proofs.Fastest.{size-others, slower_items-ends}
+use Rattle.ndarray_layout.proofs.SlowestAxes.{IsSlowest-all, IsSlowest-next}
 use Rattle.ndarray_layout.proofs.laws.Rows.{no_step}
 use Rattle.ndarray_layout.proofs.laws.View.{length-view_places}
 
@@ -33,7 +34,9 @@ axis_view-ends {order} {lens} {strides} axis start e g =
 
 pub HasRows-ends : {order : Order} {lens strides : List ℕ} (axis : Fastest) → EndsIn order lens axis.lens.now axis.len
     → EndsIn order strides axis.strides.now axis.stride → HasRows order lens strides axis
-HasRows-ends {order} axis e g = record {
+HasRows-ends {order} {lens} {strides} axis e g = record {
+  slower_lens = IsSlowest-next (IsSlowest-all order lens) e;
+  slower_strides = IsSlowest-next (IsSlowest-all order strides) g;
   is_view = λ start v. subst IsView (axis_view-ends axis start e g) v;
   rows = λ start v. ap (view_rows order) (sym (axis_view-ends axis start e g));
 }
@@ -59,16 +62,19 @@ point_rows ColumnMajor start = refl
 
 module _ (order : Order) (lens strides : List ℕ) (axis : Fastest) (point : IsPoint axis) (none : lens ≡ [])
     (counts : length lens ≡ length strides) where
+  no_strides : strides ≡ []
+  no_strides = nil_from_length strides (omega (arith, counts, ap length none))
+
   nothing : (start : ℕ) → view_of start lens strides ≡ view_of start [] []
-  nothing start =
-      ap (λ xs. view_of start xs strides) none
-      ∙ ap (view_of start []) (nil_from_length strides (omega (arith, counts, ap length none)))
+  nothing start = ap (λ xs. view_of start xs strides) none ∙ ap (view_of start []) no_strides
 
   point_here : (start : ℕ) → IsView (view_of start lens strides) → IsView (axis_view order start axis)
   point_here start v = subst IsView (sym (point_view order start axis point)) (point_is_view start (omega (arith, v.high)))
 
   pub HasRows-point : HasRows order lens strides axis
   HasRows-point = record {
+    slower_lens = rw (none, point.2) (IsSlowest-all order []);
+    slower_strides = rw (no_strides, point.3) (IsSlowest-all order []);
     is_view = point_here;
     rows = λ start v. ap (view_rows order) (point_view order start axis point) ∙ point_rows order start
         ∙ sym (ap (view_rows order) (nothing start));

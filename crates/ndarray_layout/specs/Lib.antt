@@ -15,6 +15,7 @@ pub mod JoinedInAll
 pub mod KeepsPlaces
 pub mod MergedView
 pub mod Nearest
+pub mod NumberedRows
 pub mod PermutedView
 pub mod PlacesLeft
 pub mod ReshapedView

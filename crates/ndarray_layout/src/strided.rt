@@ -11,6 +11,7 @@ mod indexing;
 mod inserting;
 mod intersecting;
 mod into_places;
+mod into_rows;
 mod inverting;
 mod iter_places;
 mod joining;
@@ -31,6 +32,7 @@ mod stretch;
 mod windows;
 
 pub use into_places::IntoPlaces;
+pub use into_rows::StridedRows;
 pub use iter_places::Places;
 pub use joining::joined_in_all;
 use nd_base::Lengths;

@@ -41,7 +41,7 @@ macro_rules! fold_items {
 }
 pub(crate) use fold_items;
 
-/// Of `Places`.
+/// Of `Places` and `IntoPlaces`.
 macro_rules! fold_places {
     () => {
         /// What as many calls of `next` return last; rows are left out at once. Not proved.
@@ -67,7 +67,7 @@ macro_rules! fold_places {
 }
 pub(crate) use fold_places;
 
-/// Of `Places`, from the back.
+/// Of `Places` and `IntoPlaces`, from the back.
 macro_rules! skip_places_back {
     () => {
         /// What as many calls of `next_back` return last; rows are left out at once. Not proved.

@@ -25,6 +25,7 @@ mod intersecting;
 mod alike_rows;
 mod blocks;
 mod into_places;
+mod into_rows;
 mod joining;
 mod moving;
 mod nearest;
@@ -34,6 +35,7 @@ mod places_of_rows;
 
 use crate::nd_base::Lengths;
 pub use into_places::IntoPlaces;
+pub use into_rows::StridedRows;
 pub use iter_places::Places;
 pub use joining::joined_in_all;
 pub use rows::{Row, Rows};

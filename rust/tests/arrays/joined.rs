@@ -3,7 +3,7 @@
 use crate::layouts::{Layout, rounds};
 use crate::numbers::Numbers;
 use ndarray_layout::CanIndexCheckMode::ReadOnly;
-use ndarray_layout::{Order, Row, Rows, joined_in_all, signed, unsigned};
+use ndarray_layout::{Lengths, Order, Row, Rows, StridedRows, joined_in_all, signed, unsigned};
 
 /// A layout in which axes often go on where others end.
 fn layout(numbers: &mut Numbers) -> Layout {
@@ -121,8 +121,31 @@ fn axes_joined_in_all_layouts_are_as_long_as_all_lie_evenly() {
     });
 }
 
+/// What the iterators over rows have beside std's traits.
+trait Ends: DoubleEndedIterator<Item = Row> + ExactSizeIterator {
+    fn advance(&mut self, count: usize);
+    fn advance_back(&mut self, count: usize);
+}
+
+/// Gives an iterator the calls that it has of its own.
+macro_rules! ends {
+    ($($head:tt)*) => {
+        $($head)* {
+            fn advance(&mut self, count: usize) {
+                Self::advance(self, count);
+            }
+
+            fn advance_back(&mut self, count: usize) {
+                Self::advance_back(self, count);
+            }
+        }
+    };
+}
+ends!(impl Ends for Rows<'_>);
+ends!(impl<D: Lengths> Ends for StridedRows<D>);
+
 /// Whether an iterator gives a list, taken from both ends in any order, with items left out at either.
-fn gives_from_both_ends(numbers: &mut Numbers, mut rows: Rows<'_>, due: &[Row]) -> bool {
+fn gives_from_both_ends(numbers: &mut Numbers, mut rows: impl Ends, due: &[Row]) -> bool {
     let mut left = due.iter();
     let same = |row: Option<Row>, due: Option<&Row>| match (row, due) {
         (Some(row), Some(due)) => (row.start, row.stride, row.len) == (due.start, due.stride, due.len),
@@ -154,6 +177,9 @@ fn rows_come_from_both_ends() {
         // (forwards they are those of the list of places)
         let due: Vec<Row> = rows().collect();
         assert!(gives_from_both_ends(numbers, rows(), &due), "{layout:?} {order:?}");
+        let owned = layout.view(ReadOnly).unwrap();
+        let owned = if layout.count % 2 == 0 { owned.into_rows(order) } else { owned.into_joined_rows(order) };
+        assert!(gives_from_both_ends(numbers, owned, &due), "{layout:?} {order:?}");
         assert!(rows().rev().map(|row| row.start).eq(due.iter().rev().map(|row| row.start)), "{layout:?} {order:?}");
     });
 }

@@ -3,7 +3,7 @@
 use crate::layouts::{Layout, rounds};
 use crate::numbers::Numbers;
 use ndarray_layout::CanIndexCheckMode::ReadOnly;
-use ndarray_layout::{Order, Places, Row};
+use ndarray_layout::{IntoPlaces, Lengths, Order, Places, Row};
 use std::collections::VecDeque;
 
 /// What the iterators over places have beside std's traits.
@@ -37,6 +37,7 @@ macro_rules! ends {
     };
 }
 ends!(impl Ends for Places<'_>);
+ends!(impl<D: Lengths> Ends for IntoPlaces<D>);
 
 /// A layout of 0 to 5 axes: with axes that go on where others end, of lengths 0 and 1, backwards, or of stride 0.
 fn layout(numbers: &mut Numbers) -> Layout {
@@ -151,20 +152,29 @@ fn places_come_from_both_ends() {
         let (layout, order) = (layout(numbers), order(numbers));
         let view = layout.view(ReadOnly).unwrap();
         let due = places_in(order, &layout);
-        assert!(gives_from_both_ends(numbers, view.iter_places(order), due), "{layout:?} {order:?}");
+        assert!(gives_from_both_ends(numbers, view.iter_places(order), due.clone()), "{layout:?} {order:?}");
+        assert!(gives_from_both_ends(numbers, view.into_places(order), due), "{layout:?} {order:?}");
     });
 }
 
+/// The rows that come one after another, as a start, a stride and a length each.
+fn rows_by(mut next: impl FnMut() -> Option<Row>) -> Vec<(usize, isize, usize)> {
+    std::iter::from_fn(|| next()).map(|row| (row.start, row.stride, row.len)).collect()
+}
+
 #[test]
-fn rows_of_places_from_the_back_are_those_from_the_front() {
-    rounds(5_000, 17, |numbers| {
+fn rows_of_places_are_joined_from_either_end() {
+    rounds(10_000, 17, |numbers| {
         let (layout, order) = (layout(numbers), order(numbers));
         let view = layout.view(ReadOnly).unwrap();
+        let mut joined = view.joined_rows(order);
+        let due = rows_by(|| joined.next());
+        let backwards: Vec<_> = due.iter().rev().copied().collect();
         let (mut places, mut others) = (view.iter_places(order), view.iter_places(order));
-        let numbers = |row: Row| (row.start, row.stride, row.len);
-        let rows: Vec<_> = std::iter::from_fn(|| places.next_row()).map(numbers).collect();
-        let mut back: Vec<_> = std::iter::from_fn(|| others.next_row_back()).map(numbers).collect();
-        back.reverse();
-        assert!(rows == back && rows.len() == view.joined_rows(order).len(), "{layout:?} {order:?}");
+        let lent = (rows_by(|| places.next_row()), rows_by(|| others.next_row_back()));
+        let into_places = || layout.view(ReadOnly).unwrap().into_places(order);
+        let (mut places, mut others) = (into_places(), into_places());
+        let owned = (rows_by(|| places.next_row()), rows_by(|| others.next_row_back()));
+        assert!(lent == owned && lent == (due, backwards), "{layout:?} {order:?}");
     });
 }

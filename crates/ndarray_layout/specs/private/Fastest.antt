@@ -1,6 +1,7 @@
 -- Words of private contracts alone, of the calls below `Strided::rows`: the axis of a layout that moves fastest.
-use Rattle.std.specs.Prelude.{◌≡◌, ℕ, ◌<◌, pos, ◌*ℤ◌, List, [], ◌∷◌, nat_eq, slice_index, refl}
+use Rattle.std.specs.Prelude.{◌≡◌, ℕ, ◌<◌, ◌≤◌, pos, ◌*ℤ◌, List, [], ◌∷◌, length, nat_eq, slice_index, refl}
 use Rattle.std.proofs.Common.{ap, eq-eqb, sym, ◌∙◌}
+use Rattle.std.proofs.Math.Dec.{lit≤}
 use Rattle.std.proofs.Math.Nat.{lt_irrefl}
 use Rattle.std.proofs.lemmas.Bool.{both_ways}
 use Rattle.nd_base.specs.declared.order.Order.{Order}
@@ -10,6 +11,7 @@ use Rattle.nd_base.specs.Size.{size}
 use Rattle.nd_shape.specs.Merge.{MergeFits}
 use Rattle.nd_shape.proofs.laws.Merge.{steps_on}
 use Rattle.ndarray_layout.specs.declared.strided.rows.Fastest.{Fastest}
+use Rattle.ndarray_layout.specs.NumberedRows.{slowest}
 use Rattle.ndarray_layout.specs.Rows.{view_rows}
 use Rattle.ndarray_layout.specs.RowsLeft.{axis_view, with_item}
 use Rattle.ndarray_layout.specs.View.{IsView, view_of, view_places}
@@ -18,14 +20,23 @@ use Rattle.ndarray_layout.specs.View.{IsView, view_of, view_places}
 pub record EndsIn {A : Type 0} (order : Order) (items others : List A) (item : A) : Type 0 where
   pub is : items ≡ with_item order others item
 
+-- these items are those of the axes that move slowest
+pub record IsSlowest {A : Type 0} (order : Order) (items others : List A) : Type 0 where
+  pub few : length others ≤ length items
+  pub is : slowest order (length others) items ≡ others
+
 -- wherever it starts, this view is one where that of a layout is, and has its rows
 pub record HasRows (order : Order) (lens strides : List ℕ) (axis : Fastest) : Type 0 where
+  pub slower_lens : IsSlowest order lens axis.lens.now
+  pub slower_strides : IsSlowest order strides axis.strides.now
   pub is_view : (start : ℕ) → IsView (view_of start lens strides) → IsView (axis_view order start axis)
   pub rows : (start : ℕ) → IsView (view_of start lens strides)
       → view_rows order (axis_view order start axis) ≡ view_rows order (view_of start lens strides)
 
 -- wherever it starts, this view is one where that of a layout is, and has its places
 pub record HasPlaces (order : Order) (lens strides : List ℕ) (axis : Fastest) : Type 0 where
+  pub slower_lens : IsSlowest order lens axis.lens.now
+  pub slower_strides : IsSlowest order strides axis.strides.now
   pub is_view : (start : ℕ) → IsView (view_of start lens strides) → IsView (axis_view order start axis)
   pub places : (start : ℕ) → IsView (view_of start lens strides)
       → view_places order (axis_view order start axis) ≡ view_places order (view_of start lens strides)
@@ -61,6 +72,12 @@ first_by_columns = record { is = refl }
 
 not_the_first_by_rows : EndsIn {A = ℕ} RowMajor (2 ∷ 3 ∷ []) (3 ∷ []) 2 → ⊥
 not_the_first_by_rows ends = both_ways (nat_eq 2 3) refl (eq-eqb 2 3 (ap (λ items. slice_index items 0) ends.is))
+
+first_two_by_rows : IsSlowest {A = ℕ} RowMajor (2 ∷ 3 ∷ 4 ∷ []) (2 ∷ 3 ∷ [])
+first_two_by_rows = record { few = lit≤ tt; is = refl }
+
+not_the_last_by_rows : IsSlowest {A = ℕ} RowMajor (2 ∷ 3 ∷ []) (3 ∷ []) → ⊥
+not_the_last_by_rows slowest = both_ways (nat_eq 2 3) refl (eq-eqb 2 3 (ap (λ items. slice_index items 0) slowest.is))
 
 pixels_go_on : (axis : Fastest) → axis.lens.now ≡ 2 ∷ [] → axis.strides.now ≡ 3 ∷ [] → axis.len ≡ 3 → axis.stride ≡ 1
     → NoneGoesOn RowMajor axis → ⊥

@@ -17,7 +17,12 @@ use nd_base::{Ix1, Lengths, Order, new_ix1, signed, stride_offset, unsigned};
 use nd_dim::product;
 
 /// How far the index at a flat index lies from the first one, in elements.
-fn offset_of_flat(order: Order, lens: &[usize], strides: &[usize], flat_index: usize) -> isize
+pub(super) fn offset_of_flat(
+    order: Order,
+    lens: &[usize],
+    strides: &[usize],
+    flat_index: usize,
+) -> isize
     requires valid { IsValidLayout lens.now (all_signed strides.now) }
     requires index { flat_index < size lens.now }
     ensures { result ≡ offset_of (all_signed strides.now) (index_of_flat_in order lens.now flat_index) }

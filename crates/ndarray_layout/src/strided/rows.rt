@@ -85,7 +85,7 @@ pub(super) fn fastest_axis<'a>(order: Order, lens: &'a [usize], strides: &'a [us
 
 /// The axis that moves fastest, joined with each slower one that goes on where it ends: the places of the layout are those
 /// along it, from each place of the axes that are left. An axis of length 1 joins any.
-fn joined_axis<'a>(order: Order, lens: &'a [usize], strides: &'a [usize]) -> Fastest<'a>
+pub(super) fn joined_axis<'a>(order: Order, lens: &'a [usize], strides: &'a [usize]) -> Fastest<'a>
     requires { IsValidLayout lens.now (all_signed strides.now) }
     ensures places { HasPlaces order lens.now strides.now result }
     ensures joined { NoneGoesOn order result }

@@ -19,7 +19,7 @@ use crate::ndarray_layout::strided::rows::{Fastest, Row, fastest_axis, split_fas
 /// [How to read it](crate::contracts)
 /// </details>
 #[inline]
-fn offset_of_flat(order: Order, lens: &[usize], strides: &[usize], flat_index: usize) -> isize {
+pub(super) fn offset_of_flat(order: Order, lens: &[usize], strides: &[usize], flat_index: usize) -> isize {
     let (mut lens, mut strides) = (lens, strides);
     let (mut offset, mut left) = (0isize, flat_index);
     'axes: while let Some(axis) = split_fastest(order, lens, strides) {

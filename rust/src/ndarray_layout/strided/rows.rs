@@ -85,7 +85,7 @@ pub(super) fn fastest_axis<'a>(order: Order, lens: &'a [usize], strides: &'a [us
 /// [How to read it](crate::contracts)
 /// </details>
 #[inline]
-fn joined_axis<'a>(order: Order, lens: &'a [usize], strides: &'a [usize]) -> Fastest<'a> {
+pub(super) fn joined_axis<'a>(order: Order, lens: &'a [usize], strides: &'a [usize]) -> Fastest<'a> {
     let mut axis = Fastest { len: 1, stride: 0, lens, strides };
     'axes: while let Some(next) = split_fastest(order, axis.lens, axis.strides) {
         let mut stride = next.stride;

@@ -1,0 +1,96 @@
+-- At first all rows along the joined axis are left.
+use Rattle.std.proofs.Common.{rules, ◌≡◌, ◌<◌, ◌≤◌, FitsSigned, List, length, of_z, to_z, take, sym, ap, subst, ◌∙◌}
+use Rattle.std.specs.List.{All}
+use Rattle.std.specs.Int.{w64}
+use Rattle.std.specs.Iterator.{YieldsFirst}
+use Rattle.std.proofs.iter.runs.Sources.{as_is, from_front}
+use Rattle.std.proofs.lemmas.Int.{to_z-of_z}
+use Rattle.nd_base.proofs.laws.Definitions.{signed}
+use Rattle.ndarray_layout.specs.declared.strided.rows.Row.{Row}
+use Rattle.ndarray_layout.specs.Rows.{rows_places}
+use Rattle.ndarray_layout.specs.RowsLeft.{axis_view}
+use Rattle.ndarray_layout.specs.View.{IsView, view_of, view_places}
+use Rattle.ndarray_layout.proofs.LongestRow.{as_long, longest}
+use Rattle.ndarray_layout.proofs.NumberedRows.{left_of_axis, rows_of_axis}
+use Rattle.ndarray_layout.proofs.RowsLeft.{IsView-slower}
+use Rattle.ndarray_layout.proofs.laws.Rows.{rows_places-view_rows, some_in_each_row}
+use Rattle.ndarray_layout.proofs.laws.View.{size_fits}
+use Rattle.ndarray_layout.proofs.strided.Strided.into_joined_rows.Goals as goal
+
+pub count_along-end-requires : goal.count_along-end-requires
+count_along-end-requires g c =
+    let start = c.self.inside.start in
+    let whole : IsView (view_of start c.slice.result.now c.slice-2.result.now) =
+    rw (c.slice.ensures.list, c.slice-2.ensures.list) c.self.invariant in
+    size_fits (IsView-slower c.args.order start c.joined_axis-axis.result (c.joined_axis-axis.ensures.places.is_view start whole))
+
+pub invariant_of-result : goal.invariant_of-result
+invariant_of-result g c =
+    let start = c.self.inside.start in
+    let axis = c.joined_axis-axis.result in
+    let here : view_of start c.slice.result.now c.slice-2.result.now ≡ c.args.self =
+    rw (c.slice.ensures.list, c.slice-2.ensures.list) c.self.view_is in
+    let whole : IsView (view_of start c.slice.result.now c.slice-2.result.now) =
+    rw (c.slice.ensures.list, c.slice-2.ensures.list) c.self.invariant in
+    let has = c.joined_axis-axis.ensures.places in
+    let v = has.is_view start whole in
+    left_of_axis c.args.order start _ _ axis here whole v has.slower_lens has.slower_strides c.count_along-end.ensures
+
+pub returns-clause-places : goal.returns-clause-places
+returns-clause-places g c =
+    let start = c.self.inside.start in
+    let axis = c.joined_axis-axis.result in
+    let here : view_of start c.slice.result.now c.slice-2.result.now ≡ c.args.self =
+    rw (c.slice.ensures.list, c.slice-2.ensures.list) c.self.view_is in
+    let whole : IsView (view_of start c.slice.result.now c.slice-2.result.now) =
+    rw (c.slice.ensures.list, c.slice-2.ensures.list) c.self.invariant in
+    let has = c.joined_axis-axis.ensures.places in
+    let v = has.is_view start whole in
+    let f : FitsSigned w64 c.signed-stride.result = search rules in
+    let steps : to_z w64 (of_z w64 c.signed-stride.result) ≡ signed axis.stride =
+    to_z-of_z w64 c.signed-stride.result f ∙ c.signed-stride.ensures.same_bits in
+    let all = rows_of_axis c.args.order start _ _ axis here whole v has.slower_lens has.slower_strides c.count_along-end.ensures steps in
+    ap rows_places all
+    ∙ rows_places-view_rows c.args.order v
+    ∙ has.places start whole
+    ∙ ap (view_places c.args.order) here
+
+pub returns-clause-some : goal.returns-clause-some
+returns-clause-some g c =
+    let start = c.self.inside.start in
+    let axis = c.joined_axis-axis.result in
+    let here : view_of start c.slice.result.now c.slice-2.result.now ≡ c.args.self =
+    rw (c.slice.ensures.list, c.slice-2.ensures.list) c.self.view_is in
+    let whole : IsView (view_of start c.slice.result.now c.slice-2.result.now) =
+    rw (c.slice.ensures.list, c.slice-2.ensures.list) c.self.invariant in
+    let has = c.joined_axis-axis.ensures.places in
+    let v = has.is_view start whole in
+    let f : FitsSigned w64 c.signed-stride.result = search rules in
+    let steps : to_z w64 (of_z w64 c.signed-stride.result) ≡ signed axis.stride =
+    to_z-of_z w64 c.signed-stride.result f ∙ c.signed-stride.ensures.same_bits in
+    let all = rows_of_axis c.args.order start _ _ axis here whole v has.slower_lens has.slower_strides c.count_along-end.ensures steps in
+    subst (All (λ row. 0 < row.len)) (sym all) (some_in_each_row c.args.order (axis_view c.args.order start axis))
+
+pub returns-clause-longest : goal.returns-clause-longest
+returns-clause-longest g c =
+    let start = c.self.inside.start in
+    let axis = c.joined_axis-axis.result in
+    let here : view_of start c.slice.result.now c.slice-2.result.now ≡ c.args.self =
+    rw (c.slice.ensures.list, c.slice-2.ensures.list) c.self.view_is in
+    let whole : IsView (view_of start c.slice.result.now c.slice-2.result.now) =
+    rw (c.slice.ensures.list, c.slice-2.ensures.list) c.self.invariant in
+    let has = c.joined_axis-axis.ensures.places in
+    let v = has.is_view start whole in
+    let f : FitsSigned w64 c.signed-stride.result = search rules in
+    let steps : to_z w64 (of_z w64 c.signed-stride.result) ≡ signed axis.stride =
+    to_z-of_z w64 c.signed-stride.result f ∙ c.signed-stride.ensures.same_bits in
+    let all = rows_of_axis c.args.order start _ _ axis here whole v has.slower_lens has.slower_strides c.count_along-end.ensures steps in
+    λ other begins.
+    let first = ap (take other.len) (has.places start whole ∙ ap (view_places c.args.order) here) ∙ begins in
+    subst (All (λ row. other.len ≤ row.len)) (sym all) (as_long c.args.order axis start other.len
+    (longest c.args.order start axis v other first c.joined_axis-axis.ensures.joined))
+
+pub returns-clause-in_order : goal.returns-clause-in_order
+returns-clause-in_order g c =
+    let left = λ (rows : List Row). rows in
+    λ p s. as_is p (left p.from) (from_front (YieldsFirst left) (λ x. x) left (λ s t h. ap length h.0) (λ s x t h. h) p s)

@@ -1,0 +1,251 @@
+//! The rows of a view one after another, from both ends, where the iterator has the view.
+ghost use Rattle.std.specs.Iterator.{UpTo, YieldsFirst, YieldsLast, item_count};
+ghost use Rattle.std.specs.Iterator.Runs.{YieldsInOrder};
+ghost use Rattle.std.specs.Iterator.SizeHint.{IsWithinCount};
+ghost use Rattle.std.specs.List.{All};
+ghost use Rattle.std.specs.Prelude.{◌≡◌, ◌==◌, ◌-◌, ◌<◌, ◌≤◌, ◌^◌, pos, if◌then◌else◌, drop, take, length, IfSome, Some};
+ghost use Rattle.nd_base.specs.FlatIndex.{index_of_flat_in};
+ghost use Rattle.nd_base.specs.Size.{size};
+ghost use Rattle.ndarray_layout.specs.NumberedRows.{slowest, slowest_view};
+ghost use Rattle.ndarray_layout.specs.Rows.{BeginsAsRow, rows_places, view_rows};
+ghost use Rattle.ndarray_layout.specs.View.{IsView, place_at, view_places};
+
+use crate::strided::Strided;
+use crate::strided::nth_row::offset_of_flat;
+use crate::strided::places::offset_place;
+use crate::strided::places_of_rows::RowEnds;
+use crate::strided::rows::{Fastest, Row, fastest_axis, joined_axis};
+use nd_base::{Lengths, Order, signed};
+use nd_dim::product;
+use std::iter::FusedIterator;
+use std::marker::Model;
+
+/// Of numbers with one for each axis those of so many axes that move slowest.
+fn slowest_axes(order: Order, items: &[usize], count: usize) -> &[usize]
+    requires { count ≤ length items.now }
+    ensures { result.now ≡ slowest order count items.now }
+{
+    match order {
+        Order::RowMajor => &items[..count],
+        Order::ColumnMajor => &items[items.len() - count..],
+    }
+}
+
+/// The place of the index at a flat index of so many axes that move slowest.
+fn place_of_number<D: Lengths>(
+    view: &Strided<D>,
+    order: Order,
+    slower: usize,
+    number: usize,
+) -> usize
+    requires axes { slower ≤ length view.now.shape }
+    requires is_view { IsView (slowest_view order slower view.now) }
+    requires below { number < size (slowest order slower view.now.shape) }
+    ensures { pos result ≡ place_at (slowest_view order slower view.now)
+        (index_of_flat_in order (slowest order slower view.now.shape) number) }
+{
+    let lens = slowest_axes(order, view.dim.slice(), slower);
+    let strides = slowest_axes(order, view.strides.slice(), slower);
+    offset_place(view.start, offset_of_flat(order, lens, strides, number))
+}
+
+/// How many rows lie along an axis, one from each place of the axes that move slower: none where they have no place.
+fn count_along(axis: &Fastest<'_>) -> usize
+    requires { size axis.now.lens.now < 2 ^ 64 }
+    ensures { result ≡ (if axis.now.len == 0 then 0 else size axis.now.lens.now) }
+{
+    if axis.len == 0 {
+        return 0;
+    }
+    product(axis.lens)
+}
+
+/// The rows of a view that are still to come, in an order, with the view, from both ends. A contract sees the list of them.
+#[derive(Drop)]
+pub struct StridedRows<D: Lengths> {
+    view: Strided<D>,
+    order: Order,
+    // How many axes move slower than the rows, how long a row is, and its stride.
+    slower: usize,
+    len: usize,
+    stride: isize,
+    // The number of the row that comes next, and the one after that of the last row that is left.
+    begun: usize,
+    end: usize,
+}
+
+impl<D: Lengths> Model for StridedRows<D> {
+    ghost use Rattle.std.specs.Prelude.{List};
+    ghost use Rattle.ndarray_layout.specs.declared.strided.rows.Row.{Row};
+    ghost use Rattle.ndarray_layout.specs.NumberedRows.{AreRowsBetween, rows_between};
+
+    ghost Value = { List Row };
+
+    ghost view = { λ rows. rows_between rows.order rows.slower rows.view
+        (record { start = 0; stride = rows.stride; len = rows.len }) rows.begun rows.end };
+
+    ghost invariant = { λ rows. AreRowsBetween rows.order rows.slower rows.view rows.len rows.begun rows.end };
+}
+
+impl<D: Lengths> StridedRows<D> {
+    /// Leaves out so many rows, or all where fewer are left: the next one is the one that comes after them.
+    ///
+    /// Takes no time for each row. Of the rows of `[4,2]` with strides `[2,1]` from 0, which begin at 0 2 4 6, after 3 rows:
+    /// 6. What `nth` of std's iterators leaves out one by one.
+    pub fn advance(&mut self, count: usize)
+        ensures { self.new ≡ drop count self.old }
+    {
+        self.begun += count.min(self.end - self.begun);
+    }
+
+    /// Leaves out so many rows at the back, or all where fewer are left: the last one is the one that comes before them.
+    ///
+    /// Takes no time for each row. Of the rows of `[4,2]` with strides `[2,1]` from 0, which begin at 0 2 4 6, without the
+    /// last 3: 0. What `nth_back` of std's iterators leaves out one by one.
+    pub fn advance_back(&mut self, count: usize)
+        ensures { self.new ≡ take (length self.old - count) self.old }
+    {
+        self.end -= count.min(self.end - self.begun);
+    }
+}
+
+impl<D: Lengths> Iterator for StridedRows<D> {
+    type Item = Row;
+
+    ghost next_gives = { YieldsFirst (λ left. left) };
+
+    ghost remaining = { item_count (λ left. left) };
+
+    fn next(&mut self) -> Option<Row> {
+        if self.begun == self.end {
+            return None;
+        }
+        let start = place_of_number(&self.view, self.order, self.slower, self.begun);
+        self.begun += 1;
+        Some(Row {
+            start,
+            stride: self.stride,
+            len: self.len,
+        })
+    }
+
+    fn size_hint(&self) -> (usize, Option<usize>)
+        ensures lower { IsWithinCount result.0 (item_count (λ left. left) self.now) }
+        ensures upper { IfSome result.1 (UpTo (item_count (λ left. left) self.now)) }
+        ensures exact { (result.0 ≡ length self.now) × (result.1 ≡ Some (length self.now)) }
+    {
+        let left = self.len();
+        (left, Some(left))
+    }
+}
+
+impl<D: Lengths> DoubleEndedIterator for StridedRows<D> {
+    ghost next_back_gives = { YieldsLast (λ left. left) };
+
+    fn next_back(&mut self) -> Option<Row> {
+        if self.begun == self.end {
+            return None;
+        }
+        self.end -= 1;
+        let start = place_of_number(&self.view, self.order, self.slower, self.end);
+        Some(Row {
+            start,
+            stride: self.stride,
+            len: self.len,
+        })
+    }
+}
+
+impl<D: Lengths> ExactSizeIterator for StridedRows<D> {
+    fn len(&self) -> usize {
+        self.end - self.begun
+    }
+}
+
+impl<D: Lengths> FusedIterator for StridedRows<D> {}
+
+impl<D: Lengths> RowEnds for StridedRows<D> {
+    ghost rows = { λ rows. rows };
+
+    #[inline(always)]
+    fn take_first(&mut self) -> Option<Row> {
+        self.next()
+    }
+
+    fn take_last(&mut self) -> Option<Row> {
+        self.next_back()
+    }
+
+    fn drop_first(&mut self, count: usize) {
+        self.advance(count);
+    }
+
+    fn drop_last(&mut self, count: usize) {
+        self.advance_back(count);
+    }
+
+    fn row_len(&self) -> usize {
+        self.len
+    }
+
+    fn count_of_places(&self) -> usize {
+        (self.end - self.begun) * self.len
+    }
+}
+
+impl<D: Lengths> Strided<D> {
+    ghost use Rattle.std.specs.Prelude.{List};
+    ghost use Rattle.ndarray_layout.specs.declared.strided.rows.Row.{Row};
+
+    /// The rows of the view, in an order: `rows`, where the iterator has the view.
+    ///
+    /// Takes no memory. A row costs a division and two products for each axis but its own, from either end.
+    ///
+    /// `[2,3]` with strides `[-3,1]` from 3: in row-major order 3 places from 3 and 3 places from 0, by the stride 1; in
+    /// column-major order 2 places from 3, from 4 and from 5, by -3. The project's own.
+    pub fn into_rows(self, order: Order) -> StridedRows<D>
+        ensures items { result ≡ view_rows order self }
+        ensures in_order { YieldsInOrder (YieldsFirst (λ (left : List Row). left)) (λ left. left) }
+    {
+        let axis = fastest_axis(order, self.dim.slice(), self.strides.slice());
+        let (slower, len, stride) = (axis.lens.len(), axis.len, signed(axis.stride));
+        let end = count_along(&axis);
+        StridedRows {
+            view: self,
+            order,
+            slower,
+            len,
+            stride,
+            begun: 0,
+            end,
+        }
+    }
+
+    /// The places of the view as the longest rows that its axes allow: `joined_rows`, where the iterator has the view.
+    ///
+    /// Takes no memory. A row costs a division and two products for each axis that isn't joined, from either end.
+    ///
+    /// `[2,2,3]` with strides `[20,3,1]` from 0, two rows of two pixels of 3 bytes: 6 places from 0 and 6 from 20, by the
+    /// stride 1. The project's own.
+    pub fn into_joined_rows(self, order: Order) -> StridedRows<D>
+        ensures places { rows_places result ≡ view_places order self }
+        ensures some { All (λ row. 0 < row.len) result }
+        ensures longest { (other : Row) → BeginsAsRow (view_places order self) other
+            → All (λ row. other.len ≤ row.len) result }
+        ensures in_order { YieldsInOrder (YieldsFirst (λ (left : List Row). left)) (λ left. left) }
+        ensures is_view { IsView self }
+    {
+        let axis = joined_axis(order, self.dim.slice(), self.strides.slice());
+        let (slower, len, stride) = (axis.lens.len(), axis.len, signed(axis.stride));
+        let end = count_along(&axis);
+        StridedRows {
+            view: self,
+            order,
+            slower,
+            len,
+            stride,
+            begun: 0,
+            end,
+        }
+    }
+}
