@@ -9,6 +9,7 @@ ghost use Rattle.nd_lent.specs.Equal.{are_equal, both_equal};
 ghost use Rattle.nd_lent.specs.LentRow.{row_items, rows_items};
 
 use crate::array_view::{ArrayView, LentRow, LentRows};
+use crate::array_view_mut::nearest_order;
 use ndarray_layout::{Lengths, Order};
 
 /// Whether the items of two rows of one length are equal, one after another.
@@ -53,14 +54,14 @@ fn have_equal_rows<T: PartialEq>(rows: LentRows<'_, T>, others: LentRows<'_, T>)
 }
 
 impl<T: PartialEq, D: Lengths> ArrayView<'_, T, D> {
-    /// Whether each item is equal to that at the same index of an array of the same shape.
-    fn has_equal_items(&self, other: &ArrayView<'_, T, D>) -> bool
+    /// Whether each item is equal to that at the same index of an array of the same shape, compared in an order of the indices.
+    fn has_equal_items(&self, other: &ArrayView<'_, T, D>, order: Order) -> bool
         requires { self.now.view.shape ≡ other.now.view.shape }
         ensures { result ≡ pointwise (both_equal T.eq)
             (map (item_at_place self.now.items) (view_places RowMajor self.now.view))
             (map (item_at_place other.now.items) (view_places RowMajor other.now.view)) }
     {
-        let (rows, others) = self.view().joined_rows_with(other.view(), Order::RowMajor);
+        let (rows, others) = self.view().joined_rows_with(other.view(), order);
         have_equal_rows(
             LentRows::new(self.stored(), rows),
             LentRows::new(other.stored(), others),
@@ -69,13 +70,14 @@ impl<T: PartialEq, D: Lengths> ArrayView<'_, T, D> {
 
     /// Whether another array has the same shape, and an equal item at each index. Spare items don't count.
     ///
-    /// Time in proportion to the indices before the first where the items differ; none where the shapes do. Rows whose items
-    /// follow one another in both arrays are compared as slices.
+    /// Time in proportion to the indices before the first where the items differ; none where the shapes do. Goes over the longest
+    /// rows that the axes of both allow (`Strided::joined_rows_with`), or columns where `ArrayViewMut::fill` does: two whose items
+    /// follow one another are compared as slices.
     ///
     /// `[2]` with the stride `[-1]` over 7 8 9, and `[2]` over 8 7: `true`. ndarray's `eq`.
     pub fn eq(&self, other: &ArrayView<'_, T, D>) -> bool
         ensures { result ≡ are_equal T.eq self.now other.now }
     {
-        self.dim().equal(other.dim()) && self.has_equal_items(other)
+        self.dim().equal(other.dim()) && self.has_equal_items(other, nearest_order(self.view()))
     }
 }
