@@ -28,4 +28,4 @@ returns c =
     let rest : c.take-right.new.self.cells.items ≡ items = search rules in
     let inner = c.put_back.ensures.items ∙ (λ i. chosen_of (its i) (other i) (rest i)) in
     let end = c.close.ensures.items ∙ c.put_back-2.ensures.items ∙ (λ i. chosen_of (mine i) (one i) (inner i)) ∙ written in
-    subst (λ (x : List ℕ). c.pixels-1.given.0 ≡ x) end (search rules)
+    search (rules, end)
