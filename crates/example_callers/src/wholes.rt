@@ -1,10 +1,12 @@
 //! Pixels that are written by parts, and what they are then.
-ghost use Rattle.std.specs.Prelude.{◌≡◌, [], ◌∷◌, length};
+ghost use Rattle.std.specs.Prelude.{◌≡◌, [], ◌∷◌, OnOk, length};
+ghost use Rattle.ndarray_layout.specs.SplitView.{first_part_of, second_part_of};
 ghost use Rattle.ndarray_layout.specs.SharePlace.{SharePlace};
 ghost use Rattle.nd_parts.specs.Items.{IsOwned, with_item};
 
 use nd_parts::Whole;
-use ndarray_layout::{Ix2, Strided};
+use ndarray_layout::{Axis, Ix2, LayoutError, Strided};
+use std::alloc::Global;
 
 /// Writes the first pixel of a picture, whose pixels lie in a list by a view, by a part of it. The list's other pixels are
 /// unchanged. The caller ensures that each index has a pixel to itself.
@@ -37,4 +39,24 @@ pub fn set_two(first: Strided<Ix2>, second: Strided<Ix2>, pixels: &mut [u8], one
     rest.put_back(right, right_taken);
     rest.put_back(left, left_taken);
     whole.close(rest);
+}
+
+/// Writes the first pixel of the columns below `at`, and that of the others, each by a part of its own. The list's other pixels are
+/// unchanged. The caller ensures that each index has a pixel to itself. Errors: those of `Strided::split_at`.
+pub fn set_halves(
+    alloc: Global,
+    view: Strided<Ix2>,
+    pixels: &mut [u8],
+    at: usize,
+    one: u8,
+    other: u8,
+) -> Result<(), LayoutError>
+    requires { IsOwned (length pixels.old) view }
+    ensures { OnOk result (
+        let written = with_item (record { items = pixels.old; view = second_part_of 1 at view }) (0 ∷ 0 ∷ []) other in
+        pixels.new ≡ (with_item (record { items = written.items; view = first_part_of 1 at view }) (0 ∷ 0 ∷ []) one).items) }
+{
+    let (first, second) = view.split_at(alloc, Axis(1), at)?;
+    set_two(first, second, pixels, one, other);
+    Ok(())
 }

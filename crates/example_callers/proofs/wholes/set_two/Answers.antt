@@ -24,7 +24,7 @@ returns c =
     let one : c.set.new.self.cells.items ≡ (with_item (record { items = items; view = c.args.first }) (0 ∷ 0 ∷ []) c.args.one).items =
     search rules in
     let other : c.set-2.new.self.cells.items
-        ≡ (with_item (record { items = items; view = c.args.second }) (0 ∷ 0 ∷ []) c.args.other).items = search rules in
+    ≡ (with_item (record { items = items; view = c.args.second }) (0 ∷ 0 ∷ []) c.args.other).items = search rules in
     let rest : c.take-right.new.self.cells.items ≡ items = search rules in
     let inner = c.put_back.ensures.items ∙ (λ i. chosen_of (its i) (other i) (rest i)) in
     let end = c.close.ensures.items ∙ c.put_back-2.ensures.items ∙ (λ i. chosen_of (mine i) (one i) (inner i)) ∙ written in
