@@ -36,7 +36,7 @@ impl Form {
         (Plane, "a plane"),
         (Turned, "a picture backwards"),
         (Transposed, "a picture transposed"),
-        (Columns, "columns"),
+        (Columns, "columns of bytes"),
     ];
 
     /// Whether what comes next in row-major order comes next in memory.
