@@ -21,6 +21,7 @@ use std::iter::FusedIterator;
 use std::marker::Model;
 
 /// Of numbers with one for each axis those of so many axes that move slowest.
+#[inline(always)]
 fn slowest_axes(order: Order, items: &[usize], count: usize) -> &[usize]
     requires { count ≤ length items.now }
     ensures { result.now ≡ slowest order count items.now }
@@ -31,7 +32,9 @@ fn slowest_axes(order: Order, items: &[usize], count: usize) -> &[usize]
     }
 }
 
-/// The place of the index at a flat index of so many axes that move slowest.
+/// The place of the index at a flat index of so many axes that move slowest. It is no call, so that a loop over places keeps
+/// the iterator in registers along a row.
+#[inline(always)]
 fn place_of_number<D: Lengths>(
     view: &Strided<D>,
     order: Order,
@@ -116,6 +119,7 @@ impl<D: Lengths> Iterator for StridedRows<D> {
 
     ghost remaining = { item_count (λ left. left) };
 
+    #[inline(always)]
     fn next(&mut self) -> Option<Row> {
         if self.begun == self.end {
             return None;
