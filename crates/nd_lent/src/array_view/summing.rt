@@ -44,17 +44,18 @@ fn sum_slice<T: Unsigned>(items: &[T]) -> Option<u64>
     Some(total)
 }
 
-/// The sum of the items of a row, place by place; `None` where it passes the greatest `u64`.
+/// The sum of the items of a row, place by place; `None` where it passes the greatest `u64`, which is tested once: so many
+/// numbers of 64 bits fit 128.
 #[inline(always)]
 fn sum_places<T: Unsigned>(row: &LentRow<'_, T>) -> Option<u64>
     ensures { result
         ≡ within_u64 (sum_by (λ item. option_map_or T.number item 0) (row_items row.now)) }
 {
-    let mut total = 0u64;
+    let mut total = 0u128;
     for coordinate in 0..row.len() {
-        total = total.checked_add(row.item(coordinate).to_u64())?;
+        total += u128::from(row.item(coordinate).to_u64());
     }
-    Some(total)
+    u64::try_from(total).ok()
 }
 
 /// The sum of the items of a row; `None` where it passes the greatest `u64`.

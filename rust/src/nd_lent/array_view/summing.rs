@@ -52,7 +52,8 @@ fn sum_slice<T: Unsigned>(items: &[T]) -> Option<u64> {
     Some(total)
 }
 
-/// The sum of the items of a row, place by place; `None` where it passes the greatest `u64`.
+/// The sum of the items of a row, place by place; `None` where it passes the greatest `u64`, which is tested once: so many
+/// numbers of 64 bits fit 128.
 ///
 /// <details><summary>Contract (proved)</summary>
 ///
@@ -63,11 +64,11 @@ fn sum_slice<T: Unsigned>(items: &[T]) -> Option<u64> {
 /// </details>
 #[inline(always)]
 fn sum_places<T: Unsigned>(row: &LentRow<'_, T>) -> Option<u64> {
-    let mut total = 0u64;
+    let mut total = 0u128;
     for coordinate in 0..row.len() {
-        total = total.checked_add(row.item(coordinate).to_u64())?;
+        total += u128::from(row.item(coordinate).to_u64());
     }
-    Some(total)
+    u64::try_from(total).ok()
 }
 
 /// The sum of the items of a row; `None` where it passes the greatest `u64`.
