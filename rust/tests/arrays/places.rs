@@ -158,8 +158,8 @@ fn places_come_from_both_ends() {
 }
 
 /// The rows that come one after another, as a start, a stride and a length each.
-fn rows_by(mut next: impl FnMut() -> Option<Row>) -> Vec<(usize, isize, usize)> {
-    std::iter::from_fn(|| next()).map(|row| (row.start, row.stride, row.len)).collect()
+fn rows_by(next: impl FnMut() -> Option<Row>) -> Vec<(usize, isize, usize)> {
+    std::iter::from_fn(next).map(|row| (row.start, row.stride, row.len)).collect()
 }
 
 #[test]
