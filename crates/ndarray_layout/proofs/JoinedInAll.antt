@@ -3,7 +3,7 @@ use Rattle.std.proofs.Common.{◌≡◌, ℕ, ◌+◌, ◌-◌, ◌*◌, ◌<◌
 use Rattle.std.proofs.Common.{◌∙◌, arith, drop-cons, suc}
 use Rattle.std.proofs.Math.Nat.{mul_comm}
 use Rattle.std.proofs.Math.Seq.{take-length}
-use Rattle.std.proofs.lemmas.List.{get_or-drop, get_or-take, length-map, take_more}
+use Rattle.std.proofs.lemmas.List.{get_or-drop, get_or-take, length-drop, length-map, length-take-le, take_more}
 use Rattle.nd_base.specs.declared.order.Order.{Order}
 use Rattle.nd_base.specs.declared.order.Order.TheVariants.{RowMajor, ColumnMajor}
 use Rattle.nd_base.proofs.laws.Definitions.{all_signed, IsValidLayout, limit, low_span, magnitude, reach, signed}
@@ -13,7 +13,7 @@ use Rattle.ndarray_layout.specs.declared.strided.rows.Fastest.{Fastest}
 use Rattle.ndarray_layout.specs.JoinedInAll.{AreJoined, IsJoined, axis_after, slower_than, strides_of}
 use Rattle.ndarray_layout.specs.RowsLeft.{axis_view}
 use Rattle.ndarray_layout.specs.View.{IsView}
-use Rattle.ndarray_layout.specs.private.Fastest.{EndsIn, HasPlaces}
+use Rattle.ndarray_layout.specs.private.Fastest.{EndsIn, HasPlaces, IsSlowest}
 use Rattle.ndarray_layout.proofs.JoinedAxis.{HasPlaces-joined, HasPlaces-one, IsNext, Joins, both_fit, len_fits, next_fits}
 use Rattle.ndarray_layout.proofs.laws.View.{lowest_view}
 
@@ -34,6 +34,16 @@ slower_ends RowMajor n count items many more =
 slower_ends ColumnMajor n count items many more =
     let next : count + 1 ≡ suc count = omega arith in
     record { is = rw next (drop-cons items count 0 (omega arith)) }
+
+-- and these are the slowest ones
+are_slowest : (order : Order) (count : ℕ) (items : List ℕ) → count ≤ length items → IsSlowest order items (slower_than order count items)
+are_slowest RowMajor count items few =
+    let many = length-take-le (length items - count) items (omega arith) in
+    record { few = omega (arith, many); is = ap (λ n. take n items) many }
+are_slowest ColumnMajor count items few =
+    let many = length-drop count items in
+    let left : length items - length (drop count items) ≡ count = omega (arith, many, few) in
+    record { few = omega (arith, many); is = ap (λ n. drop n items) left }
 
 -- none are left out where none are joined
 slower_than_none : (order : Order) (items : List ℕ) → slower_than order 0 items ≡ items
@@ -84,7 +94,12 @@ module _ {order : Order} {ref : Bor (List ℕ)} {strides : List ℕ} {count len 
   }
 
   has : HasPlaces order ref.now strides here
-  has = record { is_view = so_far.is.is_view; places = so_far.is.places }
+  has = record {
+    slower_lens = are_slowest order count ref.now (omega (arith, so_far.more));
+    slower_strides = are_slowest order count strides (omega (arith, so_far.more, so_far.valid.same_count, length-map strides signed));
+    is_view = so_far.is.is_view;
+    places = so_far.is.places;
+  }
 
   follows : IsNext order here next
   follows = record {
