@@ -126,7 +126,7 @@ pub const SEALED: &[&str] = &[
 
 /// Public traits that stay open: conversions, whose values are checked as any are, and traits that no caller can name.
 pub const OPEN: &[&str] =
-    &["AreLengths", "Convert", "IntoDimension", "IterOrder", "Numbers", "ShapeArg", "ShapeBuilder"];
+    &["AreLengths", "Convert", "IntoDimension", "IterOrder", "Numbers", "RowEnds", "ShapeArg", "ShapeBuilder"];
 
 /// Words that may not be left: those of contracts, of the kit's memory and runtime, and those whose meaning differs.
 pub const REFUSED: &[&str] = &[
@@ -215,10 +215,8 @@ pub const OPENED: &[&str] =
 pub const FOLDED: &[(&str, &str, &str)] = &[
     ("Iterator", "Items", "fold_items"),
     ("Iterator", "Iter", "fold_iter"),
-    ("Iterator", "Places", "fold_places"),
-    ("DoubleEndedIterator", "Places", "skip_places_back"),
-    ("Iterator", "IntoPlaces", "fold_places"),
-    ("DoubleEndedIterator", "IntoPlaces", "skip_places_back"),
+    ("Iterator", "PlacesOf", "fold_places"),
+    ("DoubleEndedIterator", "PlacesOf", "skip_places_back"),
 ];
 
 /// Structs whose `Debug` files of `rust/src` have, for what is derived prints strides without their signs.

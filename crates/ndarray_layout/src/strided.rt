@@ -36,6 +36,7 @@ pub use into_rows::StridedRows;
 pub use iter_places::Places;
 pub use joining::joined_in_all;
 use nd_base::Lengths;
+pub use places_of_rows::PlacesOf;
 pub use rows::{Row, Rows};
 use std::marker::Model;
 

@@ -41,7 +41,7 @@ macro_rules! fold_items {
 }
 pub(crate) use fold_items;
 
-/// Of `Places` and `IntoPlaces`.
+/// Of `PlacesOf`.
 macro_rules! fold_places {
     () => {
         /// What as many calls of `next` return last; rows are left out at once. Not proved.
@@ -67,7 +67,7 @@ macro_rules! fold_places {
 }
 pub(crate) use fold_places;
 
-/// Of `Places` and `IntoPlaces`, from the back.
+/// Of `PlacesOf`, from the back.
 macro_rules! skip_places_back {
     () => {
         /// What as many calls of `next_back` return last; rows are left out at once. Not proved.

@@ -38,6 +38,7 @@ pub use into_places::IntoPlaces;
 pub use into_rows::StridedRows;
 pub use iter_places::Places;
 pub use joining::joined_in_all;
+pub use places_of_rows::PlacesOf;
 pub use rows::{Row, Rows};
 
 /// A view of data: a shape, a stride for each axis, and the place of the first index. The place of

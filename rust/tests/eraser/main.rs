@@ -149,8 +149,8 @@ fn what_the_package_adds_is_made_of_a_source() {
             "impl<T> Iterator for Iter<'_, T> { fn next(&mut self) {} crate::arrays::fold_iter!(); } fn f();",
         ),
         (
-            "impl DoubleEndedIterator for Places<'_> { fn next_back() {} }",
-            "impl DoubleEndedIterator for Places<'_> { fn next_back() {} crate::arrays::skip_places_back!(); }",
+            "impl DoubleEndedIterator for PlacesOf<R> { fn next_back() {} }",
+            "impl DoubleEndedIterator for PlacesOf<R> { fn next_back() {} crate::arrays::skip_places_back!(); }",
         ),
         ("impl Iterator for Other { fn next() {} }", "impl Iterator for Other { fn next() {} }"),
         ("impl ExactSizeIterator for Iter<'_> {}", "impl ExactSizeIterator for Iter<'_> {}"),

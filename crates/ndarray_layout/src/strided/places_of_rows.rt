@@ -1,6 +1,8 @@
 //! The places of rows one after another, from both ends, whatever gives the rows.
+ghost use Rattle.std.specs.Iterator.{UpTo, YieldsFirstBy, YieldsLastBy, item_count};
+ghost use Rattle.std.specs.Iterator.SizeHint.{IsWithinCount};
 ghost use Rattle.std.specs.List.{All};
-ghost use Rattle.std.specs.Prelude.{◌≡◌, ◌-◌, ◌<◌, ◌≤◌, ◌^◌, ◌∷◌, ◌++◌, [], pos, MatchOption, drop, take, length};
+ghost use Rattle.std.specs.Prelude.{◌≡◌, ◌-◌, ◌<◌, ◌≤◌, ◌^◌, ◌∷◌, ◌++◌, [], pos, IfSome, MatchOption, Some, drop, take, length};
 ghost use Rattle.nd_base.specs.Bounds.{IsInBounds};
 ghost use Rattle.nd_base.specs.Size.{limit};
 ghost use Rattle.ndarray_layout.specs.PlacesLeft.{ArePlacesLeft, places_after, rows_and};
@@ -9,10 +11,11 @@ ghost use Rattle.ndarray_layout.specs.Rows.{row_places, rows_places};
 use crate::strided::places::{offset_place, place_along_axis};
 use crate::strided::rows::{Row, Rows};
 use nd_base::unsigned;
+use std::iter::FusedIterator;
 use std::marker::Model;
 
 /// Rows of one length that are still to come, from both ends.
-pub(super) trait RowEnds: Drop {
+pub trait RowEnds: Drop {
     ghost use Rattle.std.specs.Prelude.{List};
     ghost use Rattle.ndarray_layout.specs.declared.strided.rows.Row.{Row};
 
@@ -75,9 +78,10 @@ impl RowEnds for Rows<'_> {
     }
 }
 
-/// The places of rows that are still to come. A contract sees the list of them.
+/// The places of a view that are still to come, in an order, from both ends: `Places` of `iter_places` and `IntoPlaces` of
+/// `into_places`. A contract sees the list of them.
 #[derive(Drop)]
-pub(super) struct PlacesOf<R: RowEnds> {
+pub struct PlacesOf<R: RowEnds> {
     rows: R,
     // What is left of the last row that has begun at the back.
     back: Row,
@@ -191,42 +195,14 @@ impl<R: RowEnds> PlacesOf<R> {
         }
     }
 
-    /// The place that comes next.
-    #[inline(always)]
-    pub(super) fn next(&mut self) -> Option<usize>
-        ensures { MatchOption result ((self.old ≡ []) × (self.new ≡ [])) (λ place. self.old ≡ pos place ∷ self.new) }
-    {
-        if self.left > 0 {
-            self.left -= 1;
-            self.place = offset_place(self.place, self.stride);
-            return Some(self.place);
-        }
-        let row = first_row(&mut self.rows, &mut self.back)?;
-        self.place = row.start;
-        self.stride = row.stride;
-        self.left = row.len - 1;
-        Some(self.place)
-    }
-
-    /// The last place.
-    pub(super) fn next_back(&mut self) -> Option<usize>
-        ensures { MatchOption result ((self.old ≡ []) × (self.new ≡ []))
-            (λ place. self.old ≡ self.new ++ pos place ∷ []) }
-    {
-        let mut row = last_row(
-            &mut self.rows,
-            &mut self.back,
-            self.place,
-            self.stride,
-            &mut self.left,
-        )?;
-        row.len -= 1;
-        self.back = row;
-        Some(place_along_axis(row.start, row.len, unsigned(row.stride)))
-    }
-
-    /// The places that come next and lie evenly, at once.
-    pub(super) fn next_row(&mut self) -> Option<Row>
+    /// The places that come next and lie evenly, at once: what is left of the row in progress, or else the next row;
+    /// `None` after the last place.
+    ///
+    /// Takes no memory. Costs as much as a place of `iter_places`, and of `into_places` a row (`into_joined_rows`).
+    ///
+    /// Of the places of `[2,3]` with strides `[5,1]` from 0, after one place: the row of 1 2, and then that of 5 6 7.
+    /// The project's own.
+    pub fn next_row(&mut self) -> Option<Row>
         ensures { MatchOption result ((self.old ≡ []) × (self.new ≡ [])) (λ row. (0 < row.len)
             × (self.old ≡ row_places row.start row.stride row.len ++ self.new)) }
     {
@@ -243,8 +219,15 @@ impl<R: RowEnds> PlacesOf<R> {
         Some(row)
     }
 
-    /// The last places that lie evenly, at once.
-    pub(super) fn next_row_back(&mut self) -> Option<Row>
+    /// The last places that lie evenly, at once: what is left of the row in progress at the back, or else the last row;
+    /// `None` before the first place.
+    ///
+    /// Takes no memory. Costs as much as a place from the back of `iter_places`, and of `into_places` a row
+    /// (`into_joined_rows`).
+    ///
+    /// Of the places of `[2,3]` with strides `[5,1]` from 0, without the last one: the row of 5 6, and then that of 0 1 2.
+    /// The project's own.
+    pub fn next_row_back(&mut self) -> Option<Row>
         ensures { MatchOption result ((self.old ≡ []) × (self.new ≡ [])) (λ row. (0 < row.len)
             × (self.old ≡ self.new ++ row_places row.start row.stride row.len)) }
     {
@@ -258,8 +241,13 @@ impl<R: RowEnds> PlacesOf<R> {
         Some(row)
     }
 
-    /// Leaves out so many places, or all where fewer are left.
-    pub(super) fn advance(&mut self, count: usize)
+    /// Leaves out so many places, or all where fewer are left: the next one is the one that comes after them.
+    ///
+    /// Takes no memory. Costs a division and two products for each axis, however many places are left out.
+    ///
+    /// Of the places of `[2,3]` with strides `[5,1]` from 0, after 4 places: 6 7. What `nth` of std's iterators leaves
+    /// out one by one.
+    pub fn advance(&mut self, count: usize)
         ensures { self.new ≡ drop count self.old }
     {
         if count <= self.left {
@@ -287,8 +275,13 @@ impl<R: RowEnds> PlacesOf<R> {
         }
     }
 
-    /// Leaves out so many places at the back, or all where fewer are left.
-    pub(super) fn advance_back(&mut self, count: usize)
+    /// Leaves out so many places at the back, or all where fewer are left: the last one is the one that comes before them.
+    ///
+    /// Takes no memory. Costs a division and two products for each axis, however many places are left out.
+    ///
+    /// Of the places of `[2,3]` with strides `[5,1]` from 0, without the last 4: 0 1. What `nth_back` of std's iterators leaves
+    /// out one by one.
+    pub fn advance_back(&mut self, count: usize)
         ensures { self.new ≡ take (length self.old - count) self.old }
     {
         if count <= self.back.len {
@@ -309,11 +302,60 @@ impl<R: RowEnds> PlacesOf<R> {
             self.back = row;
         }
     }
+}
 
-    /// How many places are left.
-    pub(super) fn len(&self) -> usize
-        ensures { result ≡ length self.now }
+impl<R: RowEnds> Iterator for PlacesOf<R> {
+    type Item = usize;
+
+    ghost next_gives = { YieldsFirstBy pos (λ left. left) };
+
+    ghost remaining = { item_count (λ left. left) };
+
+    #[inline(always)]
+    fn next(&mut self) -> Option<usize> {
+        if self.left > 0 {
+            self.left -= 1;
+            self.place = offset_place(self.place, self.stride);
+            return Some(self.place);
+        }
+        let row = first_row(&mut self.rows, &mut self.back)?;
+        self.place = row.start;
+        self.stride = row.stride;
+        self.left = row.len - 1;
+        Some(self.place)
+    }
+
+    fn size_hint(&self) -> (usize, Option<usize>)
+        ensures lower { IsWithinCount result.0 (item_count (λ left. left) self.now) }
+        ensures upper { IfSome result.1 (UpTo (item_count (λ left. left) self.now)) }
+        ensures exact { (result.0 ≡ length self.now) × (result.1 ≡ Some (length self.now)) }
     {
+        let left = self.len();
+        (left, Some(left))
+    }
+}
+
+impl<R: RowEnds> DoubleEndedIterator for PlacesOf<R> {
+    ghost next_back_gives = { YieldsLastBy pos (λ left. left) };
+
+    fn next_back(&mut self) -> Option<usize> {
+        let mut row = last_row(
+            &mut self.rows,
+            &mut self.back,
+            self.place,
+            self.stride,
+            &mut self.left,
+        )?;
+        row.len -= 1;
+        self.back = row;
+        Some(place_along_axis(row.start, row.len, unsigned(row.stride)))
+    }
+}
+
+impl<R: RowEnds> ExactSizeIterator for PlacesOf<R> {
+    fn len(&self) -> usize {
         self.left + self.rows.count_of_places() + self.back.len
     }
 }
+
+impl<R: RowEnds> FusedIterator for PlacesOf<R> {}

@@ -4,9 +4,10 @@
 use crate::nd_base::unsigned;
 use crate::ndarray_layout::strided::places::{offset_place, place_along_axis};
 use crate::ndarray_layout::strided::rows::{Row, Rows};
+use core::iter::FusedIterator;
 
 /// Rows of one length that are still to come, from both ends.
-pub(super) trait RowEnds: Sized {
+pub trait RowEnds: Sized {
     /// The row that comes next.
     ///
     /// <details><summary>Contract (proved)</summary>
@@ -108,8 +109,9 @@ impl RowEnds for Rows<'_> {
     }
 }
 
-/// The places of rows that are still to come.
-pub(super) struct PlacesOf<R: RowEnds> {
+/// The places of a view that are still to come, in an order, from both ends: `Places` of `iter_places` and `IntoPlaces`
+/// of `into_places`.
+pub struct PlacesOf<R: RowEnds> {
     rows: R,
     // What is left of the last row that has begun at the back.
     back: Row,
@@ -217,47 +219,30 @@ impl<R: RowEnds> PlacesOf<R> {
         PlacesOf { rows, back: Row { start: 0, stride: 0, len: 0 }, place: 0, left: 0, stride: 0 }
     }
 
-    /// The place that comes next.
+    /// The places that come next and lie evenly, at once: what is left of the row in progress, or else the next row;
+    /// `None` after the last place.
     ///
-    /// <details><summary>Contract (proved)</summary>
+    /// Takes no memory. Costs as much as a place of `iter_places`, and of `into_places` a row (`into_joined_rows`).
     ///
-    /// ```text
-    /// ensures MatchOption result ((self.old ≡ []) × (self.new ≡ [])) (λ place. self.old ≡ pos place ∷ self.new)
+    /// Of the places of `[2,3]` with strides `[5,1]` from 0, after one place: the row of 1 2, and then that of 5 6 7.
+    /// The project's own.
+    ///
+    /// # Examples
+    ///
     /// ```
-    /// [How to read it](crate::contracts)
-    /// </details>
-    #[inline(always)]
-    pub(super) fn next(&mut self) -> Option<usize> {
-        if self.left > 0 {
-            self.left -= 1;
-            self.place = offset_place(self.place, self.stride);
-            return Some(self.place);
-        }
-        let row = first_row(&mut self.rows, &mut self.back)?;
-        self.place = row.start;
-        self.stride = row.stride;
-        self.left = row.len - 1;
-        Some(self.place)
-    }
-
-    /// The last place.
+    /// use ndarray_layout::{CanIndexCheckMode, Ix2, LayoutError, Order, Row, Strided};
     ///
-    /// <details><summary>Contract (proved)</summary>
-    ///
-    /// ```text
-    /// ensures MatchOption result ((self.old ≡ []) × (self.new ≡ [])) (λ place. self.old ≡ self.new ++ pos place ∷ [])
+    /// # fn main() -> Result<(), LayoutError> {
+    /// let view = Strided::new(Ix2(2, 3), Ix2(5, 1), 1, 8, CanIndexCheckMode::ReadOnly)?;
+    /// let mut places = view.iter_places(Order::RowMajor);
+    /// assert_eq!(places.next(), Some(0));
+    /// let numbers = |row: Row| (row.start, row.stride, row.len);
+    /// assert_eq!(places.next_row().map(numbers), Some((1, 1, 2)));
+    /// assert_eq!(places.next_row().map(numbers), Some((5, 1, 3)));
+    /// assert!(places.next_row().is_none());
+    /// # Ok(())
+    /// # }
     /// ```
-    /// [How to read it](crate::contracts)
-    /// </details>
-    #[inline]
-    pub(super) fn next_back(&mut self) -> Option<usize> {
-        let mut row = last_row(&mut self.rows, &mut self.back, self.place, self.stride, &mut self.left)?;
-        row.len -= 1;
-        self.back = row;
-        Some(place_along_axis(row.start, row.len, unsigned(row.stride)))
-    }
-
-    /// The places that come next and lie evenly, at once.
     ///
     /// <details><summary>Contract (proved)</summary>
     ///
@@ -268,7 +253,8 @@ impl<R: RowEnds> PlacesOf<R> {
     /// [How to read it](crate::contracts)
     /// </details>
     #[inline]
-    pub(super) fn next_row(&mut self) -> Option<Row> {
+    #[must_use]
+    pub fn next_row(&mut self) -> Option<Row> {
         if self.left == 0 {
             let row = first_row(&mut self.rows, &mut self.back)?;
             return Some(row);
@@ -278,7 +264,31 @@ impl<R: RowEnds> PlacesOf<R> {
         Some(row)
     }
 
-    /// The last places that lie evenly, at once.
+    /// The last places that lie evenly, at once: what is left of the row in progress at the back, or else the last row;
+    /// `None` before the first place.
+    ///
+    /// Takes no memory. Costs as much as a place from the back of `iter_places`, and of `into_places` a row
+    /// (`into_joined_rows`).
+    ///
+    /// Of the places of `[2,3]` with strides `[5,1]` from 0, without the last one: the row of 5 6, and then that of 0 1 2.
+    /// The project's own.
+    ///
+    /// # Examples
+    ///
+    /// ```
+    /// use ndarray_layout::{CanIndexCheckMode, Ix2, LayoutError, Order, Row, Strided};
+    ///
+    /// # fn main() -> Result<(), LayoutError> {
+    /// let view = Strided::new(Ix2(2, 3), Ix2(5, 1), 1, 8, CanIndexCheckMode::ReadOnly)?;
+    /// let mut places = view.iter_places(Order::RowMajor);
+    /// assert_eq!(places.next_back(), Some(7));
+    /// let numbers = |row: Row| (row.start, row.stride, row.len);
+    /// assert_eq!(places.next_row_back().map(numbers), Some((5, 1, 2)));
+    /// assert_eq!(places.next_row_back().map(numbers), Some((0, 1, 3)));
+    /// assert!(places.next_row_back().is_none());
+    /// # Ok(())
+    /// # }
+    /// ```
     ///
     /// <details><summary>Contract (proved)</summary>
     ///
@@ -289,12 +299,32 @@ impl<R: RowEnds> PlacesOf<R> {
     /// [How to read it](crate::contracts)
     /// </details>
     #[inline]
-    pub(super) fn next_row_back(&mut self) -> Option<Row> {
+    #[must_use]
+    pub fn next_row_back(&mut self) -> Option<Row> {
         let row = last_row(&mut self.rows, &mut self.back, self.place, self.stride, &mut self.left)?;
         Some(row)
     }
 
-    /// Leaves out so many places, or all where fewer are left.
+    /// Leaves out so many places, or all where fewer are left: the next one is the one that comes after them.
+    ///
+    /// Takes no memory. Costs a division and two products for each axis, however many places are left out.
+    ///
+    /// Of the places of `[2,3]` with strides `[5,1]` from 0, after 4 places: 6 7. What `nth` of std's iterators leaves
+    /// out one by one.
+    ///
+    /// # Examples
+    ///
+    /// ```
+    /// use ndarray_layout::{CanIndexCheckMode, Ix2, LayoutError, Order, Strided};
+    ///
+    /// # fn main() -> Result<(), LayoutError> {
+    /// let view = Strided::new(Ix2(2, 3), Ix2(5, 1), 1, 8, CanIndexCheckMode::ReadOnly)?;
+    /// let mut places = view.iter_places(Order::RowMajor);
+    /// places.advance(4);
+    /// assert!(places.eq([6, 7]));
+    /// # Ok(())
+    /// # }
+    /// ```
     ///
     /// <details><summary>Contract (proved)</summary>
     ///
@@ -304,7 +334,7 @@ impl<R: RowEnds> PlacesOf<R> {
     /// [How to read it](crate::contracts)
     /// </details>
     #[inline]
-    pub(super) fn advance(&mut self, count: usize) {
+    pub fn advance(&mut self, count: usize) {
         if count <= self.left {
             self.place = place_along_axis(self.place, count, unsigned(self.stride));
             self.left -= count;
@@ -330,7 +360,26 @@ impl<R: RowEnds> PlacesOf<R> {
         }
     }
 
-    /// Leaves out so many places at the back, or all where fewer are left.
+    /// Leaves out so many places at the back, or all where fewer are left: the last one is the one that comes before them.
+    ///
+    /// Takes no memory. Costs a division and two products for each axis, however many places are left out.
+    ///
+    /// Of the places of `[2,3]` with strides `[5,1]` from 0, without the last 4: 0 1. What `nth_back` of std's iterators leaves
+    /// out one by one.
+    ///
+    /// # Examples
+    ///
+    /// ```
+    /// use ndarray_layout::{CanIndexCheckMode, Ix2, LayoutError, Order, Strided};
+    ///
+    /// # fn main() -> Result<(), LayoutError> {
+    /// let view = Strided::new(Ix2(2, 3), Ix2(5, 1), 1, 8, CanIndexCheckMode::ReadOnly)?;
+    /// let mut places = view.iter_places(Order::RowMajor);
+    /// places.advance_back(4);
+    /// assert!(places.eq([0, 1]));
+    /// # Ok(())
+    /// # }
+    /// ```
     ///
     /// <details><summary>Contract (proved)</summary>
     ///
@@ -340,7 +389,7 @@ impl<R: RowEnds> PlacesOf<R> {
     /// [How to read it](crate::contracts)
     /// </details>
     #[inline]
-    pub(super) fn advance_back(&mut self, count: usize) {
+    pub fn advance_back(&mut self, count: usize) {
         if count <= self.back.len {
             self.back.len -= count;
             return;
@@ -359,18 +408,51 @@ impl<R: RowEnds> PlacesOf<R> {
             self.back = row;
         }
     }
+}
 
-    /// How many places are left.
-    ///
-    /// <details><summary>Contract (proved)</summary>
-    ///
-    /// ```text
-    /// ensures result ≡ length self.now
-    /// ```
-    /// [How to read it](crate::contracts)
-    /// </details>
+impl<R: RowEnds> Iterator for PlacesOf<R> {
+    type Item = usize;
+
+    #[inline(always)]
+    fn next(&mut self) -> Option<usize> {
+        if self.left > 0 {
+            self.left -= 1;
+            self.place = offset_place(self.place, self.stride);
+            return Some(self.place);
+        }
+        let row = first_row(&mut self.rows, &mut self.back)?;
+        self.place = row.start;
+        self.stride = row.stride;
+        self.left = row.len - 1;
+        Some(self.place)
+    }
+
     #[inline]
-    pub(super) fn len(&self) -> usize {
+    fn size_hint(&self) -> (usize, Option<usize>) {
+        let left = self.len();
+        (left, Some(left))
+    }
+
+    crate::arrays::fold_places!();
+}
+
+impl<R: RowEnds> DoubleEndedIterator for PlacesOf<R> {
+    #[inline]
+    fn next_back(&mut self) -> Option<usize> {
+        let mut row = last_row(&mut self.rows, &mut self.back, self.place, self.stride, &mut self.left)?;
+        row.len -= 1;
+        self.back = row;
+        Some(place_along_axis(row.start, row.len, unsigned(row.stride)))
+    }
+
+    crate::arrays::skip_places_back!();
+}
+
+impl<R: RowEnds> ExactSizeIterator for PlacesOf<R> {
+    #[inline]
+    fn len(&self) -> usize {
         self.left + self.rows.count_of_places() + self.back.len
     }
 }
+
+impl<R: RowEnds> FusedIterator for PlacesOf<R> {}

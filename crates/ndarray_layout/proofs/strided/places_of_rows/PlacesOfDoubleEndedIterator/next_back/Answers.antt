@@ -1,9 +1,10 @@
 -- The last place is that of the last row, which has begun at the back then.
-use Rattle.std.proofs.Common.{◌≡◌, ◌-◌, pos, ◌+ℤ◌, ◌*ℤ◌, of_z, to_z, w64, sym, ap, ◌∙◌, arith}
+use Rattle.std.proofs.Common.{◌≡◌, ◌-◌, pos, ◌+ℤ◌, ◌*ℤ◌, of_z, to_z, w64, length, sym, ap, ◌∙◌, arith}
 use Rattle.std.proofs.lemmas.Int.{ints}
+use Rattle.std.proofs.lemmas.List.{length_push}
 use Rattle.nd_base.proofs.laws.Definitions.{signed}
 use Rattle.ndarray_layout.proofs.BothEnds.{last_place, last_small, last_start, left_without_last, without_last}
-use Rattle.ndarray_layout.proofs.strided.places_of_rows.PlacesOf.next_back.Goals as goal
+use Rattle.ndarray_layout.proofs.strided.places_of_rows.PlacesOfDoubleEndedIterator.next_back.Goals as goal
 
 pub place_along_axis-requires-clause-small : goal.place_along_axis-requires-clause-small
 place_along_axis-requires-clause-small g c =
@@ -35,8 +36,8 @@ invariant_of-self-2 g c =
     left_without_last c.self.invariant c.last_row.new.left (g.R.RowEnds.rows c.last_row.new.rows) c.in_ok-row.row same row.0 row.1
     c.in_ok-row.ensures.some
 
-pub returns : goal.returns
-returns g c =
+pub returns-clause-steps : goal.returns-clause-steps
+returns-clause-steps g c =
     let row = c.in_ok-row.ensures.row in
     let same : to_z w64 (of_z w64 c.self.inside.stride) ≡ c.self.inside.stride = omega (arith, ints) in
     let last = c.in_ok-row.row in
@@ -44,3 +45,8 @@ returns g c =
     let at = c.place_along_axis.ensures ∙ ap (λ s. pos last.start +ℤ (pos (last.len - 1) *ℤ s)) step in
     sym c.self.view_is
     ∙ without_last c.self.invariant c.last_row.new.left (g.R.RowEnds.rows c.last_row.new.rows) last same row.0 row.1 at
+
+pub returns-clause-goes : goal.returns-clause-goes
+returns-clause-goes g c =
+    let fewer = ap length (returns-clause-steps g c) in
+    record { on = λ _. (tt, tt, omega (arith, fewer ∙ length_push _ _)); keeps = tt; rests = λ _. tt }

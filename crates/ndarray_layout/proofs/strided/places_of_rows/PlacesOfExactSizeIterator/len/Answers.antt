@@ -1,6 +1,6 @@
 use Rattle.std.proofs.Common.{length, ap, arith}
 use Rattle.ndarray_layout.proofs.BothEnds.{length-parts}
-use Rattle.ndarray_layout.proofs.strided.places_of_rows.PlacesOf.len.Goals as goal
+use Rattle.ndarray_layout.proofs.strided.places_of_rows.PlacesOfExactSizeIterator.len.Goals as goal
 
 pub overflow_add-result : goal.overflow_add-result
 overflow_add-result g c =
