@@ -3,7 +3,7 @@
 use crate::layouts::{Layout, rounds};
 use crate::numbers::Numbers;
 use ndarray_layout::CanIndexCheckMode::ReadOnly;
-use ndarray_layout::{IntoPlaces, Lengths, Order, Places, Row};
+use ndarray_layout::{IntoPlaces, Ix1, Ix2, Lengths, Order, Places, Row, ShapeError, Strided};
 use std::collections::VecDeque;
 
 /// What the iterators over places have beside std's traits.
@@ -157,9 +157,17 @@ fn places_come_from_both_ends() {
     });
 }
 
-/// The rows that come one after another, as a start, a stride and a length each.
-fn rows_by(next: impl FnMut() -> Option<Row>) -> Vec<(usize, isize, usize)> {
-    std::iter::from_fn(next).map(|row| (row.start, row.stride, row.len)).collect()
+/// A row as its start, its stride and its length.
+type Numbered = (usize, isize, usize);
+
+/// A row in numbers.
+fn numbered(row: Row) -> Numbered {
+    (row.start, row.stride, row.len)
+}
+
+/// The rows that come one after another.
+fn rows_by(next: impl FnMut() -> Option<Row>) -> Vec<Numbered> {
+    std::iter::from_fn(next).map(numbered).collect()
 }
 
 #[test]
@@ -177,4 +185,78 @@ fn rows_of_places_are_joined_from_either_end() {
         let owned = (rows_by(|| places.next_row()), rows_by(|| others.next_row_back()));
         assert!(lent == owned && lent == (due, backwards), "{layout:?} {order:?}");
     });
+}
+
+/// Leaves out so many places of rows at the front.
+fn shorten(rows: &mut VecDeque<Numbered>, count: usize) {
+    for _ in 0..count {
+        match rows.front_mut() {
+            Some((start, stride, len)) if *len > 1 => (*start, *len) = (start.wrapping_add_signed(*stride), *len - 1),
+            _ => drop(rows.pop_front()),
+        }
+    }
+}
+
+/// Leaves out so many places of rows at the back.
+fn shorten_back(rows: &mut VecDeque<Numbered>, count: usize) {
+    for _ in 0..count {
+        match rows.back_mut() {
+            Some((.., len)) if *len > 1 => *len -= 1,
+            _ => drop(rows.pop_back()),
+        }
+    }
+}
+
+/// Takes a row, a place or some at an end of an iterator and of the rows that it has left; whether a row is all that is left of one.
+fn is_step_of_rows(numbers: &mut Numbers, left: &mut impl Ends, rows: &mut VecDeque<Numbered>) -> bool {
+    let count = numbers.below(5);
+    match numbers.below(6) {
+        0 => {
+            shorten(rows, 1);
+            left.next();
+        }
+        1 => {
+            shorten_back(rows, 1);
+            left.next_back();
+        }
+        2 => {
+            shorten(rows, count);
+            left.advance(count);
+        }
+        3 => {
+            shorten_back(rows, count);
+            left.advance_back(count);
+        }
+        4 => return left.next_row().map(numbered) == rows.pop_front(),
+        _ => return left.next_row_back().map(numbered) == rows.pop_back(),
+    }
+    true
+}
+
+#[test]
+fn rows_of_places_are_all_that_is_left_of_a_row() {
+    rounds(30_000, 18, |numbers| {
+        let (layout, order) = (layout(numbers), order(numbers));
+        let view = layout.view(ReadOnly).unwrap();
+        let (mut rows, mut joined) = (VecDeque::new(), view.joined_rows(order));
+        rows.extend(rows_by(|| joined.next()));
+        let steps = numbers.below(16);
+        let (mut places, mut model) = (view.iter_places(order), rows.clone());
+        assert!((0..steps).all(|_| is_step_of_rows(numbers, &mut places, &mut model)), "{layout:?} {order:?}");
+        let mut places = view.into_places(order);
+        assert!((0..steps).all(|_| is_step_of_rows(numbers, &mut places, &mut rows)), "{layout:?} {order:?}");
+    });
+}
+
+#[test]
+fn the_places_left_do_not_say_where_a_row_ends() -> Result<(), ShapeError> {
+    let two_rows = Strided::from_parts(0, Ix2(2, 2), Ix2(5, 1), 1, 7, ReadOnly)?;
+    let one_row = Strided::from_parts(1, Ix1(2), Ix1(4), 1, 7, ReadOnly)?;
+    let (mut of_two, mut of_one) = (two_rows.iter_places(Order::RowMajor), one_row.iter_places(Order::RowMajor));
+    of_two.advance(1);
+    of_two.advance_back(1);
+    assert_eq!((of_two.len(), of_one.len()), (2, 2));
+    assert_eq!(rows_by(|| of_two.next_row()), [(1, 1, 1), (5, 1, 1)]);
+    assert_eq!(rows_by(|| of_one.next_row()), [(1, 4, 2)]);
+    Ok(())
 }
