@@ -285,6 +285,20 @@ class Arrays(unittest.TestCase):
         self.assertEqual(numbers.tolist(), [1, 1, 1])
         self.assertFalse(Layout.over(3, 3, writable=True).as_array(b"abc").flags.writeable)
 
+    def test_arrays_are_read_as_their_memoryviews(self):
+        for order, turned in (("C", False), ("F", False), ("C", True)):
+            for writable in (True, False):
+                whole = np.array(np.arange(24).reshape(2, 3, 4), order=order)
+                whole.flags.writeable = writable
+                a = whole.transpose(1, 0, 2) if turned else whole
+                for layout in (Layout.over(a, (4, 6))[::-1, ::2], Layout.over(20, 20).windows(3), Layout.over(a, ())):
+                    made, other = layout.as_array(a), layout.as_array(memoryview(whole))
+                    self.assertEqual((made.tolist(), made.dtype, made.strides), (other.tolist(), a.dtype, other.strides))
+                    self.assertEqual((made.flags.writeable, other.flags.writeable), (writable and layout.writable,) * 2)
+                    self.assertTrue(np.shares_memory(made, other))
+        made = Layout.over(6, 6)[::-1].as_array(np.arange(6))
+        self.assertEqual(made.tolist(), [5, 4, 3, 2, 1, 0])
+
     def test_room(self):
         self.assertRaises(IndexError, Layout.over(4, 3).as_array, np.zeros(3))
         self.assertRaises(IndexError, Layout.over(3, 3).as_array, b"abc", dtype=np.int16)

@@ -53,6 +53,11 @@ def is_plain_array(value: Any) -> bool:
     return numpy is not None and type(value) is getattr(numpy, "ndarray", None)
 
 
+def is_contiguous_array(value: Any) -> bool:
+    """Whether a value is such an array whose items have bytes and lie side by side: in the order of rows, or of columns."""
+    return is_plain_array(value) and value.itemsize > 0 and value.flags.forc
+
+
 def is_scalar(value: Any) -> bool:
     """Whether a value is a scalar of NumPy: a copy of an element, which says the address of one more copy."""
     numpy = sys.modules.get("numpy")
@@ -115,16 +120,17 @@ def side_by_side(buffer: Any, in_rows: bool = False, name: str = "buffer") -> me
 
 
 def array_over(
-    items: memoryview, kind: numpy.dtype[Any], offset: int, shape: Lens, byte_strides: Lens
+    items: Any, kind: numpy.dtype[Any], offset: int, shape: Lens, byte_strides: Lens
 ) -> numpy.ndarray[Any, Any]:
-    """An array over items that lie side by side, whose buffer is held as long as the array lives.
+    """An array over items that lie side by side, those of an array or a `memoryview`, which is held as long as the array lives.
 
     `numpy.ndarray` refers to the object that it is given, and leaves it free to move its memory, or to unmap it. So
-    it is given an array which NumPy made of a `memoryview`, and which keeps that.
+    it is given an array: that which holds the items, or one which NumPy made of the `memoryview`, and which keeps that.
     """
     import numpy
 
-    held = numpy.asarray(PickleBuffer(items).raw())  # (bytes in the order of memory, also of columns)
+    is_view = type(items) is memoryview
+    held = numpy.asarray(PickleBuffer(items).raw()) if is_view else items  # (bytes in the order of memory, also of columns)
     try:
         return numpy.ndarray(shape, kind, held, offset, byte_strides)
     except ValueError as error:

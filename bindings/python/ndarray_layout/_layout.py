@@ -10,13 +10,13 @@ from typing import TYPE_CHECKING, Any, Iterable, Iterator, Optional, SupportsInd
 
 from . import _frames as frames
 from . import _picture as picture
-from ._accepted import check_layout, layout_start
 from ._arrays import element_strides
 from ._buffers import (
     array_over,
     count_items,
     dtype_as,
     dtype_of,
+    is_contiguous_array,
     items_before,
     items_of_size,
     no_bytes,
@@ -369,14 +369,19 @@ class Layout(Views):
         `TypeError` where items would be read or written as objects that are none, or the other way; `IndexError` where
         the buffer has fewer than `length` items.
         """
-        items = side_by_side(buffer)
-        kind = dtype_of(buffer, items) if dtype is None else dtype_as(dtype, buffer, items)
-        if kind.itemsize == 0:
+        if dtype is None and is_contiguous_array(buffer):
+            items, kind, nbytes = buffer, buffer.dtype, buffer.nbytes
+        else:
+            items = side_by_side(buffer)
+            kind = dtype_of(buffer, items) if dtype is None else dtype_as(dtype, buffer, items)
+            nbytes = items.nbytes
+        itemsize = kind.itemsize
+        if itemsize == 0:
             raise no_bytes(f"items of the dtype {kind}")
-        self._check_room(items.nbytes // kind.itemsize, kind.itemsize)
-        byte_strides = tuple([stride * kind.itemsize for stride in self.strides])
-        array = array_over(items, kind, self.start * kind.itemsize, self.shape, byte_strides)
-        array.flags.writeable = array.flags.writeable and self.writable
+        self._check_room(nbytes // itemsize, itemsize)
+        array = array_over(items, kind, self.start * itemsize, self.shape, tuple([stride * itemsize for stride in self.strides]))
+        if not self.writable:
+            array.flags.writeable = False
         return array
 
     def as_memoryview(self, buffer: Any) -> memoryview:
@@ -416,11 +421,11 @@ class Layout(Views):
                 raise ShapeError("IncompatibleBuffer", text, axis, {"stride": stride, "wanted": wanted})
 
     def _check_room(self, items: int, elem_size: int) -> None:
+        """Raises `IndexError` for fewer items than elements. In more of them lies what was accepted over the elements."""
         if items < self.length:
             numbers = {"length": self.length, "items": items}
             text = f"the layout is over {self.length} elements, and the buffer has {items} of {elem_size} bytes"
             raise OutOfBoundsError("OutOfBounds", text, None, numbers)
-        check_layout(self.start, self.shape, self.strides, elem_size=elem_size, length=items)
 
 
 Views.frozen = Layout
