@@ -1,6 +1,7 @@
 """Makes the wheel of `ndarray_layout`: the build backend that pip and `python -m build --wheel` call.
 
-The wheel holds the package and the shared library that `bindings/c/build` makes by cargo. With NDARRAY_LAYOUT_PROVED=1
+The wheel holds the package, the shared library that `bindings/c/build` makes by cargo, and where `build_native` can compile
+it the extension module `_native`; NDARRAY_LAYOUT_PURE=1 in the environment leaves that out. With NDARRAY_LAYOUT_PROVED=1
 in the environment, or the setting `proved`, it holds the proved library of `bindings/c/proved`, which `build --proved`
 makes where the one that is there isn't of the sources as they are. With the setting `checked`, which `build_wheel` of this
 repository gives, it is a release: it holds `checked.txt` beside METADATA, and is refused where that isn't of these sources.
@@ -15,6 +16,7 @@ import re
 import subprocess
 import sys
 import sysconfig
+import tempfile
 import zipfile
 from pathlib import Path
 from typing import Any, Iterator, Mapping, Optional
@@ -22,6 +24,8 @@ from typing import Any, Iterator, Mapping, Optional
 HERE = Path(__file__).resolve().parent.parent
 TOP = HERE.parent.parent
 LIBRARY = "libndarray_layout.so"
+NATIVE = "_native.abi3.so"
+LACKING = 3  # (the status of `build_native` where a compiler, headers or Python 3.11 are missing)
 MADE = (1980, 1, 1, 0, 0, 0)  # (the first moment that a zip file can state: the same files make the same wheel)
 
 Settings = Optional[Mapping[str, Any]]
@@ -36,14 +40,19 @@ def build_wheel(
     library = _library(_is_proved(config_settings))
     files = [(f"ndarray_layout/{path.name}", path.read_bytes()) for path in _modules()]
     name = next(library.parent.glob(f"{LIBRARY}.*")).name  # (a file `.so` Python would take for a module)
-    return _write_wheel(wheel_directory, [*files, (f"ndarray_layout/{name}", library.read_bytes())], record)
+    files.append((f"ndarray_layout/{name}", library.read_bytes()))
+    with tempfile.TemporaryDirectory() as folder:
+        if _has_native(folder):
+            files.append((f"ndarray_layout/{NATIVE}", Path(folder, NATIVE).read_bytes()))
+    return _write_wheel(wheel_directory, files, record)
 
 
 def build_editable(
     wheel_directory: str, config_settings: Settings = None, metadata_directory: Optional[str] = None
 ) -> str:
-    """Makes a wheel that leads to this folder, and builds the library that the package takes from there."""
+    """Makes a wheel that leads to this folder, and builds what the package takes from there."""
     _library(proved=False)
+    _has_native()
     return _write_wheel(wheel_directory, [("ndarray_layout.pth", f"{HERE}\n".encode())], [])
 
 
@@ -74,9 +83,20 @@ def _library(proved: bool) -> Path:
     return library
 
 
+def _has_native(*folder: str) -> bool:
+    """Whether the extension module is made, in a folder or in the package. It isn't where the package can do without."""
+    if os.environ.get("NDARRAY_LAYOUT_PURE", "0") not in ("", "0"):
+        return False
+    python = {**os.environ, "PYTHON": sys.executable}
+    status = subprocess.run([HERE / "build_native", *folder], env=python, stdout=sys.stderr).returncode
+    if status not in (0, LACKING):
+        raise SystemExit("_native can't be compiled; with NDARRAY_LAYOUT_PURE=1 the wheel has none, and its calls take longer")
+    return status == 0
+
+
 def _modules() -> list[Path]:
     package = HERE / "ndarray_layout"
-    return sorted([*package.glob("*.py"), package / "py.typed"])
+    return sorted([*package.glob("*.py"), *package.glob("*.pyi"), package / "py.typed"])
 
 
 def version() -> str:
@@ -97,7 +117,7 @@ def _write_wheel(folder: str, files: Files, stated: Files) -> str:
     with zipfile.ZipFile(Path(folder) / name, "w", zipfile.ZIP_DEFLATED) as wheel:
         for path, content in [*files, (f"{info}/RECORD", f"{record}{info}/RECORD,,\n".encode())]:
             entry = zipfile.ZipInfo(path, MADE)
-            entry.external_attr = (0o755 if LIBRARY in path else 0o644) << 16
+            entry.external_attr = (0o755 if ".so" in path else 0o644) << 16
             wheel.writestr(entry, content, zipfile.ZIP_DEFLATED)
     return name
 

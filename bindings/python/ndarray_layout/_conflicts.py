@@ -13,6 +13,7 @@ from ._chunks import Chunks
 from ._numbers import LIMIT, Numbers, Packed, count_of, entries, flag, one_answer, unsigned
 from ._regions import MAX_PARTS, Blocks, Part, at_position, parts_of_slices, picks_of, picks_of_elems, read_plan, read_store
 from ._slices import SLICE_WITH_END, Elems, intersection
+from ._usual import conflict
 
 PIECE = 500
 """How many parts of two lists are compared in one call, in which Python hears no signal."""
@@ -72,6 +73,10 @@ def first_conflict(
     >>> first_conflict(9, [slice(0, 4), slice(4, 9)], chunks=((4, 3, 2),)), first_conflict(9, [3, 4], chunks=4)
     (None, None)
     """
+    if blocks is dims is None and max_parts is MAX_PARTS:
+        found = conflict(shape, regions, chunks)
+        if found is not None:
+            return (0, 1) if found else None
     plan = read_plan(shape, regions, chunks, blocks, dims, max_parts)
     return (plan.alone, plan.alone) if plan.alone is not None else first_of(plan.axes, plan.parts)
 

@@ -13,6 +13,7 @@ from ._sharing import MAX_WORK, Part, share_byte
 from ._slices import packed_key, slice_by_key
 from ._sources import Memory, read_in_memory
 from ._units import Array, Fields, ask_of_bytes, read_array
+from ._usual import share, share_keys
 
 _NOTHING: Any = type("Nothing", (), {"__repr__": lambda self: "nothing"})()
 
@@ -67,9 +68,12 @@ def share_element(a: Any, first: Any, second: Any = _NOTHING, max_work: Optional
     >>> share_element(whole[::6, 1::4], whole[3::4, 1::2]), share_element(whole[::6], whole[3::9])
     (False, True)
     """
-    max_work = work_limit(max_work)
     if second is _NOTHING:
         return _share_memory(a, first, max_work)
+    shared = share_keys(a, first, second) if _is_usual(max_work) else None
+    if shared is not None:
+        return shared
+    max_work = work_limit(max_work)
     shape, strides, itemsize = read_array(a)
     if not 0 <= itemsize < 2**64:
         raise not_64_bits("itemsize", itemsize, True, None)
@@ -90,7 +94,12 @@ def shares_memory(a: Any, b: Any, max_work: Optional[int] = MAX_WORK) -> bool:
     >>> shares_memory(whole[::2], whole[1::2]), shares_memory(whole[::2], whole[1::3])
     (False, True)
     """
-    return _share_memory(a, b, work_limit(max_work))
+    return _share_memory(a, b, max_work)
+
+
+def _is_usual(max_work: Any) -> bool:
+    """Whether so many steps decide what `_usual` does, and are a number."""
+    return max_work is MAX_WORK or max_work is None
 
 
 def _share_byte(array: tuple[Lens, Lens, int], first: Any, second: Any, max_work: Optional[int]) -> bool:
@@ -109,6 +118,12 @@ def _share_byte(array: tuple[Lens, Lens, int], first: Any, second: Any, max_work
 
 def _share_memory(a: Any, b: Any, max_work: Optional[int]) -> bool:
     """`share_element` of two arrays, or of two layouts of one buffer."""
+    shared = share(a, b) if _is_usual(max_work) else None
+    return _share_any_memory(a, b, work_limit(max_work)) if shared is None else shared
+
+
+def _share_any_memory(a: Any, b: Any, max_work: Optional[int]) -> bool:
+    """The same of any arrays and layouts."""
     if isinstance(a, Fields) != isinstance(b, Fields):
         raise TypeError("array: an array and a layout can't be compared; `Layout.of(array, base=buffer)` makes a layout of the array")
     if isinstance(a, Fields) and isinstance(b, Fields) and (a.length, a.itemsize) != (b.length, b.itemsize):

@@ -54,6 +54,7 @@ from ._sharing import MAX_WORK, share_byte
 from ._slices import basic_key, slices_intersect
 from ._sources import read_in_memory, read_source
 from ._units import Fields
+from ._usual import intersect
 from ._views import Views, made, of_class
 
 if TYPE_CHECKING:
@@ -334,6 +335,9 @@ class Layout(Views):
         (True, False)
         """
         max_work = work_limit(max_work)
+        shared = intersect(self.shape, first, second) if self.writable else None
+        if shared is not None:
+            return shared
         if not self.has_overlap:
             return slices_intersect(self.shape, basic_key(self.shape, first), basic_key(self.shape, second))
         shared = share_byte(self._view(first), self._view(second), 1, max_work) if max_work != 0 else None

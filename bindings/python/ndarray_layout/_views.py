@@ -17,6 +17,7 @@ from ._numbers import INTEGERS, ORDERS, Lens, Numbers, View, integer, integers, 
 from ._shapes import broadcast, exact_chunks, permuted_axes, reshape, split_at, windows
 from ._slices import Elems, slice_by_key, slice_view, unbounded_fields
 from ._units import Fields
+from ._usual import sliced
 
 if TYPE_CHECKING:
     from typing_extensions import Self
@@ -68,6 +69,9 @@ class Views(Fields):
 
     def __getitem__(self, key: Any) -> Self:
         """A slice by NumPy's keys: integers, slices, `...` and `None`. Bounds outside are moved to the nearest end."""
+        new = sliced(self, key)
+        if new is not None:
+            return new  # type: ignore[no-any-return]
         shape = self.shape
         axes = len(shape)
         fields, left = unbounded_fields(shape, key)
