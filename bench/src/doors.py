@@ -1,6 +1,7 @@
 """Calls from Python over one layout that was accepted before, each beside NumPy's over an array that lies so: the name of a row, and the
 nanoseconds of both, with tabs. The least of many rounds. NumPy has no call for the first of many slices that share an element: a mask is
-marked slice by slice there, until one is marked. The parts of a cube lie apart on the second axis alone, and the cube in no memory.
+marked slice by slice there, until one is marked. The parts of a cube lie apart on the second axis alone, and the cube in no memory. Parts of
+an image are made in the timed call, as they are written in one.
 
 usage: doors.py ROUNDS
 """
@@ -13,6 +14,9 @@ SIDE, ROUND_S, ROUNDS = 1000, 0.02, int(sys.argv[1])
 ARRAY = np.zeros((SIDE, SIDE), np.uint8)
 LAYOUT = nd.Layout.over(ARRAY, ARRAY.shape, writable=True)
 ODD, EVEN = (slice(1, None, 2), 3), (slice(0, None, 2), slice(None))
+IMAGE = np.zeros((480, 640, 3), np.uint8)
+PICTURE = nd.Layout.over(IMAGE, IMAGE.shape)
+TOP_ROWS, BOTTOM_ROWS, CHUNKS = (slice(0, 240), slice(0, 640), 0), (slice(240, 480), slice(0, 640), 0), (64, 64, 3)
 CUBE = np.lib.stride_tricks.as_strided(np.zeros(1, np.uint8), (10**6,) * 3, (10**12, 10**6, 1))
 ONE, OTHER = CUBE[::6, 1::4, ::9], CUBE[2::4, 0::6, 3::6]
 
@@ -24,6 +28,12 @@ def first_marked(shape, keys):
             return at
         marked[key] = True
     return None
+
+
+def in_chunks(key):
+    """The numbers of the chunks of a region of the image, by hand."""
+    rows, columns, channel = key
+    return *(slice(along.start // chunk, -(-along.stop // chunk)) for along, chunk in zip((rows, columns), CHUNKS)), channel // CHUNKS[2]
 
 
 def of_many(count):
@@ -42,8 +52,27 @@ ROWS = [
     ("place", lambda: LAYOUT.place((5, 7)), lambda: np.ravel_multi_index((5, 7), (SIDE, SIDE)), 1),
     ("slice", lambda: LAYOUT[ODD], lambda: ARRAY[ODD], 1),
     ("axes in reverse", lambda: LAYOUT.T, lambda: ARRAY.T, 1),
+    ("slice with `...`", lambda: PICTURE[..., 0], lambda: IMAGE[..., 0], 1),
+    ("slice by three bounds and steps", lambda: PICTURE[1:-1, ::2, ::-1], lambda: IMAGE[1:-1, ::2, ::-1], 1),
+    ("an array of a layout", lambda: PICTURE.as_array(IMAGE), lambda: np.ndarray(IMAGE.shape, IMAGE.dtype, IMAGE, 0, IMAGE.strides), 1),
+    ("two channels of an image", lambda: nd.share_element(IMAGE[..., 0], IMAGE[..., 1]), lambda: np.shares_memory(IMAGE[..., 0], IMAGE[..., 1]), 1),
+    ("two halves of an image", lambda: nd.share_element(IMAGE[:240], IMAGE[240:]), lambda: np.shares_memory(IMAGE[:240], IMAGE[240:]), 1),
+    ("rows by two steps of an image", lambda: nd.share_element(IMAGE[::2], IMAGE[::-3, :5]), lambda: np.shares_memory(IMAGE[::2], IMAGE[::-3, :5]), 1),
+    ("two keys of an image", lambda: nd.share_element(IMAGE, (..., 0), (..., 1)), lambda: np.shares_memory(IMAGE[..., 0], IMAGE[..., 1]), 1),
     ("two parts of a cube of side 1,000,000", lambda: nd.share_element(ONE, OTHER), lambda: np.shares_memory(ONE, OTHER), 1),
     ("intersect", lambda: LAYOUT.intersects(ODD, EVEN), lambda: np.shares_memory(ARRAY[ODD], ARRAY[EVEN]), 1),
+    (
+        "first_conflict of two regions",
+        lambda: nd.first_conflict(IMAGE.shape, [TOP_ROWS, BOTTOM_ROWS]),
+        lambda: np.shares_memory(IMAGE[TOP_ROWS], IMAGE[BOTTOM_ROWS]),
+        1,
+    ),
+    (
+        "first_conflict of two regions, in chunks",
+        lambda: nd.first_conflict(IMAGE.shape, [TOP_ROWS, BOTTOM_ROWS], CHUNKS),
+        lambda: first_marked((8, 10, 1), map(in_chunks, [TOP_ROWS, BOTTOM_ROWS])),
+        1,
+    ),
     ("rows of 1000x1000, a row", lambda: list(LAYOUT.rows()), lambda: list(ARRAY), SIDE),
     *map(of_many, (10, 1000, 100_000)),
 ]
