@@ -12,7 +12,7 @@ use Rattle.ndarray_layout.specs.Rows.{row_places, rows_places}
 abbrev pub places_after : ℕ → ℤ → ℕ → List Row → List ℤ
 places_after place stride left rows = drop 1 (row_places place stride (left + 1)) ++ rows_places rows
 
--- rows, and a last one behind them, which is none where it has no place
+-- rows, and a last one after them, which is none where it has no place
 abbrev pub rows_and : List Row → Row → List Row
 rows_and rows last = rows ++ (if last.len == 0 then [] else last ∷ [])
 

@@ -4,16 +4,16 @@ ghost use Rattle.nd_base.specs.Signed.{all_signed, magnitude, signed as signed_r
 ghost use Rattle.nd_base.specs.Size.{limit};
 ghost use Rattle.nd_base.specs.Span.{reach};
 ghost use Rattle.nd_base.specs.ValidLayout.{IsValidLayout};
-ghost use Rattle.ndarray_layout.specs.JoinedInAll.{AreJoined, NoMoreJoin, axis_after as axis_behind, strides_of};
+ghost use Rattle.ndarray_layout.specs.JoinedInAll.{AreJoined, NoMoreJoin, axis_after, strides_of};
 
 use nd_base::Order;
 use nd_shape::goes_on;
 
 /// The axis that moves fastest after so many others.
 #[inline(always)]
-fn axis_after(order: Order, ndim: usize, count: usize) -> usize
+fn next_axis(order: Order, ndim: usize, count: usize) -> usize
     requires { count < ndim }
-    ensures axis { result ≡ axis_behind order ndim count }
+    ensures axis { result ≡ axis_after order ndim count }
     ensures exists { result < ndim }
 {
     match order {
@@ -87,7 +87,7 @@ pub fn joined_in_all(
     let ndim = lens.len();
     let mut len = 1;
     for count in 0..ndim {
-        let axis = axis_after(order, ndim, count);
+        let axis = next_axis(order, ndim, count);
         if len > 1 {
             if lens[axis] > 1 && !all_go_on(strides, ndim, axis, len, joined) {
                 return (count, len);

@@ -10,13 +10,13 @@ use crate::nd_shape::goes_on;
 ///
 /// ```text
 /// requires count < ndim
-/// ensures axis: result ≡ axis_behind order ndim count
+/// ensures axis: result ≡ axis_after order ndim count
 /// ensures exists: result < ndim
 /// ```
 /// [How to read it](crate::contracts)
 /// </details>
 #[inline(always)]
-fn axis_after(order: Order, ndim: usize, count: usize) -> usize {
+fn next_axis(order: Order, ndim: usize, count: usize) -> usize {
     match order {
         Order::RowMajor => ndim - 1 - count,
         Order::ColumnMajor => count,
@@ -122,7 +122,7 @@ pub fn joined_in_all(order: Order, lens: &[usize], strides: &[usize], joined: &m
     let ndim = lens.len();
     let mut len = 1;
     for count in 0..ndim {
-        let axis = axis_after(order, ndim, count);
+        let axis = next_axis(order, ndim, count);
         if len > 1 {
             if lens[axis] > 1 && !all_go_on(strides, ndim, axis, len, joined) {
                 return (count, len);

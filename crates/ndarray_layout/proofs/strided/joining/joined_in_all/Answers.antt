@@ -19,34 +19,34 @@ loop-count-init c = λ number here.
 pub all_go_on-requires-clause-small : goal.all_go_on-requires-clause-small
 all_go_on-requires-clause-small c =
     let each = each_so_far c.args.order c.args.lens c.args.strides.now c.loop-count.joined c.loop-count.auto.joined c.requires.valid
-    c.loop-count-test.true c.loop-count.invariant c.axis_after-axis.ensures.axis c.axis_after-axis.ensures.exists in
+    c.loop-count-test.true c.loop-count.invariant c.next_axis-axis.ensures.axis c.next_axis-axis.ensures.exists in
     joined_fits (each 0 (omega (arith, c.requires.some, c.loop-count.auto.joined)))
 
 pub all_go_on-requires-clause-fits : goal.all_go_on-requires-clause-fits
 all_go_on-requires-clause-fits c =
     let each = each_so_far c.args.order c.args.lens c.args.strides.now c.loop-count.joined c.loop-count.auto.joined c.requires.valid
-    c.loop-count-test.true c.loop-count.invariant c.axis_after-axis.ensures.axis c.axis_after-axis.ensures.exists in
+    c.loop-count-test.true c.loop-count.invariant c.next_axis-axis.ensures.axis c.next_axis-axis.ensures.exists in
     λ number here. step_fits (each number here) (omega (arith, c.if-lens-axis-gt1.true))
 
 pub returns-then-not-all_go_on-clause-longest : goal.returns-then-not-all_go_on-clause-longest
 returns-then-not-all_go_on-clause-longest c =
     let each = each_so_far c.args.order c.args.lens c.args.strides.now c.loop-count.joined c.loop-count.auto.joined c.requires.valid
-    c.loop-count-test.true c.loop-count.invariant c.axis_after-axis.ensures.axis c.axis_after-axis.ensures.exists in
+    c.loop-count-test.true c.loop-count.invariant c.next_axis-axis.ensures.axis c.next_axis-axis.ensures.exists in
     λ more fits. both_ways c.all_go_on.result c.if-not-all_go_on.true (c.all_go_on.ensures.1 (λ number here.
     goes_on_from_fit (each number here) (omega (arith, c.if-lens-axis-gt1.true)) (omega (arith, c.if-len-gt1.true)) (fits number here)))
 
 pub overflow_mul-len : goal.overflow_mul-len
 overflow_mul-len c =
     let each = each_so_far c.args.order c.args.lens c.args.strides.now c.loop-count.joined c.loop-count.auto.joined c.requires.valid
-    c.loop-count-test.true c.loop-count.invariant c.axis_after-axis.ensures.axis c.axis_after-axis.ensures.exists in
+    c.loop-count-test.true c.loop-count.invariant c.next_axis-axis.ensures.axis c.next_axis-axis.ensures.exists in
     omega (arith, longer_fits (each 0 (omega (arith, c.requires.some, c.loop-count.auto.joined))))
 
 pub loop-count-preserved : goal.loop-count-preserved
 loop-count-preserved c =
     let each = each_so_far c.args.order c.args.lens c.args.strides.now c.loop-count.joined c.loop-count.auto.joined c.requires.valid
-    c.loop-count-test.true c.loop-count.invariant c.axis_after-axis.ensures.axis c.axis_after-axis.ensures.exists in
+    c.loop-count-test.true c.loop-count.invariant c.next_axis-axis.ensures.axis c.next_axis-axis.ensures.exists in
     let lens = c.args.lens.now in
-    let axis = c.axis_after-axis.result in
+    let axis = c.next_axis-axis.result in
     let len = c.loop-count.len in
     let step = λ (number : ℕ). get_or c.args.strides.now (number * length lens + axis) 0 in
     let stride = λ (number : ℕ). get_or c.loop-count.joined number 0 in
