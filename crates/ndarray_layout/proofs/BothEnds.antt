@@ -1,7 +1,7 @@
 -- What is left of rows of places from both ends: without the last ones, and with a row that has begun at the back.
-use Rattle.std.proofs.Common.{◌≡◌, ℕ, zero, suc, ◌+◌, ◌-◌, ◌*◌, ◌<◌, ◌≤◌, ◌^◌, ℤ, pos, ◌+ℤ◌, ◌*ℤ◌, Bool, true, false, cond, inl, inr}
-use Rattle.std.proofs.Common.{List, [], ◌∷◌, ◌++◌, append_assoc, append-nil, drop, take, length, min, nat_eq, refl, sym, ap, subst, ◌∙◌}
-use Rattle.std.proofs.Common.{arith, eq-eqb, eqb-true, pos_of_ne-zero, length-append, length-drop, length-take}
+use Rattle.std.proofs.Common.{◌≡◌, ℕ, zero, suc, ◌+◌, ◌-◌, ◌*◌, ◌/◌, ◌%◌, ◌<◌, ◌≤◌, ◌^◌, ℤ, pos, ◌+ℤ◌, ◌*ℤ◌, Bool, true, false, cond}
+use Rattle.std.proofs.Common.{inl, inr, List, [], ◌∷◌, ◌++◌, append_assoc, append-nil, drop, take, length, min, nat_eq, refl, sym, ap}
+use Rattle.std.proofs.Common.{subst, ◌∙◌, arith, eq-eqb, eqb-true, pos_of_ne-zero, length-append, length-drop, length-take}
 use Rattle.std.specs.List.{All}
 use Rattle.std.proofs.Math.Nat.{min-le_right, mul-le-mul_right}
 use Rattle.std.proofs.Math.Seq.{drop-append-add, drop-append_seam, take-append-add, take-append_seam}
@@ -10,6 +10,7 @@ use Rattle.std.proofs.lemmas.Grind.{flat_map-append}
 use Rattle.std.proofs.lemmas.List.{drop-append-le, drop_all, length-take-le, take-append-le, take-take}
 use Rattle.std.proofs.lemmas.List.Elements.{All-append, All-cons, All-drop, All-head, All-nil, All-tail, All-take}
 use Rattle.std.proofs.lemmas.List.FromFn.{take-map-range_with_len}
+use Rattle.std.proofs.lemmas.Nat.{div-add-mod', mod_below}
 use Rattle.nd_base.proofs.laws.Definitions.{IsInBounds, limit}
 use Rattle.ndarray_layout.specs.declared.strided.rows.Row.{Row}
 use Rattle.ndarray_layout.specs.PlacesLeft.{ArePlacesLeft, places_after, rows_and}
@@ -17,7 +18,7 @@ use Rattle.ndarray_layout.specs.Rows.{row_places, rows_places}
 use Rattle.ndarray_layout.specs.View.{IsPlace}
 use Rattle.ndarray_layout.proofs.ByRows.{row_from}
 use Rattle.ndarray_layout.proofs.KeptRows.{lesser}
-use Rattle.ndarray_layout.proofs.LaterPlaces.{drop_rows, length-row, past_row}
+use Rattle.ndarray_layout.proofs.LaterPlaces.{EntersRow, drop_rows, length-row, past_row}
 use Rattle.ndarray_layout.proofs.RowSteps.{after, place_bounds, start_bound}
 use Rattle.ndarray_layout.proofs.laws.Rows.{length-row_places, no_more, row_more}
 
@@ -337,11 +338,32 @@ module _ (place left : ℕ) (stride : ℤ) (rows : List Row) (last : Row) (l : A
       ∙ ap (λ xs. xs ++ end) (drop_rows len q rows of_len ∙ ap rows_places (sym is))
       ∙ sym (rows_places-and later last)
 
+  -- and so past many places, where they leave out whole rows alone
+  pub past_rows : (len n : ℕ) {later : List Row} → All (λ row. row.len ≡ len) rows → n < length (rows_places rows)
+      → later ≡ drop (n / len) rows → n % len ≡ 0 → drop (left + n) all ≡ rows_places (rows_and later last)
+  past_rows len n of_len below is none =
+      let whole : n ≡ n / len * len = omega (arith, div-add-mod' n len, none) in
+      ap (λ k. drop (left + k) all) whole ∙ past_whole len (n / len) of_len is (omega (arith, below, whole))
+
   pub row_of_later : (len q : ℕ) {later others : List Row} {one : Row} → All (λ row. row.len ≡ len) rows → later ≡ drop q rows
       → q * len ≤ length (rows_places rows) → later ≡ one ∷ others
       → drop (left + q * len) all ≡ rows_places (one ∷ rows_and others last)
   row_of_later len q of_len is within first =
       past_whole len q of_len is within ∙ ap (λ xs. rows_places (rows_and xs last)) first
+
+  -- or into the row after those
+  pub enters_row : (len n : ℕ) {later others : List Row} {one : Row} → All (λ row. row.len ≡ len) rows → n < length (rows_places rows)
+      → later ≡ drop (n / len) rows → later ≡ one ∷ others → 0 < n % len
+      → EntersRow all one (rows_and others last) (left + n / len * len) (n % len)
+  enters_row len n of_len below is first some = record {
+    begins = row_of_later len (n / len) of_len is (omega (arith, below, div-add-mod' n len)) first;
+    some = some;
+    few = omega (
+      arith,
+      mod_below n len (some_len len n rows of_len below),
+      first_len len (n / len) rows of_len (sym is ∙ first),
+    );
+  }
 
   -- at the back: in the last row
   pub within_last : (count : ℕ) → count ≤ last.len

@@ -65,6 +65,12 @@ row_rests place stride left count rest few =
     drop-append-le count (row_from (place +ℤ stride) stride left) rest (omega (arith, few, length-row (place +ℤ stride) stride left))
     ∙ ap (λ xs. xs ++ rest) (row_drop count left (place +ℤ stride) stride few ∙ ap (λ z. row_from z stride (left - count)) there)
 
+-- so many places are before a row and the others, and of its places so many are left out: some, and not all
+pub record EntersRow (places : List ℤ) (row : Row) (others : List Row) (before r : ℕ) : Type 0 where
+  pub begins : drop before places ≡ rows_places (row ∷ others)
+  pub some : 0 < r
+  pub few : r < row.len
+
 module _ {place left : ℕ} {stride : ℤ} {rows : List Row} (l : ArePlacesLeft place stride left rows) where
   -- what an iterator has after so many places
   pub left_later : {place' left' : ℕ} {stride' : ℤ} {rows' : List Row} (count : ℕ) → place' ≤ limit → All (λ row. 0 < row.len) rows'
@@ -118,11 +124,12 @@ module _ {place left : ℕ} {stride : ℤ} {rows : List Row} (l : ArePlacesLeft 
         ∙ drop_at (row_places row.start row.stride row.len) (places_after place stride left others) row.len
         (length-row_places row.start row.stride row.len))
 
-  -- else a row has begun: so many of its places are left out after those before it
-  module _ (row : Row) (others : List Row) (before r : ℕ)
-      (e : drop before (places_after place stride left rows) ≡ rows_places (row ∷ others)) (some : 0 < r) (few : r < row.len) where
+  -- else a row has begun
+  module _ {row : Row} {others : List Row} {before r : ℕ} (i : EntersRow (places_after place stride left rows) row others before r) where
+    open i use {begins, some, few}
+
     in_bounds : All (IsInBounds (2 ^ 63)) (row_places row.start row.stride row.len)
-    in_bounds = (All-first_row (IsInBounds (2 ^ 63)) row others (subst (All (IsInBounds (2 ^ 63))) e
+    in_bounds = (All-first_row (IsInBounds (2 ^ 63)) row others (subst (All (IsInBounds (2 ^ 63))) begins
         (All-drop (IsInBounds (2 ^ 63)) before (places_after place stride left rows) l.in_bounds))).0
 
     pub start_fits : row.start ≤ limit
@@ -137,7 +144,7 @@ module _ {place left : ℕ} {stride : ℤ} {rows : List Row} (l : ArePlacesLeft 
       few,
       length-append (row_places row.start row.stride row.len) (rows_places others),
       length-row_places row.start row.stride row.len,
-      ap length e,
+      ap length begins,
       length-drop before (places_after place stride left rows),
       l.fits,
     )
@@ -149,7 +156,7 @@ module _ {place left : ℕ} {stride : ℤ} {rows : List Row} (l : ArePlacesLeft 
         let there : pos row.start +ℤ (pos r *ℤ row.stride) ≡ pos place' +ℤ row.stride =
         omega (arith, ints, at, ap (λ i. pos i *ℤ row.stride) last, one_more_step (r - 1) row.stride) in
         sym (drop-drop r before (places_after place stride left rows))
-        ∙ ap (drop r) e
+        ∙ ap (drop r) begins
         ∙ drop-append-le r (row_places row.start row.stride row.len) (rows_places others)
         (omega (arith, few, length-row_places row.start row.stride row.len))
         ∙ ap (λ xs. xs ++ rows_places others) (row_drop r row.len (pos row.start) row.stride (omega (arith, few)))

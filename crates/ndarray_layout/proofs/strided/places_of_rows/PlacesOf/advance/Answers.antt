@@ -4,12 +4,12 @@ use Rattle.std.proofs.Common.{arith}
 use Rattle.std.specs.List.{All}
 use Rattle.std.proofs.lemmas.Int.{ints}
 use Rattle.std.proofs.lemmas.List.Elements.{All-drop, All-tail}
-use Rattle.std.proofs.lemmas.Nat.{div-add-mod', mod_below}
+use Rattle.std.proofs.lemmas.Nat.{div-add-mod'}
 use Rattle.nd_base.proofs.laws.Definitions.{signed}
 use Rattle.ndarray_layout.specs.PlacesLeft.{places_after, rows_and}
 use Rattle.ndarray_layout.specs.Rows.{rows_places}
-use Rattle.ndarray_layout.proofs.BothEnds.{All-and, end_fits, end_in, first_len, length-parts, past_all, past_whole, row_of_later}
-use Rattle.ndarray_layout.proofs.BothEnds.{some_later, some_len, some_rows}
+use Rattle.ndarray_layout.proofs.BothEnds.{All-and, end_fits, end_in, enters_row, length-parts, past_all, past_rows, some_later, some_len}
+use Rattle.ndarray_layout.proofs.BothEnds.{some_rows}
 use Rattle.ndarray_layout.proofs.LaterPlaces.{coordinate_fits, left_entered, left_later, place_fits, place_in_row, row_entered}
 use Rattle.ndarray_layout.proofs.LaterPlaces.{start_fits, within_row}
 use Rattle.ndarray_layout.proofs.strided.places_of_rows.PlacesOf.advance.Goals as goal
@@ -81,21 +81,13 @@ invariant_of-self-then-count-in_rows g c =
 -- ---- past whole ones
 pub nonzero_div-count : goal.nonzero_div-count
 nonzero_div-count g c =
-    let p = c.self.inside in
-    let rows = g.R.RowEnds.rows p.rows in
-    let len = c.row_len-len.result in
-    let count = c.args.count - p.left in
-    let below : count < length (rows_places rows) = omega (arith, c.if-count-in_rows.false, c.count_of_places-in_rows.ensures) in
-    some_len len count rows c.row_len-len.ensures below
+    some_len c.row_len-len.result (c.args.count - c.self.inside.left) (g.R.RowEnds.rows c.self.inside.rows) c.row_len-len.ensures
+    (omega (arith, c.if-count-in_rows.false, c.count_of_places-in_rows.ensures))
 
 pub nonzero_rem-in_row : goal.nonzero_rem-in_row
 nonzero_rem-in_row g c =
-    let p = c.self.inside in
-    let rows = g.R.RowEnds.rows p.rows in
-    let len = c.row_len-len.result in
-    let count = c.args.count - p.left in
-    let below : count < length (rows_places rows) = omega (arith, c.if-count-in_rows.false, c.count_of_places-in_rows.ensures) in
-    some_len len count rows c.row_len-len.ensures below
+    some_len c.row_len-len.result (c.args.count - c.self.inside.left) (g.R.RowEnds.rows c.self.inside.rows) c.row_len-len.ensures
+    (omega (arith, c.if-count-in_rows.false, c.count_of_places-in_rows.ensures))
 
 pub returns-then-in_row-eq0 : goal.returns-then-in_row-eq0
 returns-then-in_row-eq0 g c =
@@ -104,12 +96,10 @@ returns-then-in_row-eq0 g c =
     let len = c.row_len-len.result in
     let count = c.args.count - p.left in
     let below : count < length (rows_places rows) = omega (arith, c.if-count-in_rows.false, c.count_of_places-in_rows.ensures) in
-    let e = div-add-mod' count len in
-    let within : count / len * len ≤ length (rows_places rows) = omega (arith, below, e) in
-    let later = past_whole p.place p.left p.stride rows p.back c.self.invariant len (count / len) c.row_len-len.ensures
-    c.drop_first-2.ensures within in
-    let all : p.left + count / len * len ≡ c.args.count = omega (arith, e, c.if-count-self.false, c.if-in_row-eq0.true) in
-    sym later ∙ ap (λ n. drop n (places_after p.place p.stride p.left (rows_and rows p.back))) all ∙ ap (drop c.args.count) c.self.view_is
+    let later = past_rows p.place p.left p.stride rows p.back c.self.invariant len count c.row_len-len.ensures below
+    c.drop_first-2.ensures c.if-in_row-eq0.true in
+    sym later ∙ ap (λ n. drop n (places_after p.place p.stride p.left (rows_and rows p.back))) (omega (arith, c.if-count-self.false))
+    ∙ ap (drop c.args.count) c.self.view_is
 
 pub invariant_of-self-then-in_row-eq0 : goal.invariant_of-self-then-in_row-eq0
 invariant_of-self-then-in_row-eq0 g c =
@@ -118,14 +108,11 @@ invariant_of-self-then-in_row-eq0 g c =
     let len = c.row_len-len.result in
     let count = c.args.count - p.left in
     let below : count < length (rows_places rows) = omega (arith, c.if-count-in_rows.false, c.count_of_places-in_rows.ensures) in
-    let e = div-add-mod' count len in
-    let within : count / len * len ≤ length (rows_places rows) = omega (arith, below, e) in
-    let later = past_whole p.place p.left p.stride rows p.back c.self.invariant len (count / len) c.row_len-len.ensures
-    c.drop_first-2.ensures within in
-    let all : p.left + count / len * len ≡ c.args.count = omega (arith, e, c.if-count-self.false, c.if-in_row-eq0.true) in
+    let later = past_rows p.place p.left p.stride rows p.back c.self.invariant len count c.row_len-len.ensures below
+    c.drop_first-2.ensures c.if-in_row-eq0.true in
     let some_of = subst (All (λ row. 0 < row.len)) (sym c.drop_first-2.ensures) (All-drop (λ row. 0 < row.len) _ rows
     (some_rows p.place p.left p.stride rows p.back c.self.invariant)) in
-    left_later c.self.invariant (p.left + count / len * len) c.self.invariant.here
+    left_later c.self.invariant (p.left + count) c.self.invariant.here
     (All-and (g.R.RowEnds.rows c.drop_first-2.new.self) p.back some_of) later
 
 -- ---- and in a row
@@ -136,17 +123,9 @@ place_along_axis-self-inside-requires-in-Some-clause-small g c =
     let len = c.row_len-len.result in
     let count = c.args.count - p.left in
     let below : count < length (rows_places rows) = omega (arith, c.if-count-in_rows.false, c.count_of_places-in_rows.ensures) in
-    let e = div-add-mod' count len in
-    let within : count / len * len ≤ length (rows_places rows) = omega (arith, below, e) in
-    let of_later = row_of_later p.place p.left p.stride rows p.back c.self.invariant len (count / len) c.row_len-len.ensures
-    c.drop_first-2.ensures within c.in-Some.ensures in
-    let others = rows_and (g.R.RowEnds.rows c.take_first.new.self) p.back in
-    let row = c.in-Some.row in
-    let long = first_len len (count / len) rows c.row_len-len.ensures (sym c.drop_first-2.ensures ∙ c.in-Some.ensures) in
-    let some : 0 < count % len = omega (arith, c.if-in_row-eq0.false) in
-    let few : count % len < row.len =
-    omega (arith, mod_below count len (some_len len count rows c.row_len-len.ensures below), long) in
-    omega (arith, coordinate_fits c.self.invariant row others (p.left + count / len * len) (count % len) of_later some few)
+    let i = enters_row p.place p.left p.stride rows p.back c.self.invariant len count c.row_len-len.ensures below c.drop_first-2.ensures
+    c.in-Some.ensures (omega (arith, c.if-in_row-eq0.false)) in
+    omega (arith, coordinate_fits c.self.invariant i)
 
 pub place_along_axis-self-inside-requires-in-Some-clause-first : goal.place_along_axis-self-inside-requires-in-Some-clause-first
 place_along_axis-self-inside-requires-in-Some-clause-first g c =
@@ -155,17 +134,9 @@ place_along_axis-self-inside-requires-in-Some-clause-first g c =
     let len = c.row_len-len.result in
     let count = c.args.count - p.left in
     let below : count < length (rows_places rows) = omega (arith, c.if-count-in_rows.false, c.count_of_places-in_rows.ensures) in
-    let e = div-add-mod' count len in
-    let within : count / len * len ≤ length (rows_places rows) = omega (arith, below, e) in
-    let of_later = row_of_later p.place p.left p.stride rows p.back c.self.invariant len (count / len) c.row_len-len.ensures
-    c.drop_first-2.ensures within c.in-Some.ensures in
-    let others = rows_and (g.R.RowEnds.rows c.take_first.new.self) p.back in
-    let row = c.in-Some.row in
-    let long = first_len len (count / len) rows c.row_len-len.ensures (sym c.drop_first-2.ensures ∙ c.in-Some.ensures) in
-    let some : 0 < count % len = omega (arith, c.if-in_row-eq0.false) in
-    let few : count % len < row.len =
-    omega (arith, mod_below count len (some_len len count rows c.row_len-len.ensures below), long) in
-    start_fits c.self.invariant row others (p.left + count / len * len) (count % len) of_later some few
+    let i = enters_row p.place p.left p.stride rows p.back c.self.invariant len count c.row_len-len.ensures below c.drop_first-2.ensures
+    c.in-Some.ensures (omega (arith, c.if-in_row-eq0.false)) in
+    start_fits c.self.invariant i
 
 pub place_along_axis-self-inside-requires-in-Some-clause-there : goal.place_along_axis-self-inside-requires-in-Some-clause-there
 place_along_axis-self-inside-requires-in-Some-clause-there g c =
@@ -174,19 +145,11 @@ place_along_axis-self-inside-requires-in-Some-clause-there g c =
     let len = c.row_len-len.result in
     let count = c.args.count - p.left in
     let below : count < length (rows_places rows) = omega (arith, c.if-count-in_rows.false, c.count_of_places-in_rows.ensures) in
-    let e = div-add-mod' count len in
-    let within : count / len * len ≤ length (rows_places rows) = omega (arith, below, e) in
-    let of_later = row_of_later p.place p.left p.stride rows p.back c.self.invariant len (count / len) c.row_len-len.ensures
-    c.drop_first-2.ensures within c.in-Some.ensures in
-    let others = rows_and (g.R.RowEnds.rows c.take_first.new.self) p.back in
-    let row = c.in-Some.row in
-    let long = first_len len (count / len) rows c.row_len-len.ensures (sym c.drop_first-2.ensures ∙ c.in-Some.ensures) in
-    let some : 0 < count % len = omega (arith, c.if-in_row-eq0.false) in
-    let few : count % len < row.len =
-    omega (arith, mod_below count len (some_len len count rows c.row_len-len.ensures below), long) in
-    let step : signed c.unsigned-in-Some.result ≡ row.stride = omega (arith, ints, c.unsigned-in-Some.ensures.back) in
-    let there = place_fits c.self.invariant row others (p.left + count / len * len) (count % len) of_later some few in
-    let same = ap (λ s. pos row.start +ℤ (pos (count % len - 1) *ℤ s)) step in
+    let i = enters_row p.place p.left p.stride rows p.back c.self.invariant len count c.row_len-len.ensures below c.drop_first-2.ensures
+    c.in-Some.ensures (omega (arith, c.if-in_row-eq0.false)) in
+    let step : signed c.unsigned-in-Some.result ≡ c.in-Some.row.stride = omega (arith, ints, c.unsigned-in-Some.ensures.back) in
+    let there = place_fits c.self.invariant i in
+    let same = ap (λ s. pos c.in-Some.row.start +ℤ (pos (count % len - 1) *ℤ s)) step in
     (omega (arith, ints, same, there.0), omega (arith, ints, same, there.1))
 
 pub overflow_sub-self-in-Some : goal.overflow_sub-self-in-Some
@@ -196,17 +159,9 @@ overflow_sub-self-in-Some g c =
     let len = c.row_len-len.result in
     let count = c.args.count - p.left in
     let below : count < length (rows_places rows) = omega (arith, c.if-count-in_rows.false, c.count_of_places-in_rows.ensures) in
-    let e = div-add-mod' count len in
-    let within : count / len * len ≤ length (rows_places rows) = omega (arith, below, e) in
-    let of_later = row_of_later p.place p.left p.stride rows p.back c.self.invariant len (count / len) c.row_len-len.ensures
-    c.drop_first-2.ensures within c.in-Some.ensures in
-    let others = rows_and (g.R.RowEnds.rows c.take_first.new.self) p.back in
-    let row = c.in-Some.row in
-    let long = first_len len (count / len) rows c.row_len-len.ensures (sym c.drop_first-2.ensures ∙ c.in-Some.ensures) in
-    let some : 0 < count % len = omega (arith, c.if-in_row-eq0.false) in
-    let few : count % len < row.len =
-    omega (arith, mod_below count len (some_len len count rows c.row_len-len.ensures below), long) in
-    omega (arith, few)
+    let i = enters_row p.place p.left p.stride rows p.back c.self.invariant len count c.row_len-len.ensures below c.drop_first-2.ensures
+    c.in-Some.ensures (omega (arith, c.if-in_row-eq0.false)) in
+    omega (arith, i.few)
 
 pub invariant_of-self-in-Some : goal.invariant_of-self-in-Some
 invariant_of-self-in-Some g c =
@@ -215,22 +170,15 @@ invariant_of-self-in-Some g c =
     let len = c.row_len-len.result in
     let count = c.args.count - p.left in
     let below : count < length (rows_places rows) = omega (arith, c.if-count-in_rows.false, c.count_of_places-in_rows.ensures) in
-    let e = div-add-mod' count len in
-    let within : count / len * len ≤ length (rows_places rows) = omega (arith, below, e) in
-    let of_later = row_of_later p.place p.left p.stride rows p.back c.self.invariant len (count / len) c.row_len-len.ensures
-    c.drop_first-2.ensures within c.in-Some.ensures in
-    let others = rows_and (g.R.RowEnds.rows c.take_first.new.self) p.back in
-    let row = c.in-Some.row in
-    let long = first_len len (count / len) rows c.row_len-len.ensures (sym c.drop_first-2.ensures ∙ c.in-Some.ensures) in
-    let some : 0 < count % len = omega (arith, c.if-in_row-eq0.false) in
-    let few : count % len < row.len =
-    omega (arith, mod_below count len (some_len len count rows c.row_len-len.ensures below), long) in
-    let step : signed c.unsigned-in-Some.result ≡ row.stride = omega (arith, ints, c.unsigned-in-Some.ensures.back) in
-    let at = c.place_along_axis-self-inside-in-Some.ensures ∙ ap (λ s. pos row.start +ℤ (pos (count % len - 1) *ℤ s)) step in
+    let i = enters_row p.place p.left p.stride rows p.back c.self.invariant len count c.row_len-len.ensures below c.drop_first-2.ensures
+    c.in-Some.ensures (omega (arith, c.if-in_row-eq0.false)) in
+    let step : signed c.unsigned-in-Some.result ≡ c.in-Some.row.stride = omega (arith, ints, c.unsigned-in-Some.ensures.back) in
+    let at = c.place_along_axis-self-inside-in-Some.ensures ∙ ap (λ s. pos c.in-Some.row.start +ℤ (pos (count % len - 1) *ℤ s)) step in
     let some_of = subst (All (λ row. 0 < row.len)) (sym c.drop_first-2.ensures ∙ c.in-Some.ensures) (All-drop (λ row. 0 < row.len) _ rows
     (some_rows p.place p.left p.stride rows p.back c.self.invariant)) in
-    left_entered c.self.invariant row others (p.left + count / len * len) (count % len) of_later some few
-    (All-and (g.R.RowEnds.rows c.take_first.new.self) p.back (All-tail (λ row. 0 < row.len) row _ some_of)) at (omega (arith, ints))
+    left_entered c.self.invariant i
+    (All-and (g.R.RowEnds.rows c.take_first.new.self) p.back (All-tail (λ row. 0 < row.len) c.in-Some.row _ some_of)) at
+    (omega (arith, ints))
 
 pub returns-in-Some : goal.returns-in-Some
 returns-in-Some g c =
@@ -239,20 +187,12 @@ returns-in-Some g c =
     let len = c.row_len-len.result in
     let count = c.args.count - p.left in
     let below : count < length (rows_places rows) = omega (arith, c.if-count-in_rows.false, c.count_of_places-in_rows.ensures) in
-    let e = div-add-mod' count len in
-    let within : count / len * len ≤ length (rows_places rows) = omega (arith, below, e) in
-    let of_later = row_of_later p.place p.left p.stride rows p.back c.self.invariant len (count / len) c.row_len-len.ensures
-    c.drop_first-2.ensures within c.in-Some.ensures in
-    let others = rows_and (g.R.RowEnds.rows c.take_first.new.self) p.back in
-    let row = c.in-Some.row in
-    let long = first_len len (count / len) rows c.row_len-len.ensures (sym c.drop_first-2.ensures ∙ c.in-Some.ensures) in
-    let some : 0 < count % len = omega (arith, c.if-in_row-eq0.false) in
-    let few : count % len < row.len =
-    omega (arith, mod_below count len (some_len len count rows c.row_len-len.ensures below), long) in
-    let step : signed c.unsigned-in-Some.result ≡ row.stride = omega (arith, ints, c.unsigned-in-Some.ensures.back) in
-    let at = c.place_along_axis-self-inside-in-Some.ensures ∙ ap (λ s. pos row.start +ℤ (pos (count % len - 1) *ℤ s)) step in
-    let all : c.args.count ≡ p.left + count / len * len + count % len = omega (arith, e, c.if-count-self.false) in
-    sym (row_entered c.self.invariant row others (p.left + count / len * len) (count % len) of_later some few at (omega (arith, ints)))
+    let i = enters_row p.place p.left p.stride rows p.back c.self.invariant len count c.row_len-len.ensures below c.drop_first-2.ensures
+    c.in-Some.ensures (omega (arith, c.if-in_row-eq0.false)) in
+    let step : signed c.unsigned-in-Some.result ≡ c.in-Some.row.stride = omega (arith, ints, c.unsigned-in-Some.ensures.back) in
+    let at = c.place_along_axis-self-inside-in-Some.ensures ∙ ap (λ s. pos c.in-Some.row.start +ℤ (pos (count % len - 1) *ℤ s)) step in
+    let all : c.args.count ≡ p.left + count / len * len + count % len = omega (arith, div-add-mod' count len, c.if-count-self.false) in
+    sym (row_entered c.self.invariant i at (omega (arith, ints)))
     ∙ ap (λ n. drop n (places_after p.place p.stride p.left (rows_and rows p.back))) (sym all)
     ∙ ap (drop c.args.count) c.self.view_is
 
