@@ -27,6 +27,7 @@ pub mod Passed
 pub mod PickedSize
 pub mod ReadView
 pub mod RowsLeft
+pub mod RowColumns
 pub mod RowSteps
 pub mod Slices
 pub mod SliceSteps

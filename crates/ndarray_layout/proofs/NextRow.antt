@@ -151,7 +151,7 @@ module _ {order : Order} {start : ℕ} {lens strides : List ℕ} {left : ℕ} (a
     back_within = flat_within order others_later.view (flat - 1) (omega (arith, others_later.below))
 
 -- the first index lies at the start
-first_place : (order : Order) (view : View) → 0 < size view.shape → place_at view (index_of_flat_in order view.shape 0) ≡ pos view.start
+pub first_place : (order : Order) (view : View) → 0 < size view.shape → place_at view (index_of_flat_in order view.shape 0) ≡ pos view.start
 first_place order view some =
     let zeros = replicate (length view.shape) 0 in
     let index = index_of_flat_in order view.shape 0 in

@@ -1,12 +1,12 @@
 -- The rows of a view by their numbers: those that an iterator with the view has left.
-use Rattle.std.proofs.Common.{◌≡◌, ℕ, ◌+◌, ◌-◌, ◌*◌, ◌<◌, ◌≤◌, ◌^◌, ℤ, pos, cond, inl, inr, List, [], ◌∷◌, ◌++◌, drop, get_or}
+use Rattle.std.proofs.Common.{◌≡◌, ℕ, ◌+◌, ◌-◌, ◌*◌, ◌<◌, ◌≤◌, ℤ, pos, Bool, true, false, cond, inl, inr, List, [], ◌∷◌, ◌++◌, drop, get_or}
 use Rattle.std.proofs.Common.{length, map, min, take, nat_eq, refl, sym, ap, subst, ◌∙◌, arith, length-drop, add-one}
 use Rattle.std.proofs.Math.Nat.{min-eq_left, min-eq_right, min-le_right, mul-le-mul_right}
 use Rattle.std.proofs.lemmas.Bool.{cases_lt}
 use Rattle.std.proofs.lemmas.List.{drop-drop, drop-map, drop-take, get_or-drop, get_or-map, length-map, length-take-le, map-append}
 use Rattle.std.proofs.lemmas.List.{drop_min, take-map, take-take, take_more}
 use Rattle.nd_base.specs.declared.order.Order.{Order}
-use Rattle.nd_base.proofs.laws.Definitions.{index_of_flat_in, indices_in, place, signed, size}
+use Rattle.nd_base.proofs.laws.Definitions.{index_of_flat_in, indices_in, limit, place, signed, size}
 use Rattle.nd_base.proofs.laws.Indices.{get_or-indices_in, length-indices_in}
 use Rattle.ndarray_layout.specs.declared.strided.rows.Fastest.{Fastest}
 use Rattle.ndarray_layout.specs.declared.strided.rows.Row.{Row}
@@ -20,7 +20,7 @@ use Rattle.ndarray_layout.proofs.KeptRows.{lesser, places_of_rows}
 use Rattle.ndarray_layout.proofs.NextRow.{next_place}
 use Rattle.ndarray_layout.proofs.RowsLeft.{IsFirst, IsView-slower, all_left, first_rows, size-axis_view}
 use Rattle.ndarray_layout.proofs.SlowestAxes.{slowest-map}
-use Rattle.ndarray_layout.proofs.laws.View.{length-view_places, size_fits}
+use Rattle.ndarray_layout.proofs.laws.View.{length-view_places}
 
 -- ---- of the rows of a list of places those between two numbers
 module _ (row : Row) (starts : List ℤ) (begun end : ℕ) where
@@ -161,6 +161,25 @@ module _ {order : Order} {slower : ℕ} {view : View} {begun end : ℕ} (row : R
         ∙ ap (λ z. rows_between order slower view row begun (end - 1) ++ moved_to row z ∷ []) (here ∙ sym e)
 
 -- ---- at first
+-- all that there are
+few_or_none : (none : Bool) (size rows : ℕ) → rows ≡ cond none 0 size → rows ≤ size
+few_or_none true size rows e = omega (arith, e)
+few_or_none false size rows e = omega (arith, e)
+
+pub all_between : {order : Order} {slower : ℕ} {view : View} {len rows : ℕ} → IsView (slowest_view order slower view)
+    → (slower ≤ length view.shape) × (slower ≤ length view.strides)
+    → cond (nat_eq len 0) 0 (size (slowest order slower view.shape)) * len ≤ limit
+    → rows ≡ cond (nat_eq len 0) 0 (size (slowest order slower view.shape)) → AreRowsBetween order slower view len 0 rows
+all_between {order} {slower} {view} {len} {rows} v axes fits count =
+    let all : rows - 0 ≡ cond (nat_eq len 0) 0 (size (slowest order slower view.shape)) = omega (arith, count) in
+    record {
+      is_view = v;
+      axes = axes;
+      number = omega arith;
+      within = few_or_none (nat_eq len 0) (size (slowest order slower view.shape)) rows count;
+      fits = omega (arith, fits, ap (λ n. n * len) all);
+    }
+
 module _ (order : Order) (start : ℕ) (axis : Fastest) (v : IsView (axis_view order start axis)) {rows : ℕ}
     (count : rows ≡ cond (nat_eq axis.len 0) 0 (size axis.lens.now)) where
   abbrev column : Fastest
@@ -216,8 +235,7 @@ slowest_view-of order count start lens strides = rw (slowest-map order signed co
 
 module _ (order : Order) (start : ℕ) (lens strides : List ℕ) (axis : Fastest) {view : View} (is : view_of start lens strides ≡ view)
     (whole : IsView (view_of start lens strides)) (v : IsView (axis_view order start axis)) (of_lens : IsSlowest order lens axis.lens.now)
-    (of_strides : IsSlowest order strides axis.strides.now) {rows : ℕ}
-    (count : rows ≡ cond (nat_eq axis.len 0) 0 (size axis.lens.now)) where
+    (of_strides : IsSlowest order strides axis.strides.now) where
   same_counts : length axis.lens.now ≡ length axis.strides.now
   same_counts = omega (arith, (IsView-slower order start axis v).valid.same_count, length-map axis.strides.now signed)
 
@@ -229,19 +247,28 @@ module _ (order : Order) (start : ℕ) (lens strides : List ℕ) (axis : Fastest
       ∙ ap (λ n. view_of start axis.lens.now (slowest order n strides)) same_counts
       ∙ ap (view_of start axis.lens.now) of_strides.is
 
-  same_axes : (length axis.lens.now ≤ length view.shape) × (length axis.lens.now ≤ length view.strides)
+  pub same_axes : (length axis.lens.now ≤ length view.shape) × (length axis.lens.now ≤ length view.strides)
   same_axes = (
     omega (arith, of_lens.few, ap (λ w. length w.shape) is),
     omega (arith, of_lens.few, whole.valid.same_count, ap (λ w. length w.strides) is),
   )
 
-  pub left_of_axis : AreRowsBetween order (length axis.lens.now) view axis.len 0 rows
-  left_of_axis = left_at_first order start axis v count view same_view same_axes
+  pub is_slower_view : IsView (slowest_view order (length axis.lens.now) view)
+  is_slower_view = subst IsView (sym same_view) (IsView-slower order start axis v)
+
+  abbrev all_rows : ℕ
+  all_rows = cond (nat_eq axis.len 0) 0 (size (slowest order (length axis.lens.now) view.shape))
+
+  count_of_axis : all_rows ≡ cond (nat_eq axis.len 0) 0 (size axis.lens.now)
+  count_of_axis = ap (λ w. cond (nat_eq axis.len 0) 0 (size w.shape)) same_view
+
+  pub few_of_axis : all_rows * axis.len ≤ limit
+  few_of_axis =
+      let l = left_at_first order start axis v count_of_axis view same_view same_axes in
+      let all : all_rows - 0 ≡ all_rows = omega arith in
+      omega (arith, l.fits, ap (λ n. n * axis.len) all)
 
   pub rows_of_axis : {step : ℤ} → step ≡ signed axis.stride
-      → rows_between order (length axis.lens.now) view (record { start = 0; stride = step; len = axis.len }) 0 rows
+      → rows_between order (length axis.lens.now) view (record { start = 0; stride = step; len = axis.len }) 0 all_rows
       ≡ view_rows order (axis_view order start axis)
-  rows_of_axis steps = rows_at_first order start axis v count view same_view same_axes steps
-
-  pub size_of_slower : size axis.lens.now < 2 ^ 64
-  size_of_slower = size_fits (IsView-slower order start axis v)
+  rows_of_axis steps = rows_at_first order start axis v count_of_axis view same_view same_axes steps

@@ -3,10 +3,10 @@ ghost use Rattle.std.specs.Iterator.{UpTo, YieldsFirst, YieldsLast, item_count};
 ghost use Rattle.std.specs.Iterator.Runs.{YieldsInOrder};
 ghost use Rattle.std.specs.Iterator.SizeHint.{IsWithinCount};
 ghost use Rattle.std.specs.List.{All};
-ghost use Rattle.std.specs.Prelude.{◌≡◌, ◌==◌, ◌-◌, ◌<◌, ◌≤◌, ◌^◌, pos, if◌then◌else◌, drop, take, length, IfSome, Some};
+ghost use Rattle.std.specs.Prelude.{◌≡◌, ◌==◌, ◌+◌, ◌-◌, ◌*◌, ◌<◌, ◌≤◌, ◌^◌, pos, if◌then◌else◌, drop, take, length, IfSome, Some};
 ghost use Rattle.nd_base.specs.FlatIndex.{index_of_flat_in};
-ghost use Rattle.nd_base.specs.Size.{size};
-ghost use Rattle.ndarray_layout.specs.NumberedRows.{slowest, slowest_view};
+ghost use Rattle.nd_base.specs.Size.{limit, size};
+ghost use Rattle.ndarray_layout.specs.NumberedRows.{HasColumns, IsAfter, IsBefore, numbered_place, rows_between, slowest, slowest_view};
 ghost use Rattle.ndarray_layout.specs.Rows.{BeginsAsRow, rows_places, view_rows};
 ghost use Rattle.ndarray_layout.specs.View.{IsView, place_at, view_places};
 
@@ -14,7 +14,7 @@ use crate::strided::Strided;
 use crate::strided::nth_row::offset_of_flat;
 use crate::strided::places::offset_place;
 use crate::strided::places_of_rows::RowEnds;
-use crate::strided::rows::{Fastest, Row, fastest_axis, joined_axis};
+use crate::strided::rows::{Row, fastest_axis, joined_axis};
 use nd_base::{Lengths, Order, signed};
 use nd_dim::product;
 use std::iter::FusedIterator;
@@ -52,15 +52,97 @@ fn place_of_number<D: Lengths>(
     offset_place(view.start, offset_of_flat(order, lens, strides, number))
 }
 
-/// How many rows lie along an axis, one from each place of the axes that move slower: none where they have no place.
-fn count_along(axis: &Fastest<'_>) -> usize
-    requires { size axis.now.lens.now < 2 ^ 64 }
-    ensures { result ≡ (if axis.now.len == 0 then 0 else size axis.now.lens.now) }
+/// How many rows of a length begin at the places of axes: none where they have no place.
+fn count_of_rows(len: usize, lens: &[usize]) -> usize
+    requires { size lens.now < 2 ^ 64 }
+    ensures { result ≡ (if len == 0 then 0 else size lens.now) }
 {
-    if axis.len == 0 {
+    if len == 0 {
         return 0;
     }
-    product(axis.lens)
+    product(lens)
+}
+
+/// Rows that follow one another along the fastest of the slower axes are a column: how many, and how far each begins from the one
+/// before it.
+#[derive(Clone, Copy)]
+pub(crate) struct Columns {
+    len: usize,
+    stride: isize,
+}
+
+/// Where the row begins that came last from an end, and how many rows of its column lie farther from that end.
+#[derive(Clone, Copy)]
+pub(crate) struct InColumn {
+    place: usize,
+    left: usize,
+}
+
+/// The row of a number in its column, after the one that came last from the front. It costs an addition, and a division where it
+/// begins a column other than the first.
+#[inline(always)]
+fn next_in_column<D: Lengths>(
+    view: &Strided<D>,
+    order: Order,
+    slower: usize,
+    columns: Columns,
+    number: usize,
+    last: InColumn,
+) -> InColumn
+    requires axes { slower ≤ length view.now.shape }
+    requires is_view { IsView (slowest_view order slower view.now) }
+    requires below { number < size (slowest order slower view.now.shape) }
+    requires columns { HasColumns order slower view.now columns }
+    requires last { IsBefore order slower view.now columns number last }
+    ensures place { pos result.place ≡ numbered_place order slower view.now number }
+    ensures left { IsBefore order slower view.now columns (number + 1) result }
+{
+    if last.left > 0 {
+        return InColumn {
+            place: offset_place(last.place, columns.stride),
+            left: last.left - 1,
+        };
+    }
+    if number == 0 {
+        return InColumn {
+            place: view.start,
+            left: columns.len - 1,
+        };
+    }
+    InColumn {
+        place: place_of_number(view, order, slower, number),
+        left: columns.len - 1 - number % columns.len,
+    }
+}
+
+/// The row of a number in its column, before the one that came last from the back.
+#[inline(always)]
+fn previous_in_column<D: Lengths>(
+    view: &Strided<D>,
+    order: Order,
+    slower: usize,
+    columns: Columns,
+    number: usize,
+    last: InColumn,
+) -> InColumn
+    requires axes { slower ≤ length view.now.shape }
+    requires is_view { IsView (slowest_view order slower view.now) }
+    requires below { number < size (slowest order slower view.now.shape) }
+    requires columns { HasColumns order slower view.now columns }
+    requires last { IsAfter order slower view.now columns (number + 1) last }
+    ensures place { pos result.place ≡ numbered_place order slower view.now number }
+    ensures left { IsAfter order slower view.now columns number result }
+{
+    if last.left > 0 {
+        return InColumn {
+            place: offset_place(last.place, -columns.stride),
+            left: last.left - 1,
+        };
+    }
+    InColumn {
+        place: place_of_number(view, order, slower, number),
+        left: number % columns.len,
+    }
 }
 
 /// The rows of a view that are still to come, in an order, with the view, from both ends. A contract sees the list of them.
@@ -72,6 +154,10 @@ pub struct StridedRows<D: Lengths> {
     slower: usize,
     len: usize,
     stride: isize,
+    columns: Columns,
+    // The rows that came last.
+    front: InColumn,
+    back: InColumn,
     // The number of the row that comes next, and the one after that of the last row that is left.
     begun: usize,
     end: usize,
@@ -80,35 +166,82 @@ pub struct StridedRows<D: Lengths> {
 impl<D: Lengths> Model for StridedRows<D> {
     ghost use Rattle.std.specs.Prelude.{List};
     ghost use Rattle.ndarray_layout.specs.declared.strided.rows.Row.{Row};
-    ghost use Rattle.ndarray_layout.specs.NumberedRows.{AreRowsBetween, rows_between};
+    ghost use Rattle.ndarray_layout.specs.NumberedRows.{AreRowsInColumns, rows_between};
 
     ghost Value = { List Row };
 
     ghost view = { λ rows. rows_between rows.order rows.slower rows.view
         (record { start = 0; stride = rows.stride; len = rows.len }) rows.begun rows.end };
 
-    ghost invariant = { λ rows. AreRowsBetween rows.order rows.slower rows.view rows.len rows.begun rows.end };
+    ghost invariant = { λ rows. AreRowsInColumns rows.order rows.slower rows.view rows.len rows.columns
+        rows.front rows.back rows.begun rows.end };
 }
 
 impl<D: Lengths> StridedRows<D> {
+    /// The rows of this length and stride from each place of so many axes that move slowest; none where they have no place.
+    fn along(view: Strided<D>, order: Order, slower: usize, len: usize, stride: isize) -> Self
+        requires axes { (slower ≤ length view.shape) × (slower ≤ length view.strides) }
+        requires is_view { IsView (slowest_view order slower view) }
+        requires fits { (if len == 0 then 0 else size (slowest order slower view.shape)) * len ≤ limit }
+        ensures { result ≡ rows_between order slower view (record { start = 0; stride = stride; len = len }) 0
+            (if len == 0 then 0 else size (slowest order slower view.shape)) }
+    {
+        let lens = slowest_axes(order, view.dim.slice(), slower);
+        let strides = slowest_axes(order, view.strides.slice(), slower);
+        let column = joined_axis(order, lens, strides);
+        let columns = Columns {
+            len: column.len,
+            stride: signed(column.stride),
+        };
+        let end = count_of_rows(len, lens);
+        let none = InColumn { place: 0, left: 0 };
+        StridedRows {
+            view,
+            order,
+            slower,
+            len,
+            stride,
+            columns,
+            front: none,
+            back: none,
+            begun: 0,
+            end,
+        }
+    }
+
+    /// How many places each row has; unspecified where none is left.
+    pub(crate) fn row_len(&self) -> usize
+        ensures { All (λ row. row.len ≡ result) self.now }
+    {
+        self.len
+    }
+
     /// Leaves out so many rows, or all where fewer are left: the next one is the one that comes after them.
     ///
-    /// Takes no time for each row. Of the rows of `[4,2]` with strides `[2,1]` from 0, which begin at 0 2 4 6, after 3 rows:
-    /// 6. What `nth` of std's iterators leaves out one by one.
+    /// Takes no time for each row, and has the next one cost a division. Of the rows of `[4,2]` with strides `[2,1]` from 0,
+    /// which begin at 0 2 4 6, after 3 rows: 6. What `nth` of std's iterators leaves out one by one.
     pub fn advance(&mut self, count: usize)
         ensures { self.new ≡ drop count self.old }
     {
+        if count == 0 {
+            return;
+        }
         self.begun += count.min(self.end - self.begun);
+        self.front.left = 0;
     }
 
     /// Leaves out so many rows at the back, or all where fewer are left: the last one is the one that comes before them.
     ///
-    /// Takes no time for each row. Of the rows of `[4,2]` with strides `[2,1]` from 0, which begin at 0 2 4 6, without the
-    /// last 3: 0. What `nth_back` of std's iterators leaves out one by one.
+    /// Takes no time for each row, and has the last one cost a division. Of the rows of `[4,2]` with strides `[2,1]` from 0,
+    /// which begin at 0 2 4 6, without the last 3: 0. What `nth_back` of std's iterators leaves out one by one.
     pub fn advance_back(&mut self, count: usize)
         ensures { self.new ≡ take (length self.old - count) self.old }
     {
+        if count == 0 {
+            return;
+        }
         self.end -= count.min(self.end - self.begun);
+        self.back.left = 0;
     }
 }
 
@@ -124,10 +257,17 @@ impl<D: Lengths> Iterator for StridedRows<D> {
         if self.begun == self.end {
             return None;
         }
-        let start = place_of_number(&self.view, self.order, self.slower, self.begun);
+        self.front = next_in_column(
+            &self.view,
+            self.order,
+            self.slower,
+            self.columns,
+            self.begun,
+            self.front,
+        );
         self.begun += 1;
         Some(Row {
-            start,
+            start: self.front.place,
             stride: self.stride,
             len: self.len,
         })
@@ -146,14 +286,22 @@ impl<D: Lengths> Iterator for StridedRows<D> {
 impl<D: Lengths> DoubleEndedIterator for StridedRows<D> {
     ghost next_back_gives = { YieldsLast (λ left. left) };
 
+    #[inline(always)]
     fn next_back(&mut self) -> Option<Row> {
         if self.begun == self.end {
             return None;
         }
         self.end -= 1;
-        let start = place_of_number(&self.view, self.order, self.slower, self.end);
+        self.back = previous_in_column(
+            &self.view,
+            self.order,
+            self.slower,
+            self.columns,
+            self.end,
+            self.back,
+        );
         Some(Row {
-            start,
+            start: self.back.place,
             stride: self.stride,
             len: self.len,
         })
@@ -189,7 +337,7 @@ impl<D: Lengths> RowEnds for StridedRows<D> {
     }
 
     fn row_len(&self) -> usize {
-        self.len
+        StridedRows::row_len(self)
     }
 
     fn count_of_places(&self) -> usize {
@@ -203,7 +351,8 @@ impl<D: Lengths> Strided<D> {
 
     /// The rows of the view, in an order: `rows`, where the iterator has the view.
     ///
-    /// Takes no memory. A row costs a division and two products for each axis but its own, from either end.
+    /// Takes no memory. A row costs an addition, from either end; past the end of the second axis it costs a division and two
+    /// products for each axis but its own. Axes that lie evenly together count as one.
     ///
     /// `[2,3]` with strides `[-3,1]` from 3: in row-major order 3 places from 3 and 3 places from 0, by the stride 1; in
     /// column-major order 2 places from 3, from 4 and from 5, by -3. The project's own.
@@ -213,21 +362,13 @@ impl<D: Lengths> Strided<D> {
     {
         let axis = fastest_axis(order, self.dim.slice(), self.strides.slice());
         let (slower, len, stride) = (axis.lens.len(), axis.len, signed(axis.stride));
-        let end = count_along(&axis);
-        StridedRows {
-            view: self,
-            order,
-            slower,
-            len,
-            stride,
-            begun: 0,
-            end,
-        }
+        StridedRows::along(self, order, slower, len, stride)
     }
 
     /// The places of the view as the longest rows that its axes allow: `joined_rows`, where the iterator has the view.
     ///
-    /// Takes no memory. A row costs a division and two products for each axis that isn't joined, from either end.
+    /// Takes no memory. A row costs an addition, from either end; past the end of the next axis that isn't joined, a division and
+    /// two products for each of those.
     ///
     /// `[2,2,3]` with strides `[20,3,1]` from 0, two rows of two pixels of 3 bytes: 6 places from 0 and 6 from 20, by the
     /// stride 1. The project's own.
@@ -241,15 +382,6 @@ impl<D: Lengths> Strided<D> {
     {
         let axis = joined_axis(order, self.dim.slice(), self.strides.slice());
         let (slower, len, stride) = (axis.lens.len(), axis.len, signed(axis.stride));
-        let end = count_along(&axis);
-        StridedRows {
-            view: self,
-            order,
-            slower,
-            len,
-            stride,
-            begun: 0,
-            end,
-        }
+        StridedRows::along(self, order, slower, len, stride)
     }
 }

@@ -7,7 +7,7 @@ use crate::ndarray_layout::strided::Strided;
 use crate::ndarray_layout::strided::nth_row::offset_of_flat;
 use crate::ndarray_layout::strided::places::offset_place;
 use crate::ndarray_layout::strided::places_of_rows::RowEnds;
-use crate::ndarray_layout::strided::rows::{Fastest, Row, fastest_axis, joined_axis};
+use crate::ndarray_layout::strided::rows::{Row, fastest_axis, joined_axis};
 use core::iter::FusedIterator;
 
 /// Of numbers with one for each axis those of so many axes that move slowest.
@@ -49,22 +49,101 @@ fn place_of_number<D: Lengths>(view: &Strided<D>, order: Order, slower: usize, n
     offset_place(view.start, offset_of_flat(order, lens, strides, number))
 }
 
-/// How many rows lie along an axis, one from each place of the axes that move slower: none where they have no place.
+/// How many rows of a length begin at the places of axes: none where they have no place.
 ///
 /// <details><summary>Contract (proved)</summary>
 ///
 /// ```text
-/// requires size axis.now.lens.now < 2 ^ 64
-/// ensures result ≡ (if axis.now.len == 0 then 0 else size axis.now.lens.now)
+/// requires size lens.now < 2 ^ 64
+/// ensures result ≡ (if len == 0 then 0 else size lens.now)
 /// ```
 /// [How to read it](crate::contracts)
 /// </details>
 #[inline]
-fn count_along(axis: &Fastest<'_>) -> usize {
-    if axis.len == 0 {
+fn count_of_rows(len: usize, lens: &[usize]) -> usize {
+    if len == 0 {
         return 0;
     }
-    product(axis.lens)
+    product(lens)
+}
+
+/// Rows that follow one another along the fastest of the slower axes are a column: how many, and how far each begins from the one
+/// before it.
+#[derive(Clone, Copy)]
+pub(crate) struct Columns {
+    len: usize,
+    stride: isize,
+}
+
+/// Where the row begins that came last from an end, and how many rows of its column lie farther from that end.
+#[derive(Clone, Copy)]
+pub(crate) struct InColumn {
+    place: usize,
+    left: usize,
+}
+
+/// The row of a number in its column, after the one that came last from the front. It costs an addition, and a division where it
+/// begins a column other than the first.
+///
+/// <details><summary>Contract (proved)</summary>
+///
+/// ```text
+/// requires axes: slower ≤ length view.now.shape
+/// requires is_view: IsView (slowest_view order slower view.now)
+/// requires below: number < size (slowest order slower view.now.shape)
+/// requires columns: HasColumns order slower view.now columns
+/// requires last: IsBefore order slower view.now columns number last
+/// ensures place: pos result.place ≡ numbered_place order slower view.now number
+/// ensures left: IsBefore order slower view.now columns (number + 1) result
+/// ```
+/// [How to read it](crate::contracts)
+/// </details>
+#[inline(always)]
+fn next_in_column<D: Lengths>(
+    view: &Strided<D>,
+    order: Order,
+    slower: usize,
+    columns: Columns,
+    number: usize,
+    last: InColumn,
+) -> InColumn {
+    if last.left > 0 {
+        return InColumn { place: offset_place(last.place, columns.stride), left: last.left - 1 };
+    }
+    if number == 0 {
+        return InColumn { place: view.start, left: columns.len - 1 };
+    }
+    InColumn { place: place_of_number(view, order, slower, number), left: columns.len - 1 - number % columns.len }
+}
+
+/// The row of a number in its column, before the one that came last from the back.
+///
+/// <details><summary>Contract (proved)</summary>
+///
+/// ```text
+/// requires axes: slower ≤ length view.now.shape
+/// requires is_view: IsView (slowest_view order slower view.now)
+/// requires below: number < size (slowest order slower view.now.shape)
+/// requires columns: HasColumns order slower view.now columns
+/// requires last: IsAfter order slower view.now columns (number + 1) last
+/// ensures place: pos result.place ≡ numbered_place order slower view.now number
+/// ensures left: IsAfter order slower view.now columns number result
+/// ```
+/// [How to read it](crate::contracts)
+/// </details>
+#[inline(always)]
+fn previous_in_column<D: Lengths>(
+    view: &Strided<D>,
+    order: Order,
+    slower: usize,
+    columns: Columns,
+    number: usize,
+    last: InColumn,
+) -> InColumn {
+    if last.left > 0 {
+        return InColumn { place: offset_place(last.place, -columns.stride), left: last.left - 1 };
+    }
+    InColumn { place: place_of_number(view, order, slower, number), left: number % columns.len }
 }
 
 /// The rows of a view that are still to come, in an order, with the view, from both ends.
@@ -75,16 +154,58 @@ pub struct StridedRows<D: Lengths> {
     slower: usize,
     len: usize,
     stride: isize,
+    columns: Columns,
+    // The rows that came last.
+    front: InColumn,
+    back: InColumn,
     // The number of the row that comes next, and the one after that of the last row that is left.
     begun: usize,
     end: usize,
 }
 
 impl<D: Lengths> StridedRows<D> {
+    /// The rows of this length and stride from each place of so many axes that move slowest; none where they have no place.
+    ///
+    /// <details><summary>Contract (proved)</summary>
+    ///
+    /// ```text
+    /// requires axes: (slower ≤ length view.shape) × (slower ≤ length view.strides)
+    /// requires is_view: IsView (slowest_view order slower view)
+    /// requires fits: (if len == 0 then 0 else size (slowest order slower view.shape)) * len ≤ limit
+    /// ensures result ≡ rows_between order slower view (record { start = 0; stride = stride; len = len }) 0
+    ///     (if len == 0 then 0 else size (slowest order slower view.shape))
+    /// ```
+    /// [How to read it](crate::contracts)
+    /// </details>
+    #[inline]
+    fn along(view: Strided<D>, order: Order, slower: usize, len: usize, stride: isize) -> Self {
+        let lens = slowest_axes(order, view.dim.slice(), slower);
+        let strides = slowest_axes(order, view.strides.slice(), slower);
+        let column = joined_axis(order, lens, strides);
+        let columns = Columns { len: column.len, stride: signed(column.stride) };
+        let end = count_of_rows(len, lens);
+        let none = InColumn { place: 0, left: 0 };
+        StridedRows { view, order, slower, len, stride, columns, front: none, back: none, begun: 0, end }
+    }
+
+    /// How many places each row has; unspecified where none is left.
+    ///
+    /// <details><summary>Contract (proved)</summary>
+    ///
+    /// ```text
+    /// ensures All (λ row. row.len ≡ result) self.now
+    /// ```
+    /// [How to read it](crate::contracts)
+    /// </details>
+    #[inline]
+    pub(crate) fn row_len(&self) -> usize {
+        self.len
+    }
+
     /// Leaves out so many rows, or all where fewer are left: the next one is the one that comes after them.
     ///
-    /// Takes no time for each row. Of the rows of `[4,2]` with strides `[2,1]` from 0, which begin at 0 2 4 6, after 3 rows:
-    /// 6. What `nth` of std's iterators leaves out one by one.
+    /// Takes no time for each row, and has the next one cost a division. Of the rows of `[4,2]` with strides `[2,1]` from 0,
+    /// which begin at 0 2 4 6, after 3 rows: 6. What `nth` of std's iterators leaves out one by one.
     ///
     /// # Examples
     ///
@@ -109,13 +230,17 @@ impl<D: Lengths> StridedRows<D> {
     /// </details>
     #[inline]
     pub fn advance(&mut self, count: usize) {
+        if count == 0 {
+            return;
+        }
         self.begun += count.min(self.end - self.begun);
+        self.front.left = 0;
     }
 
     /// Leaves out so many rows at the back, or all where fewer are left: the last one is the one that comes before them.
     ///
-    /// Takes no time for each row. Of the rows of `[4,2]` with strides `[2,1]` from 0, which begin at 0 2 4 6, without the
-    /// last 3: 0. What `nth_back` of std's iterators leaves out one by one.
+    /// Takes no time for each row, and has the last one cost a division. Of the rows of `[4,2]` with strides `[2,1]` from 0,
+    /// which begin at 0 2 4 6, without the last 3: 0. What `nth_back` of std's iterators leaves out one by one.
     ///
     /// # Examples
     ///
@@ -141,7 +266,11 @@ impl<D: Lengths> StridedRows<D> {
     /// </details>
     #[inline]
     pub fn advance_back(&mut self, count: usize) {
+        if count == 0 {
+            return;
+        }
         self.end -= count.min(self.end - self.begun);
+        self.back.left = 0;
     }
 }
 
@@ -153,9 +282,9 @@ impl<D: Lengths> Iterator for StridedRows<D> {
         if self.begun == self.end {
             return None;
         }
-        let start = place_of_number(&self.view, self.order, self.slower, self.begun);
+        self.front = next_in_column(&self.view, self.order, self.slower, self.columns, self.begun, self.front);
         self.begun += 1;
-        Some(Row { start, stride: self.stride, len: self.len })
+        Some(Row { start: self.front.place, stride: self.stride, len: self.len })
     }
 
     #[inline]
@@ -166,14 +295,14 @@ impl<D: Lengths> Iterator for StridedRows<D> {
 }
 
 impl<D: Lengths> DoubleEndedIterator for StridedRows<D> {
-    #[inline]
+    #[inline(always)]
     fn next_back(&mut self) -> Option<Row> {
         if self.begun == self.end {
             return None;
         }
         self.end -= 1;
-        let start = place_of_number(&self.view, self.order, self.slower, self.end);
-        Some(Row { start, stride: self.stride, len: self.len })
+        self.back = previous_in_column(&self.view, self.order, self.slower, self.columns, self.end, self.back);
+        Some(Row { start: self.back.place, stride: self.stride, len: self.len })
     }
 }
 
@@ -209,7 +338,7 @@ impl<D: Lengths> RowEnds for StridedRows<D> {
 
     #[inline]
     fn row_len(&self) -> usize {
-        self.len
+        StridedRows::row_len(self)
     }
 
     #[inline]
@@ -221,7 +350,8 @@ impl<D: Lengths> RowEnds for StridedRows<D> {
 impl<D: Lengths> Strided<D> {
     /// The rows of the view, in an order: `rows`, where the iterator has the view.
     ///
-    /// Takes no memory. A row costs a division and two products for each axis but its own, from either end.
+    /// Takes no memory. A row costs an addition, from either end; past the end of the second axis it costs a division and two
+    /// products for each axis but its own. Axes that lie evenly together count as one.
     ///
     /// `[2,3]` with strides `[-3,1]` from 3: in row-major order 3 places from 3 and 3 places from 0, by the stride 1; in
     /// column-major order 2 places from 3, from 4 and from 5, by -3. The project's own.
@@ -258,13 +388,13 @@ impl<D: Lengths> Strided<D> {
     pub fn into_rows(self, order: Order) -> StridedRows<D> {
         let axis = fastest_axis(order, self.dim.slice(), self.strides.slice());
         let (slower, len, stride) = (axis.lens.len(), axis.len, signed(axis.stride));
-        let end = count_along(&axis);
-        StridedRows { view: self, order, slower, len, stride, begun: 0, end }
+        StridedRows::along(self, order, slower, len, stride)
     }
 
     /// The places of the view as the longest rows that its axes allow: `joined_rows`, where the iterator has the view.
     ///
-    /// Takes no memory. A row costs a division and two products for each axis that isn't joined, from either end.
+    /// Takes no memory. A row costs an addition, from either end; past the end of the next axis that isn't joined, a division and
+    /// two products for each of those.
     ///
     /// `[2,2,3]` with strides `[20,3,1]` from 0, two rows of two pixels of 3 bytes: 6 places from 0 and 6 from 20, by the
     /// stride 1. The project's own.
@@ -301,7 +431,6 @@ impl<D: Lengths> Strided<D> {
     pub fn into_joined_rows(self, order: Order) -> StridedRows<D> {
         let axis = joined_axis(order, self.dim.slice(), self.strides.slice());
         let (slower, len, stride) = (axis.lens.len(), axis.len, signed(axis.stride));
-        let end = count_along(&axis);
-        StridedRows { view: self, order, slower, len, stride, begun: 0, end }
+        StridedRows::along(self, order, slower, len, stride)
     }
 }

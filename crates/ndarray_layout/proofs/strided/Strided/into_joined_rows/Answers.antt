@@ -11,21 +11,12 @@ use Rattle.ndarray_layout.specs.Rows.{rows_places}
 use Rattle.ndarray_layout.specs.RowsLeft.{axis_view}
 use Rattle.ndarray_layout.specs.View.{IsView, view_of, view_places}
 use Rattle.ndarray_layout.proofs.LongestRow.{as_long, longest}
-use Rattle.ndarray_layout.proofs.NumberedRows.{left_of_axis, rows_of_axis}
-use Rattle.ndarray_layout.proofs.RowsLeft.{IsView-slower}
+use Rattle.ndarray_layout.proofs.NumberedRows.{few_of_axis, is_slower_view, rows_of_axis, same_axes}
 use Rattle.ndarray_layout.proofs.laws.Rows.{rows_places-view_rows, some_in_each_row}
-use Rattle.ndarray_layout.proofs.laws.View.{size_fits}
 use Rattle.ndarray_layout.proofs.strided.Strided.into_joined_rows.Goals as goal
 
-pub count_along-end-requires : goal.count_along-end-requires
-count_along-end-requires g c =
-    let start = c.self.inside.start in
-    let whole : IsView (view_of start c.slice.result.now c.slice-2.result.now) =
-    rw (c.slice.ensures.list, c.slice-2.ensures.list) c.self.invariant in
-    size_fits (IsView-slower c.args.order start c.joined_axis-axis.result (c.joined_axis-axis.ensures.places.is_view start whole))
-
-pub invariant_of-result : goal.invariant_of-result
-invariant_of-result g c =
+pub along-requires-clause-axes : goal.along-requires-clause-axes
+along-requires-clause-axes g c =
     let start = c.self.inside.start in
     let axis = c.joined_axis-axis.result in
     let here : view_of start c.slice.result.now c.slice-2.result.now ≡ c.args.self =
@@ -33,8 +24,29 @@ invariant_of-result g c =
     let whole : IsView (view_of start c.slice.result.now c.slice-2.result.now) =
     rw (c.slice.ensures.list, c.slice-2.ensures.list) c.self.invariant in
     let has = c.joined_axis-axis.ensures.places in
-    let v = has.is_view start whole in
-    left_of_axis c.args.order start _ _ axis here whole v has.slower_lens has.slower_strides c.count_along-end.ensures
+    same_axes c.args.order start _ _ axis here whole (has.is_view start whole) has.slower_lens has.slower_strides
+
+pub along-requires-clause-is_view : goal.along-requires-clause-is_view
+along-requires-clause-is_view g c =
+    let start = c.self.inside.start in
+    let axis = c.joined_axis-axis.result in
+    let here : view_of start c.slice.result.now c.slice-2.result.now ≡ c.args.self =
+    rw (c.slice.ensures.list, c.slice-2.ensures.list) c.self.view_is in
+    let whole : IsView (view_of start c.slice.result.now c.slice-2.result.now) =
+    rw (c.slice.ensures.list, c.slice-2.ensures.list) c.self.invariant in
+    let has = c.joined_axis-axis.ensures.places in
+    is_slower_view c.args.order start _ _ axis here whole (has.is_view start whole) has.slower_lens has.slower_strides
+
+pub along-requires-clause-fits : goal.along-requires-clause-fits
+along-requires-clause-fits g c =
+    let start = c.self.inside.start in
+    let axis = c.joined_axis-axis.result in
+    let here : view_of start c.slice.result.now c.slice-2.result.now ≡ c.args.self =
+    rw (c.slice.ensures.list, c.slice-2.ensures.list) c.self.view_is in
+    let whole : IsView (view_of start c.slice.result.now c.slice-2.result.now) =
+    rw (c.slice.ensures.list, c.slice-2.ensures.list) c.self.invariant in
+    let has = c.joined_axis-axis.ensures.places in
+    few_of_axis c.args.order start _ _ axis here whole (has.is_view start whole) has.slower_lens has.slower_strides
 
 pub returns-clause-places : goal.returns-clause-places
 returns-clause-places g c =
@@ -49,7 +61,7 @@ returns-clause-places g c =
     let f : FitsSigned w64 c.signed-stride.result = search rules in
     let steps : to_z w64 (of_z w64 c.signed-stride.result) ≡ signed axis.stride =
     to_z-of_z w64 c.signed-stride.result f ∙ c.signed-stride.ensures.same_bits in
-    let all = rows_of_axis c.args.order start _ _ axis here whole v has.slower_lens has.slower_strides c.count_along-end.ensures steps in
+    let all = c.along.ensures ∙ rows_of_axis c.args.order start _ _ axis here whole v has.slower_lens has.slower_strides steps in
     ap rows_places all
     ∙ rows_places-view_rows c.args.order v
     ∙ has.places start whole
@@ -68,7 +80,7 @@ returns-clause-some g c =
     let f : FitsSigned w64 c.signed-stride.result = search rules in
     let steps : to_z w64 (of_z w64 c.signed-stride.result) ≡ signed axis.stride =
     to_z-of_z w64 c.signed-stride.result f ∙ c.signed-stride.ensures.same_bits in
-    let all = rows_of_axis c.args.order start _ _ axis here whole v has.slower_lens has.slower_strides c.count_along-end.ensures steps in
+    let all = c.along.ensures ∙ rows_of_axis c.args.order start _ _ axis here whole v has.slower_lens has.slower_strides steps in
     subst (All (λ row. 0 < row.len)) (sym all) (some_in_each_row c.args.order (axis_view c.args.order start axis))
 
 pub returns-clause-longest : goal.returns-clause-longest
@@ -84,7 +96,7 @@ returns-clause-longest g c =
     let f : FitsSigned w64 c.signed-stride.result = search rules in
     let steps : to_z w64 (of_z w64 c.signed-stride.result) ≡ signed axis.stride =
     to_z-of_z w64 c.signed-stride.result f ∙ c.signed-stride.ensures.same_bits in
-    let all = rows_of_axis c.args.order start _ _ axis here whole v has.slower_lens has.slower_strides c.count_along-end.ensures steps in
+    let all = c.along.ensures ∙ rows_of_axis c.args.order start _ _ axis here whole v has.slower_lens has.slower_strides steps in
     λ other begins.
     let first = ap (take other.len) (has.places start whole ∙ ap (view_places c.args.order) here) ∙ begins in
     subst (All (λ row. other.len ≤ row.len)) (sym all) (as_long c.args.order axis start other.len

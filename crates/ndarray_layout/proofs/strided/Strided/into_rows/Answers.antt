@@ -8,20 +8,11 @@ use Rattle.nd_base.proofs.laws.Definitions.{signed}
 use Rattle.ndarray_layout.specs.declared.strided.rows.Row.{Row}
 use Rattle.ndarray_layout.specs.Rows.{view_rows}
 use Rattle.ndarray_layout.specs.View.{IsView, view_of}
-use Rattle.ndarray_layout.proofs.NumberedRows.{left_of_axis, rows_of_axis}
-use Rattle.ndarray_layout.proofs.RowsLeft.{IsView-slower}
-use Rattle.ndarray_layout.proofs.laws.View.{size_fits}
+use Rattle.ndarray_layout.proofs.NumberedRows.{few_of_axis, is_slower_view, rows_of_axis, same_axes}
 use Rattle.ndarray_layout.proofs.strided.Strided.into_rows.Goals as goal
 
-pub count_along-end-requires : goal.count_along-end-requires
-count_along-end-requires g c =
-    let start = c.self.inside.start in
-    let whole : IsView (view_of start c.slice.result.now c.slice-2.result.now) =
-    rw (c.slice.ensures.list, c.slice-2.ensures.list) c.self.invariant in
-    size_fits (IsView-slower c.args.order start c.fastest_axis-axis.result (c.fastest_axis-axis.ensures.is_view start whole))
-
-pub invariant_of-result : goal.invariant_of-result
-invariant_of-result g c =
+pub along-requires-clause-axes : goal.along-requires-clause-axes
+along-requires-clause-axes g c =
     let start = c.self.inside.start in
     let axis = c.fastest_axis-axis.result in
     let here : view_of start c.slice.result.now c.slice-2.result.now ≡ c.args.self =
@@ -29,8 +20,29 @@ invariant_of-result g c =
     let whole : IsView (view_of start c.slice.result.now c.slice-2.result.now) =
     rw (c.slice.ensures.list, c.slice-2.ensures.list) c.self.invariant in
     let has = c.fastest_axis-axis.ensures in
-    let v = has.is_view start whole in
-    left_of_axis c.args.order start _ _ axis here whole v has.slower_lens has.slower_strides c.count_along-end.ensures
+    same_axes c.args.order start _ _ axis here whole (has.is_view start whole) has.slower_lens has.slower_strides
+
+pub along-requires-clause-is_view : goal.along-requires-clause-is_view
+along-requires-clause-is_view g c =
+    let start = c.self.inside.start in
+    let axis = c.fastest_axis-axis.result in
+    let here : view_of start c.slice.result.now c.slice-2.result.now ≡ c.args.self =
+    rw (c.slice.ensures.list, c.slice-2.ensures.list) c.self.view_is in
+    let whole : IsView (view_of start c.slice.result.now c.slice-2.result.now) =
+    rw (c.slice.ensures.list, c.slice-2.ensures.list) c.self.invariant in
+    let has = c.fastest_axis-axis.ensures in
+    is_slower_view c.args.order start _ _ axis here whole (has.is_view start whole) has.slower_lens has.slower_strides
+
+pub along-requires-clause-fits : goal.along-requires-clause-fits
+along-requires-clause-fits g c =
+    let start = c.self.inside.start in
+    let axis = c.fastest_axis-axis.result in
+    let here : view_of start c.slice.result.now c.slice-2.result.now ≡ c.args.self =
+    rw (c.slice.ensures.list, c.slice-2.ensures.list) c.self.view_is in
+    let whole : IsView (view_of start c.slice.result.now c.slice-2.result.now) =
+    rw (c.slice.ensures.list, c.slice-2.ensures.list) c.self.invariant in
+    let has = c.fastest_axis-axis.ensures in
+    few_of_axis c.args.order start _ _ axis here whole (has.is_view start whole) has.slower_lens has.slower_strides
 
 pub returns-clause-items : goal.returns-clause-items
 returns-clause-items g c =
@@ -45,7 +57,7 @@ returns-clause-items g c =
     let f : FitsSigned w64 c.signed-stride.result = search rules in
     let steps : to_z w64 (of_z w64 c.signed-stride.result) ≡ signed axis.stride =
     to_z-of_z w64 c.signed-stride.result f ∙ c.signed-stride.ensures.same_bits in
-    let all = rows_of_axis c.args.order start _ _ axis here whole v has.slower_lens has.slower_strides c.count_along-end.ensures steps in
+    let all = c.along.ensures ∙ rows_of_axis c.args.order start _ _ axis here whole v has.slower_lens has.slower_strides steps in
     all ∙ has.rows start whole ∙ ap (view_rows c.args.order) here
 
 pub returns-clause-in_order : goal.returns-clause-in_order

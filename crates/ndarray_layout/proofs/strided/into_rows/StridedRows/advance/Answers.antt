@@ -7,4 +7,4 @@ pub returns : goal.returns
 returns g c =
     let p = c.self.inside in
     let row : Row = record { start = 0; stride = p.stride; len = p.len } in
-    rows_skipped row c.self.invariant c.args.count c.min.ensures ∙ ap (drop c.args.count) c.self.view_is
+    rows_skipped row c.self.invariant.between c.args.count c.min.ensures ∙ ap (drop c.args.count) c.self.view_is

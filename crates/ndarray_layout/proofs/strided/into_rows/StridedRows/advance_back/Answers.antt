@@ -7,4 +7,4 @@ pub returns : goal.returns
 returns g c =
     let p = c.self.inside in
     let row : Row = record { start = 0; stride = p.stride; len = p.len } in
-    rows_cut row c.self.invariant c.args.count c.min.ensures ∙ ap (λ xs. take (length xs - c.args.count) xs) c.self.view_is
+    rows_cut row c.self.invariant.between c.args.count c.min.ensures ∙ ap (λ xs. take (length xs - c.args.count) xs) c.self.view_is

@@ -10,12 +10,12 @@ pub returns-clause-steps : goal.returns-clause-steps
 returns-clause-steps g c =
     let p = c.self.inside in
     let row : Row = record { start = 0; stride = p.stride; len = p.len } in
-    let some : p.begun < p.end = omega (arith, c.self.invariant.number) in
+    let some : p.begun < p.end = omega (arith, c.self.invariant.between.number) in
     let steps : p.stride ≡ to_z w64 (of_z w64 p.stride) = omega (arith, ints) in
     sym c.self.view_is
-    ∙ last_between row c.self.invariant some c.place_of_number-start.ensures
+    ∙ last_between row c.self.invariant.between some c.previous_in_column-self-inside.ensures.place
     ∙ ap (λ s. rows_between p.order p.slower p.view row p.begun (p.end - 1)
-    ++ record { start = c.place_of_number-start.result; stride = s; len = p.len } ∷ []) steps
+    ++ record { start = c.previous_in_column-self-inside.result.place; stride = s; len = p.len } ∷ []) steps
 
 pub returns-clause-goes : goal.returns-clause-goes
 returns-clause-goes g c =

@@ -7,4 +7,4 @@ pub returns-clause-value : goal.returns-clause-value
 returns-clause-value g c =
     let p = c.self.inside in
     let row : Row = record { start = 0; stride = p.stride; len = p.len } in
-    sym (length-rows_between row c.self.invariant) ∙ ap length c.self.view_is
+    sym (length-rows_between row c.self.invariant.between) ∙ ap length c.self.view_is

@@ -8,4 +8,4 @@ pub returns : goal.returns
 returns g c =
     let p = c.self.inside in
     let row : Row = record { start = 0; stride = p.stride; len = p.len } in
-    sym (length-places_between row c.self.invariant) ∙ ap (λ xs. length (rows_places xs)) c.self.view_is
+    sym (length-places_between row c.self.invariant.between) ∙ ap (λ xs. length (rows_places xs)) c.self.view_is

@@ -4,7 +4,7 @@ use Rattle.ndarray_layout.specs.declared.strided.rows.Row.{Row}
 use Rattle.ndarray_layout.specs.NumberedRows.{slowest_view}
 use Rattle.ndarray_layout.specs.View.{view_places}
 use Rattle.ndarray_layout.proofs.KeptRows.{rows_of_len}
-use Rattle.ndarray_layout.proofs.strided.into_rows.StridedRowsRowEnds.row_len.Goals as goal
+use Rattle.ndarray_layout.proofs.strided.into_rows.StridedRows.row_len.Goals as goal
 
 pub returns : goal.returns
 returns g c =
