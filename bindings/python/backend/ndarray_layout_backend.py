@@ -5,6 +5,7 @@ it the extension module `_native`; NDARRAY_LAYOUT_PURE=1 in the environment leav
 in the environment, or the setting `proved`, it holds the proved library of `bindings/c/proved`, which `build --proved`
 makes where the one that is there isn't of the sources as they are. With the setting `checked`, which `build_wheel` of this
 repository gives, it is a release: it holds `checked.txt` beside METADATA, and is refused where that isn't of these sources.
+The tarball holds all that pip makes the wheel of.
 """
 
 from __future__ import annotations
@@ -26,6 +27,7 @@ TOP = HERE.parent.parent
 LIBRARY = "libndarray_layout.so"
 NATIVE = "_native.abi3.so"
 LACKING = 3  # (the status of `build_native` where a compiler, headers or Python 3.11 are missing)
+SOURCES = "bindings/c bindings/python rust Cargo.toml Cargo.lock checked.txt proved.txt LICENSE* NOTICE".split()
 MADE = (1980, 1, 1, 0, 0, 0)  # (the first moment that a zip file can state: the same files make the same wheel)
 
 Settings = Optional[Mapping[str, Any]]
@@ -57,8 +59,16 @@ def build_editable(
 
 
 def build_sdist(sdist_directory: str, config_settings: Settings = None) -> str:
-    """There is none: the library is made of sources outside of this folder."""
-    raise NotImplementedError("a wheel is made from a clone: python -m build --wheel")
+    """Makes the tarball of what is committed, in a folder, and returns its name. pip builds what it holds by cargo."""
+    if "checked" in (config_settings or {}):
+        _record()
+    name = f"ndarray_layout-{version()}"
+    stated = (HERE / "pyproject.toml").read_text().replace('path = ["backend"]', 'path = ["bindings/python/backend"]')
+    added = ("pyproject.toml", stated), ("PKG-INFO", _metadata(_licenses()))
+    words = ["git", "archive", f"--prefix={name}/", "-o", str(Path(sdist_directory).resolve() / f"{name}.tar.gz")]
+    words += [f"--add-virtual-file={name}/{path}:{text}" for path, text in added]
+    subprocess.run([*words, "HEAD", "--", *SOURCES], cwd=TOP, check=True)
+    return f"{name}.tar.gz"
 
 
 def _is_proved(settings: Settings) -> bool:
@@ -128,15 +138,18 @@ def _checksum(content: bytes) -> str:
 
 def _info(tag: str) -> Iterator[tuple[str, bytes]]:
     """The files that say what is in the wheel."""
-    licenses = sorted([*TOP.glob("LICENSE*"), TOP / "NOTICE"])
-    yield "METADATA", _metadata([path.name for path in licenses]).encode()
+    yield "METADATA", _metadata(_licenses()).encode()
     stated = "Wheel-Version: 1.0", "Generator: ndarray_layout_backend", "Root-Is-Purelib: false", f"Tag: {tag}"
     yield "WHEEL", "".join(f"{line}\n" for line in stated).encode()
-    for path in licenses:
+    for path in _licenses():
         yield f"licenses/{path.name}", path.read_bytes()
 
 
-def _metadata(licenses: list[str]) -> str:
+def _licenses() -> list[Path]:
+    return sorted([*TOP.glob("LICENSE*"), TOP / "NOTICE"])
+
+
+def _metadata(licenses: list[Path]) -> str:
     """What `pyproject.toml` states, and `README.md` as its description."""
     stated = (HERE / "pyproject.toml").read_text()
     listed = re.findall(r'^    "(.* :: .*)",$', stated, re.MULTILINE)
@@ -152,7 +165,7 @@ def _metadata(licenses: list[str]) -> str:
         f"License: {field('license')}",
         f"Requires-Python: {field('requires-python')}",
         *(f"Classifier: {line}" for line in listed),
-        *(f"License-File: {name}" for name in licenses),
+        *(f"License-File: {path.name}" for path in licenses),
         "Description-Content-Type: text/markdown",
     ]
     return "\n".join(lines) + f"\n\n{(HERE / 'README.md').read_text()}"
