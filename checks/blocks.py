@@ -1,4 +1,4 @@
-"""The fenced blocks of a page, for the checks that compare, type or leave them out."""
+"""The fenced blocks of a page, for the checks that compare, type or leave them out; and the anchors of headings."""
 import re, sys
 
 from rattle_source import read
@@ -13,3 +13,8 @@ def text_and_blocks(page):
     for fence in FENCE.findall(text):
         sys.exit(f"{page}: {fence!r} is no fence of a block: ```KIND or ```, alone in its line")
     return text, [*BLOCK.finditer(read(page))]
+
+
+def anchor_of(heading):
+    """The anchor of a heading, as the web shows it."""
+    return re.sub(r"[^\w\- ]", "", heading.lower()).replace(" ", "-")

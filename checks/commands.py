@@ -39,6 +39,8 @@ OTHERS = [
      "'valgrind -q --error-exitcode=9 --leak-check=full'"),
     (r"make -C bindings/c dist", "bindings/c/test_install", "dist"),
     (r"tools/package", "checks/releases", "from_rust=(tools/package"),
+    (r"tools/release", "checks/release", "tools/release"),
+    (r"tools/documentation", "tools/release", "tools/documentation"),
 ]
 PROGRAMS = "awk cargo cat cc cp echo git grep make mkdir pip printf python3 rm rt sed sudo tail touch".split()
 
