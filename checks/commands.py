@@ -41,6 +41,7 @@ OTHERS = [
     (r"tools/package", "checks/releases", "from_rust=(tools/package"),
     (r"tools/release", "checks/release", "tools/release"),
     (r"tools/documentation", "tools/release", "tools/documentation"),
+    (r"tools/addresses", "checks/release", "tools/addresses"),
 ]
 PROGRAMS = "awk cargo cat cc cp echo git grep make mkdir pip printf python3 rm rt sed sudo tail touch".split()
 

@@ -153,6 +153,7 @@ def _metadata(licenses: list[Path]) -> str:
     """What `pyproject.toml` states, and `README.md` as its description."""
     stated = (HERE / "pyproject.toml").read_text()
     listed = re.findall(r'^    "(.* :: .*)",$', stated, re.MULTILINE)
+    urls = re.findall(r'^(\w+) = "(https://.*)"$', stated, re.MULTILINE)
 
     def field(name: str) -> str:
         return str(re.findall(rf'^{name} = .*?"(.*)"', stated, re.MULTILINE)[0])
@@ -165,6 +166,7 @@ def _metadata(licenses: list[Path]) -> str:
         f"License: {field('license')}",
         f"Requires-Python: {field('requires-python')}",
         *(f"Classifier: {line}" for line in listed),
+        *(f"Project-URL: {name}, {url}" for name, url in urls),
         *(f"License-File: {path.name}" for path in licenses),
         "Description-Content-Type: text/markdown",
     ]
