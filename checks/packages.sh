@@ -1,5 +1,6 @@
-# What the checks need of Debian's packages: NumPy, Python's headers, pytest, Dask, Zarr, Chromium, and cmark-gfm, which makes HTML of pages.
-# They are installed where they are missing and root runs this. A check reads this file after steps.sh; `python` is a Python that has NumPy.
+# What the checks need of Debian's packages: NumPy, Python's headers, pytest, Dask, Zarr, Chromium, cmark-gfm, which makes HTML of pages, and the
+# sources of Rust's image and rayon. They are installed where they are missing and root runs this. A check reads this file after steps.sh; `python` is
+# a Python that has NumPy.
 
 # NumPy may be another Python's than the first on the path: Debian's, for which it is a package.
 find_numpy() { for python in python3 /usr/bin/python3; do "$python" -c 'import numpy' 2>/dev/null && return; done; }
@@ -10,12 +11,14 @@ has_pytest() { "$python" -c 'import pytest' 2>/dev/null; }
 has_dask() { "$python" -c 'import dask' 2>/dev/null; }
 has_zarr() { "$python" -c 'import zarr' 2>/dev/null; }
 has_Chromium() { command -v chromium-headless-shell chromium chromium-browser google-chrome >/dev/null; }
+has_image() { compgen -G '/usr/share/cargo/registry/image-[0-9]*' >/dev/null; }
+has_rayon() { compgen -G '/usr/share/cargo/registry/rayon-[0-9]*' >/dev/null; }
 has_packages() {
-    has NumPy && has headers && has venv && has pytest && has dask && has zarr && has Chromium && has cmark-gfm
+    has NumPy && has headers && has venv && has pytest && has dask && has zarr && has Chromium && has cmark-gfm && has image && has rayon
 }
 install_packages() {
     apt-get -qq update
-    apt-get -qq install -y --no-install-recommends python3-{numpy,dev,venv,pytest,dask,zarr} cmark-gfm
+    apt-get -qq install -y --no-install-recommends python3-{numpy,dev,venv,pytest,dask,zarr} cmark-gfm librust-{image,rayon}-dev
     apt-get -qq install -y --no-install-recommends chromium-headless-shell || apt-get -qq install -y --no-install-recommends chromium
 }
 has_packages || [ "$(id -u)" -ne 0 ] || install_packages >"$room/apt" 2>&1 || cat "$room/apt"
