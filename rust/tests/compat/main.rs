@@ -7,6 +7,7 @@ mod arrays;
 mod checks;
 mod dimensions;
 mod generic;
+mod idioms;
 mod indices;
 mod panics;
 mod slices;

@@ -1,0 +1,130 @@
+//! The table of ndarray's idioms in the guide: the text of each cell that is said to compile stands here.
+
+use ndarray_layout::Order;
+use ndarray_layout::compat::prelude::*;
+use std::error::Error;
+
+type Tested = Result<(), Box<dyn Error>>;
+
+/// The array of the table: 0 1 2, 3 4 5.
+fn two_rows() -> Array2<i32> {
+    Array::from_exact_vec((2, 3).into(), (0..6).collect()).expect("an array")
+}
+
+#[test]
+fn arrays_and_views_are_made() -> Tested {
+    let mut list: Vec<i32> = (0..6).collect();
+    assert_eq!(ArrayView::from_shape((2, 3).into(), &list)?[(1, 0)], 3);
+    assert_eq!(ArrayView::from_shape((2, 3).strides((1, 2)), &list)?[(1, 0)], 1);
+    ArrayViewMut::from_shape((2, 3).into(), &mut list)?.fill(7);
+    let sevens = Array::from_exact_vec((2, 3).into(), vec![7; 6])?;
+    assert!(Array::from_exact_vec((2, 3).into(), list)? == sevens);
+    let square: Array2<i32> = Array::from_exact_vec((2, 2).into(), vec![1, 2, 3, 4])?;
+    assert_eq!(square[[1, 0]], 3);
+    assert_eq!(Array2::<i32>::zeros((2, 3)).into_stored(), [0; 6]);
+    assert_eq!(Array2::<i32>::zeros((2, 3).f()).view().strides(), &Ix2(1, 2));
+    Ok(())
+}
+
+#[test]
+fn what_an_array_is_and_its_items() -> Tested {
+    let mut a = two_rows();
+    let b = a.clone();
+    assert_eq!((a.shape(), a.ndim(), a.len()), (&[2, 3][..], 2, 6));
+    assert_eq!((a.nrows(), a.ncols(), a.len_of(Axis(1))), (2, 3, 3));
+    assert_eq!((a[[1, 2]], a[(1, 2)], a.get(&(1, 2)), a.get(&(1, 3))), (5, 5, Some(5), None));
+    a[[1, 2]] = 7;
+    a[[0, 0]] += 1;
+    assert_eq!((a.as_slice(), a == b), (Some(&[1, 1, 2, 3, 4, 7][..]), false));
+    assert_eq!((a.iter().sum::<i32>(), a.iter().max()), (18, Some(7)));
+    assert_eq!(a.into_stored(), [1, 1, 2, 3, 4, 7]);
+    Ok(())
+}
+
+#[test]
+fn parts_of_an_array() -> Tested {
+    let mut a = two_rows();
+    assert_eq!(a.slice(s![.., 1..]).to_vec()?, [1, 2, 4, 5]);
+    a.sliced_mut(s![0, ..])?.fill(9);
+    a.row_mut(1)?[0] = 8;
+    let (mut first, second) = a.multi_sliced_mut((s![0, ..], s![1, ..]))?;
+    first[0] = second[0];
+    let (row, column) = (a.row(0)?, a.column(1)?);
+    assert_eq!((row.to_vec()?, column.to_vec()?), (vec![8, 9, 9], vec![9, 4]));
+    assert_eq!(a.index_axis(Axis(0), 1)?.to_vec()?, [8, 4, 5]);
+    assert_eq!(a.view_mut().len(), a.borrowed().len());
+    Ok(())
+}
+
+#[test]
+fn axes_of_a_view() -> Tested {
+    let a = two_rows();
+    let v = a.borrowed();
+    assert_eq!((a.t().dim(), a.borrowed().reversed_axes().dim()), (&Ix2(3, 2), &Ix2(3, 2)));
+    assert_eq!(v.permuted_axes(&[Axis(1), Axis(0)])?.to_vec()?, [0, 3, 1, 4, 2, 5]);
+    assert_eq!(v.insert_axis(Axis(0))?.dim(), &Ix3(1, 2, 3));
+    let (first, second) = v.split_at(Axis(0), 1)?;
+    assert_eq!((first.to_vec()?, second.to_vec()?), (vec![0, 1, 2], vec![3, 4, 5]));
+    assert_eq!(v.reshape(&Ix1(6), Order::RowMajor)?[4], 4);
+    assert_eq!(a.row(0)?.broadcast(&Ix2(4, 3))?.dim(), &Ix2(4, 3));
+    assert_eq!(v.diag().to_vec()?, [0, 4]);
+    assert_eq!(v.into_dyn().into_dimensionality::<Ix2>()?.dim(), &Ix2(2, 3));
+    let (mut v, mut turned, mut one) = (a.borrowed(), a.borrowed(), a.borrowed());
+    v.invert_axis(Axis(0))?;
+    turned.swap_axes(Axis(0), Axis(1))?;
+    one.collapse(Axis(0), 1)?;
+    assert_eq!((v[(0, 0)], turned[(2, 0)], one.merge(Axis(0), Axis(1))?), (3, 2, true));
+    Ok(())
+}
+
+#[test]
+fn iterators_over_an_array() -> Tested {
+    let mut a = two_rows();
+    a.iter_mut().for_each(|item| *item += 1);
+    assert_eq!(a.indexed_iter().last(), Some(((1, 2), &6)));
+    assert_eq!((a.rows().count(), a.outer_iter().count(), a.axis_iter(Axis(1))?.count()), (2, 2, 3));
+    assert_eq!((a.lanes(Axis(0))?.count(), a.axis_chunks_iter(Axis(1), 2)?.count()), (3, 2));
+    for mut row in a.rows_mut()? {
+        row[0] = 0;
+    }
+    let v = a.borrowed();
+    let windows: ArrayView4<'_, i32> = v.windows(&Ix2(2, 2))?;
+    let chunks: ArrayView4<'_, i32> = v.exact_chunks(&Ix2(2, 2))?;
+    assert_eq!((windows.dim(), chunks.dim()), (&Ix4(1, 2, 2, 2), &Ix4(1, 1, 2, 2)));
+    Ok(())
+}
+
+#[test]
+fn values_of_whole_arrays() -> Tested {
+    let (mut a, b) = (two_rows(), two_rows());
+    assert_eq!(a.map(|item| item * 2)?.into_stored(), [0, 2, 4, 6, 8, 10]);
+    a.view_mut().map_in_place(|item| *item += 1);
+    a.zip_mut_with(&b.borrowed(), |item, other| *item += other)?;
+    assert_eq!(a.borrowed().fold(0, |sum, item| sum + item), 36);
+    assert_eq!(a.map_axis(Axis(0), |lane| lane.iter().sum::<i32>())?.into_stored(), [8, 12, 16]);
+    a.fill(7);
+    a.assign(&b.borrowed())?;
+    assert_eq!(a.borrowed().to_array()?.into_stored(), [0, 1, 2, 3, 4, 5]);
+    Ok(())
+}
+
+/// The texts between backticks of a cell, in which a table escapes `|`.
+fn codes(cell: &str) -> Vec<String> {
+    cell.split('`').skip(1).step_by(2).map(|code| code.replace("\\|", "|")).collect()
+}
+
+#[test]
+fn each_row_of_the_guide_is_compiled_here() {
+    let guide = include_str!("../../GUIDE.md");
+    let (_, table) = guide.split_once("| ndarray | here |\n|---|---|\n").expect("the table");
+    let rows: Vec<&str> = table.lines().take_while(|line| line.starts_with("| ")).collect();
+    assert_eq!(rows.len(), 40);
+    for row in rows {
+        let (theirs, here) = row.trim_matches(['|', ' ']).split_once(" | ").expect("two cells");
+        let compiled = if here.starts_with("the same") { codes(theirs) } else { codes(here) };
+        assert!(here.starts_with("none") || !compiled.is_empty(), "{row}");
+        for code in compiled {
+            assert!(include_str!("idioms.rs").contains(&code), "no test compiles {code}");
+        }
+    }
+}
