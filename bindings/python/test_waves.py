@@ -6,11 +6,11 @@
 import random
 import unittest
 from collections import Counter
-from itertools import accumulate, combinations, product
+from itertools import accumulate, chain, combinations, product
 from unittest import mock
 
 import ndarray_layout as nd
-from ndarray_layout import ShapeError, _boxes
+from ndarray_layout import ShapeError, _boxes, _conflicts
 
 try:
     import numpy as np
@@ -73,7 +73,8 @@ class Waves(unittest.TestCase):
             regions = [draw.region(shape) for _ in range(draw.numbers.choice((0, 1, 3, 6, 14, 25)))]
             sets = [{*product(*touched(shape, region, chunks or [1] * len(shape)))} for region in regions]
             with mock.patch.object(_boxes, "FEW", (1, 2, _boxes.FEW)[number % 3]):
-                waves = nd.waves(shape, regions, chunks)
+                with mock.patch.object(_conflicts, "MOST_CUT", (0, _conflicts.MOST_CUT)[number % 2]):
+                    waves = nd.waves(shape, regions, chunks)
             self.check(waves, sets, (shape, regions, chunks))
             seen[min(len(waves), 5)] += 1
         print(f"test_plans: plans by their waves, 5 for more, {dict(sorted(seen.items()))}")
@@ -133,6 +134,17 @@ class Waves(unittest.TestCase):
         waves = nd.waves(36, regions)
         self.check(waves, [{*range(36)[region]} for region in regions], regions)
         self.assertEqual(waves, [[*range(4)], [*range(4, 10)], [*range(10, 19)]])
+
+    def test_many_steps_that_differ(self):
+        """10,000 columns side by side, of which few conflict: their numbers are taken one by one, and not each two columns."""
+        columns = [(slice(None), slice(begin, None, 10_000 + begin % 7)) for begin in range(10_000)]
+        with mock.patch.object(_conflicts.library, "slices_intersect", None):
+            waves = nd.waves((5, 30_000), columns)
+        first, second = ([range(30_000)[columns[position][1]] for position in wave] for wave in waves)
+        taken = {*chain(*first)}
+        self.assertEqual((len(taken), len({*chain(*second)})), (sum(map(len, first)), sum(map(len, second))))
+        self.assertTrue(all(taken.intersection(numbers) for numbers in second))
+        self.assertEqual(len(first) + len(second), 10_000)
 
     def test_blocks(self):
         shape, chunks, halves = (8, 6), (4, 6), [slice(0, 4), slice(4, 8)]

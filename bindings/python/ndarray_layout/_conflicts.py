@@ -3,8 +3,8 @@
 from __future__ import annotations
 
 from array import array
-from itertools import combinations_with_replacement
-from math import gcd
+from itertools import chain, combinations_with_replacement, islice
+from math import gcd, prod
 from typing import Any, Callable, Iterable, Iterator, NamedTuple, Optional
 
 from . import _library as library
@@ -17,6 +17,9 @@ from ._usual import conflict
 
 PIECE = 500
 """How many parts of two lists are compared in one call, in which Python hears no signal."""
+
+MOST_CUT = 4_000_000
+"""Into so many parts of one number all parts are cut at most, which takes memory for each."""
 
 Compare = Callable[[list[Part]], Iterator[Pair]]
 """Pairs of positions of parts that share a number on each axis, of a group whose steps differ."""
@@ -195,12 +198,48 @@ def _first_compared(parts: list[Part]) -> Iterator[Pair]:
 
 
 def each_compared(parts: list[Part]) -> Iterator[Pair]:
-    """The positions of each two parts that share a number on each axis: of those whose stretches overlap."""
-    axes = range(len(parts[0][1]))
-    stretches, answer = [_stretches(parts, axis) for axis in axes], one_answer()
-    shape, count = unsigned([1 + max(along.highs) for along in stretches]), count_of(len(axes))
+    """The positions of each two parts that share a number on each axis, some of them more than once.
+
+    Each two are compared whose stretches overlap. Where these are more than the numbers along the axes that have several
+    steps, the numbers are taken one by one.
+    """
+    steps = _steps(len(parts[0][1]), parts)
+    stepped = [axis for axis, along in enumerate(steps) if len(along) > 1]
+    pairs = pairs_of([_stretches(parts, axis) for axis in range(len(steps))], list(range(len(parts))))
+    most = _count_cut(parts, stepped)
+    few = list(islice(pairs, most + 1)) if most <= MOST_CUT else []
+    if len(few) > most:
+        return conflicts_of(len(steps), _cut(parts, stepped), each_compared)
+    return _of_pairs(parts, chain(few, pairs))
+
+
+def _count_cut(parts: list[Part], axes: list[int]) -> int:
+    """How many parts there are where those that step along some axes are cut into their numbers there."""
+    return sum(prod([len(runs[axis]) for axis in axes if runs[axis].step > 1]) for _, runs in parts)
+
+
+def _cut(parts: list[Part], axes: list[int]) -> list[Part]:
+    """The same parts, where those that step along some axes are cut into their numbers there."""
+    for axis in axes:
+        cut = [
+            (position, (*runs[:axis], number, *runs[axis + 1 :]))
+            for position, runs in parts
+            for number in (_numbers(runs[axis]) if runs[axis].step > 1 else (runs[axis],))
+        ]
+        parts = cut
+    return parts
+
+
+def _numbers(run: range) -> Iterator[range]:
+    return (range(number, number + 1) for number in run)
+
+
+def _of_pairs(parts: list[Part], pairs: Iterable[Pair]) -> Iterator[Pair]:
+    """The positions of those two of some parts that share a number on each axis."""
+    axes, answer = range(len(parts[0][1])), one_answer()
+    shape, count = unsigned([1 + max(_stretches(parts, axis).highs) for axis in axes]), count_of(len(axes))
     packed = [count_of(4 * len(axes)).pack_signed(*sum(map(_fields, runs), ())) for _, runs in parts]
-    for one, other in pairs_of(stretches, list(range(len(parts)))):
+    for one, other in pairs:
         library.slices_intersect(*shape, packed[one], count, packed[other], count, False, answer)
         if answer[0]:
             yield parts[one][0], parts[other][0]

@@ -34,8 +34,9 @@ def waves(
     index in the same chunk: no order of the regions keeps these apart.
 
     Takes the time of `first_conflict`, and time and memory for each two regions that conflict. Regions that take the
-    same indices, or touch the same chunks, count as one. Where two steps above 1 along an axis differ, each two regions
-    whose stretches overlap on each axis are compared. It can be interrupted.
+    same indices, or touch the same chunks, count as one. Where two steps above 1 along an axis differ, the indices
+    or chunks along it are taken one by one, or each two regions are compared whose stretches overlap on each axis: what is
+    less, and the second from 4,000,000 on. It can be interrupted.
 
     >>> waves((6, 6), [slice(0, 3), slice(3, 6), slice(2, 4)])
     [[0, 1], [2]]
