@@ -10,6 +10,7 @@ from typing import Any, Callable, Iterable, Iterator, NamedTuple, Optional
 from . import _library as library
 from ._boxes import Intervals, Pair, groups_of, pairs_of
 from ._chunks import Chunks
+from ._errors import LayoutError, of_one
 from ._numbers import LIMIT, Numbers, Packed, count_of, entries, flag, one_answer, unsigned
 from ._regions import MAX_PARTS, Blocks, Part, at_position, parts_of_slices, picks_of, picks_of_elems, read_plan, read_store
 from ._slices import SLICE_WITH_END, Elems, intersection
@@ -102,9 +103,13 @@ def first_intersection(shape: Numbers, slices: Iterable[Elems], clamp: bool = Fa
 
 def first_intersection_of_keys(shape: Numbers, keys: Iterable[Any]) -> Optional[Pair]:
     """`first_intersection` of slices by NumPy's keys."""
-    lens, parts = read_store(shape, None, None)[0], list[Part]()
-    for position, key in enumerate(entries(keys, "keys", "slices")):
-        parts += parts_of_slices(position, at_position("slice", position, picks_of, lens, key))
+    lens, parts, position = read_store(shape, None, None)[0], list[Part](), 0
+    listed = entries(keys, "keys", "slices")
+    try:
+        for position, key in enumerate(listed):
+            parts += parts_of_slices(position, picks_of(lens, key))
+    except (LayoutError, TypeError) as error:
+        raise of_one("slice", position, error) from None
     return first_of(len(lens), parts)
 
 

@@ -54,7 +54,8 @@ def read_plan(
     for position, (region, lengths) in enumerate(_with_blocks(regions, blocks)):
         key = region if type(region) is tuple or type(region) is slice else at_position("region", position, key_of, region, names)
         picks = at_position("region", position, picks_of, lens, key)
-        parts += _parts_of(position, picks, chunk, len(parts), max_parts)
+        is_one = chunks is None and len(parts) < max_parts
+        parts += parts_of_slices(position, picks) if is_one else _parts_of(position, picks, chunk, len(parts), max_parts)
         if lengths is not None and at_position("region", position, _blocks_conflict, lens, key, picks, chunk, lengths):
             alone = position if alone is None else alone
     return Plan(len(lens), position + 1, parts, alone)
@@ -137,6 +138,8 @@ def picks_of(shape: Lens, key: Any) -> list[range]:
         for length, entry in zip(shape, given):
             if type(entry) is slice:
                 found.append(range(length)[entry])
+            elif type(entry) is int and 0 <= entry < length:
+                found.append(range(entry, entry + 1))
             elif _is_integer(entry) and -length <= entry < length:
                 found.append(range(length)[entry:][:1])
             else:
