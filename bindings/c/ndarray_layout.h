@@ -84,6 +84,7 @@
 #define nd_next_index ND_NAME(nd_next_index)
 #define nd_places ND_NAME(nd_places)
 #define nd_rows ND_NAME(nd_rows)
+#define nd_joined_in_all ND_NAME(nd_joined_in_all)
 #define nd_slice ND_NAME(nd_slice)
 #define nd_slices_intersect ND_NAME(nd_slices_intersect)
 #define nd_first_intersection ND_NAME(nd_first_intersection)
@@ -287,6 +288,20 @@ int32_t nd_places(size_t start, const size_t *shape, size_t shape_len, const ptr
  */
 int32_t nd_rows(size_t start, const size_t *shape, size_t shape_len, const ptrdiff_t *strides, size_t strides_len,
                 int32_t order, size_t *starts, size_t starts_len, ptrdiff_t *stride, size_t *len) ND_USED;
+
+/*
+ * Writes how many of the axes that move fastest in an order are one in each of several layouts of a shape, as many as there can
+ * be; the length of that axis; and its stride in each layout. Axes are one where the places of each layout are those along the
+ * slower axes and this one. A layout without axes has no such axis: `count` 0, `len` 1, and each stride stays as it is.
+ * `strides`: those of one layout after another. `new_strides`: one for each layout.
+ *
+ * ND_BAD_ARGUMENT for the order, and where there is no layout. ND_INCOMPATIBLE_LAYOUT: not one stride for each length of each
+ * layout. ND_OVERFLOW as of nd_has_overlap, for any of them.
+ *
+ * (4,2,3), strides (12,3,1) and (6,3,1), row-major: count 2, length 6, strides 1 and 1; the second alone: 3, 24 and 1.
+ */
+int32_t nd_joined_in_all(const size_t *shape, size_t shape_len, const ptrdiff_t *strides, size_t strides_len, int32_t order,
+                         ptrdiff_t *new_strides, size_t new_strides_len, size_t *count, size_t *len) ND_USED;
 
 /* ---- Slices ---------------------------------------------------------------------------------------------------------- */
 

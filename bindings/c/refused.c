@@ -36,6 +36,7 @@ void unused(void) {
     nd_next_index(sizes, 2, room, 2, 1, &number); /* unused */
     nd_places(2, sizes, 2, strides, 2, 1, room, 2); /* unused */
     nd_rows(2, sizes, 2, strides, 2, 1, room, 2, steps, room); /* unused */
+    nd_joined_in_all(sizes, 2, strides, 2, 1, steps, 1, room, room); /* unused */
     nd_slice(2, sizes, 2, strides, 2, elems, 2, 1, room, room, 2, steps, 2); /* unused */
     nd_slices_intersect(sizes, 2, elems, 2, elems, 2, 1, &number); /* unused */
     nd_first_intersection(sizes, 2, elems, 2, sizes, 2, 1, room, 2, &number); /* unused */

@@ -10,6 +10,7 @@ pub mod IndexReasons
 pub mod Kept
 pub mod LayoutFault
 pub mod LayoutReasons
+pub mod LayoutsFault
 pub mod OwnStrides
 pub mod PermuteReasons
 pub mod Reasons

@@ -15,6 +15,7 @@ mod elements;
 mod index_reasons;
 mod indices;
 mod intersections;
+mod joining;
 mod layout_reasons;
 mod layouts;
 mod lists;

@@ -74,6 +74,39 @@ fn rows() {
     });
 }
 
+/// The strides of so many layouts of a shape, one after another: most often such as lie without gaps, or by far ones.
+fn strides_of_layouts(numbers: &mut Numbers, shape: &[usize], layouts: usize) -> Vec<usize> {
+    let mut strides = Vec::new();
+    for _ in 0..layouts {
+        let (mut own, mut step) = (vec![0; shape.len()], 1usize);
+        for (stride, len) in own.iter_mut().zip(shape).rev() {
+            *stride = if numbers.once_in(40) { numbers.pick(&[1, 2, 3, 1 << 62]) } else { step };
+            step = step.wrapping_mul(*len + usize::from(numbers.once_in(4)));
+        }
+        strides.extend(own);
+    }
+    if numbers.once_in(20) {
+        strides.pop();
+    }
+    strides
+}
+
+#[test]
+fn joined_in_all() {
+    let arguments = |numbers: &mut Numbers| {
+        let shape: Vec<usize> = (0..numbers.below(6)).map(|_| numbers.pick(&[0, 1, 1, 2, 2, 3, 4, 5])).collect();
+        let layouts = numbers.pick(&[0, 1, 1, 2, 2, 3, 8]);
+        let strides = strides_of_layouts(numbers, &shape, layouts);
+        (shape, strides, choice(numbers), layouts)
+    };
+    let statuses = [OK, INCOMPATIBLE_LAYOUT, OVERFLOW, BAD_ARGUMENT];
+    compare!("nd_joined_in_all", statuses, arguments, |(shape, strides, order, layouts)| {
+        let (mut joined, mut count, mut len) = (vec![UNWRITTEN; *layouts], UNWRITTEN, UNWRITTEN);
+        let status = nd_joined_in_all(shape, strides, *order, &mut joined, &mut count, &mut len);
+        (status, (joined, count, len))
+    });
+}
+
 #[test]
 fn stretch() {
     let arguments = |numbers: &mut Numbers| {

@@ -51,6 +51,8 @@ exports! {
     nd_places(start: usize, shape: &[usize], strides: &[usize], order: i32, places: &mut [usize]);
     nd_rows(start: usize, shape: &[usize], strides: &[usize], order: i32, starts: &mut [usize], stride: &mut isize,
         len: &mut usize);
+    nd_joined_in_all(shape: &[usize], strides: &[usize], order: i32, new_strides: &mut [usize], count: &mut usize,
+        len: &mut usize);
     nd_slice(start: usize, shape: &[usize], strides: &[usize], elems: &[RawElem], fit: i32, new_start: &mut usize,
         new_shape: &mut [usize], new_strides: &mut [usize]);
     nd_slices_intersect(shape: &[usize], first: &[RawElem], second: &[RawElem], fit: i32, answer: &mut i32);

@@ -30,6 +30,7 @@ pub mod elements;
 pub mod index_reasons;
 pub mod indices;
 pub mod intersections;
+pub mod joining;
 pub mod layout_reasons;
 pub mod layouts;
 pub mod lists;
