@@ -66,7 +66,7 @@ fn axes_of_a_view() -> Tested {
     let (first, second) = v.split_at(Axis(0), 1)?;
     assert_eq!((first.to_vec()?, second.to_vec()?), (vec![0, 1, 2], vec![3, 4, 5]));
     assert_eq!(v.reshape(&Ix1(6), Order::RowMajor)?[4], 4);
-    assert_eq!(a.row(0)?.broadcast(&Ix2(4, 3))?.dim(), &Ix2(4, 3));
+    assert_eq!(v.broadcast(&Ix3(4, 2, 3))?.dim(), &Ix3(4, 2, 3));
     assert_eq!(v.diag().to_vec()?, [0, 4]);
     assert_eq!(v.into_dyn().into_dimensionality::<Ix2>()?.dim(), &Ix2(2, 3));
     let (mut v, mut turned, mut one) = (a.borrowed(), a.borrowed(), a.borrowed());
