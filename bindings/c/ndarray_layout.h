@@ -131,7 +131,35 @@
 #define ND_CHECKED(positions) ND_INLINE
 #endif
 
+/* (of these headers alone) A function whose unsigned numbers wrap, as they are to, where a sanitizer looks for it. */
+#ifdef __clang__
+#define ND_WRAPS __attribute__((no_sanitize("unsigned-integer-overflow")))
+#else
+#define ND_WRAPS
+#endif
+
+/* (of these headers alone) A cast as C++ has it, in macros that programs use. */
 #ifdef __cplusplus
+#define ND_CAST(type, number) static_cast<type>(number)
+#else
+#define ND_CAST(type, number) ((type)(number))
+#endif
+
+/* (of these headers alone) What holds, which a compiler may use. */
+#ifdef __GNUC__
+#define ND_ASSUME(holds) \
+    do { \
+        if (!(holds)) __builtin_unreachable(); \
+    } while (0)
+#else
+#define ND_ASSUME(holds) ((void)0)
+#endif
+
+#ifdef __cplusplus
+#ifdef __GNUC__
+#pragma GCC diagnostic push
+#pragma GCC diagnostic ignored "-Wold-style-cast"
+#endif
 extern "C" {
 #endif
 
@@ -542,7 +570,9 @@ enum {
     ND_RULE_EMPTY = 18,      /* ND_UNSUPPORTED: a length of a block is 0. `axis`: the first such */
     ND_RULE_AXIS = 19,       /* ND_OUT_OF_BOUNDS: there is no such axis. `axis`: its number; `size`: how many axes there are */
     ND_RULE_SAME_AXIS = 20,  /* ND_UNSUPPORTED: an axis is merged into itself. `axis` */
-    ND_RULE_SPLIT = 21       /* ND_OUT_OF_BOUNDS: a split lies past the end of its axis. `axis`; `size`: its length */
+    ND_RULE_SPLIT = 21,      /* ND_OUT_OF_BOUNDS: a split lies past the end of its axis. `axis`; `size`: its length */
+    ND_RULE_OTHER_LENGTH = 22 /* ND_INCOMPATIBLE_SHAPE: a view has another length than the first one. `axis`: the first such;
+                                `number`: the view's position; `size`: its length */
 };
 
 /*
@@ -708,11 +738,11 @@ ND_INLINE const char *nd_status_message(int32_t status) {
 /* ---- Layouts as one value -------------------------------------------------------------------------------------------- */
 
 /*
- * The functions below are of this header, and not of the library; ndarray_layout_inline.h and ndarray_layout_bytes.h, which
- * it includes, have more of them. Each but the two that count makes one call from above with the fields of a layout. It
- * returns the call's status, and after any but ND_OK nothing has been written. The layout that is written comes last, and may
- * be the one that is read. ND_BAD_ARGUMENT, before every other status, also says that a layout has more than ND_MAX_AXES axes,
- * or would have.
+ * The functions below are of this header, and not of the library; ndarray_layout_inline.h, ndarray_layout_rows.h and
+ * ndarray_layout_bytes.h, which it includes, have more of them. Each but the two that count makes
+ * one call from above with the fields of a layout. It returns the call's status, and after any but ND_OK nothing has been
+ * written. The layout that is written comes last, and may be the one that is read. ND_BAD_ARGUMENT, before every other status,
+ * also says that a layout has more than ND_MAX_AXES axes, or would have.
  */
 #define ND_MAX_AXES 32
 
@@ -929,10 +959,14 @@ ND_CHECKED((1, 4, 5)) int32_t nd_layout_split_at(const nd_layout *layout, size_t
 }
 
 #include "ndarray_layout_inline.h"
+#include "ndarray_layout_rows.h"
 #include "ndarray_layout_bytes.h"
 
 #ifdef __cplusplus
 }
+#ifdef __GNUC__
+#pragma GCC diagnostic pop
+#endif
 #endif
 
 #endif

@@ -1,6 +1,6 @@
 /*
- * What ndarray_layout.h has beside the calls of the library, and includes: access that is checked, rows one by one, calls for
- * `struct nd_layout` and `struct nd_view`, and elements of slices. C89, C99 and C++; `nd_at` needs C99 or C++11.
+ * What ndarray_layout.h has beside the calls of the library, and includes: access that is checked, calls for `struct nd_layout`
+ * and `struct nd_view`, and elements of slices. C89, C99 and C++; `nd_at` needs C99 or C++11.
  */
 #ifndef NDARRAY_LAYOUT_INLINE_H
 #define NDARRAY_LAYOUT_INLINE_H
@@ -116,7 +116,7 @@ ND_CHECKED((7)) int32_t nd_view_from_strides(const size_t *shape, size_t shape_l
 }
 
 /* What nd_at and its kin return in place of a place. */
-#define ND_NO_PLACE ((size_t)-1)
+#define ND_NO_PLACE ND_CAST(size_t, -1)
 
 /*
  * nd_at(view, i, j, ..), with 1 to 4 coordinates: the place of the index (i, j, ..), or ND_NO_PLACE where it is no index of
@@ -132,7 +132,7 @@ ND_CHECKED((7)) int32_t nd_view_from_strides(const size_t *shape, size_t shape_l
  *
  * Over 6 elements, (2,3), strides (-3,1): nd_at(&view, 1, 2) is 2, nd_at(&view, 2, 0) and nd_at(&view, 1) are ND_NO_PLACE.
  */
-ND_CHECKED((1)) size_t nd_at_n(const nd_view *view, const size_t *index, size_t count) {
+ND_CHECKED((1)) ND_WRAPS size_t nd_at_n(const nd_view *view, const size_t *index, size_t count) {
     size_t place = view->layout.start, axis;
     if (count != view->layout.axes || count > ND_MAX_AXES) return ND_NO_PLACE;
     for (axis = 0; axis < count; axis++) {
@@ -143,20 +143,20 @@ ND_CHECKED((1)) size_t nd_at_n(const nd_view *view, const size_t *index, size_t 
 }
 
 /* (of this header alone) How far a coordinate moves the place, modulo 2^64. */
-ND_CHECKED((1)) size_t nd_moved(const nd_view *view, size_t axis, size_t coordinate) {
+ND_CHECKED((1)) ND_WRAPS size_t nd_moved(const nd_view *view, size_t axis, size_t coordinate) {
     return coordinate * (size_t)view->layout.strides[axis];
 }
 
 /* (all numbers are read before the first is compared, so that a compiler reads them once for a loop, and what changes in the
  * inner loop is compared by itself) */
-ND_CHECKED((1)) size_t nd_at1(const nd_view *view, size_t i) {
+ND_CHECKED((1)) ND_WRAPS size_t nd_at1(const nd_view *view, size_t i) {
     const size_t place = view->layout.start + nd_moved(view, 0, i), end = view->data.len;
     const size_t axes = view->layout.axes, len = view->layout.shape[0];
     if (axes != 1 || i >= len) return ND_NO_PLACE;
     return place < end ? place : ND_NO_PLACE;
 }
 
-ND_CHECKED((1)) size_t nd_at2(const nd_view *view, size_t i, size_t j) {
+ND_CHECKED((1)) ND_WRAPS size_t nd_at2(const nd_view *view, size_t i, size_t j) {
     const size_t place = view->layout.start + nd_moved(view, 0, i) + nd_moved(view, 1, j), end = view->data.len;
     const size_t axes = view->layout.axes, rows = view->layout.shape[0], columns = view->layout.shape[1];
     if (axes != 2 || i >= rows) return ND_NO_PLACE;
@@ -164,7 +164,7 @@ ND_CHECKED((1)) size_t nd_at2(const nd_view *view, size_t i, size_t j) {
     return place < end ? place : ND_NO_PLACE;
 }
 
-ND_CHECKED((1)) size_t nd_at3(const nd_view *view, size_t i, size_t j, size_t k) {
+ND_CHECKED((1)) ND_WRAPS size_t nd_at3(const nd_view *view, size_t i, size_t j, size_t k) {
     const size_t place = view->layout.start + nd_moved(view, 0, i) + nd_moved(view, 1, j) + nd_moved(view, 2, k);
     const size_t axes = view->layout.axes, end = view->data.len;
     const size_t planes = view->layout.shape[0], rows = view->layout.shape[1], columns = view->layout.shape[2];
@@ -173,7 +173,7 @@ ND_CHECKED((1)) size_t nd_at3(const nd_view *view, size_t i, size_t j, size_t k)
     return place < end ? place : ND_NO_PLACE;
 }
 
-ND_CHECKED((1)) size_t nd_at4(const nd_view *view, size_t i, size_t j, size_t k, size_t l) {
+ND_CHECKED((1)) ND_WRAPS size_t nd_at4(const nd_view *view, size_t i, size_t j, size_t k, size_t l) {
     const size_t outer = view->layout.start + nd_moved(view, 0, i) + nd_moved(view, 1, j);
     const size_t place = outer + nd_moved(view, 2, k) + nd_moved(view, 3, l), end = view->data.len;
     const size_t axes = view->layout.axes, *const shape = view->layout.shape;
@@ -196,12 +196,12 @@ ND_CHECKED((1)) size_t nd_at4(const nd_view *view, size_t i, size_t j, size_t k,
  */
 #define ND_ALL {ND_SLICE, 0, 0, 0, 1}
 #define ND_RANGE(start, end) ND_RANGE_BY(start, end, 1)
-#define ND_RANGE_BY(start, end, step) {ND_SLICE, 1, (ptrdiff_t)(start), (ptrdiff_t)(end), (ptrdiff_t)(step)}
+#define ND_RANGE_BY(start, end, step) {ND_SLICE, 1, ND_CAST(ptrdiff_t, start), ND_CAST(ptrdiff_t, end), ND_CAST(ptrdiff_t, step)}
 /* from a coordinate to the end of the axis; from 0 by -1: the axis in the opposite order */
 #define ND_FROM(start) ND_FROM_BY(start, 1)
-#define ND_FROM_BY(start, step) {ND_SLICE, 0, (ptrdiff_t)(start), 0, (ptrdiff_t)(step)}
+#define ND_FROM_BY(start, step) {ND_SLICE, 0, ND_CAST(ptrdiff_t, start), 0, ND_CAST(ptrdiff_t, step)}
 /* the kinds of these names are numbers, and these macros have parentheses */
-#define ND_INDEX(index) {ND_INDEX, 0, (ptrdiff_t)(index), 0, 0}
+#define ND_INDEX(index) {ND_INDEX, 0, ND_CAST(ptrdiff_t, index), 0, 0}
 #define ND_NEW_AXIS() {ND_NEW_AXIS, 0, 0, 0, 0}
 
 /* ---- Calls for one view ---------------------------------------------------------------------------------------------- */
@@ -307,150 +307,6 @@ ND_CHECKED((1, 2, 3, 4)) int32_t nd_layout_co_broadcast(const nd_layout *first, 
     if (status == ND_OK) status = nd_layout_broadcast(first, common, axes, &made);
     if (status == ND_OK) status = nd_layout_broadcast(second, common, axes, new_second);
     return nd_keep(status, &made, new_first);
-}
-
-/* ---- Rows one by one ------------------------------------------------------------------------------------------------- */
-
-/* Elements at the places `start`, `start + stride`, .., of which there are `len`. */
-typedef struct nd_row {
-    size_t start;
-    size_t len;
-    ptrdiff_t stride;
-} nd_row;
-
-/*
- * The rows that are still to come: how many are left, the first one's start, all rows' length and stride, and the index and the
- * axes by which they move. (The start is apart from what a row has beside it: a processor waits where it reads two numbers at
- * once of which it has just written one.)
- */
-typedef struct nd_row_iter {
-    size_t len;
-    ptrdiff_t stride;
-    size_t left;
-    size_t start;
-    size_t axes;
-    size_t index[ND_MAX_AXES];
-    size_t shape[ND_MAX_AXES];
-    ptrdiff_t strides[ND_MAX_AXES];
-} nd_row_iter;
-
-/* (of this header alone) Drops the axes of length 1. */
-ND_INLINE void nd_drop_ones(nd_layout *layout) {
-    size_t axis, kept = 0;
-    for (axis = 0; axis < layout->axes; axis++) {
-        if (layout->shape[axis] == 1) continue;
-        layout->shape[kept] = layout->shape[axis];
-        layout->strides[kept++] = layout->strides[axis];
-    }
-    layout->axes = kept;
-}
-
-/*
- * A layout that has the same places in an order, along fewer axes: neighbours among the axes that nd_merge_axes merges are
- * one, and axes of length 1 are none. A layout without an index is written as it is read. `order`: ND_ROW_MAJOR or
- * ND_COLUMN_MAJOR.
- *
- * ND_BAD_ARGUMENT for the order or the axes; then the statuses of nd_has_overlap.
- *
- * (4,2,3), strides (12,3,1), row-major: (4,6), strides (12,1). (2,3), strides (3,1): (6), stride 1.
- */
-ND_CHECKED((1, 3)) int32_t nd_layout_join_axes(const nd_layout *layout, int32_t order, nd_layout *joined) {
-    nd_layout made;
-    size_t at, into = 0;
-    int32_t answer, merged, status;
-    if (layout->axes > ND_MAX_AXES || (order != ND_ROW_MAJOR && order != ND_COLUMN_MAJOR)) return ND_BAD_ARGUMENT;
-    made = *layout;
-    status = nd_has_overlap(made.shape, made.axes, made.strides, made.axes, &answer);
-    if (status != ND_OK || nd_layout_size(layout) == 0) return nd_keep(status, &made, joined);
-    for (at = 0; at < made.axes; at++) {
-        size_t axis = order == ND_ROW_MAJOR ? made.axes - 1 - at : at;
-        merged = 0;
-        if (at > 0) status = nd_layout_merge_axes(&made, axis, into, &merged, &made);
-        if (status != ND_OK) return status;
-        if (!merged) into = axis;
-    }
-    nd_drop_ones(&made);
-    return nd_keep(status, &made, joined);
-}
-
-/* (of this header alone) An iterator without a row. */
-ND_INLINE void nd_put_no_row(nd_row_iter *rows) {
-    rows->left = 0;
-    rows->axes = 0;
-    rows->start = 0;
-    rows->len = 0;
-    rows->stride = 0;
-}
-
-/* (of this header alone) The rows of an accepted layout in an order that is one. */
-ND_INLINE void nd_put_rows(const nd_layout *layout, int32_t order, nd_row_iter *rows) {
-    size_t at;
-    rows->left = nd_layout_row_count(layout, order);
-    rows->start = layout->start;
-    rows->len = 1;
-    rows->stride = 0;
-    rows->axes = layout->axes == 0 ? 0 : layout->axes - 1;
-    for (at = 0; at < layout->axes; at++) { /* from the axis that moves fastest, along which a row is */
-        size_t axis = order == ND_ROW_MAJOR ? layout->axes - 1 - at : at;
-        if (at == 0) {
-            rows->len = layout->shape[axis];
-            rows->stride = layout->strides[axis];
-        } else {
-            rows->index[at - 1] = 0;
-            rows->shape[at - 1] = layout->shape[axis];
-            rows->strides[at - 1] = layout->strides[axis];
-        }
-    }
-}
-
-/*
- * Makes the iterator, for nd_next_row, over the rows of a view in an order: those of nd_rows, without a list of their starts.
- * It doesn't refer to the view. A view without axes has one row of one place, one without an index none; after an error the
- * iterator has none. `order`: ND_ROW_MAJOR or ND_COLUMN_MAJOR.
- *
- * ND_BAD_ARGUMENT for the order or the axes; then the statuses of nd_view_check, read-only: an edited layout that leaves its
- * buffer is refused, and each row lies in it.
- *
- * From 3, (2,3), strides (-3,1): two rows of length 3 and stride 1, from 3 and from 0.
- */
-ND_CHECKED((1, 3)) int32_t nd_view_rows(const nd_view *view, int32_t order, nd_row_iter *rows) {
-    int32_t status = order == ND_ROW_MAJOR || order == ND_COLUMN_MAJOR ? ND_OK : ND_BAD_ARGUMENT;
-    nd_put_no_row(rows);
-    if (status == ND_OK) status = nd_view_check(view, ND_READ_ONLY);
-    if (status == ND_OK) nd_put_rows(&view->layout, order, rows);
-    return status;
-}
-
-/*
- * nd_view_rows of the axes that nd_layout_join_axes leaves: fewer rows, with the same places in the same order. For loops that
- * don't ask where a row ends.
- *
- * (100,200,3), strides (2400,3,1): 100 rows of 600, of 20,000 of 3.
- */
-ND_CHECKED((1, 3)) int32_t nd_view_joined_rows(const nd_view *view, int32_t order, nd_row_iter *rows) {
-    nd_layout joined;
-    int32_t status = nd_view_rows(view, order, rows);
-    rows->left = 0;
-    if (status == ND_OK) status = nd_layout_join_axes(&view->layout, order, &joined);
-    if (status == ND_OK) nd_put_rows(&joined, order, rows);
-    return status;
-}
-
-/* Writes the next row and returns 1; after the last one returns 0, and writes nothing. */
-ND_CHECKED((1, 2)) int nd_next_row(nd_row_iter *rows, nd_row *row) {
-    size_t axis;
-    if (rows->left == 0) return 0;
-    rows->left--;
-    row->start = rows->start;
-    row->len = rows->len;
-    row->stride = rows->stride;
-    for (axis = 0; axis < rows->axes; axis++) {
-        rows->start += (size_t)rows->strides[axis];
-        if (++rows->index[axis] < rows->shape[axis]) break;
-        rows->start -= rows->shape[axis] * (size_t)rows->strides[axis];
-        rows->index[axis] = 0;
-    }
-    return 1;
 }
 
 #endif

@@ -17,6 +17,10 @@ static nd_view view, other;
 static nd_lists lists;
 static nd_row_iter rows;
 static nd_row row;
+static nd_rows_iter rows_of_all;
+static nd_row each[2];
+static nd_joined axis;
+static const nd_view *const both[2] = {&view, &other};
 static nd_reason reason;
 static size_t room[4];
 static ptrdiff_t steps[4];
@@ -109,6 +113,16 @@ void unused(void) {
     nd_view_rows(&view, 1, &rows); /* unused */
     nd_view_joined_rows(&view, 1, &rows); /* unused */
     nd_next_row(&rows, &row); /* unused */
+    nd_is_order(1); /* unused */
+    nd_axis_after(1, 2, 1); /* unused */
+    nd_join_after(&layout, 1, 0, &axis); /* unused */
+    nd_other_length(&layout, &made); /* unused */
+    nd_check_views(both, 2, 1); /* unused */
+    nd_join_views(both, 1, &rows_of_all, room); /* unused */
+    nd_views_of_joined_rows(both, 2, 1, &rows_of_all); /* unused */
+    nd_views_joined_rows(&view, 1, 1, &rows_of_all); /* unused */
+    nd_views_reason(&view, 1, &reason); /* unused */
+    nd_next_rows(&rows_of_all, each); /* unused */
     nd_strides_from_bytes(strides, 2, 2, steps); /* unused */
     nd_put_bytes(sizes, 2, strides, 2, 2, 2, &other); /* unused */
     nd_view_over_bytes(2, sizes, 2, strides, 2, 2, 2, 1, &other); /* unused */
@@ -195,6 +209,14 @@ size_t nulls(void) {
     used += (size_t)nd_view_rows(&view, 1, NULL); /* null */
     used += (size_t)nd_view_joined_rows(NULL, 1, &rows); /* null */
     used += (size_t)nd_view_joined_rows(&view, 1, NULL); /* null */
+    used += (size_t)nd_views_joined_rows(NULL, 1, 1, &rows_of_all); /* null */
+    used += (size_t)nd_views_joined_rows(&view, 1, 1, NULL); /* null */
+    used += (size_t)nd_views_of_joined_rows(NULL, 1, 1, &rows_of_all); /* null */
+    used += (size_t)nd_views_of_joined_rows(both, 1, 1, NULL); /* null */
+    used += (size_t)nd_views_reason(NULL, 1, &reason); /* null */
+    used += (size_t)nd_views_reason(&view, 1, NULL); /* null */
+    used += (size_t)nd_next_rows(NULL, each); /* null */
+    used += (size_t)nd_next_rows(&rows_of_all, NULL); /* null */
     used += (size_t)nd_next_row(NULL, &row); /* null */
     used += (size_t)nd_next_row(&rows, NULL); /* null */
     used += (size_t)nd_put_bytes(sizes, 2, strides, 2, 2, 2, NULL); /* null */
