@@ -20,6 +20,10 @@ static nd_row row;
 static nd_rows_iter rows_of_all;
 static nd_row each[2];
 static nd_joined axis;
+static nd_cursor1 first;
+static nd_cursor2 second;
+static nd_cursor3 third;
+static nd_cursor4 fourth;
 static const nd_view *const both[2] = {&view, &other};
 static nd_reason reason;
 static size_t room[4];
@@ -98,6 +102,15 @@ void unused(void) {
     nd_at2(&view, 2, 2); /* unused */
     nd_at3(&view, 2, 2, 2); /* unused */
     nd_at4(&view, 2, 2, 2, 2); /* unused */
+    nd_check_cursor(&view, 2); /* unused */
+    nd_view_cursor1(&view, &first); /* unused */
+    nd_view_cursor2(&view, &second); /* unused */
+    nd_view_cursor3(&view, &third); /* unused */
+    nd_view_cursor4(&view, &fourth); /* unused */
+    nd_cursor_at1(first, 2); /* unused */
+    nd_cursor_at2(second, 2, 2); /* unused */
+    nd_cursor_at3(third, 2, 2, 2); /* unused */
+    nd_cursor_at4(fourth, 2, 2, 2, 2); /* unused */
     nd_view_has_overlap(&view, &number); /* unused */
     nd_view_is_contiguous(&view, &number); /* unused */
     nd_view_is_layout_c(&view, &number); /* unused */
