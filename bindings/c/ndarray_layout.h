@@ -738,8 +738,8 @@ ND_INLINE const char *nd_status_message(int32_t status) {
 /* ---- Layouts as one value -------------------------------------------------------------------------------------------- */
 
 /*
- * The functions below are of this header, and not of the library; ndarray_layout_inline.h, ndarray_layout_rows.h and
- * ndarray_layout_bytes.h, which it includes, have more of them. Each but the two that count makes
+ * The functions below are of this header, and not of the library; ndarray_layout_inline.h, ndarray_layout_rows.h,
+ * ndarray_layout_bytes.h and ndarray_layout_sharing.h, which it includes, have more of them. Each but the two that count makes
  * one call from above with the fields of a layout. It returns the call's status, and after any but ND_OK nothing has been
  * written. The layout that is written comes last, and may be the one that is read. ND_BAD_ARGUMENT, before every other status,
  * also says that a layout has more than ND_MAX_AXES axes, or would have.
@@ -961,6 +961,7 @@ ND_CHECKED((1, 4, 5)) int32_t nd_layout_split_at(const nd_layout *layout, size_t
 #include "ndarray_layout_inline.h"
 #include "ndarray_layout_rows.h"
 #include "ndarray_layout_bytes.h"
+#include "ndarray_layout_sharing.h"
 
 #ifdef __cplusplus
 }

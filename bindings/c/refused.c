@@ -20,6 +20,8 @@ static nd_row row;
 static nd_rows_iter rows_of_all;
 static nd_row each[2];
 static nd_joined axis;
+static nd_sums sums;
+static nd_extent extent;
 static nd_cursor1 first;
 static nd_cursor2 second;
 static nd_cursor3 third;
@@ -136,6 +138,13 @@ void unused(void) {
     nd_views_joined_rows(&view, 1, 1, &rows_of_all); /* unused */
     nd_views_reason(&view, 1, &reason); /* unused */
     nd_next_rows(&rows_of_all, each); /* unused */
+    nd_common_divisor(2, 2); /* unused */
+    nd_sum_to_limit(2, 2); /* unused */
+    nd_product_to_limit(2, 2); /* unused */
+    nd_add_view(&view, &sums, &extent); /* unused */
+    nd_reaches(&sums, 2, 2); /* unused */
+    nd_extents_reach(&sums, &extent, &extent); /* unused */
+    nd_views_share_element(&view, &other, &number); /* unused */
     nd_strides_from_bytes(strides, 2, 2, steps); /* unused */
     nd_put_bytes(sizes, 2, strides, 2, 2, 2, &other); /* unused */
     nd_view_over_bytes(2, sizes, 2, strides, 2, 2, 2, 1, &other); /* unused */
@@ -229,6 +238,9 @@ size_t nulls(void) {
     used += (size_t)nd_views_reason(NULL, 1, &reason); /* null */
     used += (size_t)nd_views_reason(&view, 1, NULL); /* null */
     used += (size_t)nd_next_rows(NULL, each); /* null */
+    used += (size_t)nd_views_share_element(NULL, &other, &number); /* null */
+    used += (size_t)nd_views_share_element(&view, NULL, &number); /* null */
+    used += (size_t)nd_views_share_element(&view, &other, NULL); /* null */
     used += (size_t)nd_next_rows(&rows_of_all, NULL); /* null */
     used += (size_t)nd_next_row(NULL, &row); /* null */
     used += (size_t)nd_next_row(&rows, NULL); /* null */
