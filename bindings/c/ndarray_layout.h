@@ -571,8 +571,9 @@ enum {
     ND_RULE_AXIS = 19,       /* ND_OUT_OF_BOUNDS: there is no such axis. `axis`: its number; `size`: how many axes there are */
     ND_RULE_SAME_AXIS = 20,  /* ND_UNSUPPORTED: an axis is merged into itself. `axis` */
     ND_RULE_SPLIT = 21,      /* ND_OUT_OF_BOUNDS: a split lies past the end of its axis. `axis`; `size`: its length */
-    ND_RULE_OTHER_LENGTH = 22 /* ND_INCOMPATIBLE_SHAPE: a view has another length than the first one. `axis`: the first such;
+    ND_RULE_OTHER_LENGTH = 22, /* ND_INCOMPATIBLE_SHAPE: a view has another length than the first one. `axis`: the first such;
                                 `number`: the view's position; `size`: its length */
+    ND_RULE_ROOM = 23        /* ND_BAD_ARGUMENT: a layout has, or would have, more than ND_MAX_AXES axes. `size`: how many */
 };
 
 /*
@@ -739,7 +740,7 @@ ND_INLINE const char *nd_status_message(int32_t status) {
 
 /*
  * The functions below are of this header, and not of the library; ndarray_layout_inline.h, ndarray_layout_rows.h,
- * ndarray_layout_bytes.h and ndarray_layout_sharing.h, which it includes, have more of them. Each but the two that count makes
+ * ndarray_layout_bytes.h, ndarray_layout_sharing.h and ndarray_layout_reasons.h, which it includes, have more of them. Each but the two that count makes
  * one call from above with the fields of a layout. It returns the call's status, and after any but ND_OK nothing has been
  * written. The layout that is written comes last, and may be the one that is read. ND_BAD_ARGUMENT, before every other status,
  * also says that a layout has more than ND_MAX_AXES axes, or would have.
@@ -962,6 +963,7 @@ ND_CHECKED((1, 4, 5)) int32_t nd_layout_split_at(const nd_layout *layout, size_t
 #include "ndarray_layout_rows.h"
 #include "ndarray_layout_bytes.h"
 #include "ndarray_layout_sharing.h"
+#include "ndarray_layout_reasons.h"
 
 #ifdef __cplusplus
 }

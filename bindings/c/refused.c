@@ -145,6 +145,20 @@ void unused(void) {
     nd_reaches(&sums, 2, 2); /* unused */
     nd_extents_reach(&sums, &extent, &extent); /* unused */
     nd_views_share_element(&view, &other, &number); /* unused */
+    nd_has_no_room(2, &reason); /* unused */
+    nd_is_refused(&layout, 2, &reason); /* unused */
+    nd_is_refused_from(&layout, 2, &reason); /* unused */
+    nd_layout_check_reason(&layout, data, 1, &reason); /* unused */
+    nd_layout_slice_reason(&layout, elems, 2, 1, &reason); /* unused */
+    nd_layout_permuted_axes_reason(&layout, sizes, 2, &reason); /* unused */
+    nd_layout_reshape_reason(&layout, sizes, 2, 1, &reason); /* unused */
+    nd_layout_broadcast_reason(&layout, sizes, 2, &reason); /* unused */
+    nd_layout_windows_reason(&layout, sizes, 2, &reason); /* unused */
+    nd_layout_exact_chunks_reason(&layout, sizes, 2, &reason); /* unused */
+    nd_layout_split_at_reason(&layout, 2, 2, &reason); /* unused */
+    nd_layout_merge_axes_reason(&layout, 2, 2, &reason); /* unused */
+    nd_view_from_strides_reason(sizes, 2, strides, 2, data, 1, &reason); /* unused */
+    nd_view_over_bytes_reason(2, sizes, 2, strides, 2, 2, 2, 1, &reason); /* unused */
     nd_strides_from_bytes(strides, 2, 2, steps); /* unused */
     nd_put_bytes(sizes, 2, strides, 2, 2, 2, &other); /* unused */
     nd_view_over_bytes(2, sizes, 2, strides, 2, 2, 2, 1, &other); /* unused */
