@@ -3,44 +3,68 @@
 #ifndef NDARRAY_LAYOUT_HPP
 #define NDARRAY_LAYOUT_HPP
 
-#include "ndarray_layout.h"
+#include "ndarray_layout_rows.hpp"
 
 #include <array>
 #include <cstddef>
 #include <initializer_list>
 #include <iterator>
+#include <optional>
 #include <stdexcept>
+#include <tuple>
 #include <type_traits>
 #include <utility>
+#include <vector>
+#if __has_include(<expected>)
+#include <expected>
+#endif
 #if __has_include(<mdspan>)
 #include <mdspan>
 #endif
 
 namespace nd {
 
-// What a call refused.
-class error : public std::runtime_error {
+// What a call gives, or else why it refuses: a std::expected, or a class like it before C++23. The calls whose names begin with
+// try_ give one, and throw nothing.
+#ifdef __cpp_lib_expected
+template <class Value>
+using result = std::expected<Value, fault>;
+using refusal = std::unexpected<fault>;
+#else
+struct refusal {
+    fault of;
+};
+template <class Value>
+class [[nodiscard]] result {
 public:
-    explicit error(std::int32_t status) : std::runtime_error(nd_status_message(status)), status_(status) {}
-    std::int32_t status() const noexcept { return status_; }
+    result(Value value) : value_(std::move(value)), of_{ND_OK} {}
+    result(refusal given) : of_(given.of) {}
+    [[nodiscard]] bool has_value() const { return value_.has_value(); }
+    explicit operator bool() const { return has_value(); }
+    const Value &operator*() const { return *value_; }
+    const Value *operator->() const { return &*value_; }
+    [[nodiscard]] const fault &error() const { return of_; }
 
 private:
-    std::int32_t status_;
+    std::optional<Value> value_;
+    fault of_;
 };
+#endif
 
-inline void expect_ok(std::int32_t status) {
-    if (status != ND_OK) throw error(status);
+// The value of a result; throws where there is none.
+template <class Value>
+Value expect(const result<Value> &found) {
+    if (!found.has_value()) refuse(found.error());
+    return *found;
 }
 
-// Whether a type is one of coordinates, bounds and steps: integers, and enumerations without `class`, of no more bits than a
-// size has. A bool is none, as in Python: `view(row, column == 2)` compares where it should count.
-template <class Number>
-inline constexpr bool is_coordinate_v = sizeof(Number) <= sizeof(std::size_t) && !std::is_same_v<Number, bool> &&
-                                        (std::is_integral_v<Number> ||
-                                         (std::is_enum_v<Number> && std::is_convertible_v<Number, std::ptrdiff_t>));
-
-#define ND_EXPECT_COORDINATES(holds) \
-    static_assert(holds, "coordinates, bounds and steps are integers, not bool, of no more bits than std::size_t")
+// The refusal of a status, with the reason that a call writes.
+template <class Why>
+refusal refused(std::int32_t status, Why why) {
+    fault of{status};
+    if (why(&of.reason) != ND_OK || of.reason.status != status) of.reason = nd_reason{};
+    return refusal{of};
+}
 
 // Elements of slices, as ND_ALL, ND_RANGE, ND_RANGE_BY, ND_FROM, ND_FROM_BY, ND_INDEX and ND_NEW_AXIS() are.
 using elem = nd_slice_elem;
@@ -62,74 +86,6 @@ constexpr elem index(Coordinate coordinate) {
     return ND_INDEX(coordinate);
 }
 
-// The elements of a row, `stride()` apart. Where that is 1, `data()` and `size()` are those of a std::span.
-template <class T>
-class row {
-public:
-    class iterator {
-    public:
-        using iterator_category = std::forward_iterator_tag;
-        using value_type = std::remove_cv_t<T>;
-        using difference_type = std::ptrdiff_t;
-        using pointer = T *;
-        using reference = T &;
-        iterator() = default;
-        iterator(T *first, std::ptrdiff_t stride, std::size_t at) : first_(first), stride_(stride), at_(at) {}
-        T &operator*() const { return first_[static_cast<std::ptrdiff_t>(at_) * stride_]; }
-        T *operator->() const { return &**this; }
-        iterator &operator++() { return ++at_, *this; }
-        iterator operator++(int) { return {first_, stride_, at_++}; }
-        bool operator==(const iterator &other) const { return at_ == other.at_; }
-        bool operator!=(const iterator &other) const { return at_ != other.at_; }
-
-    private:
-        T *first_ = nullptr;
-        std::ptrdiff_t stride_ = 0;
-        std::size_t at_ = 0;
-    };
-
-    row(T *first, nd_row of) : first_(first), of_(of) {}
-    T &operator[](std::size_t at) const { return first_[static_cast<std::ptrdiff_t>(at) * of_.stride]; }
-    std::size_t size() const { return of_.len; }
-    std::ptrdiff_t stride() const { return of_.stride; }
-    T *data() const { return first_; }
-    iterator begin() const { return {first_, of_.stride, 0}; }
-    iterator end() const { return {first_, of_.stride, of_.len}; }
-
-private:
-    T *first_;
-    nd_row of_;
-};
-
-// The rows of a view: `for (nd::row<T> row : view.rows())`.
-template <class T>
-class rows {
-public:
-    struct sentinel {};
-    class iterator {
-    public:
-        iterator(T *data, const nd_row_iter &left) : data_(data), left_(left) { ++*this; }
-        row<T> operator*() const { return {data_ + now_.start, now_}; }
-        iterator &operator++() { return has_row_ = nd_next_row(&left_, &now_) != 0, *this; }
-        bool operator!=(sentinel) const { return has_row_; }
-
-    private:
-        T *data_;
-        nd_row_iter left_;
-        nd_row now_{0, 0, 0};
-        bool has_row_ = false;
-    };
-
-    rows(T *data, const nd_row_iter &all_of) : data_(data), all_of_(all_of) {}
-    iterator begin() const { return {data_, all_of_}; }
-    sentinel end() const { return {}; }
-    std::size_t size() const { return all_of_.left; }
-
-private:
-    T *data_;
-    nd_row_iter all_of_;
-};
-
 // A layout over `len` elements from `data` on, which the program keeps. A view of const elements is accepted as read-only, one
 // of others as owned; `broadcast` gives a view of const elements. Constructors and calls throw `nd::error`.
 template <class T>
@@ -140,59 +96,150 @@ class view {
 
 public:
     using shape_list = std::initializer_list<std::size_t>;
+    using strides_list = std::initializer_list<std::ptrdiff_t>;
 
-    view(T *data, std::size_t len, shape_list shape, std::int32_t order = ND_ROW_MAJOR) : data_(data) {
-        expect_ok(nd_view_from_shape(shape.begin(), shape.size(), order, {sizeof(T), len}, mode, &view_));
-    }
+    view(T *data, std::size_t len, shape_list shape, std::int32_t order = ND_ROW_MAJOR)
+        : view(expect(try_new(data, len, shape, order))) {}
     // The lowest element is the first of the buffer.
-    view(T *data, std::size_t len, shape_list shape, std::initializer_list<std::ptrdiff_t> strides) : data_(data) {
-        const nd_data buffer{sizeof(T), len};
-        expect_ok(nd_view_from_strides(shape.begin(), shape.size(), strides.begin(), strides.size(), buffer, mode, &view_));
+    view(T *data, std::size_t len, shape_list shape, strides_list strides) : view(expect(try_new(data, len, shape, strides))) {}
+    view(T *data, std::size_t len, const nd_layout &layout) : view(expect(try_new(data, len, layout))) {}
+
+    [[nodiscard]] static result<view> try_new(T *data, std::size_t len, shape_list shape, std::int32_t order = ND_ROW_MAJOR) {
+        nd_layout layout;
+        const std::int32_t status = nd_layout_from_shape(shape.begin(), shape.size(), order, &layout);
+        if (status == ND_OK) return try_new(data, len, layout);
+        const std::vector<std::ptrdiff_t> none(shape.size(), 0); // (whose span is 0: the shape is too large, or has too many axes)
+        return refused(status, [&](nd_reason *to) { return why(shape, none.data(), none.size(), len, to); });
     }
-    view(T *data, std::size_t len, const nd_layout &layout) : data_(data) {
-        expect_ok(nd_view_of(&layout, {sizeof(T), len}, mode, &view_));
+    [[nodiscard]] static result<view> try_new(T *data, std::size_t len, shape_list shape, strides_list strides) {
+        return try_strides(data, len, shape, strides.begin(), strides.size());
+    }
+    [[nodiscard]] static result<view> try_new(T *data, std::size_t len, const nd_layout &layout) {
+        nd_view to;
+        const nd_data buffer{sizeof(T), len};
+        const std::int32_t status = nd_view_of(&layout, buffer, mode, &to);
+        if (status == ND_OK) return view(data, to);
+        return refused(status, [&](nd_reason *why) { return nd_layout_check_reason(&layout, buffer, mode, why); });
+    }
+    // Strides in bytes, each a multiple of an element's: others are ND_INCOMPATIBLE_LAYOUT, and need nd_view_over_bytes.
+    [[nodiscard]] static result<view> try_from_byte_strides(T *data, std::size_t len, shape_list shape, strides_list strides) {
+        std::vector<std::ptrdiff_t> counted(strides.size());
+        const auto status = nd_strides_from_bytes(strides.begin(), strides.size(), sizeof(T), counted.data());
+        if (status != ND_OK) return refusal{fault{status}};
+        return try_strides(data, len, shape, counted.data(), counted.size());
+    }
+    [[nodiscard]] static view from_byte_strides(T *data, std::size_t len, shape_list shape, strides_list strides) {
+        return expect(try_from_byte_strides(data, len, shape, strides));
     }
 
-    const nd_view &as_c() const { return view_; }
-    T *data() const { return data_; }
-    std::size_t axes() const { return view_.layout.axes; }
-    std::size_t size() const { return nd_layout_size(&view_.layout); }
-    std::size_t length(std::size_t axis) const {
-        return axis < axes() ? view_.layout.shape[axis] : throw error(ND_OUT_OF_BOUNDS);
+    [[nodiscard]] const nd_view &as_c() const { return view_; }
+    [[nodiscard]] T *data() const { return data_; }
+    [[nodiscard]] std::size_t axes() const { return view_.layout.axes; }
+    [[nodiscard]] std::size_t size() const { return nd_layout_size(&view_.layout); }
+    [[nodiscard]] std::size_t length(std::size_t axis) const {
+        if (axis >= axes()) refuse(ND_OUT_OF_BOUNDS);
+        return view_.layout.shape[axis];
     }
 
     // The element of an index, each coordinate and the place compared; null, or an error, where it is no index. Coordinates are
     // integers: others don't compile.
     template <class... Coordinates>
-    T *find(Coordinates... coordinates) const {
+    [[nodiscard]] T *find(Coordinates... coordinates) const {
         ND_EXPECT_COORDINATES((is_coordinate_v<Coordinates> && ...));
-        const std::array<std::size_t, sizeof...(coordinates)> list{static_cast<std::size_t>(coordinates)...};
-        const std::size_t place = nd_at_n(&view_, list.data(), list.size());
-        return place == ND_NO_PLACE ? nullptr : data_ + place;
+        T *const data = data_;
+        const std::size_t place = place_of(static_cast<std::size_t>(coordinates)...);
+        if (place == ND_NO_PLACE) return nullptr;
+        T *const found = data + place;
+        ND_ASSUME(found != nullptr);
+        return found;
     }
     template <class... Coordinates>
     T &operator()(Coordinates... coordinates) const {
         T *const found = find(coordinates...);
-        return found != nullptr ? *found : throw error(ND_OUT_OF_BOUNDS);
+        if (found == nullptr) refuse(ND_OUT_OF_BOUNDS);
+        return *found;
     }
 
-    nd::rows<T> rows(std::int32_t order = ND_ROW_MAJOR) const { return rows_by(nd_view_rows, order); }
-    nd::rows<T> joined_rows(std::int32_t order = ND_ROW_MAJOR) const { return rows_by(nd_view_joined_rows, order); }
+    // For loops: ND_INCOMPATIBLE_SHAPE where the view has another count of axes.
+    template <std::size_t Axes>
+    [[nodiscard]] nd::cursor<T, Axes> cursor() const {
+        if (axes() != Axes) refuse(ND_INCOMPATIBLE_SHAPE);
+        return {data_, view_.layout};
+    }
 
-    view slice(std::initializer_list<elem> elems, std::int32_t fit = ND_STRICT) const {
-        return made([&](nd_layout *to) { return nd_layout_slice(&view_.layout, elems.begin(), elems.size(), fit, to); });
+    [[nodiscard]] nd::rows<T> rows(std::int32_t order = ND_ROW_MAJOR) const { return rows_by(nd_view_rows, order); }
+    [[nodiscard]] nd::rows<T> joined_rows(std::int32_t order = ND_ROW_MAJOR) const {
+        return rows_by(nd_view_joined_rows, order);
     }
-    view permuted_axes(shape_list axes) const {
-        return made([&](nd_layout *to) { return nd_layout_permuted_axes(&view_.layout, axes.begin(), axes.size(), to); });
+
+    [[nodiscard]] view slice(std::initializer_list<elem> elems, std::int32_t fit = ND_STRICT) const {
+        return expect(try_slice(elems, fit));
     }
-    view reshape(shape_list shape, std::int32_t order = ND_ROW_MAJOR) const {
-        return made([&](nd_layout *to) { return nd_layout_reshape(&view_.layout, shape.begin(), shape.size(), order, to); });
+    [[nodiscard]] result<view> try_slice(std::initializer_list<elem> elems, std::int32_t fit = ND_STRICT) const {
+        return made<T>(nd_layout_slice, nd_layout_slice_reason, elems.begin(), elems.size(), fit);
     }
-    view<const T> broadcast(shape_list shape) const {
-        view<const T> other(*this);
-        expect_ok(nd_layout_broadcast(&view_.layout, shape.begin(), shape.size(), &other.view_.layout));
-        return other;
+    [[nodiscard]] view permuted_axes(shape_list axes) const { return expect(try_permuted_axes(axes)); }
+    [[nodiscard]] result<view> try_permuted_axes(shape_list axes) const {
+        return made<T>(nd_layout_permuted_axes, nd_layout_permuted_axes_reason, axes.begin(), axes.size());
     }
+    [[nodiscard]] view reshape(shape_list shape, std::int32_t order = ND_ROW_MAJOR) const {
+        return expect(try_reshape(shape, order));
+    }
+    [[nodiscard]] result<view> try_reshape(shape_list shape, std::int32_t order = ND_ROW_MAJOR) const {
+        return made<T>(nd_layout_reshape, nd_layout_reshape_reason, shape.begin(), shape.size(), order);
+    }
+    [[nodiscard]] view<const T> broadcast(shape_list shape) const { return expect(try_broadcast(shape)); }
+    [[nodiscard]] result<view<const T>> try_broadcast(shape_list shape) const {
+        return made<const T>(nd_layout_broadcast, nd_layout_broadcast_reason, shape.begin(), shape.size());
+    }
+    [[nodiscard]] view<const T> windows(shape_list window) const { return expect(try_windows(window)); }
+    [[nodiscard]] result<view<const T>> try_windows(shape_list window) const {
+        return made<const T>(nd_layout_windows, nd_layout_windows_reason, window.begin(), window.size());
+    }
+    [[nodiscard]] view exact_chunks(shape_list chunk) const { return expect(try_exact_chunks(chunk)); }
+    [[nodiscard]] result<view> try_exact_chunks(shape_list chunk) const {
+        return made<T>(nd_layout_exact_chunks, nd_layout_exact_chunks_reason, chunk.begin(), chunk.size());
+    }
+    [[nodiscard]] view diag() const {
+        return expect(made<T>(nd_layout_diag, [](const nd_layout *, nd_reason *) { return ND_OK; }));
+    }
+    // The parts below a coordinate of an axis, and from it on.
+    [[nodiscard]] std::pair<view, view> split_at(std::size_t axis, std::size_t index) const {
+        return expect(try_split_at(axis, index));
+    }
+    [[nodiscard]] result<std::pair<view, view>> try_split_at(std::size_t axis, std::size_t index) const {
+        std::pair<view, view> both(*this, *this);
+        const auto status = nd_layout_split_at(&view_.layout, axis, index, &both.first.view_.layout, &both.second.view_.layout);
+        if (status == ND_OK) return both;
+        return refused(status, [&](nd_reason *why) { return nd_layout_split_at_reason(&view_.layout, axis, index, why); });
+    }
+
+    // All elements as one row with the stride 1, where they follow one another in an order.
+    [[nodiscard]] std::optional<row<T>> stretch(std::int32_t order = ND_ROW_MAJOR) const {
+        std::size_t first = 0, end = 0;
+        std::int32_t found = 0;
+        expect_ok(nd_view_stretch(&view_, order, &first, &end, &found));
+        if (found == 0) return std::nullopt;
+        return row<T>(data_ + first, nd_row{first, end - first, 1});
+    }
+    // The positions of two slices that share an index, the less first. `slices`: a range of ranges of elements.
+    template <class Slices = std::initializer_list<std::initializer_list<elem>>>
+    [[nodiscard]] std::optional<std::pair<std::size_t, std::size_t>> first_intersection(const Slices &slices,
+                                                                                        std::int32_t fit = ND_STRICT) const {
+        std::vector<elem> elems;
+        std::vector<std::size_t> counts;
+        for (const auto &slice : slices) {
+            elems.insert(elems.end(), std::begin(slice), std::end(slice));
+            counts.push_back(std::size(slice));
+        }
+        std::array<std::size_t, 2> pair{};
+        std::int32_t found = 0;
+        expect_ok(nd_layout_first_intersection(&view_.layout, elems.data(), elems.size(), counts.data(), counts.size(), fit,
+                                               pair.data(), &found));
+        if (found == 0) return std::nullopt;
+        return std::pair(pair[0], pair[1]);
+    }
+
     template <class Other, class = std::enable_if_t<std::is_same_v<const Other, T>>>
     view(const view<Other> &other) : data_(other.data_), view_(other.view_) {}
 
@@ -201,7 +248,7 @@ public:
     // length times the other's stride: what isn't so is ND_UNSUPPORTED, and ND_OVERFLOW what its type of indices can't hold.
     // Strides of axes of length 1 become 1.
     template <class Mapping>
-    static view from_mapping(T *data, std::size_t len, const Mapping &mapping) {
+    [[nodiscard]] static view from_mapping(T *data, std::size_t len, const Mapping &mapping) {
         nd_layout layout{0, Mapping::extents_type::rank(), {}, {}};
         static_assert(Mapping::extents_type::rank() <= ND_MAX_AXES);
         for (std::size_t axis = 0; axis < layout.axes; axis++) {
@@ -211,23 +258,23 @@ public:
         return view(data, len, layout);
     }
     template <class Mapping>
-    std::pair<T *, Mapping> to_mapping() const {
+    [[nodiscard]] std::pair<T *, Mapping> to_mapping() const {
         using extents = typename Mapping::extents_type;
         using number = typename extents::index_type;
         std::array<number, extents::rank()> lengths{}, strides{};
-        if (axes() != extents::rank()) throw error(ND_INCOMPATIBLE_SHAPE);
+        if (axes() != extents::rank()) refuse(ND_INCOMPATIBLE_SHAPE);
         for (std::size_t axis = 0; axis < axes(); axis++) {
             lengths[axis] = static_cast<number>(view_.layout.shape[axis]);
             strides[axis] = static_cast<number>(mapped_stride(axis));
             const bool keeps_length = static_cast<std::size_t>(lengths[axis]) == view_.layout.shape[axis];
             const bool keeps_stride = static_cast<std::size_t>(strides[axis]) == mapped_stride(axis);
-            if (!keeps_length || !keeps_stride) throw error(ND_OVERFLOW);
+            if (!keeps_length || !keeps_stride) refuse(ND_OVERFLOW);
         }
         return {data_ + view_.layout.start, Mapping(extents(lengths), strides)};
     }
 #ifdef __cpp_lib_mdspan
     template <std::size_t Rank>
-    auto to_mdspan() const {
+    [[nodiscard]] auto to_mdspan() const {
         using extents = std::dextents<std::size_t, Rank>;
         const auto [first, mapping] = to_mapping<std::layout_stride::mapping<extents>>();
         return std::mdspan<T, extents, std::layout_stride>(first, mapping);
@@ -235,6 +282,18 @@ public:
 #endif
 
 private:
+    std::size_t place_of(std::size_t i) const { return nd_at1(&view_, i); }
+    std::size_t place_of(std::size_t i, std::size_t j) const { return nd_at2(&view_, i, j); }
+    std::size_t place_of(std::size_t i, std::size_t j, std::size_t k) const { return nd_at3(&view_, i, j, k); }
+    std::size_t place_of(std::size_t i, std::size_t j, std::size_t k, std::size_t l) const {
+        return nd_at4(&view_, i, j, k, l);
+    }
+    template <class... Coordinates>
+    std::size_t place_of(Coordinates... coordinates) const {
+        const std::array<std::size_t, sizeof...(coordinates)> list{coordinates...};
+        return nd_at_n(&view_, list.data(), list.size());
+    }
+
     // The stride of an axis in a mapping: that of the view, or without an index that of a shape without gaps.
     std::size_t mapped_stride(std::size_t axis) const {
         const nd_layout &of = view_.layout;
@@ -245,20 +304,34 @@ private:
             if (size() == 0 && other > axis && of.shape[other] > 0) inner *= of.shape[other];
             if (size() == 0 || other == axis || of.shape[other] == 1) continue;
             const auto beside = static_cast<std::size_t>(of.strides[other]);
-            if (stride < beside * of.shape[other] && beside < stride * of.shape[axis]) throw error(ND_UNSUPPORTED);
+            if (stride < beside * of.shape[other] && beside < stride * of.shape[axis]) refuse(ND_UNSUPPORTED);
         }
-        if (size() > 0 && of.strides[axis] < 1) throw error(ND_UNSUPPORTED);
+        if (size() > 0 && of.strides[axis] < 1) refuse(ND_UNSUPPORTED);
         return size() == 0 ? inner : stride;
     }
 
-    template <class Call>
-    view made(Call call) const {
-        view other(*this);
-        expect_ok(call(&other.view_.layout));
-        return other;
+    view(T *data, const nd_view &of) : data_(data), view_(of) {}
+
+    static std::int32_t why(shape_list shape, const std::ptrdiff_t *strides, std::size_t count, std::size_t len, nd_reason *to) {
+        return nd_view_from_strides_reason(shape.begin(), shape.size(), strides, count, {sizeof(T), len}, mode, to);
+    }
+    static result<view> try_strides(T *data, std::size_t len, shape_list shape, const std::ptrdiff_t *strides, std::size_t count) {
+        nd_view to;
+        const nd_data buffer{sizeof(T), len};
+        const auto status = nd_view_from_strides(shape.begin(), shape.size(), strides, count, buffer, mode, &to);
+        if (status == ND_OK) return view(data, to);
+        return refused(status, [&](nd_reason *reason) { return why(shape, strides, count, len, reason); });
+    }
+    // A view over the same elements, of the layout that a call makes, or why it makes none.
+    template <class Element, class Call, class Why, class... Arguments>
+    result<view<Element>> made(Call call, Why why, Arguments... arguments) const {
+        view<Element> other(data_, view_);
+        const std::int32_t status = call(&view_.layout, arguments..., &other.view_.layout);
+        if (status == ND_OK) return other;
+        return refused(status, [&](nd_reason *to) { return why(&view_.layout, arguments..., to); });
     }
     template <class Call>
-    nd::rows<T> rows_by(Call call, std::int32_t order) const {
+    [[nodiscard]] nd::rows<T> rows_by(Call call, std::int32_t order) const {
         nd_row_iter all_of;
         expect_ok(call(&view_, order, &all_of));
         return {data_, all_of};
@@ -267,6 +340,31 @@ private:
     T *data_;
     nd_view view_;
 };
+
+// The rows of several views of one shape in step: `for (auto [to, from] : nd::joined_rows(picture, part))`. They are along the
+// axes that are joined in all views, so those of all are equally long, and elements at one position have one index. Views of
+// other shapes are ND_INCOMPATIBLE_SHAPE.
+template <class... T>
+[[nodiscard]] rows_in_step<T...> joined_rows(std::int32_t order, const view<T> &...views) {
+    const std::array<const nd_view *, sizeof...(T)> all{&views.as_c()...};
+    nd_rows_iter left;
+    expect_ok(nd_views_of_joined_rows(all.data(), all.size(), order, &left));
+    return {std::tuple<T *...>(views.data()...), left};
+}
+template <class... T>
+[[nodiscard]] rows_in_step<T...> joined_rows(const view<T> &...views) {
+    return joined_rows(ND_ROW_MAJOR, views...);
+}
+
+// Whether an element of one view and one of another, over the same elements, share a byte: where it is so, a loop that copies one
+// to the other reads what it has written.
+template <class First, class Second>
+[[nodiscard]] bool share_element(const view<First> &first, const view<Second> &second) {
+    std::int32_t answer = 0;
+    if (static_cast<const void *>(first.data()) != second.data()) refuse(ND_BAD_ARGUMENT);
+    expect_ok(nd_views_share_element(&first.as_c(), &second.as_c(), &answer));
+    return answer != 0;
+}
 
 } // namespace nd
 

@@ -1,10 +1,14 @@
 // ndarray_layout.hpp: what its classes give and refuse, with a class like std::layout_stride's mapping, and that where it is.
 #include "ndarray_layout.hpp"
 
+#include <algorithm>
 #include <cstdio>
 #include <numeric>
 #include <string>
 #include <vector>
+#if __has_include(<ranges>)
+#include <ranges>
+#endif
 
 static int checked, failed;
 
@@ -17,13 +21,16 @@ static void check(bool holds, int line, const char *what) {
 
 #define CHECK(fact) check((fact), __LINE__, #fact)
 
-// The status with which a call is refused, and whether the text is its own.
+// The status with which a call is refused, where the text is that of its reason, or else its own.
 template <class Call>
 static std::int32_t refused(Call call) {
     try {
         call();
     } catch (const nd::error &error) {
-        return error.what() == std::string(nd_status_message(error.status())) ? error.status() : -1;
+        const bool has_reason = error.reason().rule != ND_RULE_NONE;
+        char text[160];
+        nd_reason_text(&error.reason(), text, sizeof text);
+        return error.what() == std::string(has_reason ? text : nd_status_message(error.status())) ? error.status() : -1;
     }
     return ND_OK;
 }
@@ -62,7 +69,7 @@ static void test_views() {
     CHECK(view.axes() == 2 && view.size() == 12 && view.length(1) == 4 && view.data() == numbers.data());
     CHECK(view(2, 3) == 11 && back(2, 3) == 3 && view.find(0, 1) == &numbers[1]);
     CHECK(view.find(3, 0) == nullptr && view.find(0, 4) == nullptr && view.find(0, -1) == nullptr && view.find(0) == nullptr);
-    CHECK(refused([&] { view(3, 0); }) == ND_OUT_OF_BOUNDS && refused([&] { (void)view.length(2); }) == ND_OUT_OF_BOUNDS);
+    CHECK(refused([&] { (void)view(3, 0); }) == ND_OUT_OF_BOUNDS && refused([&] { (void)view.length(2); }) == ND_OUT_OF_BOUNDS);
     CHECK(refused([&] { nd::view<int>(numbers.data(), 11, {3, 4}); }) == ND_OUT_OF_BOUNDS);
     CHECK(refused([&] { nd::view<int>(numbers.data(), 12, {3, 4}, {1, 1}); }) == ND_UNSUPPORTED);
     CHECK(refused([&] { nd::view<const int>(numbers.data(), 12, {3, 4}, {1, 1}); }) == ND_OK);
@@ -74,12 +81,26 @@ static void test_views() {
     numbers[5] = 5;
 }
 
+static void test_cursors() {
+    const nd::view<int> view(numbers.data(), 12, {3, 4}), back = view.slice({nd::from(0, -1), nd::from(1, 2)});
+    const auto at = back.cursor<2>();
+    CHECK(at(0, 0) == 9 && at(2, 1) == 3 && at.length(0) == 3 && at.length(1) == 2 && *at.find(1, 1) == 7);
+    CHECK(at.find(3, 0) == nullptr && at.find(0, 2) == nullptr && at.find(-1, 0) == nullptr);
+    CHECK(refused([&] { (void)at(0, 2); }) == ND_OUT_OF_BOUNDS && refused([&] { (void)at.length(2); }) == ND_OUT_OF_BOUNDS);
+    CHECK(refused([&] { (void)view.cursor<1>(); }) == ND_INCOMPATIBLE_SHAPE);
+    at(1, 0) = 50;
+    CHECK(numbers[5] == 50);
+    numbers[5] = 5;
+    const nd::view<const int> cube(numbers.data(), 12, {2, 3, 2}), five(numbers.data(), 12, {1, 2, 1, 3, 2});
+    CHECK(cube.cursor<3>()(1, 2, 1) == 11 && cube(1, 2, 1) == 11 && five(0, 1, 0, 2, 1) == 11 && five.cursor<5>()(0, 1, 0, 2, 1) == 11);
+}
+
 static void test_rows() {
     const nd::view<int> view(numbers.data(), 12, {3, 4});
     CHECK(text_of(view.rows()) == "0 1 2 3 /4 5 6 7 /8 9 10 11 /" && view.rows().size() == 3);
     CHECK(text_of(view.rows(ND_COLUMN_MAJOR)) == "0 4 8 /1 5 9 /2 6 10 /3 7 11 /");
     CHECK(text_of(view.joined_rows()) == "0 1 2 3 4 5 6 7 8 9 10 11 /");
-    CHECK(refused([&] { view.rows(2); }) == ND_BAD_ARGUMENT && refused([&] { view.joined_rows(2); }) == ND_BAD_ARGUMENT);
+    CHECK(refused([&] { (void)view.rows(2); }) == ND_BAD_ARGUMENT && refused([&] { (void)view.joined_rows(2); }) == ND_BAD_ARGUMENT);
     for (const nd::row<int> row : view.rows()) CHECK(row.stride() == 1 && row.size() == 4 && row.data() == &row[0]);
     const auto third = (*view.slice({nd::index(2), nd::from(0, -1)}).rows().begin()).begin(); /* (of a row that is gone) */
     auto next = third;
@@ -88,6 +109,30 @@ static void test_rows() {
     CHECK(numbers[5] == 50);
     numbers[5] = 5;
     CHECK(text_of(nd::view<int>(numbers.data(), 12, {0, 4}).rows()).empty());
+}
+
+// Two and three views in step, by hand and as a range of tuples.
+static void test_rows_in_step() {
+    std::vector<int> copied(6, 0), added(6, 1);
+    const nd::view<int> view(numbers.data(), 12, {3, 4}), part = view.slice({nd::range(0, 2), nd::range(1, 4)});
+    const nd::view<int> to(copied.data(), 6, {2, 3}), sums(added.data(), 6, {2, 3});
+    auto both = nd::joined_rows(to, nd::view<const int>(part));
+    CHECK(both.size() == 2);
+    for (const auto [into, from] : both) std::copy(from.begin(), from.end(), into.begin());
+    CHECK(text_of(to.joined_rows()) == "1 2 3 5 6 7 /" && both.size() == 0);
+    for (const auto [sum, first, second] : nd::joined_rows(sums, to, part))
+        for (std::size_t at = 0; at < sum.size(); at++) sum[at] += first[at] + second[at];
+    CHECK(text_of(sums.rows()) == "3 5 7 /11 13 15 /");
+    CHECK(nd::joined_rows(to, sums).size() == 1 && nd::joined_rows(ND_COLUMN_MAJOR, to, part).size() == 3);
+    for (const auto [alone] : nd::joined_rows(to)) CHECK(alone.size() == 6 && alone.data() == copied.data());
+    CHECK(refused([&] { (void)nd::joined_rows(to, view); }) == ND_INCOMPATIBLE_SHAPE);
+    CHECK(refused([&] { (void)nd::joined_rows(2, to, part); }) == ND_BAD_ARGUMENT);
+#ifdef __cpp_lib_ranges
+    static_assert(std::ranges::input_range<decltype(view.rows())> && std::ranges::input_range<decltype(both)>);
+    int sum = 0;
+    std::ranges::for_each(view.rows(), [&](nd::row<int> row) { sum += row[0]; });
+    CHECK(sum == 12);
+#endif
 }
 
 static void test_views_of_views() {
@@ -100,11 +145,94 @@ static void test_views_of_views() {
     CHECK(text_of(view.reshape({2, 6}).rows()) == "0 1 2 3 4 5 /6 7 8 9 10 11 /");
     const nd::view<const int> wide = view.slice({nd::index(1), nd::range(0, 2)}).broadcast({2, 2}), fixed = view;
     CHECK(text_of(wide.rows()) == "4 5 /4 5 /" && fixed(2, 3) == 11);
-    CHECK(refused([&] { view.slice({nd::all}); }) == ND_INCOMPATIBLE_SHAPE);
-    CHECK(refused([&] { view.slice({nd::range(0, 9), nd::all}); }) == ND_OUT_OF_BOUNDS);
-    CHECK(refused([&] { view.permuted_axes({0, 0}); }) == ND_INCOMPATIBLE_SHAPE);
-    CHECK(refused([&] { view.reshape({5}); }) == ND_INCOMPATIBLE_SHAPE);
+    CHECK(refused([&] { (void)view.slice({nd::all}); }) == ND_INCOMPATIBLE_SHAPE);
+    CHECK(refused([&] { (void)view.slice({nd::range(0, 9), nd::all}); }) == ND_OUT_OF_BOUNDS);
+    CHECK(refused([&] { (void)view.permuted_axes({0, 0}); }) == ND_INCOMPATIBLE_SHAPE);
+    CHECK(refused([&] { (void)view.reshape({5}); }) == ND_INCOMPATIBLE_SHAPE);
     CHECK(refused([&] { (void)view.broadcast({3, 5}); }) == ND_INCOMPATIBLE_SHAPE);
+}
+
+// Blocks, parts, the diagonal and stretches, as C has them.
+static void test_parts_of_views() {
+    const nd::view<int> view(numbers.data(), 12, {3, 4});
+    CHECK(text_of(view.windows({2, 3}).slice({nd::index(1), nd::index(1), nd::all, nd::all}).rows()) == "5 6 7 /9 10 11 /");
+    CHECK(text_of(view.exact_chunks({2, 2}).slice({nd::index(0), nd::index(1), nd::all, nd::all}).rows()) == "2 3 /6 7 /");
+    CHECK(text_of(view.diag().rows()) == "0 5 10 /");
+    const auto [left, right] = view.split_at(1, 3);
+    CHECK(text_of(left.rows()) == "0 1 2 /4 5 6 /8 9 10 /" && text_of(right.rows()) == "3 /7 /11 /");
+    const auto all = view.stretch(), lower = view.slice({nd::from(1), nd::all}).stretch();
+    CHECK(all && all->data() == numbers.data() && all->size() == 12 && lower && (*lower)[0] == 4 && lower->size() == 8);
+    CHECK(!view.stretch(ND_COLUMN_MAJOR) && !left.stretch());
+    CHECK(refused([&] { (void)view.windows({2}); }) == ND_INCOMPATIBLE_SHAPE);
+    CHECK(refused([&] { (void)view.exact_chunks({0, 1}); }) == ND_UNSUPPORTED);
+    CHECK(refused([&] { (void)view.split_at(1, 5); }) == ND_OUT_OF_BOUNDS && refused([&] { (void)view.stretch(2); }) == ND_BAD_ARGUMENT);
+    const auto lines = nd::view<int>::from_byte_strides(numbers.data(), 12, {3, 2}, {-16, 4});
+    CHECK(text_of(lines.rows()) == "8 9 /4 5 /0 1 /");
+    CHECK(refused([&] { (void)nd::view<int>::from_byte_strides(numbers.data(), 12, {3, 2}, {-15, 4}); }) == ND_INCOMPATIBLE_LAYOUT);
+}
+
+static void test_sharing() {
+    const nd::view<int> view(numbers.data(), 12, {3, 4});
+    const std::vector<std::vector<nd::elem>> apart{{nd::index(0), nd::all}, {nd::index(2), nd::all}};
+    CHECK(!view.first_intersection(apart));
+    const auto pair = view.first_intersection({{nd::index(0), nd::all}, {nd::index(2), nd::all}, {nd::all, nd::index(3)}});
+    CHECK(pair && pair->first < pair->second && pair->second == 2);
+    CHECK(refused([&] { (void)view.first_intersection({{nd::index(9), nd::all}}); }) == ND_OUT_OF_BOUNDS);
+    const nd::view<int> even = view.slice({nd::all, nd::from(0, 2)}), odd = view.slice({nd::all, nd::from(1, 2)});
+    CHECK(!nd::share_element(even, odd) && nd::share_element(nd::view<const int>(even), view.slice({nd::index(1), nd::all})));
+    const nd::view<int> other(numbers.data() + 1, 6, {2, 3});
+    CHECK(refused([&] { (void)nd::share_element(view, other); }) == ND_BAD_ARGUMENT);
+}
+
+// What errors say: the rule that is broken, with the caller's axes.
+template <class Call>
+static std::string said(Call call) {
+    try {
+        call();
+    } catch (const nd::error &error) {
+        return error.what();
+    }
+    return "nothing";
+}
+
+static void test_reasons() {
+    using ints = nd::view<int>;
+    const ints view(numbers.data(), 12, {3, 4});
+    CHECK(said([&] { (void)view.slice({nd::all, nd::index(9)}); }) == "axis 1: index 9 is out of bounds of length 4");
+    CHECK(said([&] { (void)view.slice({nd::from(0, 0), nd::all}); }) == "axis 0: the step is 0");
+    CHECK(said([&] { (void)view.permuted_axes({0, 0}); }) == "axis 1: it is missing, where each axis has to be once");
+    CHECK(said([&] { (void)view.reshape({5}); }) == "the new shape has 5 indices, and the layout another count");
+    CHECK(said([&] { (void)view.broadcast({3, 5}); }) == "axis 1: length 4 can't be broadcast to another");
+    CHECK(said([&] { (void)view.windows({2, 0}); }) == "axis 1: the length of a block is 0, and has to be above 0");
+    CHECK(said([&] { (void)view.exact_chunks({2}); }) == "a list has 1 items, and needs as many as there are axes");
+    CHECK(said([&] { (void)view.split_at(2, 0); }) == "axis 2: there are 2 axes, counted from 0");
+    CHECK(said([&] { ints(numbers.data(), 11, {3, 4}); }) == "the highest place 11 is past the end of the buffer");
+    CHECK(said([&] { ints(numbers.data(), 12, {std::size_t{1} << 62, 2}); }) ==
+          "the product of the lengths that are not 0 is above the limit 9223372036854775807");
+    CHECK(said([&] { ints(numbers.data(), 12, {3, 4}, {5, 1}); }) == "the highest place 13 is past the end of the buffer");
+    CHECK(said([&] { (void)view(3, 0); }) == nd_status_message(ND_OUT_OF_BOUNDS));
+    try {
+        (void)view.slice({nd::all, nd::index(9)});
+    } catch (const nd::error &error) {
+        CHECK(error.reason().rule == ND_RULE_INDEX && error.reason().axis == 1 && error.reason().number == 9);
+    }
+    CHECK(view.try_slice({nd::all, nd::index(9)}).error().reason.size == 4);
+}
+
+// What the calls that begin with try_ give: a view, or a status, and no exception.
+static void test_results() {
+    using ints = nd::view<int>;
+    const auto view = ints::try_new(numbers.data(), 12, {3, 4}), far = ints::try_new(numbers.data(), 12, {3, 4}, {5, 1});
+    CHECK(view.has_value() && (*view)(2, 3) == 11 && !far && far.error() == ND_OUT_OF_BOUNDS);
+    const auto row = view->try_slice({nd::index(1), nd::all}), none = view->try_slice({nd::index(3), nd::all});
+    CHECK(row && (*row)(0) == 4 && !none && none.error() == ND_OUT_OF_BOUNDS);
+    CHECK(view->try_reshape({2, 6}).has_value() && view->try_reshape({5}).error() == ND_INCOMPATIBLE_SHAPE);
+    CHECK(view->try_permuted_axes({1, 0}).has_value() && view->try_broadcast({5}).error() == ND_INCOMPATIBLE_SHAPE);
+    CHECK(view->try_windows({2, 2}).has_value() && view->try_exact_chunks({2}).error() == ND_INCOMPATIBLE_SHAPE);
+    CHECK(view->try_split_at(0, 1)->second(1, 3) == 11 && view->try_split_at(2, 1).error() == ND_OUT_OF_BOUNDS);
+    CHECK(ints::try_from_byte_strides(numbers.data(), 12, {3}, {16})->size() == 3);
+    CHECK(ints::try_from_byte_strides(numbers.data(), 12, {3}, {15}).error() == ND_INCOMPATIBLE_LAYOUT);
+    CHECK(ints::try_new(numbers.data(), 12, view->as_c().layout).has_value());
 }
 
 static void test_mappings() {
@@ -113,15 +241,15 @@ static void test_mappings() {
     CHECK(first == &numbers[4] && mapping.extents().extent(0) == 2 && mapping.extents().extent(1) == 2);
     CHECK(mapping.stride(0) == 4 && mapping.stride(1) == 2);
     CHECK(text_of(nd::view<int>::from_mapping(first, 8, mapping).rows()) == "4 6 /8 10 /");
-    const auto from_six = [&, first = first, mapping = mapping] { nd::view<int>::from_mapping(first, 6, mapping); };
+    const auto from_six = [&, first = first, mapping = mapping] { (void)nd::view<int>::from_mapping(first, 6, mapping); };
     CHECK(refused(from_six) == ND_OUT_OF_BOUNDS);
-    CHECK(refused([&] { view.slice({nd::index(0), nd::all}).to_mapping<mapping_like>(); }) == ND_INCOMPATIBLE_SHAPE);
-    CHECK(refused([&] { view.slice({nd::from(0, -1), nd::all}).to_mapping<mapping_like>(); }) == ND_UNSUPPORTED);
+    CHECK(refused([&] { (void)view.slice({nd::index(0), nd::all}).to_mapping<mapping_like>(); }) == ND_INCOMPATIBLE_SHAPE);
+    CHECK(refused([&] { (void)view.slice({nd::from(0, -1), nd::all}).to_mapping<mapping_like>(); }) == ND_UNSUPPORTED);
     const nd::view<const int> windows(numbers.data(), 12, {3, 2}, {1, 1}), near(numbers.data(), 12, {3, 2}, {2, 3});
-    CHECK(refused([&] { windows.to_mapping<mapping_like>(); }) == ND_UNSUPPORTED);
-    CHECK(refused([&] { near.to_mapping<mapping_like>(); }) == ND_UNSUPPORTED);
+    CHECK(refused([&] { (void)windows.to_mapping<mapping_like>(); }) == ND_UNSUPPORTED);
+    CHECK(refused([&] { (void)near.to_mapping<mapping_like>(); }) == ND_UNSUPPORTED);
     const nd::view<const int> wide = view.slice({nd::index(0), nd::all}).broadcast({2, 4});
-    CHECK(refused([&] { wide.to_mapping<mapping_like>(); }) == ND_UNSUPPORTED);
+    CHECK(refused([&] { (void)wide.to_mapping<mapping_like>(); }) == ND_UNSUPPORTED);
     CHECK(part.permuted_axes({1, 0}).to_mapping<mapping_like>().second.stride(1) == 4);
     CHECK(view.slice({nd::range(2, 3), nd::all}).to_mapping<mapping_like>().second.stride(0) == 1);
     const auto empty = view.slice({nd::range(1, 1), nd::all}).to_mapping<mapping_like>().second;
@@ -129,15 +257,15 @@ static void test_mappings() {
     const nd::view<const int> column(numbers.data(), 12, {3, 1}, {2, 5}), none(numbers.data(), 12, {std::size_t{1} << 31, 0});
     CHECK(column.to_mapping<mapping_like>().second.stride(0) == 2);
     CHECK(nd::view<int>(numbers.data(), 12, {3, 0}).to_mapping<mapping_like>().second.stride(0) == 1);
-    CHECK(refused([&] { none.to_mapping<mapping_like>(); }) == ND_OVERFLOW);
+    CHECK(refused([&] { (void)none.to_mapping<mapping_like>(); }) == ND_OVERFLOW);
     const std::ptrdiff_t great = std::ptrdiff_t{1} << 32; // (of a buffer that isn't there, and isn't read)
     const nd::view<const int> far(numbers.data(), std::size_t{1} << 33, {2, 2}, {great, 1});
-    CHECK(refused([&] { far.to_mapping<mapping_like>(); }) == ND_OVERFLOW);
+    CHECK(refused([&] { (void)far.to_mapping<mapping_like>(); }) == ND_OVERFLOW);
 #ifdef __cpp_lib_mdspan
     const auto span = part.to_mdspan<2>();
     CHECK(span.extent(0) == 2 && (span[std::array<std::size_t, 2>{1, 1}]) == 10);
     CHECK(text_of(nd::view<int>::from_mapping(span.data_handle(), 8, span.mapping()).rows()) == "4 6 /8 10 /");
-    CHECK(refused([&] { view.slice({nd::from(0, -1), nd::all}).to_mdspan<2>(); }) == ND_UNSUPPORTED);
+    CHECK(refused([&] { (void)view.slice({nd::from(0, -1), nd::all}).to_mdspan<2>(); }) == ND_UNSUPPORTED);
     std::puts("with <mdspan>");
 #endif
 }
@@ -145,8 +273,14 @@ static void test_mappings() {
 int main() {
     std::iota(numbers.begin(), numbers.end(), 0);
     test_views();
+    test_cursors();
     test_rows();
+    test_rows_in_step();
     test_views_of_views();
+    test_parts_of_views();
+    test_sharing();
+    test_reasons();
+    test_results();
     test_mappings();
     std::printf("%d checked, %d failed\n", checked, failed);
     return failed != 0;

@@ -1,0 +1,248 @@
+// What ndarray_layout.hpp has for rows and cursors, and includes.
+#ifndef NDARRAY_LAYOUT_ROWS_HPP
+#define NDARRAY_LAYOUT_ROWS_HPP
+
+#include "ndarray_layout.h"
+
+#include <array>
+#include <cstddef>
+#include <cstdio>
+#include <cstdlib>
+#include <iterator>
+#include <stdexcept>
+#include <string>
+#include <tuple>
+#include <type_traits>
+#include <utility>
+
+namespace nd {
+
+// The status with which a call refuses, as which it is read, and where it is known the rule that is broken (ND_RULE_NONE: it
+// isn't).
+struct fault {
+    std::int32_t status;
+    nd_reason reason{};
+    operator std::int32_t() const { return status; }
+    // As a sentence: of the rule, or else of the status.
+    [[nodiscard]] std::string text() const {
+        if (reason.rule == ND_RULE_NONE) return nd_status_message(status);
+        std::string text(nd_reason_text(&reason, nullptr, 0), ' ');
+        nd_reason_text(&reason, text.data(), text.size() + 1);
+        return text;
+    }
+};
+
+// What a call refused: `what()` says why, as a sentence.
+class error : public std::runtime_error {
+public:
+    explicit error(const fault &of) : std::runtime_error(of.text()), of_(of) {}
+    [[nodiscard]] std::int32_t status() const noexcept { return of_.status; }
+    [[nodiscard]] const nd_reason &reason() const noexcept { return of_.reason; }
+
+private:
+    fault of_;
+};
+
+#ifdef __GNUC__
+#define ND_REFUSES [[noreturn, gnu::noinline, gnu::cold]] inline
+#else
+#define ND_REFUSES [[noreturn]] inline
+#endif
+
+// Throws an error; a program without exceptions ends. (Apart from its callers, which are inlined without it.)
+ND_REFUSES void refuse(const fault &of) {
+#ifdef __cpp_exceptions
+    throw error(of);
+#else
+    std::fprintf(stderr, "ndarray_layout: %s\n", of.text().c_str());
+    std::abort();
+#endif
+}
+ND_REFUSES void refuse(std::int32_t status) { refuse(fault{status}); }
+
+inline void expect_ok(std::int32_t status) {
+    if (status != ND_OK) refuse(status);
+}
+
+// Whether a type is one of coordinates, bounds and steps: integers, and enumerations without `class`, of no more bits than a
+// size has. A bool is none, as in Python: `view(row, column == 2)` compares where it should count.
+template <class Number>
+inline constexpr bool is_coordinate_v = sizeof(Number) <= sizeof(std::size_t) && !std::is_same_v<Number, bool> &&
+                                        (std::is_integral_v<Number> ||
+                                         (std::is_enum_v<Number> && std::is_convertible_v<Number, std::ptrdiff_t>));
+
+#define ND_EXPECT_COORDINATES(holds) \
+    static_assert(holds, "coordinates, bounds and steps are integers, not bool, of no more bits than std::size_t")
+
+// The elements of a row, `stride()` apart. Where that is 1, `data()` and `size()` are those of a std::span.
+template <class T>
+class row {
+public:
+    class iterator {
+    public:
+        using iterator_category = std::forward_iterator_tag;
+        using value_type = std::remove_cv_t<T>;
+        using difference_type = std::ptrdiff_t;
+        using pointer = T *;
+        using reference = T &;
+        iterator() = default;
+        iterator(T *first, std::ptrdiff_t stride, std::size_t at) : first_(first), stride_(stride), at_(at) {}
+        T &operator*() const { return first_[static_cast<std::ptrdiff_t>(at_) * stride_]; }
+        T *operator->() const { return &**this; }
+        iterator &operator++() { return ++at_, *this; }
+        iterator operator++(int) { return {first_, stride_, at_++}; }
+        bool operator==(const iterator &other) const { return at_ == other.at_; }
+        bool operator!=(const iterator &other) const { return at_ != other.at_; }
+
+    private:
+        T *first_ = nullptr;
+        std::ptrdiff_t stride_ = 0;
+        std::size_t at_ = 0;
+    };
+
+    row(T *first, nd_row of) : first_(first), of_(of) {}
+    T &operator[](std::size_t at) const { return first_[static_cast<std::ptrdiff_t>(at) * of_.stride]; }
+    [[nodiscard]] std::size_t size() const { return of_.len; }
+    [[nodiscard]] std::ptrdiff_t stride() const { return of_.stride; }
+    [[nodiscard]] T *data() const { return first_; }
+    iterator begin() const { return {first_, of_.stride, 0}; }
+    iterator end() const { return {first_, of_.stride, of_.len}; }
+
+private:
+    T *first_;
+    nd_row of_;
+};
+
+// The rows of a view, an input range: `for (nd::row<T> row : view.rows())`.
+template <class T>
+class rows {
+public:
+    struct sentinel {};
+    class iterator {
+    public:
+        using iterator_category = std::input_iterator_tag;
+        using value_type = row<T>;
+        using difference_type = std::ptrdiff_t;
+        using pointer = void;
+        using reference = row<T>;
+        iterator(T *data, const nd_row_iter &left) : data_(data), left_(left) { ++*this; }
+        row<T> operator*() const { return {data_ + now_.start, now_}; }
+        iterator &operator++() { return has_row_ = nd_next_row(&left_, &now_) != 0, *this; }
+        void operator++(int) { ++*this; }
+        friend bool operator==(const iterator &at, sentinel) { return !at.has_row_; }
+        friend bool operator!=(const iterator &at, sentinel) { return at.has_row_; }
+
+    private:
+        T *data_;
+        nd_row_iter left_;
+        nd_row now_{0, 0, 0};
+        bool has_row_ = false;
+    };
+
+    rows(T *data, const nd_row_iter &all_of) : data_(data), all_of_(all_of) {}
+    iterator begin() const { return {data_, all_of_}; }
+    sentinel end() const { return {}; }
+    [[nodiscard]] std::size_t size() const { return all_of_.left; }
+
+private:
+    T *data_;
+    nd_row_iter all_of_;
+};
+
+// The rows of several views of one shape in step, an input range of tuples that is gone over once: `joined_rows`.
+template <class... T>
+class rows_in_step {
+    static_assert(sizeof...(T) > 0 && sizeof...(T) <= ND_MAX_VIEWS, "rows of 1 to ND_MAX_VIEWS views");
+
+public:
+    struct sentinel {};
+    class iterator {
+    public:
+        using iterator_category = std::input_iterator_tag;
+        using value_type = std::tuple<row<T>...>;
+        using difference_type = std::ptrdiff_t;
+        using pointer = void;
+        using reference = value_type;
+        explicit iterator(rows_in_step &of) : of_(&of) {}
+        value_type operator*() const { return of_->now(std::index_sequence_for<T...>{}); }
+        iterator &operator++() { return of_->next(), *this; }
+        void operator++(int) { ++*this; }
+        friend bool operator==(const iterator &at, sentinel) { return !at.has_row(); }
+        friend bool operator!=(const iterator &at, sentinel) { return at.has_row(); }
+
+    private:
+        bool has_row() const { return of_->has_row_; }
+        rows_in_step *of_;
+    };
+
+    rows_in_step(std::tuple<T *...> data, const nd_rows_iter &left) : data_(data), left_(left) {}
+    iterator begin() { return next(), iterator(*this); }
+    sentinel end() const { return {}; }
+    [[nodiscard]] std::size_t size() const { return left_.left; }
+
+private:
+    void next() { has_row_ = nd_next_rows(&left_, now_.data()) != 0; }
+    template <std::size_t... At>
+    std::tuple<row<T>...> now(std::index_sequence<At...>) const {
+        return {row<T>(std::get<At>(data_) + now_[At].start, now_[At])...};
+    }
+
+    std::tuple<T *...> data_;
+    nd_rows_iter left_;
+    std::array<nd_row, sizeof...(T)> now_{};
+    bool has_row_ = false;
+};
+
+// The elements of a view of so many axes, by value: for loops that write, as a picture's do by bytes. A write through a `char *`
+// may change a view as far as a compiler knows, which then reads it again for each element; a local cursor is no such thing:
+// `const auto at = view.cursor<2>();`, and in the loop `at(row, column)`.
+template <class T, std::size_t Axes>
+class cursor {
+public:
+    cursor(T *data, const nd_layout &layout) : first_(data + layout.start) {
+        for (std::size_t axis = 0; axis < Axes; axis++) {
+            shape_[axis] = layout.shape[axis];
+            strides_[axis] = layout.strides[axis];
+        }
+    }
+
+    [[nodiscard]] std::size_t length(std::size_t axis) const {
+        if (axis >= Axes) refuse(ND_OUT_OF_BOUNDS);
+        return shape_[axis];
+    }
+
+    // The element of an index, each coordinate compared; null, or an error, where it is no index.
+    template <class... Coordinates>
+    [[nodiscard]] T *find(Coordinates... coordinates) const {
+        if (!is_index(axes{}, coordinates...)) return nullptr;
+        T *const found = first_ + far(axes{}, coordinates...);
+        ND_ASSUME(found != nullptr);
+        return found;
+    }
+    template <class... Coordinates>
+    T &operator()(Coordinates... coordinates) const {
+        if (!is_index(axes{}, coordinates...)) refuse(ND_OUT_OF_BOUNDS);
+        return first_[far(axes{}, coordinates...)];
+    }
+
+private:
+    using axes = std::make_index_sequence<Axes>;
+    template <std::size_t... Axis, class... Coordinates>
+    bool is_index(std::index_sequence<Axis...>, Coordinates... coordinates) const {
+        static_assert(sizeof...(Coordinates) == Axes, "one coordinate for each axis");
+        ND_EXPECT_COORDINATES((is_coordinate_v<Coordinates> && ...));
+        return ((static_cast<std::size_t>(coordinates) < shape_[Axis]) && ...);
+    }
+    template <std::size_t... Axis, class... Coordinates>
+    std::ptrdiff_t far(std::index_sequence<Axis...>, Coordinates... coordinates) const {
+        return (std::ptrdiff_t{0} + ... + (static_cast<std::ptrdiff_t>(coordinates) * strides_[Axis]));
+    }
+
+    T *first_;
+    std::array<std::size_t, Axes> shape_{};
+    std::array<std::ptrdiff_t, Axes> strides_{};
+};
+
+} // namespace nd
+
+#endif
