@@ -1,22 +1,23 @@
 -- Lists of items that are compared one after another, or part by part.
 use Rattle.std.proofs.Common.{◌≡◌, ℕ, ◌+◌, Bool, true, false, Option, Some, None, List, [], ◌∷◌, ◌++◌, length, map, drop}
-use Rattle.std.proofs.Common.{Decides, sym, refl, ap, ◌∙◌, arith}
+use Rattle.std.proofs.Common.{Decides, sym, refl, ap, subst, ◌∙◌, arith}
 use Rattle.std.specs.Cmp.Derive.Mapped.{pointwise-map}
 use Rattle.std.specs.Cmp.Lexicographic.{pointwise}
 use Rattle.std.specs.List.{All}
+use Rattle.std.specs.List.Sorted.{IsPermutation}
 use Rattle.std.proofs.lemmas.Bool.Decides.{Decides-by_and, same_from_decides}
-use Rattle.std.proofs.lemmas.List.Elements.{All-contains, All-weaker}
-use Rattle.ndarray_layout.specs.declared.Order.{Order}
+use Rattle.std.proofs.lemmas.List.Sorted.{All-permutation, IsPermutation-sym}
 use Rattle.ndarray_layout.specs.declared.Order.TheVariants.{RowMajor}
 use Rattle.ndarray_layout.specs.Indices.{indices_in, is_index}
-use Rattle.ndarray_layout.specs.View.{view_places}
-use Rattle.ndarray_layout.proofs.laws.Indices.{All-indices_in, Contains-indices_in}
+use Rattle.ndarray_layout.specs.View.{place_at, view_places}
+use Rattle.ndarray_layout.proofs.laws.Indices.{All-indices_in}
 use Rattle.nd_parts.specs.Items.{ArrayValue, item_at, item_at_place}
 use Rattle.std.specs.Prelude.{◌&&◌}
 use Rattle.std.proofs.lemmas.List.{drop_more}
 use Rattle.nd_lent.specs.Equal.{both_equal}
 use Rattle.nd_lent.proofs.Folding.{IsItemAt}
-use Rattle.nd_lent.proofs.laws.IndexItems.{items_in}
+use Rattle.nd_lent.proofs.Sets.{All-indices, AreIndices}
+use Rattle.nd_lent.proofs.laws.IndexItems.{items_at}
 
 -- as slices
 pub slices_compared : {T : Type 0} (eq : T → T → Bool) (xs ys : List T)
@@ -62,35 +63,36 @@ module _ {T : Type 0} (eq : T → T → Bool) (f h : List ℕ → Option T) wher
   each_equal = Decides-by_and (λ index. both_equal eq (f index) (h index)) AreEqual compare (λ index. (λ e. e, λ e. e)) refl
       (λ index indices. refl)
 
-  module _ (shape : List ℕ) where
-    -- each index is one of those in any order
-    all_equal : (order other : Order) → All AreEqual (indices_in order shape) → All AreEqual (indices_in other shape)
-    all_equal order other all = All-weaker (λ index. is_index shape index ≡ true) AreEqual (λ index here.
-        All-contains AreEqual (indices_in order shape) index all (Contains-indices_in order shape index here))
-        (indices_in other shape) (All-indices_in other shape)
+  -- in another order of the indices
+  in_any_order : (indices others : List (List ℕ)) → IsPermutation indices others → compare indices ≡ compare others
+  in_any_order indices others moved =
+      let decides = each_equal others in
+      same_from_decides (compare indices) (compare others) (each_equal indices) (
+        λ same. All-permutation AreEqual others indices (IsPermutation-sym indices others moved) (decides.0 same),
+        λ all. decides.1 (All-permutation AreEqual indices others moved all),
+      )
 
-    in_any_order : (order other : Order) → compare (indices_in order shape) ≡ compare (indices_in other shape)
-    in_any_order order other =
-        let decides = each_equal (indices_in other shape) in
-        same_from_decides (compare (indices_in order shape)) (compare (indices_in other shape)) (each_equal (indices_in order shape))
-        (λ same. all_equal other order (decides.0 same), λ all. decides.1 (all_equal order other all))
-
--- two arrays of one shape are equal in any order where they are in row-major order
+-- two arrays of one shape are equal in any order of the indices where they are in row-major order
 module _ {T : Type 0} (eq : T → T → Bool) (one other : ArrayValue T) (same : one.view.shape ≡ other.view.shape) where
-  abbrev items_of : Order → ArrayValue T → List (Option T)
-  items_of order array = map (item_at_place array.items) (view_places order array.view)
+  abbrev items_of : List (List ℕ) → ArrayValue T → List (Option T)
+  items_of indices array = map (item_at_place array.items) (map (place_at array.view) indices)
 
-  by_index : (order : Order) → pointwise (both_equal eq) (items_of order one) (items_of order other)
-      ≡ compare eq (item_at one) (item_at other) (indices_in order one.view.shape)
-  by_index order =
-      ap (λ items. pointwise (both_equal eq) items (items_of order other)) (items_in order one)
-      ∙ ap (pointwise (both_equal eq) (map (item_at one) (indices_in order one.view.shape)))
-      (items_in order other ∙ ap (λ shape. map (item_at other) (indices_in order shape)) (sym same))
+  by_index : (indices : List (List ℕ)) → All (λ index. is_index one.view.shape index ≡ true) indices
+      → pointwise (both_equal eq) (items_of indices one) (items_of indices other) ≡ compare eq (item_at one) (item_at other) indices
+  by_index indices here =
+      ap (λ items. pointwise (both_equal eq) items (items_of indices other)) (items_at one indices here)
+      ∙ ap (pointwise (both_equal eq) (map (item_at one) indices))
+      (items_at other indices (subst (λ shape. All (λ index. is_index shape index ≡ true) indices) same here))
 
-  pub compared_in : (order : Order)
-      → pointwise (both_equal eq) (map (item_at_place one.items) (view_places order one.view))
-      (map (item_at_place other.items) (view_places order other.view))
+  pub compared_in : (indices : List (List ℕ)) → AreIndices one.view.shape indices
+      → pointwise (both_equal eq) (map (item_at_place one.items) (map (place_at one.view) indices))
+      (map (item_at_place other.items) (map (place_at other.view) indices))
       ≡ pointwise (both_equal eq) (map (item_at_place one.items) (view_places RowMajor one.view))
       (map (item_at_place other.items) (view_places RowMajor other.view))
-  compared_in order =
-      by_index order ∙ in_any_order eq (item_at one) (item_at other) one.view.shape order RowMajor ∙ sym (by_index RowMajor)
+  compared_in indices once =
+      let all = indices_in RowMajor one.view.shape in
+      by_index indices (All-indices one.view.shape indices once)
+      ∙ in_any_order eq (item_at one) (item_at other) indices all once
+      ∙ sym (by_index all (All-indices_in RowMajor one.view.shape))
+      ∙ ap (λ shape. pointwise (both_equal eq) (items_of all one)
+      (map (item_at_place other.items) (map (place_at other.view) (indices_in RowMajor shape)))) same

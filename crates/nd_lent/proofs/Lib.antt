@@ -2,11 +2,14 @@ pub mod Comparing
 pub mod Equals
 pub mod Extremes
 pub mod Folding
+pub mod Moved
+pub mod Permuted
 pub mod RowRuns
 pub mod RowsLent
 pub mod Runs
 pub mod Searching
 pub mod Sets
+pub mod SixAxes
 pub mod SplitItems
 pub mod Steps
 pub mod Sums

@@ -3,12 +3,14 @@ use Rattle.std.proofs.Common.{◌≡◌, ℕ, zero, suc, ◌+◌, ◌<◌, ◌�
 use Rattle.std.proofs.Common.{inr}
 use Rattle.std.proofs.Common.{List, [], ◌∷◌, ◌++◌, length, get_or, map, take, drop, refl, sym, ap, subst, ◌∙◌, arith}
 use Rattle.std.specs.List.{All, AllZip}
+use Rattle.std.specs.List.Sorted.{IsPermutation}
 use Rattle.std.specs.Ordering.{int_eq}
 use Rattle.std.specs.Prelude.{nat_le}
 use Rattle.std.proofs.lemmas.Bool.{leb-true, or_cases}
 use Rattle.std.proofs.lemmas.Bool.Decides.{Decides-int_eq}
 use Rattle.std.proofs.lemmas.List.{get_or-map, get_or_past, length-append, length-map, map-append}
 use Rattle.std.proofs.lemmas.List.Elements.{All-cons, All-head, All-nil, All-tail, All-weaker}
+use Rattle.std.proofs.lemmas.List.Sorted.{All-permutation, IsPermutation-sym, length_permutation}
 use Rattle.std.proofs.lemmas.Option.{slice_get-get_or}
 use Rattle.ndarray_layout.specs.declared.Order.{Order}
 use Rattle.ndarray_layout.specs.declared.Row.{Row}
@@ -22,7 +24,7 @@ use Rattle.nd_lent.specs.LentRow.{HasRow, is_contiguous, row_items, row_of, rows
 use Rattle.nd_parts.specs.Items.{item_at_place}
 use Rattle.nd_lent.proofs.laws.RowItems.{begins, coordinate_in_bounds, neighbours_within, read_neighbours}
 
--- ---- rows whose places are those of a view
+-- ---- rows whose places are those of a view, in some order
 -- none is longer than all of them together
 no_longer : (rows : List Row) → All (λ row. row.len ≤ length (rows_places rows)) rows
 no_longer [] = All-nil (λ row. row.len ≤ length (rows_places []))
@@ -36,26 +38,41 @@ no_longer (row ∷ rows) =
     (All-weaker (λ row. row.len ≤ length (rows_places rows)) (λ row. row.len ≤ all) (λ row below. omega (arith, count, below)) rows
     (no_longer rows))
 
-module _ (order : Order) (view : View) (rows : List Row) (are : rows_places rows ≡ view_places order view) where
+module _ (order : Order) (view : View) (rows : List Row) (moved : IsPermutation (rows_places rows) (view_places order view)) where
   short_rows : IsView view → All (λ row. row.len < 2 ^ 63) rows
   short_rows v =
       let few : length (rows_places rows) < 2 ^ 63 =
-      omega (arith, ap length are, length-view_places order view, size_le_nonzero_size view.shape, v.valid.size_fits) in
+      omega (
+        arith,
+        length_permutation (rows_places rows) (view_places order view) moved,
+        length-view_places order view,
+        size_le_nonzero_size view.shape,
+        v.valid.size_fits,
+      ) in
       All-weaker (λ row. row.len ≤ length (rows_places rows)) (λ row. row.len < 2 ^ 63) (λ row below. omega (arith, few, below)) rows
       (no_longer rows)
 
-  -- where the view lies within items, each row has one at each place
-  pub rows_have_items : {count : ℕ} → IsView view → LiesWithin count view → All (λ row. 0 < row.len) rows → All (HasRow count) rows
-  rows_have_items {count} v within some =
+  back : IsPermutation (view_places order view) (rows_places rows)
+  back = IsPermutation-sym (rows_places rows) (view_places order view) moved
+
+  -- where each place has an item, each row has one at each of its places
+  pub rows_within : {count : ℕ} → IsView view → All (IsInBounds count) (view_places order view) → All (λ row. 0 < row.len) rows
+      → All (HasRow count) rows
+  rows_within {count} v within some =
       let lie = All-rows_places (IsInBounds count) rows
-      (subst (All (IsInBounds count)) (sym are) (places_lie_within count order view within)) in
-      let fit = All-rows_places (IsInBounds (2 ^ 63)) rows (subst (All (IsInBounds (2 ^ 63))) (sym are) (places_fit order v)) in
+      (All-permutation (IsInBounds count) (view_places order view) (rows_places rows) back within) in
+      let fit = All-rows_places (IsInBounds (2 ^ 63)) rows
+      (All-permutation (IsInBounds (2 ^ 63)) (view_places order view) (rows_places rows) back (places_fit order v)) in
       λ k d under. record {
         some = some k d under;
         short = short_rows v k d under;
         within = lie k d under;
         fit = fit k d under;
       }
+
+  -- so where the view lies within items
+  pub rows_have_items : {count : ℕ} → IsView view → LiesWithin count view → All (λ row. 0 < row.len) rows → All (HasRow count) rows
+  rows_have_items {count} v within some = rows_within v (places_lie_within count order view within) some
 
 -- ---- rows of the same lengths
 pub All-as_long : (rows others : List Row) → map (λ row. row.len) rows ≡ map (λ row. row.len) others → All (λ row. 0 < row.len) rows
@@ -66,6 +83,24 @@ All-as_long (row ∷ rows) (other ∷ others) same some =
     let long : row.len ≡ other.len = ap (λ lens. get_or lens 0 0) same in
     All-cons (λ row. 0 < row.len) other others (omega (arith, long, All-head (λ row. 0 < row.len) row rows some))
     (All-as_long rows others (ap (drop 1) same) (All-tail (λ row. 0 < row.len) row rows some))
+
+-- so they have as many places
+pub as_many_places : (rows others : List Row) → map (λ row. row.len) rows ≡ map (λ row. row.len) others
+    → length (rows_places rows) ≡ length (rows_places others)
+as_many_places [] [] same = refl
+as_many_places [] (other ∷ others) same = absurd (omega (arith, ap length same))
+as_many_places (row ∷ rows) [] same = absurd (omega (arith, ap length same))
+as_many_places (row ∷ rows) (other ∷ others) same =
+    let long : row.len ≡ other.len = ap (λ lens. get_or lens 0 0) same in
+    omega (
+      arith,
+      long,
+      as_many_places rows others (ap (drop 1) same),
+      length-append (row_places row.start row.stride row.len) (rows_places rows),
+      length-row_places row.start row.stride row.len,
+      length-append (row_places other.start other.stride other.len) (rows_places others),
+      length-row_places other.start other.stride other.len,
+    )
 
 -- each has the items of another one beside it
 pub rows_beside : {T : Type 0} (items : List T) (rows others : List Row) → map (λ row. row.len) rows ≡ map (λ row. row.len) others
@@ -84,14 +119,15 @@ rows_alike own items (row ∷ rows) [] same = absurd (omega (arith, ap length sa
 rows_alike own items (row ∷ rows) (other ∷ others) same =
     (ap (λ lens. get_or lens 0 0) same, rows_alike own items rows others (ap (drop 1) same))
 
--- their items are those at the places of the view
-rows_items-row_of : {T : Type 0} (items : List T) (rows : List Row)
+-- their items are those at their places
+pub rows_items-row_of : {T : Type 0} (items : List T) (rows : List Row)
     → rows_items (map (row_of items) rows) ≡ map (item_at_place items) (rows_places rows)
 rows_items-row_of items [] = refl
 rows_items-row_of items (row ∷ rows) =
     ap (λ others. row_items (row_of items row) ++ others) (rows_items-row_of items rows)
     ∙ sym (map-append (item_at_place items) (row_places row.start row.stride row.len) (rows_places rows))
 
+-- so they are those at the places of the view
 pub items_of_rows : {T : Type 0} (order : Order) (items : List T) (view : View) (rows : List Row)
     → rows_places rows ≡ view_places order view
     → rows_items (map (row_of items) rows) ≡ map (item_at_place items) (view_places order view)

@@ -1,21 +1,23 @@
 -- What calls of a closure at one place after another leave at the indices of a view, where no place is listed twice.
-use Rattle.std.proofs.Common.{◌≡◌, ℤ, pos, Option, Some, None, List, [], ◌∷◌, length, map, refl, sym, ap}
+use Rattle.std.proofs.Common.{◌≡◌, ℕ, ℤ, pos, true, Option, Some, None, List, [], ◌∷◌, length, map, refl, sym, ap}
 use Rattle.std.proofs.Common.{subst, ◌∙◌, arith}
 use Rattle.std.specs.Prelude.{zip}
 use Rattle.std.specs.Iterator.{CallableAtEachTurn}
-use Rattle.std.specs.List.{Contains, FoldsTo}
+use Rattle.std.specs.List.{All, Contains, FoldsTo}
 use Rattle.std.specs.Option.{option_map}
 use Rattle.std.proofs.lemmas.List.{length-map}
+use Rattle.std.proofs.lemmas.List.Sorted.{Contains-permutation}
 use Rattle.std.proofs.lemmas.Simd.{map-map}
-use Rattle.ndarray_layout.specs.declared.Order.{Order}
-use Rattle.ndarray_layout.specs.Indices.{indices_in}
-use Rattle.ndarray_layout.specs.View.{view_places}
+use Rattle.ndarray_layout.specs.declared.Order.TheVariants.{RowMajor}
+use Rattle.ndarray_layout.specs.Indices.{is_index}
+use Rattle.ndarray_layout.specs.View.{place_at, view_places}
+use Rattle.nd_lent.specs.AnyOrder.{RunsInSomeOrder}
 use Rattle.nd_lent.specs.ArrayViewMut.{HasItemsOf, KeepsSpare}
 use Rattle.nd_lent.specs.Mapped.{Makes, gives, RunsOver}
 use Rattle.nd_parts.specs.Items.{ArrayValue, item_at, item_at_place}
 use Rattle.nd_lent.specs.Written.{HasRun}
-use Rattle.nd_lent.proofs.Sets.{any_order, has_items}
-use Rattle.nd_lent.proofs.laws.IndexItems.{items_in}
+use Rattle.nd_lent.proofs.Sets.{All-indices, AreIndices, has_items, places_moved}
+use Rattle.nd_lent.proofs.laws.IndexItems.{items_at}
 
 -- ---- what calls make that act as a function does
 acted : {F X Y : Type 0} (call : F → X → Y → F → Type 0) {f : F} (h : X → Y)
@@ -46,45 +48,54 @@ module _ {F T : Type 0} {R : F → T → F → Type 0} {Q : F → T → Type 0} 
     at = λ xs t r y u yields calls step. callable.at (x ∷ xs) t r y u (others, first, yields) (q, called, calls) step;
   }
 
--- ---- all places of an array
-abbrev changed : {T : Type 0} → ArrayValue T → List T → ArrayValue T
+-- ---- all places of an array, in some order of its indices
+abbrev pub changed : {T : Type 0} → ArrayValue T → List T → ArrayValue T
 changed old new = record { items = new; view = old.view }
 
-module _ {T : Type 0} (order : Order) (old : ArrayValue T) (new : List T) {places : List ℤ}
-    (are : places ≡ view_places order old.view) where
+module _ {T : Type 0} (old : ArrayValue T) (new : List T) (indices : List (List ℕ)) (once : AreIndices old.view.shape indices)
+    {places : List ℤ} (are : places ≡ map (place_at old.view) indices) where
   -- the items of all indices, in that order of these
   abbrev all_items : {X : Type 0} → ArrayValue X → List (Option X)
-  all_items array = map (item_at array) (indices_in order array.view.shape)
+  all_items array = map (item_at array) indices
+
+  here : All (λ index. is_index old.view.shape index ≡ true) indices
+  here = All-indices old.view.shape indices once
 
   made_in_order : map (item_at_place new) places ≡ all_items (changed old new)
-  made_in_order = ap (map (item_at_place new)) are ∙ items_in order (changed old new)
+  made_in_order = ap (map (item_at_place new)) are ∙ items_at (changed old new) indices here
 
-  module _ {F X : Type 0} (call : F → X → T → F → Type 0) {f : F} (source : ArrayValue X) {given : List (Option X)}
-      (these : given ≡ map (item_at_place source.items) (view_places order source.view)) where
+  given_in_order : {X : Type 0} (source : ArrayValue X) {given : List (Option X)} → old.view.shape ≡ source.view.shape
+      → given ≡ map (item_at_place source.items) (map (place_at source.view) indices) → given ≡ all_items source
+  given_in_order source same these =
+      these ∙ items_at source indices (subst (λ shape. All (λ index. is_index shape index ≡ true) indices) same here)
+
+  module _ {F X : Type 0} (call : F → X → T → F → Type 0) {f : F} (source : ArrayValue X) (same : old.view.shape ≡ source.view.shape)
+      {given : List (Option X)} (these : given ≡ map (item_at_place source.items) (map (place_at source.view) indices)) where
     pub ran_over : HasRun call f places given old.items new → RunsOver call f (all_items source) (all_items (changed old new))
     ran_over run =
-        subst (λ xs. RunsOver call f xs (all_items (changed old new))) (these ∙ items_in order source)
+        subst (λ xs. RunsOver call f xs (all_items (changed old new))) (given_in_order source same these)
         (subst (RunsOver call f given) made_in_order run.ran)
 
     pub spare : HasRun call f places given old.items new → KeepsSpare old (changed old new)
-    spare run = λ place none.
-        run.others place (λ here. none (any_order order old.view (subst (λ zs. Contains zs (pos place)) are here)))
+    spare run = λ place none. run.others place (λ there. none (Contains-permutation (map (place_at old.view) indices)
+        (view_places RowMajor old.view) (pos place) (places_moved old.view indices once)
+        (subst (λ zs. Contains zs (pos place)) are there)))
 
-    pub mapped : old.view.shape ≡ source.view.shape → HasRun call f places given old.items new
+    pub mapped : HasRun call f places given old.items new
         → (h : X → T) → ((x : X) (y : T) (f' : F) → call f x y f' → (f' ≡ f) × (y ≡ h x))
         → HasItemsOf (λ index. option_map h (item_at source index)) old (changed old new)
-    mapped same run h acts =
+    mapped run h acts =
         let ran = ran_over run in
         let count : length (all_items source) ≡ length (all_items (changed old new)) =
-        length-map (indices_in order source.view.shape) (item_at source)
-        ∙ ap (λ shape. length (indices_in order shape)) (sym same)
-        ∙ sym (length-map (indices_in order old.view.shape) (item_at (changed old new))) in
+        length-map indices (item_at source) ∙ sym (length-map indices (item_at (changed old new))) in
         let made = acted call h acts (all_items source) (all_items (changed old new)) f ran.last refl count ran.calls in
-        has_items order (λ index. option_map h (item_at source index)) refl (record {
+        has_items (λ index. option_map h (item_at source index)) indices once refl (record {
           written =
-              items_in order (changed old new)
+              items_at (changed old new) indices here
               ∙ made
-              ∙ map-map (option_map h) (item_at source) (indices_in order source.view.shape)
-              ∙ ap (λ shape. map (λ index. option_map h (item_at source index)) (indices_in order shape)) (sym same);
-          others = λ place none. run.others place (λ here. none (subst (λ zs. Contains zs (pos place)) are here));
+              ∙ map-map (option_map h) (item_at source) indices;
+          others = λ place none. run.others place (λ there. none (subst (λ zs. Contains zs (pos place)) are there));
         })
+
+    pub runs_in_some_order : HasRun call f places given old.items new → RunsInSomeOrder call f source (changed old new)
+    runs_in_some_order run = record { indices = indices; each_once = once; ran = ran_over run }

@@ -1,14 +1,15 @@
 -- Items that are set at one place after another, where no place is listed twice, and what that leaves at the indices of a view.
-use Rattle.std.proofs.Common.{◌≡◌, ◌≢◌, ℕ, ◌<◌, ℤ, pos, negsuc, Option, Some, List, [], length, get_or, map}
-use Rattle.std.proofs.Common.{refl, sym, ap, subst, ◌∙◌, arith}
+use Rattle.std.proofs.Common.{◌≡◌, ◌≢◌, ℕ, ℤ, pos, negsuc, true, Option, Some, List, length, get_or, map}
+use Rattle.std.proofs.Common.{refl, sym, ap, ◌∙◌}
 use Rattle.std.specs.List.{All, AllPairs, Contains}
+use Rattle.std.specs.List.Sorted.{IsPermutation}
 use Rattle.std.proofs.lemmas.Bool.{cond-true}
-use Rattle.std.proofs.lemmas.List.{get_or-map, length-map}
+use Rattle.std.proofs.lemmas.List.{get_or-map}
+use Rattle.std.proofs.lemmas.List.Sorted.{All-permutation, Contains-permutation, IsPermutation-map, IsPermutation-sym}
 use Rattle.std.proofs.lemmas.Simd.{map-map}
 use Rattle.std.specs.Option.{option_map}
 use Rattle.std.specs.Prelude.{if◌then◌else◌, None}
 use Rattle.std.proofs.lemmas.Option.{slice_get-get_or}
-use Rattle.ndarray_layout.specs.declared.Order.{Order}
 use Rattle.ndarray_layout.specs.declared.Order.TheVariants.{RowMajor}
 use Rattle.ndarray_layout.specs.Bounds.{IsInBounds}
 use Rattle.ndarray_layout.specs.Indices.{indices_in, is_index}
@@ -18,8 +19,7 @@ use Rattle.ndarray_layout.proofs.laws.Indices.{All-indices_in, Contains-indices_
 use Rattle.nd_lent.specs.ArrayViewMut.{HasItemsOf}
 use Rattle.nd_parts.specs.Items.{ArrayValue, IsOwned, item_at, item_at_place}
 use Rattle.nd_lent.specs.Written.{HasSet}
-use Rattle.ndarray_layout.proofs.laws.View.{places_lie_within}
-use Rattle.ndarray_layout.proofs.laws.Lists.{Contains-map}
+use Rattle.nd_lent.proofs.Permuted.{distinct_permuted}
 
 abbrev pub Distinct : List ℤ → Type 0
 Distinct places = AllPairs (λ one other. one ≢ other) places
@@ -34,27 +34,42 @@ same_at f g xs {x} same (k, below, is) =
     ∙ get_or-map g xs k x (f x) below
     ∙ ap g is
 
--- the places of a view are the same in any order
-pub any_order : (order : Order) (view : View) {place : ℤ} → Contains (view_places order view) place
-    → Contains (view_places RowMajor view) place
-any_order order view {place} (k, below, is) =
-    let indices = indices_in order view.shape in
-    let under : k < length indices = omega (arith, length-map indices (place_at view), below) in
-    subst (Contains (view_places RowMajor view)) (sym (get_or-map (place_at view) indices k [] place under) ∙ is)
-    (Contains-map (place_at view) (indices_in RowMajor view.shape)
-    (Contains-indices_in RowMajor view.shape (get_or indices k []) (All-indices_in order view.shape k [] under)))
+-- ---- the indices of a shape in some order, each once
+abbrev pub AreIndices : List ℕ → List (List ℕ) → Type 0
+AreIndices shape indices = IsPermutation indices (indices_in RowMajor shape)
 
-pub has_items : {T : Type 0} (order : Order) (given : List ℕ → Option T) {old new : ArrayValue T} → new.view ≡ old.view
-    → HasSet (view_places order old.view) (map given (indices_in order old.view.shape)) old.items new.items → HasItemsOf given old new
-has_items order given {old} {new} same left = record {
+module _ (shape : List ℕ) (indices : List (List ℕ)) (once : AreIndices shape indices) where
+  in_row_major : IsPermutation (indices_in RowMajor shape) indices
+  in_row_major = IsPermutation-sym indices (indices_in RowMajor shape) once
+
+  -- each is an index of the shape
+  pub All-indices : All (λ index. is_index shape index ≡ true) indices
+  All-indices = All-permutation (λ index. is_index shape index ≡ true) (indices_in RowMajor shape) indices in_row_major
+      (All-indices_in RowMajor shape)
+
+  -- and each index of the shape is one of them
+  pub Contains-indices : (index : List ℕ) → is_index shape index ≡ true → Contains indices index
+  Contains-indices index here = Contains-permutation (indices_in RowMajor shape) indices index in_row_major
+      (Contains-indices_in RowMajor shape index here)
+
+-- their places are those of the view
+pub places_moved : (view : View) (indices : List (List ℕ)) → AreIndices view.shape indices
+    → IsPermutation (map (place_at view) indices) (view_places RowMajor view)
+places_moved view indices once = IsPermutation-map (place_at view) indices (indices_in RowMajor view.shape) once
+
+pub has_items : {T : Type 0} (given : List ℕ → Option T) {old new : ArrayValue T} (indices : List (List ℕ))
+    → AreIndices old.view.shape indices → new.view ≡ old.view
+    → HasSet (map (place_at old.view) indices) (map given indices) old.items new.items → HasItemsOf given old new
+has_items given {old} {new} indices once same left = record {
   view = same;
   items = λ index here.
       ap (λ view. if is_index view.shape index then item_at_place new.items (place_at view index) else None) same
       ∙ cond-true (is_index old.view.shape index) (item_at_place new.items (place_at old.view index)) None here
-      ∙ same_at (λ one. item_at_place new.items (place_at old.view one)) given (indices_in order old.view.shape)
-      (sym (map-map (item_at_place new.items) (place_at old.view) (indices_in order old.view.shape)) ∙ left.written)
-      (Contains-indices_in order old.view.shape index here);
-  spare = λ place none. left.others place (λ here. none (any_order order old.view here));
+      ∙ same_at (λ one. item_at_place new.items (place_at old.view one)) given indices
+      (sym (map-map (item_at_place new.items) (place_at old.view) indices) ∙ left.written)
+      (Contains-indices old.view.shape indices once index here);
+  spare = λ place none. left.others place (λ here. none (Contains-permutation (map (place_at old.view) indices)
+      (view_places RowMajor old.view) (pos place) (places_moved old.view indices once) here));
 }
 
 -- an item of which a copy is made is the copy
@@ -84,16 +99,9 @@ overwritten {T} item {old} within has = record {
     there (pos place) below = ap (option_map (λ x. item)) (slice_get-get_or old.items place item below)
     there (negsuc n) below = absurd below
 
--- ---- all places of an array that owns its items
-pub record AreAll (order : Order) (len : ℕ) (view : View) (places : List ℤ) : Type 0 where
-  pub are : places ≡ view_places order view
-  pub in_bounds : All (IsInBounds len) places
-  pub distinct : Distinct places
-
-pub all_of_owned : {len : ℕ} (order : Order) (view : View) {places : List ℤ} → IsOwned len view → places ≡ view_places order view
-    → AreAll order len view places
-all_of_owned order view owned are = record {
-  are = are;
-  in_bounds = subst (All (IsInBounds _)) (sym are) (places_lie_within _ order view owned.within);
-  distinct = subst Distinct (sym are) (AllPairs-view_places order view owned.distinct);
-}
+-- ---- all places of an array that owns its items, in some order
+pub distinct_of_owned : {len : ℕ} (view : View) {places : List ℤ} → IsOwned len view → IsPermutation places (view_places RowMajor view)
+    → Distinct places
+distinct_of_owned view {places} owned moved =
+    distinct_permuted (view_places RowMajor view) places (IsPermutation-sym places (view_places RowMajor view) moved)
+    (AllPairs-view_places RowMajor view owned.distinct)

@@ -1,3 +1,4 @@
+pub mod AnyOrder
 pub mod ArrayView
 pub mod ArrayViewMut
 pub mod Equal

@@ -15,7 +15,6 @@ mod steps;
 mod writing;
 
 use crate::array_view::ArrayView;
-pub(crate) use mapping::nearest_order;
 use ndarray_layout::{Lengths, NdIndex, Strided};
 pub use splitting::SplitViews;
 use std::alloc::{AllocError, Global};

@@ -4,6 +4,7 @@
 mod array_view;
 mod array_view_mut;
 mod indexing;
+pub(crate) mod nearest;
 
 pub use array_view::{ArrayView, Iter, LentRow, LentRows, Unsigned};
 pub use array_view_mut::{ArrayViewMut, SplitViews};

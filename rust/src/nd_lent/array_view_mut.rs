@@ -13,7 +13,6 @@ use crate::memory::AllocError;
 use crate::nd_lent::array_view::ArrayView;
 use crate::ndarray_layout::{Lengths, NdIndex, Strided};
 use core::mem::replace;
-pub(crate) use mapping::nearest_order;
 pub use splitting::SplitViews;
 
 /// A view over items of any type that are kept elsewhere, to be read and written. No two indices have one item. No call writes

@@ -19,6 +19,7 @@
 mod array_view;
 mod array_view_mut;
 mod indexing;
+pub(crate) mod nearest;
 
 pub use crate::nd_parts::{PartItems, PartIter, PartMut, PartRows};
 pub use array_view::{ArrayView, Iter, LentRow, LentRows, Unsigned};

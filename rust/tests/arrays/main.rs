@@ -3,6 +3,7 @@
 #[path = "../refused/allocator.rs"]
 mod allocator;
 mod along;
+mod any_order;
 mod chunks;
 mod folded;
 mod indexing;

@@ -14,16 +14,19 @@ use Rattle.ndarray_layout.proofs.laws.Indices.{All-indices_in, Contains-indices_
 use Rattle.ndarray_layout.proofs.laws.Lists.{Contains-map, map_same}
 use Rattle.nd_parts.specs.Items.{ArrayValue, item_at, item_at_place}
 
--- the items at the places of a view are those of its indices, in any order
-pub items_in : {T : Type 0} (order : Order) (array : ArrayValue T)
-    → map (item_at_place array.items) (view_places order array.view) ≡ map (item_at array) (indices_in order array.view.shape)
-items_in {T} order array =
-    let indices = indices_in order array.view.shape in
+-- the items at the places of indices are those of the indices
+pub items_at : {T : Type 0} (array : ArrayValue T) (indices : List (List ℕ)) → All (λ index. is_index array.view.shape index ≡ true) indices
+    → map (item_at_place array.items) (map (place_at array.view) indices) ≡ map (item_at array) indices
+items_at {T} array indices are =
     let at : List ℕ → Option T = λ index. item_at_place array.items (place_at array.view index) in
     map-map (item_at_place array.items) (place_at array.view) indices
     ∙ map_same at (item_at array) indices (λ k d below.
-    sym (cond-true (is_index array.view.shape (get_or indices k d)) (at (get_or indices k d)) None
-    (All-indices_in order array.view.shape k d below)))
+    sym (cond-true (is_index array.view.shape (get_or indices k d)) (at (get_or indices k d)) None (are k d below)))
+
+-- so are those at the places of a view, in any order
+pub items_in : {T : Type 0} (order : Order) (array : ArrayValue T)
+    → map (item_at_place array.items) (view_places order array.view) ≡ map (item_at array) (indices_in order array.view.shape)
+items_in order array = items_at array (indices_in order array.view.shape) (All-indices_in order array.view.shape)
 
 pub items_in_order : {T : Type 0} (array : ArrayValue T)
     → map (item_at_place array.items) (view_places RowMajor array.view) ≡ map (item_at array) (indices_in RowMajor array.view.shape)

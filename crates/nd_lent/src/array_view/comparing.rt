@@ -9,8 +9,8 @@ ghost use Rattle.nd_lent.specs.Equal.{are_equal, both_equal};
 ghost use Rattle.nd_lent.specs.LentRow.{row_items, rows_items};
 
 use crate::array_view::{ArrayView, LentRow, LentRows};
-use crate::array_view_mut::nearest_order;
-use ndarray_layout::{Lengths, Order};
+use crate::nearest::{nearest_rows_with, nearest_views};
+use ndarray_layout::Lengths;
 
 /// Whether the items of two rows of one length are equal, one after another.
 fn have_equal_places<T: PartialEq>(one: &LentRow<'_, T>, other: &LentRow<'_, T>) -> bool
@@ -54,14 +54,16 @@ fn have_equal_rows<T: PartialEq>(rows: LentRows<'_, T>, others: LentRows<'_, T>)
 }
 
 impl<T: PartialEq, D: Lengths> ArrayView<'_, T, D> {
-    /// Whether each item is equal to that at the same index of an array of the same shape, compared in an order of the indices.
-    fn has_equal_items(&self, other: &ArrayView<'_, T, D>, order: Order) -> bool
+    /// Whether each item is equal to that at the same index of an array of the same shape, compared in the order in which
+    /// those of this array lie.
+    fn has_equal_items(&self, other: &ArrayView<'_, T, D>) -> bool
         requires { self.now.view.shape ≡ other.now.view.shape }
         ensures { result ≡ pointwise (both_equal T.eq)
             (map (item_at_place self.now.items) (view_places RowMajor self.now.view))
             (map (item_at_place other.now.items) (view_places RowMajor other.now.view)) }
     {
-        let (rows, others) = self.view().joined_rows_with(other.view(), order);
+        let nearest = nearest_views(self.view(), other.view());
+        let (rows, others) = nearest_rows_with(self.view(), other.view(), &nearest);
         have_equal_rows(
             LentRows::new(self.stored(), rows),
             LentRows::new(other.stored(), others),
@@ -70,14 +72,14 @@ impl<T: PartialEq, D: Lengths> ArrayView<'_, T, D> {
 
     /// Whether another array has the same shape, and an equal item at each index. Spare items don't count.
     ///
-    /// Time in proportion to the indices before the first where the items differ; none where the shapes do. Goes over the longest
-    /// rows that the axes of both allow (`Strided::joined_rows_with`), or columns where `ArrayViewMut::fill` does: two whose items
-    /// follow one another are compared as slices.
+    /// Time in proportion to the indices up to one where the items differ; none where the shapes do. Takes no memory. With at most 6
+    /// axes it goes over the items in the order in which they lie here (`Strided::nearest_with`), but in row-major order where an
+    /// axis has the stride 0, and so with more axes: rows whose items follow one another in both are compared as slices.
     ///
     /// `[2]` with the stride `[-1]` over 7 8 9, and `[2]` over 8 7: `true`. ndarray's `eq`.
     pub fn eq(&self, other: &ArrayView<'_, T, D>) -> bool
         ensures { result ≡ are_equal T.eq self.now other.now }
     {
-        self.dim().equal(other.dim()) && self.has_equal_items(other, nearest_order(self.view()))
+        self.dim().equal(other.dim()) && self.has_equal_items(other)
     }
 }

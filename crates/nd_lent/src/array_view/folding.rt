@@ -3,12 +3,14 @@ ghost use Rattle.std.specs.Iterator.{CallableInFold, CallableInForEach, CallsOnE
 ghost use Rattle.std.specs.Prelude.{Some, map};
 ghost use Rattle.ndarray_layout.specs.declared.Order.TheVariants.{RowMajor};
 ghost use Rattle.ndarray_layout.specs.View.{view_places};
-ghost use Rattle.nd_lent.specs.LentRow.{row_items};
+ghost use Rattle.nd_lent.specs.AnyOrder.{InAnyOrder, InSomeOrder};
+ghost use Rattle.nd_lent.specs.LentRow.{row_items, rows_items};
 ghost use Rattle.nd_lent.specs.Lending.{lends};
 ghost use Rattle.nd_parts.specs.Items.{item_at_place};
 ghost use Rattle.nd_lent.specs.private.Folded.{HasFolded};
 
-use crate::array_view::{ArrayView, LentRow};
+use crate::array_view::{ArrayView, LentRow, LentRows};
+use crate::nearest::nearest_view;
 use ndarray_layout::Lengths;
 
 /// Folds the items of a slice, and hands back the function.
@@ -50,6 +52,19 @@ fn fold_row<T, B, F: FnMut(B, &T) -> B>(row: &LentRow<'_, T>, init: B, f: F) -> 
     }
 }
 
+/// Folds the items of rows, one row after another.
+#[inline(always)]
+fn fold_rows<T, B, F: FnMut(B, &T) -> B>(rows: LentRows<'_, T>, init: B, f: F) -> B
+    requires { CallableInFold lends F.FnMut (rows_items rows) f init }
+    ensures { FoldsItems lends F.FnMut (rows_items rows.entry) f init result }
+{
+    let (mut total, mut f) = (init, f);
+    for row in rows {
+        (total, f) = fold_row(&row, total, f);
+    }
+    total
+}
+
 impl<T, D: Lengths> ArrayView<'_, T, D> {
     /// The last result of a function that is called at each item in turn, in row-major order, with the result before, first
     /// with `init`.
@@ -65,11 +80,25 @@ impl<T, D: Lengths> ArrayView<'_, T, D> {
             (map (item_at_place self.now.items) (view_places RowMajor self.now.view))
             f init result }
     {
-        let (mut total, mut f) = (init, f);
-        for row in self.joined_rows() {
-            (total, f) = fold_row(&row, total, f);
-        }
-        total
+        fold_rows(self.joined_rows(), init, f)
+    }
+
+    /// The last result of a function that is called at each item, each index once, with the result before, first with `init`, in
+    /// the order in which the items lie: that in which ndarray goes.
+    ///
+    /// It is `fold` for a function that needs no order. Takes no memory. With at most 6 axes it goes over the longest rows that the
+    /// axes allow once they are turned and sorted (`Strided::nearest`), so that one that is transposed, mirrored or column-major is
+    /// one slice as well, where its items lie side by side. Where an axis has the stride 0, or there are more axes, it is `fold`.
+    ///
+    /// `a.fold_nearest(0, |sum, item| sum + item)` is 15, from 7 to 8. ndarray's `fold`.
+    pub fn fold_nearest<B, F: FnMut(B, &T) -> B>(&self, init: B, f: F) -> B
+        requires callable { InAnyOrder (λ items. CallableInFold lends F.FnMut items f init)
+            (map (item_at_place self.now.items) (view_places RowMajor self.now.view)) }
+        ensures ran { InSomeOrder (λ items. FoldsItems lends F.FnMut items f init result)
+            (map (item_at_place self.now.items) (view_places RowMajor self.now.view)) }
+    {
+        let nearest = nearest_view(self.view());
+        fold_rows(self.rows_in(&nearest), init, f)
     }
 
     /// Calls a function at each item in turn, in row-major order.
@@ -90,5 +119,25 @@ impl<T, D: Lengths> ArrayView<'_, T, D> {
             f(item);
         };
         self.fold((), each);
+    }
+
+    /// Calls a function at each item, each index once, in the order in which they lie: that in which ndarray goes.
+    ///
+    /// It is `for_each` for a function that needs no order, in the time of `fold_nearest`.
+    ///
+    /// Of `a`: at 7, then at 8. ndarray's `for_each`.
+    pub fn for_each_nearest<F: FnMut(&T)>(&self, mut f: F)
+        requires callable { InAnyOrder (λ items. CallableInForEach lends F.FnMut items f)
+            (map (item_at_place self.now.items) (view_places RowMajor self.now.view)) }
+        ensures ran { InSomeOrder (λ items. CallsOnEach lends F.FnMut items f)
+            (map (item_at_place self.now.items) (view_places RowMajor self.now.view)) }
+    {
+        let each = move |(), item: &T|
+            requires { F.pre f item }
+            ensures { F.step f.entry item.entry tt f.exit }
+        {
+            f(item);
+        };
+        self.fold_nearest((), each);
     }
 }

@@ -3,6 +3,7 @@ ghost use Rattle.std.specs.Iterator.{UpTo, YieldsFirst, item_count};
 ghost use Rattle.std.specs.Iterator.Runs.{YieldsInOrder};
 ghost use Rattle.std.specs.Iterator.SizeHint.{IsWithinCount};
 ghost use Rattle.std.specs.List.{All};
+ghost use Rattle.std.specs.List.Sorted.{IsPermutation};
 ghost use Rattle.std.specs.Prelude.{◌≡◌, ◌<◌, ◌^◌, ◌↔◌, ◌+ℤ◌, ◌*ℤ◌, pos, None, IfSome, IsSome, IsTrue, List, Some, length, map, option_copied, slice_index_or};
 ghost use Rattle.ndarray_layout.specs.declared.Order.TheVariants.{RowMajor};
 ghost use Rattle.ndarray_layout.specs.Bounds.{IsInBounds};
@@ -12,7 +13,8 @@ ghost use Rattle.nd_lent.specs.LentRow.{HasRow, RowValue, is_contiguous, row_ite
 ghost use Rattle.nd_parts.specs.Items.{item_at_place};
 
 use crate::array_view::ArrayView;
-use ndarray_layout::{Lengths, Order, Row, Rows};
+use crate::nearest::nearest_rows;
+use ndarray_layout::{Ix6, Lengths, Order, Row, Rows, Strided};
 use std::iter::FusedIterator;
 use std::marker::Model;
 
@@ -173,6 +175,16 @@ impl<'a, T, D: Lengths> ArrayView<'a, T, D> {
             ≡ map (item_at_place self.now.items) (view_places RowMajor self.now.view) }
     {
         LentRows::new(self.stored(), self.view().joined_rows(Order::RowMajor))
+    }
+
+    /// The items of all indices as the rows of the nearest view, or as `joined_rows` where there is none.
+    pub(crate) fn rows_in<'s>(&'s self, nearest: &'s Option<Strided<Ix6>>) -> LentRows<'s, T>
+        requires { IfSome nearest.now (λ nearest.
+            IsPermutation (view_places RowMajor nearest) (view_places RowMajor self.now.view)) }
+        ensures { IsPermutation (rows_items result)
+            (map (item_at_place self.now.items) (view_places RowMajor self.now.view)) }
+    {
+        LentRows::new(self.stored(), nearest_rows(self.view(), nearest))
     }
 
     /// An iterator over the rows along the last axis, in row-major order, which knows how many are left. Each is lent. An

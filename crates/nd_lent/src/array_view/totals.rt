@@ -6,10 +6,13 @@ ghost use Rattle.std.specs.Prelude.{◌≡◌, ◌^◌, ◌<◌, ◌↔◌, ℕ,
 ghost use Rattle.ndarray_layout.specs.declared.Order.TheVariants.{RowMajor};
 ghost use Rattle.ndarray_layout.specs.View.{view_places};
 ghost use Rattle.nd_parts.specs.Items.{item_at_place};
+ghost use Rattle.nd_lent.specs.LentRow.{rows_items};
 ghost use Rattle.nd_lent.specs.Lending.{lends};
+ghost use Rattle.nd_lent.specs.private.Summed.{within_u64};
 
-use crate::array_view::ArrayView;
 use crate::array_view::summing::sum_row;
+use crate::array_view::{ArrayView, LentRows};
+use crate::nearest::nearest_view;
 use ndarray_layout::Lengths;
 
 /// An unsigned number of any of the widths. num_traits' `Unsigned`.
@@ -67,11 +70,23 @@ impl Unsigned for usize {
     }
 }
 
+/// The sum of the items of rows; `None` where it passes the greatest `u64`.
+fn sum_rows<T: Unsigned>(rows: LentRows<'_, T>) -> Option<u64>
+    ensures { result
+        ≡ within_u64 (sum_by (λ item. option_map_or T.number item 0) (rows_items rows.entry)) }
+{
+    let mut total = 0u64;
+    for row in rows {
+        total = total.checked_add(sum_row(&row)?)?;
+    }
+    Some(total)
+}
+
 impl<T: Unsigned, D: Lengths> ArrayView<'_, T, D> {
     /// The sum of the items, an item as often as the array has indices for it; `None` where it passes the greatest `u64`.
     ///
-    /// Time in proportion to the indices. Goes over the longest rows that the axes allow (`Strided::joined_rows`): in one whose
-    /// items follow one another the sum is tested once for many items.
+    /// Time in proportion to the indices. Takes no memory. Goes over the items in the order in which they lie, as `fold_nearest`
+    /// does: in a row whose items follow one another the sum is tested once for many items.
     ///
     /// `[2]` with the stride `[-1]` over 7 8 9: 15; of `u8` items too, since they are added as `u64`. ndarray's `sum`.
     pub fn sum(&self) -> Option<u64>
@@ -80,11 +95,8 @@ impl<T: Unsigned, D: Lengths> ArrayView<'_, T, D> {
         ensures sum { IfSome result (λ total. total ≡ sum_by (λ item. option_map_or T.number item 0)
             (map (item_at_place self.now.items) (view_places RowMajor self.now.view))) }
     {
-        let mut total = 0u64;
-        for row in self.joined_rows() {
-            total = total.checked_add(sum_row(&row)?)?;
-        }
-        Some(total)
+        let nearest = nearest_view(self.view());
+        sum_rows(self.rows_in(&nearest))
     }
 }
 

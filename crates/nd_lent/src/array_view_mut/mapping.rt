@@ -7,15 +7,20 @@ ghost use Rattle.std.specs.Prelude.{◌≡◌, ◌≢◌, ◌↔◌, pos, IsOk, 
 ghost use Rattle.std.specs.Result.{result_err};
 ghost use Rattle.ndarray_layout.specs.declared.ErrorKind.TheVariants.{IncompatibleShape};
 ghost use Rattle.nd_lent.specs.ArrayViewMut.{HasItemsOf, KeepsSpare};
-ghost use Rattle.nd_lent.specs.Mapped.{ActsAsAtMut, CallableOnEachMut, RunsOver, gives, ordered_items, row_major_items};
+ghost use Rattle.nd_lent.specs.AnyOrder.{InAnyOrder, RunsInSomeOrder};
+ghost use Rattle.nd_lent.specs.Mapped.{ActsAsAtMut, CallableOnEachMut, RunsOver, gives, row_major_items};
 ghost use Rattle.nd_parts.specs.Items.{item_at, item_at_place};
+ghost use Rattle.ndarray_layout.specs.declared.Order.TheVariants.{RowMajor};
+ghost use Rattle.ndarray_layout.specs.Bounds.{IsInBounds};
 ghost use Rattle.ndarray_layout.specs.Rows.{row_places, rows_places};
+ghost use Rattle.ndarray_layout.specs.View.{IsView, view_places};
 ghost use Rattle.nd_lent.specs.LentRow.{HasRow, places_of, row_items, rows_items};
 ghost use Rattle.nd_lent.specs.Written.{HasRun};
 ghost use Rattle.nd_lent.specs.private.RunTo.{HasRunTo};
 
 use crate::array_view::{ArrayView, LentRow, LentRows, is_contiguous, place_in_row};
 use crate::array_view_mut::ArrayViewMut;
+use crate::nearest::{nearest_view, nearest_views};
 use ndarray_layout::{ErrorKind, Lengths, Order, Row, Rows, ShapeError, Strided, from_kind};
 
 /// Calls a closure at each item of a slice, one after another, and hands it back.
@@ -164,36 +169,46 @@ fn write_rows<T, U: Drop, F: FnMut(&T) -> U>(
     }
 }
 
-/// The order of the indices in which places along the fastest axis follow one another: column-major where those along the first
-/// axis do, and those along the last one don't; else row-major.
-pub(crate) fn nearest_order<D: Lengths>(view: &Strided<D>) -> Order {
-    let strides = view.strides().slice();
-    let ndim = strides.len();
-    if ndim > 1 && strides[0] == 1 && strides[ndim - 1] != 1 {
-        Order::ColumnMajor
-    } else {
-        Order::RowMajor
-    }
+/// Calls a closure at the item of each index of a view, in row-major order.
+#[inline(always)]
+fn map_view<T, D: Lengths, F: FnMut(&mut T)>(stored: &mut [T], view: &Strided<D>, f: F)
+    requires within { All (IsInBounds (length stored.old)) (view_places RowMajor view.now) }
+    requires distinct { AllPairs (λ one other. one ≢ other) (view_places RowMajor view.now) }
+    requires callable { CallableOnEachMut F.FnMut
+        (map (item_at_place stored.old) (view_places RowMajor view.now)) f }
+    ensures { HasRun (λ p x y q. CalledAtMut F.FnMut p x tt q y) f (view_places RowMajor view.now)
+        (map (item_at_place stored.old) (view_places RowMajor view.now)) stored.old stored.new }
+{
+    map_rows(stored, view.joined_rows(Order::RowMajor), f);
+}
+
+/// Writes at each index of a view what a closure makes of the item at the same index of another view of its shape, in row-major
+/// order.
+#[inline(always)]
+fn write_view<'a, T, U: Drop, D: Lengths, F: FnMut(&T) -> U>(
+    stored: &mut [U],
+    view: &'a Strided<D>,
+    items: &'a [T],
+    source: &'a Strided<D>,
+    f: F,
+)
+    requires shape { view.now.shape ≡ source.now.shape }
+    requires own_view { IsView view.now }
+    requires is_view { IsView source.now }
+    requires within { All (IsInBounds (length stored.old)) (view_places RowMajor view.now) }
+    requires distinct { AllPairs (λ one other. one ≢ other) (view_places RowMajor view.now) }
+    requires items { All (IsInBounds (length items.now)) (view_places RowMajor source.now) }
+    requires callable { CallableOnAllAt gives F.FnMut
+        (map (item_at_place items.now) (view_places RowMajor source.now)) f }
+    ensures { HasRun (λ p x y q. CalledAt F.FnMut p x y q) f (view_places RowMajor view.now)
+        (map (item_at_place items.now) (view_places RowMajor source.now)) stored.old stored.new }
+{
+    let (rows, sources) = view.joined_rows_with(source, Order::RowMajor);
+    write_rows(stored, rows, LentRows::new(items, sources), f);
 }
 
 impl<'a, T: Drop, D: Lengths> ArrayViewMut<'a, T, D> {
     ghost use Rattle.nd_lent.specs.Lender.{array_of};
-
-    /// `map_in_place`, in an order of the indices.
-    pub(crate) fn map_in_order<F: FnMut(&mut T)>(&mut self, order: Order, f: F)
-        requires { CallableOnEachMut F.FnMut (ordered_items order (array_of self.old)) f }
-        ensures ran { RunsOver (λ p x y q. CalledAtMut F.FnMut p x tt q y) f
-            (ordered_items order (array_of self.old)) (ordered_items order (array_of self.new)) }
-        ensures mapped { (h : T → T) → ActsAsAtMut F.FnMut f h → HasItemsOf
-            (λ index. option_map h (item_at (array_of self.old) index))
-            (array_of self.old) (array_of self.new) }
-        ensures view { (array_of self.new).view ≡ (array_of self.old).view }
-        ensures spare { KeepsSpare (array_of self.old) (array_of self.new) }
-        ensures same_reference { self.new.items.ghost_name ≡ self.old.items.ghost_name }
-    {
-        let rows = self.view.joined_rows(order);
-        map_rows(self.items, rows, f);
-    }
 
     /// Calls a closure at the item of each index, in row-major order, to change it in place. Spare items are unchanged.
     ///
@@ -212,40 +227,38 @@ impl<'a, T: Drop, D: Lengths> ArrayViewMut<'a, T, D> {
         ensures spare { KeepsSpare (array_of self.old) (array_of self.new) }
         ensures same_reference { self.new.items.ghost_name ≡ self.old.items.ghost_name }
     {
-        self.map_in_order(Order::RowMajor, f);
+        map_view(self.items, &self.view, f);
+    }
+
+    /// Calls a closure at the item of each index, each once, to change it in place, in the order in which they lie: that in which
+    /// ndarray goes. Spare items are unchanged.
+    ///
+    /// It is `map_in_place` for a closure that needs no order. Takes no memory. With at most 6 axes it goes over the longest rows
+    /// that the axes allow once they are turned and sorted (`Strided::nearest`), so that one that is transposed, mirrored or
+    /// column-major is one slice as well, where its items lie side by side; with more axes as `map_in_place` does.
+    ///
+    /// `|item| *item = item.wrapping_mul(2)` at `a`: at 7, then at 8, 14 16 9. ndarray's `map_inplace`.
+    pub fn map_in_place_nearest<F: FnMut(&mut T)>(&mut self, f: F)
+        requires { InAnyOrder (λ items. CallableOnEachMut F.FnMut items f)
+            (row_major_items (array_of self.old)) }
+        ensures ran { RunsInSomeOrder (λ p x y q. CalledAtMut F.FnMut p x tt q y) f
+            (array_of self.old) (array_of self.new) }
+        ensures mapped { (h : T → T) → ActsAsAtMut F.FnMut f h → HasItemsOf
+            (λ index. option_map h (item_at (array_of self.old) index))
+            (array_of self.old) (array_of self.new) }
+        ensures view { (array_of self.new).view ≡ (array_of self.old).view }
+        ensures spare { KeepsSpare (array_of self.old) (array_of self.new) }
+        ensures same_reference { self.new.items.ghost_name ≡ self.old.items.ghost_name }
+    {
+        match nearest_view(&self.view) {
+            Some(nearest) => map_view(self.items, &nearest, f),
+            None => self.map_in_place(f),
+        }
     }
 }
 
 impl<T, D: Lengths> ArrayView<'_, T, D> {
     ghost use Rattle.nd_lent.specs.Lender.{array_of};
-
-    /// `map_into`, in an order of the indices.
-    pub(crate) fn map_into_in_order<U: Drop, F: FnMut(&T) -> U>(
-        &self,
-        order: Order,
-        to: &mut ArrayViewMut<'_, U, D>,
-        f: F,
-    ) -> Result<(), ShapeError>
-        requires { self.now.view.shape ≡ (array_of to.old).view.shape →
-            CallableOnAllAt gives F.FnMut (ordered_items order self.now) f }
-        ensures fits { IsOk result ↔ (self.now.view.shape ≡ (array_of to.old).view.shape) }
-        ensures fault { OnErr result (result_err result ≡ Some IncompatibleShape) }
-        ensures unchanged { OnErr result (array_of to.new ≡ array_of to.old) }
-        ensures ran { OnOk result (RunsOver (λ p x y q. CalledAt F.FnMut p x y q) f
-            (ordered_items order self.now) (ordered_items order (array_of to.new))) }
-        ensures mapped { OnOk result ((h : T → U) → ActsAsAt F.FnMut f h → HasItemsOf
-            (λ index. option_map h (item_at self.now index)) (array_of to.old) (array_of to.new)) }
-        ensures view { (array_of to.new).view ≡ (array_of to.old).view }
-        ensures spare { KeepsSpare (array_of to.old) (array_of to.new) }
-        ensures same_reference { to.new.items.ghost_name ≡ to.old.items.ghost_name }
-    {
-        if !to.view.dim().equal(self.dim()) {
-            return Err(from_kind(ErrorKind::IncompatibleShape));
-        }
-        let (rows, sources) = to.view.joined_rows_with(self.view(), order);
-        write_rows(to.items, rows, LentRows::new(self.stored(), sources), f);
-        Ok(())
-    }
 
     /// Writes at each index of another array of the same shape what a closure makes of the item here, in row-major order. Spare
     /// items are unchanged.
@@ -278,6 +291,53 @@ impl<T, D: Lengths> ArrayView<'_, T, D> {
         ensures spare { KeepsSpare (array_of to.old) (array_of to.new) }
         ensures same_reference { to.new.items.ghost_name ≡ to.old.items.ghost_name }
     {
-        self.map_into_in_order(Order::RowMajor, to, f)
+        if !to.view.dim().equal(self.dim()) {
+            return Err(from_kind(ErrorKind::IncompatibleShape));
+        }
+        write_view(to.items, &to.view, self.stored(), self.view(), f);
+        Ok(())
+    }
+
+    /// Writes at each index of another array of the same shape what a closure makes of the item here, each once, in the order in
+    /// which those of the other array lie. Spare items are unchanged.
+    ///
+    /// It is `map_into` for a closure that needs no order. Takes no memory. With at most 6 axes it goes over the longest rows that
+    /// the axes of both allow once they are turned and sorted by the other array's strides (`Strided::nearest_with`); with more
+    /// axes as `map_into` does.
+    ///
+    /// # Errors
+    ///
+    /// `IncompatibleShape` where the shapes differ; the items are unchanged, and the closure isn't called. (A shape that can be
+    /// broadcast is an error too: `broadcast` comes first.)
+    ///
+    /// `|item| *item < 6` of 5 6 to `[2]` with the stride `[-1]`: at 6, then at 5, and the second item is `true`. ndarray's
+    /// `Zip::map_assign_into`.
+    pub fn map_into_nearest<U: Drop, F: FnMut(&T) -> U>(
+        &self,
+        to: &mut ArrayViewMut<'_, U, D>,
+        f: F,
+    ) -> Result<(), ShapeError>
+        requires { self.now.view.shape ≡ (array_of to.old).view.shape →
+            InAnyOrder (λ items. CallableOnAllAt gives F.FnMut items f)
+            (row_major_items self.now) }
+        ensures fits { IsOk result ↔ (self.now.view.shape ≡ (array_of to.old).view.shape) }
+        ensures fault { OnErr result (result_err result ≡ Some IncompatibleShape) }
+        ensures unchanged { OnErr result (array_of to.new ≡ array_of to.old) }
+        ensures ran { OnOk result (RunsInSomeOrder (λ p x y q. CalledAt F.FnMut p x y q) f
+            self.now (array_of to.new)) }
+        ensures mapped { OnOk result ((h : T → U) → ActsAsAt F.FnMut f h → HasItemsOf
+            (λ index. option_map h (item_at self.now index)) (array_of to.old) (array_of to.new)) }
+        ensures view { (array_of to.new).view ≡ (array_of to.old).view }
+        ensures spare { KeepsSpare (array_of to.old) (array_of to.new) }
+        ensures same_reference { to.new.items.ghost_name ≡ to.old.items.ghost_name }
+    {
+        if !to.view.dim().equal(self.dim()) {
+            return Err(from_kind(ErrorKind::IncompatibleShape));
+        }
+        match nearest_views(&to.view, self.view()) {
+            Some((view, source)) => write_view(to.items, &view, self.stored(), &source, f),
+            None => return self.map_into(to, f),
+        }
+        Ok(())
     }
 }

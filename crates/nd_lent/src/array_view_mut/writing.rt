@@ -7,7 +7,6 @@ ghost use Rattle.nd_parts.specs.Items.{item_at};
 
 use crate::array_view::ArrayView;
 use crate::array_view_mut::ArrayViewMut;
-use crate::array_view_mut::mapping::nearest_order;
 use ndarray_layout::{Lengths, ShapeError};
 
 impl<'a, T: Copy, D: Lengths> ArrayViewMut<'a, T, D> {
@@ -15,18 +14,15 @@ impl<'a, T: Copy, D: Lengths> ArrayViewMut<'a, T, D> {
 
     /// Writes an item at each index. Spare items are unchanged.
     ///
-    /// Takes no memory. Goes over the longest rows that the axes allow, or such columns where the items of a column follow one another
-    /// and those of a row don't: one whose items follow one another is a loop over a slice; in others each index takes the time of its
-    /// place.
+    /// Takes no memory. Goes over the items in the order in which they lie, as `map_in_place_nearest` does: a row whose items
+    /// follow one another is a loop over a slice; in others each index takes the time of its place.
     ///
     /// 5 to `a`: 5 5 9. ndarray's `fill`.
     pub fn fill(&mut self, item: T)
         ensures filled { HasItemsOf (λ index. Some item) (array_of self.old) (array_of self.new) }
         ensures same_reference { self.new.items.ghost_name ≡ self.old.items.ghost_name }
     {
-        let order = nearest_order(self.view());
-        self.map_in_order(
-            order,
+        self.map_in_place_nearest(
             |stored: &mut T|
                 ensures { stored.new ≡ item }
             {
@@ -37,7 +33,7 @@ impl<'a, T: Copy, D: Lengths> ArrayViewMut<'a, T, D> {
 
     /// Writes at each index a copy of the item that another array of the same shape has there. Spare items are unchanged.
     ///
-    /// Takes no memory. Goes over the longest rows or columns that the axes of both allow, as `fill` does.
+    /// Takes no memory. Goes over the items in the order in which they lie here, as `map_into_nearest` does.
     ///
     /// # Errors
     ///
@@ -53,9 +49,7 @@ impl<'a, T: Copy, D: Lengths> ArrayViewMut<'a, T, D> {
             (HasItemsOf (item_at other.now) (array_of self.old) (array_of self.new)) }
         ensures same_reference { self.new.items.ghost_name ≡ self.old.items.ghost_name }
     {
-        let order = nearest_order(self.view());
-        other.map_into_in_order(
-            order,
+        other.map_into_nearest(
             self,
             |item: &T|
                 ensures { result ≡ item.now }

@@ -2,8 +2,8 @@
 //! Whether two arrays have the same items.
 
 use crate::nd_lent::array_view::{ArrayView, LentRow, LentRows};
-use crate::nd_lent::array_view_mut::nearest_order;
-use crate::ndarray_layout::{Lengths, Order};
+use crate::nd_lent::nearest::{nearest_rows_with, nearest_views};
+use crate::ndarray_layout::Lengths;
 
 /// Whether the items of two rows of one length are equal, one after another.
 ///
@@ -67,7 +67,8 @@ fn have_equal_rows<T: PartialEq>(rows: LentRows<'_, T>, others: LentRows<'_, T>)
 }
 
 impl<T: PartialEq, D: Lengths> ArrayView<'_, T, D> {
-    /// Whether each item is equal to that at the same index of an array of the same shape, compared in an order of the indices.
+    /// Whether each item is equal to that at the same index of an array of the same shape, compared in the order in which
+    /// those of this array lie.
     ///
     /// <details><summary>Contract (proved)</summary>
     ///
@@ -80,16 +81,17 @@ impl<T: PartialEq, D: Lengths> ArrayView<'_, T, D> {
     /// [How to read it](crate::contracts)
     /// </details>
     #[inline]
-    fn has_equal_items(&self, other: &ArrayView<'_, T, D>, order: Order) -> bool {
-        let (rows, others) = self.view().joined_rows_with(other.view(), order);
+    fn has_equal_items(&self, other: &ArrayView<'_, T, D>) -> bool {
+        let nearest = nearest_views(self.view(), other.view());
+        let (rows, others) = nearest_rows_with(self.view(), other.view(), &nearest);
         have_equal_rows(LentRows::new(self.stored(), rows), LentRows::new(other.stored(), others))
     }
 
     /// Whether another array has the same shape, and an equal item at each index. Spare items don't count.
     ///
-    /// Time in proportion to the indices before the first where the items differ; none where the shapes do. Goes over the longest
-    /// rows that the axes of both allow (`Strided::joined_rows_with`), or columns where `ArrayViewMut::fill` does: two whose items
-    /// follow one another are compared as slices.
+    /// Time in proportion to the indices up to one where the items differ; none where the shapes do. Takes no memory. With at most 6
+    /// axes it goes over the items in the order in which they lie here (`Strided::nearest_with`), but in row-major order where an
+    /// axis has the stride 0, and so with more axes: rows whose items follow one another in both are compared as slices.
     ///
     /// `[2]` with the stride `[-1]` over 7 8 9, and `[2]` over 8 7: `true`. ndarray's `eq`.
     ///
@@ -117,6 +119,6 @@ impl<T: PartialEq, D: Lengths> ArrayView<'_, T, D> {
     #[inline]
     #[must_use]
     pub fn eq(&self, other: &ArrayView<'_, T, D>) -> bool {
-        self.dim().equal(other.dim()) && self.has_equal_items(other, nearest_order(self.view()))
+        self.dim().equal(other.dim()) && self.has_equal_items(other)
     }
 }

@@ -2,7 +2,8 @@
 //! A function that is called at each item of an array in turn, row by row.
 
 use crate::memory::prelude::Vec;
-use crate::nd_lent::array_view::{ArrayView, LentRow};
+use crate::nd_lent::array_view::{ArrayView, LentRow, LentRows};
+use crate::nd_lent::nearest::nearest_view;
 use crate::ndarray_layout::Lengths;
 
 /// Folds the items of a slice, and hands back the function.
@@ -62,6 +63,25 @@ fn fold_row<T, B, F: FnMut(B, &T) -> B>(row: &LentRow<'_, T>, init: B, f: F) -> 
     }
 }
 
+/// Folds the items of rows, one row after another.
+///
+/// <details><summary>Contract (proved)</summary>
+///
+/// ```text
+/// requires CallableInFold lends F.FnMut (rows_items rows) f init
+/// ensures FoldsItems lends F.FnMut (rows_items rows.entry) f init result
+/// ```
+/// [How to read it](crate::contracts)
+/// </details>
+#[inline(always)]
+fn fold_rows<T, B, F: FnMut(B, &T) -> B>(rows: LentRows<'_, T>, init: B, f: F) -> B {
+    let (mut total, mut f) = (init, f);
+    for row in rows {
+        (total, f) = fold_row(&row, total, f);
+    }
+    total
+}
+
 impl<T, D: Lengths> ArrayView<'_, T, D> {
     /// The last result of a function that is called at each item in turn, in row-major order, with the result before, first
     /// with `init`.
@@ -102,11 +122,50 @@ impl<T, D: Lengths> ArrayView<'_, T, D> {
     /// </details>
     #[inline]
     pub fn fold<B, F: FnMut(B, &T) -> B>(&self, init: B, f: F) -> B {
-        let (mut total, mut f) = (init, f);
-        for row in self.joined_rows() {
-            (total, f) = fold_row(&row, total, f);
-        }
-        total
+        fold_rows(self.joined_rows(), init, f)
+    }
+
+    /// The last result of a function that is called at each item, each index once, with the result before, first with `init`, in
+    /// the order in which the items lie: that in which ndarray goes.
+    ///
+    /// It is `fold` for a function that needs no order. Takes no memory. With at most 6 axes it goes over the longest rows that the
+    /// axes allow once they are turned and sorted (`Strided::nearest`), so that one that is transposed, mirrored or column-major is
+    /// one slice as well, where its items lie side by side. Where an axis has the stride 0, or there are more axes, it is `fold`.
+    ///
+    /// `a.fold_nearest(0, |sum, item| sum + item)` is 15, from 7 to 8. ndarray's `fold`.
+    ///
+    /// # Conditions
+    ///
+    /// The function may be called with any item of the array, after any result that it has returned. Where it panics,
+    /// so does this call.
+    ///
+    /// # Examples
+    ///
+    /// ```
+    /// use ndarray_layout::{ArrayView, Ix1, LayoutError, ShapeBuilder, unsigned};
+    ///
+    /// # fn main() -> Result<(), LayoutError> {
+    /// let a = ArrayView::from_shape(Ix1(2).strides(Ix1(unsigned(-1)))?, &[7, 8, 9])?;
+    /// assert_eq!(a.fold_nearest(0, |sum, item| sum + item), 15);
+    /// assert_eq!(a.fold_nearest(0, |number, item| 10 * number + item), 78);
+    /// # Ok(())
+    /// # }
+    /// ```
+    ///
+    /// <details><summary>Contract (proved)</summary>
+    ///
+    /// ```text
+    /// requires callable: InAnyOrder (λ items. CallableInFold lends F.FnMut items f init)
+    ///     (map (item_at_place self.now.items) (view_places RowMajor self.now.view))
+    /// ensures ran: InSomeOrder (λ items. FoldsItems lends F.FnMut items f init result)
+    ///     (map (item_at_place self.now.items) (view_places RowMajor self.now.view))
+    /// ```
+    /// [How to read it](crate::contracts)
+    /// </details>
+    #[inline]
+    pub fn fold_nearest<B, F: FnMut(B, &T) -> B>(&self, init: B, f: F) -> B {
+        let nearest = nearest_view(self.view());
+        fold_rows(self.rows_in(&nearest), init, f)
     }
 
     /// Calls a function at each item in turn, in row-major order.
@@ -150,5 +209,48 @@ impl<T, D: Lengths> ArrayView<'_, T, D> {
             f(item);
         };
         self.fold((), each);
+    }
+
+    /// Calls a function at each item, each index once, in the order in which they lie: that in which ndarray goes.
+    ///
+    /// It is `for_each` for a function that needs no order, in the time of `fold_nearest`.
+    ///
+    /// Of `a`: at 7, then at 8. ndarray's `for_each`.
+    ///
+    /// # Conditions
+    ///
+    /// The function may be called with any item of the array, whatever it was called with before. Where it panics, so
+    /// does this call.
+    ///
+    /// # Examples
+    ///
+    /// ```
+    /// use ndarray_layout::{ArrayView, Ix1, LayoutError, ShapeBuilder, unsigned};
+    ///
+    /// # fn main() -> Result<(), LayoutError> {
+    /// let a = ArrayView::from_shape(Ix1(2).strides(Ix1(unsigned(-1)))?, &[7, 8, 9])?;
+    /// let mut items = Vec::new();
+    /// a.for_each_nearest(|item| items.push(*item));
+    /// assert_eq!(items, [7, 8]);
+    /// # Ok(())
+    /// # }
+    /// ```
+    ///
+    /// <details><summary>Contract (proved)</summary>
+    ///
+    /// ```text
+    /// requires callable: InAnyOrder (λ items. CallableInForEach lends F.FnMut items f)
+    ///     (map (item_at_place self.now.items) (view_places RowMajor self.now.view))
+    /// ensures ran: InSomeOrder (λ items. CallsOnEach lends F.FnMut items f)
+    ///     (map (item_at_place self.now.items) (view_places RowMajor self.now.view))
+    /// ```
+    /// [How to read it](crate::contracts)
+    /// </details>
+    #[inline]
+    pub fn for_each_nearest<F: FnMut(&T)>(&self, mut f: F) {
+        let each = move |(), item: &T| {
+            f(item);
+        };
+        self.fold_nearest((), each);
     }
 }

@@ -3,7 +3,8 @@
 
 use crate::memory::prelude::Vec;
 use crate::nd_lent::array_view::ArrayView;
-use crate::ndarray_layout::{Lengths, Order, Row, Rows};
+use crate::nd_lent::nearest::nearest_rows;
+use crate::ndarray_layout::{Ix6, Lengths, Order, Row, Rows, Strided};
 use core::iter::FusedIterator;
 
 /// A row of an array: items that lie evenly among those that are lent. There is at least one. ndarray's one-dimensional
@@ -238,6 +239,23 @@ impl<'a, T, D: Lengths> ArrayView<'a, T, D> {
     #[inline]
     pub(crate) fn joined_rows(&self) -> LentRows<'_, T> {
         LentRows::new(self.stored(), self.view().joined_rows(Order::RowMajor))
+    }
+
+    /// The items of all indices as the rows of the nearest view, or as `joined_rows` where there is none.
+    ///
+    /// <details><summary>Contract (proved)</summary>
+    ///
+    /// ```text
+    /// requires IfSome nearest.now (λ nearest.
+    ///     IsPermutation (view_places RowMajor nearest) (view_places RowMajor self.now.view))
+    /// ensures IsPermutation (rows_items result)
+    ///     (map (item_at_place self.now.items) (view_places RowMajor self.now.view))
+    /// ```
+    /// [How to read it](crate::contracts)
+    /// </details>
+    #[inline]
+    pub(crate) fn rows_in<'s>(&'s self, nearest: &'s Option<Strided<Ix6>>) -> LentRows<'s, T> {
+        LentRows::new(self.stored(), nearest_rows(self.view(), nearest))
     }
 
     /// An iterator over the rows along the last axis, in row-major order, which knows how many are left. Each is lent. An

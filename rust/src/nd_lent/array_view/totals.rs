@@ -1,8 +1,9 @@
 // Made by `rust/erase` of `crates/nd_lent/src/array_view/totals.rt`: edit that.
 //! What is known of all items of an array at once: their sum, and whether some or all of them pass a test.
 
-use crate::nd_lent::array_view::ArrayView;
 use crate::nd_lent::array_view::summing::sum_row;
+use crate::nd_lent::array_view::{ArrayView, LentRows};
+use crate::nd_lent::nearest::nearest_view;
 use crate::ndarray_layout::Lengths;
 
 /// An unsigned number of any of the widths. num_traits' `Unsigned`.
@@ -57,11 +58,29 @@ impl Unsigned for usize {
     }
 }
 
+/// The sum of the items of rows; `None` where it passes the greatest `u64`.
+///
+/// <details><summary>Contract (proved)</summary>
+///
+/// ```text
+/// ensures result ≡ within_u64 (sum_by (λ item. option_map_or T.number item 0) (rows_items rows.entry))
+/// ```
+/// [How to read it](crate::contracts)
+/// </details>
+#[inline]
+fn sum_rows<T: Unsigned>(rows: LentRows<'_, T>) -> Option<u64> {
+    let mut total = 0u64;
+    for row in rows {
+        total = total.checked_add(sum_row(&row)?)?;
+    }
+    Some(total)
+}
+
 impl<T: Unsigned, D: Lengths> ArrayView<'_, T, D> {
     /// The sum of the items, an item as often as the array has indices for it; `None` where it passes the greatest `u64`.
     ///
-    /// Time in proportion to the indices. Goes over the longest rows that the axes allow (`Strided::joined_rows`): in one whose
-    /// items follow one another the sum is tested once for many items.
+    /// Time in proportion to the indices. Takes no memory. Goes over the items in the order in which they lie, as `fold_nearest`
+    /// does: in a row whose items follow one another the sum is tested once for many items.
     ///
     /// `[2]` with the stride `[-1]` over 7 8 9: 15; of `u8` items too, since they are added as `u64`. ndarray's `sum`.
     ///
@@ -94,11 +113,8 @@ impl<T: Unsigned, D: Lengths> ArrayView<'_, T, D> {
     #[inline]
     #[must_use]
     pub fn sum(&self) -> Option<u64> {
-        let mut total = 0u64;
-        for row in self.joined_rows() {
-            total = total.checked_add(sum_row(&row)?)?;
-        }
-        Some(total)
+        let nearest = nearest_view(self.view());
+        sum_rows(self.rows_in(&nearest))
     }
 }
 

@@ -3,15 +3,13 @@
 
 use crate::nd_lent::array_view::ArrayView;
 use crate::nd_lent::array_view_mut::ArrayViewMut;
-use crate::nd_lent::array_view_mut::mapping::nearest_order;
 use crate::ndarray_layout::{Lengths, ShapeError};
 
 impl<'a, T: Copy, D: Lengths> ArrayViewMut<'a, T, D> {
     /// Writes an item at each index. Spare items are unchanged.
     ///
-    /// Takes no memory. Goes over the longest rows that the axes allow, or such columns where the items of a column follow one another
-    /// and those of a row don't: one whose items follow one another is a loop over a slice; in others each index takes the time of its
-    /// place.
+    /// Takes no memory. Goes over the items in the order in which they lie, as `map_in_place_nearest` does: a row whose items
+    /// follow one another is a loop over a slice; in others each index takes the time of its place.
     ///
     /// 5 to `a`: 5 5 9. ndarray's `fill`.
     ///
@@ -38,15 +36,14 @@ impl<'a, T: Copy, D: Lengths> ArrayViewMut<'a, T, D> {
     /// </details>
     #[inline]
     pub fn fill(&mut self, item: T) {
-        let order = nearest_order(self.view());
-        self.map_in_order(order, |stored: &mut T| {
+        self.map_in_place_nearest(|stored: &mut T| {
             *stored = item;
         });
     }
 
     /// Writes at each index a copy of the item that another array of the same shape has there. Spare items are unchanged.
     ///
-    /// Takes no memory. Goes over the longest rows or columns that the axes of both allow, as `fill` does.
+    /// Takes no memory. Goes over the items in the order in which they lie here, as `map_into_nearest` does.
     ///
     /// 5 6 to `a`: 6 5 9. ndarray's `assign`.
     ///
@@ -83,7 +80,6 @@ impl<'a, T: Copy, D: Lengths> ArrayViewMut<'a, T, D> {
     /// </details>
     #[inline]
     pub fn assign(&mut self, other: &ArrayView<'_, T, D>) -> Result<(), ShapeError> {
-        let order = nearest_order(self.view());
-        other.map_into_in_order(order, self, |item: &T| *item)
+        other.map_into_nearest(self, |item: &T| *item)
     }
 }

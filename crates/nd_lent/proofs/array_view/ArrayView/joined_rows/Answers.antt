@@ -3,6 +3,7 @@ use Rattle.std.proofs.Common.{ap, ◌∙◌}
 use Rattle.ndarray_layout.specs.declared.Order.TheVariants.{RowMajor}
 use Rattle.ndarray_layout.specs.View.{view_places}
 use Rattle.nd_lent.specs.LentRow.{rows_items}
+use Rattle.nd_lent.proofs.Permuted.{permuted}
 use Rattle.nd_lent.proofs.RowsLent.{items_of_rows, rows_have_items}
 use Rattle.nd_lent.proofs.array_view.ArrayView.joined_rows.Goals as goal
 
@@ -11,8 +12,8 @@ new-requires g c =
     let rows = c.joined_rows in
     let has = c.stored.ensures.has_items in
     rw c.stored.ensures.items
-    (rows_have_items RowMajor c.args.self.now.view rows.result (rows.ensures.places ∙ ap (view_places RowMajor) c.view.ensures.view)
-    has.is_view has.within rows.ensures.some)
+    (rows_have_items RowMajor c.args.self.now.view rows.result
+    (permuted (rows.ensures.places ∙ ap (view_places RowMajor) c.view.ensures.view)) has.is_view has.within rows.ensures.some)
 
 pub returns : goal.returns
 returns g c =

@@ -6,6 +6,7 @@ use Rattle.ndarray_layout.specs.declared.Order.TheVariants.{RowMajor}
 use Rattle.ndarray_layout.specs.Rows.{view_rows}
 use Rattle.ndarray_layout.proofs.laws.Rows.{rows_places-view_rows, some_in_each_row}
 use Rattle.nd_lent.specs.LentRow.{RowValue, row_of, rows_items}
+use Rattle.nd_lent.proofs.Permuted.{permuted}
 use Rattle.nd_lent.proofs.RowsLent.{items_of_rows, rows_have_items}
 use Rattle.nd_lent.proofs.array_view.ArrayView.rows.Given.{Over}
 use Rattle.nd_lent.proofs.array_view.ArrayView.rows.Goals as goal
@@ -16,7 +17,7 @@ new-requires g c =
     let view = c.args.self.now.view in
     let has = c.stored.ensures.has_items in
     rw (c.stored.ensures.items, c.rows.ensures.items, c.view.ensures.view)
-    (rows_have_items RowMajor view (view_rows RowMajor view) (rows_places-view_rows RowMajor has.is_view) has.is_view has.within
+    (rows_have_items RowMajor view (view_rows RowMajor view) (permuted (rows_places-view_rows RowMajor has.is_view)) has.is_view has.within
     (some_in_each_row RowMajor view))
 
 -- the rows are those of the view

@@ -1,17 +1,13 @@
 -- Once the items of the rows that are left are folded, all are; the function may be called at them.
 use Rattle.std.specs.Iterator.{CallableInFold}
-use Rattle.std.proofs.Common.{map}
-use Rattle.ndarray_layout.specs.declared.Order.TheVariants.{RowMajor}
-use Rattle.ndarray_layout.specs.View.{view_places}
 use Rattle.nd_lent.specs.LentRow.{rows_items}
 use Rattle.nd_lent.specs.Lending.{lends}
-use Rattle.nd_parts.specs.Items.{item_at_place}
 use Rattle.nd_lent.specs.private.Folded.{HasFolded}
-use Rattle.nd_lent.proofs.array_view.ArrayView.fold.Given as goal
+use Rattle.nd_lent.proofs.array_view.folding.fold_rows.Given as goal
 
 abbrev pub invariant-loop-row : goal.invariant-loop-row
 invariant-loop-row g l = record {
   folded : (h : _) (result : _) → HasFolded g.F.FnMut (l.f, l.total) (rows_items l.row-iterator) (h, result)
-      → HasFolded g.F.FnMut (l.fn.f, l.fn.init) (map (item_at_place l.fn.self.items) (view_places RowMajor l.fn.self.view)) (h, result);
+      → HasFolded g.F.FnMut (l.fn.f, l.fn.init) (rows_items l.fn.rows) (h, result);
   callable : CallableInFold lends g.F.FnMut (rows_items l.row-iterator) l.f l.total;
 }

@@ -5,7 +5,7 @@ use Rattle.nd_lent.specs.LentRow.{row_items, rows_items}
 use Rattle.nd_lent.specs.Lending.{lends}
 use Rattle.nd_lent.specs.private.Folded.{HasFolded}
 use Rattle.nd_lent.proofs.Folding.{all_folded, both_called, callable_after, callable_in_part, none_called}
-use Rattle.nd_lent.proofs.array_view.ArrayView.fold.Goals as goal
+use Rattle.nd_lent.proofs.array_view.folding.fold_rows.Goals as goal
 
 pub fold_row-requires : goal.fold_row-requires
 fold_row-requires g c =
@@ -27,8 +27,6 @@ loop-row-preserved g c =
 
 pub returns : goal.returns
 returns g c =
-    record {
-      ran = all_folded (c.loop-row.invariant.folded c.loop-row.f c.loop-row.total
-          (subst (λ items. HasFolded g.F.FnMut (c.loop-row.f, c.loop-row.total) items (c.loop-row.f, c.loop-row.total))
-          (sym (ap rows_items c.in-None.ensures.steps.0)) none_called));
-    }
+    all_folded (c.loop-row.invariant.folded c.loop-row.f c.loop-row.total
+    (subst (λ items. HasFolded g.F.FnMut (c.loop-row.f, c.loop-row.total) items (c.loop-row.f, c.loop-row.total))
+    (sym (ap rows_items c.in-None.ensures.steps.0)) none_called))
