@@ -3,13 +3,8 @@
 use super::line::moved;
 use crate::LentRow;
 use crate::nd_base::{ErrorKind, Lengths, Order, ShapeError, from_kind};
+use crate::nd_lent::nearest::{nearest_rows_with, nearest_views};
 use crate::ndarray_layout::{Row, Strided};
-
-/// The rows of two views of the same shape in pairs of equal lengths, in row-major order, as long as may be.
-fn pairs<'v, D: Lengths>(own: &'v Strided<D>, other: &'v Strided<D>) -> impl Iterator<Item = (Row, Row)> + 'v {
-    let (rows, others) = own.joined_rows_with(other, Order::RowMajor);
-    rows.zip(others)
-}
 
 /// Calls a closure at the items of two views at each index. Errors: those of `zip_mut_with`.
 pub(crate) fn zip_mut<T, U, D: Lengths>(
@@ -21,7 +16,8 @@ pub(crate) fn zip_mut<T, U, D: Lengths>(
     if !view.dim().equal(other_view.dim()) {
         return Err(from_kind(ErrorKind::IncompatibleShape));
     }
-    for (row, other) in pairs(view, other_view) {
+    let (rows, other_rows) = view.joined_rows_with(other_view, Order::RowMajor);
+    for (row, other) in rows.zip(other_rows) {
         zip_row((row, items), LentRow { items: others, row: other }, &mut f);
     }
     Ok(())
@@ -40,12 +36,14 @@ fn zip_row<T, U>(own: (Row, &mut [T]), other: LentRow<'_, U>, f: &mut impl FnMut
     }
 }
 
-/// Whether two views have one shape and, at each index, equal items.
+/// Whether two views have one shape and, at each index, equal items; compared in the order in which those of the first lie.
 pub(crate) fn same_items<T: PartialEq<U>, U, D: Lengths>(own: (&Strided<D>, &[T]), other: (&Strided<D>, &[U])) -> bool {
     let ((view, items), (other_view, others)) = (own, other);
-    view.dim().equal(other_view.dim())
-        && pairs(view, other_view)
-            .all(|(row, other)| same_row(LentRow { items, row }, LentRow { items: others, row: other }))
+    view.dim().equal(other_view.dim()) && {
+        let nearest = nearest_views(view, other_view);
+        let (rows, beside) = nearest_rows_with(view, other_view, &nearest);
+        rows.zip(beside).all(|(row, other)| same_row(LentRow { items, row }, LentRow { items: others, row: other }))
+    }
 }
 
 /// Whether two rows of equal lengths have equal items.

@@ -9,16 +9,6 @@ use core::hash::{Hash, Hasher};
 /// A view, and the items at its places.
 type Read<'a, T, D> = (&'a Strided<D>, &'a [T]);
 
-/// Whether both have one shape and, at each index, equal items. Where both lie column by column they are two slices, and else
-/// rows whose items lie side by side are.
-fn are_equal<T: PartialEq<U>, U, D: Lengths>(own: Read<'_, T, D>, other: Read<'_, U, D>) -> bool {
-    let by_columns = |view: &Strided<D>| view.stretch(Order::ColumnMajor);
-    match (by_columns(own.0), by_columns(other.0)) {
-        (Some(places), Some(others)) => own.0.dim().equal(other.0.dim()) && own.1[places] == other.1[others],
-        _ => same_items(own, other),
-    }
-}
-
 /// Hashes the shape and the items, in row-major order.
 fn hash_of<T: Hash, D: Lengths, H: Hasher>((view, items): Read<'_, T, D>, state: &mut H) {
     view.dim().slice().hash(state);
@@ -46,7 +36,7 @@ macro_rules! compared {
         /// ```
         impl<$($lifetime,)* T: PartialEq<U>, U, D: Lengths> PartialEq<$other> for $own {
             fn eq(&self, other: &$other) -> bool {
-                are_equal((self.view(), self.stored()), (other.view(), other.stored()))
+                same_items((self.view(), self.stored()), (other.view(), other.stored()))
             }
         }
     )*};
