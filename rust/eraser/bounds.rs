@@ -65,6 +65,7 @@ pub const CLONED: &[(&[&str], &[Replaced])] = &[
     ),
     (&["ArrayView"], &[]),
     (&["ArrayViewMut"], &[]),
+    (&["PartMut"], &[(&["*", "stored", "=", "item"], "*stored = item.clone()")]),
 ];
 
 /// Impls of slice arguments, whose shape after is any list of lengths in the sources, and a dimension in the package.

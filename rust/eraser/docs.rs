@@ -1,7 +1,7 @@
 //! What is written before an item once its head is read: its conditions in words and its contract, folded away, in its
 //! documentation; and attributes.
 
-use crate::names::{CONDITIONS, OF_PROOFS};
+use crate::names::{CONDITIONS, OF_CLOSURES, OF_PROOFS};
 use crate::paragraphs::Paragraphs;
 use crate::tokens::{Token, Tree, length_of_generics, text_of};
 
@@ -86,9 +86,11 @@ impl Contract {
         }));
     }
 
-    /// Whether its caller ensures something.
+    /// Whether its caller ensures something else than that a closure may be called.
     pub fn has_condition(&self) -> bool {
-        !self.conditions.is_empty()
+        let is_of_closure =
+            |text: &String| !text.contains('×') && OF_CLOSURES.iter().any(|begin| text.starts_with(begin));
+        !self.conditions.iter().all(is_of_closure)
     }
 
     /// Writes `#[inline]` before a function that says nothing of that.

@@ -11,7 +11,7 @@ pub const MODULES: &[(&str, &str, &[&str])] = &[
     ("io", "std", &["Error", "ErrorKind", "Read", "Result", "Write"]),
     ("iter", "core", &["FusedIterator"]),
     ("marker", "core", &["PhantomData"]),
-    ("mem", "core", &["replace"]),
+    ("mem", "core", &["replace", "swap"]),
     ("ops", "core", OPERATORS),
     ("slice", "core", &["Iter", "from_raw_parts_mut", "from_ref"]),
     ("str", "core", &["SplitWhitespace", "from_utf8"]),
@@ -250,6 +250,9 @@ pub const MEMORY: &[(&str, &[&str])] = &[
 /// Words of clauses that say which reference it is whose items change: only proofs of callers need them, as rustc says it by
 /// lifetimes.
 pub const OF_PROOFS: &[&str] = &["cells.marks", "cells.name", "ghost_name", "names_of", "right_of", "𝓛"];
+
+/// How a condition begins that says of a closure alone where it may be called: no `unsafe` rests on that, as a closure may panic.
+pub const OF_CLOSURES: &[&str] = &["CallableOnEachMut ", "InAnyOrder (λ items. CallableOnEachMut "];
 
 /// A word of a condition that the docs of a source don't tell, and what is said of it.
 pub const CONDITIONS: &[(&str, &str)] = &[

@@ -4,7 +4,6 @@
 mod axes_mut;
 mod axis_iter;
 mod dimensionality;
-mod each;
 mod elems;
 mod iter;
 mod lines;
@@ -102,55 +101,6 @@ impl<T, D: Lengths> PartMut<'_, T, D> {
     /// ```
     pub fn rows_mut(&mut self) -> PartRows<'_, T, D> {
         self.view_mut().into_row_parts()
-    }
-
-    /// Writes a copy of an item at each index. ndarray's `fill`. Not proved.
-    ///
-    /// # Panics
-    ///
-    /// Where an allocation fails; there is none where the type fixes the count of axes or there are at most 4.
-    ///
-    /// ```
-    /// use ndarray_layout::{Ix2, LayoutError, OwnedArray, s};
-    ///
-    /// # fn main() -> Result<(), LayoutError> {
-    /// let mut table = OwnedArray::from_shape_vec(Ix2(2, 2).into(), vec!["a".to_string(); 4])?;
-    /// let [mut left, mut right] = table.multi_sliced_mut([s![.., 0], s![.., 1]])?;
-    /// left.fill("b".to_string());
-    /// right.fill("c".to_string());
-    /// assert_eq!(table.stored(), ["b", "c", "b", "c"]);
-    /// # Ok(())
-    /// # }
-    /// ```
-    pub fn fill(&mut self, item: T)
-    where
-        T: Clone,
-    {
-        self.for_each_item(move |place| *place = item.clone());
-    }
-
-    /// Calls a function at each item, in an order in which those that lie near to one another come one after another. ndarray's
-    /// `map_inplace`. Not proved.
-    ///
-    /// # Panics
-    ///
-    /// As `fill`.
-    ///
-    /// ```
-    /// use ndarray_layout::{ArrayViewMut, Ix2, LayoutError, s};
-    ///
-    /// # fn main() -> Result<(), LayoutError> {
-    /// let mut items = [1, 2, 3, 4];
-    /// let mut table = ArrayViewMut::from_shape(Ix2(2, 2).into(), &mut items)?;
-    /// let (mut row, mut item) = table.multi_sliced_mut((s![0, ..], s![1, 1]))?;
-    /// row.map_in_place(|item| *item *= 10);
-    /// item.map_in_place(|item| *item += 1);
-    /// assert_eq!(items, [10, 20, 3, 5]);
-    /// # Ok(())
-    /// # }
-    /// ```
-    pub fn map_in_place<F: FnMut(&mut T)>(&mut self, f: F) {
-        self.for_each_item(f);
     }
 }
 

@@ -8,7 +8,7 @@ ghost use Rattle.ndarray_layout.specs.ShapeBuilder.{strides_list};
 ghost use Rattle.ndarray_layout.specs.Signed.{all_signed};
 ghost use Rattle.ndarray_layout.specs.Span.{low_span};
 ghost use Rattle.ndarray_layout.specs.View.{view_of};
-ghost use Rattle.nd_owned.specs.ArrayViewMut.{HasItemsOf};
+ghost use Rattle.nd_owned.specs.HasItems.{HasItemsOf};
 ghost use Rattle.nd_owned.specs.Lender.{array_of};
 ghost use Rattle.nd_owned.specs.Mapped.{row_major_items};
 ghost use Rattle.nd_owned.specs.Owned.{IsOwned, item_at};

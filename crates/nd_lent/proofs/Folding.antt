@@ -7,6 +7,7 @@ use Rattle.std.specs.List.{FoldsTo}
 use Rattle.std.proofs.lemmas.List.{append-nil, drop_more, get_or-map, length-map, map-append, take_more}
 use Rattle.nd_lent.specs.Lending.{lends}
 use Rattle.nd_lent.specs.private.Folded.{HasCalled, HasFolded}
+pub use Rattle.nd_parts.proofs.laws.RunsTo.{then_folded}
 
 abbrev pub shown : {T : Type 0} → List (Bor T) → List (Option T)
 shown lent = map (λ item. Some item.now) lent
@@ -26,11 +27,6 @@ then_lent : {T : Type 0} (s t : List (Option T)) (lent others : List (Bor T)) �
     → Yields lends (shown lent ++ s) (lent ++ others) t
 then_lent s t [] others then = then
 then_lent s t (item ∷ lent) others then = (shown lent ++ s, refl, then_lent s t lent others then)
-
-pub then_folded : {P A : Type 0} (R : P → A → P → Type 0) (p q r : P) (xs ys : List A) → FoldsTo R p xs q → FoldsTo R q ys r
-    → FoldsTo R p (xs ++ ys) r
-then_folded R p q r [] ys first then = subst (λ p. FoldsTo R p ys r) (sym first) then
-then_folded R p q r (x ∷ xs) ys first then = (first.0, first.1, then_folded R first.0 q r xs ys first.2 then)
 
 -- the item of a number
 pub record IsItemAt {T : Type 0} (items : List (Option T)) (i : ℕ) (x : T) : Type 0 where

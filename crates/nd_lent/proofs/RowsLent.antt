@@ -9,7 +9,7 @@ use Rattle.std.specs.Prelude.{nat_le}
 use Rattle.std.proofs.lemmas.Bool.{leb-true, or_cases}
 use Rattle.std.proofs.lemmas.Bool.Decides.{Decides-int_eq}
 use Rattle.std.proofs.lemmas.List.{get_or-map, get_or_past, length-append, length-map, map-append}
-use Rattle.std.proofs.lemmas.List.Elements.{All-cons, All-head, All-nil, All-tail, All-weaker}
+use Rattle.std.proofs.lemmas.List.Elements.{All-cons, All-head, All-nil, All-tail}
 use Rattle.std.proofs.lemmas.List.Sorted.{All-permutation, IsPermutation-sym, length_permutation}
 use Rattle.std.proofs.lemmas.Option.{slice_get-get_or}
 use Rattle.ndarray_layout.specs.declared.Order.{Order}
@@ -17,41 +17,15 @@ use Rattle.ndarray_layout.specs.declared.Row.{Row}
 use Rattle.ndarray_layout.specs.Bounds.{IsInBounds}
 use Rattle.ndarray_layout.specs.Rows.{row_places, rows_places}
 use Rattle.ndarray_layout.specs.View.{View, IsView, LiesWithin, view_places}
-use Rattle.ndarray_layout.proofs.laws.NonzeroSize.{size_le_nonzero_size}
 use Rattle.ndarray_layout.proofs.laws.Rows.{All-rows_places, get_or-row_places, length-row_places, no_step, places_fit}
-use Rattle.ndarray_layout.proofs.laws.View.{length-view_places, places_lie_within}
+use Rattle.ndarray_layout.proofs.laws.View.{places_lie_within}
 use Rattle.nd_lent.specs.LentRow.{HasRow, is_contiguous, row_items, row_of, rows_items}
 use Rattle.nd_parts.specs.Items.{item_at_place}
+use Rattle.nd_parts.proofs.laws.RowLens.{short_rows}
 use Rattle.nd_lent.proofs.laws.RowItems.{begins, coordinate_in_bounds, neighbours_within, read_neighbours}
 
 -- ---- rows whose places are those of a view, in some order
--- none is longer than all of them together
-no_longer : (rows : List Row) → All (λ row. row.len ≤ length (rows_places rows)) rows
-no_longer [] = All-nil (λ row. row.len ≤ length (rows_places []))
-no_longer (row ∷ rows) =
-    let first = row_places row.start row.stride row.len in
-    let all = length (rows_places (row ∷ rows)) in
-    let count : all ≡ row.len + length (rows_places rows) =
-    length-append first (rows_places rows)
-    ∙ ap (λ n. n + length (rows_places rows)) (length-row_places row.start row.stride row.len) in
-    All-cons (λ row. row.len ≤ all) row rows (omega (arith, count))
-    (All-weaker (λ row. row.len ≤ length (rows_places rows)) (λ row. row.len ≤ all) (λ row below. omega (arith, count, below)) rows
-    (no_longer rows))
-
 module _ (order : Order) (view : View) (rows : List Row) (moved : IsPermutation (rows_places rows) (view_places order view)) where
-  short_rows : IsView view → All (λ row. row.len < 2 ^ 63) rows
-  short_rows v =
-      let few : length (rows_places rows) < 2 ^ 63 =
-      omega (
-        arith,
-        length_permutation (rows_places rows) (view_places order view) moved,
-        length-view_places order view,
-        size_le_nonzero_size view.shape,
-        v.valid.size_fits,
-      ) in
-      All-weaker (λ row. row.len ≤ length (rows_places rows)) (λ row. row.len < 2 ^ 63) (λ row below. omega (arith, few, below)) rows
-      (no_longer rows)
-
   back : IsPermutation (view_places order view) (rows_places rows)
   back = IsPermutation-sym (rows_places rows) (view_places order view) moved
 
@@ -65,7 +39,7 @@ module _ (order : Order) (view : View) (rows : List Row) (moved : IsPermutation 
       (All-permutation (IsInBounds (2 ^ 63)) (view_places order view) (rows_places rows) back (places_fit order v)) in
       λ k d under. record {
         some = some k d under;
-        short = short_rows v k d under;
+        short = short_rows order view rows (sym (length_permutation (rows_places rows) (view_places order view) moved)) v k d under;
         within = lie k d under;
         fit = fit k d under;
       }

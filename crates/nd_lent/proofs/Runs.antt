@@ -12,41 +12,13 @@ use Rattle.ndarray_layout.specs.declared.Order.TheVariants.{RowMajor}
 use Rattle.ndarray_layout.specs.Indices.{is_index}
 use Rattle.ndarray_layout.specs.View.{place_at, view_places}
 use Rattle.nd_lent.specs.AnyOrder.{RunsInSomeOrder}
-use Rattle.nd_lent.specs.ArrayViewMut.{HasItemsOf, KeepsSpare}
+use Rattle.nd_parts.specs.HasItems.{HasItemsOf, KeepsSpare}
 use Rattle.nd_lent.specs.Mapped.{Makes, gives, RunsOver}
 use Rattle.nd_parts.specs.Items.{ArrayValue, item_at, item_at_place}
 use Rattle.nd_lent.specs.Written.{HasRun}
 use Rattle.nd_lent.proofs.Sets.{All-indices, AreIndices, has_items, places_moved}
+pub use Rattle.nd_parts.proofs.laws.RunsTo.{acted, callable_at_first, callable_at_others}
 use Rattle.nd_lent.proofs.laws.IndexItems.{items_at}
-
--- ---- what calls make that act as a function does
-acted : {F X Y : Type 0} (call : F → X → Y → F → Type 0) {f : F} (h : X → Y)
-    → ((x : X) (y : Y) (f' : F) → call f x y f' → (f' ≡ f) × (y ≡ h x))
-    → (given : List (Option X)) (made : List (Option Y)) (p last : F) → p ≡ f → length given ≡ length made
-    → FoldsTo (Makes call) p (zip given made) last → made ≡ map (option_map h) given
-acted call h acts [] [] p last same count calls = refl
-acted call h acts [] (y ∷ made) p last same count calls = absurd (omega arith)
-acted call h acts (x ∷ given) [] p last same count calls = absurd (omega arith)
-acted call h acts (None ∷ given) (y ∷ made) p last same count calls = absurd calls.1
-acted call h acts (Some x ∷ given) (None ∷ made) p last same count calls = absurd calls.1
-acted call h acts (Some x ∷ given) (Some y ∷ made) p last same count (next, called, more) =
-    let this = acts x y next (subst (λ q. call q x y next) same called) in
-    let rest = acted call h acts given made next last this.0 (omega arith) more in
-    ap (λ item. item ∷ made) (ap Some this.1) ∙ ap (λ items. Some (h x) ∷ items) rest
-
--- ---- a closure that may be called at each item in turn
-module _ {F T : Type 0} {R : F → T → F → Type 0} {Q : F → T → Type 0} {items others : List (Option T)} {f : F} {x : T}
-    (first : items ≡ Some x ∷ others)
-    (callable : CallableAtEachTurn gives R Q items f) where
-  -- may be at the first
-  pub callable_at_first : Q f x
-  callable_at_first = callable.at [] items f x others refl refl first
-
-  -- and after the call at it at each of the others
-  pub callable_at_others : (q : F) → R f x q → CallableAtEachTurn gives R Q others q
-  callable_at_others q called = record {
-    at = λ xs t r y u yields calls step. callable.at (x ∷ xs) t r y u (others, first, yields) (q, called, calls) step;
-  }
 
 -- ---- all places of an array, in some order of its indices
 abbrev pub changed : {T : Type 0} → ArrayValue T → List T → ArrayValue T

@@ -16,13 +16,11 @@ use Rattle.ndarray_layout.specs.Indices.{indices_in, is_index}
 use Rattle.ndarray_layout.specs.View.{View, LiesWithin, place_at, view_places}
 use Rattle.ndarray_layout.proofs.laws.DistinctPlaces.{AllPairs-view_places}
 use Rattle.ndarray_layout.proofs.laws.Indices.{All-indices_in, Contains-indices_in}
-use Rattle.nd_lent.specs.ArrayViewMut.{HasItemsOf}
+use Rattle.nd_parts.specs.HasItems.{HasItemsOf}
 use Rattle.nd_parts.specs.Items.{ArrayValue, IsOwned, item_at, item_at_place}
 use Rattle.nd_lent.specs.Written.{HasSet}
 use Rattle.nd_lent.proofs.Permuted.{distinct_permuted}
-
-abbrev pub Distinct : List ℤ → Type 0
-Distinct places = AllPairs (λ one other. one ≢ other) places
+pub use Rattle.nd_parts.proofs.laws.RunsTo.{Distinct}
 
 -- ---- what stands at an index
 -- what two functions make of a list is the same at each of its items

@@ -1,15 +1,15 @@
 pub mod FirstItems
 pub mod Folds
-pub mod IndexItems
 pub mod ItemPlaces
 pub mod MovedItems
 pub mod OwnedViews
 pub mod PartItems
 pub mod PartsWritten
-pub mod RowItems
 pub mod SlicePlaces
 pub mod StepItems
 pub mod SwappedItems
 pub mod Written
 pub use Rattle.nd_parts.proofs.laws.Faults
+pub use Rattle.nd_parts.proofs.laws.IndexItems
 pub use Rattle.nd_parts.proofs.laws.Lists
+pub use Rattle.nd_parts.proofs.laws.RowItems

@@ -1,5 +1,5 @@
--- What holds of items in any order, or in some order, and calls at the items of all indices in some order of these.
-use Rattle.std.specs.Prelude.{◌≡◌, ℕ, pos, Option, Some, List, [], ◌∷◌, length, map, nat_eq, slice_index, refl}
+-- What holds of items in some order, and calls at the items of all indices in some order of these.
+use Rattle.std.specs.Prelude.{◌≡◌, ℕ, pos, Option, Some, List, [], ◌∷◌, length, map, nat_eq, refl}
 use Rattle.std.specs.List.Sorted.{IsPermutation}
 use Rattle.std.proofs.Common.{ap, eq-eqb, ◌∙◌}
 use Rattle.std.proofs.lemmas.Bool.{both_ways, ltb-true}
@@ -8,10 +8,6 @@ use Rattle.ndarray_layout.specs.declared.Order.TheVariants.{RowMajor}
 use Rattle.ndarray_layout.specs.Indices.{indices_in}
 use Rattle.nd_lent.specs.Mapped.{RunsOver, counts}
 use Rattle.nd_parts.specs.Items.{ArrayValue, item_at}
-
--- it holds of the items in any order
-abbrev pub InAnyOrder : {X : Type 0} → (List X → Type 0) → List X → Type 0
-InAnyOrder {X} P items = (others : List X) → IsPermutation others items → P others
 
 -- it holds of the items in some order
 abbrev pub InSomeOrder : {X : Type 0} → (List X → Type 0) → List X → Type 0
@@ -38,8 +34,3 @@ last_one_first = record {
 some_order_has_all : InSomeOrder {X = Option ℕ} (λ items. items ≡ []) (Some 7 ∷ []) → ⊥
 some_order_has_all (items, moved, none) =
     both_ways (nat_eq 1 0) refl (eq-eqb 1 0 (length_permutation items (Some 7 ∷ []) moved ∙ ap length none))
-
-any_order_is_both : InAnyOrder {X = ℕ} (λ items. items ≡ 7 ∷ 8 ∷ []) (7 ∷ 8 ∷ []) → ⊥
-any_order_is_both holds =
-    let other = holds (8 ∷ 7 ∷ []) (record { moves = (0, 1) ∷ []; below = (ltb-true 0 2 refl, ltb-true 1 2 refl, tt); is = refl }) in
-    both_ways (nat_eq 8 7) refl (eq-eqb 8 7 (ap (λ items. slice_index items 0) other))

@@ -3,7 +3,7 @@ use Rattle.std.specs.Prelude.{◌≡◌, ℕ, pos, true, Option, Some, List, [],
 use Rattle.std.proofs.Common.{◌≢◌, ap, eq-eqb}
 use Rattle.std.proofs.lemmas.Bool.{both_ways}
 use Rattle.ndarray_layout.specs.Indices.{is_index}
-use Rattle.nd_lent.specs.ArrayViewMut.{KeepsSpare}
+use Rattle.nd_parts.specs.HasItems.{KeepsSpare}
 use Rattle.nd_parts.specs.Items.{ArrayValue, item_at}
 
 -- an index of the array is that of no index of the part

@@ -1,5 +1,5 @@
 pub mod Folded
 pub mod Picked
-pub mod RunTo
 pub mod Searched
 pub mod Summed
+pub use Rattle.nd_parts.specs.private.RunTo

@@ -41,7 +41,7 @@ impl<T, D: Lengths> Drop for ArrayViewMut<'_, T, D> {
 
 impl<'a, T: Drop, D: Lengths> ArrayViewMut<'a, T, D> {
     ghost use Rattle.nd_parts.specs.Items.{item_at, with_item};
-    ghost use Rattle.nd_lent.specs.ArrayViewMut.{with_swapped};
+    ghost use Rattle.nd_parts.specs.HasItems.{with_swapped};
     ghost use Rattle.nd_lent.specs.Lender.{array_of};
 
     /// The view: the shape, the strides and the place of the first index. Each place of it has an item, and no two indices

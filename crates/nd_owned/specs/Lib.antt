@@ -3,7 +3,7 @@ pub mod Owned
 pub mod private
 pub use Rattle.nd_lent.specs.ArrayOfStep
 pub use Rattle.nd_lent.specs.ArrayView
-pub use Rattle.nd_lent.specs.ArrayViewMut
+pub use Rattle.nd_lent.specs.HasItems
 pub use Rattle.nd_lent.specs.Equal
 pub use Rattle.nd_lent.specs.Extremes
 pub use Rattle.nd_lent.specs.Items

@@ -1,7 +1,10 @@
 pub mod ItemWritten
 pub mod OwnPlaces
 pub mod OwnRows
+pub mod PartRuns
+pub mod RowsOwned
 pub mod SliceOfPart
 pub mod SlicesApart
+pub mod SwappedCells
 pub mod laws
 pub mod lending

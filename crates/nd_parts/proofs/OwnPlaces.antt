@@ -1,8 +1,8 @@
 -- Places that a right has to itself: the first may be lent, and then the right has the others.
-use Rattle.std.proofs.Common.{◌≡◌, ◌≢◌, ℕ, zero, suc, ◌+◌, ◌<◌, ◌≤◌, ℤ, pos, negsuc, Bool, true, false, List, [], ◌∷◌, Option, Some, None}
+use Rattle.std.proofs.Common.{◌≡◌, ◌≢◌, ℕ, zero, suc, ◌+◌, ◌≤◌, ℤ, pos, negsuc, Bool, true, false, List, [], ◌∷◌, Option, Some, None}
 use Rattle.std.proofs.Common.{◌&&◌, not, length, get_or, take, drop, map, refl, sym, ap, subst, ◌∙◌, arith}
 use Rattle.std.specs.Borrow.{MutBor}
-use Rattle.std.specs.List.{All, AllPairs, IsItemAtMut}
+use Rattle.std.specs.List.{IsItemAtMut}
 use Rattle.std.specs.Prelude.{IsTrue, MatchOption}
 use Rattle.std.proofs.lemmas.Bool.{false≢true}
 use Rattle.std.proofs.lemmas.List.Elements.{All-head, All-map, All-tail, All-weaker}
@@ -31,7 +31,7 @@ without_none [] = refl
 without_none (m ∷ marks) = ap (λ mine. mine ∷ without (span_of 0 0 marks) marks) (as_it_was m) ∙ ap (λ ms. m ∷ ms) (without_none marks)
 
 -- another place keeps its mark
-left_elsewhere : (place : ℕ) (marks : List Bool) (k : ℕ) → k ≢ place
+pub left_elsewhere : (place : ℕ) (marks : List Bool) (k : ℕ) → k ≢ place
     → get_or (without (span_of place 1 marks) marks) k false ≡ get_or marks k false
 left_elsewhere place [] k other = ap (λ ms. get_or ms k false) (nothing place)
   where

@@ -1,7 +1,11 @@
 pub mod Faults
 pub mod FlatItems
+pub mod IndexItems
 pub mod Lists
 pub mod Marks
 pub mod Neighbours
 pub mod PermutedItems
 pub mod PutBack
+pub mod RowItems
+pub mod RowLens
+pub mod RunsTo

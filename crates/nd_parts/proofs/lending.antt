@@ -1,3 +1,4 @@
+pub mod CellLends
 pub mod Crosses
 pub mod Handed
 pub mod Held

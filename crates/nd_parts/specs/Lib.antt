@@ -1,9 +1,13 @@
+pub mod AnyOrder
 pub mod ArrayOfStep
 pub mod Cells
+pub mod HasItems
 pub mod Items
 pub mod ItemsLeft
 pub mod Lending
+pub mod LendingCells
 pub mod Lent
+pub mod Mapped
 pub mod Own
 pub mod Part
 pub mod Right
@@ -11,3 +15,5 @@ pub mod Rights
 pub mod RowsLeft
 pub mod Slices
 pub mod Slot
+pub mod Written
+pub mod private

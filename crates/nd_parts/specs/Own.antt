@@ -1,5 +1,5 @@
 -- Places that a right has to itself: those that are left to be lent.
-use Rattle.std.specs.Prelude.{◌≡◌, ◌≢◌, ℕ, ◌≤◌, ℤ, pos, Bool, true, false, List, [], ◌∷◌, drop, length, refl}
+use Rattle.std.specs.Prelude.{◌≡◌, ◌≢◌, ℕ, ◌≤◌, ℤ, pos, Bool, true, List, [], ◌∷◌, drop, length, refl}
 use Rattle.std.specs.List.{All, AllPairs}
 use Rattle.std.proofs.Props.{props}
 use Rattle.std.proofs.lemmas.Bool.{ltb-true}

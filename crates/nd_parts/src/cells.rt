@@ -10,13 +10,16 @@ ghost use Rattle.nd_parts.specs.Part.{IsPart};
 ghost use Rattle.nd_parts.specs.Cells.{are_within, chosen_of, holds_cells, shows_cells, span_of, without, written_at};
 
 mod rest;
+mod swapping;
+mod taken;
 mod whole;
 
 use crate::part::PartMut;
 use ndarray_layout::{Lengths, Strided};
-pub use rest::{Rest, Taken};
+pub use rest::Rest;
 use std::marker::{Model, PhantomData, Send, Sync};
 use std::slice::from_raw_parts_mut;
+pub use taken::Taken;
 pub use whole::Whole;
 
 /// The right to read and write some elements of a slice, at the price of a pointer: those that have a mark. A proof knows all elements
@@ -43,6 +46,8 @@ unsafe impl<T: Send> Send for Cells<'_, T> {}
 unsafe impl<T: Sync> Sync for Cells<'_, T> {}
 
 impl<'a, T> Cells<'a, T> {
+    ghost use Rattle.nd_parts.specs.LendingCells.{LendsCell};
+
     /// The element at a place, counted in elements from the first of the slice, to be read. The caller ensures that it has a mark.
     ///
     /// Of 7 8 9, place 1 is 8. The project's own.
@@ -51,6 +56,17 @@ impl<'a, T> Cells<'a, T> {
         ensures { slice_get self.now.items place ≡ Some result.now }
     {
         unsafe { &*self.first.add(place) }
+    }
+
+    /// The element at a place, counted in elements from the first of the slice, to be written. The caller ensures that it has a mark.
+    ///
+    /// Of 7 8 9, place 1 is 8. The project's own.
+    pub(crate) fn item_mut(&mut self, place: usize) -> &mut T
+        requires { IsTrue (get_or self.old.marks place false) }
+        ensures* writes_back { sem 𝓛 (LendsCell T.row self.entry place result) }
+        ensures value { (slice_get self.old.items place ≡ Some result.now) × (length self.old.items ≡ length self.old.marks) }
+    {
+        unsafe { &mut *self.first.add(place) }
     }
 
     /// The right to some of the elements, for as long as the whole is lent; the right to the others stays. The caller ensures that the

@@ -15,10 +15,12 @@ ghost use Rattle.nd_parts.specs.Part.{IsPart, IsPart-prop};
 mod axes;
 mod items;
 mod making;
+mod mapping;
 mod reading;
 mod rows;
 mod slices;
 mod steps;
+mod writing;
 
 use crate::cells::Cells;
 pub use items::PartItems;

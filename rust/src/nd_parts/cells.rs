@@ -3,6 +3,9 @@
 
 #![allow(unsafe_code, reason = "proved: a comment says by which clauses")]
 
+mod swapping;
+mod taken;
+
 use crate::nd_parts::part::PartMut;
 use crate::ndarray_layout::{Lengths, Strided};
 use core::marker::PhantomData;
@@ -46,6 +49,30 @@ impl<'a, T> Cells<'a, T> {
         // no other `Cells` has its mark (`all` of `take_part`). While the result is in use this one is borrowed, so
         // nothing writes the element.
         unsafe { &*self.first.add(place) }
+    }
+
+    /// The element at a place, counted in elements from the first of the slice, to be written.
+    ///
+    /// Of 7 8 9, place 1 is 8. The project's own.
+    ///
+    /// # Conditions
+    ///
+    /// The caller ensures that it has a mark. Otherwise the behaviour is undefined.
+    ///
+    /// <details><summary>Contract (proved)</summary>
+    ///
+    /// ```text
+    /// requires IsTrue (get_or self.old.marks place false)
+    /// ensures value: (slice_get self.old.items place ≡ Some result.now) × (length self.old.items ≡ length self.old.marks)
+    /// ```
+    /// [How to read it](crate::contracts)
+    /// </details>
+    #[inline]
+    pub(in crate::nd_parts) fn item_mut(&mut self, place: usize) -> &mut T {
+        // SAFETY: the place has a mark, which the caller ensures; so it is one of the slice that was lent (`new`), and
+        // no other `Cells` has its mark (`all` of `take_part`). While the result is in use the part is borrowed, so
+        // nothing else reads or writes the element.
+        unsafe { &mut *self.first.add(place) }
     }
 
     /// The right to some of the elements, for as long as the whole is lent; the right to the others stays. Both may be

@@ -4,6 +4,8 @@
 mod making;
 mod reading;
 mod rows;
+mod mapping;
+mod writing;
 mod steps;
 mod axes;
 mod items;

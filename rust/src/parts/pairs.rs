@@ -1,11 +1,8 @@
-//! Writes of a part by the items of another array, and of two of its own items.
+//! Writes of a part by the items of another array.
 
-use crate::convenience::OUT_OF_MEMORY;
-use crate::nd_base::{Axis, ErrorKind, Ix1, Lengths, ShapeError, from_kind};
+use crate::nd_base::{ErrorKind, Ix1, Lengths, ShapeError, from_kind};
 use crate::nd_parts::PartMut;
-use crate::nd_shape::NdIndex;
 use crate::{ArrayView, LentRow};
-use core::mem;
 
 /// Calls a function at each item of a row and at that of another row of as many items.
 fn zip_row<T, U>(row: PartMut<'_, T, Ix1>, others: LentRow<'_, U>, f: &mut impl FnMut(&mut T, &U)) {
@@ -15,20 +12,6 @@ fn zip_row<T, U>(row: PartMut<'_, T, Ix1>, others: LentRow<'_, U>, f: &mut impl 
         (Ok(items), None) => items.iter_mut().zip(others).for_each(pair),
         (Err(row), _) => row.into_items().zip(others).for_each(pair),
     }
-}
-
-/// The coordinates of an index; `None` where it is no index of the shape.
-fn coordinates<D: Lengths, I: NdIndex<D>>(index: &I, dim: &D) -> Option<D> {
-    let mut strides = D::zeros(dim.ndim()).expect(OUT_OF_MEMORY);
-    let mut coordinates = D::zeros(dim.ndim()).expect(OUT_OF_MEMORY);
-    index.index_checked(dim, &strides)?;
-    for axis in 0..dim.ndim() {
-        // (where one axis has a stride of 1 and the others of 0, the offset is the coordinate)
-        strides[axis] = 1;
-        coordinates[axis] = index.index_checked(dim, &strides)?.unsigned_abs();
-        strides[axis] = 0;
-    }
-    Some(coordinates)
 }
 
 impl<T, D: Lengths> PartMut<'_, T, D> {
@@ -96,42 +79,5 @@ impl<T, D: Lengths> PartMut<'_, T, D> {
         T: Clone,
     {
         self.zip_mut_with(other, T::clone_from)
-    }
-
-    /// Swaps the items of two indices, and returns whether both are indices of the shape; else the part is unchanged. ndarray's
-    /// `swap`, which panics where one is no index. Not proved.
-    ///
-    /// Takes time for each pair of axes.
-    ///
-    /// # Panics
-    ///
-    /// As `view_mut`.
-    ///
-    /// ```
-    /// use ndarray_layout::*;
-    ///
-    /// let mut items = ["a", "b", "c", "d"];
-    /// let mut part = ArrayViewMut::from_shape(Ix2(2, 2).into(), &mut items)?.into_part();
-    /// assert!(part.swap(&(0, 1), &(1, 0)));
-    /// assert!(!part.swap(&(0, 0), &(0, 2)));
-    /// assert_eq!(items, ["a", "c", "b", "d"]);
-    /// # Ok::<(), LayoutError>(())
-    /// ```
-    #[must_use]
-    pub fn swap<I: NdIndex<D>, J: NdIndex<D>>(&mut self, index: &I, other: &J) -> bool {
-        let (Some(one), Some(other)) = (coordinates(index, self.dim()), coordinates(other, self.dim())) else {
-            return false;
-        };
-        let Some(axis) = (0..one.ndim()).find(|axis| one[*axis] != other[*axis]) else {
-            return true;
-        };
-        let (low, mut high) = if one[axis] < other[axis] { (one, other) } else { (other, one) };
-        let (mut below, mut above) = self.view_mut().split_at(Axis(axis), high[axis]).expect(OUT_OF_MEMORY);
-        high[axis] = 0;
-        match (below.get_mut(&low), above.get_mut(&high)) {
-            (Some(item), Some(other)) => mem::swap(item, other),
-            _ => unreachable!("two indices of the shape"),
-        }
-        true
     }
 }

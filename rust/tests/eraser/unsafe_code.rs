@@ -70,6 +70,10 @@ fn a_condition_that_keeps_it_sound_is_checked_where_others_see_the_call() {
     let private = line_of("nd_parts", &format!("impl<T> Other<T> {{ {} }}", call.replace("pub ", "")));
     assert!(private.contains("Otherwise the behaviour is undefined.") && !private.contains("assert!"), "{private}");
     assert!(line_of("upper", &format!("impl<T> PartMut<T> {{ {call} }}")).contains("unspecified values."));
+    let of_closure = call.replace("IsOwned n", "CallableOnEachMut F.FnMut items f");
+    assert!(!line_of("nd_parts", &format!("impl<T> Other<T> {{ {of_closure} }}")).contains("isn't checked"));
+    let of_both = call.replace("IsOwned n", "CallableOnEachMut F.FnMut items f × IsOwned n");
+    assert_eq!(line_of("nd_parts", &format!("impl<T> Other<T> {{ {of_both} }}")), due);
 }
 
 /// The files of Rust in a folder and in those in it, each with its place under the folder.

@@ -73,6 +73,23 @@ fn running_over_takes_no_memory_and_lending_again_a_view_of_many_axes() {
     });
 }
 
+#[test]
+fn each_item_is_filled_where_there_is_no_memory_for_another_view() -> Result<(), LayoutError> {
+    // (of five axes a copy takes two allocations, and none of fewer)
+    for (shape, allocations) in [(&[1, 1, 1, 3, 2][..], 2), (&[3, 2], 0)] {
+        for failing in 0..=allocations {
+            let mut numbers = NUMBERS;
+            let array = ArrayViewMut::from_shape(new_dim(shape)?.into(), &mut numbers)?;
+            let mut part = array.into_part().reversed_axes();
+            let ((), made) = failing_at(failing, || part.fill(9));
+            assert_eq!(made, allocations.min(failing + 1));
+            part.map_in_place(|item| *item += 1);
+            assert_eq!((&numbers[..6], &numbers[6..]), (&[10; 6][..], &NUMBERS[6..]));
+        }
+    }
+    Ok(())
+}
+
 /// Asserts that a view is that of five axes whose last one was inverted, over six items.
 fn assert_inverted(view: &Strided<IxDyn>) {
     let strides: Vec<isize> = view.strides().slice().iter().map(|stride| *stride as isize).collect();

@@ -99,6 +99,49 @@ fn each_item_of_random_parts_comes_once_in_row_major_order() {
     check_arrays!(items_come_once, 1_970_001);
 }
 
+/// Asserts that a closure is called at each item once, in row-major order.
+fn items_are_mapped<D: Lengths>(_: &mut Numbers, part: PartMut<'_, usize, D>, picked: &Picked) -> Vec<usize> {
+    let (mut part, mut met) = (part, Vec::new());
+    part.map_in_place(|item| {
+        *item = WRITTEN + met.len();
+        met.push(*item);
+    });
+    assert!(part.iter().eq(&met), "{picked:?}");
+    met
+}
+
+/// Asserts that a closure is called at each item once, in the order in which they lie.
+fn items_are_mapped_as_they_lie<D: Lengths>(
+    _: &mut Numbers,
+    part: PartMut<'_, usize, D>,
+    picked: &Picked,
+) -> Vec<usize> {
+    let (mut part, mut met) = (part, Vec::new());
+    part.map_in_place_nearest(|item| {
+        met.push(*item);
+        *item += WRITTEN;
+    });
+    let mut places = picked.places.clone();
+    places.sort_unstable();
+    assert_eq!(met, places, "{picked:?}");
+    picked.places.iter().map(|place| WRITTEN + place).collect()
+}
+
+/// Asserts that each item is overwritten, and no other one.
+fn items_are_filled<D: Lengths>(_: &mut Numbers, part: PartMut<'_, usize, D>, picked: &Picked) -> Vec<usize> {
+    let mut part = part;
+    part.fill(WRITTEN);
+    assert!(part.iter().all(|item| *item == WRITTEN), "{picked:?}");
+    vec![WRITTEN; picked.places.len()]
+}
+
+#[test]
+fn each_item_of_random_parts_is_mapped_once_or_filled() {
+    check_arrays!(items_are_mapped, 2_011_001);
+    check_arrays!(items_are_mapped_as_they_lie, 2_011_002);
+    check_arrays!(items_are_filled, 2_011_003);
+}
+
 /// Asserts that each item is read once, while all others are, and that the part is equal to the items that lie in order.
 fn items_are_read<D: Lengths>(_: &mut Numbers, part: PartMut<'_, usize, D>, picked: &Picked) -> Vec<usize> {
     let read = all_of(part.iter(), picked.places.len());

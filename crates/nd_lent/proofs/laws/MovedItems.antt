@@ -12,7 +12,7 @@ use Rattle.ndarray_layout.proofs.laws.Indices.{Contains-indices_in}
 use Rattle.ndarray_layout.proofs.laws.Lists.{Contains-map}
 use Rattle.nd_lent.proofs.SplitItems.{place_moved}
 use Rattle.nd_lent.proofs.laws.SlicePlaces.{listed}
-use Rattle.nd_lent.specs.ArrayViewMut.{HasItemsOf}
+use Rattle.nd_parts.specs.HasItems.{HasItemsOf}
 use Rattle.nd_lent.specs.SplitItems.{IsMoved}
 use Rattle.nd_parts.specs.Items.{item_at, item_at_place}
 

@@ -10,7 +10,7 @@ use Rattle.ndarray_layout.specs.Indices.{indices_in, is_index}
 use Rattle.ndarray_layout.specs.View.{View, place_at, view_places}
 use Rattle.ndarray_layout.proofs.laws.Indices.{Contains-indices_in}
 use Rattle.ndarray_layout.proofs.laws.Lists.{Contains-map}
-use Rattle.nd_lent.specs.ArrayViewMut.{HasItemsOf}
+use Rattle.nd_parts.specs.HasItems.{HasItemsOf}
 use Rattle.nd_parts.specs.Items.{item_at, item_at_place}
 use Rattle.nd_lent.specs.WrittenPart.{HasWrittenPart, IsOutside}
 use Rattle.nd_lent.specs.Written.{KeepsAllBut}

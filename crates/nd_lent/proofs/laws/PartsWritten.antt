@@ -16,7 +16,7 @@ use Rattle.ndarray_layout.specs.View.{View, IsView, place_at, view_places}
 use Rattle.ndarray_layout.proofs.laws.SplitView.{Descends-first_part_of, Descends-second_part_of, index_of_a_part}
 use Rattle.nd_lent.proofs.laws.PartItems.{part_written}
 use Rattle.nd_lent.proofs.laws.SlicePlaces.{listed}
-use Rattle.nd_lent.specs.ArrayViewMut.{HasItemsOf}
+use Rattle.nd_parts.specs.HasItems.{HasItemsOf}
 use Rattle.nd_lent.specs.Written.{KeepsAllBut}
 use Rattle.nd_parts.specs.Items.{item_at, item_at_place}
 

@@ -12,7 +12,7 @@ use Rattle.ndarray_layout.specs.Signed.{magnitude}
 use Rattle.ndarray_layout.specs.View.{place_at, view_places}
 use Rattle.ndarray_layout.proofs.laws.Indices.{Contains-indices_in}
 use Rattle.ndarray_layout.proofs.laws.Lists.{Contains-map}
-use Rattle.nd_lent.specs.ArrayViewMut.{KeepsSpare, with_swapped}
+use Rattle.nd_parts.specs.HasItems.{KeepsSpare, with_swapped}
 use Rattle.nd_parts.specs.Items.{ArrayValue, IsOwned, item_at, item_at_place}
 use Rattle.nd_parts.proofs.laws.Lists.{set_other, set_same}
 

@@ -6,7 +6,7 @@ ghost use Rattle.ndarray_layout.specs.declared.Fit.TheVariants.{Strict};
 ghost use Rattle.ndarray_layout.specs.Memory.{NeedsNoMemory};
 ghost use Rattle.ndarray_layout.specs.ShapeFault.{shape_fault};
 ghost use Rattle.ndarray_layout.specs.SliceFault.{argument_fault, out_count};
-ghost use Rattle.nd_lent.specs.ArrayViewMut.{HasItemsOf, KeepsSpare};
+ghost use Rattle.nd_lent.specs.HasItems.{HasItemsOf, KeepsSpare};
 ghost use Rattle.nd_lent.specs.Mapped.{ActsAsAtMut, CallableOnEachMut, RunsOver, part_of, row_major_items};
 ghost use Rattle.nd_lent.specs.Items.{IsOwned, item_at};
 

@@ -16,8 +16,8 @@ use denote.Struct.Declared as Declared
 use denote.Struct.Owning.{shape}
 use Rattle.nd_parts.specs.Slot.{holds_slot}
 use Rattle.nd_parts.specs.declared.cells.Cells.{Cells}
-use Rattle.nd_parts.specs.declared.cells.rest.Taken.{Taken}
-use Rattle.nd_parts.specs.contracts.cells.rest.Taken as T-type
+use Rattle.nd_parts.specs.declared.cells.taken.Taken.{Taken}
+use Rattle.nd_parts.specs.contracts.cells.taken.Taken as T-type
 use Rattle.nd_parts.proofs.lending.Held.{It, word}
 use denote.RawPtr.{Ptr}
 

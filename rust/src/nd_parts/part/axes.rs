@@ -111,7 +111,7 @@ impl<'a, T: Sized, D: Lengths> PartMut<'a, T, D> {
     }
 }
 
-impl<'a, T: Sized, D: Lengths + Copy> PartMut<'a, T, D> {
+impl<'a, T: Sized, D: Lengths + Clone> PartMut<'a, T, D> {
     /// The items of the coordinates from `starts` to `ends`, one of each for each axis: `Strided::crop`.
     ///
     /// From (1) to (3) of `[3]` over 7 8 9: 8 9; to (4) `None`. In place of ndarray's `slice_move` by ranges.

@@ -1,7 +1,7 @@
 -- The list has as many items as before, and so it is what the lent array leaves.
 use Rattle.std.proofs.Common.{◌≡◌, ◌++◌, length, take, drop, Some, ap, subst, sym, ◌∙◌}
 use Rattle.std.proofs.lemmas.List.{take_at}
-use Rattle.nd_owned.specs.ArrayViewMut.{HasItemsOf}
+use Rattle.nd_owned.specs.HasItems.{HasItemsOf}
 use Rattle.example_callers.proofs.lent.paint_owned.Goals as goal
 
 pub returns : goal.returns

@@ -8,7 +8,7 @@ use Rattle.ndarray_layout.specs.View.{View}
 use Rattle.std.specs.Option.{option_map}
 use Rattle.ndarray_layout.specs.declared.Fit.TheVariants.{Strict}
 use Rattle.ndarray_layout.specs.SliceFault.{argument_fault}
-use Rattle.nd_lent.specs.ArrayViewMut.{HasItemsOf, KeepsSpare}
+use Rattle.nd_lent.specs.HasItems.{HasItemsOf, KeepsSpare}
 use Rattle.nd_lent.specs.Mapped.{CallableOnEachMut, RunsOver, part_of, row_major_items}
 use Rattle.nd_lent.specs.Items.{item_at}
 use Rattle.nd_lent.proofs.laws.OwnedViews.{owned_descendant}

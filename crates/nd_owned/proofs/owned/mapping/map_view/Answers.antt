@@ -3,7 +3,7 @@ use Rattle.std.proofs.Common.{rules, ◌≡◌, List, subst}
 use Rattle.ndarray_layout.specs.View.{View}
 use Rattle.std.specs.Fn.{CalledAtMut}
 use Rattle.std.specs.Option.{option_map}
-use Rattle.nd_lent.specs.ArrayViewMut.{HasItemsOf}
+use Rattle.nd_lent.specs.HasItems.{HasItemsOf}
 use Rattle.nd_lent.specs.Mapped.{RunsOver, row_major_items}
 use Rattle.nd_lent.specs.Items.{item_at}
 use Rattle.nd_lent.specs.Items.{ArrayValue}

@@ -49,7 +49,7 @@ use Rattle.nd_parts.proofs.lending.HeldSlot.{Both, pair_word, ticket_made, both_
 use Rattle.nd_parts.proofs.lending.Lent.{lent}
 use Rattle.nd_parts.specs.Rights.{right_of}
 use Rattle.nd_parts.specs.Slot.{slot, related}
-use Rattle.nd_parts.specs.declared.cells.rest.Taken.{Taken}
+use Rattle.nd_parts.specs.declared.cells.taken.Taken.{Taken}
 use denote.RawPtr.{Ptr, block_ptr, null_ptr}
 
 module _ (Y Z : RattleType) where

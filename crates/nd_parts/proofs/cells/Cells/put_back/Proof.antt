@@ -43,7 +43,7 @@ use Rattle.nd_parts.specs.Right.{Right}
 use Rattle.nd_parts.specs.Rights.{right_of}
 use Rattle.nd_parts.specs.Slot.{holds_slot}
 use Rattle.nd_parts.specs.declared.cells.Cells.{Cells}
-use Rattle.nd_parts.specs.declared.cells.rest.Taken.{Taken}
+use Rattle.nd_parts.specs.declared.cells.taken.Taken.{Taken}
 use Rattle.nd_parts.specs.contracts.cells.Cells.put_back.Key.{name as #self}
 use Rattle.nd_parts.proofs.cells.Cells.put_back.Statement as stated
 use Rattle.nd_parts.proofs.cells.Cells.put_back.Code as code

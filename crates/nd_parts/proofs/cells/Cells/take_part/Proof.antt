@@ -1,11 +1,11 @@
 -- `take_part` hands out the cells that are chosen, and leaves the others. Assumes `Logic`.
-use mathlib.Core.Path.{◌≡◌, refl, sym, subst, ◌∙◌}
+use mathlib.Core.Path.{◌≡◌, refl, sym, subst}
 use Prim.Native.Nat.{ℕ}
 use mathlib.Core.Bool.{Bool}
 use mathlib.Core.List.{List, [], ◌∷◌}
 use lib.Dec.{T}
 use seplogic.Ra.Ura.{Ura}
-use mir.Syntax.{Fn, Dicts, named, a_type}
+use mir.Syntax.{Fn, named, a_type}
 use mir.MapTy.{inst_fn}
 use mir.Val.{Val, vptr}
 use base.Fraction.{full_share}

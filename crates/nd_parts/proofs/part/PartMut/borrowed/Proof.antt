@@ -29,7 +29,6 @@ use denote.Memory.{cell_at}
 use denote.Param.{param, layout, bounded}
 use denote.Param.Laws.{Laws, param_laws}
 use denote.RattleType.{RattleType, owns}
-use denote.RawPtr.{Ptr}
 use denote.Ref.{MutBor, MutRef, NamedLft, mut_vals, mut_Tells}
 use denote.Shadow.{pure_l, pure_i}
 use denote.Signature.{types_at, plain, mut_ref_to, named_lft}
@@ -48,7 +47,7 @@ use Rattle.nd_parts.specs.declared.cells.Cells.{Cells}
 use Rattle.nd_parts.specs.contracts.part.PartMut.borrowed.Key.{name as #self}
 use Rattle.nd_parts.proofs.part.PartMut.borrowed.Statement as stated
 use Rattle.nd_parts.proofs.part.PartMut.borrowed.Code as code
-use Rattle.nd_parts.proofs.lending.Held.{word, ptr_typed, word_typed}
+use Rattle.nd_parts.proofs.lending.Held.{ptr_typed, word_typed}
 use Rattle.nd_parts.proofs.lending.PartHeld.{Bound, Part, ItsPart, ItsView, part_word, part_had, part_made}
 use Rattle.nd_parts.proofs.lending.PartLends.{lends_all}
 use Rattle.nd_parts.proofs.lending.Passed.{both_hold, lone_is}

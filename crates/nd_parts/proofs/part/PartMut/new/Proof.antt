@@ -8,25 +8,22 @@ use seplogic.Ra.Ura.{Ura}
 use mir.Syntax.{Fn, Dicts, dcons, dnil, named, a_type}
 use mir.MapTy.{inst_fn}
 use mir.Val.{Val, has_ty, WT}
-use base.Logic.{SProp, ent, sep, emp, ex, via, fst∗, snd∗}
+use base.Logic.{SProp, ent, sep, emp, via, fst∗, snd∗}
 use base.Fml.{Lft, GName, Share, ftrue, flft, fobs, fbor}
 use prog.Wp.{Calls, Loops, WpFn, Tables}
 use types.Logic.{Logic, sem}
 use contract.Monad.{fact, fact_i, fact_use}
 use contract.Running.{tables, tables_of}
 use sound.WpLaws.{WpFn-mono}
-use types.Kit.{‵, raw, ◌⊛◌, some, given, later, ◌$◌, ◌∵◌, !, qed, by, move, keep, use0, use1, drop, split, split3, join, pick}
-use types.Kit.{learn, rewrite, fsplit, fsplit3, fjoin, feq_i, await, suffices, group, updating, show, now as at_once, done}
+use types.Kit.{‵, raw, ◌⊛◌, some, later, ◌$◌, ◌∵◌, !, qed, move, keep, use0, use1, drop, split, split3, join, pick}
+use types.Kit.{rewrite, fsplit, fsplit3, fjoin, await, suffices, group, done}
 use types.Part.{whole, sub, agg}
 use types.Run.{addr, of_opd, stop, fld, hop, from, and_then, no_more, returns, enter}
 use types.ByLocal.{alloc_all, pass_all, free_all, look_at, look_in_at, get, sets}
-use types.SemTy.{SemTy, Arr, cells, Body as Borrowed}
-use types.Mut.{open_ref}
-use types.Follow.{takes_part}
+use types.SemTy.{Body as Borrowed}
 use denote.Exit.{no}
 use denote.RattleType.{RattleType, owns}
 use denote.RawPtr.{Ptr, block_ptr}
-use denote.Memory.{mem}
 use denote.Array.{Array}
 use denote.Builtin.{SliceRefMutOf}
 use denote.Follow.{follows}
@@ -35,12 +32,10 @@ use denote.Param.{param, layout, bounded}
 use denote.Param.Laws.{Laws, param_laws}
 use denote.Laws.{Are, Ises, Typed, owns_show, showss}
 use denote.Ref.{MutBor, NamedLft}
-use denote.Shadow.{makes_shadow, pure_l, pure_i}
+use denote.Shadow.{pure_l, pure_i}
 use denote.Signature.{types_at, plain, mut_slice_of, named_lft}
-use denote.Slice.{MutSlice, Room, room, slice_val, mut_slice_vals, mut_slice_Tells}
+use denote.Slice.{MutSlice, room, slice_val, mut_slice_vals, mut_slice_Tells}
 use denote.Steps.{nothing, only}
-use denote.Struct.Struct.{Struct}
-use denote.Struct.Owning.{shape}
 use denote.Triple.Carry.{spared}
 use denote.Triple.Clauses.{Clauses, Ended, closing}
 use denote.Triple.Entry.{on_entry, alive}

@@ -5,7 +5,7 @@ use Rattle.std.proofs.Math.Nat.{not-suc-le-zero}
 use Rattle.std.proofs.lemmas.Bool.{both_ways}
 use Rattle.std.specs.List.{Contains}
 use Rattle.nd_parts.specs.Items.{item_at_place}
-use Rattle.nd_lent.specs.Mapped.{RunsOver}
+use Rattle.nd_parts.specs.Mapped.{RunsOver}
 
 -- at every other place is the same item in both lists, and none is past the end of one alone
 abbrev pub KeepsAllBut : {T : Type 0} → List ℤ → List T → List T → Type 0

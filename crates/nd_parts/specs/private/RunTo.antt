@@ -3,15 +3,22 @@ use Rattle.std.specs.Prelude.{◌≡◌, ℕ, ◌+◌, ℤ, Option, List, [], �
 use Rattle.std.proofs.Common.{eq-eqb}
 use Rattle.std.proofs.lemmas.Bool.{both_ways}
 use Rattle.std.specs.List.{FoldsTo}
+use Rattle.std.specs.List.Sorted.{IsPermutation}
 use Rattle.nd_parts.specs.Items.{item_at_place}
-use Rattle.nd_lent.specs.Mapped.{Makes}
-use Rattle.nd_lent.specs.Written.{KeepsAllBut}
+use Rattle.nd_parts.specs.Mapped.{Makes}
+use Rattle.nd_parts.specs.Written.{HasRun, KeepsAllBut}
 
 -- calls in turn made the items at the places of the given ones, and left the closure so
 pub record HasRunTo {F X Y : Type 0} (call : F → X → Y → F → Type 0) (f : F) (places : List ℤ) (given : List (Option X))
     (old new : List Y) (last : F) : Type 0 where
   pub calls : FoldsTo (Makes call) f (zip given (map (item_at_place new) places)) last
   pub others : KeepsAllBut places old new
+
+-- the same at each of these places once, in some order
+pub record HasRunAt {F X : Type 0} (call : F → X → X → F → Type 0) (f : F) (all : List ℤ) (old new : List X) : Type 0 where
+  pub places : List ℤ
+  pub each_once : IsPermutation places all
+  pub run : HasRun call f places (map (item_at_place old) places) old new
 
 -- examples: a call that adds what it counts, from 5 on
 abbrev counts : ℕ → ℕ → ℕ → ℕ → Type 0

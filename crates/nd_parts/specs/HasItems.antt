@@ -1,4 +1,4 @@
--- Items that are lent to be written, with a view by which each index has one of them to itself.
+-- What writes leave of an array of which each index has an item to itself: the items of its indices, and the others as they were.
 use Rattle.std.specs.Prelude.{◌≡◌, ℕ, pos, true, ◌&&◌, if◌then◌else◌, Option, Some, List, [], ◌∷◌, nat_eq, unwrap_or, refl}
 use Rattle.std.proofs.Common.{ap, eq-eqb}
 use Rattle.std.proofs.lemmas.Bool.{both_ways}
@@ -7,7 +7,7 @@ use Rattle.ndarray_layout.specs.declared.Order.TheVariants.{RowMajor}
 use Rattle.ndarray_layout.specs.Indices.{is_index}
 use Rattle.ndarray_layout.specs.Signed.{magnitude}
 use Rattle.ndarray_layout.specs.View.{place_at, view_places}
-use Rattle.nd_lent.specs.Written.{KeepsAllBut}
+use Rattle.nd_parts.specs.Written.{KeepsAllBut}
 use Rattle.nd_parts.specs.Items.{ArrayValue, item_at}
 
 -- the array with the items of two indices of the shape swapped

@@ -1,0 +1,2 @@
+pub mod OwnedRows
+pub mod RunTo
