@@ -7,7 +7,7 @@ use crate::docs::{Contract, indexes, is_called_for_its_result};
 use crate::errors;
 use crate::examples::Example;
 use crate::library::without_memory;
-use crate::names::{ATTRIBUTES, DERIVES, LEFT_OUT, OPEN, PRINTED, REFUSED, SEALED};
+use crate::names::{ATTRIBUTES, COPIED, DERIVES, LEFT_OUT, OPEN, PRINTED, REFUSED, SEALED};
 use crate::proofs;
 use crate::tokens::{Fault, Group, Kind, Token, Tree, begins_with, fault, length_of_generics, text_of};
 
@@ -281,7 +281,7 @@ impl<'a> Eraser<'a> {
             "derive" if self.prints_memory(&derived(group), &trees[at + 1..]) => {
                 return Err(fault(&group.open, "opens a derive that prints an allocator"));
             }
-            "derive" => self.derive(trees[0].first(), &without_printed(derived(group), &trees[at + 1..]))?,
+            "derive" => self.derive(trees[0].first(), &in_package(derived(group), &trees[at + 1..]))?,
             _ if ATTRIBUTES.contains(&name) => self.out.push_str(&text_of(&trees[..=at])),
             _ => return Err(fault(&group.open, &format!("opens an attribute that isn't known: {name}"))),
         }
@@ -510,8 +510,12 @@ fn derived<'a>(attribute: &Group<'a>) -> Vec<&'a str> {
     }
 }
 
-/// The names in a derive without `Debug` for a type of the list `PRINTED`.
-fn without_printed<'a>(names: Vec<&'a str>, item: &[Tree]) -> Vec<&'a str> {
-    let is_printed = matches!(item, [_, word, name, ..] if word.is("struct") && PRINTED.contains(&name.first().text));
-    names.into_iter().filter(|name| !is_printed || *name != "Debug").collect()
+/// The names in a derive, without `Debug` for a struct of the list `PRINTED`, and with `Clone` for one of `COPIED`.
+fn in_package<'a>(names: Vec<&'a str>, item: &[Tree]) -> Vec<&'a str> {
+    let name = match item {
+        [_, word, name, ..] if word.is("struct") => name.first().text,
+        _ => "",
+    };
+    let kept = names.into_iter().filter(|derived| *derived != "Debug" || !PRINTED.contains(&name));
+    kept.chain(COPIED.contains(&name).then_some("Clone")).collect()
 }

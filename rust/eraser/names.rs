@@ -210,6 +210,9 @@ pub const LEFT_OUT: &[(&str, &str, &[&str])] = &[
 pub const OPENED: &[&str] =
     &["ArrayView", "ArrayViewMut", "Indices", "Items", "Iter", "LentRow", "OwnedArray", "Strided"];
 
+/// Iterators that the package copies, as it does the view that they have: they derive `Clone`.
+pub const COPIED: &[&str] = &["StridedRows"];
+
 /// Iterators whose `fold` and `nth`, or `nth_back`, are more than calls of the `next` or `next_back` that is proved: the
 /// trait, the iterator, and the macro of `rust/src/arrays` that adds them.
 pub const FOLDED: &[(&str, &str, &str)] = &[

@@ -7,7 +7,7 @@ const SOURCES: &str = concat!(env!("CARGO_MANIFEST_DIR"), "/rust/src");
 
 /// Private modules of which nothing is re-exported.
 const PRIVATE: &[&str] = &[
-    "arrays/layout",
+    "arrays/column",
     "arrays/line",
     "arrays/line_mut",
     "arrays/pairs",

@@ -26,7 +26,7 @@ use Rattle.ndarray_layout.proofs.SlowestAxes.{IsSlowest-all, IsSlowest-next}
 
 -- ---- the places of two axes
 -- one place more comes at the end of a row
-row_from-more : (place stride : ℤ) (len : ℕ)
+pub row_from-more : (place stride : ℤ) (len : ℕ)
     → row_from place stride (len + 1) ≡ row_from place stride len ++ (place +ℤ (pos len *ℤ stride)) ∷ []
 row_from-more place stride len = map-range_with_len_more (λ n. place +ℤ (pos n *ℤ stride)) 0 len len (omega arith)
 

@@ -1,11 +1,11 @@
 //! The items of an array one after another, lent for as long as the data is.
 
-use super::layout::{Column, Inner, Run, Runs};
-use super::line::{fold_column, rfold_run};
+use super::line::{fold_column, fold_row, rfold_row};
+use crate::LentRow;
 use crate::convenience::OUT_OF_MEMORY;
 use crate::memory::FallibleVec;
-use crate::nd_base::Lengths;
-use crate::ndarray_layout::Strided;
+use crate::nd_base::{Lengths, Order};
+use crate::ndarray_layout::{Column, Row, Strided, StridedRows};
 use alloc::vec::Vec;
 use core::fmt;
 use core::iter::FusedIterator;
@@ -30,32 +30,32 @@ use core::iter::FusedIterator;
 /// ```
 pub struct ViewIter<'a, T, D: Lengths> {
     items: &'a [T],
-    /// What is left of the run that has begun.
-    run: Run,
-    /// The runs of the column that has begun.
+    /// What is left of the row that has begun.
+    row: Row,
+    /// The rows of the column that has begun.
     column: Column,
     /// What comes after them, where there is something. It is in a list of one, so that a loop keeps the rest of the iterator in
     /// registers.
     tail: Vec<Tail<D>>,
 }
 
-/// The columns of which no run has begun, and what is left of the last run.
+/// The columns of which no row has begun, and what is left of the last row.
 struct Tail<D: Lengths> {
-    runs: Option<Runs<D>>,
-    back: Run,
+    rows: Option<StridedRows<D>>,
+    back: Row,
 }
 
 /// Not proved.
 impl<D: Lengths> Clone for Tail<D> {
     fn clone(&self) -> Self {
-        Tail { runs: self.runs.clone(), back: self.back }
+        Tail { rows: self.rows.clone(), back: self.back }
     }
 }
 
 impl<D: Lengths> Tail<D> {
     /// How many places there are.
     fn len(&self) -> usize {
-        self.runs.as_ref().map_or(0, |runs| runs.len() * runs.run_len()) + self.back.len
+        self.rows.as_ref().map_or(0, |rows| rows.len() * rows.row_len()) + self.back.len
     }
 
     /// It in a list. Panics where an allocation fails.
@@ -69,59 +69,63 @@ impl<D: Lengths> Tail<D> {
 /// The column that comes next; none where there is none.
 #[inline(never)]
 fn next_column<D: Lengths>(tail: &mut Tail<D>) -> Column {
-    let column = tail.runs.as_mut().and_then(Runs::next_column);
-    column.unwrap_or_else(|| Column::of_run(core::mem::replace(&mut tail.back, Run::NONE)))
+    let column = tail.rows.as_mut().and_then(StridedRows::next_column);
+    column.unwrap_or_else(|| Column::of_row(core::mem::replace(&mut tail.back, Row::NONE)))
 }
 
 impl<'a, T, D: Lengths> ViewIter<'a, T, D> {
     /// The items at the places of a view. Panics where an allocation fails.
     #[inline]
     pub(crate) fn new(items: &'a [T], view: Strided<D>) -> Self {
-        let inner = Inner::of_most(view.lens(), view.steps());
-        if let Some(run) = Run::whole(&view, inner) {
-            return ViewIter { items, run, column: Column::NONE, tail: Vec::new() };
+        let mut rows = view.into_joined_rows(Order::RowMajor);
+        let mut column = rows.next_column().unwrap_or(Column::NONE);
+        if rows.len() > 0 {
+            let tail = Tail { rows: Some(rows), back: Row::NONE }.list();
+            return ViewIter { items, row: Row::NONE, column, tail };
         }
-        let mut runs = Runs::of(view, inner);
-        let column = runs.next_column().unwrap_or(Column::NONE);
-        let tail = match runs.len() {
-            0 => Vec::new(),
-            _ => Tail { runs: Some(runs), back: Run::NONE }.list(),
-        };
-        ViewIter { items, run: Run::NONE, column, tail }
+        let row = if column.count == 1 { column.pop_front() } else { None };
+        ViewIter { items, row: row.unwrap_or(Row::NONE), column, tail: Vec::new() }
     }
 
-    /// Leaves out what is left of the run that has begun, and so many items more, which are left, but those of the run at the
+    /// The items of a row.
+    #[inline]
+    pub(crate) fn of_row(row: LentRow<'a, T>) -> Self {
+        let LentRow { items, row } = row;
+        ViewIter { items, row, column: Column::NONE, tail: Vec::new() }
+    }
+
+    /// Leaves out what is left of the row that has begun, and so many items more, which are left, but those of the row at the
     /// front then. Returns how many of that are still to be left out.
     fn skip(&mut self, n: usize) -> usize {
-        self.run = Run::NONE;
+        self.row = Row::NONE;
         if n < self.column.len() {
             self.column.skip(n / self.column.first.len);
             return n % self.column.first.len;
         }
         let n = n - self.column.len();
         self.column = Column::NONE;
-        let Some(Tail { runs: Some(runs), .. }) = self.tail.first_mut() else {
+        let Some(Tail { rows: Some(rows), .. }) = self.tail.first_mut() else {
             return n;
         };
-        let skipped = (n / runs.run_len().max(1)).min(runs.len());
-        runs.skip_runs(skipped);
-        n - skipped * runs.run_len()
+        let skipped = (n / rows.row_len()).min(rows.len());
+        rows.advance(skipped);
+        n - skipped * rows.row_len()
     }
 
-    /// The last run of which none has come.
-    fn pop_run(&mut self) -> Option<Run> {
-        let runs = self.tail.first_mut().and_then(|tail| tail.runs.as_mut());
-        runs.and_then(Runs::next_back).or_else(|| self.column.pop_back())
+    /// The last row of which none has come.
+    fn pop_row(&mut self) -> Option<Row> {
+        let rows = self.tail.first_mut().and_then(|tail| tail.rows.as_mut());
+        rows.and_then(StridedRows::next_back).or_else(|| self.column.pop_back())
     }
 
-    /// The last run of which some are left, if it isn't the one that has begun at the front.
-    fn back(&mut self) -> Option<&mut Run> {
+    /// The last row of which some are left, if it isn't the one that has begun at the front.
+    fn back(&mut self) -> Option<&mut Row> {
         if self.tail.first().is_none_or(|tail| tail.back.len == 0) {
-            let run = self.pop_run()?;
+            let row = self.pop_row()?;
             if self.tail.is_empty() {
-                self.tail = Tail { runs: None, back: Run::NONE }.list();
+                self.tail = Tail { rows: None, back: Row::NONE }.list();
             }
-            self.tail.first_mut()?.back = run;
+            self.tail.first_mut()?.back = row;
         }
         self.tail.first_mut().map(|tail| &mut tail.back)
     }
@@ -133,21 +137,21 @@ impl<'a, T, D: Lengths> Iterator for ViewIter<'a, T, D> {
 
     #[inline]
     fn next(&mut self) -> Option<&'a T> {
-        if self.run.len == 0 {
+        if self.row.len == 0 {
             if self.column.count == 0 {
                 self.column = next_column(self.tail.first_mut()?);
             }
-            self.run = self.column.pop_front()?;
+            self.row = self.column.pop_front()?;
         }
-        let Run { start, stride, len } = self.run;
-        self.run = Run { start: start.wrapping_add_signed(stride), stride, len: len - 1 };
+        let Row { start, stride, len } = self.row;
+        self.row = Row { start: start.wrapping_add_signed(stride), stride, len: len - 1 };
         Some(&self.items[start])
     }
 
     #[inline]
     fn size_hint(&self) -> (usize, Option<usize>) {
         let after: usize = self.tail.iter().map(Tail::len).sum();
-        let left = self.run.len + self.column.len() + after;
+        let left = self.row.len + self.column.len() + after;
         (left, Some(left))
     }
 
@@ -163,29 +167,28 @@ impl<'a, T, D: Lengths> Iterator for ViewIter<'a, T, D> {
 
     fn nth(&mut self, n: usize) -> Option<&'a T> {
         let mut n = n;
-        if n >= self.run.len {
-            n = self.skip(n - self.run.len);
+        if n >= self.row.len {
+            n = self.skip(n - self.row.len);
             if self.column.count == 0 {
                 self.column = next_column(self.tail.first_mut()?);
             }
-            self.run = self.column.pop_front()?;
+            self.row = self.column.pop_front()?;
         }
-        let n = n.min(self.run.len);
-        self.run = Run { start: self.run.place(n), len: self.run.len - n, ..self.run };
+        let n = n.min(self.row.len);
+        self.row = Row { start: self.row.place(n), len: self.row.len - n, ..self.row };
         self.next()
     }
 
     #[inline]
     fn fold<B, F: FnMut(B, &'a T) -> B>(self, init: B, mut f: F) -> B {
-        let ViewIter { items, run, column, tail } = self;
-        let mut total = fold_column(items, Column::of_run(run), init, &mut f);
+        let ViewIter { items, row, column, tail } = self;
+        let mut total = fold_row(items, row, init, &mut f);
         total = fold_column(items, column, total, &mut f);
-        for Tail { runs, back } in tail {
-            let mut runs = runs;
-            while let Some(column) = runs.as_mut().and_then(Runs::next_column) {
+        for Tail { mut rows, back } in tail {
+            while let Some(column) = rows.as_mut().and_then(StridedRows::next_column) {
                 total = fold_column(items, column, total, &mut f);
             }
-            total = fold_column(items, Column::of_run(back), total, &mut f);
+            total = fold_row(items, back, total, &mut f);
         }
         total
     }
@@ -201,9 +204,9 @@ impl<'a, T, D: Lengths> DoubleEndedIterator for ViewIter<'a, T, D> {
         let mut n = n;
         loop {
             let Some(back) = self.back() else {
-                self.run.len = self.run.len.saturating_sub(n);
-                self.run.len = self.run.len.checked_sub(1)?;
-                return self.items.get(self.run.place(self.run.len));
+                self.row.len = self.row.len.saturating_sub(n);
+                self.row.len = self.row.len.checked_sub(1)?;
+                return self.items.get(self.row.place(self.row.len));
             };
             if n < back.len {
                 back.len -= n + 1;
@@ -211,29 +214,29 @@ impl<'a, T, D: Lengths> DoubleEndedIterator for ViewIter<'a, T, D> {
                 return self.items.get(place);
             }
             n -= back.len;
-            *back = Run::NONE;
-            if let Some(Tail { runs: Some(runs), .. }) = self.tail.first_mut() {
-                let skipped = (n / runs.run_len()).min(runs.len());
-                runs.skip_runs_back(skipped);
-                n -= skipped * runs.run_len();
+            *back = Row::NONE;
+            if let Some(Tail { rows: Some(rows), .. }) = self.tail.first_mut() {
+                let skipped = (n / rows.row_len()).min(rows.len());
+                rows.advance_back(skipped);
+                n -= skipped * rows.row_len();
             }
         }
     }
 
     #[inline]
     fn rfold<B, F: FnMut(B, &'a T) -> B>(self, init: B, mut f: F) -> B {
-        let ViewIter { items, run, column, tail } = self;
+        let ViewIter { items, row, mut column, tail } = self;
         let mut total = init;
-        for Tail { runs, back } in tail {
-            total = rfold_run(items, back, total, &mut f);
-            for run in runs.into_iter().flat_map(Iterator::rev) {
-                total = rfold_run(items, run, total, &mut f);
+        for Tail { rows, back } in tail {
+            total = rfold_row(items, back, total, &mut f);
+            for row in rows.into_iter().flat_map(Iterator::rev) {
+                total = rfold_row(items, row, total, &mut f);
             }
         }
-        for run in column.runs().rev() {
-            total = rfold_run(items, run, total, &mut f);
+        while let Some(row) = column.pop_back() {
+            total = rfold_row(items, row, total, &mut f);
         }
-        rfold_run(items, run, total, &mut f)
+        rfold_row(items, row, total, &mut f)
     }
 }
 

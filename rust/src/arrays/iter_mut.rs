@@ -34,7 +34,7 @@ use core::slice;
 /// # Ok::<(), LayoutError>(())
 /// ```
 pub struct IterMut<'a, T, D: Lengths> {
-    /// What is left of the run that has begun, where its items follow one another.
+    /// What is left of the row that has begun, where its items follow one another.
     stretch: slice::IterMut<'a, T>,
     /// All other items, where there are some. They are in a list of one, so that a loop keeps the rest of the iterator in
     /// registers.
@@ -43,22 +43,22 @@ pub struct IterMut<'a, T, D: Lengths> {
 
 /// The items that come after a stretch.
 enum Others<'a, T, D: Lengths> {
-    /// Run after run.
-    Runs(Left<'a, T, D>),
+    /// Row after row.
+    Rows(Left<'a, T, D>),
     /// An item of each line of a group, then the next of each.
     Woven(Woven<'a, T>),
     /// Those of lines that interleave.
     Part(PartIterMut<'a, T, D>),
 }
 
-/// Runs that are left, in this order.
+/// Rows that are left, in this order.
 struct Left<'a, T, D: Lengths> {
-    /// What is left of the run that has begun, where its items don't follow one another.
+    /// What is left of the row that has begun, where its items don't follow one another.
     front: LineMut<'a, T>,
     /// Its column, and those after it.
     band: Band<'a, T>,
     cut: Option<Cut<'a, T, D>>,
-    /// What is left of the last run.
+    /// What is left of the last row.
     back: LineMut<'a, T>,
 }
 
@@ -72,7 +72,7 @@ impl<'a, T, D: Lengths> Left<'a, T, D> {
         self.front.len() + self.band.len() + self.cut.as_ref().map_or(0, Cut::len) + self.back.len()
     }
 
-    /// The next run of which no item has come.
+    /// The next row of which no item has come.
     #[inline]
     fn begin(&mut self) -> Option<LineMut<'a, T>> {
         let mut piece = self.band.next();
@@ -139,7 +139,7 @@ impl<'a, T, D: Lengths> Others<'a, T, D> {
     /// How many items there are.
     fn len(&self) -> usize {
         match self {
-            Others::Runs(left) => left.len(),
+            Others::Rows(left) => left.len(),
             Others::Woven(woven) => woven.left,
             Others::Part(items) => items.len(),
         }
@@ -149,7 +149,7 @@ impl<'a, T, D: Lengths> Others<'a, T, D> {
     #[inline(never)]
     fn next(&mut self) -> (Option<&'a mut T>, slice::IterMut<'a, T>) {
         match self {
-            Others::Runs(left) => left.next(),
+            Others::Rows(left) => left.next(),
             Others::Woven(woven) => (woven.next(), [].iter_mut()),
             Others::Part(items) => (items.next(), [].iter_mut()),
         }
@@ -157,7 +157,7 @@ impl<'a, T, D: Lengths> Others<'a, T, D> {
 
     fn next_back(&mut self) -> Option<&'a mut T> {
         match self {
-            Others::Runs(left) => left.next_back(),
+            Others::Rows(left) => left.next_back(),
             Others::Woven(woven) => woven.next_back(),
             Others::Part(items) => items.next_back(),
         }
@@ -166,7 +166,7 @@ impl<'a, T, D: Lengths> Others<'a, T, D> {
     /// Leaves out so many items, or all.
     fn skip(&mut self, n: usize) {
         match self {
-            Others::Runs(left) => left.skip(n),
+            Others::Rows(left) => left.skip(n),
             Others::Woven(woven) => woven.skip(n),
             Others::Part(items) => items.by_ref().take(n).for_each(drop),
         }
@@ -290,7 +290,7 @@ impl<'a, T, D: Lengths> IterMut<'a, T, D> {
             },
             Cutting::Cut(cut) => Left::new(LineMut::empty(), Some(cut)),
             Cutting::Otherwise(view, items) => {
-                let others = match has_overlap(view.lens(), view.steps()) {
+                let others = match has_overlap(view.dim().slice(), view.strides().slice()) {
                     true => Others::Part(PartIterMut::new(PartMut::new(view, items))),
                     false => match Woven::new(view, items) {
                         Ok(woven) => Others::Woven(woven),
@@ -301,7 +301,7 @@ impl<'a, T, D: Lengths> IterMut<'a, T, D> {
                 return IterMut { stretch: [].iter_mut(), others: others.list() };
             }
         };
-        IterMut { stretch: [].iter_mut(), others: Others::Runs(left).list() }
+        IterMut { stretch: [].iter_mut(), others: Others::Rows(left).list() }
     }
 }
 
@@ -350,7 +350,7 @@ impl<'a, T, D: Lengths> Iterator for IterMut<'a, T, D> {
         let mut total = self.stretch.fold(init, &mut f);
         for others in self.others {
             total = match others {
-                Others::Runs(left) => left.fold(total, &mut f),
+                Others::Rows(left) => left.fold(total, &mut f),
                 Others::Woven(woven) => woven.fold(total, &mut f),
                 Others::Part(items) => items.fold(total, &mut f),
             };

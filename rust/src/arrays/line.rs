@@ -1,7 +1,6 @@
-//! Items at the places of columns of runs.
+//! Items at the places of columns of rows.
 
-use super::layout::{Column, Run};
-use crate::ndarray_layout::Row;
+use crate::ndarray_layout::{Column, Row};
 
 /// The place that is so many steps farther.
 #[inline]
@@ -9,10 +8,10 @@ pub(crate) fn moved(place: usize, steps: usize, step: isize) -> usize {
     place.wrapping_add_signed((steps as isize).wrapping_mul(step))
 }
 
-/// Folds the items of a column of runs.
+/// Folds the items of a column of rows.
 #[inline]
 pub(crate) fn fold_column<'a, T, B>(items: &'a [T], column: Column, init: B, f: &mut impl FnMut(B, &'a T) -> B) -> B {
-    let Column { first: Run { start, stride, len }, count, stride: step } = column;
+    let Column { first: Row { start, stride, len }, count, stride: step } = column;
     let (mut total, mut row) = (init, start);
     for _ in 0..count {
         if column.first.is_stretch() {
@@ -34,19 +33,18 @@ pub(crate) fn fold_column<'a, T, B>(items: &'a [T], column: Column, init: B, f: 
 /// Folds the items of a row.
 #[inline]
 pub(crate) fn fold_row<'a, T, B>(items: &'a [T], row: Row, init: B, f: &mut impl FnMut(B, &'a T) -> B) -> B {
-    let Row { start, stride, len } = row;
-    fold_column(items, Column::of_run(Run { start, stride, len }), init, f)
+    fold_column(items, Column::of_row(row), init, f)
 }
 
-/// Folds the items of a run from the last one on.
+/// Folds the items of a row from the last one on.
 #[inline]
-pub(crate) fn rfold_run<'a, T, B>(items: &'a [T], run: Run, init: B, f: &mut impl FnMut(B, &'a T) -> B) -> B {
-    if run.len > 0 && run.is_stretch() {
-        return items[run.start..run.start + run.len].iter().rfold(init, f);
+pub(crate) fn rfold_row<'a, T, B>(items: &'a [T], row: Row, init: B, f: &mut impl FnMut(B, &'a T) -> B) -> B {
+    if row.len > 0 && row.is_stretch() {
+        return items[row.start..row.start + row.len].iter().rfold(init, f);
     }
     let mut total = init;
-    for coordinate in (0..run.len).rev() {
-        total = f(total, &items[run.place(coordinate)]);
+    for coordinate in (0..row.len).rev() {
+        total = f(total, &items[row.place(coordinate)]);
     }
     total
 }

@@ -5,7 +5,7 @@ use crate::nd_base::{Ix1, new_ix1, unsigned};
 use crate::ndarray_layout::Strided;
 use core::slice;
 
-/// The items from the lowest place of a run to its highest one.
+/// The items from the lowest place of a row to its highest one.
 pub(crate) struct Piece<'a, T> {
     pub items: &'a mut [T],
     pub stride: isize,
@@ -22,7 +22,7 @@ impl<'a, T> Piece<'a, T> {
     }
 }
 
-/// The items of a run that are still to come.
+/// The items of a row that are still to come.
 pub(crate) struct LineMut<'a, T> {
     /// All from the lowest place to the highest one.
     items: slice::IterMut<'a, T>,

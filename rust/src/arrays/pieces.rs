@@ -1,26 +1,25 @@
-//! Items cut into the pieces of runs that don't interleave, in row-major order from both ends.
+//! Items cut into the pieces of rows that don't interleave, in row-major order from both ends.
 
-use super::layout::{Column, Inner, Run, Runs};
 use super::line_mut::{LineMut, Piece};
 use crate::ArrayViewMut;
 use crate::memory::FallibleVec;
 use crate::nd_base::{Axis, ErrorKind, LayoutError, Lengths, from_kind, signed};
-use crate::ndarray_layout::{Order, Strided};
+use crate::ndarray_layout::{Column, Order, Row, Strided, StridedRows};
 use alloc::vec::{self, Vec};
 use core::slice;
 
 /// The pieces that are still to come.
 pub(crate) enum Pieces<'a, T, D: Lengths> {
-    /// Each run is above the one before, so that the pieces are cut one by one.
+    /// Each row is above the one before, so that the pieces are cut one by one.
     Cut(Cut<'a, T, D>),
     /// They were cut before, from the lowest one on.
     Listed { lines: vec::IntoIter<&'a mut [T]>, stride: isize, len: usize },
 }
 
-/// Items of which those of runs are cut off at both ends. The places of the runs ascend.
+/// Items of which those of rows are cut off at both ends. The places of the rows ascend.
 pub(crate) struct Cut<'a, T, D: Lengths> {
     left: Left<'a, T>,
-    runs: Runs<D>,
+    rows: StridedRows<D>,
 }
 
 /// Items that are left in the middle, and the place of the first of them.
@@ -57,22 +56,34 @@ pub(crate) fn into_parts<'a, T, D: Lengths>(array: ArrayViewMut<'a, T, D>) -> (S
     (view, items)
 }
 
-/// How many items are from the lowest place of a run to its highest one.
+/// How far apart the lowest place of a row and its highest one are.
 #[inline]
-fn width(run: Run) -> usize {
-    if run.len == 0 { 0 } else { run.reach() + 1 }
+fn reach(row: Row) -> usize {
+    row.len.saturating_sub(1) * row.stride.unsigned_abs()
 }
 
-/// Whether each run is above the one before.
-fn ascend(lens: &[usize], strides: &[usize], inner: Inner) -> bool {
-    let mut below = inner.stride.unsigned_abs() * inner.len.saturating_sub(1);
-    for axis in (0..inner.outer).rev() {
-        if lens[axis] != 1 {
-            let stride = signed(strides[axis]);
-            if stride <= 0 || stride.unsigned_abs() <= below {
+/// The lowest place of a row.
+#[inline]
+fn low(row: Row) -> usize {
+    if row.stride < 0 { row.start - reach(row) } else { row.start }
+}
+
+/// How many items are from the lowest place of a row to its highest one.
+#[inline]
+fn width(row: Row) -> usize {
+    if row.len == 0 { 0 } else { reach(row) + 1 }
+}
+
+/// Whether each of a view's rows like this one is above the one before.
+fn ascend<D: Lengths>(view: &Strided<D>, row: Row) -> bool {
+    let (mut size, mut below) = (1, reach(row));
+    for axis in view.axes().rev().filter(|axis| axis.len != 1) {
+        size *= axis.len;
+        if size > row.len {
+            if axis.stride <= 0 || axis.stride.unsigned_abs() <= below {
                 return false;
             }
-            below += stride.unsigned_abs() * (lens[axis] - 1);
+            below += axis.stride.unsigned_abs() * (axis.len - 1);
         }
     }
     true
@@ -80,28 +91,29 @@ fn ascend(lens: &[usize], strides: &[usize], inner: Inner) -> bool {
 
 /// The axis along which places are nearest to one another, of those that have more than one coordinate.
 fn nearest_axis<D: Lengths>(view: &Strided<D>) -> Option<usize> {
-    let axes = (0..view.lens().len()).filter(|axis| view.lens()[*axis] > 1);
-    axes.min_by_key(|axis| signed(view.steps()[*axis]).unsigned_abs())
+    let axes = view.axes().filter(|axis| axis.len > 1);
+    axes.min_by_key(|axis| axis.stride.unsigned_abs()).map(|axis| axis.axis.index())
 }
 
 impl<'a, T, D: Lengths> Pieces<'a, T, D> {
     /// The rows along the last axis. Errors: `IncompatibleLayout` where rows interleave; out of memory where they don't ascend.
     pub fn rows(array: ArrayViewMut<'a, T, D>) -> Result<Self, LayoutError> {
         let (view, items) = into_parts(array);
-        let inner = Inner::of_last(view.lens(), view.steps());
-        if view.lens().contains(&0) || ascend(view.lens(), view.steps(), inner) {
-            return Ok(Pieces::Cut(Cut { left: Left { items, first: 0 }, runs: Runs::rows(view) }));
+        match view.rows(Order::RowMajor).next() {
+            Some(row) if !ascend(&view, row) => {
+                let lines = list(items, &view, view.dim().ndim() - 1)?.into_iter();
+                Ok(Pieces::Listed { lines, stride: row.stride, len: row.len })
+            }
+            _ => Ok(Pieces::Cut(Cut { left: Left { items, first: 0 }, rows: view.into_rows(Order::RowMajor) })),
         }
-        let lines = list(items, &view, view.lens().len() - 1)?.into_iter();
-        Ok(Pieces::Listed { lines, stride: inner.stride, len: inner.len })
     }
 }
 
-/// The items of an array by runs that are as long as may be.
+/// The items of an array by rows that are as long as may be.
 pub(crate) enum Cutting<'a, T, D: Lengths> {
-    /// One run.
+    /// One row.
     Whole(Piece<'a, T>),
-    /// Each run is above the one before.
+    /// Each row is above the one before.
     Cut(Cut<'a, T, D>),
     /// They aren't.
     Otherwise(Strided<D>, &'a mut [T]),
@@ -111,19 +123,20 @@ impl<'a, T, D: Lengths> Cutting<'a, T, D> {
     #[inline]
     pub fn new(array: ArrayViewMut<'a, T, D>) -> Self {
         let (view, items) = into_parts(array);
-        let inner = Inner::of_most(view.lens(), view.steps());
-        if let Some(run) = Run::whole(&view, inner) {
-            let items = items.get_mut(run.low()..).and_then(|items| items.get_mut(..width(run)));
-            return Cutting::Whole(Piece { items: items.unwrap_or_default(), stride: run.stride, len: run.len });
+        let mut rows = view.joined_rows(Order::RowMajor);
+        let row = rows.next().unwrap_or(Row { start: 0, stride: 1, len: 0 });
+        if rows.len() == 0 {
+            let items = items.get_mut(low(row)..).and_then(|items| items.get_mut(..width(row)));
+            return Cutting::Whole(Piece { items: items.unwrap_or_default(), stride: row.stride, len: row.len });
         }
-        if !ascend(view.lens(), view.steps(), inner) {
+        if !ascend(&view, row) {
             return Cutting::Otherwise(view, items);
         }
-        Cutting::Cut(Cut { left: Left { items, first: 0 }, runs: Runs::of(view, inner) })
+        Cutting::Cut(Cut { left: Left { items, first: 0 }, rows: view.into_joined_rows(Order::RowMajor) })
     }
 }
 
-/// The pieces of a column of runs.
+/// The pieces of a column of rows.
 pub(crate) struct Band<'a, T> {
     chunks: slice::ChunksMut<'a, T>,
     /// How many of the items of a chunk are the piece.
@@ -178,33 +191,33 @@ impl<'a, T, D: Lengths> Cut<'a, T, D> {
     /// How many items are left.
     #[inline]
     pub fn len(&self) -> usize {
-        self.runs.len() * self.runs.run_len()
+        self.rows.len() * self.rows.row_len()
     }
 
-    /// The next column of runs.
+    /// The pieces of the next column of rows.
     #[inline]
     pub fn next_band(&mut self) -> Option<Band<'a, T>> {
-        let Column { first, count, stride } = self.runs.next_column()?;
+        let Column { first, count, stride } = self.rows.next_column()?;
         let (width, step) = (width(first), stride.unsigned_abs());
-        let items = self.left.take_front(first.low(), (count - 1) * step + width).expect(SHARED_OR_PAST);
+        let items = self.left.take_front(low(first), (count - 1) * step + width).expect(SHARED_OR_PAST);
         let chunks = items.chunks_mut(if count == 1 { width } else { step });
         Some(Band { chunks, width, stride: first.stride, len: first.len })
     }
 
-    /// The next run.
+    /// The piece of the next row.
     #[inline]
     fn next(&mut self) -> Option<Piece<'a, T>> {
-        let run = self.runs.next()?;
-        let items = self.left.take_front(run.low(), width(run)).expect(SHARED_OR_PAST);
-        Some(Piece { items, stride: run.stride, len: run.len })
+        let row = self.rows.next()?;
+        let items = self.left.take_front(low(row), width(row)).expect(SHARED_OR_PAST);
+        Some(Piece { items, stride: row.stride, len: row.len })
     }
 
-    /// The last run.
+    /// The piece of the last row.
     #[inline]
     pub fn next_back(&mut self) -> Option<Piece<'a, T>> {
-        let run = self.runs.next_back()?;
-        let items = self.left.take_back(run.low(), width(run)).expect(SHARED_OR_PAST);
-        Some(Piece { items, stride: run.stride, len: run.len })
+        let row = self.rows.next_back()?;
+        let items = self.left.take_back(low(row), width(row)).expect(SHARED_OR_PAST);
+        Some(Piece { items, stride: row.stride, len: row.len })
     }
 }
 
@@ -227,7 +240,7 @@ pub(crate) fn nearest_lines<'a, T, D: Lengths>(
         return Ok(Lines { lines: Vec::new(), stride: 0, len: 0, beside: 0 });
     };
     let lines = list(items, &view, axis)?;
-    let (lens, stride) = (view.lens(), signed(view.steps()[axis]));
+    let (lens, stride) = (view.dim().slice(), signed(view.strides().slice()[axis]));
     Ok(Lines { lines, stride, len: lens[axis], beside: lens[axis + 1..].iter().product() })
 }
 
@@ -238,19 +251,19 @@ fn list<'a, T, D: Lengths>(
     view: &Strided<D>,
     axis: usize,
 ) -> Result<Vec<&'a mut [T]>, LayoutError> {
-    let (len, stride) = (view.lens()[axis], signed(view.steps()[axis]));
-    let run_from = |start| Run { start, stride, len };
+    let (len, stride) = (view.dim().slice()[axis], signed(view.strides().slice()[axis]));
+    let row_from = |start| Row { start, stride, len };
     let mut firsts = view.duplicate()?;
     firsts.collapse(Axis(axis), 0)?;
     let places = firsts.iter_places(Order::RowMajor);
     let mut lows = Vec::fallible_with_capacity(places.len())?;
-    lows.extend(places.enumerate().map(|(number, place)| (run_from(place).low(), number)));
+    lows.extend(places.enumerate().map(|(number, place)| (low(row_from(place)), number)));
     lows.sort_unstable();
     let mut lines: Vec<&'a mut [T]> = Vec::fallible_with_capacity(lows.len())?;
     lines.resize_with(lows.len(), Default::default);
     let mut left = Left { items, first: 0 };
-    for (low, number) in lows {
-        let taken = left.take_front(low, width(run_from(low)));
+    for (lowest, number) in lows {
+        let taken = left.take_front(lowest, width(row_from(lowest)));
         lines[number] = taken.ok_or(LayoutError::Shape(from_kind(ErrorKind::IncompatibleLayout)))?;
     }
     Ok(lines)
@@ -274,7 +287,7 @@ impl<'a, T, D: Lengths> Iterator for Pieces<'a, T, D> {
     fn size_hint(&self) -> (usize, Option<usize>) {
         match self {
             Pieces::Listed { lines, .. } => lines.size_hint(),
-            Pieces::Cut(Cut { runs, .. }) => runs.size_hint(),
+            Pieces::Cut(Cut { rows, .. }) => rows.size_hint(),
         }
     }
 }

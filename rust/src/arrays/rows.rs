@@ -1,9 +1,8 @@
 //! The rows of an array one after another, lent for as long as the data is, or to be written.
 
-use super::layout::Runs;
 use super::pieces::Pieces;
-use crate::nd_base::{Ix1, LayoutError, Lengths, new_ix1, unsigned};
-use crate::ndarray_layout::{Row, Strided};
+use crate::nd_base::{Ix1, LayoutError, Lengths, Order, new_ix1, unsigned};
+use crate::ndarray_layout::{Strided, StridedRows};
 use crate::{ArrayView, ArrayViewMut, LentRow};
 use core::fmt;
 use core::iter::FusedIterator;
@@ -24,12 +23,12 @@ use core::iter::FusedIterator;
 /// ```
 pub struct IntoRows<'a, T, D: Lengths> {
     items: &'a [T],
-    runs: Runs<D>,
+    rows: StridedRows<D>,
 }
 
 impl<'a, T, D: Lengths> IntoRows<'a, T, D> {
     pub(crate) fn new(items: &'a [T], view: Strided<D>) -> Self {
-        IntoRows { items, runs: Runs::rows(view) }
+        IntoRows { items, rows: view.into_rows(Order::RowMajor) }
     }
 }
 
@@ -65,7 +64,7 @@ macro_rules! rows {
         impl<'a, T, D: Lengths> Iterator for $name<'a, T, D> {
             type Item = $row;
 
-            #[inline]
+            #[inline(always)]
             fn next(&mut self) -> Option<$row> {
                 let $from = self.$inner.next()?;
                 let $rows = self;
@@ -80,7 +79,7 @@ macro_rules! rows {
 
         /// Not proved.
         impl<'a, T, D: Lengths> DoubleEndedIterator for $name<'a, T, D> {
-            #[inline]
+            #[inline(always)]
             fn next_back(&mut self) -> Option<$row> {
                 let $from = self.$inner.next_back()?;
                 let $rows = self;
@@ -103,10 +102,7 @@ macro_rules! rows {
     };
 }
 
-rows!(IntoRows, LentRow<'a, T>, runs, |rows, run| LentRow {
-    items: rows.items,
-    row: Row { start: run.start, stride: run.stride, len: run.len },
-});
+rows!(IntoRows, LentRow<'a, T>, rows, |rows, row| LentRow { items: rows.items, row });
 rows!(RowsMut, ArrayViewMut<'a, T, Ix1>, pieces, |_rows, piece| piece.into_array());
 
 impl<'a, T> LentRow<'a, T> {
@@ -146,6 +142,6 @@ impl<'a, T> IntoIterator for LentRow<'a, T> {
 
     #[inline]
     fn into_iter(self) -> Self::IntoIter {
-        self.into_array().into_iter()
+        super::ViewIter::of_row(self)
     }
 }

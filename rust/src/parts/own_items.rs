@@ -11,7 +11,7 @@ use alloc::vec::Vec;
 /// Not proved; what keeps the `unsafe` of the package sound stands on it, since a view may have been made by a call whose condition is
 /// broken.
 pub(crate) fn has_own_items<D: Lengths>(view: &Strided<D>, len: usize) -> bool {
-    let (shape, strides) = (view.dim.slice(), view.strides.slice());
+    let (shape, strides) = (view.dim().slice(), view.strides().slice());
     if shape.contains(&0) {
         return true;
     }
