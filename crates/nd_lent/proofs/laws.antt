@@ -5,6 +5,8 @@ pub mod MovedItems
 pub mod OwnedViews
 pub mod PartItems
 pub mod PartsWritten
+pub mod PlanesWritten
+pub mod PutBackItems
 pub mod SlicePlaces
 pub mod StepItems
 pub mod SwappedItems
