@@ -724,12 +724,12 @@ ND_INLINE const char *nd_header_version(void) {
 ND_INLINE const char *nd_status_message(int32_t status) {
     switch (status) {
     case ND_OK: return "Ok: the call succeeded";
-    case ND_INCOMPATIBLE_SHAPE: return "ShapeError/IncompatibleShape: incompatible shapes";
-    case ND_INCOMPATIBLE_LAYOUT: return "ShapeError/IncompatibleLayout: incompatible memory layout";
-    case ND_RANGE_LIMITED: return "ShapeError/RangeLimited: the shape does not fit in type limits";
-    case ND_OUT_OF_BOUNDS: return "ShapeError/OutOfBounds: out of bounds indexing";
-    case ND_UNSUPPORTED: return "ShapeError/Unsupported: unsupported operation";
-    case ND_OVERFLOW: return "ShapeError/Overflow: arithmetic overflow";
+    case ND_INCOMPATIBLE_SHAPE: return "IncompatibleShape: incompatible shapes";
+    case ND_INCOMPATIBLE_LAYOUT: return "IncompatibleLayout: incompatible memory layout";
+    case ND_RANGE_LIMITED: return "RangeLimited: the shape does not fit in type limits";
+    case ND_OUT_OF_BOUNDS: return "OutOfBounds: out of bounds indexing";
+    case ND_UNSUPPORTED: return "Unsupported: unsupported operation";
+    case ND_OVERFLOW: return "Overflow: arithmetic overflow";
     case ND_BAD_ARGUMENT: return "BadArgument: a number without a meaning, or a list of another count than is due";
     case ND_OUT_OF_MEMORY: return "OutOfMemory: memory was refused";
     default: return "a number that is no status";
@@ -740,10 +740,10 @@ ND_INLINE const char *nd_status_message(int32_t status) {
 
 /*
  * The functions below are of this header, and not of the library; ndarray_layout_inline.h, ndarray_layout_rows.h,
- * ndarray_layout_bytes.h, ndarray_layout_sharing.h and ndarray_layout_reasons.h, which it includes, have more of them. Each but the two that count makes
- * one call from above with the fields of a layout. It returns the call's status, and after any but ND_OK nothing has been
- * written. The layout that is written comes last, and may be the one that is read. ND_BAD_ARGUMENT, before every other status,
- * also says that a layout has more than ND_MAX_AXES axes, or would have.
+ * ndarray_layout_bytes.h, ndarray_layout_sharing.h and ndarray_layout_reasons.h, which it includes, have more of them. Each but
+ * the two that count makes one call from above with the fields of a layout. It returns the call's status, and after any but
+ * ND_OK nothing has been written. The layout that is written comes last, and may be the one that is read. ND_BAD_ARGUMENT,
+ * before every other status, also says that a layout has more than ND_MAX_AXES axes, or would have.
  */
 #define ND_MAX_AXES 32
 

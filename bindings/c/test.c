@@ -452,7 +452,7 @@ static void test_status_text(void) {
         memcpy(other, text, sizeof other);
     }
     CHECK(nd_status_text(ND_OUT_OF_BOUNDS, LIST(text), &used) == ND_OK);
-    CHECK(strcmp(text, "ShapeError/OutOfBounds: out of bounds indexing") == 0);
+    CHECK(strcmp(text, "OutOfBounds: out of bounds indexing") == 0);
 }
 
 /* What the library names inside is its own: functions of the same names in a program are not what it calls. */

@@ -6,7 +6,7 @@ use crate::ndarray_layout_c::statuses::{BAD_ARGUMENT, OK};
 /// How many bytes the longest text has room in, with the 0 that ends it.
 const TEXT_SIZE: usize = 80;
 
-/// What a status means: the layer's text for a fault; nothing where a number is no status.
+/// What a status means: the layer's text for a fault, without the name of the error's type; nothing where a number is no status.
 ///
 /// <details><summary>Contract (proved)</summary>
 ///
@@ -21,22 +21,22 @@ fn text_of(status: i32) -> &'static [u8] {
         return b"Ok: the call succeeded";
     }
     if status == 1 {
-        return b"ShapeError/IncompatibleShape: incompatible shapes";
+        return b"IncompatibleShape: incompatible shapes";
     }
     if status == 2 {
-        return b"ShapeError/IncompatibleLayout: incompatible memory layout";
+        return b"IncompatibleLayout: incompatible memory layout";
     }
     if status == 3 {
-        return b"ShapeError/RangeLimited: the shape does not fit in type limits";
+        return b"RangeLimited: the shape does not fit in type limits";
     }
     if status == 4 {
-        return b"ShapeError/OutOfBounds: out of bounds indexing";
+        return b"OutOfBounds: out of bounds indexing";
     }
     if status == 5 {
-        return b"ShapeError/Unsupported: unsupported operation";
+        return b"Unsupported: unsupported operation";
     }
     if status == 6 {
-        return b"ShapeError/Overflow: arithmetic overflow";
+        return b"Overflow: arithmetic overflow";
     }
     if status == 7 {
         return b"BadArgument: a number without a meaning, or a list of another count than is due";
