@@ -203,7 +203,7 @@ pub const CHECKED: &[(&str, &str, &str, &str, &str)] = &[(
 pub const LEFT_OUT: &[(&str, &str, &[&str])] = &[
     ("nd_parts", "rest", &["Rest", "Taken"]),
     ("nd_parts", "whole", &["Whole"]),
-    ("example_callers", "wholes", &["set_first", "set_halves", "set_two"]),
+    ("example_callers", "wholes", &["fill_all", "set_first", "set_halves", "set_two", "swap_in_row"]),
 ];
 
 /// Structs that files of `rust/src` make and take apart: all of the package sees their fields.

@@ -36,5 +36,5 @@ pub use slices::{alternate_rows, pixels_of};
 pub use steps::{flat_plane, flat_plane_by_steps};
 pub use tasks::{brightest, darkest, is_brighter, is_darker, mirror, show_the_same, sum_of_crop};
 pub use transposes::{pixel_across, transposed_part};
-pub use wholes::{set_first, set_halves, set_two};
+pub use wholes::{fill_all, set_first, set_halves, set_two, swap_in_row};
 pub use writes::{with_two_parts, write_parts, write_two_parts};

@@ -1,7 +1,9 @@
 //! Pixels that are written by parts, and what they are then.
-ghost use Rattle.std.specs.Prelude.{◌≡◌, [], ◌∷◌, OnOk, length};
+ghost use Rattle.std.specs.Prelude.{◌≡◌, ◌&&◌, [], ◌∷◌, OnOk, Some, length};
+ghost use Rattle.ndarray_layout.specs.Indices.{is_index};
 ghost use Rattle.ndarray_layout.specs.SplitView.{first_part_of, second_part_of};
 ghost use Rattle.ndarray_layout.specs.SharePlace.{SharePlace};
+ghost use Rattle.nd_parts.specs.HasItems.{HasItemsOf, with_swapped};
 ghost use Rattle.nd_parts.specs.Items.{IsOwned, with_item};
 
 use nd_parts::Whole;
@@ -19,6 +21,34 @@ pub fn set_first(view: Strided<Ix2>, pixels: &mut [u8], pixel: u8)
     let mut part = whole.lend(view);
     part.set(&(0, 0), pixel);
     whole.end(part);
+}
+
+/// Writes a pixel at each index of a picture, whose pixels lie in a list by a view, by a part of it. The list's other pixels are
+/// unchanged. The caller ensures that each index has a pixel to itself.
+pub fn fill_all(alloc: Global, view: Strided<Ix2>, pixels: &mut [u8], pixel: u8)
+    requires { IsOwned (length pixels.old) view }
+    ensures { HasItemsOf (λ index. Some pixel)
+        (record { items = pixels.old; view = view }) (record { items = pixels.new; view = view }) }
+{
+    let mut whole = Whole::new(pixels);
+    let mut part = whole.lend(view);
+    part.fill(alloc, pixel);
+    whole.end(part);
+}
+
+/// Swaps the first pixel of a picture with another one of its first row, by a part of it, and returns whether both are there; else no
+/// pixel is changed. The list's other pixels are unchanged. The caller ensures that each index has a pixel to itself.
+pub fn swap_in_row(view: Strided<Ix2>, pixels: &mut [u8], at: usize) -> bool
+    requires { IsOwned (length pixels.old) view }
+    ensures are_there { result ≡ (is_index view.shape (0 ∷ 0 ∷ []) && is_index view.shape (0 ∷ at ∷ [])) }
+    ensures swapped { pixels.new ≡
+        (with_swapped (record { items = pixels.old; view = view }) (0 ∷ 0 ∷ []) (0 ∷ at ∷ [])).items }
+{
+    let mut whole = Whole::new(pixels);
+    let mut part = whole.lend(view);
+    let is_swapped = part.swap(&(0, 0), &(0, at));
+    whole.end(part);
+    is_swapped
 }
 
 /// Writes the first pixel of each of two parts of a picture, which share no pixel. The list's other pixels are unchanged. The caller
