@@ -203,6 +203,7 @@ pub const CHECKED: &[(&str, &str, &str, &str, &str)] = &[(
 pub const LEFT_OUT: &[(&str, &str, &[&str])] = &[
     ("nd_parts", "rest", &["Rest", "Taken"]),
     ("nd_parts", "whole", &["Whole"]),
+    ("example_callers", "planes", &["paint_plane", "paint_planes"]),
     ("example_callers", "wholes", &["fill_all", "set_first", "set_halves", "set_two", "swap_in_row"]),
 ];
 

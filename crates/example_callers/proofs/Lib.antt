@@ -1,3 +1,4 @@
 pub mod ByteStrides
 pub mod Common
 pub mod Laws
+pub mod Painted

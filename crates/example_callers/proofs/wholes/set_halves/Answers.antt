@@ -1,4 +1,4 @@
-use Rattle.std.proofs.Common.{sym, subst, length, ℕ}
+use Rattle.std.proofs.Common.{sym, subst, length}
 use Rattle.ndarray_layout.specs.SharePlace.{SharePlace}
 use Rattle.ndarray_layout.specs.SplitView.{second_part_of}
 use Rattle.ndarray_layout.proofs.laws.SplitView.{parts_are_apart}
