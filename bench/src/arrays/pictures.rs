@@ -227,6 +227,11 @@ mod by_package {
     }
 
     #[inline(never)]
+    pub fn map_in_place_nearest(form: Form, items: &mut [u8]) {
+        with_layout!(form, layout => array_mut(layout, items).map_in_place_nearest(|item| *item = item.wrapping_mul(3)));
+    }
+
+    #[inline(never)]
     pub fn assign(form: Form, items: &mut [u8], others: &[u8]) {
         with_layout!(form, layout => array_mut(layout, items).assign(&array(layout, others)).expect("one shape"));
     }
@@ -250,6 +255,11 @@ mod by_package {
     #[inline(never)]
     pub fn fold(form: Form, items: &[u8], _: &[u8]) -> usize {
         with_layout!(form, layout => array(layout, items).fold(0, |sum, item| sum + u64::from(*item)) as usize)
+    }
+
+    #[inline(never)]
+    pub fn fold_nearest(form: Form, items: &[u8], _: &[u8]) -> usize {
+        with_layout!(form, layout => array(layout, items).fold_nearest(0, |sum, item| sum + u64::from(*item)) as usize)
     }
 
     #[inline(never)]
@@ -312,12 +322,14 @@ pub fn rows() -> Vec<Row> {
             (|form, items, _| by_hand::fill(form, items), |form, items, _| by_package::fill(form, items));
         rows.push(writing(named("fill"), form, fill, fills));
         rows.push(writing(named("assign"), form, by_hand::assign, by_package::assign));
+        let map: fn(_, &mut _, &_) = |form, items, _| by_hand::map_in_place(form, items);
         if form.is_forwards() {
-            let (map, maps): (fn(_, &mut _, &_), fn(_, &mut _, &_)) = (
-                |form, items, _| by_hand::map_in_place(form, items),
-                |form, items, _| by_package::map_in_place(form, items),
-            );
+            let maps: fn(_, &mut _, &_) = |form, items, _| by_package::map_in_place(form, items);
             rows.push(writing(named("map_in_place"), form, map, maps));
+        } else {
+            let maps: fn(_, &mut _, &_) = |form, items, _| by_package::map_in_place_nearest(form, items);
+            rows.push(writing(named("map_in_place_nearest"), form, map, maps));
+            rows.push(reading(named("fold_nearest"), form, by_hand::sum, by_package::fold_nearest));
         }
         rows.push(writing(named("zip_mut_with"), form, by_hand::zip_mut_with, by_package::zip_mut_with));
         rows.push(reading(named("=="), form, by_hand::equal, by_package::equal));

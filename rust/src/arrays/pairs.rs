@@ -2,21 +2,22 @@
 
 use super::line::moved;
 use crate::LentRow;
-use crate::nd_base::{ErrorKind, Lengths, Order, ShapeError, from_kind};
+use crate::nd_base::{ErrorKind, Lengths, ShapeError, from_kind};
 use crate::nd_lent::nearest::{nearest_rows_with, nearest_views};
 use crate::ndarray_layout::{Row, Strided};
 
-/// Calls a closure at the items of two views at each index. Errors: those of `zip_mut_with`.
+/// Calls a closure at the items of two views at each index, in the order in which those of the first lie. Errors: those of
+/// `zip_mut_with`.
 pub(crate) fn zip_mut<T, U, D: Lengths>(
-    own: (&Strided<D>, &mut [T]),
-    other: (&Strided<D>, &[U]),
+    (view, items): (&Strided<D>, &mut [T]),
+    (other_view, others): (&Strided<D>, &[U]),
     mut f: impl FnMut(&mut T, &U),
 ) -> Result<(), ShapeError> {
-    let ((view, items), (other_view, others)) = (own, other);
     if !view.dim().equal(other_view.dim()) {
         return Err(from_kind(ErrorKind::IncompatibleShape));
     }
-    let (rows, other_rows) = view.joined_rows_with(other_view, Order::RowMajor);
+    let nearest = nearest_views(view, other_view);
+    let (rows, other_rows) = nearest_rows_with(view, other_view, &nearest);
     for (row, other) in rows.zip(other_rows) {
         zip_row((row, items), LentRow { items: others, row: other }, &mut f);
     }

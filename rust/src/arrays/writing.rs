@@ -261,8 +261,9 @@ macro_rules! writes {
                 AxisChunksIterMut::new(self.view_mut(), axis, size)
             }
 
-            /// Calls a closure at each item and at that of another array of the same shape, in row-major order. ndarray's
-            /// `zip_mut_with`, which broadcasts the other one: `ArrayView::broadcast` comes first. Not proved.
+            /// Calls a closure at each item and at that of another array of the same shape, in the order in which the items
+            /// here lie, as `map_in_place_nearest` does. ndarray's `zip_mut_with`, which broadcasts the other one:
+            /// `ArrayView::broadcast` comes first. Not proved.
             ///
             /// Takes no memory. Rows whose items follow one another in both are a loop over two slices.
             ///

@@ -117,6 +117,9 @@ fn pairs_of_items_are_the_models() {
             *item = 1000 + other;
         };
         layout.array_mut(&mut items).zip_mut_with(&other.array(&others), write).unwrap();
+        // (in the order of the places, which is another one than that of the indices)
+        found.sort_unstable();
+        pairs.sort_unstable();
         assert_eq!((found, items), (pairs, due), "{layout:?} beside {other:?}");
     });
 }
