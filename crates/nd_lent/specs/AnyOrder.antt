@@ -1,12 +1,12 @@
 -- What holds of items in some order, and calls at the items of all indices in some order of these.
-use Rattle.std.specs.Prelude.{◌≡◌, ℕ, pos, Option, Some, List, [], ◌∷◌, length, map, nat_eq, refl}
+use Rattle.std.specs.Prelude.{◌≡◌, ℕ, ◌+◌, pos, Option, Some, List, [], ◌∷◌, length, map, nat_eq, refl}
 use Rattle.std.specs.List.Sorted.{IsPermutation}
 use Rattle.std.proofs.Common.{ap, eq-eqb, ◌∙◌}
 use Rattle.std.proofs.lemmas.Bool.{both_ways, ltb-true}
 use Rattle.std.proofs.lemmas.List.Sorted.{length_permutation}
 use Rattle.ndarray_layout.specs.declared.Order.TheVariants.{RowMajor}
 use Rattle.ndarray_layout.specs.Indices.{indices_in}
-use Rattle.nd_lent.specs.Mapped.{RunsOver, counts}
+use Rattle.nd_lent.specs.Mapped.{RunsOver}
 use Rattle.nd_parts.specs.Items.{ArrayValue, item_at}
 
 -- it holds of the items in some order
@@ -21,6 +21,9 @@ pub record RunsInSomeOrder {F X Y : Type 0} (call : F → X → Y → F → Type
   pub ran : RunsOver call f (map (item_at given) indices) (map (item_at made) indices)
 
 -- examples: a call that adds what it counts, from 5 on
+abbrev counts : ℕ → ℕ → ℕ → ℕ → Type 0
+counts before x y after = (y ≡ x + before) × (after ≡ before + 1)
+
 abbrev row : List ℕ → ArrayValue ℕ
 row items = record { items = items; view = record { start = 0; shape = length items ∷ []; strides = pos 1 ∷ [] } }
 

@@ -57,7 +57,7 @@ abbrev pub part_of : {T : Type 0} → List SliceInfoElem → ArrayValue T → Ar
 part_of slice array = record { items = array.items; view = slice_of Strict slice array.view }
 
 -- examples: a call that adds what it counts, from 5 on
-abbrev pub counts : ℕ → ℕ → ℕ → ℕ → Type 0
+abbrev counts : ℕ → ℕ → ℕ → ℕ → Type 0
 counts before x y after = (y ≡ x + before) × (after ≡ before + 1)
 
 two_calls : RunsOver counts 5 (Some 10 ∷ Some 20 ∷ []) (Some 15 ∷ Some 26 ∷ [])
