@@ -68,6 +68,19 @@ fn part(call: &Call, mut part: PartMut<'_, usize, IxDyn>) -> Option<String> {
         "PartMut::insert_axis" => call.told(|| part.insert_axis(axis)),
         "PartMut::slice_mut" => call.told(|| part.slice_mut::<IxDyn, _>(&reversed, Strict)),
         "PartMut::reborrow" => call.told(|| part.reborrow()),
+        "PartMut::fill" => {
+            call.makes(|| part.fill(7));
+            items(&part)
+        }
+        "PartMut::map_in_place_nearest" => {
+            call.makes(|| part.map_in_place_nearest(|item| *item += 7));
+            items(&part)
+        }
         _ => return None,
     })
+}
+
+/// The items of a part, in row-major order.
+fn items(part: &PartMut<'_, usize, IxDyn>) -> String {
+    part.iter().map(usize::to_string).collect::<Vec<_>>().join(" ")
 }
