@@ -10,7 +10,7 @@ import collections, functools, re, sys
 from rattle_source import read, sources
 
 PAGE = "docs/PROVED.md"
-SOURCES = sources("nd_base", "nd_dim", "nd_shape", "nd_slice", "ndarray_layout", "nd_parts", "nd_lent", "nd_owned", "ndl_session")
+SOURCES = sources("nd_base", "nd_dim", "nd_shape", "nd_slice", "ndarray_layout", "nd_lent", "nd_owned", "ndl_session")
 COMMENT = re.compile(r"^ *(?://|--).*", re.M)
 IMPORT = re.compile(r"\buse Rattle\.(\w+)\.specs\.([\w.]+)\.\{(.*?)\}", re.S)
 NO_CODE = re.compile(r"^-- examples?\b.*|^ *--.*?\n|^(?:pub )?use .*?\n|^ *\n", re.M | re.S)

@@ -1,58 +1,26 @@
-/*
- * Loops from C over accepted views, each beside one written by hand, by turns: the name of a row, a tab, and nanoseconds for an
- * element of the one and of the other, the least of many rounds.
- */
+/* Loops from C over accepted views, each beside one written by hand. */
 #define _POSIX_C_SOURCE 199309L
-#include "ndarray_layout.h"
+#include "loops.h"
 
-#include <stdio.h>
-#include <stdlib.h>
-#include <time.h>
-
-enum { SIDE = 1000, PICTURE = 500, ROUNDS = 200 };
-
-typedef size_t (*loop)(const nd_view *view, const unsigned char *items);
+enum { SIDE = 1000, PICTURE = 500 };
 
 static unsigned char blurred[PICTURE * PICTURE];
 
-static void must(int32_t status) {
-    if (status != ND_OK) {
-        fprintf(stderr, "loops: %s\n", nd_status_message(status));
-        exit(1);
-    }
-}
+/* ---- Elements over two axes, of both types ---- */
 
-/* ---- A sum over two axes, each place checked ---- */
-
-static size_t sum_at(const nd_view *view, const unsigned char *items) {
-    size_t row, column, sum = 0;
-    for (row = 0; row < view->layout.shape[0]; row++) {
-        for (column = 0; column < view->layout.shape[1]; column++) {
-            const size_t place = nd_at(view, row, column);
-            if (place == ND_NO_PLACE) return 0;
-            sum += items[place];
-        }
-    }
-    return sum;
-}
-
-static size_t sum_checked_by_hand(const nd_view *view, const unsigned char *items) {
-    const size_t start = view->layout.start, len = view->data.len, rows = view->layout.shape[0], columns = view->layout.shape[1];
-    const ptrdiff_t down = view->layout.strides[0], right = view->layout.strides[1];
-    size_t row, column, sum = 0;
-    for (row = 0; row < rows; row++) {
-        for (column = 0; column < columns; column++) {
-            const size_t place = start + row * (size_t)down + column * (size_t)right;
-            if (place >= len) return 0;
-            sum += items[place];
-        }
-    }
-    return sum;
-}
+#define ITEM unsigned char
+#define LOOP(name) name##_bytes
+#include "elements.h"
+#undef ITEM
+#undef LOOP
+#define ITEM unsigned short
+#define LOOP(name) name##_words
+#include "elements.h"
 
 /* ---- A sum by rows, without a check of each place ---- */
 
-static size_t sum_rows(const nd_view *view, const unsigned char *items) {
+static size_t sum_rows(const nd_view *view, void *bytes) {
+    const unsigned char *const items = (const unsigned char *)bytes;
     nd_row_iter rows;
     nd_row row;
     size_t column, sum = 0;
@@ -64,7 +32,8 @@ static size_t sum_rows(const nd_view *view, const unsigned char *items) {
     return sum;
 }
 
-static size_t sum_by_hand(const nd_view *view, const unsigned char *items) {
+static size_t sum_by_hand(const nd_view *view, void *bytes) {
+    const unsigned char *const items = (const unsigned char *)bytes;
     const ptrdiff_t down = view->layout.strides[0], right = view->layout.strides[1];
     size_t row, column, sum = 0;
     for (row = 0; row < view->layout.shape[0]; row++) {
@@ -75,7 +44,8 @@ static size_t sum_by_hand(const nd_view *view, const unsigned char *items) {
 }
 
 /* (of three axes, the last two of which are joined) */
-static size_t sum_pixels_by_hand(const nd_view *view, const unsigned char *items) {
+static size_t sum_pixels_by_hand(const nd_view *view, void *bytes) {
+    const unsigned char *const items = (const unsigned char *)bytes;
     const ptrdiff_t *strides = view->layout.strides;
     size_t row, column, colour, sum = 0;
     for (row = 0; row < view->layout.shape[0]; row++) {
@@ -100,7 +70,8 @@ static inline void mean_row(const unsigned char *a, const unsigned char *b, cons
 }
 
 /* Three slices of the picture, each a line further down, whose rows come in step. A stride of 1 has a loop of its own. */
-static size_t blur_rows(const nd_view *view, const unsigned char *items) {
+static size_t blur_rows(const nd_view *view, void *bytes) {
+    const unsigned char *const items = (const unsigned char *)bytes;
     nd_row_iter rows[3];
     nd_row up, row, down;
     size_t line, written = 0;
@@ -119,7 +90,8 @@ static size_t blur_rows(const nd_view *view, const unsigned char *items) {
     return written + blurred[written / 2];
 }
 
-static size_t blur_by_hand(const nd_view *view, const unsigned char *items) {
+static size_t blur_by_hand(const nd_view *view, void *bytes) {
+    const unsigned char *const items = (const unsigned char *)bytes;
     const size_t rows = view->layout.shape[0], columns = view->layout.shape[1];
     size_t row, column, written = 0;
     for (row = 0; row + 2 < rows; row++) {
@@ -132,46 +104,43 @@ static size_t blur_by_hand(const nd_view *view, const unsigned char *items) {
     return written + blurred[written / 2];
 }
 
-/* ---- Times ---- */
-
-static double time_ns(loop volatile run, const nd_view *view, const unsigned char *items, size_t expected) {
-    struct timespec begun, ended;
-    clock_gettime(CLOCK_MONOTONIC, &begun);
-    if (run(view, items) != expected) must(ND_UNSUPPORTED);
-    clock_gettime(CLOCK_MONOTONIC, &ended);
-    return (double)(ended.tv_sec - begun.tv_sec) * 1e9 + (double)(ended.tv_nsec - begun.tv_nsec);
+/* The rows of one type of items, in 1000 rows of 1000 of 2000. */
+static void print_elements(const char *type, const loop *loops, const nd_view *view, void *items) {
+    print_row("`nd_cursor_at`, written", type, loops[0], loops[1], view, items);
+    print_row("`nd_cursor_at`, read", type, loops[2], loops[3], view, items);
+    print_row("`nd_at` of a copied view, written", type, loops[4], loops[5], view, items);
+    print_row("`nd_at` by a pointer, written", type, loops[6], loops[5], view, items);
+    print_row("`nd_at` by a pointer, read", type, loops[7], loops[8], view, items);
 }
 
-static void print_row(const char *name, loop ours, loop by_hand, const nd_view *view, const unsigned char *items) {
-    const size_t expected = by_hand(view, items), elements = nd_layout_size(&view->layout);
-    double least[2] = {1e18, 1e18};
-    int round;
-    for (round = 0; round < ROUNDS; round++) {
-        const double ns[2] = {time_ns(ours, view, items, expected), time_ns(by_hand, view, items, expected)};
-        if (ns[0] < least[0]) least[0] = ns[0];
-        if (ns[1] < least[1]) least[1] = ns[1];
-    }
-    printf("%s\t%g\t%g\n", name, least[0] / (double)elements, least[1] / (double)elements);
-}
-
-int main(void) {
+int main(int count, char **words) {
     const size_t square[2] = {SIDE, SIDE}, picture[2] = {PICTURE, PICTURE}, pixels[3] = {100, 800, 3};
     const nd_slice_elem cut[3] = {ND_ALL, ND_RANGE(300, 500), ND_ALL}, left[2] = {ND_ALL, ND_FROM_BY(0, -1)};
-    const nd_data data = {1, SIDE * SIDE};
-    unsigned char *items = malloc(data.len);
+    const loop bytes[9] = {write_cursor_bytes, write_by_hand_bytes, read_cursor_bytes, read_by_hand_bytes,
+                           write_copied_bytes, write_checked_by_hand_bytes, write_by_pointer_bytes, read_by_pointer_bytes, read_checked_by_hand_bytes};
+    const loop numbers[9] = {write_cursor_words, write_by_hand_words, read_cursor_words, read_by_hand_words,
+                             write_copied_words, write_checked_by_hand_words, write_by_pointer_words, read_by_pointer_words, read_checked_by_hand_words};
+    const nd_data data = {1, SIDE * SIDE}, wide = {2, 2 * SIDE * SIDE};
+    const size_t lines[2] = {SIDE, 2 * SIDE};
+    const nd_slice_elem half[2] = {ND_ALL, ND_RANGE(3, SIDE + 3)};
+    unsigned char *items = malloc(wide.elem_size * wide.len);
     nd_view view;
     size_t at;
     if (items == NULL) return 1;
-    for (at = 0; at < data.len; at++) items[at] = (unsigned char)(at * 7 + at / 256);
+    read_rounds(count, words);
+    for (at = 0; at < wide.elem_size * wide.len; at++) items[at] = (unsigned char)(at * 7 + at / 256);
     must(nd_view_from_shape(square, 2, ND_ROW_MAJOR, data, ND_OWNED, &view));
-    print_row("`nd_at`: a sum of 1000x1000", sum_at, sum_checked_by_hand, &view, items);
     must(nd_layout_slice(&view.layout, left, 2, ND_STRICT, &view.layout));
-    print_row("`nd_next_row`: a sum of 1000 rows of 1000, stride -1", sum_rows, sum_by_hand, &view, items);
+    print_row("`nd_next_row`: a sum of 1000 rows of 1000, stride -1", "", sum_rows, sum_by_hand, &view, items);
     must(nd_view_from_shape(pixels, 3, ND_ROW_MAJOR, data, ND_OWNED, &view));
     must(nd_layout_slice(&view.layout, cut, 3, ND_STRICT, &view.layout));
-    print_row("`nd_next_row`: a sum of 20,000 rows of 3, joined", sum_rows, sum_pixels_by_hand, &view, items);
+    print_row("`nd_next_row`: a sum of 20,000 rows of 3, joined", "", sum_rows, sum_pixels_by_hand, &view, items);
     must(nd_view_from_shape(picture, 2, ND_ROW_MAJOR, data, ND_OWNED, &view));
-    print_row("`nd_next_row`: a blur by 3x3 of 500x500", blur_rows, blur_by_hand, &view, items);
+    print_row("`nd_next_row`: a blur by 3x3 of 500x500", "", blur_rows, blur_by_hand, &view, items);
+    must(nd_view_from_shape(lines, 2, ND_ROW_MAJOR, wide, ND_OWNED, &view));
+    must(nd_layout_slice(&view.layout, half, 2, ND_STRICT, &view.layout));
+    print_elements(": bytes", bytes, &view, items);
+    print_elements(": 16 bits", numbers, &view, items);
     free(items);
     return 0;
 }

@@ -47,7 +47,15 @@
  *   - `malloc`, `realloc` and `free` are those of one allocator, which aligns a block to each power of two up to 16 that
  *     divides its size;
  *   - no call is made from a signal handler, or from the forked child of a process with threads.
- * Calls keep nothing: any threads may call at once.
+ * Calls keep nothing: any threads may call at once. They set `errno` as `malloc`, `realloc` and `free` do, and not otherwise. No
+ * call prints or ends the process: the library of `bindings/c/build` would `abort` where Rust panics, which the proof of the sources
+ * rules out.
+ *
+ * Numbers of slices have signs. An unsigned one past the limit becomes negative in `nd_slice_elem`, as C converts it: (size_t)-1 is
+ * the bound -1, which counts from the end. Compare what comes of a file with the length first, or with the limit.
+ *
+ * Sanitizers. The address, undefined and integer sanitizers of a program take these headers as they are. The memory sanitizer
+ * doesn't see what the libraries write, which aren't compiled with it: after a call, `__msan_unpoison` of what it wrote says so.
  *
  * This header is C89, C99 and C++. Where there is no <stdint.h>, define ND_NO_STDINT and the type int32_t before it.
  */
@@ -63,7 +71,8 @@
  * The version of this header. A library serves for each header that has the same first number, or while that is 0 the same
  * first two, and whose version is not later: nd_version says what a program has loaded. Those numbers end the name by which
  * programs load the shared library, libndarray_layout.so.0.1, and the names of the calls in both libraries: nd_place_0_1.
- * So parts of one process may use versions that don't go together, each its own.
+ * So parts of one process may use versions that don't go together, each its own. With those numbers the structs of this header
+ * keep their fields and their size: nd_reason has 48 bytes where pointers have eight, and another size of it is a version 0.2.
  */
 #define ND_VERSION_MAJOR 0
 #define ND_VERSION_MINOR 1
@@ -538,9 +547,9 @@ int32_t nd_stretch(size_t start, const size_t *shape, size_t shape_len, const pt
 enum {
     ND_RULE_NONE = 0,        /* ND_OK: no rule is broken */
     ND_RULE_COUNT = 1,       /* a list is of another count than there are axes, of a smaller one where a layout is broadcast
-                                to it. `size`: its count, of a slice without new axes. ND_INCOMPATIBLE_SHAPE of a slice, of
-                                axes, of a shape or of a block, ND_INCOMPATIBLE_LAYOUT of strides, ND_OUT_OF_BOUNDS of an
-                                index */
+                                to it. `list`; `size`: its count, of a slice without new axes; `other`: how many axes there
+                                are. ND_INCOMPATIBLE_SHAPE of a slice, of axes, of a shape or of a block,
+                                ND_INCOMPATIBLE_LAYOUT of strides, ND_OUT_OF_BOUNDS of an index */
     ND_RULE_INDEX = 2,       /* ND_OUT_OF_BOUNDS: an index is no coordinate of its axis. `axis`; `number`: the index;
                                 `size`: the length of the axis */
     ND_RULE_BOUND = 3,       /* ND_OUT_OF_BOUNDS: a bound of a range means no number from 0 to the length of its axis.
@@ -548,45 +557,71 @@ enum {
     ND_RULE_STEP = 4,        /* ND_UNSUPPORTED: a step is 0. `axis`; `size`: the length of the axis */
     ND_RULE_SIZE = 5,        /* ND_OVERFLOW: the product of the lengths that are not 0 is past the limit */
     ND_RULE_SPAN = 6,        /* ND_OVERFLOW: the span is past the limit */
-    ND_RULE_BYTES = 7,       /* ND_OVERFLOW: the span in bytes is past the limit. `size`: the span in elements */
-    ND_RULE_LOWEST = 8,      /* ND_OUT_OF_BOUNDS: the lowest place is below 0. `size`: how far it lies below the start */
+    ND_RULE_BYTES = 7,       /* ND_OVERFLOW: the span in bytes is past the limit. `size`: the span in elements; `other`: the
+                                size of one */
+    ND_RULE_LOWEST = 8,      /* ND_OUT_OF_BOUNDS: the lowest place is below 0. `size`: how far it lies below the start;
+                                `other`: the start */
     ND_RULE_HIGHEST = 9,     /* ND_OUT_OF_BOUNDS: the highest place is past the limit. `size`: how far it lies above the
-                                start */
-    ND_RULE_LENGTH = 10,     /* ND_OUT_OF_BOUNDS: the highest place is past the buffer. `size`: the highest place */
+                                start; `other`: the start */
+    ND_RULE_LENGTH = 10,     /* ND_OUT_OF_BOUNDS: the highest place is past the buffer. `size`: the highest place; `other`:
+                                how long the buffer is */
     ND_RULE_ALIAS = 11,      /* ND_UNSUPPORTED: the no-alias rule. `axis`: the first whose stride isn't past the reach of
                                 the others whose stride is at most its own; `number`: its stride; `size`: that reach */
-    ND_RULE_OTHER_SIZE = 12, /* ND_INCOMPATIBLE_SHAPE: a new shape has another count of indices. `size`: its count */
+    ND_RULE_OTHER_SIZE = 12, /* ND_INCOMPATIBLE_SHAPE: a new shape has another count of indices. `size`: its count;
+                                `other`: that of the layout */
     ND_RULE_COPY = 13,       /* ND_INCOMPATIBLE_LAYOUT: a new shape would take a copy. `axis`: in the order of reading,
                                 the first up to which the axes alone can't be read along the new shape: the stride of the
                                 axis of length greater than 1 that is read before it isn't its length times its stride,
-                                and the new shape has no boundary there */
-    ND_RULE_MISSING = 14,    /* ND_INCOMPATIBLE_SHAPE: an axis isn't listed. `axis`: the first such */
+                                and the new shape has no boundary there; `number`: its stride; `size`: its length */
+    ND_RULE_MISSING = 14,    /* ND_INCOMPATIBLE_SHAPE: an axis isn't listed. `axis`: the first such; `size`: the count of
+                                the list; `other`: how many axes there are */
     ND_RULE_COORDINATE = 15, /* ND_OUT_OF_BOUNDS: a coordinate isn't below the length of its axis. `axis`: the first such;
-                                `size`: the coordinate */
+                                `size`: the coordinate; `other`: the length */
     ND_RULE_COMMON = 16,     /* ND_INCOMPATIBLE_SHAPE: two lengths of an axis are unequal, and neither is 1. `axis`: the first
-                                such of the common shape */
+                                such of the common shape; `size`: the first shape's length; `other`: the second's */
     ND_RULE_STRETCH = 17,    /* ND_INCOMPATIBLE_SHAPE: a length is neither 1 nor that of the axis that it is broadcast to.
-                                `axis`: the first such of the new shape; `size`: the length */
-    ND_RULE_EMPTY = 18,      /* ND_UNSUPPORTED: a length of a block is 0. `axis`: the first such */
+                                `axis`: the first such of the new shape; `size`: the length; `other`: that of the new
+                                shape */
+    ND_RULE_EMPTY = 18,      /* ND_UNSUPPORTED: a length of a block is 0. `list`; `axis`: the first such */
     ND_RULE_AXIS = 19,       /* ND_OUT_OF_BOUNDS: there is no such axis. `axis`: its number; `size`: how many axes there are */
     ND_RULE_SAME_AXIS = 20,  /* ND_UNSUPPORTED: an axis is merged into itself. `axis` */
-    ND_RULE_SPLIT = 21,      /* ND_OUT_OF_BOUNDS: a split lies past the end of its axis. `axis`; `size`: its length */
+    ND_RULE_SPLIT = 21,      /* ND_OUT_OF_BOUNDS: a split lies past the end of its axis. `axis`; `size`: its length; `other`:
+                                the coordinate of the split */
     ND_RULE_OTHER_LENGTH = 22, /* ND_INCOMPATIBLE_SHAPE: a view has another length than the first one. `axis`: the first such;
-                                `number`: the view's position; `size`: its length */
+                                `number`: the view's position; `size`: its length; `other`: the first one's */
     ND_RULE_ROOM = 23        /* ND_BAD_ARGUMENT: a layout has, or would have, more than ND_MAX_AXES axes. `size`: how many */
 };
+
+/* Which list breaks ND_RULE_COUNT or ND_RULE_EMPTY. */
+enum {
+    ND_LIST_STRIDES = 1, /* the strides of a layout */
+    ND_LIST_SLICE = 2,   /* the elements of a slice, but for new axes */
+    ND_LIST_INDEX = 3,   /* the coordinates of an index */
+    ND_LIST_AXES = 4,    /* the axes in their new order */
+    ND_LIST_TARGET = 5,  /* the shape that a layout is broadcast to */
+    ND_LIST_WINDOW = 6,  /* the lengths of a window */
+    ND_LIST_CHUNK = 7,   /* the lengths of a chunk */
+    ND_LIST_VIEW = 8     /* the axes of a view, beside those of the first one; `number`: its position */
+};
+
+/* What places, spans and strides of a reason count. It is ND_BYTES of nd_view_over_bytes_reason alone. */
+enum { ND_ELEMENTS = 0, ND_BYTES = 1 };
 
 /*
  * Why a call returns its status: the first rule that its arguments break, in the order in which the call tests them. Each call
  * below takes what its call reads, writes a reason and returns ND_OK, also where the call would return ND_OK: then all fields
- * are 0. `status` is what the call returns, apart from ND_BAD_ARGUMENT and ND_OUT_OF_MEMORY.
+ * are 0. `status` is what the call returns, apart from ND_BAD_ARGUMENT and ND_OUT_OF_MEMORY. nd_reason_text writes it as a
+ * sentence.
  */
 typedef struct nd_reason {
     int32_t status;
     int32_t rule;
+    int32_t list;
+    int32_t unit;
     size_t axis;
     ptrdiff_t number;
     size_t size;
+    size_t other;
 } nd_reason;
 
 /*
@@ -597,7 +632,7 @@ typedef struct nd_reason {
  *
  * (2,3,5) by `0,..,9`: ND_OUT_OF_BOUNDS, ND_RULE_INDEX, axis 2, number 9, size 5. (4) by `9..;0`: ND_RULE_BOUND, axis 0,
  * number 9, size 4; ND_CLAMPED: ND_UNSUPPORTED, ND_RULE_STEP, axis 0, size 4. (2,3) by `0`: ND_INCOMPATIBLE_SHAPE,
- * ND_RULE_COUNT, size 1.
+ * ND_RULE_COUNT, ND_LIST_SLICE, size 1, other 2.
  */
 int32_t nd_slice_reason(const size_t *shape, size_t shape_len, const nd_slice_elem *elems, size_t elems_len, int32_t fit,
                         nd_reason *reason) ND_USED;
@@ -607,7 +642,7 @@ int32_t nd_slice_reason(const size_t *shape, size_t shape_len, const nd_slice_el
  *
  * ND_BAD_ARGUMENT: another `mode`.
  *
- * (3), strides (-1), over 2 elements: ND_OUT_OF_BOUNDS, ND_RULE_LENGTH, size 2. (3,2), strides (2,3), over 8, owned:
+ * (3), strides (-1), over 2 elements: ND_OUT_OF_BOUNDS, ND_RULE_LENGTH, size 2, other 2. (3,2), strides (2,3), over 8, owned:
  * ND_UNSUPPORTED, ND_RULE_ALIAS, axis 1, number 3, size 4.
  */
 int32_t nd_layout_start_reason(const size_t *shape, size_t shape_len, const ptrdiff_t *strides, size_t strides_len,
@@ -619,7 +654,8 @@ int32_t nd_layout_start_reason(const size_t *shape, size_t shape_len, const ptrd
  *
  * ND_BAD_ARGUMENT: another `mode`.
  *
- * (3), strides (-1), over 5 elements, from 1: ND_OUT_OF_BOUNDS, ND_RULE_LOWEST, size 2; from 5: ND_RULE_LENGTH, size 5.
+ * (3), strides (-1), over 5 elements, from 1: ND_OUT_OF_BOUNDS, ND_RULE_LOWEST, size 2, other 1; from 6: ND_RULE_LENGTH, size 6,
+ * other 5.
  */
 int32_t nd_check_layout_reason(size_t start, const size_t *shape, size_t shape_len, const ptrdiff_t *strides,
                                size_t strides_len, size_t elem_size, size_t len, int32_t mode, nd_reason *reason) ND_USED;
@@ -631,8 +667,8 @@ int32_t nd_check_layout_reason(size_t start, const size_t *shape, size_t shape_l
  *
  * ND_BAD_ARGUMENT: another `order`. Takes the time of nd_reshape for each axis, where there is a reason of strides.
  *
- * (4,4), strides (8,1), along (2,8), row-major: ND_INCOMPATIBLE_LAYOUT, ND_RULE_COPY, axis 1 where 8 isn't 4 times 1; along
- * (2,2,2,2): ND_OK. (2,3), strides (3,1), along (4): ND_INCOMPATIBLE_SHAPE, ND_RULE_OTHER_SIZE, size 4.
+ * (4,4), strides (8,1), along (2,8), row-major: ND_INCOMPATIBLE_LAYOUT, ND_RULE_COPY, axis 1, number 1, size 4, as 4 times 1
+ * isn't 8; along (2,2,2,2): ND_OK. (2,3), strides (3,1), along (4): ND_INCOMPATIBLE_SHAPE, ND_RULE_OTHER_SIZE, size 4, other 6.
  */
 int32_t nd_reshape_reason(const size_t *shape, size_t shape_len, const ptrdiff_t *strides, size_t strides_len,
                           const size_t *new_shape, size_t new_shape_len, int32_t order, nd_reason *reason) ND_USED;
@@ -641,7 +677,8 @@ int32_t nd_reshape_reason(const size_t *shape, size_t shape_len, const ptrdiff_t
  * Writes why a list of axes is no order of the axes of a shape: of nd_permuted_axes after the rules on the layout. Always
  * ND_OK. ND_RULE_MISSING comes before ND_RULE_COUNT.
  *
- * (2,3,4) by (0,2,2): ND_INCOMPATIBLE_SHAPE, ND_RULE_MISSING, axis 1. (2,3) by (1,0,1): ND_RULE_COUNT, size 3.
+ * (2,3,4) by (0,2,2): ND_INCOMPATIBLE_SHAPE, ND_RULE_MISSING, axis 1, size 3, other 3. (2,3) by (1,0,1): ND_RULE_COUNT,
+ * ND_LIST_AXES, size 3, other 2.
  */
 int32_t nd_permuted_axes_reason(const size_t *shape, size_t shape_len, const size_t *axes, size_t axes_len,
                                 nd_reason *reason) ND_USED;
@@ -650,7 +687,8 @@ int32_t nd_permuted_axes_reason(const size_t *shape, size_t shape_len, const siz
  * Writes why a list is no index of a shape: of nd_place after the rules on the layout, and of nd_next_index. Always ND_OK.
  * ND_RULE_COUNT comes before ND_RULE_COORDINATE.
  *
- * (2,3) by (1,3): ND_OUT_OF_BOUNDS, ND_RULE_COORDINATE, axis 1, size 3; by (2): ND_RULE_COUNT, size 1.
+ * (2,3) by (1,3): ND_OUT_OF_BOUNDS, ND_RULE_COORDINATE, axis 1, size 3, other 3; by (2): ND_RULE_COUNT, ND_LIST_INDEX, size 1,
+ * other 2.
  */
 int32_t nd_index_reason(const size_t *shape, size_t shape_len, const size_t *index, size_t index_len,
                         nd_reason *reason) ND_USED;
@@ -658,7 +696,7 @@ int32_t nd_index_reason(const size_t *shape, size_t shape_len, const size_t *ind
 /*
  * Writes why two shapes have no common one. Always ND_OK.
  *
- * (4,2,5) and (3,1): ND_INCOMPATIBLE_SHAPE, ND_RULE_COMMON, axis 1, where one has length 2 and the other 3.
+ * (4,2,5) and (3,1): ND_INCOMPATIBLE_SHAPE, ND_RULE_COMMON, axis 1, size 2, other 3.
  */
 int32_t nd_co_broadcast_reason(const size_t *first, size_t first_len, const size_t *second, size_t second_len,
                                nd_reason *reason) ND_USED;
@@ -667,7 +705,8 @@ int32_t nd_co_broadcast_reason(const size_t *first, size_t first_len, const size
  * Writes why a layout of a shape can't be broadcast to another: of nd_broadcast after the rules on the layout. Always ND_OK.
  * ND_RULE_COUNT comes before ND_RULE_STRETCH, and then ND_RULE_SIZE of `target`.
  *
- * (1,4) to (2,5,3): ND_INCOMPATIBLE_SHAPE, ND_RULE_STRETCH, axis 2, size 4; to (4): ND_RULE_COUNT, size 1.
+ * (1,4) to (2,5,3): ND_INCOMPATIBLE_SHAPE, ND_RULE_STRETCH, axis 2, size 4, other 3; to (4): ND_RULE_COUNT, ND_LIST_TARGET,
+ * size 1, other 2.
  */
 int32_t nd_broadcast_reason(const size_t *shape, size_t shape_len, const size_t *target, size_t target_len,
                             nd_reason *reason) ND_USED;
@@ -676,8 +715,8 @@ int32_t nd_broadcast_reason(const size_t *shape, size_t shape_len, const size_t 
  * Write why the windows of a shape, or its chunks, can't be taken: of nd_windows and nd_exact_chunks after the rules on the
  * layout. Always ND_OK. ND_RULE_COUNT comes before ND_RULE_EMPTY, and then ND_RULE_SIZE of the counts of blocks and the block.
  *
- * (4,4) by (2,0): ND_UNSUPPORTED, ND_RULE_EMPTY, axis 1; by (0): ND_INCOMPATIBLE_SHAPE, ND_RULE_COUNT, size 1. (2^33) by
- * (2^32): windows ND_OVERFLOW, ND_RULE_SIZE; chunks ND_OK.
+ * (4,4), windows (2,0): ND_UNSUPPORTED, ND_RULE_EMPTY, ND_LIST_WINDOW, axis 1; (0): ND_INCOMPATIBLE_SHAPE, ND_RULE_COUNT,
+ * ND_LIST_WINDOW, size 1, other 2. (2^33) by (2^32): windows ND_OVERFLOW, ND_RULE_SIZE; chunks ND_OK.
  */
 int32_t nd_windows_reason(const size_t *shape, size_t shape_len, const size_t *window, size_t window_len,
                           nd_reason *reason) ND_USED;
@@ -687,7 +726,7 @@ int32_t nd_exact_chunks_reason(const size_t *shape, size_t shape_len, const size
 /*
  * Writes why a shape can't be split along an axis: of nd_split_at after the rules on the layout. Always ND_OK.
  *
- * (2,3) along axis 1 at 4: ND_OUT_OF_BOUNDS, ND_RULE_SPLIT, axis 1, size 3; along axis 2: ND_RULE_AXIS, axis 2, size 2.
+ * (2,3) along axis 1 at 4: ND_OUT_OF_BOUNDS, ND_RULE_SPLIT, axis 1, size 3, other 4; along axis 2: ND_RULE_AXIS, axis 2, size 2.
  */
 int32_t nd_split_at_reason(const size_t *shape, size_t shape_len, size_t axis, size_t index, nd_reason *reason) ND_USED;
 
@@ -744,8 +783,27 @@ ND_INLINE const char *nd_status_message(int32_t status) {
  * the two that count makes one call from above with the fields of a layout. It returns the call's status, and after any but
  * ND_OK nothing has been written. The layout that is written comes last, and may be the one that is read. ND_BAD_ARGUMENT,
  * before every other status, also says that a layout has more than ND_MAX_AXES axes, or would have.
+ *
+ * ND_MAX_AXES is 32, or what a program defines it as before it includes this header: a number from 4 on, in digits alone. With 4
+ * a view takes 104 bytes and an iterator of rows 136, where they take 552 and 808. All files of a program that pass views,
+ * layouts or iterators to one another define the same number. The library takes lists, and knows none.
  */
+#ifndef ND_MAX_AXES
 #define ND_MAX_AXES 32
+#elif ND_MAX_AXES < 4
+#error "ND_MAX_AXES is 4 or more"
+#endif
+
+/* (of these headers alone) With room for another count of axes, types have names of their own, which C++ links with no others. */
+#if ND_MAX_AXES != 32
+#define ND_SIZED_AS(name, axes) name##_##axes
+#define ND_SIZED_BY(name, axes) ND_SIZED_AS(name, axes)
+#define ND_SIZED(name) ND_SIZED_BY(name, ND_MAX_AXES)
+#define nd_layout ND_SIZED(nd_layout)
+#define nd_view ND_SIZED(nd_view)
+#define nd_row_iter ND_SIZED(nd_row_iter)
+#define nd_rows_iter ND_SIZED(nd_rows_iter)
+#endif
 
 /* A start, a count of axes, and a length and a stride for each. What the lists hold after these is not looked at. */
 typedef struct nd_layout {
@@ -760,6 +818,7 @@ ND_CHECKED((1)) int nd_put_shape(nd_layout *layout, const size_t *shape, size_t 
     size_t axis;
     if (shape_len > ND_MAX_AXES) return 0;
     layout->axes = shape_len;
+    layout->shape[0] = 0; /* (so that compilers don't warn of a list that nothing has written, where there are no axes) */
     for (axis = 0; axis < shape_len; axis++) layout->shape[axis] = shape[axis];
     return 1;
 }

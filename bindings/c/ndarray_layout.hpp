@@ -86,6 +86,8 @@ constexpr elem index(Coordinate coordinate) {
     return ND_INDEX(coordinate);
 }
 
+ND_BEGIN_SIZED
+
 // A layout over `len` elements from `data` on, which the program keeps. A view of const elements is accepted as read-only, one
 // of others as owned; `broadcast` gives a view of const elements. Constructors and calls throw `nd::error`.
 template <class T>
@@ -141,30 +143,32 @@ public:
         return view_.layout.shape[axis];
     }
 
-    // The element of an index, each coordinate and the place compared; null, or an error, where it is no index. Coordinates are
-    // integers: others don't compile.
+    // The element of an index, each coordinate compared; null, or an error, where it is no index. Coordinates are integers: others
+    // don't compile. Of a view by value a loop costs what one by hand does; of one by reference it does so too, unless the loop
+    // writes bytes: take a cursor there.
     template <class... Coordinates>
     [[nodiscard]] T *find(Coordinates... coordinates) const {
         ND_EXPECT_COORDINATES((is_coordinate_v<Coordinates> && ...));
-        T *const data = data_;
-        const std::size_t place = place_of(static_cast<std::size_t>(coordinates)...);
-        if (place == ND_NO_PLACE) return nullptr;
-        T *const found = data + place;
-        ND_ASSUME(found != nullptr);
-        return found;
+        if constexpr (sizeof...(Coordinates) > ND_MAX_AXES) return nullptr;
+        else return axes() == sizeof...(Coordinates) ? at<sizeof...(Coordinates)>().find(coordinates...) : nullptr;
     }
     template <class... Coordinates>
     T &operator()(Coordinates... coordinates) const {
-        T *const found = find(coordinates...);
-        if (found == nullptr) refuse(ND_OUT_OF_BOUNDS);
-        return *found;
+        ND_EXPECT_COORDINATES((is_coordinate_v<Coordinates> && ...));
+        static_assert(sizeof...(Coordinates) <= ND_MAX_AXES, "no view has so many axes");
+        if (axes() != sizeof...(Coordinates)) refuse(ND_OUT_OF_BOUNDS);
+        return at<sizeof...(Coordinates)>()(coordinates...);
     }
 
-    // For loops: ND_INCOMPATIBLE_SHAPE where the view has another count of axes.
+    // For loops that write: ND_INCOMPATIBLE_SHAPE where the view has another count of axes. A view becomes one where it is passed.
     template <std::size_t Axes>
     [[nodiscard]] nd::cursor<T, Axes> cursor() const {
         if (axes() != Axes) refuse(ND_INCOMPATIBLE_SHAPE);
-        return {data_, view_.layout};
+        return at<Axes>();
+    }
+    template <class Other, std::size_t Axes, class = std::enable_if_t<std::is_same_v<Other, T> || std::is_same_v<Other, const T>>>
+    operator nd::cursor<Other, Axes>() const {
+        return cursor<Axes>();
     }
 
     [[nodiscard]] nd::rows<T> rows(std::int32_t order = ND_ROW_MAJOR) const { return rows_by(nd_view_rows, order); }
@@ -282,16 +286,9 @@ public:
 #endif
 
 private:
-    std::size_t place_of(std::size_t i) const { return nd_at1(&view_, i); }
-    std::size_t place_of(std::size_t i, std::size_t j) const { return nd_at2(&view_, i, j); }
-    std::size_t place_of(std::size_t i, std::size_t j, std::size_t k) const { return nd_at3(&view_, i, j, k); }
-    std::size_t place_of(std::size_t i, std::size_t j, std::size_t k, std::size_t l) const {
-        return nd_at4(&view_, i, j, k, l);
-    }
-    template <class... Coordinates>
-    std::size_t place_of(Coordinates... coordinates) const {
-        const std::array<std::size_t, sizeof...(coordinates)> list{coordinates...};
-        return nd_at_n(&view_, list.data(), list.size());
+    template <std::size_t Axes>
+    nd::cursor<T, Axes> at() const {
+        return {data_, view_.layout};
     }
 
     // The stride of an axis in a mapping: that of the view, or without an index that of a shape without gaps.
@@ -348,7 +345,9 @@ template <class... T>
 [[nodiscard]] rows_in_step<T...> joined_rows(std::int32_t order, const view<T> &...views) {
     const std::array<const nd_view *, sizeof...(T)> all{&views.as_c()...};
     nd_rows_iter left;
-    expect_ok(nd_views_of_joined_rows(all.data(), all.size(), order, &left));
+    fault of{nd_views_of_joined_rows(all.data(), all.size(), order, &left)};
+    if (of.status == ND_INCOMPATIBLE_SHAPE) nd_put_shapes_reason(all.data(), all.size(), &of.reason);
+    if (of.status != ND_OK) refuse(of);
     return {std::tuple<T *...>(views.data()...), left};
 }
 template <class... T>
@@ -366,6 +365,7 @@ template <class First, class Second>
     return answer != 0;
 }
 
+ND_END_SIZED
 } // namespace nd
 
 #endif

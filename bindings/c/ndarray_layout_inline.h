@@ -127,8 +127,11 @@ ND_CHECKED((7)) int32_t nd_view_from_strides(const size_t *shape, size_t shape_l
  * since, or is stale, each place is still less than `data.len`: unsigned numbers wrap, and they are compared last. So it
  * relies on this alone: the buffer has `data.len` elements. A negative coordinate is a great unsigned one, and no index.
  *
- * For an element alone, and loops over two axes. Where a loop reads many neighbours of each element, as a blur does, rows of
- * slices are several times as fast: nd_view_rows, and the project's bindings/c/examples/blur.c.
+ * For an element alone, and loops over two axes. A loop that reads costs what one by hand does that compares each place, and so
+ * does one that writes through a view that the function has itself: made there, sliced there, or copied, `const nd_view own =
+ * *view;`. Through a pointer to a view that another function has, writes of bytes cost two to three times as much: see cursors
+ * below. Where a loop reads many neighbours of each element, as a blur does, rows of slices are several times as fast:
+ * nd_view_rows, and the project's bindings/c/examples/blur.c.
  *
  * Over 6 elements, (2,3), strides (-3,1): nd_at(&view, 1, 2) is 2, nd_at(&view, 2, 0) and nd_at(&view, 1) are ND_NO_PLACE.
  */
@@ -200,6 +203,8 @@ ND_CHECKED((1)) ND_WRAPS size_t nd_at4(const nd_view *view, size_t i, size_t j, 
  *     if (nd_view_cursor2(&view, &at) != ND_OK) return;
  *     for (i = 0; i < at.shape[0]; i++)
  *         for (j = 0; j < at.shape[1]; j++) pixels[nd_cursor_at(at, i, j)] = 0;
+ *
+ * A function takes a cursor by value, as `static void clear(unsigned char *pixels, nd_cursor2 at)`: it is 5 numbers for two axes.
  */
 typedef struct nd_cursor1 {
     size_t start, shape[1];

@@ -210,7 +210,7 @@ ND_CHECKED((1, 2)) size_t nd_other_length(const nd_layout *first, const nd_layou
 
 /* (of this header alone) Why several views aren't of one shape. */
 ND_INLINE void nd_put_shapes_reason(const nd_view *const *views, size_t count, nd_reason *reason) {
-    const nd_reason none = {ND_OK, ND_RULE_NONE, 0, 0, 0};
+    const nd_reason none = {ND_OK, ND_RULE_NONE, 0, 0, 0, 0, 0, 0};
     size_t at;
     *reason = none;
     for (at = 1; at < count; at++) {
@@ -222,6 +222,8 @@ ND_INLINE void nd_put_shapes_reason(const nd_view *const *views, size_t count, n
         reason->rule = first->axes == other->axes ? ND_RULE_OTHER_LENGTH : ND_RULE_COUNT;
         reason->axis = first->axes == other->axes ? axis : 0;
         reason->size = first->axes == other->axes ? other->shape[axis] : other->axes;
+        reason->other = first->axes == other->axes ? first->shape[axis] : first->axes;
+        reason->list = first->axes == other->axes ? 0 : ND_LIST_VIEW;
         return;
     }
 }
@@ -312,8 +314,8 @@ ND_CHECKED((1, 4)) int32_t nd_views_joined_rows(const nd_view *views, size_t cou
  *
  * ND_BAD_ARGUMENT for the count or the axes.
  *
- * (2,3), (2,3) and (2,4): ND_INCOMPATIBLE_SHAPE, ND_RULE_OTHER_LENGTH, axis 1, number 2, size 4. (2,3) and (2): ND_RULE_COUNT,
- * number 1, size 1.
+ * (2,3), (2,3) and (2,4): ND_INCOMPATIBLE_SHAPE, ND_RULE_OTHER_LENGTH, axis 1, number 2, size 4, other 3. (2,3) and (2):
+ * ND_RULE_COUNT, ND_LIST_VIEW, number 1, size 1, other 2.
  */
 ND_CHECKED((1, 3)) int32_t nd_views_reason(const nd_view *views, size_t count, nd_reason *reason) {
     const nd_view *pointers[ND_MAX_VIEWS];

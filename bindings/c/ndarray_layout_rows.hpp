@@ -74,30 +74,44 @@ inline constexpr bool is_coordinate_v = sizeof(Number) <= sizeof(std::size_t) &&
 #define ND_EXPECT_COORDINATES(holds) \
     static_assert(holds, "coordinates, bounds and steps are integers, not bool, of no more bits than std::size_t")
 
-// The elements of a row, `stride()` apart. Where that is 1, `data()` and `size()` are those of a std::span.
+// The elements of a row, `stride()` apart, in a range of random access. Where that is 1, `data()` and `size()` are those of a
+// std::span. (A position has a sign, with which compilers add where they would multiply, and go over a row of stride 1 by vectors.)
 template <class T>
 class row {
 public:
     class iterator {
     public:
-        using iterator_category = std::forward_iterator_tag;
+        using iterator_category = std::random_access_iterator_tag;
         using value_type = std::remove_cv_t<T>;
         using difference_type = std::ptrdiff_t;
         using pointer = T *;
         using reference = T &;
         iterator() = default;
-        iterator(T *first, std::ptrdiff_t stride, std::size_t at) : first_(first), stride_(stride), at_(at) {}
-        T &operator*() const { return first_[static_cast<std::ptrdiff_t>(at_) * stride_]; }
+        iterator(T *first, std::ptrdiff_t stride, std::ptrdiff_t at) : first_(first), stride_(stride), at_(at) {}
+        T &operator*() const { return first_[at_ * stride_]; }
         T *operator->() const { return &**this; }
+        T &operator[](std::ptrdiff_t far) const { return *(*this + far); }
         iterator &operator++() { return ++at_, *this; }
+        iterator &operator--() { return --at_, *this; }
         iterator operator++(int) { return {first_, stride_, at_++}; }
-        bool operator==(const iterator &other) const { return at_ == other.at_; }
-        bool operator!=(const iterator &other) const { return at_ != other.at_; }
+        iterator operator--(int) { return {first_, stride_, at_--}; }
+        iterator &operator+=(std::ptrdiff_t far) { return at_ += far, *this; }
+        iterator &operator-=(std::ptrdiff_t far) { return at_ -= far, *this; }
+        friend iterator operator+(iterator from, std::ptrdiff_t far) { return from += far; }
+        friend iterator operator+(std::ptrdiff_t far, iterator from) { return from += far; }
+        friend iterator operator-(iterator from, std::ptrdiff_t far) { return from -= far; }
+        friend std::ptrdiff_t operator-(const iterator &to, const iterator &from) { return to.at_ - from.at_; }
+        friend bool operator==(const iterator &one, const iterator &other) { return one.at_ == other.at_; }
+        friend bool operator!=(const iterator &one, const iterator &other) { return one.at_ != other.at_; }
+        friend bool operator<(const iterator &one, const iterator &other) { return one.at_ < other.at_; }
+        friend bool operator>(const iterator &one, const iterator &other) { return one.at_ > other.at_; }
+        friend bool operator<=(const iterator &one, const iterator &other) { return one.at_ <= other.at_; }
+        friend bool operator>=(const iterator &one, const iterator &other) { return one.at_ >= other.at_; }
 
     private:
         T *first_ = nullptr;
         std::ptrdiff_t stride_ = 0;
-        std::size_t at_ = 0;
+        std::ptrdiff_t at_ = 0;
     };
 
     row(T *first, nd_row of) : first_(first), of_(of) {}
@@ -106,12 +120,30 @@ public:
     [[nodiscard]] std::ptrdiff_t stride() const { return of_.stride; }
     [[nodiscard]] T *data() const { return first_; }
     iterator begin() const { return {first_, of_.stride, 0}; }
-    iterator end() const { return {first_, of_.stride, of_.len}; }
+    iterator end() const { return {first_, of_.stride, static_cast<std::ptrdiff_t>(of_.len)}; }
 
 private:
     T *first_;
     nd_row of_;
 };
+
+// (A compiler guesses from where a stride comes that it is seldom 1, and then makes no loop of its own for 1.)
+inline std::ptrdiff_t any_stride(std::ptrdiff_t stride) {
+#ifdef __GNUC__
+    __asm__("" : "+r"(stride));
+#endif
+    return stride;
+}
+
+// What depends on ND_MAX_AXES, where it isn't 32, has names of its own, which link with no others.
+#ifdef ND_SIZED
+#define ND_BEGIN_SIZED inline namespace ND_SIZED(axes) {
+#define ND_END_SIZED }
+#else
+#define ND_BEGIN_SIZED
+#define ND_END_SIZED
+#endif
+ND_BEGIN_SIZED
 
 // The rows of a view, an input range: `for (nd::row<T> row : view.rows())`.
 template <class T>
@@ -125,17 +157,27 @@ public:
         using difference_type = std::ptrdiff_t;
         using pointer = void;
         using reference = row<T>;
-        iterator(T *data, const nd_row_iter &left) : data_(data), left_(left) { ++*this; }
-        row<T> operator*() const { return {data_ + now_.start, now_}; }
-        iterator &operator++() { return has_row_ = nd_next_row(&left_, &now_) != 0, *this; }
+        iterator(T *data, const nd_row_iter &left)
+            : data_(data), len_(left.len), stride_(any_stride(left.stride)), left_(left) {
+            ++*this;
+        }
+        row<T> operator*() const { return {data_ + start_, nd_row{start_, len_, stride_}}; }
+        iterator &operator++() {
+            nd_row now{0, 0, 0};
+            has_row_ = nd_next_row(&left_, &now) != 0;
+            start_ = now.start;
+            return *this;
+        }
         void operator++(int) { ++*this; }
         friend bool operator==(const iterator &at, sentinel) { return !at.has_row_; }
         friend bool operator!=(const iterator &at, sentinel) { return at.has_row_; }
 
     private:
         T *data_;
+        std::size_t len_; // (of all rows, as is the stride)
+        std::ptrdiff_t stride_;
+        std::size_t start_ = 0;
         nd_row_iter left_;
-        nd_row now_{0, 0, 0};
         bool has_row_ = false;
     };
 
@@ -194,17 +236,23 @@ private:
 };
 
 // The elements of a view of so many axes, by value: for loops that write, as a picture's do by bytes. A write through a `char *`
-// may change a view as far as a compiler knows, which then reads it again for each element; a local cursor is no such thing:
-// `const auto at = view.cursor<2>();`, and in the loop `at(row, column)`.
+// may change a view that is passed by reference as far as a compiler knows, which then reads it again for each element; a cursor
+// is no such thing. `const auto at = view.cursor<2>();`, and in the loop `at(row, column)`; or a parameter, to which a view is
+// passed as it is: `void invert(nd::cursor<unsigned char, 2> picture)`.
 template <class T, std::size_t Axes>
 class cursor {
+    static_assert(Axes <= ND_MAX_AXES, "no view has so many axes");
+
 public:
-    cursor(T *data, const nd_layout &layout) : first_(data + layout.start) {
+    cursor(T *data, const nd_layout &layout) : data_(data), start_(layout.start) {
         for (std::size_t axis = 0; axis < Axes; axis++) {
             shape_[axis] = layout.shape[axis];
             strides_[axis] = layout.strides[axis];
         }
     }
+    template <class Other, class = std::enable_if_t<std::is_same_v<const Other, T>>>
+    cursor(const cursor<Other, Axes> &other)
+        : data_(other.data_), start_(other.start_), shape_(other.shape_), strides_(other.strides_) {}
 
     [[nodiscard]] std::size_t length(std::size_t axis) const {
         if (axis >= Axes) refuse(ND_OUT_OF_BOUNDS);
@@ -215,17 +263,18 @@ public:
     template <class... Coordinates>
     [[nodiscard]] T *find(Coordinates... coordinates) const {
         if (!is_index(axes{}, coordinates...)) return nullptr;
-        T *const found = first_ + far(axes{}, coordinates...);
-        ND_ASSUME(found != nullptr);
-        return found;
+        ND_ASSUME(data_ != nullptr);
+        return &at(axes{}, coordinates...);
     }
     template <class... Coordinates>
     T &operator()(Coordinates... coordinates) const {
         if (!is_index(axes{}, coordinates...)) refuse(ND_OUT_OF_BOUNDS);
-        return first_[far(axes{}, coordinates...)];
+        return at(axes{}, coordinates...);
     }
 
 private:
+    template <class, std::size_t>
+    friend class cursor;
     using axes = std::make_index_sequence<Axes>;
     template <std::size_t... Axis, class... Coordinates>
     bool is_index(std::index_sequence<Axis...>, Coordinates... coordinates) const {
@@ -234,15 +283,17 @@ private:
         return ((static_cast<std::size_t>(coordinates) < shape_[Axis]) && ...);
     }
     template <std::size_t... Axis, class... Coordinates>
-    std::ptrdiff_t far(std::index_sequence<Axis...>, Coordinates... coordinates) const {
-        return (std::ptrdiff_t{0} + ... + (static_cast<std::ptrdiff_t>(coordinates) * strides_[Axis]));
+    ND_WRAPS T &at(std::index_sequence<Axis...>, Coordinates... coordinates) const {
+        return data_[(start_ + ... + (static_cast<std::size_t>(coordinates) * static_cast<std::size_t>(strides_[Axis])))];
     }
 
-    T *first_;
+    T *data_;
+    std::size_t start_;
     std::array<std::size_t, Axes> shape_{};
     std::array<std::ptrdiff_t, Axes> strides_{};
 };
 
+ND_END_SIZED
 } // namespace nd
 
 #endif

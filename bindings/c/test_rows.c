@@ -119,11 +119,11 @@ static void test_refused(void) {
     CHECK(nd_views_joined_rows(views, 2, ND_ROW_MAJOR, &rows) == ND_OK);
     CHECK(has_none(nd_views_joined_rows(views, 4, 0, &rows), ND_INCOMPATIBLE_SHAPE, &rows));
     CHECK(nd_views_reason(views, 4, &reason) == ND_OK && reason.status == ND_INCOMPATIBLE_SHAPE);
-    CHECK(reason.rule == ND_RULE_OTHER_LENGTH && reason.axis == 1 && reason.number == 2 && reason.size == 4);
+    CHECK(reason.rule == ND_RULE_OTHER_LENGTH && reason.axis == 1 && reason.number == 2 && reason.size == 4 && reason.other == 3);
     views[2] = views[1];
     CHECK(has_none(nd_views_joined_rows(views, 4, 0, &rows), ND_INCOMPATIBLE_SHAPE, &rows));
     CHECK(nd_views_reason(views, 4, &reason) == ND_OK && reason.status == ND_INCOMPATIBLE_SHAPE);
-    CHECK(reason.rule == ND_RULE_COUNT && reason.axis == 0 && reason.number == 3 && reason.size == 1);
+    CHECK(reason.rule == ND_RULE_COUNT && reason.list == ND_LIST_VIEW && reason.number == 3 && reason.size == 1);
     views[3] = views[1];
     views[3].layout.start = 24;
     CHECK(has_none(nd_views_joined_rows(views, 4, 0, &rows), ND_OUT_OF_BOUNDS, &rows));

@@ -7,7 +7,7 @@ enum { ROUNDS = 100000, LIST_LEN = 6 };
 
 /* Whether a reason has this text, of this length, in room of each size. */
 static int reads(const nd_reason *reason, const char *text) {
-    char room[160];
+    char room[200];
     const size_t len = strlen(text);
     size_t size;
     if (nd_reason_text(reason, NULL, 0) != len || len >= sizeof room) return 0;
@@ -22,7 +22,7 @@ static int reads(const nd_reason *reason, const char *text) {
 
 static nd_reason reason_of(int32_t rule, size_t axis, ptrdiff_t number, size_t size) {
     nd_reason reason;
-    reason.status = ND_OK;
+    memset(&reason, 0, sizeof reason);
     reason.rule = rule;
     reason.axis = axis;
     reason.number = number;
@@ -30,23 +30,55 @@ static nd_reason reason_of(int32_t rule, size_t axis, ptrdiff_t number, size_t s
     return reason;
 }
 
+/* Whether a rule, of a list, has this text where its axis is 1, its number 2, its size 4 and the other one 6. */
+static int says(int32_t rule, int32_t list, const char *text) {
+    nd_reason reason = reason_of(rule, 1, 2, 4);
+    reason.list = list;
+    reason.other = 6;
+    return reads(&reason, text);
+}
+
 /* Each rule has a text, with what its fields hold; and no other number has. */
 static void test_texts(void) {
+    int32_t rule, list;
+    CHECK(says(ND_RULE_COUNT, ND_LIST_STRIDES, "the shape has 6 lengths and the strides have 4, one for each axis is needed"));
+    CHECK(says(ND_RULE_COUNT, ND_LIST_SLICE, "the slice has 4 elements for 6 axes, and needs one for each"));
+    CHECK(says(ND_RULE_COUNT, ND_LIST_INDEX, "4 coordinates for 6 axes"));
+    CHECK(says(ND_RULE_COUNT, ND_LIST_AXES, "4 axes are listed of 6"));
+    CHECK(says(ND_RULE_COUNT, ND_LIST_TARGET, "6 axes can't be broadcast to 4"));
+    CHECK(says(ND_RULE_COUNT, ND_LIST_WINDOW, "a window has 4 lengths for 6 axes, and needs one for each"));
+    CHECK(says(ND_RULE_COUNT, ND_LIST_CHUNK, "a chunk has 4 lengths for 6 axes, and needs one for each"));
+    CHECK(says(ND_RULE_COUNT, ND_LIST_VIEW, "view 2 has 4 axes, and the first one 6"));
+    CHECK(says(ND_RULE_COUNT, 0, "a list of another count than there are axes"));
+    CHECK(says(ND_RULE_EMPTY, ND_LIST_WINDOW, "axis 1: the length of a window is 0, and has to be above 0"));
+    CHECK(says(ND_RULE_EMPTY, ND_LIST_CHUNK, "axis 1: the length of a chunk is 0, and has to be above 0"));
+    CHECK(says(ND_RULE_COORDINATE, 0, "axis 1: index 4 is out of bounds of length 6"));
+    CHECK(says(ND_RULE_SPLIT, 0, "axis 1: index 6 is past length 4"));
+    CHECK(says(ND_RULE_LOWEST, 0, "the lowest place, 4 before the start 6, is below 0 (in elements)"));
+    CHECK(says(ND_RULE_COPY, 0, "axis 1: the new shape takes a copy: length 4 times stride 2 isn't the stride of the axis read "
+                                "before it (in elements)"));
+    CHECK(says(ND_RULE_OTHER_LENGTH, 0, "axis 1: view 2 has length 4, and the first one 6"));
+    CHECK(says(ND_RULE_ROOM, 0, "a layout would have 4 axes, and there is room for 32"));
+    CHECK(says(ND_RULE_ROOM + 1, 0, "a number that is no rule"));
+    for (rule = ND_RULE_NONE; rule <= ND_RULE_ROOM; rule++) CHECK(strstr(nd_rule_text(rule), "no rule") == NULL || rule == 0);
+    for (list = ND_LIST_STRIDES; list <= ND_LIST_VIEW; list++) CHECK(nd_count_text(list) != nd_count_text(0));
+}
+
+/* Numbers that are far are written by the power of two that they are, or are next to. */
+static void test_numbers(void) {
     const ptrdiff_t least = -(ptrdiff_t)((size_t)-1 / 2) - 1;
     nd_reason reason = reason_of(ND_RULE_INDEX, 2, 9, 5);
-    int32_t rule;
     CHECK(reads(&reason, "axis 2: index 9 is out of bounds of length 5"));
-    reason = reason_of(ND_RULE_BOUND, 0, least, (size_t)-1);
-    CHECK(reads(&reason, "axis 0: bound -9223372036854775808 is past length 18446744073709551615; ND_CLAMPED moves it to the end"));
+    reason = reason_of(ND_RULE_INDEX, (size_t)-1, least, (size_t)1 << 32);
+    CHECK(reads(&reason, "axis 2**64 - 1: index -2**63 is out of bounds of length 2**32"));
+    reason = reason_of(ND_RULE_INDEX, ((size_t)1 << 32) - 1, -(ptrdiff_t)((size_t)-1 / 2), ((size_t)1 << 33) - 2);
+    CHECK(reads(&reason, "axis 4294967295: index -9223372036854775807 is out of bounds of length 8589934590"));
     reason = reason_of(ND_RULE_SPAN, 0, 0, 0);
-    CHECK(reads(&reason, "the span is above the limit 9223372036854775807"));
-    reason = reason_of(ND_RULE_ROOM, 0, 0, 33);
-    CHECK(reads(&reason, "a layout would have 33 axes, and there is room for 32"));
-    reason = reason_of(ND_RULE_OTHER_LENGTH, 1, 2, 4);
-    CHECK(reads(&reason, "axis 1: view 2 has length 4, and the first one another"));
-    reason = reason_of(ND_RULE_ROOM + 1, 0, 0, 0);
-    CHECK(reads(&reason, "a number that is no rule"));
-    for (rule = ND_RULE_NONE; rule <= ND_RULE_ROOM; rule++) CHECK(strstr(nd_rule_text(rule), "no rule") == NULL || rule == 0);
+    reason.unit = ND_BYTES;
+    CHECK(reads(&reason, "the span is above the limit 2**63 - 1 (in bytes)"));
+    reason = reason_of(ND_RULE_HIGHEST, 0, 0, 0);
+    reason.other = (size_t)-1 / 2 + 1;
+    CHECK(reads(&reason, "the highest place, 0 after the start 2**63, is above the limit 2**63 - 1 (in elements)"));
 }
 
 /* A list of up to five numbers, mostly small and seldom great. */
@@ -164,6 +196,7 @@ static void test_beside_calls(void) {
 
 int main(void) {
     test_texts();
+    test_numbers();
     test_beside_calls();
     printf("%d checked, %d failed\n", checked, failed);
     return failed != 0;

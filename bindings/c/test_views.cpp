@@ -2,6 +2,7 @@
 #include "ndarray_layout.hpp"
 
 #include <algorithm>
+#include <array>
 #include <cstdio>
 #include <numeric>
 #include <string>
@@ -28,7 +29,7 @@ static std::int32_t refused(Call call) {
         call();
     } catch (const nd::error &error) {
         const bool has_reason = error.reason().rule != ND_RULE_NONE;
-        char text[160];
+        char text[200];
         nd_reason_text(&error.reason(), text, sizeof text);
         return error.what() == std::string(has_reason ? text : nd_status_message(error.status())) ? error.status() : -1;
     }
@@ -92,7 +93,72 @@ static void test_cursors() {
     CHECK(numbers[5] == 50);
     numbers[5] = 5;
     const nd::view<const int> cube(numbers.data(), 12, {2, 3, 2}), five(numbers.data(), 12, {1, 2, 1, 3, 2});
+    const nd::view<const int> one(numbers.data(), 12, {});
+    CHECK(one() == 0 && one.find() == numbers.data() && one.cursor<0>()() == 0 && one.find(0) == nullptr);
     CHECK(cube.cursor<3>()(1, 2, 1) == 11 && cube(1, 2, 1) == 11 && five(0, 1, 0, 2, 1) == 11 && five.cursor<5>()(0, 1, 0, 2, 1) == 11);
+}
+
+// A view is passed as a cursor of its axes, of its elements or of const ones; a cursor of others isn't one of these.
+static int sum_of(nd::cursor<const int, 2> at) { return at(0, 1) + at(1, 0); }
+static void add_to(nd::cursor<int, 2> at, int number) { at(1, 0) += number; }
+static_assert(!std::is_convertible_v<nd::view<const int>, nd::cursor<int, 2>>);
+static_assert(!std::is_convertible_v<nd::cursor<const int, 2>, nd::cursor<int, 2>>);
+static_assert(!std::is_convertible_v<nd::view<int>, nd::cursor<unsigned, 2>>);
+
+static void test_views_as_cursors() {
+    const nd::view<int> view(numbers.data(), 12, {3, 4}), back = view.slice({nd::from(0, -1), nd::from(1)});
+    const nd::view<const int> fixed = back;
+    CHECK(sum_of(view) == 5 && sum_of(back) == 15 && sum_of(fixed) == 15 && sum_of(view.cursor<2>()) == 5);
+    add_to(back, 70);
+    CHECK(numbers[5] == 75);
+    numbers[5] = 5;
+    CHECK(refused([&] { (void)sum_of(view.reshape({12})); }) == ND_INCOMPATIBLE_SHAPE);
+}
+
+// Each element of views at random, and what lies around their indices, beside the places that the library has.
+static void test_elements_beside_places() {
+    std::vector<unsigned char> bytes(64);
+    std::iota(bytes.begin(), bytes.end(), std::uint8_t{1});
+    const nd::view<unsigned char> whole(bytes.data(), 64, {4, 4, 4});
+    int found = 0;
+    for (int round = 0; round < 512; round++) {
+        const auto part = [](int bits) { return nd::from(bits / 2 % 2, (1 + bits / 4) * (bits % 2 == 0 ? 1 : -1)); };
+        const auto view = whole.slice({part(round % 8), part(round / 8 % 8), part(round / 64)});
+        const auto at = view.cursor<3>();
+        for (std::size_t cell = 0; cell < 125; cell++) {
+            const std::array<std::size_t, 3> index{cell / 25, cell / 5 % 5, cell % 5};
+            std::size_t place = 0;
+            const bool is_index = nd_layout_place(&view.as_c().layout, index.data(), 3, &place) == ND_OK;
+            const unsigned char *const expected = is_index ? &bytes[place] : nullptr;
+            if (view.find(index[0], index[1], index[2]) != expected || at.find(index[0], index[1], index[2]) != expected) CHECK(false);
+            if (is_index && (&view(index[0], index[1], index[2]) != expected || &at(index[0], index[1], index[2]) != expected)) CHECK(false);
+            if (is_index) found++;
+        }
+    }
+    CHECK(found > 5000);
+}
+
+// The elements of a row by each call of an iterator, and by algorithms that go back and forth.
+static void test_elements_of_rows() {
+    std::vector<int> mixed{5, 9, 1, 7, 3, 8};
+    const nd::view<int> view(mixed.data(), 6, {2, 3}), columns = view.permuted_axes({1, 0});
+    for (const nd::row<int> row : columns.rows()) std::sort(row.begin(), row.end());
+    CHECK(text_of(view.rows()) == "5 3 1 /7 9 8 /");
+    for (const nd::row<int> row : view.slice({nd::index(1), nd::from(0, -1)}).rows()) std::reverse(row.begin(), row.end());
+    CHECK(text_of(view.rows()) == "5 3 1 /8 9 7 /");
+    const nd::row<int> row = *columns.slice({nd::index(0), nd::all}).rows().begin();
+    const auto first = row.begin(), end = row.end();
+    CHECK(end - first == 2 && first[1] == 8 && *(first + 1) == 8 && *(1 + first) == 8 && *(end - 2) == 5 && *--row.end() == 8);
+    CHECK(first < end && end > first && first <= first && end >= first && !(end < first) && !(first > end) && first + 2 == end);
+    auto at = end;
+    CHECK(*(at -= 1) == 8 && at-- == first + 1 && at == first && (at += 2) == end);
+    const nd::row<const int> twice = *nd::view<const int>(mixed.data(), 6, {2}, {0}).rows().begin();
+    CHECK(std::accumulate(twice.begin(), twice.end(), 0) == 10 && std::count(twice.begin(), twice.end(), 5) == 2);
+#ifdef __cpp_lib_ranges
+    static_assert(std::ranges::random_access_range<nd::row<int>> && std::ranges::sized_range<nd::row<int>>);
+    std::ranges::sort(row, std::ranges::greater{});
+    CHECK(row[0] == 8 && row[1] == 5);
+#endif
 }
 
 static void test_rows() {
@@ -200,16 +266,19 @@ static void test_reasons() {
     const ints view(numbers.data(), 12, {3, 4});
     CHECK(said([&] { (void)view.slice({nd::all, nd::index(9)}); }) == "axis 1: index 9 is out of bounds of length 4");
     CHECK(said([&] { (void)view.slice({nd::from(0, 0), nd::all}); }) == "axis 0: the step is 0");
-    CHECK(said([&] { (void)view.permuted_axes({0, 0}); }) == "axis 1: it is missing, where each axis has to be once");
-    CHECK(said([&] { (void)view.reshape({5}); }) == "the new shape has 5 indices, and the layout another count");
-    CHECK(said([&] { (void)view.broadcast({3, 5}); }) == "axis 1: length 4 can't be broadcast to another");
-    CHECK(said([&] { (void)view.windows({2, 0}); }) == "axis 1: the length of a block is 0, and has to be above 0");
-    CHECK(said([&] { (void)view.exact_chunks({2}); }) == "a list has 1 items, and needs as many as there are axes");
+    CHECK(said([&] { (void)view.permuted_axes({0, 0}); }) == "axis 1: it is missing, where each of 2 axes has to be once");
+    CHECK(said([&] { (void)view.reshape({5}); }) == "the new shape has 5 indices, and the layout has 12");
+    CHECK(said([&] { (void)view.broadcast({3, 5}); }) == "axis 1: length 4 can't be broadcast to 5");
+    CHECK(said([&] { (void)view.windows({2, 0}); }) == "axis 1: the length of a window is 0, and has to be above 0");
+    CHECK(said([&] { (void)view.exact_chunks({2}); }) == "a chunk has 1 lengths for 2 axes, and needs one for each");
     CHECK(said([&] { (void)view.split_at(2, 0); }) == "axis 2: there are 2 axes, counted from 0");
-    CHECK(said([&] { ints(numbers.data(), 11, {3, 4}); }) == "the highest place 11 is past the end of the buffer");
+    CHECK(said([&] { ints(numbers.data(), 11, {3, 4}); }) == "the highest place 11 is past a buffer of 11 elements");
     CHECK(said([&] { ints(numbers.data(), 12, {std::size_t{1} << 62, 2}); }) ==
-          "the product of the lengths that are not 0 is above the limit 9223372036854775807");
-    CHECK(said([&] { ints(numbers.data(), 12, {3, 4}, {5, 1}); }) == "the highest place 13 is past the end of the buffer");
+          "the product of the lengths that are not 0 is above the limit 2**63 - 1");
+    CHECK(said([&] { ints(numbers.data(), 12, {3, 4}, {5, 1}); }) == "the highest place 13 is past a buffer of 12 elements");
+    CHECK(said([&] { (void)nd::joined_rows(view, ints(numbers.data(), 12, {4, 3})); }) ==
+          "axis 0: view 1 has length 4, and the first one 3");
+    CHECK(said([&] { (void)nd::joined_rows(view, ints(numbers.data(), 12, {12})); }) == "view 1 has 1 axes, and the first one 2");
     CHECK(said([&] { (void)view(3, 0); }) == nd_status_message(ND_OUT_OF_BOUNDS));
     try {
         (void)view.slice({nd::all, nd::index(9)});
@@ -274,6 +343,9 @@ int main() {
     std::iota(numbers.begin(), numbers.end(), 0);
     test_views();
     test_cursors();
+    test_views_as_cursors();
+    test_elements_beside_places();
+    test_elements_of_rows();
     test_rows();
     test_rows_in_step();
     test_views_of_views();

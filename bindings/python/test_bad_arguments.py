@@ -426,13 +426,16 @@ class LongNumbers(unittest.TestCase):
             (17, "more than 2**1024", 2**1024 + 1),
             (300, "more than 2**1024", 2**1024 + 1),
         ):
-            text = f"size {text} is above the limit 2**63 - 1"
+            text = f"the product of the lengths that are not 0 is above the limit 2**63 - 1; it is {text}"
             self.assert_far(text, {"size": size}, nd.default_strides, [2**63] * axes)
-            self.assert_far(text, {"size": size}, nd.lay_over, [2**63] * axes, [0] * axes, itemsize=8, nbytes=9)
-        text = "size more than 2**1024 is above the limit 2**63 - 1"
+            in_bytes = {"size": size if axes > 16 else 8 * size, "itemsize": 8}
+            text = f"{text.replace('2**1008', '2**1011')}, in bytes"
+            self.assert_far(text, in_bytes, nd.lay_over, [2**63] * axes, [0] * axes, itemsize=8, nbytes=9)
+        text = "the product of the lengths that are not 0 is above the limit 2**63 - 1; it is more than 2**1024"
         array = array_of((2**62,) * 300, (8,) * 300)
         self.assert_far(text, {"size": 2**1024 + 1}, nd.reshape_without_copy, array, (-1, 2**62, 2**62))
-        self.assert_far(text, {"size": 2**1024 + 1}, nd.share_element, array, 0, 0)
+        in_bytes = {"size": 2**1024 + 1, "itemsize": 8}
+        self.assert_far(f"{text}, in bytes", in_bytes, nd.share_element, array, 0, 0)
         self.assertEqual(nd.default_strides((2**62,)), (1,))
 
 

@@ -322,10 +322,10 @@ class Conflicts(unittest.TestCase):
         self.assertEqual((caught.exception.axis, caught.exception.numbers["region"]), (1, 1))
         with self.assertRaises(IndexError) as caught:
             nd.first_conflict((4, 4), [0, 1, (2, Slice(0, 5))])
-        self.assertEqual(str(caught.exception), "region 2: axis 1: bound 5 is past length 4; clamp=True moves it to the end, as NumPy does")
+        self.assertEqual(str(caught.exception), "region 2: axis 1: bound 5 is past length 4, and isn't clamped; clamp=True moves it to the end, as NumPy does")
         with self.assertRaises(LayoutError) as caught:
             nd.first_intersection((4, 4), [[0, 0], [0, Slice(0, 9)]])
-        self.assertEqual(str(caught.exception), "slice 1: axis 1: bound 9 is past length 4; clamp=True moves it to the end, as NumPy does")
+        self.assertEqual(str(caught.exception), "slice 1: axis 1: bound 9 is past length 4, and isn't clamped; clamp=True moves it to the end, as NumPy does")
 
     def test_one_of_the_first(self):
         """Where each region conflicts with the next, it is the first of them."""

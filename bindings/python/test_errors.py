@@ -148,7 +148,7 @@ class Rules:
             boundaries = [math.prod(new_read[:count]) for count in range(1, len(new_read) + 1)]
             is_loose = strides[slow] != shape[fast] * strides[fast]
             if is_loose and before < math.prod(new_shape) and before not in boundaries:
-                return ("IncompatibleLayout", slow)
+                return ("IncompatibleLayout", fast)
         return OK if math.prod(shape) == math.prod(new_shape) else ("IncompatibleShape", None)
 
 

@@ -5,10 +5,12 @@
 
 import pickle
 import random
+import re
 import unittest
 from array import array
 from collections import Counter
 from itertools import product
+from pathlib import Path
 from types import SimpleNamespace
 from unittest import mock
 
@@ -16,6 +18,7 @@ import ndarray_layout as nd
 from ndarray_layout import LayoutError, Slice
 from ndarray_layout import _loaded as loaded
 from ndarray_layout import _reasons as reasons
+from ndarray_layout import _sentences as sentences
 
 CALLS = 20_000
 
@@ -41,15 +44,15 @@ class Texts(unittest.TestCase):
         self.assert_error(text, bounds, nd.place, 0, (2, 3, 5), (15, 5, 1), (1, 2, 9))
         self.assert_error(text, bounds, nd.picked, (2, 3, 5), [1, 2, 9])
         self.assert_error(text, bounds, nd.basic_key, (2, 3, 5), (1, ..., 9))
-        text = "axis 0: bound 7 is past length 4; clamp=True moves it to the end, as NumPy does"
+        text = "axis 0: bound 7 is past length 4, and isn't clamped; clamp=True moves it to the end, as NumPy does"
         self.assert_error(text, {"bound": 7, "length": 4}, nd.picked, (4,), [Slice(0, 7)])
-        text = "size 2**64 is above the limit 2**63 - 1"
+        text = "the product of the lengths that are not 0 is above the limit 2**63 - 1; it is 2**64"
         self.assert_error(text, {"size": 2**64}, nd.default_strides, (2**32, 2**32))
-        self.assert_error("size 2**64 is above the limit 2**63 - 1", {"size": 2**64}, nd.windows, 2**62 + 3, 1, 4)
+        self.assert_error(text, {"size": 2**64}, nd.windows, 2**62 + 3, 1, 4)
         text = "axis 1: index 4 is past length 3"
         self.assert_error(text, {"index": 4, "length": 3}, nd.split_at, 0, (2, 3), (3, 1), 1, 4)
-        text = "the layout needs 6 elements of 5"
-        self.assert_error(text, {"needed": 6, "length": 5}, nd.layout_start, (2, 3), (-3, 1), length=5)
+        text = "the highest place 5 is past a buffer of 5 elements"
+        self.assert_error(text, {"highest": 5, "length": 5}, nd.layout_start, (2, 3), (-3, 1), length=5)
         text = (
             "Unsupported: axis 0: two indices may have one place, so it isn't writable: stride 2 isn't past 3, the reach of "
             "the axes with no greater stride (in elements); without writable=True it is only to be read"
@@ -84,14 +87,16 @@ class Texts(unittest.TestCase):
         self.assert_error(text, {"size": 0, "others": 0}, nd.Layout.over(0, 0).reshape, (-1, 0))
         text = "IncompatibleShape: axis 0: no length times 5 is the size 24"
         self.assert_error(text, {"size": 24, "others": 5}, layout.reshape, (-1, 5))
-        refused = "IncompatibleLayout: axis 0: shape (6, 4) with strides (1, 6) can't become {} in order 'C' without a copy: {}"
-        rule = "stride 1 isn't 4 times 6, the stride of axis 1 (in elements)"
-        text = refused.format("(25,)", f"{rule}, and size 24 isn't 25")
-        numbers = {"stride": 1, "fast": 1, "size": 24, "new_size": 25}
+        refused = (
+            "IncompatibleLayout: axis 1: the new shape takes a copy: length 4 times stride 6 isn't the stride of the axis "
+            "read before it (in elements); shape (6, 4) with strides (1, 6) can't become {} in order 'C', and {}"
+        )
+        text = refused.format("(25,)", "size 24 isn't 25")
+        numbers = {"stride": 6, "length": 4, "size": 24, "new_size": 25}
         self.assert_error(text, numbers, nd.reshape, (6, 4), (1, 6), (25,))
         self.assert_error(text, numbers, layout.T.reshape, 25)
-        text = refused.format("(24,)", f"{rule}; order='F' can")
-        self.assert_error(text, {"stride": 1, "fast": 1}, nd.reshape, (6, 4), (1, 6), 24)
+        text = refused.format("(24,)", "order='F' can")
+        self.assert_error(text, {"stride": 6, "length": 4}, nd.reshape, (6, 4), (1, 6), 24)
 
     def test_texts_count_bytes(self):
         """What an array says of itself: no axis of bytes, and no unit that wasn't given."""
@@ -100,17 +105,18 @@ class Texts(unittest.TestCase):
         self.assert_error(text, counts, nd.share_element, array_of((2,), (8, 8)), 0, 1)
         for strides in ((8, 8), (7, 8)):
             self.assert_error(text, counts, nd.lay_over, 2, strides, itemsize=8, nbytes=64)
-        text = "2**65 bytes are above the limit 2**63 - 1"
+        text = "the product of the lengths that are not 0 is above the limit 2**63 - 1; it is 2**65, in bytes"
         numbers = {"size": 2**65, "itemsize": 8}
         self.assert_error(text, numbers, nd.share_element, array_of((2**62,), (0,)), 0, 1)
-        text = "the array at offset 1 needs bytes 1 to 4 of 4"
-        numbers = {"offset": 1, "lowest": 1, "end": 5, "nbytes": 4}
+        text = "the highest place 4 is past a buffer of 4 bytes; the array at offset 1 needs bytes 1 to 4"
+        numbers = {"highest": 4, "length": 4, "offset": 1, "lowest": 1, "end": 5, "nbytes": 4}
         self.assert_error(text, numbers, nd.lay_over, (), (), itemsize=4, nbytes=4, offset=1)
-        text = "the array at offset 4 needs bytes -4 to 15 of 20"
-        numbers = {"offset": 4, "lowest": -4, "end": 16, "nbytes": 20}
+        text = "the lowest place, 8 before the start 4, is below 0 (in bytes); the array at offset 4 needs bytes -4 to 15"
+        numbers = {"below": 8, "start": 4, "offset": 4, "lowest": -4, "end": 16, "nbytes": 20}
         self.assert_error(text, numbers, nd.lay_over, (3, 2), (-4, 8), itemsize=4, nbytes=20, offset=4)
         for strides, needed in (((-12, 4), 24), ((-14, 4), 26)):
-            text, numbers = f"the array needs {needed} bytes of 23", {"needed": needed, "nbytes": 23}
+            text = f"the highest place {needed - 1} is past a buffer of 23 bytes; the array needs {needed} bytes"
+            numbers = {"highest": needed - 1, "length": 23, "needed": needed, "nbytes": 23}
             self.assert_error(text, numbers, nd.lay_over, (2, 3), strides, itemsize=4, nbytes=23)
         refused = (
             "Unsupported: axis 0: two indices may have one place, so it isn't writable: stride {} isn't past {}, the reach of "
@@ -123,7 +129,8 @@ class Texts(unittest.TestCase):
             text, {"stride": 8, "reach": 11}, nd.lay_over, (2, 2), (8, 8), itemsize=4, nbytes=20, writable=True
         )
         for stride in (8, 9):
-            text, numbers = f"the array needs {4 * stride} bytes of 20", {"needed": 4 * stride, "nbytes": 20}
+            text = f"the highest place {4 * stride} is past a buffer of 20 bytes; the array needs {4 * stride} bytes"
+            numbers = {"highest": 4 * stride, "length": 20, "needed": 4 * stride, "nbytes": 20}
             self.assert_error(text, numbers, nd.lay_over, (0, 5), (-400, stride), itemsize=4, nbytes=20)
         self.assert_error("nbytes -1 is negative", {"nbytes": -1}, nd.lay_over, 2, 4, itemsize=4, nbytes=-1)
         text = "axis 0: stride 2**70 is past 64 bits"
@@ -152,12 +159,11 @@ class Texts(unittest.TestCase):
                 seen["accepted"] += 1
             except IndexError as error:
                 self.assertFalse(0 <= lowest <= end <= nbytes and begin <= nbytes)
+                past, below = {"highest": end - 1, "length": nbytes}, {"below": begin - lowest, "start": offset}
                 if offset is None:
-                    expected = {"needed": end, "nbytes": nbytes}
-                elif offset > nbytes:
-                    expected = {"offset": offset, "nbytes": nbytes}
+                    expected = {**past, "needed": end, "nbytes": nbytes}
                 else:
-                    expected = {"offset": offset, "lowest": lowest, "end": end, "nbytes": nbytes}
+                    expected = {**(below if lowest < 0 else past), "offset": offset, "lowest": lowest, "end": end, "nbytes": nbytes}
                 self.assertEqual(error.numbers, expected)
                 seen["refused" + ", of an offset" * (offset is not None)] += 1
         print("test_numbers_count_bytes: " + ", ".join(f"{name} {count}" for name, count in sorted(seen.items())))
@@ -214,6 +220,18 @@ class Texts(unittest.TestCase):
         self.assert_error(text, {}, nd.next_index, (2,), (0,), "K")
         text = "BadArgument: order must be 'C', 'F' or 'A', not 'K'"
         self.assert_error(text, {}, nd.places, 0, (2,), (1,), "K")
+
+    def test_sentences_of_the_header(self):
+        """Those of Python are those of C, letter for letter, but for the rules that Python has no call for."""
+        header = (Path(__file__).parent.parent / "c" / "ndarray_layout_reasons.h").read_text()
+        cases = re.findall(r'case ND_(RULE|LIST)_(\w+):\s*return ((?:"[^"]*"\s*)+);', header)
+        found = {(group, name): "".join(re.findall('"([^"]*)"', text)) for group, name, text in cases}
+        for name in ("NONE", "COUNT", "OTHER_LENGTH", "ROOM"):
+            del found["RULE", name]
+        del found["LIST", "VIEW"]
+        named = {("RULE", rule.name): text for rule, text in sentences.SENTENCES.items()}
+        named |= {("LIST", what.name): text for what, text in sentences.COUNTS.items()}
+        self.assertEqual(named, found)
 
     def test_another_kind_says_nothing(self):
         """The status decides: a reason for another kind names no axis, and the text is the status's own."""

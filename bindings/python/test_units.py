@@ -99,9 +99,9 @@ class Worked(unittest.TestCase):
         self.assert_both(None, nd.check_layout, 12, backwards, at=1, length=24, writable=True)
         for call in (nd.layout_start, nd.lay_over):
             length = "nbytes" if call is nd.lay_over else "length"
-            with self.assertRaisesRegex(IndexError, "^the array needs 24 bytes of 23$"):
+            with self.assertRaisesRegex(IndexError, "^the highest place 23 is past a buffer of 23 bytes; the array needs 24 bytes$"):
                 call(backwards, **{length: 23})
-        with self.assertRaisesRegex(IndexError, "^the array at offset 8 needs bytes -4 to 19 of 24$"):
+        with self.assertRaisesRegex(IndexError, r"^the lowest place, 12 before .* \(in bytes\); the array at offset 8 needs bytes -4 to 19$"):
             nd.check_layout(8, backwards, length=24)
         with self.assertRaisesRegex(ShapeError, "^BadArgument: elem_size 4 beside an itemsize$"):
             nd.layout_start((2, 3), (12, 4), elem_size=4, itemsize=4, length=24)
@@ -214,25 +214,25 @@ class EachCall(unittest.TestCase):
                 with self.assertRaises(OverflowError, msg=call.__name__) as caught:
                     call(*arguments, **named, **({} if array_form else unit))
                 text = "bytes" if array_form or unit else "elements"
-                self.assertRegex(str(caught.exception), rf"^span \d+ is above the limit 2\*\*63 - 1 \(in {text}\)$")
+                self.assertRegex(str(caught.exception), rf"^the span is above the limit 2\*\*63 - 1 \(in {text}\); it is \d+$")
             wrong = (*start, array_of((2, 3), (4,), 4), *others)
             with self.assertRaisesRegex(ShapeError, "the shape has 2 lengths and the strides have 1, one", msg=call.__name__):
                 call(*wrong, **named)
 
     def test_texts(self):
         for text, named in (("elements", {}), ("bytes", {"itemsize": 1})):
-            with self.assertRaisesRegex(ShapeError, rf"stride 12 isn't 2 times 12, the stride of axis 1 \(in {text}\)"):
+            with self.assertRaisesRegex(ShapeError, rf"axis 1: .* length 2 times stride 12 isn't .* \(in {text}\);"):
                 nd.reshape((2, 2), (12, 12), 4, **named)
             with self.assertRaisesRegex(ShapeError, rf"stride 2 isn't past 2, the reach of the axes .* \(in {text}\)"):
                 nd.layout_start((2, 2), (2, 2), length=99, writable=True, **named)
         for text, named in (("elements", {}), ("bytes", {"itemsize": 2})):
-            with self.assertRaisesRegex(IndexError, rf"^the lowest place -3 is below 0 \(in {text}\)$"):
+            with self.assertRaisesRegex(IndexError, rf"^the lowest place, 4 before the start 1, is below 0 \(in {text}\)$"):
                 nd.place(1, (3,), (-2,), (0,), **named)
-            with self.assertRaisesRegex(IndexError, rf"^the highest place 2\*\*63 is above the limit .* \(in {text}\)$"):
+            with self.assertRaisesRegex(IndexError, rf"^the highest place, 2 after the start \d+, is above the limit .* \(in {text}\)$"):
                 nd.place(2**63 - 2, (3,), (1,), (0,), **named)
             with self.assertRaisesRegex(ShapeError, rf"strides \(1, 1\) in {text} may have one place twice"):
                 nd.has_distinct_places((4, 3), (1, 1), 0, **named)
-        with self.assertRaisesRegex(OverflowError, r"^2\*\*64 bytes are above the limit 2\*\*63 - 1$"):
+        with self.assertRaisesRegex(OverflowError, r" is above the limit 2\*\*63 - 1; it is 2\*\*64, in bytes$"):
             nd.is_layout_c((2**62,), (0,), itemsize=4)
 
     def test_item_sizes(self):

@@ -7,7 +7,7 @@ use crate::docs::{Contract, indexes, is_called_for_its_result};
 use crate::errors;
 use crate::examples::Example;
 use crate::library::without_memory;
-use crate::names::{ATTRIBUTES, COPIED, DERIVES, LEFT_OUT, OPEN, PRINTED, REFUSED, SEALED};
+use crate::names::{ATTRIBUTES, COPIED, DERIVES, LEFT_OUT, OPEN, PRINTED, REFUSED, SEALED, SOUND_BY_CONDITIONS};
 use crate::proofs;
 use crate::tokens::{Fault, Group, Kind, Token, Tree, begins_with, fault, length_of_generics, text_of};
 
@@ -15,6 +15,8 @@ use crate::tokens::{Fault, Group, Kind, Token, Tree, begins_with, fault, length_
 pub struct Names<'a> {
     /// The crate of the source, which is a module now.
     pub own: &'a str,
+    /// The first of the modules in that crate in which the source stands; nothing for the crate's own file.
+    pub module: &'a str,
     /// Crates that are modules beside it.
     pub beside: &'a [&'a str],
     /// Crates that are modules of the package.
@@ -31,6 +33,11 @@ impl Names<'_> {
     /// Whether the source is a crate of the package itself, which has callers outside.
     pub(crate) fn is_packed(&self) -> bool {
         self.package == "crate"
+    }
+
+    /// Whether the conditions of its calls keep `unsafe` sound.
+    pub(crate) fn is_sound_by_conditions(&self) -> bool {
+        SOUND_BY_CONDITIONS.contains(&(self.own, self.module))
     }
 }
 
@@ -366,7 +373,7 @@ impl<'a> Eraser<'a> {
             return Ok(None);
         }
         if !SEALED.contains(&name.text) {
-            return Err(fault(name, "is a trait, and isn't known to be sealed or open to callers"));
+            return Err(fault(name, "is a trait that neither `SEALED` nor `OPEN` of rust/eraser/names.rs has"));
         }
         self.contract.is_sealed = true;
         let head = rest.iter().position(|tree| tree.is("where") || tree.group("{").is_some());

@@ -26,7 +26,7 @@ use std::path::Path;
 use std::{env, fs};
 
 /// The crates of the layer, lowest first.
-const LAYER: &[&str] = &["nd_base", "nd_dim", "nd_shape", "nd_slice", "ndarray_layout", "nd_parts", "nd_lent", "nd_owned"];
+const LAYER: &[&str] = &["nd_base", "nd_dim", "nd_shape", "nd_slice", "ndarray_layout", "nd_lent", "nd_owned"];
 
 /// The libraries of programs.
 const PROGRAMS: &[&str] = &["ndl_session", "example_tiles_edits"];
@@ -130,6 +130,7 @@ fn write(top: &Path, into: &Path) -> Fallible<()> {
             }
             let names = Names {
                 own,
+                module: "",
                 beside: &beside,
                 library: LAYER,
                 package,
@@ -163,7 +164,7 @@ fn print_code(file: &str) -> Fallible<()> {
 /// Prints a crate above the package as one module, and its exports as C calls them.
 fn print_crate(name: &str, folder: &Path) -> Fallible<()> {
     let names =
-        Names { own: name, beside: &[], library: LAYER, package: "::ndarray_layout", examples: &[], inlined: false };
+        Names { own: name, module: "", beside: &[], library: LAYER, package: "::ndarray_layout", examples: &[], inlined: false };
     let body = module_of(&folder.join("lib.rt"), folder, &names, true)?;
     println!("{}pub mod {name} {{\n{body}\n}}", attributes("#", ALLOWED_IN_TESTS));
     Ok(())

@@ -86,7 +86,8 @@ pub fn files_of(folder: &Path, names: &Names, attributes: &str, exported: bool) 
     while let Some(module) = left.pop() {
         let is_root = module.as_os_str().is_empty();
         let source = if is_root { PathBuf::from("lib.rt") } else { module.with_extension("rt") };
-        let plain = Plain::read(&folder.join(&source), names, exported)?;
+        let first = module.iter().next().and_then(|name| name.to_str()).unwrap_or_default();
+        let plain = Plain::read(&folder.join(&source), &Names { module: first, ..*names }, exported)?;
         let head = if is_root { format!("{attributes}\n") } else { String::new() };
         let head = if plain.erased.is_unsafe { format!("{ALLOWED_UNSAFE}\n{head}") } else { head };
         let added = format!("{head}{}", plain.memory(names.package));

@@ -163,32 +163,32 @@ pub const REFUSED: &[&str] = &[
 /// A comment of the source that begins with `SAFETY:` tells it as well.
 pub const UNSAFE: &[(&str, &str, &str)] = &[
     (
-        "nd_parts",
+        "nd_lent",
         "Send",
         "no other `Cells` has a mark that this one has (`array` of `new`, `all` of `take_part`), so it is sent as a `&mut [T]` of its elements would be.",
     ),
-    ("nd_parts", "Sync", "what is shared only reads (`get`), as a `&[T]` of its elements would."),
+    ("nd_lent", "Sync", "what is shared only reads (`get`), as a `&[T]` of its elements would."),
     (
-        "nd_parts",
+        "nd_lent",
         "item_mut",
         "the place has a mark, which the caller ensures; so it is one of the slice that was lent (`new`), and no other `Cells` has its mark (`all` of `take_part`). While the result is in use the part is borrowed, so nothing else reads or writes the element.",
     ),
     (
-        "nd_parts",
+        "nd_lent",
         "get",
         "the place has a mark, which the caller ensures; so it is one of the slice that was lent (`new`), and no other `Cells` has its mark (`all` of `take_part`). While the result is in use this one is borrowed, so nothing writes the element.",
     ),
     (
-        "nd_parts",
+        "nd_lent",
         "take_slice",
         "each of these places has a mark, which the caller ensures, and has none afterwards (`all`, here). So they are those of the slice that was lent (`new`), and no call of this `Cells` or of another reads or writes them again.",
     ),
 ];
 
-/// Crates whose conditions keep `unsafe` sound.
-pub const SOUND_BY_CONDITIONS: &[&str] = &["nd_parts"];
+/// Modules whose conditions keep `unsafe` sound, each with its crate.
+pub const SOUND_BY_CONDITIONS: &[(&str, &str)] = &[("nd_lent", "cells"), ("nd_lent", "part")];
 
-/// Calls of these crates that others see, whose condition the package checks, since no proof of its callers does: the type, the call,
+/// Calls of these modules that others see, whose condition the package checks, since no proof of its callers does: the type, the call,
 /// what is asserted, what the panic says, and what the docs say of it.
 pub const CHECKED: &[(&str, &str, &str, &str, &str)] = &[(
     "PartMut",
@@ -201,18 +201,29 @@ pub const CHECKED: &[(&str, &str, &str, &str, &str)] = &[(
 /// Modules that only a proof calls, each with its crate and what it hands on: a condition on the right to all items, which no code can
 /// check, keeps `unsafe` sound there. Plain Rust needs none of it, for once the parts are gone the items are what they left.
 pub const LEFT_OUT: &[(&str, &str, &[&str])] = &[
-    ("nd_parts", "rest", &["Rest", "Taken"]),
-    ("nd_parts", "whole", &["Whole"]),
+    ("nd_lent", "rest", &["Rest", "Taken"]),
+    ("nd_lent", "whole", &["Whole"]),
     ("example_callers", "planes", &["paint_plane", "paint_planes"]),
     ("example_callers", "wholes", &["fill_all", "set_first", "set_halves", "set_two", "swap_in_row"]),
 ];
 
 /// Structs that files of `rust/src` make and take apart: all of the package sees their fields.
-pub const OPENED: &[&str] =
-    &["ArrayView", "ArrayViewMut", "Indices", "Items", "Iter", "LentRow", "OwnedArray", "Strided"];
+pub const OPENED: &[&str] = &[
+    "ArrayView",
+    "ArrayViewMut",
+    "Indices",
+    "Items",
+    "Iter",
+    "LentRow",
+    "OwnedArray",
+    "RestOfItems",
+    "RowItems",
+    "Strided",
+    "ViewIter",
+];
 
 /// Iterators that the package copies, as it does the view that they have: they derive `Clone`.
-pub const COPIED: &[&str] = &["StridedRows"];
+pub const COPIED: &[&str] = &["PlacesOf", "StridedRows"];
 
 /// Iterators whose `fold` and `nth`, or `nth_back`, are more than calls of the `next` or `next_back` that is proved: the
 /// trait, the iterator, and the macro of `rust/src/arrays` that adds them.
@@ -220,7 +231,15 @@ pub const FOLDED: &[(&str, &str, &str)] = &[
     ("Iterator", "Items", "fold_items"),
     ("Iterator", "Iter", "fold_iter"),
     ("Iterator", "PlacesOf", "fold_places"),
-    ("DoubleEndedIterator", "PlacesOf", "skip_places_back"),
+    ("DoubleEndedIterator", "PlacesOf", "skip_back"),
+    ("Iterator", "PartItems", "skip"),
+    ("DoubleEndedIterator", "PartItems", "skip_back"),
+    ("Iterator", "PartRows", "skip"),
+    ("DoubleEndedIterator", "PartRows", "skip_back"),
+    ("Iterator", "RowItems", "fold_row_items"),
+    ("DoubleEndedIterator", "RowItems", "rfold_row_items"),
+    ("Iterator", "ViewIter", "fold_view_iter"),
+    ("DoubleEndedIterator", "ViewIter", "rfold_view_iter"),
 ];
 
 /// Structs whose `Debug` files of `rust/src` have, for what is derived prints strides without their signs.

@@ -1,7 +1,7 @@
 //! What keeps the package sound: where `unsafe` stays, with the words that say why, and conditions that are checked.
 
 use crate::erase::Eraser;
-use crate::names::{CHECKED, SOUND_BY_CONDITIONS, UNSAFE};
+use crate::names::{CHECKED, UNSAFE};
 use crate::paragraphs::Paragraphs;
 use crate::tokens::{Fault, Tree, fault, length_of_generics};
 
@@ -29,22 +29,22 @@ impl Eraser<'_> {
         let known = UNSAFE.iter().find(|(known, name, _)| *known == own && *name == item);
         let indent = token.lead.rsplit('\n').next().unwrap_or_default();
         let comment = match known {
-            _ if token.lead.contains(SAFETY) && SOUND_BY_CONDITIONS.contains(&own) => String::new(),
+            _ if token.lead.contains(SAFETY) && self.names.is_sound_by_conditions() => String::new(),
             Some((.., reason)) => comment(reason, indent),
-            None => return Err(fault(token, "is no form that can be erased")),
+            None => return Err(fault(token, "is sound for no reason that `UNSAFE` of rust/eraser/names.rs has")),
         };
         self.put(token.lead, &format!("{comment}unsafe"));
         self.is_unsafe = true;
         Ok(Some(1))
     }
 
-    /// What all of a crate sees, whose conditions keep `unsafe` sound, its module sees alone: no other file of the package.
+    /// What all of a crate sees, in a module whose conditions keep `unsafe` sound, the crate's module sees alone: no other file of the package.
     pub(crate) fn own_crate(&mut self, trees: &[Tree]) -> Result<Option<usize>, Fault> {
         let [word, Tree::Group(seen), ..] = trees else {
             return Ok(None);
         };
         let is_of_crate = word.is("pub") && matches!(&seen.trees[..], [only] if only.is("crate"));
-        if !is_of_crate || !self.names.is_packed() || !SOUND_BY_CONDITIONS.contains(&self.names.own) {
+        if !is_of_crate || !self.names.is_packed() || !self.names.is_sound_by_conditions() {
             return Ok(None);
         }
         self.put(word.first().lead, &format!("pub(in crate::{})", self.names.own));
@@ -55,7 +55,7 @@ impl Eraser<'_> {
     fn checked(&self) -> Option<(&'static str, &'static str, &'static str)> {
         let (is_checked, name) = (self.contract.is_public && self.contract.is_function, &self.contract.name);
         let of_list = CHECKED.iter().find(|(ty, call, ..)| self.of_impl == *ty && name == call);
-        let found = of_list.filter(|_| is_checked && SOUND_BY_CONDITIONS.contains(&self.names.own));
+        let found = of_list.filter(|_| is_checked && self.names.is_sound_by_conditions());
         found.map(|(.., condition, words, told)| (*condition, *words, *told))
     }
 
@@ -67,14 +67,13 @@ impl Eraser<'_> {
     /// What is said of a condition of the item at hand that is broken. The error is one that keeps `unsafe` sound, of a call that others
     /// see, which isn't checked.
     pub(crate) fn broken(&self) -> Result<&'static str, &'static str> {
-        let own = self.names.own;
         match self.checked() {
             Some((.., told)) => Ok(told),
-            None if !SOUND_BY_CONDITIONS.contains(&own) => {
+            None if !self.names.is_sound_by_conditions() => {
                 Ok("Otherwise this call or a later one panics or returns unspecified values.")
             }
             None if self.contract.is_public && self.contract.has_condition() => {
-                Err("begins a call that others see, with a condition that keeps `unsafe` sound and isn't checked")
+                Err("begins a call that others see, whose condition `CHECKED` of rust/eraser/names.rs lacks")
             }
             None => Ok("Otherwise the behaviour is undefined."),
         }

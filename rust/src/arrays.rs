@@ -8,7 +8,6 @@ mod axes;
 mod axes_mut;
 mod axis_chunks;
 mod axis_iter;
-mod column;
 mod copying;
 mod dimensionality;
 mod folding;
@@ -27,13 +26,16 @@ mod rows;
 mod shapes;
 mod writing;
 
+pub(crate) use crate::parts::{skip, skip_back};
 pub use axis_chunks::{AxisChunksIter, AxisChunksIterMut};
 pub use axis_iter::{AxisIter, AxisIterMut};
-pub(crate) use folding::{fold_items, fold_iter, fold_places, skip_places_back};
+pub(crate) use folding::{
+    fold_items, fold_iter, fold_lent, fold_places, fold_row_items, fold_view_iter, rfold_lent, rfold_row_items,
+    rfold_view_iter,
+};
 pub use indexed::{IndexedIter, IndexedIterMut, PartIndexedIterMut};
 pub(crate) use indexing::no_such_index;
-pub use iter::ViewIter;
 pub use iter_mut::IterMut;
-pub(crate) use line::fold_row;
+pub(crate) use line::{fold_row, rfold_row};
 pub(crate) use pairs::same_items;
-pub use rows::{IntoRows, RowsMut};
+pub use rows::RowsMut;

@@ -67,8 +67,6 @@ pub mod nd_lent;
 #[doc(hidden)]
 pub mod nd_owned;
 #[doc(hidden)]
-pub mod nd_parts;
-#[doc(hidden)]
 pub mod nd_shape;
 #[doc(hidden)]
 pub mod nd_slice;
@@ -115,15 +113,16 @@ struct Readme;
 struct MustUse;
 
 pub use crate::arrays::{
-    AxisChunksIter, AxisChunksIterMut, AxisIter, AxisIterMut, IndexedIter, IndexedIterMut, IntoRows, IterMut,
-    PartIndexedIterMut, RowsMut, ViewIter,
+    AxisChunksIter, AxisChunksIterMut, AxisIter, AxisIterMut, IndexedIter, IndexedIterMut, IterMut, PartIndexedIterMut,
+    RowsMut,
 };
 pub use crate::convenience::*;
 #[doc(inline)]
 pub use crate::memory::AllocError;
+pub use crate::nd_lent::{PartItems, PartIter, PartRows};
 pub use crate::nd_owned::{
-    ArrayView, ArrayViewMut, Items, Iter, LentRow, LentRows, OwnedArray, PartMut, SplitViews, Unsigned,
+    ArrayView, ArrayViewMut, IntoRows, Items, Iter, LentRow, LentRows, OwnedArray, PartMut, RowItems, SplitViews,
+    Unsigned, ViewIter,
 };
-pub use crate::nd_parts::{PartItems, PartIter, PartRows};
 pub use crate::ndarray_layout::*;
 pub use crate::parts::{LentPart, MultiSliceArg, PartAxisChunksIterMut, PartAxisIterMut, PartIterMut};

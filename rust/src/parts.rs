@@ -6,17 +6,17 @@ mod axis_iter;
 mod dimensionality;
 mod elems;
 mod iter;
-mod lines;
 mod multi_slice;
 mod own_items;
 mod pairs;
 mod reading;
 mod rows;
+mod skipping;
 
 use crate::arrays::no_such_index;
 use crate::convenience::OUT_OF_MEMORY;
 use crate::nd_base::{LayoutError, Lengths};
-use crate::nd_parts::{PartMut, PartRows};
+use crate::nd_lent::{PartMut, PartRows};
 use crate::nd_shape::NdIndex;
 use crate::{ArrayViewMut, OwnedArray};
 pub use axis_iter::{PartAxisChunksIterMut, PartAxisIterMut};
@@ -25,6 +25,7 @@ use core::ops::{Index, IndexMut};
 pub use iter::PartIterMut;
 pub use multi_slice::MultiSliceArg;
 pub(crate) use own_items::has_own_items;
+pub(crate) use skipping::{skip, skip_back};
 
 /// A part of an array, by its older name. Not proved.
 pub type LentPart<'a, T, D> = PartMut<'a, T, D>;
@@ -398,7 +399,7 @@ impl<T, D: Lengths> PartMut<'_, T, D> {
 /// What a part stands on is no call of the package:
 ///
 /// ```compile_fail,E0603
-/// use ndarray_layout::nd_parts::cells::Cells;
+/// use ndarray_layout::nd_lent::cells::Cells;
 /// ```
 #[cfg(doctest)]
 struct Lending;

@@ -34,6 +34,28 @@ static void print_tensor(const char *what, const DLTensor *tensor) {
     }
 }
 
+static int deleted;
+
+static void note_deleted(DLManagedTensorVersioned *self) {
+    self->dl_tensor.data = NULL;
+    deleted++;
+}
+
+/* A tensor that another program lends, only to be read, and takes back. */
+static void print_managed(const DLTensor *tensor) {
+    DLManagedTensorVersioned lent = {{1, 0}, NULL, note_deleted, DLPACK_FLAG_BITMASK_READ_ONLY, *tensor};
+    nd_tensor read;
+    expect_ok(nd_tensor_from_managed(&lent, ND_READ_ONLY, &read));
+    printf("lent, only to be read: %d elements reached\n", (int)read.view.data.len);
+    print_status("to be written", nd_tensor_from_managed(&lent, ND_OWNED, &read));
+    lent.flags = 0;
+    expect_ok(nd_tensor_from_managed(&lent, ND_OWNED, &read));
+    lent.version.major = 2;
+    print_status("of another version", nd_tensor_from_managed(&lent, ND_READ_ONLY, &read));
+    lent.deleter(&lent);
+    printf("given back %d times\n", deleted);
+}
+
 int main(void) {
     const nd_slice_elem back[2] = {ND_FROM_BY(0, -1), ND_RANGE_BY(0, 4, 2)};
     const size_t lens[2] = {2, 3};
@@ -46,6 +68,7 @@ int main(void) {
 
     for (int at = 0; at < 12; at++) numbers[at] = (float)at;
     print_tensor("row-major", &tensor);
+    print_managed(&tensor);
     expect_ok(nd_tensor_from_dlpack(&tensor, ND_OWNED, &read));
     expect_ok(nd_layout_slice(&read.view.layout, back, 2, ND_STRICT, &read.view.layout));
     expect_ok(nd_tensor_to_dlpack(&read.view, read.lowest, float32, new_shape, new_strides, &sliced));

@@ -31,6 +31,29 @@ typedef struct DLTensor {
     int64_t *strides; /* in elements; null where the tensor is row-major without gaps */
     uint64_t byte_offset;
 } DLTensor;
+
+/* What one program hands to another, which calls the deleter once it has read all. */
+typedef struct DLManagedTensor {
+    DLTensor dl_tensor;
+    void *manager_ctx;
+    void (*deleter)(struct DLManagedTensor *self);
+} DLManagedTensor;
+
+typedef struct DLPackVersion {
+    uint32_t major;
+    uint32_t minor;
+} DLPackVersion;
+
+/* The same, with its version first, and flags. */
+typedef struct DLManagedTensorVersioned {
+    DLPackVersion version;
+    void *manager_ctx;
+    void (*deleter)(struct DLManagedTensorVersioned *self);
+    uint64_t flags;
+    DLTensor dl_tensor;
+} DLManagedTensorVersioned;
+
+#define DLPACK_FLAG_BITMASK_READ_ONLY 1UL
 #endif
 
 /* A view of a tensor, and its lowest element, which has place 0: DLPack doesn't say how far the memory reaches. */
@@ -107,6 +130,18 @@ ND_CHECKED((1, 3)) int32_t nd_tensor_from_dlpack(const DLTensor *tensor, int32_t
     if (status == ND_OK) status = nd_view_of(&layout, data, mode, &made->view);
     if (status == ND_OK) made->lowest = lowest;
     return status;
+}
+
+/*
+ * nd_tensor_from_dlpack of a managed tensor, whose deleter stays the caller's to call, also after an error. ND_UNSUPPORTED first: of
+ * another version than 1, in which fields may lie elsewhere, or owned where the flags say that it is only to be read. A
+ * DLManagedTensor has no version and no flags: pass its `dl_tensor` to nd_tensor_from_dlpack, and write only what its maker lets
+ * you write.
+ */
+ND_CHECKED((1, 3)) int32_t nd_tensor_from_managed(const DLManagedTensorVersioned *tensor, int32_t mode, nd_tensor *made) {
+    if (tensor->version.major != 1) return ND_UNSUPPORTED;
+    if (mode == ND_OWNED && (tensor->flags & DLPACK_FLAG_BITMASK_READ_ONLY) != 0) return ND_UNSUPPORTED;
+    return nd_tensor_from_dlpack(&tensor->dl_tensor, mode, made);
 }
 
 /*

@@ -4,12 +4,13 @@ from __future__ import annotations
 
 from ctypes import c_size_t
 from math import gcd
-from typing import Any, Optional, SupportsIndex, overload
+from typing import Any, Callable, Optional, SupportsIndex, overload
 
 from . import _library as library
 from ._buffers import read_dtype
-from ._errors import LayoutError, OutOfBoundsError, ShapeError
+from ._errors import LayoutError, OutOfBoundsError, ShapeError, error_of_kind
 from ._numbers import Lens, Numbers, flag, integer, integers, one_number, said, signed, size, unsigned, written
+from ._reasons import Reason
 from ._reasons import of_lay_over as reason_of_lay_over
 from ._units import Array, above_0, by_bytes, takes_array, takes_array_after_start, with_array
 
@@ -35,7 +36,7 @@ def layout_start(
     3
     >>> layout_start((2, 2), (3, 1), length=4)
     Traceback (most recent call last):
-    ndarray_layout.OutOfBoundsError: the layout needs 5 elements of 4
+    ndarray_layout.OutOfBoundsError: the highest place 4 is past a buffer of 4 elements
     """
     start, sizes = one_number(), (size(elem_size, "elem_size"), size(length, "length"))
     if itemsize is not None:
@@ -63,7 +64,7 @@ def check_layout(
     >>> check_layout(3, (2, 2), (-2, 1), length=5)
     >>> check_layout(1, (2, 2), (-2, 1), length=5)
     Traceback (most recent call last):
-    ndarray_layout.OutOfBoundsError: the lowest place -1 is below 0 (in elements)
+    ndarray_layout.OutOfBoundsError: the lowest place, 2 before the start 1, is below 0 (in elements)
     """
     first, sizes = size(start, "start"), (size(elem_size, "elem_size"), size(length, "length"))
     if itemsize is None:
@@ -131,7 +132,7 @@ def lay_over(
     12
     >>> lay_over((2, 3), (-12, 4), itemsize=4, nbytes=23)
     Traceback (most recent call last):
-    ndarray_layout.OutOfBoundsError: the array needs 24 bytes of 23
+    ndarray_layout.OutOfBoundsError: the highest place 23 is past a buffer of 23 bytes; the array needs 24 bytes
     >>> lay_over(2**62, 0, itemsize=1, nbytes=1)
     0
     >>> lay_over(3, 7, itemsize=4, nbytes=20, offset=2, writable=True)    # of 4 bytes in each 7, the last at 16
@@ -143,12 +144,24 @@ def lay_over(
     room, writable = size(nbytes, "nbytes").value, flag(writable, "writable")
     first = None if offset is None else integer(offset, "offset")
     if first is not None and not 0 <= first <= room:
-        text = f"offset {said(first)} lies outside of {said(room)} bytes"
-        raise OutOfBoundsError("OutOfBounds", text, None, {"offset": first, "nbytes": room})
+        raise _of_offset(first, room, lambda: reason_of_lay_over(lens, steps, unit, room, first, writable))
     try:
         return _laid_over(lens, steps, unit, room, first, writable)
     except LayoutError as error:
         raise by_bytes(error, lambda: reason_of_lay_over(lens, steps, unit, room, first, writable)) from None
+
+
+def _of_offset(offset: int, nbytes: int, find: Callable[[], Optional[Reason]]) -> LayoutError:
+    """The error of an offset outside of a buffer: what the library says of it, where it has 64 bits."""
+    text = f"offset {said(offset)} lies outside of {said(nbytes)} bytes"
+    known = OutOfBoundsError("OutOfBounds", text, None, {"offset": offset, "nbytes": nbytes})
+    if not 0 <= offset < 2**64:
+        return known
+    try:
+        reason = find()
+    except MemoryError:
+        reason = None
+    return error_of_kind(*reason) if reason else known
 
 
 def _size_of_item(itemsize: Optional[SupportsIndex], dtype: Any) -> SupportsIndex:

@@ -8,7 +8,7 @@ from typing import NamedTuple, Optional, SupportsIndex
 from ._errors import ShapeError, SizeOverflowError, error_of_kind
 from ._layouts import order_of
 from ._numbers import FAR, Lens, Numbers, Packed, integers, not_64_bits, product, said, signed, unsigned
-from ._reasons import past_limit
+from ._reasons import of_size
 from ._shapes import reshaped
 from ._units import Array, Given, above_0, in_bytes, read_array
 
@@ -47,7 +47,7 @@ def reshape_without_copy(a: Array, new_shape: Numbers, order: Optional[str] = "C
     Reshaped(order='C', strides=(16, 8, 32))
     >>> reshape_without_copy(Columns, 12)
     Traceback (most recent call last):
-    ndarray_layout.ShapeError: IncompatibleLayout: axis 0: shape (4, 3) with strides (8, 32) can't become (12,) in order 'C' without a copy: stride 8 isn't 3 times 32, the stride of axis 1 (in bytes); order='F' can
+    ndarray_layout.ShapeError: IncompatibleLayout: axis 1: the new shape takes a copy: length 3 times stride 32 isn't the stride of the axis read before it (in bytes); shape (4, 3) with strides (8, 32) can't become (12,) in order 'C', and order='F' can
     >>> reshape_without_copy(Columns, 12, order=None)
     Reshaped(order='F', strides=(8,))
     """
@@ -86,8 +86,9 @@ def without_minus_one(shape: Lens, new_shape: Lens) -> Lens:
             text = f"axis {axis}: length -1 is there twice, and only one may be -1"
             raise SizeOverflowError("Overflow", text, axis, {"length": length}) if length == -1 else error
     others, size = product([length for length in new_shape if length != -1]), product(shape)
-    if size >= FAR:
-        raise error_of_kind(*past_limit("size {size}", size=size))
+    fault = of_size(shape) if size >= FAR else None
+    if fault:
+        raise error_of_kind(*fault)
     if others == 0 or size % others:
         which = "any" if others == size == 0 else "no"
         text = f"axis {missing}: {which} length times {said(others)} is the size {said(size)}"

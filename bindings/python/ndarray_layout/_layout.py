@@ -90,7 +90,7 @@ class Layout(Views):
     (3, 0, 4, 1, 5, 2)
     >>> Layout(2, (2, 3), (-3, 1), length=6)
     Traceback (most recent call last):
-    ndarray_layout.OutOfBoundsError: the lowest place -1 is below 0 (in elements)
+    ndarray_layout.OutOfBoundsError: the lowest place, 3 before the start 2, is below 0 (in elements)
     """
 
     __slots__ = ()

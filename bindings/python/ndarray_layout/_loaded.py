@@ -93,15 +93,30 @@ class Rule(IntEnum):
     COORDINATE, COMMON, STRETCH, EMPTY, AXIS, SAME_AXIS, SPLIT = range(15, 22)
 
 
+class What(IntEnum):
+    """Which list breaks `Rule.COUNT` or `Rule.EMPTY`: `ND_LIST_STRIDES` and those after it."""
+
+    STRIDES, SLICE, INDEX, AXES, TARGET, WINDOW, CHUNK = range(1, 8)
+
+
+class Unit(IntEnum):
+    """What places, spans and strides count: `ND_ELEMENTS` and `ND_BYTES`."""
+
+    ELEMENTS, BYTES = range(2)
+
+
 class Broken(ctypes.Structure):
     """The first rule that arguments break, and the numbers that break it: `nd_reason`."""
 
     _fields_ = [
         ("status", ctypes.c_int32),
         ("rule", ctypes.c_int32),
+        ("list", ctypes.c_int32),
+        ("unit", ctypes.c_int32),
         ("axis", ctypes.c_size_t),
         ("number", ctypes.c_ssize_t),
         ("size", ctypes.c_size_t),
+        ("other", ctypes.c_size_t),
     ]
 
     @property

@@ -1,7 +1,8 @@
 """Why a call returned its error: the axis that is to blame, and the numbers.
 
 The status of a call decides whether there is an error, and of which kind. What is found here is only its text. The
-library says which rule is broken, and where; computed here are numbers of texts, some of which 64 bits don't hold.
+library says which rule is broken, and where; `_sentences` has the sentence, which is that of the header for C. After it,
+and a semicolon, stands what Python alone can do or has: the words of its calls, and numbers that 64 bits don't hold.
 """
 
 from __future__ import annotations
@@ -12,8 +13,9 @@ from math import prod
 from typing import Any, Callable, Iterable, Mapping, NamedTuple, Optional, Sequence
 
 from . import _loaded as library
-from ._loaded import Broken, Rule
-from ._numbers import LIMIT, ByteStrides, Lens, Packed, count_of, few, product, said, signed, unit_of, unsigned, written
+from ._loaded import Broken, Rule, Unit, What
+from ._numbers import ByteStrides, Lens, Packed, count_of, few, product, said, signed, unsigned, written
+from ._sentences import sentence_of
 
 
 class Reason(NamedTuple):
@@ -60,10 +62,46 @@ def of_kind(kind: str, find: Callable[[], Optional[Reason]]) -> Optional[Reason]
     return reason if reason is not None and reason.kind == kind else None
 
 
-def _of(kind: str, text: str, axis: Optional[int] = None, **numbers: int) -> Reason:
-    """A reason whose text has the numbers in the places of their names."""
-    text = text.format(**{name: said(number) for name, number in numbers.items()})
-    return Reason(kind, text if axis is None else f"axis {axis}: {text}", axis, numbers)
+_NAMES: Mapping[Rule, tuple[str, str, str]] = {
+    Rule.INDEX: ("index", "length", ""),
+    Rule.BOUND: ("bound", "length", ""),
+    Rule.BYTES: ("", "span", "elem_size"),
+    Rule.LOWEST: ("", "below", "start"),
+    Rule.HIGHEST: ("", "above", "start"),
+    Rule.LENGTH: ("", "highest", "length"),
+    Rule.ALIAS: ("stride", "reach", ""),
+    Rule.OTHER_SIZE: ("", "new_size", "size"),
+    Rule.COPY: ("stride", "length", ""),
+    Rule.MISSING: ("", "", "axes"),
+    Rule.COORDINATE: ("", "index", "length"),
+    Rule.COMMON: ("", "first", "second"),
+    Rule.STRETCH: ("", "length", "target"),
+    Rule.AXIS: ("", "axes", ""),
+    Rule.SPLIT: ("", "length", "index"),
+}
+"""What a number, a size and the other size of a rule are."""
+
+_COUNTED: Mapping[What, tuple[str, str, str]] = {
+    What.STRIDES: ("", "strides", "lengths"),
+    What.SLICE: ("", "elements", "axes"),
+    What.INDEX: ("", "coordinates", "axes"),
+    What.AXES: ("", "listed", "axes"),
+    What.TARGET: ("", "target", "axes"),
+    What.WINDOW: ("", "lengths", "axes"),
+    What.CHUNK: ("", "lengths", "axes"),
+}
+
+
+def _told(broken: Broken, also: str = "", **numbers: int) -> Optional[Reason]:
+    """The reason of what is broken, if anything is, with what else Python says, and has."""
+    if broken.rule == Rule.NONE:
+        return None
+    rule, unnamed = Rule(broken.rule), ("", "", "")
+    names = _COUNTED[What(broken.list)] if rule == Rule.COUNT else _NAMES.get(rule, unnamed)
+    fields = zip(names, (broken.number, broken.size, broken.other))
+    found, text = {name: number for name, number in fields if name}, sentence_of(broken)
+    axis = broken.axis if text.startswith("axis ") else None
+    return Reason(broken.kind, f"{text}; {also}" if also else text, axis, {**found, **numbers})
 
 
 # ---- Layouts
@@ -84,11 +122,7 @@ def of_layout(shape: Lens, strides: Lens) -> Optional[Reason]:
 def of_layout_start(shape: Lens, strides: Lens, elem_size: int, length: int, writable: int) -> Optional[Reason]:
     lists = *unsigned(shape), *signed(strides)
     broken = library.layout_start_reason(*lists, c_size_t(elem_size), c_size_t(length), 0)
-    if broken.rule == Rule.LENGTH:
-        needed = broken.size + (0 not in shape)
-        text = f"the layout needs {{needed}} {unit_of(strides)} of {{length}}"
-        return _of(broken.kind, text, needed=needed, length=length)
-    return _of_limits(broken, shape, strides, elem_size) or (of_overlap(shape, strides) if writable else None)
+    return _of_limits(broken, shape, strides) or (of_overlap(shape, strides) if writable else None)
 
 
 def of_check_layout(
@@ -96,50 +130,36 @@ def of_check_layout(
 ) -> Optional[Reason]:
     lists = *unsigned(shape), *signed(strides)
     broken = library.check_layout_reason(c_size_t(start), *lists, c_size_t(elem_size), c_size_t(length), 0)
-    return (
-        _of_limits(broken, shape, strides, elem_size)
-        or _of_bounds(broken, start, length, unit_of(strides))
-        or (of_overlap(shape, strides) if writable else None)
-    )
+    return _of_limits(broken, shape, strides) or (of_overlap(shape, strides) if writable else None)
 
 
-def _of_limits(broken: Broken, shape: Lens, strides: Lens, elem_size: int) -> Optional[Reason]:
-    if broken.rule == Rule.COUNT:
-        text = "the shape has {lengths} lengths and the strides have {strides}, one for each axis is needed"
-        return _of(broken.kind, text, lengths=len(shape), strides=broken.size)
+def _of_limits(broken: Broken, shape: Lens, strides: Lens) -> Optional[Reason]:
+    """Of a layout that is only read."""
+    _count(broken, strides)
     if broken.rule == Rule.SIZE:
-        return _past_size(shape)
+        return _past_size(broken, shape)
     if broken.rule == Rule.SPAN:
-        return past_limit("span {span}", f" (in {unit_of(strides)})", span=sum(_reaches(shape, strides)))
-    if broken.rule == Rule.BYTES:
-        return past_limit("span {span} times elem_size {elem_size}", " (in bytes)", span=broken.size, elem_size=elem_size)
-    return None
+        span = sum(_reaches(shape, strides))
+        return _told(broken, f"it is {said(span)}", span=span)
+    if broken.rule == Rule.LOWEST:
+        return _told(broken, lowest=broken.other - broken.size)
+    return _told(broken, highest=broken.other + broken.size) if broken.rule == Rule.HIGHEST else _told(broken)
 
 
-def _past_size(shape: Lens) -> Reason:
+def _count(broken: Broken, strides: Lens) -> None:
+    """Says that what is broken counts bytes, where strides do."""
+    if isinstance(strides, ByteStrides):
+        broken.unit = Unit.BYTES
+
+
+def _past_size(broken: Broken, lengths: Iterable[int]) -> Optional[Reason]:
     """The reason of a shape that is too large."""
-    return past_limit("size {size}", size=product([length for length in shape if length]))
-
-
-def past_limit(what: str, unit: str = "", **numbers: int) -> Reason:
-    """The reason of what is above the limit."""
-    return _of("Overflow", f"{what} is above the limit {said(LIMIT)}{unit}", **numbers)
+    size = product([length for length in lengths if length])
+    return _told(broken, f"it is {said(size)}", size=size)
 
 
 def _reaches(shape: Lens, strides: Lens) -> list[int]:
     return [max(length - 1, 0) * abs(stride) for length, stride in zip(shape, strides)]
-
-
-def _of_bounds(broken: Broken, start: int, length: int, unit: str) -> Optional[Reason]:
-    if broken.rule == Rule.LOWEST:
-        return _of(broken.kind, f"the lowest place {{lowest}} is below 0 (in {unit})", lowest=start - broken.size)
-    if broken.rule == Rule.HIGHEST:
-        text = f"the highest place {{highest}} is above the limit {said(LIMIT)} (in {unit})"
-        return _of(broken.kind, text, highest=start + broken.size)
-    if broken.rule == Rule.LENGTH:
-        text = f"the highest place {{highest}} is past {{length}} {unit}"
-        return _of(broken.kind, text, highest=broken.size, length=length)
-    return None
 
 
 def of_overlap(shape: Lens, strides: Lens) -> Optional[Reason]:
@@ -148,9 +168,9 @@ def of_overlap(shape: Lens, strides: Lens) -> Optional[Reason]:
     broken = library.layout_start_reason(*unsigned(lens), *signed(steps), c_size_t(1), c_size_t(_NO_END), 1)
     if broken.rule != Rule.ALIAS:
         return None
-    rule = f"stride {{stride}} isn't past {{reach}}, the reach of the axes with no greater stride (in {unit_of(strides)})"
-    text = f"two indices may have one place, so it isn't writable: {rule}; without writable=True it is only to be read"
-    return _of(broken.kind, text, axes[broken.axis], stride=broken.number, reach=broken.size)
+    broken.axis = axes[broken.axis]
+    _count(broken, strides)
+    return _told(broken, "without writable=True it is only to be read")
 
 
 def _without_ones(shape: Lens, strides: Lens) -> tuple[Lens, Lens, Lens]:
@@ -163,16 +183,15 @@ def _without_ones(shape: Lens, strides: Lens) -> tuple[Lens, Lens, Lens]:
 
 
 def of_array(shape: Lens, strides: Lens, itemsize: int) -> Optional[Reason]:
-    """Of the bytes of an array."""
-    found = of_layout(shape, ByteStrides(strides))
-    if found:
-        return found
+    """Of the bytes of an array: of the array itself where there are none, or not one stride for each axis."""
+    if 0 in shape or len(shape) != len(strides):
+        return of_layout(shape, ByteStrides(strides))
     lens, steps = (*shape, itemsize), ByteStrides((*strides, 1))
     broken = library.layout_start_reason(*unsigned(lens), *signed(steps), c_size_t(1), c_size_t(_NO_END), 0)
     if broken.rule == Rule.SIZE:
-        text, size = f"{{size}} bytes are above the limit {said(LIMIT)}", prod(length for length in lens if length)
-        return _of(broken.kind, text, size=size, itemsize=itemsize)
-    return _of_limits(broken, lens, steps, 1)
+        size = product(lens)
+        return _told(broken, f"it is {said(size)}, in bytes", size=size, itemsize=itemsize)
+    return _of_limits(broken, lens, steps)
 
 
 def of_lay_over(
@@ -192,30 +211,27 @@ def _of_bytes(shape: Lens, strides: Lens, itemsize: int, nbytes: int, offset: Op
     lists, sizes = (*unsigned(lens), *signed(steps)), (c_size_t(1), c_size_t(nbytes))
     if offset is None:
         broken = library.layout_start_reason(*lists, *sizes, 0)
-        text, needed = "the array needs {needed} bytes of {nbytes}", broken.size + (0 not in lens)
-        return _of(broken.kind, text, needed=needed, nbytes=nbytes) if broken.rule == Rule.LENGTH else None
+        broken.unit, needed = Unit.BYTES, broken.size + (0 not in lens)
+        return _told(broken, f"the array needs {said(needed)} bytes", needed=needed, nbytes=nbytes)
     broken = library.check_layout_reason(c_size_t(offset), *lists, *sizes, 0)
+    broken.unit = Unit.BYTES
     lowest = offset - sum(reach for reach, stride in zip(_reaches(lens, steps), steps) if stride < 0)
     end = lowest + sum(_reaches(lens, steps)) + (0 not in lens)
-    if broken.rule == Rule.NONE or (broken.rule == Rule.HIGHEST and end <= nbytes):  # (of a buffer past the limit)
-        return None
-    text = f"the array at offset {{offset}} needs bytes {{lowest}} to {said(end - 1)} of {{nbytes}}"
-    return _of(broken.kind, text, offset=offset, lowest=lowest, end=end, nbytes=nbytes)
+    also = f"the array at offset {said(offset)} needs bytes {said(lowest)} to {said(end - 1)}"
+    return _told(broken, also, offset=offset, lowest=lowest, end=end, nbytes=nbytes)
 
 
 # ---- Indices
 
 
 def of_index(shape: Lens, index: Lens) -> Optional[Reason]:
-    broken = library.index_reason(*unsigned(shape), *unsigned(index))
-    if broken.rule == Rule.COUNT:
-        text = "{coordinates} coordinates for {axes} axes"
-        return _of(broken.kind, text, coordinates=broken.size, axes=len(shape))
-    return out_of_axis(broken.axis, broken.size, shape[broken.axis]) if broken.rule == Rule.COORDINATE else None
+    return _told(library.index_reason(*unsigned(shape), *unsigned(index)))
 
 
 def out_of_axis(axis: int, index: int, length: int) -> Reason:
-    return _of("OutOfBounds", "index {index} is out of bounds of length {length}", axis, index=index, length=length)
+    """Of an index that 64 bits may not hold."""
+    text = f"axis {axis}: index {said(index)} is out of bounds of length {said(length)}"
+    return Reason("OutOfBounds", text, axis, {"index": index, "length": length})
 
 
 def of_next_index(shape: Lens, index: Lens, _: int) -> Optional[Reason]:
@@ -263,27 +279,18 @@ def of_picked(shape: Lens, elements: Packed, clamp: int) -> Optional[Reason]:
 
 def _of_elements(shape: Lens, elements: Packed, clamp: int) -> Optional[Reason]:
     broken = library.slice_reason(*unsigned(shape), *elements, clamp)
-    axis, number, size = broken.axis, broken.number, broken.size
     if broken.rule == Rule.COUNT:
-        text = "the slice has {elements} elements for {axes} axes, and needs one for each: `basic_key` adds what is left out"
-        return _of(broken.kind, text, elements=size, axes=len(shape))
-    if broken.rule == Rule.INDEX:
-        return out_of_axis(axis, number, size)
+        return _told(broken, "`basic_key` adds what is left out")
     if broken.rule == Rule.BOUND:
-        text = "bound {bound} is past length {length}; clamp=True moves it to the end, as NumPy does"
-        return _of(broken.kind, text, axis, bound=number, length=size)
-    return _of(broken.kind, "the step is {step}", axis, step=0) if broken.rule == Rule.STEP else None
+        return _told(broken, "clamp=True moves it to the end, as NumPy does")
+    return _told(broken, step=0) if broken.rule == Rule.STEP else _told(broken)
 
 
 # ---- Shapes
 
 
 def of_co_broadcast(first: Lens, second: Lens) -> Optional[Reason]:
-    broken = library.co_broadcast_reason(*unsigned(first), *unsigned(second))
-    if broken.rule != Rule.COMMON:
-        return None
-    text, from_back = "lengths {first} and {second} have none in common", broken.axis - max(len(first), len(second))
-    return _of(broken.kind, text, broken.axis, first=first[from_back], second=second[from_back])
+    return _told(library.co_broadcast_reason(*unsigned(first), *unsigned(second)))
 
 
 def of_broadcast(shape: Lens, strides: Lens, target: Lens) -> Optional[Reason]:
@@ -292,28 +299,11 @@ def of_broadcast(shape: Lens, strides: Lens, target: Lens) -> Optional[Reason]:
 
 def _of_target(shape: Lens, target: Lens) -> Optional[Reason]:
     broken = library.broadcast_reason(*unsigned(shape), *unsigned(target))
-    if broken.rule == Rule.COUNT:
-        return _of(broken.kind, "{axes} axes can't be broadcast to {target}", axes=len(shape), target=broken.size)
-    if broken.rule == Rule.STRETCH:
-        text = "length {length} can't be broadcast to {target}"
-        return _of(broken.kind, text, broken.axis, length=broken.size, target=target[broken.axis])
-    return _past_size(target) if broken.rule == Rule.SIZE else None
+    return _past_size(broken, target) if broken.rule == Rule.SIZE else _told(broken)
 
 
 def of_merge(shape: Lens, strides: Lens, take: int, into: int) -> Optional[Reason]:
-    return of_layout(shape, strides) or _of_two_axes(shape, take, into)
-
-
-def _of_two_axes(shape: Lens, take: int, into: int) -> Optional[Reason]:
-    broken = library.merge_axes_reason(*unsigned(shape), c_size_t(take), c_size_t(into))
-    if broken.rule == Rule.SAME_AXIS:
-        return _of(broken.kind, "it can't be merged into itself", broken.axis)
-    return _of_no_axis(broken)
-
-
-def _of_no_axis(broken: Broken) -> Optional[Reason]:
-    text = "there are {axes} axes, counted from 0"
-    return _of(broken.kind, text, broken.axis, axes=broken.size) if broken.rule == Rule.AXIS else None
+    return of_layout(shape, strides) or _told(library.merge_axes_reason(*unsigned(shape), c_size_t(take), c_size_t(into)))
 
 
 def of_permuted_axes(shape: Lens, strides: Lens, axes: Lens) -> Optional[Reason]:
@@ -322,11 +312,7 @@ def of_permuted_axes(shape: Lens, strides: Lens, axes: Lens) -> Optional[Reason]
 
 def _of_axes(shape: Lens, axes: Lens) -> Optional[Reason]:
     broken = library.permuted_axes_reason(*unsigned(shape), *unsigned(axes))
-    if broken.rule == Rule.MISSING:
-        return _of(broken.kind, f"it is missing in {written(axes)}, where each of {len(shape)} axes has to be once", broken.axis)
-    if broken.rule == Rule.COUNT:
-        return _of(broken.kind, "{listed} axes are listed of {axes}", listed=broken.size, axes=len(shape))
-    return None
+    return _told(broken, f"listed are {written(axes)}" if broken.rule == Rule.MISSING else "")
 
 
 # ---- Blocks and parts
@@ -337,43 +323,34 @@ def of_windows(shape: Lens, strides: Lens, window: Lens) -> Optional[Reason]:
     if found:
         return found
     moves = (max(length - block + 1, 0) for length, block in zip(shape, window))
-    return _of_blocks(library.windows_reason(*unsigned(shape), *unsigned(window)), shape, moves, window, "window")
+    return _of_blocks(library.windows_reason(*unsigned(shape), *unsigned(window)), moves, window)
 
 
 def of_exact_chunks(shape: Lens, strides: Lens, chunk: Lens) -> Optional[Reason]:
     found = of_layout(shape, strides)
     if found:
         return found
-    counts = (length // block for length, block in zip(shape, chunk))
-    return _of_blocks(library.exact_chunks_reason(*unsigned(shape), *unsigned(chunk)), shape, counts, chunk, "chunk")
+    broken = library.exact_chunks_reason(*unsigned(shape), *unsigned(chunk))
+    return _of_blocks(broken, (length // block for length, block in zip(shape, chunk) if block), chunk)
 
 
-def _of_blocks(broken: Broken, shape: Lens, counts: Iterable[int], block: Lens, name: str) -> Optional[Reason]:
-    return _past_size((*counts, *block)) if broken.rule == Rule.SIZE else _of_block(broken, shape, name)
+def _of_blocks(broken: Broken, counts: Iterable[int], block: Lens) -> Optional[Reason]:
+    return _past_size(broken, (*counts, *block)) if broken.rule == Rule.SIZE else _of_block(broken)
 
 
-def _of_block(broken: Broken, shape: Lens, name: str) -> Optional[Reason]:
-    if broken.rule == Rule.COUNT:
-        text = f"a {name} has {{lengths}} lengths for {{axes}} axes, and needs one for each"
-        return _of(broken.kind, text, lengths=broken.size, axes=len(shape))
-    text = f"the length of a {name} is {{length}}, and has to be above 0"
-    return _of(broken.kind, text, broken.axis, length=0) if broken.rule == Rule.EMPTY else None
+def _of_block(broken: Broken) -> Optional[Reason]:
+    return _told(broken, length=0) if broken.rule == Rule.EMPTY else _told(broken)
 
 
 def of_chunk(shape: Lens, chunk: Lens) -> Optional[Reason]:
     """Of the chunks of a store, which may have any count of indices."""
-    return _of_block(library.exact_chunks_reason(*unsigned(shape), *unsigned(chunk)), shape, "chunk")
+    broken = library.exact_chunks_reason(*unsigned(shape), *unsigned(chunk))
+    return None if broken.rule == Rule.SIZE else _of_block(broken)
 
 
 def of_split_at(start: int, shape: Lens, strides: Lens, axis: int, index: int) -> Optional[Reason]:
-    return of_places(start, shape, strides) or _of_split(shape, axis, index)
-
-
-def _of_split(shape: Lens, axis: int, index: int) -> Optional[Reason]:
-    broken = library.split_at_reason(*unsigned(shape), c_size_t(axis), c_size_t(index))
-    if broken.rule == Rule.SPLIT:
-        return _of(broken.kind, "index {index} is past length {length}", axis, index=index, length=broken.size)
-    return _of_no_axis(broken)
+    found = of_places(start, shape, strides)
+    return found or _told(library.split_at_reason(*unsigned(shape), c_size_t(axis), c_size_t(index)))
 
 
 # ---- Reshapes
@@ -387,19 +364,15 @@ def _of_new_shape(shape: Lens, strides: Lens, new_shape: Lens, order: int) -> Op
     """Of a layout and a shape within the limits."""
     axes, lens, steps = _without_ones(shape, strides)
     broken = library.reshape_reason(*unsigned(lens), *signed(steps), *unsigned(new_shape), order)
-    text, sizes = "size {size} isn't {new_size}", {"size": prod(shape), "new_size": prod(new_shape)}
     if broken.rule == Rule.OTHER_SIZE:
-        whole = f"shape {few(shape)} has {{size}} indices, and {few(new_shape)} has {{new_size}}"
-        return _of(broken.kind, whole, **sizes)
+        return _told(broken, f"{few(shape)} can't become {few(new_shape)}")
     if broken.rule != Rule.COPY:
         return None
-    slow, fast = axes[broken.axis - 1 if order == 0 else broken.axis + 1], axes[broken.axis]
-    product_of = f"{said(shape[fast])} times {said(strides[fast])}, the stride of axis {{fast}} (in {unit_of(strides)})"
-    loose = f"stride {{stride}} isn't {product_of}"
-    of_shape = f"shape {few(shape)} with strides {few(strides)}"
-    whole = f"{of_shape} can't become {few(new_shape)} in order {'CF'[order]!r} without a copy: {loose}"
-    if sizes["size"] != sizes["new_size"]:
-        return _of(broken.kind, f"{whole}, and {text}", slow, stride=strides[slow], fast=fast, **sizes)
+    broken.axis = axes[broken.axis]
+    _count(broken, strides)
+    also = f"shape {few(shape)} with strides {few(strides)} can't become {few(new_shape)} in order {'CF'[order]!r}"
+    size, new_size = prod(shape), prod(new_shape)
+    if size != new_size:
+        return _told(broken, f"{also}, and size {said(size)} isn't {said(new_size)}", size=size, new_size=new_size)
     other = library.reshape_reason(*unsigned(lens), *signed(steps), *unsigned(new_shape), 1 - order)
-    also = f"; order={'FC'[order]!r} can" if other.rule == Rule.NONE else ""
-    return _of(broken.kind, whole + also, slow, stride=strides[slow], fast=fast)
+    return _told(broken, f"{also}, and order={'FC'[order]!r} can" if other.rule == Rule.NONE else also)

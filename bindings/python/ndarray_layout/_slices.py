@@ -150,7 +150,7 @@ def slice_view(
     View(start=5, shape=(3,), strides=(-1,))
     >>> slice_view(0, (2, 3), (3, 1), [1, Slice(0, 4)])
     Traceback (most recent call last):
-    ndarray_layout.OutOfBoundsError: axis 1: bound 4 is past length 3; clamp=True moves it to the end, as NumPy does
+    ndarray_layout.OutOfBoundsError: axis 1: bound 4 is past length 3, and isn't clamped; clamp=True moves it to the end, as NumPy does
     """
     fields, first, (lens, steps, _) = _fields_of(elems), size(start, "start"), given(shape, strides, itemsize)
     return _sliced(first, lens, steps, fields, clamp)

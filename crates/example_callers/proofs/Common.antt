@@ -8,8 +8,8 @@ use Rattle.ndarray_layout.specs.declared.LayoutError.{LayoutError}
 use Rattle.ndarray_layout.specs.BroadcastView.{broadcast_fault, takes_in}
 use Rattle.ndarray_layout.specs.CommonShape.{common_shape}
 use Rattle.ndarray_layout.specs.ShapeFault.{shape_fault}
-use Rattle.ndarray_layout.proofs.laws.BroadcastView.{takes_in-Decides}
-use Rattle.ndarray_layout.proofs.laws.CommonShape.{common_shape-associates, common_shape-commutes, common_shape-idempotent}
+use Rattle.ndarray_layout.proofs.Laws.BroadcastView.{takes_in-Decides}
+use Rattle.ndarray_layout.proofs.Laws.CommonShape.{common_shape-associates, common_shape-commutes, common_shape-idempotent}
 
 -- ---- the shape in common of two is also that of either and it
 in_common : (one other common : List ℕ) → common_shape one other ≡ Some common → common_shape one common ≡ Some common

@@ -1,4 +1,3 @@
 pub mod ByteStrides
 pub mod Common
 pub mod Laws
-pub mod Painted

@@ -1,32 +1,25 @@
 //! The planes of a picture, each painted by a part of its own.
 ghost use Rattle.std.specs.Prelude.{◌≡◌, ℕ, List, OnOk, IsOk, Some, length, slice_index};
 ghost use Rattle.ndarray_layout.specs.SharePlace.{SharePlace};
-ghost use Rattle.nd_parts.specs.HasItems.{HasItemsOf};
-ghost use Rattle.nd_parts.specs.Items.{IsOwned};
-ghost use Rattle.nd_parts.specs.Lent.{array_of};
-ghost use Rattle.nd_parts.specs.Rights.{right_of};
+ghost use Rattle.nd_lent.specs.HasItems.{HasItemsOf};
+ghost use Rattle.nd_lent.specs.Items.{IsOwned};
+ghost use Rattle.nd_lent.specs.Lent.{array_of};
+ghost use Rattle.nd_lent.specs.Rights.{right_of};
 
-use nd_parts::{PartMut, Whole};
-use ndarray_layout::{Axis, Dimension, Ix2, Ix3, LayoutError, Strided, all_indices};
+use nd_lent::{PartMut, Whole};
+use ndarray_layout::{Axis, Ix2, Ix3, LayoutError, Strided};
 use std::alloc::Global;
 
-/// The axis of a picture's planes, behind its rows and columns.
+/// The axis of a picture's planes, after its rows and columns.
 const PLANES: Axis = Axis(2);
 
-/// Paints each pixel of a part; the picture's other pixels are unchanged. The caller ensures that each index has a pixel to itself.
-/// Two axes need no memory.
+/// Paints each pixel of a part; the picture's other pixels are unchanged. Two axes need no memory.
 pub fn paint_plane(alloc: Global, part: &mut PartMut<'_, u8, Ix2>, pixel: u8)
-    requires { IsOwned (length (array_of part.old).items) (array_of part.old).view }
     ensures painted { HasItemsOf (λ index. Some pixel) (array_of part.old) (array_of part.new) }
     ensures count { length (array_of part.new).items ≡ length (array_of part.old).items }
     ensures same_right { right_of part.new.cells ≡ right_of part.old.cells }
 {
-    let Ok(indices) = all_indices(alloc, part.view().dim().into_pattern()) else {
-        unreachable!()
-    };
-    for index in indices {
-        part.set(&index, pixel);
-    }
+    part.fill(alloc, pixel);
 }
 
 /// Paints three parts of a picture, each in a colour of its own, where no two share a pixel.
@@ -66,7 +59,7 @@ fn paint_three(
 }
 
 /// Paints each pixel of a picture of rows, columns and three planes in a colour, each plane by a part of its own, whatever the strides
-/// are: the planes may interleave, or lie one behind another. The list's other items are unchanged. The caller ensures that each
+/// are: the planes may interleave, or lie one after another. The list's other items are unchanged. The caller ensures that each
 /// index has an item to itself. No memory is needed.
 pub fn paint_planes(
     alloc: Global,

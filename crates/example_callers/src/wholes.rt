@@ -3,10 +3,10 @@ ghost use Rattle.std.specs.Prelude.{◌≡◌, ◌&&◌, [], ◌∷◌, OnOk, So
 ghost use Rattle.ndarray_layout.specs.Indices.{is_index};
 ghost use Rattle.ndarray_layout.specs.SplitView.{first_part_of, second_part_of};
 ghost use Rattle.ndarray_layout.specs.SharePlace.{SharePlace};
-ghost use Rattle.nd_parts.specs.HasItems.{HasItemsOf, with_swapped};
-ghost use Rattle.nd_parts.specs.Items.{IsOwned, with_item};
+ghost use Rattle.nd_lent.specs.HasItems.{HasItemsOf, with_swapped};
+ghost use Rattle.nd_lent.specs.Items.{IsOwned, with_item};
 
-use nd_parts::Whole;
+use nd_lent::Whole;
 use ndarray_layout::{Axis, Ix2, LayoutError, Strided};
 use std::alloc::Global;
 

@@ -10,8 +10,8 @@ use Rattle.ndarray_layout.specs.Picks.{picks}
 use Rattle.ndarray_layout.specs.SliceBounds.{slice_with}
 use Rattle.ndarray_layout.specs.Signed.{magnitude}
 use Rattle.ndarray_layout.specs.AxisFault.{SliceFits}
-use Rattle.ndarray_layout.proofs.laws.Between.{pick_up, pick_down}
-use Rattle.ndarray_layout.proofs.laws.Picks.{length-picks}
+use Rattle.ndarray_layout.proofs.Laws.Between.{pick_up, pick_down}
+use Rattle.ndarray_layout.proofs.Laws.Picks.{length-picks}
 
 -- a slice fits an axis, and picks so many coordinates of it, the one at each position as given
 pub record IsPick (len : ℕ) (slice : Slice) (picked : ℕ) (from : ℕ → ℕ) : Type 0 where

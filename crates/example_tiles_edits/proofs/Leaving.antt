@@ -11,8 +11,8 @@ use Rattle.ndarray_layout.specs.Selected.{selected}
 use Rattle.ndarray_layout.specs.SlicedLayout.{sliced_shape}
 use Rattle.ndarray_layout.specs.SlicedView.{slice_of, view_slice_fault}
 use Rattle.ndarray_layout.specs.View.{View, place_at}
-use Rattle.ndarray_layout.proofs.laws.Picks.{pick_below}
-use Rattle.ndarray_layout.proofs.laws.AxisFault.{no_fault_of_fits}
+use Rattle.ndarray_layout.proofs.Laws.Picks.{pick_below}
+use Rattle.ndarray_layout.proofs.Laws.AxisFault.{no_fault_of_fits}
 use Rattle.example_tiles_edits.specs.declared.picture.Extent.{Extent}
 use Rattle.example_tiles_edits.specs.Picture.{IsWithin, Position}
 use Rattle.example_tiles_edits.specs.declared.edit.Edit.{Edit}

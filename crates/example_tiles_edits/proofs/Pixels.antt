@@ -8,8 +8,8 @@ use Rattle.std.proofs.lemmas.Option.{slice_get-map}
 use Rattle.ndarray_layout.specs.FlatIndex.{index_of_flat, flat_index}
 use Rattle.ndarray_layout.specs.Size.{size}
 use Rattle.ndarray_layout.specs.View.{View, place_at}
-use Rattle.ndarray_layout.proofs.laws.FlatIndex.{index_of_flat-flat_index, flat_index-lt-size}
-use Rattle.ndarray_layout.proofs.laws.Strides.{offset_of-default_strides}
+use Rattle.ndarray_layout.proofs.Laws.FlatIndex.{index_of_flat-flat_index, flat_index-lt-size}
+use Rattle.ndarray_layout.proofs.Laws.Strides.{offset_of-default_strides}
 use Rattle.example_tiles_edits.specs.declared.edit.Edit.{Edit}
 use Rattle.example_tiles_edits.specs.declared.picture.Extent.{Extent}
 use Rattle.example_tiles_edits.specs.Edits.{IsEdited, source_of}

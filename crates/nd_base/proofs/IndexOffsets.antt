@@ -5,8 +5,8 @@ use Rattle.std.specs.Prelude.{nat_lt, FitsSigned}
 use Rattle.std.proofs.lemmas.Bool.{and_right, cases_Bool, cases_lt}
 use Rattle.std.proofs.lemmas.Int.{ints}
 use Rattle.std.proofs.lemmas.List.{drop_all}
-use Rattle.nd_base.proofs.laws.Definitions.{is_index, offset_of, all_signed, limit, magnitude, signed, reach}
-use Rattle.nd_base.proofs.laws.IsIndex.{coordinate_of_index}
+use Rattle.nd_base.proofs.Laws.Definitions.{is_index, offset_of, all_signed, limit, magnitude, signed, reach}
+use Rattle.nd_base.proofs.Laws.IsIndex.{coordinate_of_index}
 use Rattle.std.proofs.lemmas.Nat.{mul-le}
 
 -- a list of another count is no index

@@ -4,8 +4,8 @@ use Rattle.std.specs.List.{flat_map, range_with_len}
 use Rattle.std.proofs.lemmas.List.{get_or-map, length-append, length-map, map-id}
 use Rattle.std.proofs.lemmas.List.Concat.{get_or-flat_map}
 use Rattle.std.proofs.lemmas.List.FromFn.{take-map-range_with_len}
-use Rattle.nd_base.proofs.laws.Definitions.{below, indices, size}
-use Rattle.nd_base.proofs.laws.Below.{get_or-below, length-below}
+use Rattle.nd_base.proofs.Laws.Definitions.{below, indices, size}
+use Rattle.nd_base.proofs.Laws.Below.{get_or-below, length-below}
 
 -- the indices that begin with i
 abbrev pub row : List (List ℕ) → ℕ → List (List ℕ)

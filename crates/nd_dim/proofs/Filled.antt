@@ -3,10 +3,10 @@ use Rattle.std.proofs.Common.{◌≡◌, ◌⊎◌, ℕ, zero, suc, ◌+◌, ◌
 use Rattle.std.proofs.Common.{refl, sym, ap, ◌∙◌, arith, get_or-set_same, inl, inr}
 use Rattle.std.proofs.lemmas.List.{ext_get_or, get_or-replicate, length-replicate, length-set, set-get_or, set-set}
 use Rattle.std.proofs.lemmas.Nat.{div_below, div-add-mod', div-mul-add, mod_below, mod-mul-add, mul-add-lt}
-use Rattle.nd_base.proofs.laws.Definitions.{is_index, farthest_offset, size}
-use Rattle.nd_base.proofs.laws.Coordinates.{farthest_offset-set, is_index-set, size-set}
-use Rattle.nd_base.proofs.laws.IsIndex.{coordinate_of_index, is_index_from_coordinates, length_of_index}
-use Rattle.nd_base.proofs.laws.FarthestOffset.{farthest_offset-zeros}
+use Rattle.nd_base.proofs.Laws.Definitions.{is_index, farthest_offset, size}
+use Rattle.nd_base.proofs.Laws.Coordinates.{farthest_offset-set, is_index-set, size-set}
+use Rattle.nd_base.proofs.Laws.IsIndex.{coordinate_of_index, is_index_from_coordinates, length_of_index}
+use Rattle.nd_base.proofs.Laws.FarthestOffset.{farthest_offset-zeros}
 use Rattle.nd_dim.specs.StrideOrder.{magnitude_at}
 
 -- each number below the size is how far one index lies, and no other

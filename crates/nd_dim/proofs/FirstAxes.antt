@@ -7,7 +7,7 @@ use Rattle.std.proofs.lemmas.Bool.{cases_Bool, cases_eq, cases_lt}
 use Rattle.std.proofs.lemmas.Bool.Decides.{nat_tests}
 use Rattle.std.proofs.lemmas.List.{ext_get_or, get_or-replicate, length-replicate, length-set}
 use Rattle.std.proofs.lemmas.List.FromFn.{fill_by_all, get_or-map-range_with_len, length-map-range_with_len}
-use Rattle.nd_base.proofs.laws.Definitions.{below, size}
+use Rattle.nd_base.proofs.Laws.Definitions.{below, size}
 use Rattle.nd_dim.specs.StrideOrder.{comes_before}
 use Rattle.nd_dim.specs.Contiguous.{lens_before}
 use Rattle.nd_dim.proofs.StridePositions.{stride_position, comes_before_by_position, position_differs}

@@ -8,4 +8,4 @@ pub mod StrideAxesLoop
 pub mod StrideOrderLoop
 pub mod StridePositions
 pub mod WriteFromBack
-pub mod laws
+pub mod Laws

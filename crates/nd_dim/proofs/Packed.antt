@@ -8,13 +8,13 @@ use Rattle.std.proofs.lemmas.Bool.Decides.{same_from_decides}
 use Rattle.std.proofs.lemmas.Int.{of_z-to_z}
 use Rattle.std.proofs.lemmas.List.{map-append, length-map, ext_get_or, get_or-map}
 use Rattle.std.proofs.lemmas.List.Elements.{filter-append}
-use Rattle.nd_base.proofs.laws.Definitions.{below, all_signed, signed, unsigned, limit, nonzero_size, size}
-use Rattle.nd_base.proofs.laws.Below.{below_more}
-use Rattle.nd_base.proofs.laws.Signed.{all_signed_small}
+use Rattle.nd_base.proofs.Laws.Definitions.{below, all_signed, signed, unsigned, limit, nonzero_size, size}
+use Rattle.nd_base.proofs.Laws.Below.{below_more}
+use Rattle.nd_base.proofs.Laws.Signed.{all_signed_small}
 use Rattle.nd_dim.specs.Contiguous.{has_default_strides}
 use Rattle.nd_dim.specs.Strides.{default_strides}
-use Rattle.nd_dim.proofs.laws.Strides.{default_count, default_small}
-use Rattle.nd_base.proofs.laws.Size.{size-append}
+use Rattle.nd_dim.proofs.Laws.Strides.{default_count, default_small}
+use Rattle.nd_base.proofs.Laws.Size.{size-append}
 
 one_chosen : (b : Bool) (f : ℕ → ℕ) (n : ℕ) → size (map f (cond b (n ∷ []) [])) ≡ cond b (f n) 1
 one_chosen true f n = mul-one (f n)

@@ -4,12 +4,12 @@ use Rattle.std.proofs.Common.{get_or-set_same, replicate, refl, sym, ap, ◌∙�
 use Rattle.std.proofs.Math.Nat.{mul-le-mul_left, mul-le-mul_right}
 use Rattle.std.proofs.lemmas.Bool.{cases_lt, cases_order}
 use Rattle.std.proofs.lemmas.List.{get_or-replicate, length-replicate}
-use Rattle.nd_base.proofs.laws.Definitions.{is_index, farthest_offset, is_empty, size}
-use Rattle.nd_base.proofs.laws.Coordinates.{farthest_offset-set, farthest_offset_ge_coordinate, index_or_coordinate, is_index_of_larger}
-use Rattle.nd_base.proofs.laws.Coordinates.{is_index-step_along, size-set, size_le, step_along}
-use Rattle.nd_base.proofs.laws.IsIndex.{coordinate_of_index, length_of_index}
-use Rattle.nd_base.proofs.laws.FarthestOffset.{farthest_offset-zeros}
-use Rattle.nd_base.proofs.laws.Size.{length_pos}
+use Rattle.nd_base.proofs.Laws.Definitions.{is_index, farthest_offset, is_empty, size}
+use Rattle.nd_base.proofs.Laws.Coordinates.{farthest_offset-set, farthest_offset_ge_coordinate, index_or_coordinate, is_index_of_larger}
+use Rattle.nd_base.proofs.Laws.Coordinates.{is_index-step_along, size-set, size_le, step_along}
+use Rattle.nd_base.proofs.Laws.IsIndex.{coordinate_of_index, length_of_index}
+use Rattle.nd_base.proofs.Laws.FarthestOffset.{farthest_offset-zeros}
+use Rattle.nd_base.proofs.Laws.Size.{length_pos}
 use Rattle.nd_dim.specs.StrideOrder.{magnitude_at}
 use Rattle.nd_dim.specs.Contiguous.{lens_before}
 use Rattle.nd_dim.proofs.Filled.{ReachesEach, Fills, fills_next, fills_ones}

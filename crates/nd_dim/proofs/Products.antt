@@ -3,7 +3,7 @@ use Rattle.std.proofs.Common.{le_trans, zero, suc, ◌+◌, add-one, drop-cons, 
 use Rattle.std.proofs.Common.{◌∷◌, drop, arith, mul_assoc, one-mul, le-mul_of_pos_right, mul-le-mul_left}
 use Rattle.std.proofs.lemmas.Nat.{mul-le}
 use Rattle.nd_base.specs.Size.{nonzero_size}
-use Rattle.nd_base.proofs.laws.NonzeroSize.{nonzero_size_of_other, nonzero_size_pos}
+use Rattle.nd_base.proofs.Laws.NonzeroSize.{nonzero_size_of_other, nonzero_size_pos}
 
 -- a product that leaves room for the lengths from one on does so after it, with that length and without it
 taken : (n whole top : ℕ) (lens : List ℕ) → whole * nonzero_size (n ∷ lens) ≤ top → (whole * n) * nonzero_size lens ≤ top

@@ -6,11 +6,11 @@ use Rattle.std.proofs.lemmas.List.{append-nil, drop_all, drop_more, get_or-appen
 use Rattle.std.proofs.lemmas.List.{length-take-le, replicate_more, reverse-append, reverse-reverse, set_at, take-append-drop}
 use Rattle.std.proofs.lemmas.List.{take_all, take_more}
 use Rattle.nd_base.specs.declared.order.Order.TheVariants.{ColumnMajor}
-use Rattle.nd_base.proofs.laws.Definitions.{is_index, index_of_flat, index_of_flat_in, flat_index, flat_index_in, size}
-use Rattle.nd_base.proofs.laws.FlatIndex.{index_of_flat-flat_index, flat_index-lt-size, flat_index-zeros}
-use Rattle.nd_base.proofs.laws.IsIndex.{coordinate_of_index, is_index-reverse, is_index-zeros, length_of_index, nonempty_from_index}
-use Rattle.nd_base.proofs.laws.Lists.{reverse-replicate, reverse_parts}
-use Rattle.nd_base.proofs.laws.Size.{size-reverse, size_take_more}
+use Rattle.nd_base.proofs.Laws.Definitions.{is_index, index_of_flat, index_of_flat_in, flat_index, flat_index_in, size}
+use Rattle.nd_base.proofs.Laws.FlatIndex.{index_of_flat-flat_index, flat_index-lt-size, flat_index-zeros}
+use Rattle.nd_base.proofs.Laws.IsIndex.{coordinate_of_index, is_index-reverse, is_index-zeros, length_of_index, nonempty_from_index}
+use Rattle.nd_base.proofs.Laws.Lists.{reverse-replicate, reverse_parts}
+use Rattle.nd_base.proofs.Laws.Size.{size-reverse, size_take_more}
 
 -- ---- the step of one coordinate, where those after it are at their ends
 record IsStepped (shape index stepped : List ℕ) : Type 0 where

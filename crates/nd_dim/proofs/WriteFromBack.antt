@@ -1,6 +1,6 @@
 -- A write to a list that is read from its back.
 use Rattle.std.proofs.Common.{◌≡◌, ℕ, ◌-◌, ◌<◌, List, length, set, reverse, sym, ap, ◌∙◌, arith}
-use Rattle.nd_base.proofs.laws.Lists.{reverse-set}
+use Rattle.nd_base.proofs.Laws.Lists.{reverse-set}
 
 -- a write from the back is one from the front of the turned list
 pub write_from_back : (xs : List ℕ) (k x : ℕ) → k < length xs → reverse (set xs (length xs - 1 - k) x) ≡ set (reverse xs) k x

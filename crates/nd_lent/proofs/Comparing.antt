@@ -10,14 +10,14 @@ use Rattle.std.proofs.lemmas.List.Sorted.{All-permutation, IsPermutation-sym}
 use Rattle.ndarray_layout.specs.declared.Order.TheVariants.{RowMajor}
 use Rattle.ndarray_layout.specs.Indices.{indices_in, is_index}
 use Rattle.ndarray_layout.specs.View.{place_at, view_places}
-use Rattle.ndarray_layout.proofs.laws.Indices.{All-indices_in}
-use Rattle.nd_parts.specs.Items.{ArrayValue, item_at, item_at_place}
+use Rattle.ndarray_layout.proofs.Laws.Indices.{All-indices_in}
+use Rattle.nd_lent.specs.Items.{ArrayValue, item_at, item_at_place}
 use Rattle.std.specs.Prelude.{◌&&◌}
 use Rattle.std.proofs.lemmas.List.{drop_more}
 use Rattle.nd_lent.specs.Equal.{both_equal}
 use Rattle.nd_lent.proofs.Folding.{IsItemAt}
 use Rattle.nd_lent.proofs.Sets.{All-indices, AreIndices}
-use Rattle.nd_lent.proofs.laws.IndexItems.{items_at}
+use Rattle.nd_lent.proofs.Laws.IndexItems.{items_at}
 
 -- as slices
 pub slices_compared : {T : Type 0} (eq : T → T → Bool) (xs ys : List T)

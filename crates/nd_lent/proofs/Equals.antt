@@ -14,7 +14,7 @@ use Rattle.nd_lent.specs.Extremes.{HasNoEqualAfter, HasNoEqualBefore}
 use Rattle.nd_lent.specs.Lending.{lends}
 use Rattle.nd_lent.specs.private.Picked.{better_of}
 use Rattle.nd_lent.proofs.Extremes.{less_is_greater, picks_less}
-use Rattle.nd_lent.proofs.laws.Folds.{IsKept, after_fold}
+use Rattle.nd_lent.proofs.Laws.Folds.{IsKept, after_fold}
 
 -- ---- one that is less or greater is not equal
 less_not_equal : (o : Ordering) → is_lt o ≡ true → is_eq o ≡ false

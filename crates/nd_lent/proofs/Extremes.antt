@@ -15,7 +15,7 @@ use Rattle.std.proofs.lemmas.List.Elements.{All-cons, All-nil}
 use Rattle.nd_lent.specs.Extremes.{IsFirstOf}
 use Rattle.nd_lent.specs.Lending.{lends}
 use Rattle.nd_lent.specs.private.Picked.{better_of}
-use Rattle.nd_lent.proofs.laws.Folds.{IsKept, after_fold}
+use Rattle.nd_lent.proofs.Laws.Folds.{IsKept, after_fold}
 
 -- a choice of two: what it doesn't come before, neither of them does
 pub record Picks {T : Type 0} (comes_before : T → T → Bool) (pick : T → T → T) : Type 0 where

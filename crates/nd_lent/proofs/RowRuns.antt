@@ -1,5 +1,5 @@
 -- Calls of a closure at one place of a row after another.
-use Rattle.std.proofs.Common.{◌≡◌, ℕ, zero, suc, ◌+◌, ◌-◌, ◌<◌, ◌≤◌, true, ℤ, pos, Option, Some}
+use Rattle.std.proofs.Common.{◌≡◌, ℕ, zero, suc, ◌+◌, ◌-◌, ◌<◌, ◌≤◌, true, pos, Option, Some}
 use Rattle.std.proofs.Common.{List, [], ◌∷◌, ◌++◌, length, get_or}
 use Rattle.std.proofs.Common.{map, take, drop, refl, sym, ap, subst, ◌∙◌, arith}
 use Rattle.std.specs.List.{Contains, FoldsTo}
@@ -9,16 +9,16 @@ use Rattle.std.proofs.lemmas.Int.{ints}
 use Rattle.std.proofs.Math.Seq.{drop-append_seam, take-append_seam, take-length}
 use Rattle.ndarray_layout.specs.declared.Row.{Row}
 use Rattle.ndarray_layout.specs.Rows.{row_places}
-use Rattle.ndarray_layout.proofs.laws.Rows.{get_or-row_places, length-row_places}
+use Rattle.ndarray_layout.proofs.Laws.Rows.{get_or-row_places, length-row_places}
 use Rattle.nd_lent.specs.Mapped.{Makes}
-use Rattle.nd_parts.specs.Items.{item_at_place}
+use Rattle.nd_lent.specs.Items.{item_at_place}
 use Rattle.nd_lent.specs.private.RunTo.{HasRunTo}
 use Rattle.nd_lent.proofs.Sets.{Distinct}
 use Rattle.nd_lent.specs.LentRow.{HasRow, RowValue, is_contiguous, places_of, row_items}
 use Rattle.nd_lent.proofs.RowsLent.{contiguous_items, contiguous_places}
-use Rattle.nd_lent.proofs.laws.RowItems.{read_neighbours}
-pub use Rattle.nd_parts.proofs.laws.RunsTo.{HasMappedSoFar, HasRunSoFar, IsNext, all_run, begins, both_run, callable_after}
-pub use Rattle.nd_parts.proofs.laws.RunsTo.{callable_in_part, next_in_place, no_run, one_more, others_stay, takes_next}
+use Rattle.nd_lent.proofs.Laws.RowItems.{read_neighbours}
+pub use Rattle.nd_lent.proofs.Laws.RunsTo.{HasMappedSoFar, HasRunSoFar, IsNext, all_run, begins, both_run, callable_after}
+pub use Rattle.nd_lent.proofs.Laws.RunsTo.{callable_in_part, next_in_place, no_run, one_more, others_stay, takes_next}
 
 -- ---- a slice, place by place
 pub all_neighbours : {X : Type 0} (xs : List X) → map (item_at_place xs) (row_places 0 (pos 1) (length xs)) ≡ map Some xs

@@ -17,12 +17,12 @@ use Rattle.ndarray_layout.specs.declared.Row.{Row}
 use Rattle.ndarray_layout.specs.Bounds.{IsInBounds}
 use Rattle.ndarray_layout.specs.Rows.{row_places, rows_places}
 use Rattle.ndarray_layout.specs.View.{View, IsView, LiesWithin, view_places}
-use Rattle.ndarray_layout.proofs.laws.Rows.{All-rows_places, get_or-row_places, length-row_places, no_step, places_fit}
-use Rattle.ndarray_layout.proofs.laws.View.{places_lie_within}
+use Rattle.ndarray_layout.proofs.Laws.Rows.{All-rows_places, get_or-row_places, length-row_places, no_step, places_fit}
+use Rattle.ndarray_layout.proofs.Laws.View.{places_lie_within}
 use Rattle.nd_lent.specs.LentRow.{HasRow, is_contiguous, row_items, row_of, rows_items}
-use Rattle.nd_parts.specs.Items.{item_at_place}
-use Rattle.nd_parts.proofs.laws.RowLens.{short_rows}
-use Rattle.nd_lent.proofs.laws.RowItems.{begins, coordinate_in_bounds, neighbours_within, read_neighbours}
+use Rattle.nd_lent.specs.Items.{item_at_place}
+use Rattle.nd_lent.proofs.Laws.RowLens.{short_rows}
+use Rattle.nd_lent.proofs.Laws.RowItems.{begins, coordinate_in_bounds, neighbours_within, read_neighbours}
 
 -- ---- rows whose places are those of a view, in some order
 module _ (order : Order) (view : View) (rows : List Row) (moved : IsPermutation (rows_places rows) (view_places order view)) where

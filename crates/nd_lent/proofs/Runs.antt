@@ -1,9 +1,7 @@
 -- What calls of a closure at one place after another leave at the indices of a view, where no place is listed twice.
-use Rattle.std.proofs.Common.{◌≡◌, ℕ, ℤ, pos, true, Option, Some, None, List, [], ◌∷◌, length, map, refl, sym, ap}
-use Rattle.std.proofs.Common.{subst, ◌∙◌, arith}
-use Rattle.std.specs.Prelude.{zip}
-use Rattle.std.specs.Iterator.{CallableAtEachTurn}
-use Rattle.std.specs.List.{All, Contains, FoldsTo}
+use Rattle.std.proofs.Common.{◌≡◌, ℕ, ℤ, pos, true, Option, List, length, map, refl, sym, ap}
+use Rattle.std.proofs.Common.{subst, ◌∙◌}
+use Rattle.std.specs.List.{All, Contains}
 use Rattle.std.specs.Option.{option_map}
 use Rattle.std.proofs.lemmas.List.{length-map}
 use Rattle.std.proofs.lemmas.List.Sorted.{Contains-permutation}
@@ -12,13 +10,13 @@ use Rattle.ndarray_layout.specs.declared.Order.TheVariants.{RowMajor}
 use Rattle.ndarray_layout.specs.Indices.{is_index}
 use Rattle.ndarray_layout.specs.View.{place_at, view_places}
 use Rattle.nd_lent.specs.AnyOrder.{RunsInSomeOrder}
-use Rattle.nd_parts.specs.HasItems.{HasItemsOf, KeepsSpare}
-use Rattle.nd_lent.specs.Mapped.{Makes, gives, RunsOver}
-use Rattle.nd_parts.specs.Items.{ArrayValue, item_at, item_at_place}
+use Rattle.nd_lent.specs.HasItems.{HasItemsOf, KeepsSpare}
+use Rattle.nd_lent.specs.Mapped.{RunsOver}
+use Rattle.nd_lent.specs.Items.{ArrayValue, item_at, item_at_place}
 use Rattle.nd_lent.specs.Written.{HasRun}
 use Rattle.nd_lent.proofs.Sets.{All-indices, AreIndices, has_items, places_moved}
-pub use Rattle.nd_parts.proofs.laws.RunsTo.{acted, callable_at_first, callable_at_others}
-use Rattle.nd_lent.proofs.laws.IndexItems.{items_at}
+pub use Rattle.nd_lent.proofs.Laws.RunsTo.{acted, callable_at_first, callable_at_others}
+use Rattle.nd_lent.proofs.Laws.IndexItems.{items_at}
 
 -- ---- all places of an array, in some order of its indices
 abbrev pub changed : {T : Type 0} → ArrayValue T → List T → ArrayValue T

@@ -1,7 +1,7 @@
 -- Items that are set at one place after another, where no place is listed twice, and what that leaves at the indices of a view.
-use Rattle.std.proofs.Common.{◌≡◌, ◌≢◌, ℕ, ℤ, pos, negsuc, true, Option, Some, List, length, get_or, map}
+use Rattle.std.proofs.Common.{◌≡◌, ℕ, ℤ, pos, negsuc, true, Option, Some, List, length, get_or, map}
 use Rattle.std.proofs.Common.{refl, sym, ap, ◌∙◌}
-use Rattle.std.specs.List.{All, AllPairs, Contains}
+use Rattle.std.specs.List.{All, Contains}
 use Rattle.std.specs.List.Sorted.{IsPermutation}
 use Rattle.std.proofs.lemmas.Bool.{cond-true}
 use Rattle.std.proofs.lemmas.List.{get_or-map}
@@ -14,13 +14,13 @@ use Rattle.ndarray_layout.specs.declared.Order.TheVariants.{RowMajor}
 use Rattle.ndarray_layout.specs.Bounds.{IsInBounds}
 use Rattle.ndarray_layout.specs.Indices.{indices_in, is_index}
 use Rattle.ndarray_layout.specs.View.{View, LiesWithin, place_at, view_places}
-use Rattle.ndarray_layout.proofs.laws.DistinctPlaces.{AllPairs-view_places}
-use Rattle.ndarray_layout.proofs.laws.Indices.{All-indices_in, Contains-indices_in}
-use Rattle.nd_parts.specs.HasItems.{HasItemsOf}
-use Rattle.nd_parts.specs.Items.{ArrayValue, IsOwned, item_at, item_at_place}
+use Rattle.ndarray_layout.proofs.Laws.DistinctPlaces.{AllPairs-view_places}
+use Rattle.ndarray_layout.proofs.Laws.Indices.{All-indices_in, Contains-indices_in}
+use Rattle.nd_lent.specs.HasItems.{HasItemsOf}
+use Rattle.nd_lent.specs.Items.{ArrayValue, IsOwned, item_at, item_at_place}
 use Rattle.nd_lent.specs.Written.{HasSet}
 use Rattle.nd_lent.proofs.Permuted.{distinct_permuted}
-pub use Rattle.nd_parts.proofs.laws.RunsTo.{Distinct}
+pub use Rattle.nd_lent.proofs.Laws.RunsTo.{Distinct}
 
 -- ---- what stands at an index
 -- what two functions make of a list is the same at each of its items

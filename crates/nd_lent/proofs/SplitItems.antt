@@ -16,15 +16,15 @@ use Rattle.ndarray_layout.specs.Indices.{is_index}
 use Rattle.ndarray_layout.specs.Size.{is_empty, limit, nonzero_size}
 use Rattle.ndarray_layout.specs.Span.{low_span, span}
 use Rattle.ndarray_layout.specs.View.{View, IsView, LiesWithin, place_at}
-use Rattle.ndarray_layout.proofs.laws.AcceptanceFrom.{read_by_indices}
-use Rattle.ndarray_layout.proofs.laws.Bounds.{in_bounds_from}
-use Rattle.ndarray_layout.proofs.laws.Definitions.{IsValidLayout, place}
-use Rattle.ndarray_layout.proofs.laws.Flipped.{least_offset}
-use Rattle.ndarray_layout.proofs.laws.IsIndex.{nonempty_from_index}
-use Rattle.ndarray_layout.proofs.laws.Offset.{offset_bounds}
+use Rattle.ndarray_layout.proofs.Laws.AcceptanceFrom.{read_by_indices}
+use Rattle.ndarray_layout.proofs.Laws.Bounds.{in_bounds_from}
+use Rattle.ndarray_layout.proofs.Laws.Definitions.{IsValidLayout, place}
+use Rattle.ndarray_layout.proofs.Laws.Flipped.{least_offset}
+use Rattle.ndarray_layout.proofs.Laws.IsIndex.{nonempty_from_index}
+use Rattle.ndarray_layout.proofs.Laws.Offset.{offset_bounds}
 use Rattle.ndarray_layout.specs.Descends.{Descends}
-use Rattle.nd_parts.specs.Items.{ArrayValue, IsOwned, item_at_place}
-use Rattle.nd_lent.proofs.laws.OwnedViews.{owned_descendant}
+use Rattle.nd_lent.specs.Items.{ArrayValue, IsOwned, item_at_place}
+use Rattle.nd_lent.proofs.Laws.OwnedViews.{owned_descendant}
 use Rattle.nd_lent.specs.SplitItems.{IsMoved, ShowsPartOf, highest, lowest}
 
 -- a view has no fault apart from the data

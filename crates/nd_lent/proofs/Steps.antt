@@ -3,8 +3,8 @@ use Rattle.std.proofs.Common.{◌≡◌, ℕ, List, Result, Ok, Err, refl, ap, s
 use Rattle.std.specs.Prelude.{OnOk}
 use Rattle.ndarray_layout.specs.Descends.{Descends}
 use Rattle.ndarray_layout.specs.View.{View}
-use Rattle.nd_parts.specs.ArrayOfStep.{IsArrayOfStep, ShowsItemsOf}
-use Rattle.nd_parts.specs.Items.{ArrayValue, item_at_place}
+use Rattle.nd_lent.specs.ArrayOfStep.{IsArrayOfStep, ShowsItemsOf}
+use Rattle.nd_lent.specs.Items.{ArrayValue, item_at_place}
 
 shown : {T : Type 0} (items : List T) {source : List ℕ → List ℕ} {old new : View} → Descends source old new
     → ShowsItemsOf source (record { items = items; view = old }) (record { items = items; view = new })

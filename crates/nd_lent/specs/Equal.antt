@@ -3,7 +3,7 @@ use Rattle.std.specs.Prelude.{◌≡◌, ℕ, pos, Bool, true, false, ◌&&◌, 
 use Rattle.std.specs.Cmp.Lexicographic.{pointwise}
 use Rattle.ndarray_layout.specs.declared.Order.TheVariants.{RowMajor}
 use Rattle.ndarray_layout.specs.View.{view_places}
-use Rattle.nd_parts.specs.Items.{ArrayValue, item_at_place}
+use Rattle.nd_lent.specs.Items.{ArrayValue, item_at_place}
 
 -- there are two items, and they are equal
 abbrev pub both_equal : {T : Type 0} → (T → T → Bool) → Option T → Option T → Bool

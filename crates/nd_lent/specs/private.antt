@@ -1,5 +1,6 @@
 pub mod Folded
+pub mod OwnedRows
 pub mod Picked
+pub mod RunTo
 pub mod Searched
 pub mod Summed
-pub use Rattle.nd_parts.specs.private.RunTo

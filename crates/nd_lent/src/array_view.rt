@@ -5,26 +5,34 @@ ghost use Rattle.ndarray_layout.specs.Indices.{is_index};
 ghost use Rattle.ndarray_layout.specs.Memory.{NeedsNoMemory};
 ghost use Rattle.ndarray_layout.specs.Size.{size};
 ghost use Rattle.nd_lent.specs.ArrayView.{HasItems};
-ghost use Rattle.nd_parts.specs.Items.{item_at};
+ghost use Rattle.nd_lent.specs.Items.{item_at};
 
 mod comparing;
 mod extremes;
 mod folding;
+mod into_rows;
 mod iterating;
 mod making;
+mod rest_of_items;
+mod row_items;
 mod rows;
 mod searching;
 mod steps;
 mod summing;
 mod totals;
+mod view_iter;
 
+pub use into_rows::IntoRows;
 pub use iterating::Iter;
 use ndarray_layout::{Lengths, NdIndex, Strided};
+pub(crate) use rest_of_items::RestOfItems;
+pub use row_items::RowItems;
 pub(crate) use rows::{is_contiguous, place_in_row};
 pub use rows::{LentRow, LentRows};
 use std::alloc::{AllocError, Global};
 use std::marker::Model;
 pub use totals::Unsigned;
+pub use view_iter::ViewIter;
 
 /// Items of any type that are kept elsewhere and lent, with a view that has a place among them for each index. Two indices
 /// may have one item, as after a broadcast. Items at no place of the view are spare ones, and no call shows them but
@@ -39,7 +47,7 @@ pub struct ArrayView<'a, T, D: Lengths> {
 
 impl<'a, T, D: Lengths> Model for ArrayView<'a, T, D> {
     ghost use Rattle.std.specs.Prelude.{length};
-    ghost use Rattle.nd_parts.specs.Items.{ArrayValue};
+    ghost use Rattle.nd_lent.specs.Items.{ArrayValue};
     ghost use Rattle.nd_lent.specs.ArrayView.{HasItems};
 
     ghost Value = { ArrayValue T };

@@ -4,7 +4,7 @@ ghost use Rattle.std.specs.Prelude.{◌≡◌, ◌↔◌, ◌&&◌, IsTrue, IfEr
 ghost use Rattle.ndarray_layout.specs.Indices.{is_index};
 ghost use Rattle.ndarray_layout.specs.Memory.{NeedsNoMemory};
 ghost use Rattle.ndarray_layout.specs.Size.{size};
-ghost use Rattle.nd_parts.specs.Items.{IsOwned, IsOwned-prop};
+ghost use Rattle.nd_lent.specs.Items.{IsOwned, IsOwned-prop};
 
 mod axes;
 mod making;
@@ -40,8 +40,8 @@ impl<T, D: Lengths> Drop for ArrayViewMut<'_, T, D> {
 }
 
 impl<'a, T: Drop, D: Lengths> ArrayViewMut<'a, T, D> {
-    ghost use Rattle.nd_parts.specs.Items.{item_at, with_item};
-    ghost use Rattle.nd_parts.specs.HasItems.{with_swapped};
+    ghost use Rattle.nd_lent.specs.Items.{item_at, with_item};
+    ghost use Rattle.nd_lent.specs.HasItems.{with_swapped};
     ghost use Rattle.nd_lent.specs.Lender.{array_of};
 
     /// The view: the shape, the strides and the place of the first index. Each place of it has an item, and no two indices

@@ -1,11 +1,14 @@
 //! Items that are kept elsewhere, lent as an array or in parts, to be read or written by the places of a layout.
 #![tactic(auto)]
 
-mod array_view;
+pub(crate) mod array_view;
 mod array_view_mut;
+mod cells;
 mod indexing;
 pub(crate) mod nearest;
+mod part;
 
-pub use array_view::{ArrayView, Iter, LentRow, LentRows, Unsigned};
+pub use array_view::{ArrayView, IntoRows, Iter, LentRow, LentRows, RowItems, Unsigned, ViewIter};
 pub use array_view_mut::{ArrayViewMut, SplitViews};
-pub use nd_parts::{PartItems, PartIter, PartMut, PartRows};
+pub use cells::{Rest, Taken, Whole};
+pub use part::{PartItems, PartIter, PartMut, PartRows};

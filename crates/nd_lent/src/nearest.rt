@@ -58,7 +58,7 @@ fn six_axes(numbers: &[usize], other: usize) -> Ix6
     )
 }
 
-/// The view with axes of length 1 behind its own, six in all; `None` where it has more.
+/// The view with axes of length 1 after its own, six in all; `None` where it has more.
 fn with_six_axes<D: Lengths>(view: &Strided<D>) -> Option<Strided<Ix6>>
     ensures shape { IfSome result (λ six. six.shape
         ≡ view.now.shape ++ replicate (AXES - length view.now.shape) 1) }

@@ -11,10 +11,10 @@ use Rattle.ndarray_layout.specs.declared.ErrorKind.{ErrorKind}
 use Rattle.ndarray_layout.specs.declared.ErrorKind.TheVariants.{IncompatibleShape}
 use Rattle.ndarray_layout.specs.declared.Fit.TheVariants.{Strict}
 use Rattle.ndarray_layout.specs.SliceFault.{argument_fault}
-use Rattle.nd_lent.proofs.laws.Lists.{IsItem}
+use Rattle.nd_lent.proofs.Laws.Lists.{IsItem}
 use Rattle.nd_owned.specs.MultiSet.{Write, IsFaultOfWrites, IsIntersectionFault, counts_fault, has_count, slices_fault}
-use Rattle.nd_lent.proofs.laws.Lists.{next}
-use Rattle.nd_lent.proofs.laws.Faults.{both_none}
+use Rattle.nd_lent.proofs.Laws.Lists.{next}
+use Rattle.nd_lent.proofs.Laws.Faults.{both_none}
 
 pub this_got : {X Y : Type 0} (f : X → Y) (xs : List X) (i : ℕ) {x : X} → i < length xs → x ≡ get_or xs i x
     → slice_get (map f xs) i ≡ Some (f x)

@@ -3,4 +3,4 @@ pub mod Placed
 pub mod RowPlaces
 pub mod Slices
 pub mod ViewRows
-pub mod laws
+pub mod Laws

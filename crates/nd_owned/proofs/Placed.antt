@@ -6,12 +6,12 @@ use Rattle.std.proofs.lemmas.Grind.{flat_map-append}
 use Rattle.std.proofs.lemmas.List.{append-nil, map-append, nil_from_length}
 use Rattle.std.proofs.lemmas.List.Elements.{Contains-append_left, Contains-append_right}
 use Rattle.ndarray_layout.specs.Bounds.{IsInBounds}
-use Rattle.ndarray_layout.proofs.laws.Lists.{map_same}
+use Rattle.ndarray_layout.proofs.Laws.Lists.{map_same}
 use Rattle.nd_lent.specs.Items.{item_at_place}
 use Rattle.nd_lent.specs.Written.{HasSet}
 use Rattle.nd_owned.specs.private.Written.{HasWritten}
-use Rattle.nd_lent.proofs.laws.Lists.{parts_apart, set_other, set_same}
-use Rattle.nd_lent.proofs.laws.Lists.{pairs_first, pairs_second}
+use Rattle.nd_lent.proofs.Laws.Lists.{parts_apart, set_other, set_same}
+use Rattle.nd_lent.proofs.Laws.Lists.{pairs_first, pairs_second}
 
 -- ---- a list of lists, as a loop goes over it
 -- one more that is kept of a list, before those that are left

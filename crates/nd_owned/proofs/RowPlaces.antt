@@ -9,13 +9,13 @@ use Rattle.std.proofs.lemmas.List.FromFn.{take-map-range_with_len}
 use Rattle.std.proofs.lemmas.Option.{slice_get-get_or}
 use Rattle.ndarray_layout.specs.Bounds.{IsInBounds}
 use Rattle.ndarray_layout.specs.Rows.{row_places}
-use Rattle.ndarray_layout.proofs.laws.Rows.{get_or-row_places, length-row_places, row_more}
+use Rattle.ndarray_layout.proofs.Laws.Rows.{get_or-row_places, length-row_places, row_more}
 use Rattle.nd_lent.specs.Items.{item_at_place}
 use Rattle.nd_lent.specs.Written.{HasSet}
 use Rattle.nd_owned.specs.private.Written.{HasWritten}
-use Rattle.nd_lent.proofs.laws.Lists.{IsItem, all_first, pairs_first}
+use Rattle.nd_lent.proofs.Laws.Lists.{IsItem, all_first, pairs_first}
 use Rattle.nd_owned.proofs.Placed.{both_written, one_written}
-use Rattle.nd_lent.proofs.laws.RowItems.{neighbours_within, read_neighbours}
+use Rattle.nd_lent.proofs.Laws.RowItems.{neighbours_within, read_neighbours}
 
 -- ---- a row
 -- its first places

@@ -17,17 +17,17 @@ use Rattle.ndarray_layout.specs.Size.{size}
 use Rattle.ndarray_layout.specs.SlicedLayout.{sliced_shape}
 use Rattle.ndarray_layout.specs.SlicedView.{slice_of}
 use Rattle.ndarray_layout.specs.View.{View, IsView}
-use Rattle.ndarray_layout.proofs.laws.View.{length-view_places}
+use Rattle.ndarray_layout.proofs.Laws.View.{length-view_places}
 use Rattle.nd_lent.specs.Items.{item_at_place}
 use Rattle.nd_lent.specs.Written.{HasSet}
 use Rattle.nd_owned.specs.private.Written.{HasWritten}
 use Rattle.nd_owned.specs.MultiSet.{Write, IsFaultOfWrites, IsIntersectionFault, IsWritten, KeepsOthers, Spares, counts_fault}
 use Rattle.nd_owned.specs.MultiSet.{has_count, slices_fault, slices_of, write_places}
-use Rattle.nd_lent.proofs.laws.Lists.{none_of_all}
-use Rattle.nd_lent.proofs.laws.SlicePlaces.{slice_places, slices_distinct}
+use Rattle.nd_lent.proofs.Laws.Lists.{none_of_all}
+use Rattle.nd_lent.proofs.Laws.SlicePlaces.{slice_places, slices_distinct}
 use Rattle.std.proofs.iter.runs.Flat.{flat_map-map}
-use Rattle.nd_lent.proofs.laws.Faults.{slices_fit}
-use Rattle.nd_lent.proofs.laws.Lists.{All-of_map}
+use Rattle.nd_lent.proofs.Laws.Faults.{slices_fit}
+use Rattle.nd_lent.proofs.Laws.Lists.{All-of_map}
 
 -- equal lists of two parts, the first ones as long as each other
 same_parts : {X : Type 0} (xs us ys vs : List X) → length xs ≡ length us → xs ++ ys ≡ us ++ vs → (xs ≡ us) × (ys ≡ vs)

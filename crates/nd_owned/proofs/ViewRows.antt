@@ -8,8 +8,8 @@ use Rattle.ndarray_layout.specs.declared.Row.{Row}
 use Rattle.ndarray_layout.specs.Bounds.{IsInBounds}
 use Rattle.ndarray_layout.specs.Rows.{rows_places}
 use Rattle.ndarray_layout.specs.View.{View, IsView, LiesWithin, view_places}
-use Rattle.ndarray_layout.proofs.laws.Rows.{All-rows_places, length-row_places, places_fit}
-use Rattle.ndarray_layout.proofs.laws.View.{places_lie_within}
+use Rattle.ndarray_layout.proofs.Laws.Rows.{All-rows_places, length-row_places, places_fit}
+use Rattle.ndarray_layout.proofs.Laws.View.{places_lie_within}
 use Rattle.nd_lent.specs.Items.{item_at_place}
 use Rattle.nd_owned.specs.private.Written.{AreInBounds}
 use Rattle.nd_owned.proofs.Placed.{AreBoth}

@@ -10,7 +10,7 @@ mod rows;
 
 pub use iterating::Items;
 pub use nd_lent::{
-    ArrayView, ArrayViewMut, Iter, LentRow, LentRows, PartItems, PartIter, PartMut, PartRows,
-    SplitViews, Unsigned,
+    ArrayView, ArrayViewMut, IntoRows, Iter, LentRow, LentRows, PartItems, PartIter, PartMut,
+    PartRows, RowItems, SplitViews, Unsigned, ViewIter,
 };
 pub use owned::OwnedArray;

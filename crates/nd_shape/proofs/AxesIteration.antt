@@ -7,7 +7,7 @@ use Rattle.std.proofs.iter.runs.Sources.{from_front, from_back, as_is, as_is_bac
 use Rattle.nd_base.specs.Signed.{signed, all_signed}
 use Rattle.nd_shape.specs.declared.axes_iter.Axes.{Axes}
 use Rattle.nd_shape.specs.Axes.{description, axes_from, axes_left}
-use Rattle.nd_shape.proofs.laws.Axes.{length-axes_from, axes_from-push}
+use Rattle.nd_shape.proofs.Laws.Axes.{length-axes_from, axes_from-push}
 
 -- as many axes as lengths are left
 pub length-axes_left : (iter : Axes) → length (axes_left iter) ≡ length iter.lens.now

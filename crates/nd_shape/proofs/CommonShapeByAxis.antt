@@ -8,7 +8,7 @@ use Rattle.std.proofs.lemmas.List.{get_or-append-add, get_or_append_left, get_or
 use Rattle.std.proofs.lemmas.List.FromFn.{get_or-map-range_with_len, length-map-range_with_len}
 use Rattle.nd_base.specs.Indices.{below}
 use Rattle.nd_shape.specs.CommonShape.{common_length, common_lengths, padded, common_shape}
-use Rattle.nd_shape.proofs.laws.CommonShape.{common_with_one, joined_parts, length-padded}
+use Rattle.nd_shape.proofs.Laws.CommonShape.{common_with_one, joined_parts, length-padded}
 
 -- ---- as many lengths on both sides
 -- a list that is common axis by axis is the common one

@@ -6,14 +6,14 @@ use Rattle.std.specs.Prelude.{IsTrue}
 use Rattle.std.proofs.lemmas.Bool.{cases_Bool, cases_lt, eqb-false}
 use Rattle.nd_base.specs.declared.dim.Dim.{Dim}
 use Rattle.nd_base.specs.declared.order.Order.{Order}
-use Rattle.nd_base.proofs.laws.Definitions.{lengths, rewritten, is_index, index_of_flat_in, flat_index_in, is_empty, size}
-use Rattle.nd_base.proofs.laws.Dim.{lengths_rewritten}
-use Rattle.nd_base.proofs.laws.IsIndex.{is_index-zeros, length_of_index}
-use Rattle.nd_base.proofs.laws.FlatIndex.{index_of_flat_in-flat_index_in, is_index-index_of_flat_in, flat_index_in-index_of_flat_in}
-use Rattle.nd_base.proofs.laws.FlatIndex.{flat_index_in-zeros}
-use Rattle.nd_base.proofs.laws.Size.{size_of_empty}
+use Rattle.nd_base.proofs.Laws.Definitions.{lengths, rewritten, is_index, index_of_flat_in, flat_index_in, is_empty, size}
+use Rattle.nd_base.proofs.Laws.Dim.{lengths_rewritten}
+use Rattle.nd_base.proofs.Laws.IsIndex.{is_index-zeros, length_of_index}
+use Rattle.nd_base.proofs.Laws.FlatIndex.{index_of_flat_in-flat_index_in, is_index-index_of_flat_in, flat_index_in-index_of_flat_in}
+use Rattle.nd_base.proofs.Laws.FlatIndex.{flat_index_in-zeros}
+use Rattle.nd_base.proofs.Laws.Size.{size_of_empty}
 use Rattle.nd_shape.specs.IndicesLeft.{indices_left, StandsAt, StandsAtFirst, StandsAfter}
-use Rattle.nd_shape.proofs.laws.IndicesLeft.{indices_left-more, indices_left-none}
+use Rattle.nd_shape.proofs.Laws.IndicesLeft.{indices_left-more, indices_left-none}
 
 -- a shape with an index has no zero length
 nonempty : (shape : List ℕ) → 0 < size shape → is_empty shape ≡ false

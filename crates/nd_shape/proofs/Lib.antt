@@ -6,4 +6,4 @@ pub mod MergedStride
 pub mod NoAliasTest
 pub mod OrderRule
 pub mod SumLoop
-pub mod laws
+pub mod Laws

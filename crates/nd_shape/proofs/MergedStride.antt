@@ -6,9 +6,9 @@ use Rattle.std.proofs.Math.Nat.{div-add-mod, div-eq_of_lt, div-one, div_self, mo
 use Rattle.std.proofs.lemmas.Bool.{cases_eq}
 use Rattle.std.proofs.lemmas.Int.{ints}
 use Rattle.nd_base.specs.Size.{nonzero_size}
-use Rattle.nd_base.proofs.laws.NonzeroSize.{length_le_nonzero_size, nonzero_size_of_other, nonzero_size_of_zero}
-use Rattle.nd_base.proofs.laws.Span.{reach_le_span}
-use Rattle.nd_base.proofs.laws.Times.{times_sum, times_times}
+use Rattle.nd_base.proofs.Laws.NonzeroSize.{length_le_nonzero_size, nonzero_size_of_other, nonzero_size_of_zero}
+use Rattle.nd_base.proofs.Laws.Span.{reach_le_span}
+use Rattle.nd_base.proofs.Laws.Times.{times_sum, times_times}
 use Rattle.nd_base.specs.Span.{reach, span}
 use Rattle.nd_shape.specs.Merge.{IsMergedStride, MergeFits}
 

@@ -3,10 +3,10 @@ use Rattle.std.proofs.Common.{◌≡◌, ℕ, ◌<◌, ℤ, pos, List, length, g
 use Rattle.std.specs.Prelude.{nat_le, not}
 use Rattle.std.proofs.lemmas.Bool.Decides.{nat_tests, same_from_decides}
 use Rattle.std.proofs.lemmas.List.{get_or-map, reverse-reverse}
-use Rattle.nd_base.proofs.laws.Definitions.{all_signed, signed}
+use Rattle.nd_base.proofs.Laws.Definitions.{all_signed, signed}
 use Rattle.nd_dim.specs.StrideOrder.{magnitude_at}
 use Rattle.nd_shape.specs.NoAlias.{span_of_others, strides_over_others, satisfies_no_alias_rule, SatisfiesNoAliasRule}
-use Rattle.nd_shape.proofs.laws.NoAlias.{counts_back, rule_from_back, rule_holds, rule_tested}
+use Rattle.nd_shape.proofs.Laws.NoAlias.{counts_back, rule_from_back, rule_holds, rule_tested}
 
 -- the stride of an axis, read as signed
 pub signed_at : (strides : List ℕ) (k : ℕ) → k < length strides → get_or (all_signed strides) k (pos 0) ≡ signed (get_or strides k 0)

@@ -7,15 +7,15 @@ use Rattle.std.proofs.lemmas.Int.{of_z-to_z}
 use Rattle.std.proofs.lemmas.List.{get_or-map, length-map, length-reverse, reverse-reverse}
 use Rattle.nd_base.specs.declared.order.Order.{Order}
 use Rattle.nd_base.specs.declared.order.Order.TheVariants.{RowMajor, ColumnMajor}
-use Rattle.nd_base.proofs.laws.Definitions.{all_signed, signed, unsigned, is_empty, limit, nonzero_size}
-use Rattle.nd_base.proofs.laws.Lists.{get_or-from_back, map-reverse}
-use Rattle.nd_base.proofs.laws.Size.{is_empty-reverse}
+use Rattle.nd_base.proofs.Laws.Definitions.{all_signed, signed, unsigned, is_empty, limit, nonzero_size}
+use Rattle.nd_base.proofs.Laws.Lists.{get_or-from_back, map-reverse}
+use Rattle.nd_base.proofs.Laws.Size.{is_empty-reverse}
 use Rattle.nd_dim.specs.Strides.{default_strides, fortran_strides}
-use Rattle.nd_dim.proofs.laws.Strides.{default_by_fortran}
+use Rattle.nd_dim.proofs.Laws.Strides.{default_by_fortran}
 use Rattle.nd_shape.specs.MajorOrder.{HasStandardStrides, LiesInOrder, SatisfiesOrderRule}
 use Rattle.nd_shape.specs.ShapeBuilder.{standard_strides}
-use Rattle.nd_shape.proofs.laws.MajorOrder.{in_order_exactly}
-use Rattle.nd_shape.proofs.laws.StandardStrides.{standard_count, standard_signed}
+use Rattle.nd_shape.proofs.Laws.MajorOrder.{in_order_exactly}
+use Rattle.nd_shape.proofs.Laws.StandardStrides.{standard_count, standard_signed}
 
 module _ (order : Order) (lens : List ℕ) where
   signed_standard : (k : ℕ) → nonzero_size lens ≤ limit → k < length lens

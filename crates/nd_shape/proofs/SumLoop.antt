@@ -10,7 +10,7 @@ use Rattle.std.specs.Slice.Iter.{iter_rest}
 use Rattle.std.specs.declared.iter.Zip.{Zip}
 use Rattle.std.specs.declared.slice.Iter.{Iter}
 use Rattle.nd_base.specs.Signed.{signed}
-use Rattle.nd_base.proofs.laws.Span.{sum_from, sum_from_step, sum_from_end}
+use Rattle.nd_base.proofs.Laws.Span.{sum_from, sum_from_step, sum_from_end}
 
 -- the loop has yielded xs
 module _

@@ -1,5 +1,5 @@
 -- The definitions that most proofs cite, passed on from one place. Declares nothing.
-pub use Rattle.nd_base.proofs.laws.Definitions.{all_signed, is_index, limit, magnitude, reach, signed}
+pub use Rattle.nd_base.proofs.Laws.Definitions.{all_signed, is_index, limit, magnitude, reach, signed}
 pub use Rattle.nd_slice.specs.declared.fit.Fit.{Fit}
 pub use Rattle.nd_slice.specs.declared.slice.Slice.{Slice}
 pub use Rattle.nd_slice.specs.declared.elem.SliceInfoElem.{SliceInfoElem}

@@ -3,9 +3,9 @@ use Rattle.std.proofs.Common.{◌≡◌, ℕ, suc, ◌+◌, ◌-◌, ◌*◌, �
 use Rattle.std.proofs.lemmas.List.Elements.{All-from_get_or}
 use Rattle.std.proofs.lemmas.Int.{ints}
 use Rattle.nd_slice.proofs.Definitions.{between, magnitude}
-use Rattle.nd_base.proofs.laws.Lists.{Contains-at}
-use Rattle.nd_slice.proofs.laws.Between.{between_within, pick_up, pick_down, some_between}
-use Rattle.nd_slice.proofs.laws.PickSequences.{AreEnds}
+use Rattle.nd_base.proofs.Laws.Lists.{Contains-at}
+use Rattle.nd_slice.proofs.Laws.Between.{between_within, pick_up, pick_down, some_between}
+use Rattle.nd_slice.proofs.Laws.PickSequences.{AreEnds}
 
 -- the last pick lies so far from the first
 pub record IsExtent (step : ℤ) (start end extent : ℕ) : Type 0 where

@@ -7,4 +7,4 @@ pub mod SlicesInRows
 pub mod Slicing
 pub mod Times
 pub mod intersect_lemmas
-pub mod laws
+pub mod Laws

@@ -8,9 +8,9 @@ use Rattle.std.proofs.lemmas.Option.{slice_get-get_or}
 use Rattle.nd_slice.proofs.Definitions.{AreApart, AreInOrder, Fit, Intersect, IntersectAt, IsPast, SliceInfoElem, argument_fault, end_on}
 use Rattle.nd_slice.proofs.Definitions.{position_of}
 use Rattle.nd_slice.proofs.Definitions.{slice_at, slices_fault, start_on}
-use Rattle.nd_slice.proofs.laws.Intersect.{intersect_symmetric}
-use Rattle.nd_slice.proofs.laws.SliceFault.{each_fits}
-use Rattle.nd_slice.proofs.laws.RangesApart.{apart_past}
+use Rattle.nd_slice.proofs.Laws.Intersect.{intersect_symmetric}
+use Rattle.nd_slice.proofs.Laws.SliceFault.{each_fits}
+use Rattle.nd_slice.proofs.Laws.RangesApart.{apart_past}
 
 -- ---- what a function makes of each item of a list
 module _ {X Y : Type 0} (f : X → Y) (xs : List X) (i : ℕ) where

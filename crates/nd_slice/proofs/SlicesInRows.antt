@@ -2,7 +2,7 @@
 use Rattle.std.proofs.Common.{◌≡◌, ℕ, ◌+◌, ◌<◌, ◌≤◌, ◌⊎◌, inl, inr, Bool, None, List, length, below_more, arith, max}
 use Rattle.nd_slice.proofs.Definitions.{AreApart, Fit, SliceInfoElem, argument_fault, end_on, slice_at, slices_fault, start_on}
 use Rattle.nd_slice.proofs.Slices.{fits_read}
-use Rattle.nd_slice.proofs.laws.RangesApart.{apart_past}
+use Rattle.nd_slice.proofs.Laws.RangesApart.{apart_past}
 
 module _ (fit : Fit) (shape : List ℕ) (slices : List (List SliceInfoElem)) (backwards : Bool) where
   abbrev at : ℕ → List SliceInfoElem

@@ -7,9 +7,9 @@ use Rattle.std.proofs.Math.IntN.{*ℤ-zero}
 use Rattle.std.specs.List.{range_with_len}
 use Rattle.nd_slice.proofs.Definitions.{Fit, Slice, between, directed, end_meaning, every, first_offset, limit, magnitude, picked_stride}
 use Rattle.nd_slice.proofs.Definitions.{picks, reach, slice_fault, start_meaning}
-use Rattle.nd_slice.proofs.laws.AxisFault.{fits_of_no_fault, step_moves}
-use Rattle.nd_slice.proofs.laws.Offsets.{offset_of_some, picked_few, picked_many}
-use Rattle.nd_slice.proofs.laws.Between.{between_steps, between_below, between_within, some_between}
+use Rattle.nd_slice.proofs.Laws.AxisFault.{fits_of_no_fault, step_moves}
+use Rattle.nd_slice.proofs.Laws.Offsets.{offset_of_some, picked_few, picked_many}
+use Rattle.nd_slice.proofs.Laws.Between.{between_steps, between_below, between_within, some_between}
 
 -- the picks of a slice, by the bounds that it means
 module _ (fit : Fit) (len : ℕ) (slice : Slice) where

@@ -1,7 +1,7 @@
 -- Where a position lies so many steps on, or back.
 use Rattle.std.proofs.Common.{◌≡◌, ℕ, suc, ◌+◌, ◌*◌, ap, sym, ◌∙◌, ℤ, pos, negsuc, neg_ℤ, ◌+ℤ◌, ◌*ℤ◌}
 use Rattle.std.proofs.Math.IntN.{*ℤ-negsuc, +ℤ-neg_ℤ_cancel, *ℤ_comm}
-use Rattle.nd_base.proofs.laws.Times.{times_neg, times_sum, times_times}
+use Rattle.nd_base.proofs.Laws.Times.{times_neg, times_sum, times_times}
 
 -- so many steps on
 pub times_up : (first j k : ℕ) (s : ℤ) → pos (first + j * k) *ℤ s ≡ (pos first *ℤ s) +ℤ (pos j *ℤ (s *ℤ pos k))

@@ -2,7 +2,7 @@
 use Rattle.std.proofs.Common.{◌≡◌, ◌⊎◌, ℕ, ℤ, true, false, None, List, inl, inr, arith, subst}
 use Rattle.std.proofs.lemmas.Grind.{common_steps}
 use Rattle.nd_base.specs.declared.order.Order.TheVariants.{RowMajor, ColumnMajor}
-use Rattle.nd_base.proofs.laws.Definitions.{all_signed, is_empty}
+use Rattle.nd_base.proofs.Laws.Definitions.{all_signed, is_empty}
 use Rattle.nd_shape.specs.Acceptance.{acceptance}
 use Rattle.nd_shape.specs.AcceptanceByStrides.{acceptance_by_strides}
 use Rattle.nd_shape.specs.NoAlias.{satisfies_no_alias_rule, SatisfiesNoAliasRule}
@@ -11,9 +11,9 @@ use Rattle.nd_shape.specs.declared.acceptance.CanIndexCheckMode.{CanIndexCheckMo
 use Rattle.nd_shape.specs.declared.acceptance.CanIndexCheckMode.TheVariants.{OwnedMutable}
 use Rattle.nd_shape.specs.declared.shape_builder.Strides.{Strides}
 use Rattle.nd_shape.specs.declared.shape_builder.Strides.TheVariants.{C, F, Custom}
-use Rattle.nd_shape.proofs.laws.AcceptanceByStrides.{standard_size}
-use Rattle.nd_shape.proofs.laws.NoAlias.{rule_holds}
-use Rattle.nd_shape.proofs.laws.StandardStrides.{standard_satisfies_rule}
+use Rattle.nd_shape.proofs.Laws.AcceptanceByStrides.{standard_size}
+use Rattle.nd_shape.proofs.Laws.NoAlias.{rule_holds}
+use Rattle.nd_shape.proofs.Laws.StandardStrides.{standard_satisfies_rule}
 
 -- an element's size in bytes, and how many elements there are
 module _ (elem_size len : ℕ) where

@@ -4,7 +4,7 @@ use Rattle.std.proofs.Common.{false, cond, refl, sym, ap, subst, ◌∙◌, arit
 use Rattle.std.proofs.Common.{inl, inr}
 use Rattle.std.proofs.lemmas.Bool.{cases_lt}
 use Rattle.nd_base.specs.declared.order.Order.{Order}
-use Rattle.nd_base.proofs.laws.Definitions.{all_signed, signed, size}
+use Rattle.nd_base.proofs.Laws.Definitions.{all_signed, signed, size}
 use Rattle.nd_shape.specs.Merge.{MergeFits}
 use Rattle.ndarray_layout.specs.declared.strided.rows.Fastest.{Fastest}
 use Rattle.ndarray_layout.specs.declared.strided.rows.Row.{Row}
@@ -15,7 +15,7 @@ use Rattle.ndarray_layout.specs.private.Fastest.{AreAlike, EndsIn, NoneGoesOn, N
 use Rattle.ndarray_layout.proofs.Fastest.{slower_items-ends}
 use Rattle.ndarray_layout.proofs.JoinedAxis.{IsNext, same_item}
 use Rattle.ndarray_layout.proofs.LongestRow.{fits, next, next_stride}
-use Rattle.ndarray_layout.proofs.laws.View.{length-view_places}
+use Rattle.ndarray_layout.proofs.Laws.View.{length-view_places}
 
 -- ---- joined axes
 pub next_alike : {order : Order} {axis other next also : Fastest} → AreAlike axis other → IsNext order axis next → IsNext order other also

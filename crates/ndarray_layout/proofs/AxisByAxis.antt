@@ -5,9 +5,9 @@ use Rattle.std.specs.Prelude.{max}
 use Rattle.std.proofs.Math.IntN.{zero-*ℤ}
 use Rattle.std.proofs.lemmas.Bool.{and_from, and_parts, cases_lt, cond-false, cond-true, le-ltb, lt-ltb, ltb-true}
 use Rattle.std.proofs.lemmas.Int.{ints}
-use Rattle.nd_base.proofs.laws.Definitions.{is_index}
-use Rattle.nd_base.proofs.laws.Times.{times_sum}
-use Rattle.ndarray_layout.proofs.laws.Sources.{HasSources, HasOwnSources, at_least}
+use Rattle.nd_base.proofs.Laws.Definitions.{is_index}
+use Rattle.nd_base.proofs.Laws.Times.{times_sum}
+use Rattle.ndarray_layout.proofs.Laws.Sources.{HasSources, HasOwnSources, at_least}
 
 -- ---- one axis
 -- each coordinate lies where one of another axis does, its source, both counted from first ones that are so far apart

@@ -6,15 +6,15 @@ use Rattle.std.proofs.lemmas.Bool.{and_from, and_parts, cases_lt, lt-ltb, ltb-tr
 use Rattle.std.proofs.lemmas.Int.{ints}
 use Rattle.std.proofs.lemmas.List.{length-append, length-map}
 use Rattle.nd_base.specs.Elementwise.{elementwise, products, sums}
-use Rattle.nd_base.proofs.laws.Definitions.{is_index, limit, nonzero_size, offset_of}
-use Rattle.nd_base.proofs.laws.IsIndex.{length_of_index, nonempty_from_index}
-use Rattle.nd_base.proofs.laws.Times.{times_sum, times_times}
+use Rattle.nd_base.proofs.Laws.Definitions.{is_index, limit, nonzero_size, offset_of}
+use Rattle.nd_base.proofs.Laws.IsIndex.{length_of_index, nonempty_from_index}
+use Rattle.nd_base.proofs.Laws.Times.{times_sum, times_times}
 use Rattle.ndarray_layout.specs.BlocksView.{block_source, blocks_of, strides_along, strides_of_blocks}
 use Rattle.ndarray_layout.specs.Descends.{IsViewOf}
 use Rattle.ndarray_layout.specs.KeepsPlaces.{KeepsPlaces}
 use Rattle.ndarray_layout.specs.View.{View, IsView}
-use Rattle.ndarray_layout.proofs.laws.KeepsPlaces.{IsViewOf-kept}
-use Rattle.ndarray_layout.proofs.laws.Sources.{IsView-where_some}
+use Rattle.ndarray_layout.proofs.Laws.KeepsPlaces.{IsViewOf-kept}
+use Rattle.ndarray_layout.proofs.Laws.Sources.{IsView-where_some}
 
 -- ---- two lists of axes, one after the other
 pub is_index-append : (front back index : List ℕ) → is_index (front ++ back) index ≡ true

@@ -7,7 +7,7 @@ use Rattle.std.proofs.lemmas.List.{append-nil, ext_get_or, get_or-take, length-d
 use Rattle.nd_base.specs.declared.error.ErrorKind.{ErrorKind}
 use Rattle.nd_base.specs.declared.error.ErrorKind.TheVariants.{IncompatibleShape, Overflow, Unsupported}
 use Rattle.nd_base.specs.Elementwise.{elementwise}
-use Rattle.nd_base.proofs.laws.Definitions.{is_empty, limit, nonzero_size}
+use Rattle.nd_base.proofs.Laws.Definitions.{is_empty, limit, nonzero_size}
 use Rattle.ndarray_layout.specs.declared.strided.blocks.Blocks.{Blocks}
 use Rattle.ndarray_layout.specs.declared.strided.blocks.Blocks.TheVariants.{Windows, Chunks}
 use Rattle.ndarray_layout.specs.BlocksView.{blocks_fault, strides_along}
@@ -15,7 +15,7 @@ use Rattle.ndarray_layout.specs.ChunksView.{chunk_count, chunk_stride}
 use Rattle.ndarray_layout.specs.WindowsView.{window_count}
 use Rattle.ndarray_layout.specs.private.Blocks.{block_count, block_counts, block_stride, block_strides}
 use Rattle.ndarray_layout.proofs.BlockSteps.{IsForEachAxis, length-elementwise, length-strides_along, next_axes}
-use Rattle.ndarray_layout.proofs.laws.BlocksView.{allows}
+use Rattle.ndarray_layout.proofs.Laws.BlocksView.{allows}
 
 -- ---- two lists axis by axis
 get_or-elementwise : (f : ℕ → ℕ → ℕ) (xs ys : List ℕ) (k : ℕ) → length xs ≡ length ys → k < length xs

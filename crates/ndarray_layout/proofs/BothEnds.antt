@@ -11,7 +11,7 @@ use Rattle.std.proofs.lemmas.List.{drop-append-le, drop_all, length-take-le, tak
 use Rattle.std.proofs.lemmas.List.Elements.{All-append, All-cons, All-drop, All-head, All-nil, All-tail, All-take}
 use Rattle.std.proofs.lemmas.List.FromFn.{take-map-range_with_len}
 use Rattle.std.proofs.lemmas.Nat.{div-add-mod', mod_below}
-use Rattle.nd_base.proofs.laws.Definitions.{IsInBounds, limit}
+use Rattle.nd_base.proofs.Laws.Definitions.{IsInBounds, limit}
 use Rattle.ndarray_layout.specs.declared.strided.rows.Row.{Row}
 use Rattle.ndarray_layout.specs.PlacesLeft.{ArePlacesLeft, places_after, rows_and}
 use Rattle.ndarray_layout.specs.Rows.{row_places, rows_places}
@@ -20,7 +20,7 @@ use Rattle.ndarray_layout.proofs.ByRows.{row_from}
 use Rattle.ndarray_layout.proofs.KeptRows.{lesser}
 use Rattle.ndarray_layout.proofs.LaterPlaces.{EntersRow, drop_rows, length-row, past_row}
 use Rattle.ndarray_layout.proofs.RowSteps.{after, place_bounds, start_bound}
-use Rattle.ndarray_layout.proofs.laws.Rows.{length-row_places, no_more, row_more}
+use Rattle.ndarray_layout.proofs.Laws.Rows.{length-row_places, no_more, row_more}
 
 -- ---- lists
 module _ {X : Type 0} where

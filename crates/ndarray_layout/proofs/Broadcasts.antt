@@ -6,11 +6,11 @@ use Rattle.std.proofs.lemmas.Bool.{cases_eq, eq-eqb, ne_eqb}
 use Rattle.std.proofs.lemmas.Int.{ints}
 use Rattle.std.proofs.lemmas.List.{get_or-drop}
 use Rattle.std.proofs.lemmas.List.{length-drop}
-use Rattle.nd_base.proofs.laws.Definitions.{all_signed, signed}
-use Rattle.nd_shape.proofs.laws.Stretches.{StretchesTo}
+use Rattle.nd_base.proofs.Laws.Definitions.{all_signed, signed}
+use Rattle.nd_shape.proofs.Laws.Stretches.{StretchesTo}
 use Rattle.ndarray_layout.specs.BroadcastView.{broadcast_strides, coordinates_within, new_axes, stretched_strides}
 use Rattle.ndarray_layout.proofs.AxisByAxis.{AxisHasSources, along, new_axis, no_axes}
-use Rattle.ndarray_layout.proofs.laws.Sources.{HasSources}
+use Rattle.ndarray_layout.proofs.Laws.Sources.{HasSources}
 
 -- ---- axes that were there
 stretched_axis : {len other : ℕ} (stride : ℤ) → (other ≡ len) ⊎ (other ≡ 1)

@@ -5,7 +5,7 @@ use Rattle.std.specs.List.{flat_map}
 use Rattle.std.proofs.lemmas.Int.{ints}
 use Rattle.std.proofs.lemmas.Grind.{flat_map-append}
 use Rattle.std.proofs.lemmas.List.{append-nil, map-append}
-use Rattle.nd_base.proofs.laws.Definitions.{below, indices, offset_of}
+use Rattle.nd_base.proofs.Laws.Definitions.{below, indices, offset_of}
 
 -- the places of a row that begins at a place
 abbrev pub row_from : ℤ → ℤ → ℕ → List ℤ

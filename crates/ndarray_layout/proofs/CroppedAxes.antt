@@ -5,7 +5,7 @@ use Rattle.std.proofs.Math.IntN.{zero-*ℤ}
 use Rattle.std.specs.List.{range_with_len}
 use Rattle.std.specs.Prelude.{max}
 use Rattle.std.proofs.lemmas.Bool.{and_from, and_parts, lt-ltb, ltb-true}
-use Rattle.nd_base.proofs.laws.Definitions.{is_index, offset_of}
+use Rattle.nd_base.proofs.Laws.Definitions.{is_index, offset_of}
 use Rattle.nd_base.specs.Elementwise.{differences, sums, DifferencesFit}
 use Rattle.ndarray_layout.specs.CroppedView.{RangesFit, moved_starts}
 use Rattle.nd_slice.specs.declared.fit.Fit.TheVariants.{Strict}
@@ -13,9 +13,9 @@ use Rattle.nd_slice.specs.SlicedAxis.{first_offset}
 use Rattle.nd_slice.specs.Picks.{picks}
 use Rattle.nd_slice.specs.SliceBounds.{slice_with}
 use Rattle.nd_slice.specs.SlicedLayout.{sliced_offset}
-use Rattle.nd_slice.proofs.laws.UnitStep.{between_one, ranges_between}
+use Rattle.nd_slice.proofs.Laws.UnitStep.{between_one, ranges_between}
 use Rattle.ndarray_layout.proofs.AxisByAxis.{along-own, no_axes, range_cases, range_of, range_start}
-use Rattle.ndarray_layout.proofs.laws.Sources.{HasOwnSources, at_least}
+use Rattle.ndarray_layout.proofs.Laws.Sources.{HasOwnSources, at_least}
 
 rest : {len start end : ℕ} {shape starts ends : List ℕ} → RangesFit (len ∷ shape) (start ∷ starts) (end ∷ ends)
     → RangesFit shape starts ends

@@ -7,18 +7,18 @@ use Rattle.std.proofs.lemmas.Bool.{and_from, and_parts, lt-ltb, ltb-true}
 use Rattle.std.proofs.lemmas.Int.{ints}
 use Rattle.std.proofs.Math.IntN.{zero-*ℤ}
 use Rattle.std.specs.Prelude.{max, nat_lt}
-use Rattle.nd_base.proofs.laws.IsIndex.{length_of_index}
+use Rattle.nd_base.proofs.Laws.IsIndex.{length_of_index}
 use Rattle.std.proofs.lemmas.List.{length-map, map-append, reverse-append, take_more}
 use Rattle.std.proofs.lemmas.Nat.{div-add-mod', mod_below, mod-mul-add, div-mul-add, mul-add-lt}
 use Rattle.nd_base.specs.declared.order.Order.{Order}
 use Rattle.nd_base.specs.declared.order.Order.TheVariants.{RowMajor, ColumnMajor}
-use Rattle.nd_base.proofs.laws.Definitions.{is_index, as_read, index_of_flat, index_of_flat_in, limit, nonzero_size, offset_of}
-use Rattle.nd_base.proofs.laws.Definitions.{size}
-use Rattle.nd_base.proofs.laws.NonzeroSize.{length_le_nonzero_size, nonzero_size-push, nonzero_size_of_other}
-use Rattle.nd_base.proofs.laws.Offset.{offset_of-push}
-use Rattle.nd_base.proofs.laws.AsRead.{as_read-as_read, length-as_read, nonzero_size-as_read, offset_of-as_read}
-use Rattle.nd_base.proofs.laws.AsRead.{size-as_read}
-use Rattle.nd_base.proofs.laws.Size.{size-push}
+use Rattle.nd_base.proofs.Laws.Definitions.{is_index, as_read, index_of_flat, index_of_flat_in, limit, nonzero_size, offset_of}
+use Rattle.nd_base.proofs.Laws.Definitions.{size}
+use Rattle.nd_base.proofs.Laws.NonzeroSize.{length_le_nonzero_size, nonzero_size-push, nonzero_size_of_other}
+use Rattle.nd_base.proofs.Laws.Offset.{offset_of-push}
+use Rattle.nd_base.proofs.Laws.AsRead.{as_read-as_read, length-as_read, nonzero_size-as_read, offset_of-as_read}
+use Rattle.nd_base.proofs.Laws.AsRead.{size-as_read}
+use Rattle.nd_base.proofs.Laws.Size.{size-push}
 use Rattle.ndarray_layout.specs.Rows.{fastest_item, slower_items}
 use Rattle.ndarray_layout.specs.View.{IsView, view_places}
 use Rattle.ndarray_layout.specs.RowsLeft.{with_item}
@@ -27,7 +27,7 @@ use Rattle.ndarray_layout.proofs.matching.FlatOffsets.{length-index_of_flat}
 use Rattle.ndarray_layout.proofs.ByRows.{by_last_axis, rows_from}
 use Rattle.ndarray_layout.proofs.ReadView.{places-as_read}
 use Rattle.ndarray_layout.proofs.BlockSteps.{is_index-joined}
-use Rattle.ndarray_layout.proofs.laws.Sources.{IsView-from_filled, at_least, is_index-at_least, nonzero_size-apart}
+use Rattle.ndarray_layout.proofs.Laws.Sources.{IsView-from_filled, at_least, is_index-at_least, nonzero_size-apart}
 
 -- ---- lists with an item for each axis
 -- read from the slowest axis on, the item of the fastest one is the last

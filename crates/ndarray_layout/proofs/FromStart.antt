@@ -5,7 +5,7 @@ use Rattle.std.specs.Option.{option_or}
 use Rattle.std.proofs.lemmas.Bool.{le-ltb, lt-ltb}
 use Rattle.nd_base.specs.declared.error.ErrorKind.{ErrorKind}
 use Rattle.nd_base.specs.declared.error.ErrorKind.TheVariants.{OutOfBounds, Unsupported}
-use Rattle.nd_base.proofs.laws.Definitions.{is_empty, limit, low_span, high_span}
+use Rattle.nd_base.proofs.Laws.Definitions.{is_empty, limit, low_span, high_span}
 use Rattle.nd_shape.specs.Acceptance.{may_share, size_fault}
 use Rattle.nd_shape.specs.NoAlias.{satisfies_no_alias_rule}
 use Rattle.nd_shape.specs.declared.acceptance.CanIndexCheckMode.{CanIndexCheckMode}

@@ -8,13 +8,13 @@ use Rattle.std.proofs.lemmas.List.{append-nil, length-map}
 use Rattle.std.proofs.lemmas.List.FromFn.{map-range_with_len_more}
 use Rattle.std.proofs.lemmas.Nat.{div-mul-add, mod-mul-add, mul-add-lt}
 use Rattle.nd_base.specs.declared.order.Order.{Order}
-use Rattle.nd_base.proofs.laws.AsRead.{length-as_read, nonzero_size-as_read, sum_over_axes-as_read}
-use Rattle.nd_base.proofs.laws.Definitions.{all_signed, high_span, limit, low_span, nonzero_size, reach_down, reach_up, signed}
-use Rattle.nd_base.proofs.laws.Definitions.{as_read, magnitude, reach, sum_over_axes}
-use Rattle.nd_base.proofs.laws.NonzeroSize.{length_le_nonzero_size, nonzero_size-push, nonzero_size_of_other, nonzero_size_of_zero}
-use Rattle.nd_base.proofs.laws.Span.{low_high_span, sum_over_axes-push}
+use Rattle.nd_base.proofs.Laws.AsRead.{length-as_read, nonzero_size-as_read, sum_over_axes-as_read}
+use Rattle.nd_base.proofs.Laws.Definitions.{all_signed, high_span, limit, low_span, nonzero_size, reach_down, reach_up, signed}
+use Rattle.nd_base.proofs.Laws.Definitions.{as_read, magnitude, reach, sum_over_axes}
+use Rattle.nd_base.proofs.Laws.NonzeroSize.{length_le_nonzero_size, nonzero_size-push, nonzero_size_of_other, nonzero_size_of_zero}
+use Rattle.nd_base.proofs.Laws.Span.{low_high_span, sum_over_axes-push}
 use Rattle.nd_shape.specs.Merge.{IsMergedStride}
-use Rattle.nd_shape.proofs.laws.Merge.{steps_on_from_fit}
+use Rattle.nd_shape.proofs.Laws.Merge.{steps_on_from_fit}
 use Rattle.ndarray_layout.specs.declared.strided.rows.Fastest.{Fastest}
 use Rattle.ndarray_layout.specs.RowsLeft.{axis_view}
 use Rattle.ndarray_layout.specs.View.{IsView, view_of, view_places}

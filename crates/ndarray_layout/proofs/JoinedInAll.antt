@@ -6,16 +6,16 @@ use Rattle.std.proofs.Math.Seq.{take-length}
 use Rattle.std.proofs.lemmas.List.{get_or-drop, get_or-take, length-drop, length-map, length-take-le, take_more}
 use Rattle.nd_base.specs.declared.order.Order.{Order}
 use Rattle.nd_base.specs.declared.order.Order.TheVariants.{RowMajor, ColumnMajor}
-use Rattle.nd_base.proofs.laws.Definitions.{all_signed, IsValidLayout, limit, low_span, magnitude, reach, signed}
+use Rattle.nd_base.proofs.Laws.Definitions.{all_signed, IsValidLayout, limit, low_span, magnitude, reach, signed}
 use Rattle.nd_shape.specs.Merge.{IsMergedStride, MergeFits}
-use Rattle.nd_shape.proofs.laws.Merge.{steps_on_from_fit}
+use Rattle.nd_shape.proofs.Laws.Merge.{steps_on_from_fit}
 use Rattle.ndarray_layout.specs.declared.strided.rows.Fastest.{Fastest}
 use Rattle.ndarray_layout.specs.JoinedInAll.{AreJoined, IsJoined, axis_after, slower_than, strides_of}
 use Rattle.ndarray_layout.specs.RowsLeft.{axis_view}
 use Rattle.ndarray_layout.specs.View.{IsView}
 use Rattle.ndarray_layout.specs.private.Fastest.{EndsIn, HasPlaces, IsSlowest}
 use Rattle.ndarray_layout.proofs.JoinedAxis.{HasPlaces-joined, HasPlaces-one, IsNext, Joins, both_fit, len_fits, next_fits}
-use Rattle.ndarray_layout.proofs.laws.View.{lowest_view}
+use Rattle.ndarray_layout.proofs.Laws.View.{lowest_view}
 
 -- the stride of an axis in the layout of a number
 pub stride_of : (ndim number axis : ℕ) (strides : List ℕ) → axis < ndim

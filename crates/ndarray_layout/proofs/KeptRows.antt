@@ -9,8 +9,8 @@ use Rattle.std.proofs.lemmas.List.{drop-drop, drop-map, drop-take, get_or-drop, 
 use Rattle.std.proofs.lemmas.List.{take-map, take-take, take_more}
 use Rattle.std.proofs.lemmas.List.Elements.{All-cons, All-nil}
 use Rattle.nd_base.specs.declared.order.Order.{Order}
-use Rattle.nd_base.proofs.laws.Definitions.{indices_in, magnitude, place, signed, size}
-use Rattle.nd_base.proofs.laws.Indices.{get_or-indices_in, length-indices_in}
+use Rattle.nd_base.proofs.Laws.Definitions.{indices_in, magnitude, place, signed, size}
+use Rattle.nd_base.proofs.Laws.Indices.{get_or-indices_in, length-indices_in}
 use Rattle.ndarray_layout.specs.declared.strided.rows.Fastest.{Fastest}
 use Rattle.ndarray_layout.specs.declared.strided.rows.Row.{Row}
 use Rattle.ndarray_layout.specs.Rows.{row_places, rows_places}
@@ -19,8 +19,8 @@ use Rattle.ndarray_layout.specs.RowsLeft.{AreRowsLeft, axis_view, count_given, c
 use Rattle.ndarray_layout.specs.private.Fastest.{IsColumn}
 use Rattle.ndarray_layout.proofs.NextRow.{IsOnAxis, axis_of_flat, below_factor, flat_within, next_place, row_on}
 use Rattle.ndarray_layout.proofs.RowsLeft.{factor_of_some, size-axis_view}
-use Rattle.ndarray_layout.proofs.laws.Rows.{length-row_places}
-use Rattle.ndarray_layout.proofs.laws.View.{length-view_places}
+use Rattle.ndarray_layout.proofs.Laws.Rows.{length-row_places}
+use Rattle.ndarray_layout.proofs.Laws.View.{length-view_places}
 
 -- ---- from one row to the next
 -- of a list of rows one is the first, and the others follow

@@ -6,8 +6,8 @@ use Rattle.std.proofs.Math.Seq.{drop-append-add, drop-nil}
 use Rattle.std.proofs.lemmas.Int.{ints}
 use Rattle.std.proofs.lemmas.List.{drop-append-le, drop-drop, drop_at}
 use Rattle.std.proofs.lemmas.List.Elements.{All-drop, All-head, All-tail}
-use Rattle.nd_base.proofs.laws.Definitions.{IsInBounds, limit, magnitude}
-use Rattle.nd_base.proofs.laws.Signed.{magnitude_from}
+use Rattle.nd_base.proofs.Laws.Definitions.{IsInBounds, limit, magnitude}
+use Rattle.nd_base.proofs.Laws.Signed.{magnitude_from}
 use Rattle.ndarray_layout.specs.declared.strided.rows.Row.{Row}
 use Rattle.ndarray_layout.specs.Rows.{row_places, rows_places}
 use Rattle.ndarray_layout.specs.PlacesLeft.{ArePlacesLeft, places_after}
@@ -15,7 +15,7 @@ use Rattle.ndarray_layout.proofs.ByRows.{row_from}
 use Rattle.ndarray_layout.specs.View.{IsPlace}
 use Rattle.ndarray_layout.proofs.RowSteps.{after, bounds_of_place, left_after_step, next_in_bounds}
 use Rattle.ndarray_layout.proofs.RowSteps.{place_bounds, row_first, start_bound}
-use Rattle.ndarray_layout.proofs.laws.Rows.{All-first_row, length-row_places, no_step, one_more_step}
+use Rattle.ndarray_layout.proofs.Laws.Rows.{All-first_row, length-row_places, no_step, one_more_step}
 
 -- ---- of a row
 -- after so many places it goes on as the row from there

@@ -33,5 +33,5 @@ pub mod Slices
 pub mod SliceSteps
 pub mod SlowestAxes
 pub mod TakenSteps
-pub mod laws
+pub mod Laws
 pub mod matching

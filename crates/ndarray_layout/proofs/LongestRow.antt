@@ -8,10 +8,10 @@ use Rattle.std.proofs.lemmas.Bool.{cases_lt}
 use Rattle.std.proofs.lemmas.Int.{ints}
 use Rattle.std.proofs.lemmas.List.{get_or-map, get_or-take, length-map, length-take}
 use Rattle.nd_base.specs.declared.order.Order.{Order}
-use Rattle.nd_base.proofs.laws.Definitions.{all_signed, index_of_flat_in, indices_in, offset_of, place, signed, size}
-use Rattle.nd_base.proofs.laws.Indices.{get_or-indices_in, length-indices_in}
+use Rattle.nd_base.proofs.Laws.Definitions.{all_signed, index_of_flat_in, indices_in, offset_of, place, signed, size}
+use Rattle.nd_base.proofs.Laws.Indices.{get_or-indices_in, length-indices_in}
 use Rattle.nd_shape.specs.Merge.{MergeFits}
-use Rattle.nd_shape.proofs.laws.Merge.{into_short, short_taken, steps_on}
+use Rattle.nd_shape.proofs.Laws.Merge.{into_short, short_taken, steps_on}
 use Rattle.ndarray_layout.specs.declared.strided.rows.Fastest.{Fastest}
 use Rattle.ndarray_layout.specs.declared.strided.rows.Row.{Row}
 use Rattle.ndarray_layout.specs.Rows.{BeginsAsRow, fastest_item, row_at, slower_items, slower_view, view_rows}
@@ -21,8 +21,8 @@ use Rattle.ndarray_layout.specs.private.Fastest.{EndsIn, NoneGoesOn}
 use Rattle.ndarray_layout.proofs.Fastest.{EndsIn-map, ends_of_some, fastest_item-ends}
 use Rattle.ndarray_layout.proofs.NextRow.{IsOnAxis, on_axis}
 use Rattle.ndarray_layout.proofs.RowsLeft.{IsView-slower, ends, size-axis_view, steps}
-use Rattle.ndarray_layout.proofs.laws.Rows.{get_or-row_places, length-row_places}
-use Rattle.ndarray_layout.proofs.laws.View.{length-view_places}
+use Rattle.ndarray_layout.proofs.Laws.Rows.{get_or-row_places, length-row_places}
+use Rattle.ndarray_layout.proofs.Laws.View.{length-view_places}
 
 -- the place of a flat index
 place_of : (order : Order) (view : View) (r : ℕ) → r < size view.shape

@@ -5,11 +5,11 @@ use Rattle.std.specs.List.{AllPairs, Contains}
 use Rattle.std.proofs.lemmas.Bool.{cases_eq, cases_lt, false_from_ne_true}
 use Rattle.std.proofs.lemmas.List.{get_or_default, get_or-set_other, get_or-set_same, length-replicate, length-set}
 use Rattle.std.proofs.lemmas.List.Sorted.{IsPermutation-sym}
-use Rattle.nd_base.proofs.laws.Below.{get_or-below, length-below}
-use Rattle.nd_base.proofs.laws.Definitions.{below}
+use Rattle.nd_base.proofs.Laws.Below.{get_or-below, length-below}
+use Rattle.nd_base.proofs.Laws.Definitions.{below}
 use Rattle.nd_dim.specs.AxesInOrder.{is_axis_order}
-use Rattle.nd_dim.proofs.laws.AxesInOrder.{item_below, length_of_order, order_of_permutation, position_of, position_of_item}
-use Rattle.nd_dim.proofs.laws.Rearranged.{permutation_from_members}
+use Rattle.nd_dim.proofs.Laws.AxesInOrder.{item_below, length_of_order, order_of_permutation, position_of, position_of_item}
+use Rattle.nd_dim.proofs.Laws.Rearranged.{permutation_from_members}
 
 -- the first of the named axes are there, no two of them are one, and they alone are marked
 pub record AreMarked (n count : ℕ) (numbers marks : List ℕ) : Type 0 where

@@ -8,12 +8,12 @@ use Rattle.std.proofs.lemmas.Bool.{cases_eq, cond-true, cond-false, eq-eqb, ne_e
 use Rattle.std.proofs.lemmas.Int.{ints}
 use Rattle.std.proofs.lemmas.List.{get_or-map, get_or-set_same, get_or-set_other, length-map, length-set, map-set, set_comm}
 use Rattle.std.proofs.lemmas.List.{set-get_or, set-set}
-use Rattle.nd_base.proofs.laws.Coordinates.{is_index-set}
-use Rattle.nd_base.proofs.laws.Definitions.{is_index, offset_of}
-use Rattle.nd_base.proofs.laws.IsIndex.{coordinate_of_index, length_of_index}
+use Rattle.nd_base.proofs.Laws.Coordinates.{is_index-set}
+use Rattle.nd_base.proofs.Laws.Definitions.{is_index, offset_of}
+use Rattle.nd_base.proofs.Laws.IsIndex.{coordinate_of_index, length_of_index}
 use Rattle.nd_shape.specs.Merge.{IsMergedStride, merged_shape}
 use Rattle.ndarray_layout.specs.MergedView.{merge_source}
-use Rattle.ndarray_layout.proofs.laws.Sources.{HasOwnSources, at_least}
+use Rattle.ndarray_layout.proofs.Laws.Sources.{HasOwnSources, at_least}
 
 -- ---- one coordinate for both
 -- how many coordinates are left on the axis taken, where both have so many together

@@ -8,22 +8,22 @@ use Rattle.std.proofs.lemmas.Int.{ints}
 use Rattle.std.proofs.lemmas.List.{get_or-map}
 use Rattle.std.proofs.lemmas.Nat.{div-add-mod', div-mul-add, mod-mul-add, mod_below, mul-add-lt}
 use Rattle.nd_base.specs.declared.order.Order.{Order}
-use Rattle.nd_base.proofs.laws.Definitions.{all_signed, index_of_flat_in, indices_in, is_empty, limit, offset_of, place}
-use Rattle.nd_base.proofs.laws.Definitions.{signed, size}
-use Rattle.nd_base.proofs.laws.FlatIndex.{flat_index_in-zeros, index_of_flat_in-flat_index_in, is_index-index_of_flat_in}
-use Rattle.nd_base.proofs.laws.Indices.{get_or-indices_in, length-indices_in}
-use Rattle.nd_base.proofs.laws.IsIndex.{is_index-zeros}
-use Rattle.nd_base.proofs.laws.NonzeroSize.{size_le_nonzero_size}
-use Rattle.nd_base.proofs.laws.Offset.{offset_of-zeros}
-use Rattle.nd_base.proofs.laws.Size.{size_of_empty}
+use Rattle.nd_base.proofs.Laws.Definitions.{all_signed, index_of_flat_in, indices_in, is_empty, limit, offset_of, place}
+use Rattle.nd_base.proofs.Laws.Definitions.{signed, size}
+use Rattle.nd_base.proofs.Laws.FlatIndex.{flat_index_in-zeros, index_of_flat_in-flat_index_in, is_index-index_of_flat_in}
+use Rattle.nd_base.proofs.Laws.Indices.{get_or-indices_in, length-indices_in}
+use Rattle.nd_base.proofs.Laws.IsIndex.{is_index-zeros}
+use Rattle.nd_base.proofs.Laws.NonzeroSize.{size_le_nonzero_size}
+use Rattle.nd_base.proofs.Laws.Offset.{offset_of-zeros}
+use Rattle.nd_base.proofs.Laws.Size.{size_of_empty}
 use Rattle.ndarray_layout.specs.declared.strided.rows.Fastest.{Fastest}
 use Rattle.ndarray_layout.specs.View.{View, IsPlace, IsView, place_at, view_of, view_places}
 use Rattle.ndarray_layout.specs.RowsLeft.{axis_view, row_place}
 use Rattle.ndarray_layout.specs.private.Fastest.{EndsIn, IsColumn}
 use Rattle.ndarray_layout.proofs.Fastest.{EndsIn-map, IsView-others, len_le_nonzero_size, offset_of-flat_index}
 use Rattle.ndarray_layout.proofs.Fastest.{size-others, some_coordinate}
-use Rattle.ndarray_layout.proofs.laws.Rows.{no_step, one_more_step}
-use Rattle.ndarray_layout.proofs.laws.View.{length-view_places, view_place}
+use Rattle.ndarray_layout.proofs.Laws.Rows.{no_step, one_more_step}
+use Rattle.ndarray_layout.proofs.Laws.View.{length-view_places, view_place}
 use Rattle.ndarray_layout.proofs.RowsLeft.{IsView-slower, ends, factor_of_some, size-axis_view, steps}
 
 -- ---- flat indices

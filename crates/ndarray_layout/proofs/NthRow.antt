@@ -8,9 +8,9 @@ use Rattle.std.proofs.lemmas.Int.{ints}
 use Rattle.std.proofs.lemmas.List.{length-map}
 use Rattle.std.proofs.lemmas.Option.{slice_get-map, slice_get_past}
 use Rattle.nd_base.specs.declared.order.Order.{Order}
-use Rattle.nd_base.proofs.laws.Definitions.{IsValidLayout, all_signed, index_of_flat_in, indices_in, limit, low_span, offset_of}
-use Rattle.nd_base.proofs.laws.Definitions.{signed, size}
-use Rattle.nd_base.proofs.laws.FlatIndex.{is_index-index_of_flat_in, slice_get-indices_in}
+use Rattle.nd_base.proofs.Laws.Definitions.{IsValidLayout, all_signed, index_of_flat_in, indices_in, limit, low_span, offset_of}
+use Rattle.nd_base.proofs.Laws.Definitions.{signed, size}
+use Rattle.nd_base.proofs.Laws.FlatIndex.{is_index-index_of_flat_in, slice_get-indices_in}
 use Rattle.ndarray_layout.specs.declared.strided.rows.Fastest.{Fastest}
 use Rattle.ndarray_layout.specs.declared.strided.rows.Row.{Row}
 use Rattle.ndarray_layout.specs.Rows.{row_at, slower_view, view_rows}
@@ -18,8 +18,8 @@ use Rattle.ndarray_layout.specs.RowsLeft.{axis_view, moved_to, row_place, with_i
 use Rattle.ndarray_layout.specs.View.{View, IsPlace, IsView, place_at, view_of, view_places}
 use Rattle.ndarray_layout.specs.private.Fastest.{EndsIn, HasRows}
 use Rattle.ndarray_layout.proofs.Fastest.{EndsIn-map, IsView-along, IsView-others, len_le_nonzero_size, size-others, some_coordinate}
-use Rattle.ndarray_layout.proofs.laws.Rows.{no_step}
-use Rattle.ndarray_layout.proofs.laws.View.{length-view_places, lowest_view}
+use Rattle.ndarray_layout.proofs.Laws.Rows.{no_step}
+use Rattle.ndarray_layout.proofs.Laws.View.{length-view_places, lowest_view}
 use Rattle.ndarray_layout.proofs.RowsLeft.{IsView-slower, ends, row-axis_view, size-axis_view, slower-axis_view, steps}
 use Rattle.ndarray_layout.proofs.NextRow.{IsOnAxis, axis_of_flat, below_factor, flat_within, on_axis}
 

@@ -6,8 +6,8 @@ use Rattle.std.proofs.lemmas.Bool.{cases_lt}
 use Rattle.std.proofs.lemmas.List.{drop-drop, drop-map, drop-take, get_or-drop, get_or-map, length-map, length-take-le, map-append}
 use Rattle.std.proofs.lemmas.List.{drop_min, take-map, take-take, take_more}
 use Rattle.nd_base.specs.declared.order.Order.{Order}
-use Rattle.nd_base.proofs.laws.Definitions.{index_of_flat_in, indices_in, limit, place, signed, size}
-use Rattle.nd_base.proofs.laws.Indices.{get_or-indices_in, length-indices_in}
+use Rattle.nd_base.proofs.Laws.Definitions.{index_of_flat_in, indices_in, limit, place, signed, size}
+use Rattle.nd_base.proofs.Laws.Indices.{get_or-indices_in, length-indices_in}
 use Rattle.ndarray_layout.specs.declared.strided.rows.Fastest.{Fastest}
 use Rattle.ndarray_layout.specs.declared.strided.rows.Row.{Row}
 use Rattle.ndarray_layout.specs.NumberedRows.{AreRowsBetween, rows_between, slowest, slowest_view}
@@ -20,7 +20,7 @@ use Rattle.ndarray_layout.proofs.KeptRows.{lesser, places_of_rows}
 use Rattle.ndarray_layout.proofs.NextRow.{next_place}
 use Rattle.ndarray_layout.proofs.RowsLeft.{IsFirst, IsView-slower, all_left, first_rows, size-axis_view}
 use Rattle.ndarray_layout.proofs.SlowestAxes.{slowest-map}
-use Rattle.ndarray_layout.proofs.laws.View.{length-view_places}
+use Rattle.ndarray_layout.proofs.Laws.View.{length-view_places}
 
 -- ---- of the rows of a list of places those between two numbers
 module _ (row : Row) (starts : List ℤ) (begun end : ℕ) where

@@ -7,10 +7,10 @@ use Rattle.std.proofs.Math.IntN.{zero-*ℤ}
 use Rattle.std.proofs.Math.ListN.{get_or-map}
 use Rattle.std.proofs.lemmas.Int.{ints}
 use Rattle.std.proofs.lemmas.Option.{get_or_from_slice_get}
-use Rattle.nd_base.proofs.laws.Definitions.{all_signed, signed}
+use Rattle.nd_base.proofs.Laws.Definitions.{all_signed, signed}
 use Rattle.ndarray_layout.proofs.AxisByAxis.{AreCoordinatesApart, AxisHasSources, along-own, at_coordinate, one_new_axis, same_axes}
 use Rattle.ndarray_layout.proofs.AxisByAxis.{same_axis}
-use Rattle.ndarray_layout.proofs.laws.Sources.{HasOwnSources}
+use Rattle.ndarray_layout.proofs.Laws.Sources.{HasOwnSources}
 
 -- ---- lists with an item for each axis
 -- the length and the stride of an axis, as they are read

@@ -4,7 +4,7 @@ use Rattle.std.proofs.Common.{refl, ap, sym, ◌∙◌}
 use Rattle.std.proofs.lemmas.Bool.{eqb-true}
 use Rattle.std.proofs.Math.Nat.{mul-le-mul_left, mul-le-mul_right, le-mul_of_pos_right, mul_assoc, one-mul}
 use Rattle.nd_base.specs.Size.{limit, nonzero_size, size}
-use Rattle.nd_base.proofs.laws.NonzeroSize.{nonzero_size_pos}
+use Rattle.nd_base.proofs.Laws.NonzeroSize.{nonzero_size_pos}
 use Rattle.nd_slice.specs.declared.fit.Fit.{Fit}
 use Rattle.nd_slice.specs.declared.elem.SliceInfoElem.{SliceInfoElem}
 use Rattle.nd_slice.specs.declared.elem.SliceInfoElem.TheVariants as elem
@@ -14,7 +14,7 @@ use Rattle.nd_slice.specs.AxisElems.{axis_elems}
 use Rattle.nd_slice.specs.Picks.{picks}
 use Rattle.nd_slice.specs.SliceBounds.{slice_with}
 use Rattle.nd_slice.specs.SlicedLayout.{sliced_shape}
-use Rattle.nd_slice.proofs.laws.AxisElems.{lens_of_axis_elems}
+use Rattle.nd_slice.proofs.Laws.AxisElems.{lens_of_axis_elems}
 use Rattle.std.specs.Option.{option_or}
 
 -- how many indices elements leave, each of its own axis

@@ -3,10 +3,10 @@ use Rattle.std.proofs.Common.{◌≡◌, ℕ, ℤ, pos, ◌+ℤ◌, List, length
 use Rattle.std.proofs.lemmas.List.{reverse-reverse, length-reverse}
 use Rattle.nd_base.specs.declared.order.Order.{Order}
 use Rattle.nd_base.specs.declared.order.Order.TheVariants.{RowMajor, ColumnMajor}
-use Rattle.nd_base.proofs.laws.Definitions.{as_read, indices, offset_of, place, places}
-use Rattle.nd_base.proofs.laws.Indices.{map-indices_in}
-use Rattle.nd_base.proofs.laws.IsIndex.{length_of_index}
-use Rattle.nd_base.proofs.laws.Offset.{offset_of-reverse}
+use Rattle.nd_base.proofs.Laws.Definitions.{as_read, indices, offset_of, place, places}
+use Rattle.nd_base.proofs.Laws.Indices.{map-indices_in}
+use Rattle.nd_base.proofs.Laws.IsIndex.{length_of_index}
+use Rattle.nd_base.proofs.Laws.Offset.{offset_of-reverse}
 use Rattle.std.proofs.lemmas.Simd.{map-map}
 
 -- the places in an order, with the axes turned where the first moves fastest

@@ -8,7 +8,7 @@ use Rattle.std.proofs.lemmas.Int.{ints}
 use Rattle.std.proofs.lemmas.List.{map-append}
 use Rattle.std.proofs.lemmas.Nat.{div-add-mod', mod-mul-add, mod_below}
 use Rattle.nd_base.specs.declared.order.Order.{Order}
-use Rattle.nd_base.proofs.laws.Definitions.{index_of_flat_in, signed, size}
+use Rattle.nd_base.proofs.Laws.Definitions.{index_of_flat_in, signed, size}
 use Rattle.ndarray_layout.specs.declared.strided.into_rows.Columns.{Columns}
 use Rattle.ndarray_layout.specs.declared.strided.into_rows.InColumn.{InColumn}
 use Rattle.ndarray_layout.specs.declared.strided.rows.Fastest.{Fastest}
@@ -22,8 +22,8 @@ use Rattle.ndarray_layout.specs.private.Fastest.{HasPlaces}
 use Rattle.ndarray_layout.proofs.JoinedAxis.{row_from-more}
 use Rattle.ndarray_layout.proofs.NextRow.{axis_of_flat, first_place, flat_within, next_place, row_on}
 use Rattle.ndarray_layout.proofs.RowsLeft.{factor_of_some, size-axis_view}
-use Rattle.ndarray_layout.proofs.laws.Rows.{no_step, one_more_step}
-use Rattle.ndarray_layout.proofs.laws.View.{length-view_places}
+use Rattle.ndarray_layout.proofs.Laws.Rows.{no_step, one_more_step}
+use Rattle.ndarray_layout.proofs.Laws.View.{length-view_places}
 
 -- ---- numbers by columns
 -- a number comes after one in its column

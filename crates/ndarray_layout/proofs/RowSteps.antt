@@ -4,13 +4,13 @@ use Rattle.std.proofs.Common.{add-one, append_assoc, drop, length, map, refl, sy
 use Rattle.std.specs.List.{All, range_with_len}
 use Rattle.std.proofs.lemmas.Int.{ints}
 use Rattle.std.proofs.lemmas.List.Elements.{All-head, All-nil, All-tail}
-use Rattle.nd_base.proofs.laws.Definitions.{IsInBounds, limit}
+use Rattle.nd_base.proofs.Laws.Definitions.{IsInBounds, limit}
 use Rattle.ndarray_layout.specs.declared.strided.rows.Row.{Row}
 use Rattle.ndarray_layout.specs.Rows.{row_places, rows_places}
 use Rattle.ndarray_layout.specs.PlacesLeft.{ArePlacesLeft, places_after}
 use Rattle.ndarray_layout.proofs.ByRows.{row_from}
 use Rattle.ndarray_layout.specs.View.{IsPlace}
-use Rattle.ndarray_layout.proofs.laws.Rows.{All-first_row, get_or-row_places, length-row_places, no_step, one_more_step}
+use Rattle.ndarray_layout.proofs.Laws.Rows.{All-first_row, get_or-row_places, length-row_places, no_step, one_more_step}
 
 -- ---- a row
 -- from one place further on

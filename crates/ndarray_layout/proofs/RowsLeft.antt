@@ -9,8 +9,8 @@ use Rattle.std.proofs.lemmas.Bool.{eqb-false}
 use Rattle.std.proofs.lemmas.List.{nil_from_length}
 use Rattle.nd_base.specs.declared.order.Order.{Order}
 use Rattle.nd_base.specs.declared.order.Order.TheVariants.{RowMajor, ColumnMajor}
-use Rattle.nd_base.proofs.laws.Definitions.{all_signed, limit, place, signed, size}
-use Rattle.nd_base.proofs.laws.NonzeroSize.{size_le_nonzero_size}
+use Rattle.nd_base.proofs.Laws.Definitions.{all_signed, limit, place, signed, size}
+use Rattle.nd_base.proofs.Laws.NonzeroSize.{size_le_nonzero_size}
 use Rattle.ndarray_layout.specs.declared.strided.rows.Fastest.{Fastest}
 use Rattle.ndarray_layout.specs.declared.strided.rows.Row.{Row}
 use Rattle.ndarray_layout.specs.Rows.{row_at, slower_view, view_rows}
@@ -21,8 +21,8 @@ use Rattle.ndarray_layout.proofs.ByRows.{rows_from}
 use Rattle.ndarray_layout.proofs.Fastest.{EndsIn-map, IsView-others, fastest_item-ends}
 use Rattle.ndarray_layout.proofs.Fastest.{size-others, slower_items-ends}
 use Rattle.ndarray_layout.proofs.SlowestAxes.{IsSlowest-all, IsSlowest-next}
-use Rattle.ndarray_layout.proofs.laws.Rows.{no_step}
-use Rattle.ndarray_layout.proofs.laws.View.{length-view_places}
+use Rattle.ndarray_layout.proofs.Laws.Rows.{no_step}
+use Rattle.ndarray_layout.proofs.Laws.View.{length-view_places}
 
 -- ---- the axis of a view
 -- a layout that ends in an axis is the view of it

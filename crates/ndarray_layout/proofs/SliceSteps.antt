@@ -10,8 +10,8 @@ use Rattle.std.proofs.Math.ListN.{get_or-map}
 use Rattle.std.proofs.lemmas.List.{map-append, length-map, length-set, length-drop, append-nil, drop_all, drop_more, take_all}
 use Rattle.std.proofs.lemmas.List.{take_more_set}
 use Rattle.nd_base.specs.declared.error.ErrorKind.{ErrorKind}
-use Rattle.nd_base.proofs.laws.Definitions.{all_signed, magnitude, signed, limit, high_span, low_span, reach, reach_down}
-use Rattle.nd_base.proofs.laws.Definitions.{reach_up, IsValidLayout}
+use Rattle.nd_base.proofs.Laws.Definitions.{all_signed, magnitude, signed, limit, high_span, low_span, reach, reach_down}
+use Rattle.nd_base.proofs.Laws.Definitions.{reach_up, IsValidLayout}
 use Rattle.nd_slice.specs.declared.fit.Fit.{Fit}
 use Rattle.nd_slice.specs.declared.slice.Slice.{Slice}
 use Rattle.nd_slice.specs.declared.elem.SliceInfoElem.{SliceInfoElem}
@@ -22,14 +22,14 @@ use Rattle.nd_slice.specs.AxisFault.{slice_fault, index_fault}
 use Rattle.nd_slice.specs.SliceFault.{in_count, out_count, first_fault}
 use Rattle.nd_slice.specs.SlicedAxis.{picked_stride, first_offset}
 use Rattle.nd_slice.specs.SlicedLayout.{sliced_shape, sliced_strides, sliced_offset}
-use Rattle.nd_slice.proofs.laws.AxisFault.{coordinate_below, fits_of_no_fault, index_fits_of_no_fault}
-use Rattle.nd_base.proofs.laws.Offset.{coordinate_bounds}
+use Rattle.nd_slice.proofs.Laws.AxisFault.{coordinate_below, fits_of_no_fault, index_fits_of_no_fault}
+use Rattle.nd_base.proofs.Laws.Offset.{coordinate_bounds}
 use Rattle.ndarray_layout.proofs.AxisByAxis.{AxisHasSources, lone_coordinate}
 use Rattle.ndarray_layout.proofs.Slices.{picked_axis}
-use Rattle.ndarray_layout.proofs.laws.Sources.{down-at_least, up-at_least}
-use Rattle.nd_base.proofs.laws.Span.{low_high_span, reach_parts}
-use Rattle.nd_base.proofs.laws.NonzeroSize.{length_le_nonzero_size}
-use Rattle.nd_base.proofs.laws.Span.{reach_le_span}
+use Rattle.ndarray_layout.proofs.Laws.Sources.{down-at_least, up-at_least}
+use Rattle.nd_base.proofs.Laws.Span.{low_high_span, reach_parts}
+use Rattle.nd_base.proofs.Laws.NonzeroSize.{length_le_nonzero_size}
+use Rattle.nd_base.proofs.Laws.Span.{reach_le_span}
 
 -- rest, lens and steps are the elements, the lengths and the strides still to come
 pub record SlicedSoFar (fit : Fit) (elems : List SliceInfoElem) (shape : List ℕ) (strides : List ℤ) (rest : List SliceInfoElem)

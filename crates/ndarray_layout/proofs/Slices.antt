@@ -15,12 +15,12 @@ use Rattle.nd_slice.specs.SliceBounds.{slice_with}
 use Rattle.nd_slice.specs.SlicedAxis.{first_offset, picked_stride}
 use Rattle.nd_slice.specs.SlicedLayout.{sliced_offset, sliced_shape, sliced_strides}
 use Rattle.nd_slice.specs.SliceFault.{first_fault, in_count}
-use Rattle.nd_slice.proofs.laws.AxisFault.{coordinate_below}
-use Rattle.nd_slice.proofs.laws.Offsets.{picked_few, picked_many}
-use Rattle.nd_slice.proofs.laws.Picks.{pick_below, pick_steps, picks_injective}
-use Rattle.nd_slice.proofs.laws.SliceFault.{index_of_no_fault, slice_of_no_fault}
+use Rattle.nd_slice.proofs.Laws.AxisFault.{coordinate_below}
+use Rattle.nd_slice.proofs.Laws.Offsets.{picked_few, picked_many}
+use Rattle.nd_slice.proofs.Laws.Picks.{pick_below, pick_steps, picks_injective}
+use Rattle.nd_slice.proofs.Laws.SliceFault.{index_of_no_fault, slice_of_no_fault}
 use Rattle.ndarray_layout.proofs.AxisByAxis.{AreCoordinatesApart, AxisHasSources, along-own, at_coordinate, no_axes, one_new_axis}
-use Rattle.ndarray_layout.proofs.laws.Sources.{HasOwnSources}
+use Rattle.ndarray_layout.proofs.Laws.Sources.{HasOwnSources}
 
 -- ---- one axis
 first_pick : (picked : List ℕ) (stride : ℤ) → first_offset picked stride ≡ pos (get_or picked 0 0) *ℤ stride

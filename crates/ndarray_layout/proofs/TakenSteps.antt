@@ -12,12 +12,12 @@ use Rattle.ndarray_layout.specs.Descends.{IsViewOf}
 use Rattle.ndarray_layout.specs.DistinctPlaces.{HasDistinctPlaces}
 use Rattle.ndarray_layout.specs.Step.{StepValue, rule_of}
 use Rattle.ndarray_layout.specs.StepRule.{StepRule, IsStepError, MayLackMemory, may_want_memory}
-use Rattle.ndarray_layout.proofs.laws.Step.{IsLawful, lawful}
+use Rattle.ndarray_layout.proofs.Laws.Step.{IsLawful, lawful}
 use Rattle.nd_base.specs.declared.error.LayoutError.{LayoutError}
 use Rattle.nd_base.specs.declared.error.LayoutError.TheVariants.{Shape, Memory}
-use Rattle.nd_base.proofs.laws.Definitions.{shape_fault}
+use Rattle.nd_base.proofs.Laws.Definitions.{shape_fault}
 use Rattle.ndarray_layout.specs.Run.{AllFit, Leave, NeedNoMemory, StopsAt, run_of}
-use Rattle.ndarray_layout.proofs.laws.Run.{first_then, in_turn, joined, run_of_append, run_of_fault, run_of_fitting, run_sound, stayed}
+use Rattle.ndarray_layout.proofs.Laws.Run.{first_then, in_turn, joined, run_of_append, run_of_fault, run_of_fitting, run_sound, stayed}
 use Rattle.ndarray_layout.specs.View.{View, IsView}
 
 -- where a run has no fault, each step fits

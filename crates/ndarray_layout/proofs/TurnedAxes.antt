@@ -10,16 +10,16 @@ use Rattle.std.proofs.lemmas.Int.{ints}
 use Rattle.std.proofs.lemmas.List.{map-set}
 use Rattle.std.proofs.lemmas.List.Elements.{All-cons, All-head, All-nil, All-tail}
 use Rattle.std.specs.List.{All}
-use Rattle.nd_base.proofs.laws.Definitions.{all_signed, limit, reach, signed, span}
-use Rattle.nd_base.proofs.laws.NonzeroSize.{length_le_nonzero_size}
-use Rattle.nd_base.proofs.laws.Signed.{magnitude_from}
-use Rattle.nd_base.proofs.laws.Times.{times_sum}
+use Rattle.nd_base.proofs.Laws.Definitions.{all_signed, limit, reach, signed, span}
+use Rattle.nd_base.proofs.Laws.NonzeroSize.{length_le_nonzero_size}
+use Rattle.nd_base.proofs.Laws.Signed.{magnitude_from}
+use Rattle.nd_base.proofs.Laws.Times.{times_sum}
 use Rattle.ndarray_layout.specs.Descends.{Descends}
 use Rattle.ndarray_layout.specs.Nearest.{turned_offset, turned_of, turned_source, turned_stride, turned_strides, where_negative}
 use Rattle.ndarray_layout.specs.View.{IsPlace, IsView, View, view_of}
 use Rattle.ndarray_layout.proofs.AxisByAxis.{AreCoordinatesApart, AxisHasSources, along-own, first_coordinates, same_axes}
-use Rattle.ndarray_layout.proofs.laws.InvertedView.{none_after_first, times_negative}
-use Rattle.ndarray_layout.proofs.laws.Sources.{Descends-own_sources, HasOwnSources, start_within}
+use Rattle.ndarray_layout.proofs.Laws.InvertedView.{none_after_first, times_negative}
+use Rattle.ndarray_layout.proofs.Laws.Sources.{Descends-own_sources, HasOwnSources, start_within}
 
 -- ---- the opposite stride
 pub turned_cases : (stride : ℤ)

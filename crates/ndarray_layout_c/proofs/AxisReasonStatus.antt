@@ -16,7 +16,7 @@ module _ (shape : List ℕ) (axis index : ℕ) (reason : Reason) where
   status_of_split same = ap Reason.status same ∙ by (ltb axis (length shape)) (ltb (slice_index shape axis) index) refl
     where
       by : (there past : Bool) → ltb (slice_index shape axis) index ≡ past
-          → (cond there (cond past (of_axis (number_of OutOfBounds) (pos 21) axis (pos 0) (slice_index shape axis)) no_reason)
+          → (cond there (cond past (of_axis (number_of OutOfBounds) (pos 21) axis (pos 0) (slice_index shape axis) index) no_reason)
           (no_axis shape axis)).status
           ≡ status_of (cond (there && leb index (slice_index shape axis)) None (Some OutOfBounds))
       by false past test = refl
@@ -28,7 +28,7 @@ module _ (shape : List ℕ) (take into : ℕ) (reason : Reason) where
   status_of_merge same = ap Reason.status same ∙ by (ltb take (length shape)) (ltb into (length shape)) (eqb take into)
     where
       by : (there other one : Bool)
-          → (cond there (cond other (cond one (of_axis (number_of Unsupported) (pos 20) take (pos 0) 0) no_reason) (no_axis shape into))
+          → (cond there (cond other (cond one (of_axis (number_of Unsupported) (pos 20) take (pos 0) 0 0) no_reason) (no_axis shape into))
           (no_axis shape take)).status
           ≡ status_of (cond (not (there && other)) (Some OutOfBounds) (cond one (Some Unsupported) None))
       by false other one = refl

@@ -1,6 +1,6 @@
 -- The status of the reason of blocks is that of the call.
-use Rattle.std.proofs.Common.{◌≡◌, ℕ, zero, suc, ◌<◌, pos, Bool, true, false, not, cond, eqb, ltb, Option, Some, None, List, [], ◌∷◌, ◌++◌}
-use Rattle.std.proofs.Common.{length, refl, sym, subst, ap, ◌∙◌, arith}
+use Rattle.std.proofs.Common.{◌≡◌, ℕ, ℤ, zero, suc, ◌<◌, pos, Bool, true, false, not, cond, eqb, ltb, Option, Some, None, List, [], ◌∷◌}
+use Rattle.std.proofs.Common.{◌++◌, length, refl, sym, subst, ap, ◌∙◌, arith}
 use Rattle.std.specs.Option.{option_map_or}
 use Rattle.std.specs.Prelude.{◌&&◌}
 use Rattle.std.proofs.lemmas.Bool.{or_from, or_left, or_right}
@@ -11,8 +11,8 @@ use Rattle.ndarray_layout.specs.Size.{is_empty, limit, nonzero_size}
 use Rattle.ndarray_layout.specs.WindowsView.{windows_fault}
 use Rattle.ndarray_layout_c.specs.declared.blocks.Blocks.TheVariants.{Windows, Chunks}
 use Rattle.ndarray_layout_c.specs.declared.reasons.Reason.{Reason}
-use Rattle.ndarray_layout_c.specs.BlockReasons.{blocks_reason, first_none, is_none, taken_counts}
-use Rattle.ndarray_layout_c.specs.Reasons.{no_reason, of_axis}
+use Rattle.ndarray_layout_c.specs.BlockReasons.{blocks_reason, first_none, is_none, list_of, taken_counts}
+use Rattle.ndarray_layout_c.specs.Reasons.{no_reason, of_axis, of_list}
 use Rattle.ndarray_layout_c.specs.Statuses.{number_of, status_of}
 use Rattle.ndarray_layout_c.proofs.FirstFound.{Found, found}
 
@@ -32,7 +32,7 @@ has_index block none =
     none_empty block (subst (Found (is_none block) (length block)) (sym none) (found (is_none block) (length block)))
 
 -- ---- the status
-module _ (shape counts block : List ℕ) where
+module _ (list : ℤ) (shape counts block : List ℕ) where
   by_index : (empty : Bool) → is_empty block ≡ empty
       → status_of (blocks_fault None shape counts block)
       ≡ status_of (cond (not (eqb (length block) (length shape) && true)) (Some IncompatibleShape)
@@ -44,23 +44,23 @@ module _ (shape counts block : List ℕ) where
   abbrev told : Option ℕ → Reason
   told one =
       cond (eqb (length block) (length shape))
-      (option_map_or (λ axis. of_axis (number_of Unsupported) (pos 18) axis (pos 0) 0) one
-      (cond (ltb limit (nonzero_size (counts ++ block))) (of_axis (number_of Overflow) (pos 5) 0 (pos 0) 0) no_reason))
-      (of_axis (number_of IncompatibleShape) (pos 1) 0 (pos 0) (length block))
+      (option_map_or (λ axis. of_list (number_of Unsupported) (pos 18) list axis 0 0) one
+      (cond (ltb limit (nonzero_size (counts ++ block))) (of_axis (number_of Overflow) (pos 5) 0 (pos 0) 0 0) no_reason))
+      (of_list (number_of IncompatibleShape) (pos 1) list 0 (length block) (length shape))
 
   counts_status : (told (first_none block)).status ≡ status_of (blocks_fault None shape counts block)
   counts_status = by (first_none block) (found (is_none block) (length block))
     where
       some : (axis : ℕ) (same large : Bool)
-          → (cond same (of_axis (number_of Unsupported) (pos 18) axis (pos 0) 0)
-          (of_axis (number_of IncompatibleShape) (pos 1) 0 (pos 0) (length block))).status
+          → (cond same (of_list (number_of Unsupported) (pos 18) list axis 0 0)
+          (of_list (number_of IncompatibleShape) (pos 1) list 0 (length block) (length shape))).status
           ≡ status_of (cond (not (same && true)) (Some IncompatibleShape) (cond true (Some Unsupported) (cond large (Some Overflow) None)))
       some axis true large = refl
       some axis false large = refl
 
       none : (same large : Bool)
-          → (cond same (cond large (of_axis (number_of Overflow) (pos 5) 0 (pos 0) 0) no_reason)
-          (of_axis (number_of IncompatibleShape) (pos 1) 0 (pos 0) (length block))).status
+          → (cond same (cond large (of_axis (number_of Overflow) (pos 5) 0 (pos 0) 0 0) no_reason)
+          (of_list (number_of IncompatibleShape) (pos 1) list 0 (length block) (length shape))).status
           ≡ status_of (cond (not (same && true)) (Some IncompatibleShape) (cond false (Some Unsupported) (cond large (Some Overflow) None)))
       none true true = refl
       none true false = refl
@@ -78,7 +78,7 @@ module _ (shape counts block : List ℕ) where
 module _ (shape block : List ℕ) (reason : Reason) where
   -- as a call writes it
   pub status_of_windows : reason ≡ blocks_reason Windows shape block → reason.status ≡ status_of (windows_fault None shape block)
-  status_of_windows same = ap Reason.status same ∙ counts_status shape (taken_counts Windows shape block) block
+  status_of_windows same = ap Reason.status same ∙ counts_status (list_of Windows) shape (taken_counts Windows shape block) block
 
   pub status_of_chunks : reason ≡ blocks_reason Chunks shape block → reason.status ≡ status_of (chunks_fault None shape block)
-  status_of_chunks same = ap Reason.status same ∙ counts_status shape (taken_counts Chunks shape block) block
+  status_of_chunks same = ap Reason.status same ∙ counts_status (list_of Chunks) shape (taken_counts Chunks shape block) block

@@ -8,12 +8,12 @@ use Rattle.ndarray_layout.specs.declared.ErrorKind.TheVariants.{IncompatibleShap
 use Rattle.ndarray_layout.specs.BroadcastView.{broadcast_fault, takes_in}
 use Rattle.ndarray_layout.specs.CommonShape.{common_length, common_lengths, common_shape, common_shape_fault, padded}
 use Rattle.ndarray_layout.specs.Size.{limit, nonzero_size}
-use Rattle.ndarray_layout.proofs.laws.BroadcastView.{takes_in_by_axes, takes_in_no_fewer, takes_in_no_other}
-use Rattle.ndarray_layout.proofs.laws.CommonShape.{length-padded}
+use Rattle.ndarray_layout.proofs.Laws.BroadcastView.{takes_in_by_axes, takes_in_no_fewer, takes_in_no_other}
+use Rattle.ndarray_layout.proofs.Laws.CommonShape.{length-padded}
 use Rattle.ndarray_layout_c.specs.declared.reasons.Reason.{Reason}
 use Rattle.ndarray_layout_c.specs.BroadcastReasons.{broadcast_reason, co_broadcast_reason, first_apart, first_fixed, is_apart, is_fixed}
 use Rattle.ndarray_layout_c.specs.BroadcastReasons.{padded_length}
-use Rattle.ndarray_layout_c.specs.Reasons.{no_reason, of_axis}
+use Rattle.ndarray_layout_c.specs.Reasons.{no_reason, of_axis, of_list}
 use Rattle.ndarray_layout_c.specs.Statuses.{number_of, status_of}
 use Rattle.ndarray_layout_c.proofs.FirstFound.{Found, found}
 use Rattle.ndarray_layout_c.proofs.PaddedShapes.{after_front, in_front}
@@ -74,7 +74,8 @@ module _ (first second : List ℕ) where
       two = length-padded count second (omega arith)
 
       by : (apart : Option ℕ) → Found (is_apart count first second) count apart
-          → (option_map_or (λ axis. of_axis (number_of IncompatibleShape) (pos 16) axis (pos 0) 0) apart no_reason).status
+          → (option_map_or (λ axis. of_axis (number_of IncompatibleShape) (pos 16) axis (pos 0) (padded_length count first axis)
+          (padded_length count second axis)) apart no_reason).status
           ≡ status_of (common_shape_fault first second)
       by None none =
           sym (by_shape true (all_have (padded count first) (padded count second) (one ∙ sym two)
@@ -148,9 +149,9 @@ module _ (shape target : List ℕ) where
     where
       by : (less large : Bool) → ltb (length target) (length shape) ≡ less → ltb limit (nonzero_size target) ≡ large
           → (one : Option ℕ) → Found (is_fixed shape target) (length target) one
-          → (cond less (of_axis (number_of IncompatibleShape) (pos 1) 0 (pos 0) (length target))
-          (option_map_or (λ axis. of_axis (number_of IncompatibleShape) (pos 17) axis (pos 0) (here axis)) one
-          (cond large (of_axis (number_of Overflow) (pos 5) 0 (pos 0) 0) no_reason))).status
+          → (cond less (of_list (number_of IncompatibleShape) (pos 1) (pos 5) 0 (length target) (length shape))
+          (option_map_or (λ axis. of_axis (number_of IncompatibleShape) (pos 17) axis (pos 0) (here axis) (get_or target axis 0)) one
+          (cond large (of_axis (number_of Overflow) (pos 5) 0 (pos 0) 0 0) no_reason))).status
           ≡ status_of (broadcast_fault target shape)
       by true large less size one known = sym (by_tests false large (takes_in_no_fewer target shape (ltb-true _ _ less)) size)
       by false large less size (Some axis) fixed =

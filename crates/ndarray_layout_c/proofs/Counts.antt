@@ -13,10 +13,10 @@ use Rattle.ndarray_layout.specs.Signed.{signed, all_signed}
 use Rattle.ndarray_layout.specs.Size.{nonzero_size, size}
 use Rattle.ndarray_layout.specs.View.{View}
 use Rattle.ndarray_layout.specs.WindowsView.{window_count, window_counts, windows_fault, windows_of}
-use Rattle.ndarray_layout.proofs.laws.AxesInOrder.{length_of_order}
-use Rattle.ndarray_layout.proofs.laws.BlocksView.{can_take_blocks}
-use Rattle.ndarray_layout.proofs.laws.NonzeroSize.{size_le_nonzero_size}
-use Rattle.ndarray_layout.proofs.laws.Strides.{default_count, fortran_count}
+use Rattle.ndarray_layout.proofs.Laws.AxesInOrder.{length_of_order}
+use Rattle.ndarray_layout.proofs.Laws.BlocksView.{can_take_blocks}
+use Rattle.ndarray_layout.proofs.Laws.NonzeroSize.{size_le_nonzero_size}
+use Rattle.ndarray_layout.proofs.Laws.Strides.{default_count, fortran_count}
 use Rattle.ndarray_layout_c.specs.OwnStrides.{own_strides}
 
 -- strides that are kept as numbers of the same bits are as many as the signed ones

@@ -5,11 +5,11 @@ use Rattle.std.specs.Prelude.{slice_index}
 use Rattle.std.proofs.lemmas.Bool.{eqb-false, eqb-true, false_from_ne_true, leb-false, leb-true}
 use Rattle.ndarray_layout.specs.declared.ErrorKind.TheVariants.{OutOfBounds}
 use Rattle.ndarray_layout.specs.Indices.{is_index}
-use Rattle.ndarray_layout.proofs.laws.IsIndex.{coordinate_of_index, is_index_from_coordinates, length_of_index}
+use Rattle.ndarray_layout.proofs.Laws.IsIndex.{coordinate_of_index, is_index_from_coordinates, length_of_index}
 use Rattle.ndarray_layout_c.specs.declared.reasons.Reason.{Reason}
 use Rattle.ndarray_layout_c.specs.IndexFault.{index_fault}
 use Rattle.ndarray_layout_c.specs.IndexReasons.{first_outside, index_reason, is_outside}
-use Rattle.ndarray_layout_c.specs.Reasons.{no_reason, of_axis}
+use Rattle.ndarray_layout_c.specs.Reasons.{no_reason, of_axis, of_list}
 use Rattle.ndarray_layout_c.specs.Statuses.{number_of, status_of}
 use Rattle.ndarray_layout_c.proofs.FirstFound.{Found, found}
 
@@ -26,8 +26,9 @@ module _ (shape index : List ℕ) where
       by : (same : Bool) → nat_eq (length index) (length shape) ≡ same
           → (one : Option ℕ) → Found (is_outside shape index) (length shape) one
           → (cond same
-          (option_map_or (λ axis. of_axis (number_of OutOfBounds) (pos 15) axis (pos 0) (slice_index index axis)) one no_reason)
-          (of_axis (number_of OutOfBounds) (pos 1) 0 (pos 0) (length index))).status
+          (option_map_or (λ axis. of_axis (number_of OutOfBounds) (pos 15) axis (pos 0) (slice_index index axis) (slice_index shape axis))
+          one no_reason)
+          (of_list (number_of OutOfBounds) (pos 1) (pos 3) 0 (length index) (length shape))).status
           ≡ status_of (index_fault shape index)
       by false other one known =
           sym (by_test false (false_from_ne_true (is_index shape index) (λ here. eqb-false _ _ other (length_of_index shape index here))))

@@ -20,13 +20,13 @@ use Rattle.ndarray_layout.specs.Selected.{selected}
 use Rattle.ndarray_layout.specs.Signed.{signed, all_signed}
 use Rattle.ndarray_layout.specs.View.{View, view_of}
 use Rattle.ndarray_layout.specs.WindowsView.{window_source, windows_fault, windows_of}
-use Rattle.ndarray_layout.proofs.laws.BroadcastView.{IsViewOf-broadcast_of}
-use Rattle.ndarray_layout.proofs.laws.ChunksView.{Descends-chunks_of}
-use Rattle.ndarray_layout.proofs.laws.MergedView.{Descends-merge_of, merge_fault_of_answer}
-use Rattle.ndarray_layout.proofs.laws.Options.{option_or_none}
-use Rattle.ndarray_layout.proofs.laws.PermutedView.{Descends-permuted_of}
-use Rattle.ndarray_layout.proofs.laws.ReshapedView.{Descends-reshape_of}
-use Rattle.ndarray_layout.proofs.laws.WindowsView.{IsViewOf-windows_of}
+use Rattle.ndarray_layout.proofs.Laws.BroadcastView.{IsViewOf-broadcast_of}
+use Rattle.ndarray_layout.proofs.Laws.ChunksView.{Descends-chunks_of}
+use Rattle.ndarray_layout.proofs.Laws.MergedView.{Descends-merge_of, merge_fault_of_answer}
+use Rattle.ndarray_layout.proofs.Laws.Options.{option_or_none}
+use Rattle.ndarray_layout.proofs.Laws.PermutedView.{Descends-permuted_of}
+use Rattle.ndarray_layout.proofs.Laws.ReshapedView.{Descends-reshape_of}
+use Rattle.ndarray_layout.proofs.Laws.WindowsView.{IsViewOf-windows_of}
 use Rattle.ndarray_layout_c.specs.Kept.{DescendsInPlace, IsLayoutOf}
 use Rattle.ndarray_layout_c.specs.LayoutFault.{layout_fault, lowest_view}
 use Rattle.ndarray_layout_c.specs.Statuses.{ok}

@@ -13,11 +13,11 @@ use Rattle.ndarray_layout.specs.AcceptanceFrom.{acceptance_from, leaves_data_fro
 use Rattle.ndarray_layout.specs.NoAlias.{satisfies_no_alias_rule, strides_over_others}
 use Rattle.ndarray_layout.specs.Size.{is_empty, limit, nonzero_size}
 use Rattle.ndarray_layout.specs.Span.{high_span, low_span, span}
-use Rattle.ndarray_layout.proofs.laws.AcceptanceFrom.{acceptance_from_lowest}
-use Rattle.ndarray_layout.proofs.laws.Span.{low_high_span}
+use Rattle.ndarray_layout.proofs.Laws.AcceptanceFrom.{acceptance_from_lowest}
+use Rattle.ndarray_layout.proofs.Laws.Span.{low_high_span}
 use Rattle.ndarray_layout_c.specs.declared.reasons.Reason.{Reason}
 use Rattle.ndarray_layout_c.specs.LayoutReasons.{alias_reason, buffer_reason, is_past, layout_reason, limits_reason}
-use Rattle.ndarray_layout_c.specs.Reasons.{no_reason, of_axis}
+use Rattle.ndarray_layout_c.specs.Reasons.{no_reason, of_axis, of_list}
 use Rattle.ndarray_layout_c.specs.Statuses.{number_of, status_of}
 
 -- what the span has above the start is what it has not below
@@ -58,8 +58,8 @@ module _ (shape : List ℕ) (strides : List ℤ) where
   shared_status ReadOnly false = refl
 
   -- ---- a layout within the limits
-  abbrev of_bounds : ℤ → ℕ → Reason
-  of_bounds rule size = of_axis (number_of OutOfBounds) rule 0 (pos 0) size
+  abbrev of_bounds : ℤ → ℕ → ℕ → Reason
+  of_bounds rule size other = of_axis (number_of OutOfBounds) rule 0 (pos 0) size other
 
   abbrev of_aliases : CanIndexCheckMode → Option Reason
   of_aliases mode = cond (is_empty shape) None (cond (is_owned mode) (alias_reason shape strides) None)
@@ -72,9 +72,9 @@ module _ (shape : List ℕ) (strides : List ℤ) where
       by (nat_lt start (low_span shape strides)) (nat_lt limit (start + high_span shape strides)) (is_past start len shape strides)
     where
       by : (low high past : Bool)
-          → told (option_or (cond low (Some (of_bounds (pos 8) (low_span shape strides)))
-          (cond high (Some (of_bounds (pos 9) (high_span shape strides)))
-          (cond past (Some (of_bounds (pos 10) (start + high_span shape strides))) None))) (of_aliases mode))
+          → told (option_or (cond low (Some (of_bounds (pos 8) (low_span shape strides) start))
+          (cond high (Some (of_bounds (pos 9) (high_span shape strides) start))
+          (cond past (Some (of_bounds (pos 10) (start + high_span shape strides) len)) None))) (of_aliases mode))
           ≡ status_of (cond (low || (high || past)) (Some OutOfBounds) (cond (may_share mode shape strides) (Some Unsupported) None))
       by true high past = refl
       by false true past = refl
@@ -82,8 +82,8 @@ module _ (shape : List ℕ) (strides : List ℤ) where
       by false false false = shared_status mode (is_empty shape)
 
   -- ---- and any layout
-  abbrev of_limits : ErrorKind → ℤ → ℕ → Reason
-  of_limits kind rule size = of_axis (number_of kind) rule 0 (pos 0) size
+  abbrev of_limits : ℤ → ℕ → ℕ → Reason
+  of_limits rule size other = of_axis (number_of Overflow) rule 0 (pos 0) size other
 
   limits_status : (elem_size : ℕ) (rest : Option Reason) (fault : Option ErrorKind)
       → (size_fault elem_size shape strides ≡ None → told rest ≡ status_of fault)
@@ -95,9 +95,9 @@ module _ (shape : List ℕ) (strides : List ℤ) where
       by : (other size far bytes : Bool)
           → (cond other (Some IncompatibleLayout) (cond size (Some Overflow) (cond far (Some Overflow) (cond bytes (Some Overflow) None)))
           ≡ None → told rest ≡ status_of fault)
-          → told (option_or (cond other (Some (of_limits IncompatibleLayout (pos 1) (length strides)))
-          (cond size (Some (of_limits Overflow (pos 5) 0)) (cond far (Some (of_limits Overflow (pos 6) 0))
-          (cond bytes (Some (of_limits Overflow (pos 7) (span shape strides))) None)))) rest)
+          → told (option_or (cond other (Some (of_list (number_of IncompatibleLayout) (pos 1) (pos 1) 0 (length strides) (length shape)))
+          (cond size (Some (of_limits (pos 5) 0 0)) (cond far (Some (of_limits (pos 6) 0 0))
+          (cond bytes (Some (of_limits (pos 7) (span shape strides) elem_size)) None)))) rest)
           ≡ status_of (option_or (cond other (Some IncompatibleLayout)
           (cond size (Some Overflow) (cond far (Some Overflow) (cond bytes (Some Overflow) None)))) fault)
       by true size far bytes fits = refl

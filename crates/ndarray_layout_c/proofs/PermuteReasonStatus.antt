@@ -7,7 +7,7 @@ use Rattle.ndarray_layout.specs.declared.ErrorKind.TheVariants.{IncompatibleShap
 use Rattle.ndarray_layout.specs.PermutedView.{permute_fault}
 use Rattle.ndarray_layout_c.specs.declared.reasons.Reason.{Reason}
 use Rattle.ndarray_layout_c.specs.PermuteReasons.{is_listed, permute_reason}
-use Rattle.ndarray_layout_c.specs.Reasons.{no_reason, of_axis}
+use Rattle.ndarray_layout_c.specs.Reasons.{no_reason, of_list}
 use Rattle.ndarray_layout_c.specs.Statuses.{number_of, status_of}
 
 -- the first number that fails a test, or else another reason
@@ -32,7 +32,9 @@ status_of_permute shape axes reason same =
     ∙ by (nat_eq (length axes) (length shape)) (list_all (is_listed axes) (range_with_len 0 (length shape)))
   where
     by : (as_many all : Bool)
-        → cond all (cond as_many no_reason (of_axis (number_of IncompatibleShape) (pos 1) 0 (pos 0) (length axes))).status (pos 1)
+        → cond all
+        (cond as_many no_reason (of_list (number_of IncompatibleShape) (pos 1) (pos 4) 0 (length axes) (length shape))).status
+        (pos 1)
         ≡ status_of (cond (as_many && all) None (Some IncompatibleShape))
     by true true = refl
     by true false = refl

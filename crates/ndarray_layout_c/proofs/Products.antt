@@ -3,8 +3,8 @@ use Rattle.std.proofs.Common.{◌≡◌, ◌≢◌, ℕ, ◌+◌, ◌*◌, ◌<�
 use Rattle.std.proofs.Common.{drop_of_length-le, le-mul_of_pos_right, mul-pos, mul_assoc, mul-one, one-mul}
 use Rattle.std.proofs.lemmas.Bool.{cases_eq}
 use Rattle.ndarray_layout.specs.Size.{limit, nonzero_size}
-use Rattle.ndarray_layout.proofs.laws.NonzeroSize.{nonzero_size_from_other, nonzero_size_from_zero, nonzero_size_of_other}
-use Rattle.ndarray_layout.proofs.laws.NonzeroSize.{nonzero_size_of_zero, nonzero_size_pos}
+use Rattle.ndarray_layout.proofs.Laws.NonzeroSize.{nonzero_size_from_other, nonzero_size_from_zero, nonzero_size_of_other}
+use Rattle.ndarray_layout.proofs.Laws.NonzeroSize.{nonzero_size_of_zero, nonzero_size_pos}
 
 -- of one length
 pub of_zero : (len : ℕ) → len ≡ 0 → nonzero_size (len ∷ []) ≡ 1

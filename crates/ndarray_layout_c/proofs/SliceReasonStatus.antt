@@ -16,7 +16,7 @@ use Rattle.ndarray_layout.specs.Signed.{magnitude}
 use Rattle.ndarray_layout.specs.SliceBounds.{bound_meaning, is_bound, is_coordinate, meaning, slice_with}
 use Rattle.ndarray_layout.specs.SliceFault.{argument_fault, elem_fault, fault_of_each, in_count}
 use Rattle.ndarray_layout_c.specs.declared.reasons.Reason.{Reason}
-use Rattle.ndarray_layout_c.specs.Reasons.{bound_rule, no_reason, of_axis, step_rule}
+use Rattle.ndarray_layout_c.specs.Reasons.{bound_rule, no_reason, of_axis, of_list, step_rule}
 use Rattle.ndarray_layout_c.specs.SliceReasons.{argument_reason, elem_reason, is_at_fault}
 use Rattle.ndarray_layout_c.specs.Statuses.{number_of, status_of}
 
@@ -43,8 +43,8 @@ index_status false kind fault = cc
 module _ (axis len : ℕ) (start : ℤ) where
   abbrev told : Option ℤ → Reason
   told found =
-      option_map_or (λ bound. of_axis (number_of OutOfBounds) bound_rule axis bound len) found
-      (of_axis (number_of Unsupported) step_rule axis (pos 0) len)
+      option_map_or (λ bound. of_axis (number_of OutOfBounds) bound_rule axis bound len 0) found
+      (of_axis (number_of Unsupported) step_rule axis (pos 0) len 0)
 
   to_the_end : (s e z : Bool) (kind : ErrorKind) → e ≡ true
       → cond (not (s && e)) (Some OutOfBounds) (cond z (Some Unsupported) None) ≡ Some kind
@@ -99,7 +99,7 @@ argument_status fit shape elems = by (nat_eq (in_count elems) (length shape))
     by : (same : Bool)
         → (cond same (option_map_or (λ one. elem_reason fit one.0 one.1.0 one.1.1)
         (find (is_at_fault fit) (enumerate_from 0 (axis_elems shape elems))) no_reason)
-        (of_axis (number_of IncompatibleShape) (pos 1) 0 (pos 0) (in_count elems))).status
+        (of_list (number_of IncompatibleShape) (pos 1) (pos 2) 0 (in_count elems) (length shape))).status
         ≡ status_of (cond same (fault_of_each fit (axis_elems shape elems)) (Some IncompatibleShape))
     by true = first_status fit 0 (axis_elems shape elems)
     by false = refl

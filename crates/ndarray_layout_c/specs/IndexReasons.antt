@@ -4,7 +4,7 @@ use Rattle.std.specs.List.{find, range_with_len}
 use Rattle.std.specs.Option.{option_map_or}
 use Rattle.ndarray_layout.specs.declared.ErrorKind.TheVariants.{OutOfBounds}
 use Rattle.ndarray_layout_c.specs.declared.reasons.Reason.{Reason}
-use Rattle.ndarray_layout_c.specs.Reasons.{coordinate_rule, count_rule, no_reason, of_axis}
+use Rattle.ndarray_layout_c.specs.Reasons.{coordinate_rule, count_rule, index_list, no_reason, of_axis, of_list}
 use Rattle.ndarray_layout_c.specs.Statuses.{number_of}
 
 -- the coordinate of an axis is none of it
@@ -19,17 +19,19 @@ first_outside shape index = find (is_outside shape index) (range_with_len 0 (len
 abbrev pub index_reason : List ℕ → List ℕ → Reason
 index_reason shape index =
     if length index == length shape
-    then option_map_or (λ axis. of_axis (number_of OutOfBounds) coordinate_rule axis (pos 0) (slice_index index axis))
+    then option_map_or
+    (λ axis. of_axis (number_of OutOfBounds) coordinate_rule axis (pos 0) (slice_index index axis) (slice_index shape axis))
     (first_outside shape index)
     no_reason
-    else of_axis (number_of OutOfBounds) count_rule 0 (pos 0) (length index)
+    else of_list (number_of OutOfBounds) count_rule index_list 0 (length index) (length shape)
 
 -- examples
 second_of_three : index_reason (2 ∷ 3 ∷ 5 ∷ []) (1 ∷ 3 ∷ 9 ∷ [])
-    ≡ record { status = pos 4; rule = pos 15; axis = 1; number = pos 0; size = 3 }
+    ≡ record { status = pos 4; rule = pos 15; list = pos 0; unit = pos 0; axis = 1; number = pos 0; size = 3; other = 3 }
 second_of_three = refl
 
-count_first : index_reason (2 ∷ 3 ∷ []) (9 ∷ []) ≡ record { status = pos 4; rule = pos 1; axis = 0; number = pos 0; size = 1 }
+count_first : index_reason (2 ∷ 3 ∷ []) (9 ∷ [])
+    ≡ record { status = pos 4; rule = pos 1; list = pos 3; unit = pos 0; axis = 0; number = pos 0; size = 1; other = 2 }
 count_first = refl
 
 last : index_reason (2 ∷ 3 ∷ []) (1 ∷ 2 ∷ []) ≡ no_reason

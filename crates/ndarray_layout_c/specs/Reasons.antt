@@ -88,15 +88,53 @@ same_axis_rule = pos 20
 abbrev pub split_rule : ℤ
 split_rule = pos 21
 
+-- the number of the list that breaks a rule: the strides
+abbrev pub strides_list : ℤ
+strides_list = pos 1
+
+-- the number of the list that breaks a rule: the elements of a slice, but for new axes
+abbrev pub slice_list : ℤ
+slice_list = pos 2
+
+-- the number of the list that breaks a rule: the coordinates of an index
+abbrev pub index_list : ℤ
+index_list = pos 3
+
+-- the number of the list that breaks a rule: the axes in their new order
+abbrev pub axes_list : ℤ
+axes_list = pos 4
+
+-- the number of the list that breaks a rule: the shape that a layout is broadcast to
+abbrev pub target_list : ℤ
+target_list = pos 5
+
+-- the number of the list that breaks a rule: the lengths of a window
+abbrev pub window_list : ℤ
+window_list = pos 6
+
+-- the number of the list that breaks a rule: the lengths of a chunk
+abbrev pub chunk_list : ℤ
+chunk_list = pos 7
+
 -- no rule is broken
 abbrev pub no_reason : Reason
-no_reason = record { status = ok; rule = pos 0; axis = 0; number = pos 0; size = 0 }
+no_reason = record { status = ok; rule = pos 0; list = pos 0; unit = pos 0; axis = 0; number = pos 0; size = 0; other = 0 }
 
--- a rule is broken at an axis
-abbrev pub of_axis : ℤ → ℤ → ℕ → ℤ → ℕ → Reason
-of_axis status rule axis number size = record { status = status; rule = rule; axis = axis; number = number; size = size }
+-- a rule is broken at an axis; places, spans and strides count elements
+abbrev pub of_axis : ℤ → ℤ → ℕ → ℤ → ℕ → ℕ → Reason
+of_axis status rule axis number size other =
+    record { status = status; rule = rule; list = pos 0; unit = pos 0; axis = axis; number = number; size = size; other = other }
+
+-- a list breaks a rule, at an axis where it is a length of it
+abbrev pub of_list : ℤ → ℤ → ℤ → ℕ → ℕ → ℕ → Reason
+of_list status rule list axis size other =
+    record { status = status; rule = rule; list = list; unit = pos 0; axis = axis; number = pos 0; size = size; other = other }
 
 -- examples
-index_past_the_third_axis : of_axis (number_of OutOfBounds) index_rule 2 (pos 9) 5
-    ≡ record { status = pos 4; rule = pos 2; axis = 2; number = pos 9; size = 5 }
+index_past_the_third_axis : of_axis (number_of OutOfBounds) index_rule 2 (pos 9) 5 0
+    ≡ record { status = pos 4; rule = pos 2; list = pos 0; unit = pos 0; axis = 2; number = pos 9; size = 5; other = 0 }
 index_past_the_third_axis = refl
+
+two_coordinates_for_three_axes : of_list (number_of OutOfBounds) count_rule index_list 0 2 3
+    ≡ record { status = pos 4; rule = pos 1; list = pos 3; unit = pos 0; axis = 0; number = pos 0; size = 2; other = 3 }
+two_coordinates_for_three_axes = refl

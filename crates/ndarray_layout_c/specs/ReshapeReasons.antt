@@ -1,6 +1,7 @@
 -- Why a layout can't be read as one of another shape: that of the layout, a product past the limit, another size, or the axis at which the
 -- strides don't go on.
-use Rattle.std.specs.Prelude.{◌≡◌, ℕ, ◌+◌, ◌-◌, pos, Bool, true, false, Option, Some, None, List, [], ◌∷◌, length, take, drop, refl}
+use Rattle.std.specs.Prelude.{◌≡◌, ℕ, ℤ, ◌+◌, ◌-◌, pos, Bool, true, false, nat_lt, if◌then◌else◌, Option, Some, None}
+use Rattle.std.specs.Prelude.{List, [], ◌∷◌, length, take, drop, slice_index, slice_index_or, refl}
 use Rattle.std.specs.List.{find, range_with_len}
 use Rattle.std.specs.Option.{option_map_or, option_or}
 use Rattle.ndarray_layout.specs.declared.CanIndexCheckMode.TheVariants.{ReadOnly}
@@ -57,42 +58,51 @@ abbrev pub stuck_axis : Order → List ℕ → List ℕ → List ℕ → ℕ
 stuck_axis order new_shape shape strides =
     option_map_or (axis_read order (length shape)) (first_stuck order new_shape shape strides) 0
 
--- why a view can't be read as one of a shape, by its fault; the axis where it is one of strides
-abbrev pub fault_reason : List ℕ → ℕ → Option ErrorKind → Reason
-fault_reason new_shape axis None = no_reason
-fault_reason new_shape axis (Some Overflow) = of_axis (number_of Overflow) size_rule 0 (pos 0) 0
-fault_reason new_shape axis (Some IncompatibleShape) = of_axis (number_of IncompatibleShape) other_size_rule 0 (pos 0) (size new_shape)
-fault_reason new_shape axis (Some IncompatibleLayout) = of_axis (number_of IncompatibleLayout) copy_rule axis (pos 0) 0
-fault_reason new_shape axis (Some RangeLimited) = of_axis (number_of RangeLimited) copy_rule axis (pos 0) 0
-fault_reason new_shape axis (Some OutOfBounds) = of_axis (number_of OutOfBounds) copy_rule axis (pos 0) 0
-fault_reason new_shape axis (Some Unsupported) = of_axis (number_of Unsupported) copy_rule axis (pos 0) 0
+-- the strides can't be read past an axis: its stride and its length, where there is such an axis
+abbrev pub copy_reason : ℤ → List ℕ → List ℕ → ℕ → Reason
+copy_reason status shape strides axis =
+    if nat_lt axis (length shape)
+    then of_axis status copy_rule axis (slice_index_or (all_signed strides) axis (pos 0)) (slice_index shape axis) 0
+    else of_axis status copy_rule axis (pos 0) 0 0
+
+-- why a layout can't be read as one of a shape, by its fault; the axis where it is one of strides
+abbrev pub fault_reason : List ℕ → List ℕ → List ℕ → ℕ → Option ErrorKind → Reason
+fault_reason shape strides new_shape axis None = no_reason
+fault_reason shape strides new_shape axis (Some Overflow) = of_axis (number_of Overflow) size_rule 0 (pos 0) 0 0
+fault_reason shape strides new_shape axis (Some IncompatibleShape) =
+    of_axis (number_of IncompatibleShape) other_size_rule 0 (pos 0) (size new_shape) (size shape)
+fault_reason shape strides new_shape axis (Some IncompatibleLayout) = copy_reason (number_of IncompatibleLayout) shape strides axis
+fault_reason shape strides new_shape axis (Some RangeLimited) = copy_reason (number_of RangeLimited) shape strides axis
+fault_reason shape strides new_shape axis (Some OutOfBounds) = copy_reason (number_of OutOfBounds) shape strides axis
+fault_reason shape strides new_shape axis (Some Unsupported) = copy_reason (number_of Unsupported) shape strides axis
 
 -- why a layout can't be read as one of a shape
 abbrev pub reshape_reason : Order → List ℕ → List ℕ → List ℕ → Reason
 reshape_reason order new_shape shape strides =
     option_map_or (λ kind. layout_reason None 1 most_elements ReadOnly shape (all_signed strides))
     (layout_fault shape (all_signed strides))
-    (fault_reason new_shape (stuck_axis order new_shape shape strides) (view_reshape_fault order new_shape (lowest_view shape strides)))
+    (fault_reason shape strides new_shape (stuck_axis order new_shape shape strides)
+    (view_reshape_fault order new_shape (lowest_view shape strides)))
 
 -- examples
 across_rows : reshape_reason RowMajor (2 ∷ 1 ∷ 4 ∷ 2 ∷ []) (4 ∷ 1 ∷ 4 ∷ []) (8 ∷ 9 ∷ 1 ∷ [])
-    ≡ record { status = pos 2; rule = pos 13; axis = 2; number = pos 0; size = 0 }
+    ≡ record { status = pos 2; rule = pos 13; list = pos 0; unit = pos 0; axis = 2; number = pos 1; size = 4; other = 0 }
 across_rows = refl
 
 rows_as_columns : reshape_reason ColumnMajor (3 ∷ 2 ∷ []) (2 ∷ 3 ∷ []) (3 ∷ 1 ∷ [])
-    ≡ record { status = pos 2; rule = pos 13; axis = 0; number = pos 0; size = 0 }
+    ≡ record { status = pos 2; rule = pos 13; list = pos 0; unit = pos 0; axis = 0; number = pos 3; size = 2; other = 0 }
 rows_as_columns = refl
 
 four_of_six : reshape_reason RowMajor (4 ∷ []) (2 ∷ 3 ∷ []) (3 ∷ 1 ∷ [])
-    ≡ record { status = pos 1; rule = pos 12; axis = 0; number = pos 0; size = 4 }
+    ≡ record { status = pos 1; rule = pos 12; list = pos 0; unit = pos 0; axis = 0; number = pos 0; size = 4; other = 6 }
 four_of_six = refl
 
 too_large : reshape_reason RowMajor (9223372036854775807 ∷ 2 ∷ []) (2 ∷ 3 ∷ []) (3 ∷ 1 ∷ [])
-    ≡ record { status = pos 6; rule = pos 5; axis = 0; number = pos 0; size = 0 }
+    ≡ record { status = pos 6; rule = pos 5; list = pos 0; unit = pos 0; axis = 0; number = pos 0; size = 0; other = 0 }
 too_large = refl
 
 no_layout : reshape_reason RowMajor (6 ∷ []) (2 ∷ 3 ∷ []) (1 ∷ [])
-    ≡ record { status = pos 2; rule = pos 1; axis = 0; number = pos 0; size = 1 }
+    ≡ record { status = pos 2; rule = pos 1; list = pos 1; unit = pos 0; axis = 0; number = pos 0; size = 1; other = 2 }
 no_layout = refl
 
 three_rows : reshape_reason RowMajor (3 ∷ 2 ∷ []) (2 ∷ 3 ∷ []) (3 ∷ 1 ∷ []) ≡ no_reason

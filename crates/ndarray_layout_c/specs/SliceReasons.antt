@@ -12,7 +12,7 @@ use Rattle.ndarray_layout.specs.AxisElems.{axis_elems}
 use Rattle.ndarray_layout.specs.SliceBounds.{bound_meaning, is_bound}
 use Rattle.ndarray_layout.specs.SliceFault.{elem_fault, in_count}
 use Rattle.ndarray_layout_c.specs.declared.reasons.Reason.{Reason}
-use Rattle.ndarray_layout_c.specs.Reasons.{bound_rule, count_rule, index_rule, no_reason, of_axis, step_rule}
+use Rattle.ndarray_layout_c.specs.Reasons.{bound_rule, count_rule, index_rule, no_reason, of_axis, of_list, slice_list, step_rule}
 use Rattle.ndarray_layout_c.specs.Statuses.{number_of}
 
 -- a bound of a range means no number from 0 to the length of the axis
@@ -28,10 +28,10 @@ bound_at_fault fit len start end =
 -- why an element that doesn't fit an axis of length len doesn't: an index, a bound, or else the step 0
 abbrev pub elem_reason : Fit → ℕ → ℕ → SliceInfoElem → Reason
 elem_reason fit axis len (elem.Slice start end step) =
-    option_map_or (λ bound. of_axis (number_of OutOfBounds) bound_rule axis bound len)
+    option_map_or (λ bound. of_axis (number_of OutOfBounds) bound_rule axis bound len 0)
     (bound_at_fault fit len start end)
-    (of_axis (number_of Unsupported) step_rule axis (pos 0) len)
-elem_reason fit axis len (elem.Index index) = of_axis (number_of OutOfBounds) index_rule axis index len
+    (of_axis (number_of Unsupported) step_rule axis (pos 0) len 0)
+elem_reason fit axis len (elem.Index index) = of_axis (number_of OutOfBounds) index_rule axis index len 0
 elem_reason fit axis len elem.NewAxis = no_reason
 
 -- an axis, with its length and its element, that the element doesn't fit
@@ -45,29 +45,29 @@ argument_reason fit shape elems =
     then option_map_or (λ one. elem_reason fit one.0 one.1.0 one.1.1)
     (find (is_at_fault fit) (enumerate_from 0 (axis_elems shape elems)))
     no_reason
-    else of_axis (number_of IncompatibleShape) count_rule 0 (pos 0) (in_count elems)
+    else of_list (number_of IncompatibleShape) count_rule slice_list 0 (in_count elems) (length shape)
 
 -- examples
 third_axis : argument_reason Strict (2 ∷ 3 ∷ 5 ∷ [])
     (elem.Index (pos 0) ∷ elem.NewAxis ∷ elem.Slice (pos 0) None (pos 1) ∷ elem.Index (pos 9) ∷ [])
-    ≡ record { status = pos 4; rule = pos 2; axis = 2; number = pos 9; size = 5 }
+    ≡ record { status = pos 4; rule = pos 2; list = pos 0; unit = pos 0; axis = 2; number = pos 9; size = 5; other = 0 }
 third_axis = refl
 
 start_first : argument_reason Strict (4 ∷ []) (elem.Slice (pos 5) (Some (negsuc 8)) (pos 0) ∷ [])
-    ≡ record { status = pos 4; rule = pos 3; axis = 0; number = pos 5; size = 4 }
+    ≡ record { status = pos 4; rule = pos 3; list = pos 0; unit = pos 0; axis = 0; number = pos 5; size = 4; other = 0 }
 start_first = refl
 
 end_of_a_range : argument_reason Strict (4 ∷ []) (elem.Slice (pos 4) (Some (negsuc 8)) (pos 0) ∷ [])
-    ≡ record { status = pos 4; rule = pos 3; axis = 0; number = negsuc 8; size = 4 }
+    ≡ record { status = pos 4; rule = pos 3; list = pos 0; unit = pos 0; axis = 0; number = negsuc 8; size = 4; other = 0 }
 end_of_a_range = refl
 
 step_of_a_clamped_range : argument_reason Clamp (3 ∷ 4 ∷ [])
     (elem.Slice (pos 9) None (pos 1) ∷ elem.Slice (pos 5) (Some (negsuc 8)) (pos 0) ∷ [])
-    ≡ record { status = pos 5; rule = pos 4; axis = 1; number = pos 0; size = 4 }
+    ≡ record { status = pos 5; rule = pos 4; list = pos 0; unit = pos 0; axis = 1; number = pos 0; size = 4; other = 0 }
 step_of_a_clamped_range = refl
 
 one_of_two_axes : argument_reason Strict (4 ∷ 5 ∷ []) (elem.Index (pos 9) ∷ [])
-    ≡ record { status = pos 1; rule = pos 1; axis = 0; number = pos 0; size = 1 }
+    ≡ record { status = pos 1; rule = pos 1; list = pos 2; unit = pos 0; axis = 0; number = pos 0; size = 1; other = 2 }
 one_of_two_axes = refl
 
 all_fit : argument_reason Strict (4 ∷ []) (elem.Index (negsuc 3) ∷ []) ≡ no_reason

@@ -3,12 +3,12 @@ ghost use Rattle.std.specs.Prelude.{◌≡◌, ◌*◌, ◌<◌, ◌≤◌, ◌+
 ghost use Rattle.ndarray_layout.specs.ChunksView.{chunks_fault};
 ghost use Rattle.ndarray_layout.specs.Size.{is_empty, limit, nonzero_size};
 ghost use Rattle.ndarray_layout.specs.WindowsView.{windows_fault};
-ghost use Rattle.ndarray_layout_c.specs.BlockReasons.{blocks_reason, is_none, taken_count, taken_counts};
+ghost use Rattle.ndarray_layout_c.specs.BlockReasons.{blocks_reason, is_none, list_of, taken_count, taken_counts};
 ghost use Rattle.ndarray_layout_c.specs.BlocksTaken.{taken_fault};
 ghost use Rattle.ndarray_layout_c.specs.Statuses.{ok, status_of};
 
 use crate::blocks::Blocks;
-use crate::reasons::{COUNT, EMPTY, Reason, SIZE, no_reason, of_axis};
+use crate::reasons::{CHUNK, COUNT, EMPTY, Reason, SIZE, WINDOW, no_reason, of_axis, of_list};
 use crate::sizes::{times, times_lengths};
 use crate::statuses::{INCOMPATIBLE_SHAPE, OK, OVERFLOW, UNSUPPORTED};
 
@@ -61,20 +61,31 @@ fn is_none(block: &[usize], axis: usize) -> bool
     block[axis] == 0
 }
 
+/// The number of the list of the lengths of a block.
+fn list_of(blocks: Blocks) -> i32
+    ensures { result ≡ list_of blocks }
+{
+    match blocks {
+        Blocks::Windows => WINDOW,
+        Blocks::Chunks => CHUNK,
+    }
+}
+
 /// Why blocks of a shape can't be taken.
 fn blocks_reason(blocks: Blocks, shape: &[usize], block: &[usize]) -> Reason
     ensures { result ≡ blocks_reason blocks shape.now block.now }
 {
-    if block.len() != shape.len() {
-        return of_axis(INCOMPATIBLE_SHAPE, COUNT, 0, 0, block.len());
+    let (list, count) = (list_of(blocks), block.len());
+    if count != shape.len() {
+        return of_list(INCOMPATIBLE_SHAPE, COUNT, list, 0, count, shape.len());
     }
     for axis in 0..block.len() {
         if is_none(block, axis) {
-            return of_axis(UNSUPPORTED, EMPTY, axis, 0, 0);
+            return of_list(UNSUPPORTED, EMPTY, list, axis, 0, 0);
         }
     }
     if !has_size(blocks, shape, block) {
-        return of_axis(OVERFLOW, SIZE, 0, 0, 0);
+        return of_axis(OVERFLOW, SIZE, 0, 0, 0, 0);
     }
     no_reason()
 }

@@ -5,7 +5,7 @@ ghost use Rattle.ndarray_layout.specs.CommonShape.{common_shape_fault};
 ghost use Rattle.ndarray_layout_c.specs.BroadcastReasons.{broadcast_reason, co_broadcast_reason, is_apart, is_fixed, padded_length};
 ghost use Rattle.ndarray_layout_c.specs.Statuses.{ok, status_of};
 
-use crate::reasons::{COMMON, COUNT, Reason, SIZE, STRETCH, no_reason, of_axis};
+use crate::reasons::{COMMON, COUNT, Reason, SIZE, STRETCH, TARGET, no_reason, of_axis, of_list};
 use crate::sizes::times_lengths;
 use crate::statuses::{INCOMPATIBLE_SHAPE, OK, OVERFLOW};
 
@@ -38,7 +38,9 @@ fn co_broadcast_reason(first: &[usize], second: &[usize]) -> Reason
     let count = first.len().max(second.len());
     for axis in 0..count {
         if is_apart(count, first, second, axis) {
-            return of_axis(INCOMPATIBLE_SHAPE, COMMON, axis, 0, 0);
+            let one = padded_length(count, first, axis);
+            let other = padded_length(count, second, axis);
+            return of_axis(INCOMPATIBLE_SHAPE, COMMON, axis, 0, one, other);
         }
     }
     no_reason()
@@ -75,16 +77,16 @@ fn broadcast_reason(shape: &[usize], target: &[usize]) -> Reason
 {
     let count = target.len();
     if count < shape.len() {
-        return of_axis(INCOMPATIBLE_SHAPE, COUNT, 0, 0, count);
+        return of_list(INCOMPATIBLE_SHAPE, COUNT, TARGET, 0, count, shape.len());
     }
     for axis in 0..count {
         if is_fixed(shape, target, axis) {
             let len = padded_length(count, shape, axis);
-            return of_axis(INCOMPATIBLE_SHAPE, STRETCH, axis, 0, len);
+            return of_axis(INCOMPATIBLE_SHAPE, STRETCH, axis, 0, len, target[axis]);
         }
     }
     if times_lengths(1, target).is_none() {
-        return of_axis(OVERFLOW, SIZE, 0, 0, 0);
+        return of_axis(OVERFLOW, SIZE, 0, 0, 0, 0);
     }
     no_reason()
 }

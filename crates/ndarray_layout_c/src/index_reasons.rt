@@ -4,7 +4,7 @@ ghost use Rattle.ndarray_layout_c.specs.IndexFault.{index_fault};
 ghost use Rattle.ndarray_layout_c.specs.IndexReasons.{index_reason, is_outside};
 ghost use Rattle.ndarray_layout_c.specs.Statuses.{ok, status_of};
 
-use crate::reasons::{COORDINATE, COUNT, Reason, no_reason, of_axis};
+use crate::reasons::{COORDINATE, COORDINATES, COUNT, Reason, no_reason, of_axis, of_list};
 use crate::statuses::{OK, OUT_OF_BOUNDS};
 
 /// Whether the coordinate of an axis is none of it.
@@ -21,11 +21,12 @@ fn index_reason(shape: &[usize], index: &[usize]) -> Reason
     ensures { result ≡ index_reason shape.now index.now }
 {
     if index.len() != shape.len() {
-        return of_axis(OUT_OF_BOUNDS, COUNT, 0, 0, index.len());
+        let (count, ndim) = (index.len(), shape.len());
+        return of_list(OUT_OF_BOUNDS, COUNT, COORDINATES, 0, count, ndim);
     }
     for axis in 0..shape.len() {
         if is_outside(shape, index, axis) {
-            return of_axis(OUT_OF_BOUNDS, COORDINATE, axis, 0, index[axis]);
+            return of_axis(OUT_OF_BOUNDS, COORDINATE, axis, 0, index[axis], shape[axis]);
         }
     }
     no_reason()

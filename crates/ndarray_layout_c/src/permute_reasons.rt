@@ -4,7 +4,7 @@ ghost use Rattle.ndarray_layout.specs.PermutedView.{permute_fault};
 ghost use Rattle.ndarray_layout_c.specs.PermuteReasons.{is_listed, permute_reason};
 ghost use Rattle.ndarray_layout_c.specs.Statuses.{ok, status_of};
 
-use crate::reasons::{COUNT, MISSING, Reason, no_reason, of_axis};
+use crate::reasons::{AXES, COUNT, MISSING, Reason, no_reason, of_axis, of_list};
 use crate::statuses::{INCOMPATIBLE_SHAPE, OK};
 
 /// Whether an axis is listed.
@@ -18,13 +18,14 @@ fn is_listed(axes: &[usize], axis: usize) -> bool
 fn permute_reason(shape: &[usize], axes: &[usize]) -> Reason
     ensures { result ≡ permute_reason shape.now axes.now }
 {
-    for axis in 0..shape.len() {
+    let ndim = shape.len();
+    for axis in 0..ndim {
         if !is_listed(axes, axis) {
-            return of_axis(INCOMPATIBLE_SHAPE, MISSING, axis, 0, 0);
+            return of_axis(INCOMPATIBLE_SHAPE, MISSING, axis, 0, axes.len(), ndim);
         }
     }
-    if axes.len() != shape.len() {
-        return of_axis(INCOMPATIBLE_SHAPE, COUNT, 0, 0, axes.len());
+    if axes.len() != ndim {
+        return of_list(INCOMPATIBLE_SHAPE, COUNT, AXES, 0, axes.len(), ndim);
     }
     no_reason()
 }

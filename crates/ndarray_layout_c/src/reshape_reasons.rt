@@ -6,10 +6,10 @@ ghost use Rattle.ndarray_layout.specs.Dim.{lengths};
 ghost use Rattle.ndarray_layout.specs.Memory.{NeedsNoMemory};
 ghost use Rattle.ndarray_layout.specs.ReshapedView.{view_reshape_fault};
 ghost use Rattle.ndarray_layout.specs.Signed.{all_signed};
-ghost use Rattle.ndarray_layout.specs.Size.{limit, nonzero_size};
+ghost use Rattle.ndarray_layout.specs.Size.{limit, nonzero_size, size as size_of};
 ghost use Rattle.ndarray_layout_c.specs.Arguments.{is_choice, order_named};
 ghost use Rattle.ndarray_layout_c.specs.LayoutFault.{layout_fault, lowest_view};
-ghost use Rattle.ndarray_layout_c.specs.ReshapeReasons.{axis_read, fault_reason, is_of_strides, is_stuck, read_first, reading_fault, reshape_reason, stuck_axis};
+ghost use Rattle.ndarray_layout_c.specs.ReshapeReasons.{axis_read, copy_reason, fault_reason, is_of_strides, is_stuck, read_first, reading_fault, reshape_reason, stuck_axis};
 ghost use Rattle.ndarray_layout_c.specs.Statuses.{bad_argument, ok, out_of_memory, status_of, status_where};
 
 use crate::arguments::{is_choice, order_named};
@@ -18,7 +18,7 @@ use crate::lists::view;
 use crate::reasons::{COPY, OTHER_SIZE, Reason, SIZE, no_reason, of_axis};
 use crate::statuses::{BAD_ARGUMENT, INCOMPATIBLE_SHAPE, OK, OUT_OF_MEMORY, OVERFLOW, status_of};
 use ndarray_layout::{
-    CanIndexCheckMode, ErrorKind, IxDyn, LayoutError, Order, Strided, new_ixdyn,
+    CanIndexCheckMode, ErrorKind, IxDyn, LayoutError, Order, Strided, new_ixdyn, signed,
     size_of_shape_checked,
 };
 use std::alloc::{AllocError, Global};
@@ -131,7 +131,19 @@ fn stuck_axis(
     Ok(0)
 }
 
-/// Why a layout that is accepted can't be read as one of a shape.
+/// The strides can't be read past an axis: its stride and its length, where there is such an axis.
+#[tactic(auto, using(crate::proofs::Strides::signed_at))]
+fn copy_reason(status: i32, shape: &[usize], strides: &[usize], axis: usize) -> Reason
+    requires same_count { length shape.now ≡ length strides.now }
+    ensures { result ≡ copy_reason status shape.now strides.now axis }
+{
+    if axis >= shape.len() {
+        return of_axis(status, COPY, axis, 0, 0, 0);
+    }
+    of_axis(status, COPY, axis, signed(strides[axis]), shape[axis], 0)
+}
+
+/// Why a layout that is accepted, of so many indices, can't be read as one of a shape.
 ///
 /// Errors: out of memory, never for at most four axes of both.
 fn fault_reason(
@@ -140,27 +152,30 @@ fn fault_reason(
     strides: &[usize],
     new_shape: &IxDyn,
     order: Order,
+    size: usize,
     fault: Option<ErrorKind>,
 ) -> Result<Reason, AllocError>
     requires same_count { length shape.now ≡ length strides.now }
+    requires size { size ≡ size_of shape.now }
     requires sized { fault ≡ Some ErrorKind.IncompatibleShape →
         nonzero_size (lengths new_shape.now) ≤ limit }
     ensures memory { NeedsNoMemory None (length shape.now) →
         NeedsNoMemory None (length strides.now) →
         NeedsNoMemory None (length (lengths new_shape.now)) → IsOk result }
-    ensures reason { IfOk result (λ reason. reason ≡ fault_reason (lengths new_shape.now)
+    ensures reason { IfOk result (λ reason. reason ≡ fault_reason shape.now strides.now
+        (lengths new_shape.now)
         (stuck_axis order (lengths new_shape.now) shape.now strides.now) fault) }
 {
     match fault {
         None => Ok(no_reason()),
-        Some(ErrorKind::Overflow) => Ok(of_axis(OVERFLOW, SIZE, 0, 0, 0)),
+        Some(ErrorKind::Overflow) => Ok(of_axis(OVERFLOW, SIZE, 0, 0, 0, 0)),
         Some(ErrorKind::IncompatibleShape) => {
-            let size = size_of_shape_checked(new_shape).unwrap_or(0);
-            Ok(of_axis(INCOMPATIBLE_SHAPE, OTHER_SIZE, 0, 0, size))
+            let new_size = size_of_shape_checked(new_shape).unwrap_or(0);
+            Ok(of_axis(INCOMPATIBLE_SHAPE, OTHER_SIZE, 0, 0, new_size, size))
         },
         Some(kind) => {
             let axis = stuck_axis(alloc, shape, strides, new_shape, order)?;
-            Ok(of_axis(status_of(kind), COPY, axis, 0, 0))
+            Ok(copy_reason(status_of(kind), shape, strides, axis))
         },
     }
 }
@@ -184,8 +199,9 @@ fn reshape_reason(
     match view(alloc, shape, strides) {
         Ok(view) => {
             let new_shape = new_ixdyn(alloc, new_shape)?;
+            let size = size_of_shape_checked(view.dim()).unwrap_or(0);
             let fault = view_fault(alloc, &view, &new_shape, order)?;
-            fault_reason(alloc, shape, strides, &new_shape, order, fault)
+            fault_reason(alloc, shape, strides, &new_shape, order, size, fault)
         },
         Err(LayoutError::Shape(_error)) => {
             let mode = CanIndexCheckMode::ReadOnly;

@@ -9,7 +9,7 @@ use Rattle.ndarray_layout.specs.declared.ErrorKind.{ErrorKind}
 use Rattle.ndarray_layout.specs.declared.Order.TheVariants.{RowMajor}
 use Rattle.ndarray_layout.specs.View.{IsView, View, view_places}
 use Rattle.ndarray_layout.specs.Run.{Outcome}
-use Rattle.ndarray_layout.proofs.laws.Axes.{lens-axes_from, strides-axes_from}
+use Rattle.ndarray_layout.proofs.Laws.Axes.{lens-axes_from, strides-axes_from}
 use Rattle.ndl_session.specs.Answer.{Reply, listing, unless, reply_to_run, reply_to_script}
 use Rattle.ndl_session.specs.script.Script.{ScriptValue}
 use Rattle.ndl_session.specs.text.Printing.{line, listed}

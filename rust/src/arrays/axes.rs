@@ -1,13 +1,13 @@
 //! The arrays along an axis, and the rows and columns of a matrix.
 
+use super::AxisIter;
 use super::axis_iter::made_of_first_axis;
-use super::{AxisIter, IntoRows};
 use crate::memory::FallibleVec;
 use crate::nd_base::{Axis, Ix1, Ix2, LayoutError, Lengths, new_ix1};
 use crate::nd_dim::product;
 use crate::nd_shape::{StrideShape, Strides};
 use crate::ndarray_layout::{RemoveAxis, Strided};
-use crate::{ArrayView, ArrayViewMut, OwnedArray};
+use crate::{ArrayView, ArrayViewMut, IntoRows, OwnedArray};
 use alloc::vec::Vec;
 
 /// The row or the column of a matrix: the view at a coordinate of an axis. Errors: those of `Strided::index_axis`.
@@ -119,7 +119,7 @@ macro_rules! axes {
             /// ```
             #[inline]
             pub fn row(&self, index: usize) -> Result<ArrayView<$lent, T, Ix1>, LayoutError> {
-                Ok(ArrayView { items: self.stored(), view: line_of(self.view(), 0, index)? })
+                self.borrowed().index_axis(Axis(0), index)
             }
 
             /// The column of a number. ndarray's `column`. Not proved.
@@ -138,7 +138,7 @@ macro_rules! axes {
             /// ```
             #[inline]
             pub fn column(&self, index: usize) -> Result<ArrayView<$lent, T, Ix1>, LayoutError> {
-                Ok(ArrayView { items: self.stored(), view: line_of(self.view(), 1, index)? })
+                self.borrowed().index_axis(Axis(1), index)
             }
 
             /// An iterator over the columns. ndarray's `columns`. Not proved.
@@ -152,7 +152,7 @@ macro_rules! axes {
             /// ```
             #[must_use]
             pub fn columns(&self) -> IntoRows<$lent, T, Ix2> {
-                IntoRows::new(self.stored(), self.t().view)
+                self.t().into_rows()
             }
         }
     };

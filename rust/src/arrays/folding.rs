@@ -1,12 +1,11 @@
-//! What the iterators of the sources get beside their `next`: a fold that takes row after row, and an `nth` that leaves out rows;
-//! and beside `next_back` an `nth_back` that does.
+//! What the iterators of the sources get beside their `next`: a fold that takes row after row, and an `nth` that leaves out rows.
 
 /// Of `Iter`.
 macro_rules! fold_iter {
     () => {
         /// What as many calls of `next` return last; rows are left out at once. Not proved.
         fn nth(&mut self, n: usize) -> Option<&'a T> {
-            self.places.advance(n);
+            self.advance(n);
             self.next()
         }
 
@@ -16,13 +15,106 @@ macro_rules! fold_iter {
             let Iter { stored, mut places } = self;
             let mut total = init;
             while let Some(row) = places.next_row() {
-                total = crate::arrays::fold_row(stored, row, total, &mut f);
+                total = crate::arrays::fold_row(crate::LentRow { items: stored, row }.into_iter(), total, &mut f);
             }
             total
         }
     };
 }
 pub(crate) use fold_iter;
+
+/// Of `RowItems` and `ViewIter`.
+macro_rules! fold_lent {
+    (|$left:ident, $total:ident, $f:ident| $folded:expr) => {
+        /// What as many calls of `next` return last; rows are left out at once. Not proved.
+        fn nth(&mut self, n: usize) -> Option<&'a T> {
+            self.advance(n);
+            self.next()
+        }
+
+        #[inline]
+        fn count(self) -> usize {
+            self.len()
+        }
+
+        #[inline]
+        fn last(mut self) -> Option<&'a T> {
+            self.next_back()
+        }
+
+        /// What a loop over `next` returns; rows whose items follow one another are slices. Not proved.
+        #[inline]
+        fn fold<B, F: FnMut(B, &'a T) -> B>(self, init: B, mut $f: F) -> B {
+            let ($left, $total) = (self, init);
+            $folded
+        }
+    };
+}
+pub(crate) use fold_lent;
+
+/// Of the same, from the back.
+macro_rules! rfold_lent {
+    (|$left:ident, $total:ident, $f:ident| $folded:expr) => {
+        /// What as many calls of `next_back` return last; rows are left out at once. Not proved.
+        fn nth_back(&mut self, n: usize) -> Option<&'a T> {
+            self.advance_back(n);
+            self.next_back()
+        }
+
+        /// What a loop over `next_back` returns; rows whose items follow one another are slices. Not proved.
+        #[inline]
+        fn rfold<B, F: FnMut(B, &'a T) -> B>(self, init: B, mut $f: F) -> B {
+            let ($left, $total) = (self, init);
+            $folded
+        }
+    };
+}
+pub(crate) use rfold_lent;
+
+/// Of `RowItems`.
+macro_rules! fold_row_items {
+    () => {
+        crate::arrays::fold_lent!(|left, total, f| crate::arrays::fold_row(left, total, &mut f));
+    };
+}
+pub(crate) use fold_row_items;
+
+/// Of `RowItems`, from the back.
+macro_rules! rfold_row_items {
+    () => {
+        crate::arrays::rfold_lent!(|left, total, f| crate::arrays::rfold_row(left, total, &mut f));
+    };
+}
+pub(crate) use rfold_row_items;
+
+/// Of `ViewIter`.
+macro_rules! fold_view_iter {
+    () => {
+        crate::arrays::fold_lent!(|left, total, f| {
+            let ViewIter { row, mut rest } = left;
+            let mut total = crate::arrays::fold_row(row, total, &mut f);
+            while let Some(row) = rest.next_row() {
+                total = crate::arrays::fold_row(row.into_iter(), total, &mut f);
+            }
+            total
+        });
+    };
+}
+pub(crate) use fold_view_iter;
+
+/// Of `ViewIter`, from the back.
+macro_rules! rfold_view_iter {
+    () => {
+        crate::arrays::rfold_lent!(|left, total, f| {
+            let (ViewIter { row, mut rest }, mut total) = (left, total);
+            while let Some(row) = rest.next_row_back() {
+                total = crate::arrays::rfold_row(row.into_iter(), total, &mut f);
+            }
+            crate::arrays::rfold_row(row, total, &mut f)
+        });
+    };
+}
+pub(crate) use rfold_view_iter;
 
 /// Of `Items`.
 macro_rules! fold_items {
@@ -44,11 +136,7 @@ pub(crate) use fold_items;
 /// Of `PlacesOf`.
 macro_rules! fold_places {
     () => {
-        /// What as many calls of `next` return last; rows are left out at once. Not proved.
-        fn nth(&mut self, n: usize) -> Option<usize> {
-            self.advance(n);
-            self.next()
-        }
+        crate::arrays::skip!();
 
         /// What a loop over `next` returns, row by row. Not proved.
         #[inline]
@@ -66,15 +154,3 @@ macro_rules! fold_places {
     };
 }
 pub(crate) use fold_places;
-
-/// Of `PlacesOf`, from the back.
-macro_rules! skip_places_back {
-    () => {
-        /// What as many calls of `next_back` return last; rows are left out at once. Not proved.
-        fn nth_back(&mut self, n: usize) -> Option<usize> {
-            self.advance_back(n);
-            self.next_back()
-        }
-    };
-}
-pub(crate) use skip_places_back;

@@ -1,11 +1,11 @@
 //! The items of an array with their indices.
 
-use super::{IterMut, ViewIter};
+use super::IterMut;
 use crate::convenience::OUT_OF_MEMORY;
 use crate::nd_dim::Dimension;
-use crate::nd_parts::PartItems;
+use crate::nd_lent::PartItems;
 use crate::ndarray_layout::Strided;
-use crate::{ArrayViewMut, PartMut};
+use crate::{ArrayView, ArrayViewMut, PartMut, ViewIter};
 use core::fmt;
 use core::iter::FusedIterator;
 
@@ -93,8 +93,8 @@ pub struct PartIndexedIterMut<'a, T, D: Dimension> {
 }
 
 impl<'a, T, D: Dimension> IndexedIter<'a, T, D> {
-    pub(crate) fn new(items: &'a [T], view: Strided<D>) -> Self {
-        IndexedIter { odometer: Odometer::new(&view), items: ViewIter::new(items, view) }
+    pub(crate) fn new(array: ArrayView<'a, T, D>) -> Self {
+        IndexedIter { odometer: Odometer::new(array.view()), items: array.into_iter() }
     }
 }
 

@@ -7,8 +7,7 @@ use crate::memory::FallibleVec;
 use crate::nd_base::{LayoutError, Lengths};
 use crate::nd_shape::has_overlap;
 use crate::ndarray_layout::Strided;
-use crate::parts::PartIterMut;
-use crate::{ArrayViewMut, PartMut};
+use crate::{ArrayViewMut, PartItems, PartMut};
 use alloc::vec::Vec;
 use core::fmt;
 use core::iter::FusedIterator;
@@ -48,7 +47,7 @@ enum Others<'a, T, D: Lengths> {
     /// An item of each line of a group, then the next of each.
     Woven(Woven<'a, T>),
     /// Those of lines that interleave.
-    Part(PartIterMut<'a, T, D>),
+    Part(PartItems<'a, T, D>),
 }
 
 /// Rows that are left, in this order.
@@ -168,7 +167,7 @@ impl<'a, T, D: Lengths> Others<'a, T, D> {
         match self {
             Others::Rows(left) => left.skip(n),
             Others::Woven(woven) => woven.skip(n),
-            Others::Part(items) => items.by_ref().take(n).for_each(drop),
+            Others::Part(items) => items.advance(n),
         }
     }
 
@@ -291,7 +290,7 @@ impl<'a, T, D: Lengths> IterMut<'a, T, D> {
             Cutting::Cut(cut) => Left::new(LineMut::empty(), Some(cut)),
             Cutting::Otherwise(view, items) => {
                 let others = match has_overlap(view.dim().slice(), view.strides().slice()) {
-                    true => Others::Part(PartIterMut::new(PartMut::new(view, items))),
+                    true => Others::Part(PartMut::new(view, items).into_items()),
                     false => match Woven::new(view, items) {
                         Ok(woven) => Others::Woven(woven),
                         Err(LayoutError::Memory(_)) => panic!("{OUT_OF_MEMORY}"),

@@ -1,9 +1,8 @@
 //! What an array that owns its items has as those that are lent have it.
 
-use super::IntoRows;
 use crate::nd_base::{Lengths, ShapeError};
 use crate::nd_shape::NdIndex;
-use crate::{ArrayView, OwnedArray};
+use crate::{ArrayView, IntoRows, OwnedArray};
 
 impl<T, D: Lengths> OwnedArray<T, D> {
     /// An iterator over the rows along the last axis, in row-major order, to be read. ndarray's `rows`. Not proved.

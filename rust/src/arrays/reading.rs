@@ -1,11 +1,11 @@
 //! What may be read of an array of any number of axes.
 
-use super::{AxisChunksIter, IndexedIter, IntoRows, ViewIter};
+use super::{AxisChunksIter, IndexedIter};
 use crate::nd_base::{Axis, ErrorKind, LayoutError, Lengths, Order, ShapeError, from_kind};
 use crate::nd_dim::{Dimension, product};
 use crate::nd_shape::offset_from_low_addr_ptr_to_logical_ptr;
 use crate::ndarray_layout::Strided;
-use crate::{ArrayView, ArrayViewMut, OwnedArray};
+use crate::{ArrayView, ArrayViewMut, IntoRows, OwnedArray, ViewIter};
 use core::ops::Range;
 
 /// The places of a view from the lowest one on, where they follow one another in some order.
@@ -180,7 +180,9 @@ macro_rules! reads {
             /// # Ok::<(), LayoutError>(())
             /// ```
             pub fn lanes(&self, axis: Axis) -> Result<IntoRows<$lent, T, D>, ShapeError> {
-                Ok(IntoRows::new(self.stored(), with_last(self.view().clone(), axis)?))
+                let mut array = self.borrowed();
+                array.view = with_last(array.view, axis)?;
+                Ok(array.into_rows())
             }
 
             /// An iterator over chunks of so many coordinates of an axis; the last may have fewer. ndarray's `axis_chunks_iter`.
@@ -223,7 +225,7 @@ macro_rules! reads {
             where
                 D: Dimension,
             {
-                IndexedIter::new(self.stored(), self.view().clone())
+                IndexedIter::new(self.borrowed())
             }
         }
     };
@@ -235,35 +237,6 @@ reads!([impl<T, D: Lengths> ArrayViewMut<'_, T, D>] '_
     "let mut items = [1, 2, 3, 4, 5, 6];\nlet array = ArrayViewMut::from_shape(Ix2(2, 3).into(), &mut items)?;");
 reads!([impl<T, D: Lengths> OwnedArray<T, D>] '_
     "let array = OwnedArray::from_shape_vec(Ix2(2, 3).into(), vec![1, 2, 3, 4, 5, 6])?;");
-
-impl<'a, T, D: Lengths> ArrayView<'a, T, D> {
-    /// An iterator over the rows along the last axis, in row-major order, each lent for as long as the data is. It ends the
-    /// array; `rows` keeps it. ndarray's `rows`. Not proved.
-    ///
-    /// ```
-    /// use ndarray_layout::*;
-    ///
-    /// let rows = ArrayView::from_shape(Ix2(2, 3).into(), &[1, 2, 3, 4, 5, 6])?;
-    /// assert_eq!(rows.into_rows().rev().filter_map(|row| row.as_slice()).next(), Some(&[4, 5, 6][..]));
-    /// # Ok::<(), LayoutError>(())
-    /// ```
-    #[must_use]
-    pub fn into_rows(self) -> IntoRows<'a, T, D> {
-        IntoRows::new(self.items, self.view)
-    }
-}
-
-/// Iterates over the items in row-major order. Not proved.
-impl<'a, T, D: Lengths> IntoIterator for ArrayView<'a, T, D> {
-    type Item = &'a T;
-
-    type IntoIter = ViewIter<'a, T, D>;
-
-    #[inline]
-    fn into_iter(self) -> ViewIter<'a, T, D> {
-        ViewIter::new(self.items, self.view)
-    }
-}
 
 /// Iterates over the items in row-major order, lent for as long as the data is. Panics where an allocation fails, never for at
 /// most 4 axes. Not proved.

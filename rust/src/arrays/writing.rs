@@ -1,12 +1,12 @@
 //! What may be written of an array of any number of axes.
 
 use super::reading::{block, first_place, last_place, with_last};
-use super::{AxisChunksIterMut, IndexedIterMut, IntoRows, IterMut, RowsMut, ViewIter};
+use super::{AxisChunksIterMut, IndexedIterMut, IterMut, RowsMut};
 use crate::nd_base::{Axis, LayoutError, Lengths, Order, ShapeError};
 use crate::nd_dim::Dimension;
 use crate::nd_shape::NdIndex;
 use crate::ndarray_layout::Strided;
-use crate::{ArrayView, ArrayViewMut, OwnedArray};
+use crate::{ArrayView, ArrayViewMut, IntoRows, OwnedArray, ViewIter};
 
 /// The writes of one of the types of arrays: the head of the impl, and what makes `array` of `items` in examples, which is
 /// 1 2 3 over 4 5 6, and `items` of it.

@@ -5,7 +5,7 @@ use crate::nd_base::{IxDyn, Lengths, new_ixdyn};
 use crate::nd_dim::Dimension;
 use crate::nd_shape::{IndexCursor, IndexCursorF, IndicesIter, IndicesIterF};
 use crate::ndarray_layout::{IntoPlaces, Places, Rows};
-use crate::{Items, Iter, LentRows, PartItems, PartIter, PartRows};
+use crate::{IntoRows, Items, Iter, LentRows, PartItems, PartIter, PartRows, RowItems, ViewIter};
 use core::fmt;
 use core::iter::FusedIterator;
 
@@ -14,81 +14,33 @@ fn print_left(f: &mut fmt::Formatter<'_>, name: &str, left: usize) -> fmt::Resul
     f.debug_struct(name).field("left", &left).finish_non_exhaustive()
 }
 
-/// Not proved.
-impl fmt::Debug for Places<'_> {
-    fn fmt(&self, f: &mut fmt::Formatter<'_>) -> fmt::Result {
-        print_left(f, "Places", self.len())
-    }
+/// What prints how many items are left: its generics, and its type.
+macro_rules! printed {
+    ($([$($generics:tt)*] $name:ident$(<$($of:tt),*>)?;)*) => {$(
+        /// Not proved.
+        impl<$($generics)*> fmt::Debug for $name$(<$($of),*>)? {
+            fn fmt(&self, f: &mut fmt::Formatter<'_>) -> fmt::Result {
+                print_left(f, stringify!($name), self.len())
+            }
+        }
+    )*};
 }
 
-/// Not proved.
-impl<D: Lengths> fmt::Debug for IntoPlaces<D> {
-    fn fmt(&self, f: &mut fmt::Formatter<'_>) -> fmt::Result {
-        print_left(f, "IntoPlaces", self.len())
-    }
-}
-
-/// Not proved.
-impl fmt::Debug for Rows<'_> {
-    fn fmt(&self, f: &mut fmt::Formatter<'_>) -> fmt::Result {
-        print_left(f, "Rows", self.len())
-    }
-}
-
-/// Not proved.
-impl<T: Copy> fmt::Debug for Items<'_, T> {
-    fn fmt(&self, f: &mut fmt::Formatter<'_>) -> fmt::Result {
-        print_left(f, "Items", self.len())
-    }
-}
-
-/// Not proved.
-impl<T> fmt::Debug for Iter<'_, T> {
-    fn fmt(&self, f: &mut fmt::Formatter<'_>) -> fmt::Result {
-        print_left(f, "Iter", self.len())
-    }
-}
-
-/// Not proved.
-impl<T> fmt::Debug for LentRows<'_, T> {
-    fn fmt(&self, f: &mut fmt::Formatter<'_>) -> fmt::Result {
-        print_left(f, "LentRows", self.len())
-    }
-}
-
-/// Not proved.
-impl<T, D: Lengths> fmt::Debug for PartItems<'_, T, D> {
-    fn fmt(&self, f: &mut fmt::Formatter<'_>) -> fmt::Result {
-        print_left(f, "PartItems", self.len())
-    }
-}
-
-/// Not proved.
-impl<T> fmt::Debug for PartIter<'_, '_, T> {
-    fn fmt(&self, f: &mut fmt::Formatter<'_>) -> fmt::Result {
-        print_left(f, "PartIter", self.len())
-    }
-}
-
-/// Not proved.
-impl<T, D: Lengths> fmt::Debug for PartRows<'_, T, D> {
-    fn fmt(&self, f: &mut fmt::Formatter<'_>) -> fmt::Result {
-        print_left(f, "PartRows", self.len())
-    }
-}
-
-/// Not proved.
-impl<D: Dimension> fmt::Debug for IndicesIter<D> {
-    fn fmt(&self, f: &mut fmt::Formatter<'_>) -> fmt::Result {
-        print_left(f, "IndicesIter", self.len())
-    }
-}
-
-/// Not proved.
-impl<D: Dimension> fmt::Debug for IndicesIterF<D> {
-    fn fmt(&self, f: &mut fmt::Formatter<'_>) -> fmt::Result {
-        print_left(f, "IndicesIterF", self.len())
-    }
+printed! {
+    [] Places<'_>;
+    [D: Lengths] IntoPlaces<D>;
+    [] Rows<'_>;
+    [T: Copy] Items<'_, T>;
+    [T] Iter<'_, T>;
+    [T] LentRows<'_, T>;
+    [T, D: Lengths] ViewIter<'_, T, D>;
+    [T, D: Lengths] IntoRows<'_, T, D>;
+    [T] RowItems<'_, T>;
+    [T, D: Lengths] PartItems<'_, T, D>;
+    [T] PartIter<'_, '_, T>;
+    [T, D: Lengths] PartRows<'_, T, D>;
+    [D: Dimension] IndicesIter<D>;
+    [D: Dimension] IndicesIterF<D>;
 }
 
 /// Iterator over copies of the indices that a cursor lends: over those of a shape of any number of axes. In place of

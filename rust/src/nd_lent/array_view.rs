@@ -8,16 +8,24 @@ mod folding;
 mod steps;
 mod comparing;
 mod extremes;
+mod into_rows;
+mod rest_of_items;
+mod row_items;
 mod searching;
 mod summing;
 mod totals;
+mod view_iter;
 
 use crate::memory::AllocError;
 use crate::ndarray_layout::{Lengths, NdIndex, Strided};
+pub use into_rows::IntoRows;
 pub use iterating::Iter;
+pub(crate) use rest_of_items::RestOfItems;
+pub use row_items::RowItems;
 pub use rows::{LentRow, LentRows};
 pub(crate) use rows::{is_contiguous, place_in_row};
 pub use totals::Unsigned;
+pub use view_iter::ViewIter;
 
 /// Items of any type that are kept elsewhere and lent, with a view that has a place among them for each index. Two indices
 /// may have one item, as after a broadcast. Items at no place of the view are spare ones, and no call shows them but

@@ -16,11 +16,13 @@
 #![allow(clippy::len_without_is_empty, reason = "a sequence is never asked whether it is empty")]
 #![allow(clippy::should_implement_trait, reason = "the package has the trait beside what is proved")]
 
-mod array_view;
+pub(crate) mod array_view;
 mod array_view_mut;
+mod cells;
 mod indexing;
 pub(crate) mod nearest;
+mod part;
 
-pub use crate::nd_parts::{PartItems, PartIter, PartMut, PartRows};
-pub use array_view::{ArrayView, Iter, LentRow, LentRows, Unsigned};
+pub use array_view::{ArrayView, IntoRows, Iter, LentRow, LentRows, RowItems, Unsigned, ViewIter};
 pub use array_view_mut::{ArrayViewMut, SplitViews};
+pub use part::{PartItems, PartIter, PartMut, PartRows};

@@ -65,7 +65,7 @@ fn six_axes(numbers: &[usize], other: usize) -> Ix6 {
     )
 }
 
-/// The view with axes of length 1 behind its own, six in all; `None` where it has more.
+/// The view with axes of length 1 after its own, six in all; `None` where it has more.
 ///
 /// <details><summary>Contract (proved)</summary>
 ///

@@ -24,7 +24,8 @@ mod picked_view;
 mod rows;
 
 pub use crate::nd_lent::{
-    ArrayView, ArrayViewMut, Iter, LentRow, LentRows, PartItems, PartIter, PartMut, PartRows, SplitViews, Unsigned,
+    ArrayView, ArrayViewMut, IntoRows, Iter, LentRow, LentRows, PartItems, PartIter, PartMut, PartRows, RowItems,
+    SplitViews, Unsigned, ViewIter,
 };
 pub use iterating::Items;
 pub use owned::OwnedArray;

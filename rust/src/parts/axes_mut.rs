@@ -2,7 +2,7 @@
 
 use super::axis_iter::{PartAxisChunksIterMut, PartAxisIterMut};
 use crate::nd_base::{Axis, ErrorKind, Ix1, Ix2, LayoutError, Lengths, from_kind};
-use crate::nd_parts::PartMut;
+use crate::nd_lent::PartMut;
 use crate::ndarray_layout::RemoveAxis;
 
 impl<T, D: RemoveAxis> PartMut<'_, T, D> {

@@ -2,7 +2,7 @@
 
 use crate::convenience::OUT_OF_MEMORY;
 use crate::nd_base::{Axis, ErrorKind, LayoutError, Lengths, from_kind};
-use crate::nd_parts::PartMut;
+use crate::nd_lent::PartMut;
 use crate::ndarray_layout::RemoveAxis;
 use core::fmt;
 use core::iter::FusedIterator;

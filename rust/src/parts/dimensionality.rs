@@ -2,7 +2,7 @@
 
 use super::elems::{Elems, WHOLE};
 use crate::nd_base::{ErrorKind, IxDyn, LayoutError, Lengths, from_kind};
-use crate::nd_parts::PartMut;
+use crate::nd_lent::PartMut;
 use crate::nd_slice::Fit;
 
 impl<'a, T, D: Lengths> PartMut<'a, T, D> {

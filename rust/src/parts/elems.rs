@@ -34,10 +34,4 @@ impl Elems {
     pub(super) fn as_slice(&self) -> &[SliceInfoElem] {
         if self.len > FEW { &self.many } else { &self.few[..self.len] }
     }
-
-    #[inline]
-    pub(super) fn set(&mut self, axis: usize, elem: SliceInfoElem) {
-        let elems = if self.len > FEW { &mut self.many[..] } else { &mut self.few[..] };
-        elems[axis] = elem;
-    }
 }

@@ -2,7 +2,7 @@
 
 use crate::memory::FallibleVec;
 use crate::nd_base::{LayoutError, Lengths};
-use crate::nd_parts::PartMut;
+use crate::nd_lent::PartMut;
 use crate::nd_slice::SliceArg;
 use crate::sealed::Sealed;
 use alloc::vec::Vec;

@@ -1,7 +1,7 @@
 //! Writes of a part by the items of another array.
 
 use crate::nd_base::{ErrorKind, Ix1, Lengths, ShapeError, from_kind};
-use crate::nd_parts::PartMut;
+use crate::nd_lent::PartMut;
 use crate::{ArrayView, LentRow};
 
 /// Calls a function at each item of a row and at that of another row of as many items.

@@ -2,7 +2,7 @@
 
 use crate::nd_base::{Lengths, Order};
 use crate::nd_lent::Iter;
-use crate::nd_parts::{PartIter, PartMut};
+use crate::nd_lent::{PartIter, PartMut};
 use crate::{ArrayView, ArrayViewMut, OwnedArray};
 
 /// The items of all indices, in row-major order: `iter`, which is proved. Not proved.

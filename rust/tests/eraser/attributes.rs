@@ -76,7 +76,7 @@ fn a_trait_that_leads_to_places_is_sealed() {
             "/// A. /// /// Sealed: no type outside this package implements it. pub trait Sequence: crate::sealed::Sealed {}",
         ),
         ("pub trait IntoDimension {} trait Lengths {} trait Other {}", ""),
-        ("pub trait Other {}", "1: `Other` is a trait, and isn't known to be sealed or open to callers"),
+        ("pub trait Other {}", "1: `Other` is a trait that neither `SEALED` nor `OPEN` of rust/eraser/names.rs has"),
     ];
     for (source, due) in ROWS {
         assert_eq!(line(source), *if due.is_empty() { source } else { due }, "{source}");

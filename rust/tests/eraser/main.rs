@@ -46,8 +46,15 @@ use std::fs;
 use std::path::Path;
 use tokens::trees_of;
 
-const NAMES: Names =
-    Names { own: "upper", beside: &["tables"], library: &["lower"], package: "crate", examples: &[], inlined: false };
+const NAMES: Names = Names {
+    own: "upper",
+    module: "",
+    beside: &["tables"],
+    library: &["lower"],
+    package: "crate",
+    examples: &[],
+    inlined: false,
+};
 
 /// What is left of a source, or what is said of it.
 fn erased(source: &str) -> String {
@@ -123,10 +130,10 @@ fn each_form_becomes_plain_rust() {
 #[test]
 fn a_module_that_only_a_proof_calls_is_left_out() {
     const ROWS: &[(&str, &str, &str)] = &[
-        ("nd_parts", "mod whole; pub use whole::Whole; pub use part::Part;", "pub use part::Part;"),
-        ("nd_lent", "pub use nd_parts::Whole; pub use nd_parts::{Rest, Whole}; struct S;", "struct S;"),
-        ("nd_lent", "pub use nd_parts::{A, Whole};", "pub use nd_parts::{A, Whole};"),
-        ("nd_lent", "mod whole; use whole::Whole;", "mod whole use whole::Whole;"),
+        ("nd_lent", "mod whole; pub use whole::Whole; pub use part::Part;", "pub use part::Part;"),
+        ("nd_owned", "pub use nd_lent::Whole; pub use nd_lent::{Rest, Whole}; struct S;", "struct S;"),
+        ("nd_owned", "pub use nd_lent::{A, Whole};", "pub use nd_lent::{A, Whole};"),
+        ("nd_owned", "mod whole; use whole::Whole;", "mod whole use whole::Whole;"),
     ];
     for (own, source, due) in ROWS {
         let names = Names { own, ..NAMES };
@@ -151,7 +158,7 @@ fn what_the_package_adds_is_made_of_a_source() {
         ),
         (
             "impl DoubleEndedIterator for PlacesOf<R> { fn next_back() {} }",
-            "impl DoubleEndedIterator for PlacesOf<R> { fn next_back() {} crate::arrays::skip_places_back!(); }",
+            "impl DoubleEndedIterator for PlacesOf<R> { fn next_back() {} crate::arrays::skip_back!(); }",
         ),
         ("impl Iterator for Other { fn next() {} }", "impl Iterator for Other { fn next() {} }"),
         ("impl ExactSizeIterator for Iter<'_> {}", "impl ExactSizeIterator for Iter<'_> {}"),
@@ -219,7 +226,7 @@ fn sources(folder: &Path) -> String {
 
 #[test]
 fn each_row_of_the_list_of_bounds_is_of_something() {
-    let layer = ["nd_base", "nd_dim", "nd_shape", "nd_slice", "ndarray_layout", "nd_parts", "nd_lent", "nd_owned"];
+    let layer = ["nd_base", "nd_dim", "nd_shape", "nd_slice", "ndarray_layout", "nd_lent", "nd_owned"];
     let text: String = layer.iter().map(|name| sources(Path::new(&format!("crates/{name}/src")))).collect();
     let heads = bounds::ADDED.iter().map(|(name, _)| format!("pub trait {name}"));
     let types = bounds::OF_TYPES.iter().map(|(name, _)| format!("    type {name}: "));
@@ -395,9 +402,9 @@ fn modules_stand_in_an_order_of_use() {
 #[test]
 fn a_fault_names_the_file() {
     let folder = file_of("fault", "mod a;\n");
-    fs::write(folder.join("a.rt"), "\nfn f() { unsafe {} }\n").expect("a file");
+    fs::write(folder.join("a.rt"), "\nfn f() { dyn {} }\n").expect("a file");
     let fault = module_of(&folder.join("lib.rt"), &folder, &NAMES, false).expect_err("no form");
-    let due = format!("{}:2: `unsafe` is no form that can be erased", folder.join("a.rt").display());
+    let due = format!("{}:2: `dyn` is no form that can be erased", folder.join("a.rt").display());
     assert_eq!(fault.to_string(), due);
     fs::remove_dir_all(folder).expect("a folder");
 }
@@ -435,7 +442,7 @@ fn what_is_not_known_is_an_error_with_its_line() {
             "1: `impl` drops a value by more than its fields",
         ),
         ("#[unsafe(no_drop)] fn f() {}", "1: `[` opens an attribute that isn't known: unsafe"),
-        ("unsafe { f() }", "1: `unsafe` is no form that can be erased"),
+        ("unsafe { f() }", "1: `unsafe` is sound for no reason that `UNSAFE` of rust/eraser/names.rs has"),
         ("fn f(x: &dyn T) {}", "1: `dyn` is no form that can be erased"),
         ("std::mem::size_of::<u8>()", "1: `size_of` is an item of std that isn't known"),
         ("std::thread::yield_now()", "1: `thread` is a module of std that isn't known"),

@@ -10,7 +10,7 @@ use std::path::{Path, PathBuf};
 
 /// What is left of a source of a crate, in one line, or what is said of it.
 fn line_of(own: &str, source: &str) -> String {
-    let names = Names { own, ..NAMES };
+    let names = Names { own, module: "part", ..NAMES };
     let text = match trees_of(source).and_then(|(trees, _)| erase(&trees, &names)) {
         Ok(erased) => erased.text,
         Err(fault) => fault.to_string(),
@@ -21,34 +21,32 @@ fn line_of(own: &str, source: &str) -> String {
 #[test]
 fn unsafe_stays_where_it_is_told_why_it_is_sound() {
     const NO_FORM: &str = "1: `unsafe` is no form that can be erased";
+    const NO_REASON: &str = "1: `unsafe` is sound for no reason that `UNSAFE` of rust/eraser/names.rs has";
     let rows = [
         ("unsafe impl<T: Sync> Sync for Cells<'_, T> {}", "unsafe impl<T: Sync> Sync for Cells<'_, T> {}"),
         ("fn get(&self) -> &T { unsafe { &*self.p } }", "unsafe { &*self.p } }"),
         ("fn get(&self) { f(); unsafe { g() } } fn item_mut() { unsafe { h() } }", "unsafe { h() } }"),
         ("fn other() { // SAFETY: as here\nunsafe { h() } }", "fn other() { // SAFETY: as here unsafe { h() } }"),
-        ("fn other() { unsafe { h() } }", NO_FORM),
-        ("unsafe impl Clone for Cells<'_, u8> {}", NO_FORM),
+        ("fn other() { unsafe { h() } }", NO_REASON),
+        ("unsafe impl Clone for Cells<'_, u8> {}", NO_REASON),
         ("unsafe fn get() {}", NO_FORM),
     ];
     for (source, due) in rows {
-        let left = line_of("nd_parts", source);
+        let left = line_of("nd_lent", source);
         assert!(left.ends_with(due), "{source}: {left}");
-        assert_eq!(left.contains("// SAFETY: "), due != NO_FORM, "{source}: {left}");
+        assert_eq!(left.contains("// SAFETY: "), ![NO_FORM, NO_REASON].contains(&due), "{source}: {left}");
         if !source.contains("SAFETY") {
-            assert!(line_of("upper", source).ends_with(NO_FORM), "{source}");
+            assert_eq!(line_of("upper", source), if due == NO_FORM { NO_FORM } else { NO_REASON }, "{source}");
         }
     }
-    assert!(
-        line_of("upper", "fn get() { // SAFETY: no\nunsafe { h() } }")
-            .ends_with("`unsafe` is no form that can be erased")
-    );
+    assert_eq!(line_of("upper", "fn get() { // SAFETY: no\nunsafe { h() } }"), NO_REASON.replace('1', "2"));
 }
 
 #[test]
 fn what_keeps_it_sound_is_seen_by_its_own_module_alone() {
     let source = "pub struct S { pub(crate) cells: u8, pub view: u8 } pub(crate) fn f() {}";
-    let due = "pub struct S { pub(in crate::nd_parts) cells: u8, pub view: u8 } pub(in crate::nd_parts) fn f() {}";
-    assert_eq!(line_of("nd_parts", source), due);
+    let due = "pub struct S { pub(in crate::nd_lent) cells: u8, pub view: u8 } pub(in crate::nd_lent) fn f() {}";
+    assert_eq!(line_of("nd_lent", source), due);
     assert_eq!(line_of("upper", source), source);
 }
 
@@ -62,18 +60,18 @@ fn a_ghost_parameter_goes() {
 #[test]
 fn a_condition_that_keeps_it_sound_is_checked_where_others_see_the_call() {
     let call = "/// A. The caller ensures that it fits.\npub fn new(n: u8) -> Self requires { IsOwned n } { f(n) }";
-    let checked = line_of("nd_parts", &format!("impl<T> PartMut<T> {{ {call} }}"));
+    let checked = line_of("nd_lent", &format!("impl<T> PartMut<T> {{ {call} }}"));
     assert!(checked.contains("{assert!(crate::parts::has_own_items(&view, items.len()), \"two indices"), "{checked}");
     assert!(checked.contains("This call panics where two indices have one item"), "{checked}");
-    let due = "2: `{` begins a call that others see, with a condition that keeps `unsafe` sound and isn't checked";
-    assert_eq!(line_of("nd_parts", &format!("impl<T> Other<T> {{ {call} }}")), due);
-    let private = line_of("nd_parts", &format!("impl<T> Other<T> {{ {} }}", call.replace("pub ", "")));
+    let due = "2: `{` begins a call that others see, whose condition `CHECKED` of rust/eraser/names.rs lacks";
+    assert_eq!(line_of("nd_lent", &format!("impl<T> Other<T> {{ {call} }}")), due);
+    let private = line_of("nd_lent", &format!("impl<T> Other<T> {{ {} }}", call.replace("pub ", "")));
     assert!(private.contains("Otherwise the behaviour is undefined.") && !private.contains("assert!"), "{private}");
     assert!(line_of("upper", &format!("impl<T> PartMut<T> {{ {call} }}")).contains("unspecified values."));
     let of_closure = call.replace("IsOwned n", "CallableOnEachMut F.FnMut items f");
-    assert!(!line_of("nd_parts", &format!("impl<T> Other<T> {{ {of_closure} }}")).contains("isn't checked"));
+    assert!(!line_of("nd_lent", &format!("impl<T> Other<T> {{ {of_closure} }}")).contains("CHECKED"));
     let of_both = call.replace("IsOwned n", "CallableOnEachMut F.FnMut items f × IsOwned n");
-    assert_eq!(line_of("nd_parts", &format!("impl<T> Other<T> {{ {of_both} }}")), due);
+    assert_eq!(line_of("nd_lent", &format!("impl<T> Other<T> {{ {of_both} }}")), due);
 }
 
 /// The files of Rust in a folder and in those in it, each with its place under the folder.
@@ -98,27 +96,27 @@ fn files_with(words: &[&str]) -> BTreeSet<String> {
 
 #[test]
 fn one_file_of_the_package_has_unsafe() {
-    assert_eq!(files_with(&["unsafe", "no_mangle", "asm"]), BTreeSet::from(["nd_parts/cells.rs".to_string()]));
-    let allowing = BTreeSet::from(["lib.rs".to_string(), "nd_parts/cells.rs".to_string()]);
+    assert_eq!(files_with(&["unsafe", "no_mangle", "asm"]), BTreeSet::from(["nd_lent/cells.rs".to_string()]));
+    let allowing = BTreeSet::from(["lib.rs".to_string(), "nd_lent/cells.rs".to_string()]);
     assert_eq!(files_with(&["unsafe_code"]), allowing);
     let root = fs::read_to_string("rust/src/lib.rs").expect("a file");
     assert!(root.contains("\n#![deny(unsafe_code)]\n"));
-    let parts = fs::read_to_string("rust/src/nd_parts/mod.rs").expect("a file");
+    let parts = fs::read_to_string("rust/src/nd_lent/mod.rs").expect("a file");
     assert!(parts.contains("\nmod cells;\n"));
 }
 
 #[test]
 fn each_unsafe_of_the_package_says_why_it_is_sound() {
-    let text = fs::read_to_string("rust/src/nd_parts/cells.rs").expect("a file");
+    let text = fs::read_to_string("rust/src/nd_lent/cells.rs").expect("a file");
     let lines: Vec<&str> = text.lines().map(str::trim).collect();
     let is_told = |at: usize| {
         lines[..at].iter().rev().take_while(|line| line.starts_with("// ")).any(|line| line.starts_with("// SAFETY: "))
     };
     let found: Vec<usize> = (0..lines.len()).filter(|at| lines[*at].starts_with("unsafe ")).collect();
     assert!(!found.is_empty() && found.iter().all(|at| is_told(*at)), "{found:?}");
-    let source = sources(Path::new("crates/nd_parts/src"));
+    let source = sources(Path::new("crates/nd_lent/src"));
     for (own, item, _) in UNSAFE {
         let is_named = [format!("fn {item}("), format!("> {item} for ")].iter().any(|head| source.contains(head));
-        assert!(*own == "nd_parts" && is_named, "{item}");
+        assert!(*own == "nd_lent" && is_named, "{item}");
     }
 }

@@ -4,6 +4,7 @@ mod blurs;
 mod example_callers;
 #[path = "../../programs/example_tiles_edits/mod.rs"]
 mod example_tiles_edits;
+mod histograms;
 mod foreign;
 mod pictures;
 mod tasks;

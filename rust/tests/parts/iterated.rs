@@ -50,7 +50,7 @@ fn items_are_written_in_row_major_order() -> Result<(), LayoutError> {
     for item in &mut part {
         *item *= 10;
     }
-    assert_eq!(format!("{:?}", part.iter_mut()), "PartIterMut { left: 6, .. }");
+    assert_eq!(format!("{:?}", part.iter_mut()), "PartItems { left: 6, .. }");
     assert_eq!(part.iter_mut().last(), Some(&mut 60));
     assert_eq!((part.iter_mut().count(), part.into_iter().nth(2)), (6, Some(&mut 30)));
     assert_eq!(items, [50, 30, 10, 60, 40, 20, 0]);

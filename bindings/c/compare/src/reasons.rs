@@ -10,11 +10,19 @@ use crate::slices::{Elem, elems, raw};
 use std::collections::BTreeMap;
 use std::fmt::Debug;
 
-/// The status, the rule, the axis, the number and the size of a reason.
-type Told = (i32, i32, usize, isize, usize);
+/// The status, the rule, the axis, the number, the size, the other one and the list of a reason, which counts elements.
+type Told = (i32, i32, usize, isize, usize, usize, i32);
 
-const NO_REASON: Told = (OK, 0, 0, 0, 0);
-const NOT_TOLD: Told = (NO_ANSWER, NO_ANSWER, UNWRITTEN, -77, UNWRITTEN);
+const NO_REASON: Told = (OK, 0, 0, 0, 0, 0, 0);
+const NOT_TOLD: Told = (NO_ANSWER, NO_ANSWER, UNWRITTEN, -77, UNWRITTEN, UNWRITTEN, -77);
+
+const STRIDES: i32 = 1;
+const SLICE: i32 = 2;
+const COORDINATES: i32 = 3;
+const AXES: i32 = 4;
+const TARGET: i32 = 5;
+const WINDOW: i32 = 6;
+const CHUNK: i32 = 7;
 
 const COUNT: i32 = 1;
 const INDEX: i32 = 2;
@@ -40,10 +48,12 @@ const SPLIT: i32 = 21;
 
 /// What a call returns, and what it writes over a reason that nothing has written.
 fn told(call: impl FnOnce(&mut Reason) -> i32) -> (i32, Told) {
-    let (status, rule, axis, number, size) = NOT_TOLD;
-    let mut reason = Reason { status, rule, axis, number, size };
+    let (status, rule, axis, number, size, other, list) = NOT_TOLD;
+    let mut reason = Reason { status, rule, list, unit: -77, axis, number, size, other };
     let returned = call(&mut reason);
-    (returned, (reason.status, reason.rule, reason.axis, reason.number, reason.size))
+    let Reason { status, rule, list, unit, axis, number, size, other } = reason;
+    assert_eq!(unit, if returned == OK { 0 } else { -77 });
+    (returned, (status, rule, axis, number, size, other, list))
 }
 
 macro_rules! compare_reasons {
@@ -93,23 +103,23 @@ fn compare_reasons<A: Debug>(
 fn of_slice(shape: &[usize], elems: &[Elem], clamps: bool) -> Told {
     let on_axes: Vec<_> = elems.iter().filter(|elem| elem.kind != 2).collect();
     if on_axes.len() != shape.len() {
-        return (INCOMPATIBLE_SHAPE, COUNT, 0, 0, on_axes.len());
+        return (INCOMPATIBLE_SHAPE, COUNT, 0, 0, on_axes.len(), shape.len(), SLICE);
     }
     for (axis, (len, elem)) in shape.iter().zip(on_axes).enumerate() {
         let (least, most) = (-(*len as i128), *len as i128);
         if elem.kind == 1 {
             if !(least..most).contains(&(elem.start as i128)) {
-                return (OUT_OF_BOUNDS, INDEX, axis, elem.start, *len);
+                return (OUT_OF_BOUNDS, INDEX, axis, elem.start, *len, 0, 0);
             }
             continue;
         }
         let bounds = [Some(elem.start), (elem.has_end != 0).then_some(elem.end)];
         let outside = bounds.into_iter().flatten().find(|bound| !(least..=most).contains(&(*bound as i128)));
         if let (Some(bound), false) = (outside, clamps) {
-            return (OUT_OF_BOUNDS, BOUND, axis, bound, *len);
+            return (OUT_OF_BOUNDS, BOUND, axis, bound, *len, 0, 0);
         }
         if elem.step == 0 {
-            return (UNSUPPORTED, STEP, axis, 0, *len);
+            return (UNSUPPORTED, STEP, axis, 0, *len, 0, 0);
         }
     }
     NO_REASON
@@ -143,30 +153,30 @@ fn of_layout(start: Option<usize>, (shape, strides, elem_size, len, mode): &Layo
     if !(0..=1).contains(mode) {
         return None;
     }
-    let broken = |status: i32, rule: i32, size: i128| Some((status, rule, 0, 0, size as usize));
+    let broken = |status: i32, rule: i32, size: i128, other: usize| Some((status, rule, 0, 0, size as usize, other, 0));
     if shape.len() != strides.len() {
-        return broken(INCOMPATIBLE_LAYOUT, COUNT, strides.len() as i128);
+        return Some((INCOMPATIBLE_LAYOUT, COUNT, 0, 0, strides.len(), shape.len(), STRIDES));
     }
     let (span, (low, high)) = (span(shape, strides), low_and_high(shape, strides));
     if product_without_zeros(shape) > LIMIT {
-        return broken(OVERFLOW, SIZE, 0);
+        return broken(OVERFLOW, SIZE, 0, 0);
     }
     if span > LIMIT {
-        return broken(OVERFLOW, SPAN, 0);
+        return broken(OVERFLOW, SPAN, 0, 0);
     }
     if span.saturating_mul(*elem_size as i128) > LIMIT {
-        return broken(OVERFLOW, BYTES, span);
+        return broken(OVERFLOW, BYTES, span, *elem_size);
     }
     let start = start.map_or(low, |start| start as i128);
     let highest = start + high;
     if start < low {
-        return broken(OUT_OF_BOUNDS, LOWEST, low);
+        return broken(OUT_OF_BOUNDS, LOWEST, low, start as usize);
     }
     if highest > LIMIT {
-        return broken(OUT_OF_BOUNDS, HIGHEST, high);
+        return broken(OUT_OF_BOUNDS, HIGHEST, high, start as usize);
     }
     if highest + i128::from(!is_empty(shape)) > *len as i128 {
-        return broken(OUT_OF_BOUNDS, LENGTH, highest);
+        return broken(OUT_OF_BOUNDS, LENGTH, highest, *len);
     }
     let owned = *mode == 1 && !is_empty(shape);
     Some(owned.then(|| of_aliases(shape, strides)).flatten().unwrap_or(NO_REASON))
@@ -178,7 +188,7 @@ fn of_aliases(shape: &[usize], strides: &[isize]) -> Option<Told> {
         let no_greater = others.filter(|other| strides[*other].unsigned_abs() <= strides[axis].unsigned_abs());
         let reach: i128 = no_greater.map(|other| (shape[other] as i128 - 1) * (strides[other] as i128).abs()).sum();
         let is_within = (strides[axis] as i128).abs() <= reach;
-        is_within.then_some((UNSUPPORTED, ALIAS, axis, strides[axis], reach as usize))
+        is_within.then_some((UNSUPPORTED, ALIAS, axis, strides[axis], reach as usize, 0, 0))
     })
 }
 
@@ -230,9 +240,9 @@ fn of_reshape(shape: &[usize], strides: &[isize], to: &[usize], by_columns: bool
         other => return other.expect("the mode is one"),
     }
     if product_without_zeros(to) > LIMIT {
-        return (OVERFLOW, SIZE, 0, 0, 0);
+        return (OVERFLOW, SIZE, 0, 0, 0, 0, 0);
     }
-    let other_size = (INCOMPATIBLE_SHAPE, OTHER_SIZE, 0, 0, size(to) as usize);
+    let other_size = (INCOMPATIBLE_SHAPE, OTHER_SIZE, 0, 0, size(to) as usize, size(shape) as usize, 0);
     match (is_empty(shape), is_empty(to)) {
         (true, true) => return NO_REASON,
         (false, false) => {}
@@ -251,7 +261,7 @@ fn of_reshape(shape: &[usize], strides: &[isize], to: &[usize], by_columns: bool
         product *= shape[slow] as i128;
         let is_one = strides[slow] as i128 == shape[fast] as i128 * strides[fast] as i128;
         if !is_one && product < size(to) && !boundaries.contains(&product) {
-            return (INCOMPATIBLE_LAYOUT, COPY, fast, 0, 0);
+            return (INCOMPATIBLE_LAYOUT, COPY, fast, strides[fast], shape[fast], 0, 0);
         }
     }
     if size(shape) == size(to) { NO_REASON } else { other_size }
@@ -277,8 +287,8 @@ fn reshape_reason() {
 /// The first axis that isn't in a list, or else how many the list has.
 fn of_axes(shape: &[usize], axes: &[usize]) -> Told {
     match (0..shape.len()).find(|axis| !axes.contains(axis)) {
-        Some(axis) => (INCOMPATIBLE_SHAPE, MISSING, axis, 0, 0),
-        None if axes.len() > shape.len() => (INCOMPATIBLE_SHAPE, COUNT, 0, 0, axes.len()),
+        Some(axis) => (INCOMPATIBLE_SHAPE, MISSING, axis, 0, axes.len(), shape.len(), 0),
+        None if axes.len() > shape.len() => (INCOMPATIBLE_SHAPE, COUNT, 0, 0, axes.len(), shape.len(), AXES),
         None => NO_REASON,
     }
 }
@@ -302,10 +312,10 @@ fn permuted_axes_reason() {
 /// How many coordinates a list has, unless that is one for each axis, or else the first that its axis doesn't have.
 fn of_index(shape: &[usize], index: &[usize]) -> Told {
     if index.len() != shape.len() {
-        return (OUT_OF_BOUNDS, COUNT, 0, 0, index.len());
+        return (OUT_OF_BOUNDS, COUNT, 0, 0, index.len(), shape.len(), COORDINATES);
     }
     match shape.iter().zip(index).position(|(len, coordinate)| coordinate >= len) {
-        Some(axis) => (OUT_OF_BOUNDS, COORDINATE, axis, 0, index[axis]),
+        Some(axis) => (OUT_OF_BOUNDS, COORDINATE, axis, 0, index[axis], shape[axis], 0),
         None => NO_REASON,
     }
 }
@@ -331,7 +341,9 @@ fn of_common_shape(first: &[usize], second: &[usize]) -> Told {
     let axes = first.len().max(second.len());
     let pairs = first.iter().rev().zip(second.iter().rev());
     let mut apart = pairs.enumerate().filter(|(_, (one, other))| one != other && **one != 1 && **other != 1);
-    apart.next_back().map_or(NO_REASON, |(from_back, _)| (INCOMPATIBLE_SHAPE, COMMON, axes - 1 - from_back, 0, 0))
+    apart.next_back().map_or(NO_REASON, |(from_back, (one, other))| {
+        (INCOMPATIBLE_SHAPE, COMMON, axes - 1 - from_back, 0, *one, *other, 0)
+    })
 }
 
 #[test]
@@ -353,14 +365,14 @@ fn co_broadcast_reason() {
 /// How many axes a shape has that are too few, or else the first that keeps its own length, or else that it is too large.
 fn of_target(shape: &[usize], target: &[usize]) -> Told {
     let Some(new_axes) = target.len().checked_sub(shape.len()) else {
-        return (INCOMPATIBLE_SHAPE, COUNT, 0, 0, target.len());
+        return (INCOMPATIBLE_SHAPE, COUNT, 0, 0, target.len(), shape.len(), TARGET);
     };
     for (axis, len) in shape.iter().enumerate() {
         if ![1, target[new_axes + axis]].contains(len) {
-            return (INCOMPATIBLE_SHAPE, STRETCH, new_axes + axis, 0, *len);
+            return (INCOMPATIBLE_SHAPE, STRETCH, new_axes + axis, 0, *len, target[new_axes + axis], 0);
         }
     }
-    if product_without_zeros(target) > LIMIT { (OVERFLOW, SIZE, 0, 0, 0) } else { NO_REASON }
+    if product_without_zeros(target) > LIMIT { (OVERFLOW, SIZE, 0, 0, 0, 0, 0) } else { NO_REASON }
 }
 
 #[test]
@@ -381,16 +393,16 @@ fn broadcast_reason() {
 
 /// How many lengths a block has, unless that is one for each axis, or else the first that is 0, or else that there are too many
 /// indices, where so many blocks lie along an axis.
-fn of_blocks(shape: &[usize], block: &[usize], count: impl Fn(usize, usize) -> usize) -> Told {
+fn of_blocks(list: i32, shape: &[usize], block: &[usize], count: impl Fn(usize, usize) -> usize) -> Told {
     if block.len() != shape.len() {
-        return (INCOMPATIBLE_SHAPE, COUNT, 0, 0, block.len());
+        return (INCOMPATIBLE_SHAPE, COUNT, 0, 0, block.len(), shape.len(), list);
     }
     if let Some(axis) = block.iter().position(|len| *len == 0) {
-        return (UNSUPPORTED, EMPTY, axis, 0, 0);
+        return (UNSUPPORTED, EMPTY, axis, 0, 0, 0, list);
     }
     let mut lens: Vec<_> = shape.iter().zip(block).map(|(len, size)| count(*len, *size)).collect();
     lens.extend(block);
-    if product_without_zeros(&lens) > LIMIT { (OVERFLOW, SIZE, 0, 0, 0) } else { NO_REASON }
+    if product_without_zeros(&lens) > LIMIT { (OVERFLOW, SIZE, 0, 0, 0, 0, 0) } else { NO_REASON }
 }
 
 /// A shape, and a block of it, seldom not one of a length for each axis.
@@ -402,12 +414,13 @@ fn shape_and_block(numbers: &mut Numbers) -> (Vec<usize>, Vec<usize>) {
 
 #[test]
 fn windows_reason() {
+    let count = |len: usize, size: usize| if size > len { 0 } else { len - size + 1 };
     compare_reasons!(
         "nd_windows_reason",
         [0, COUNT, SIZE, EMPTY],
         shape_and_block,
         |(shape, window)| told(|reason| nd_windows_reason(shape, window, reason)),
-        |(shape, window)| Some(of_blocks(shape, window, |len, size| if size > len { 0 } else { len - size + 1 })),
+        |(shape, window)| Some(of_blocks(WINDOW, shape, window, count)),
     );
 }
 
@@ -418,7 +431,7 @@ fn exact_chunks_reason() {
         [0, COUNT, SIZE, EMPTY],
         shape_and_block,
         |(shape, chunk)| told(|reason| nd_exact_chunks_reason(shape, chunk, reason)),
-        |(shape, chunk)| Some(of_blocks(shape, chunk, |len, size| len / size)),
+        |(shape, chunk)| Some(of_blocks(CHUNK, shape, chunk, |len, size| len / size)),
     );
 }
 
@@ -437,8 +450,8 @@ fn split_at_reason() {
         arguments,
         |(shape, axis, index)| told(|reason| nd_split_at_reason(shape, *axis, *index, reason)),
         |(shape, axis, index)| Some(match shape.get(*axis) {
-            None => (OUT_OF_BOUNDS, AXIS, *axis, 0, shape.len()),
-            Some(len) if index > len => (OUT_OF_BOUNDS, SPLIT, *axis, 0, *len),
+            None => (OUT_OF_BOUNDS, AXIS, *axis, 0, shape.len(), 0, 0),
+            Some(len) if index > len => (OUT_OF_BOUNDS, SPLIT, *axis, 0, *len, *index, 0),
             Some(_) => NO_REASON,
         }),
     );
@@ -457,8 +470,8 @@ fn merge_axes_reason() {
         arguments,
         |(shape, take, into)| told(|reason| nd_merge_axes_reason(shape, *take, *into, reason)),
         |(shape, take, into)| Some(match [take, into].into_iter().find(|axis| **axis >= shape.len()) {
-            Some(axis) => (OUT_OF_BOUNDS, AXIS, *axis, 0, shape.len()),
-            None if take == into => (UNSUPPORTED, SAME_AXIS, *take, 0, 0),
+            Some(axis) => (OUT_OF_BOUNDS, AXIS, *axis, 0, shape.len(), 0, 0),
+            None if take == into => (UNSUPPORTED, SAME_AXIS, *take, 0, 0, 0, 0),
             None => NO_REASON,
         }),
     );

@@ -75,7 +75,7 @@ pub(crate) fn alias_reason(shape: &[usize], strides: &[usize]) -> Option<Reason>
         let magnitude = stride.unsigned_abs();
         let others = span_of_others(shape, strides, axis, magnitude);
         if shape[axis] > 1 && magnitude <= others {
-            return Some(of_axis(UNSUPPORTED, ALIAS, axis, stride, others));
+            return Some(of_axis(UNSUPPORTED, ALIAS, axis, stride, others, 0));
         }
     }
     None

@@ -14,7 +14,7 @@ use crate::ndarray_layout_c::statuses::{OK, OUT_OF_BOUNDS, UNSUPPORTED};
 /// [How to read it](ndarray_layout::contracts)
 /// </details>
 fn no_axis(shape: &[usize], axis: usize) -> Reason {
-    of_axis(OUT_OF_BOUNDS, AXIS, axis, 0, shape.len())
+    of_axis(OUT_OF_BOUNDS, AXIS, axis, 0, shape.len(), 0)
 }
 
 /// Why a shape can't be split at a coordinate of an axis.
@@ -31,7 +31,7 @@ fn split_reason(shape: &[usize], axis: usize, index: usize) -> Reason {
         return no_axis(shape, axis);
     }
     if index > shape[axis] {
-        return of_axis(OUT_OF_BOUNDS, SPLIT, axis, 0, shape[axis]);
+        return of_axis(OUT_OF_BOUNDS, SPLIT, axis, 0, shape[axis], index);
     }
     no_reason()
 }
@@ -69,7 +69,7 @@ fn axes_reason(shape: &[usize], take: usize, into: usize) -> Reason {
         return no_axis(shape, into);
     }
     if take == into {
-        return of_axis(UNSUPPORTED, SAME_AXIS, take, 0, 0);
+        return of_axis(UNSUPPORTED, SAME_AXIS, take, 0, 0, 0);
     }
     no_reason()
 }

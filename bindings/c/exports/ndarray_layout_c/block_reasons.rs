@@ -2,7 +2,7 @@
 //! Why blocks of a shape can't be taken.
 
 use crate::ndarray_layout_c::blocks::Blocks;
-use crate::ndarray_layout_c::reasons::{COUNT, EMPTY, Reason, SIZE, no_reason, of_axis};
+use crate::ndarray_layout_c::reasons::{CHUNK, COUNT, EMPTY, Reason, SIZE, WINDOW, no_reason, of_axis, of_list};
 use crate::ndarray_layout_c::sizes::{times, times_lengths};
 use crate::ndarray_layout_c::statuses::{INCOMPATIBLE_SHAPE, OK, OVERFLOW, UNSUPPORTED};
 
@@ -78,6 +78,22 @@ fn is_none(block: &[usize], axis: usize) -> bool {
     block[axis] == 0
 }
 
+/// The number of the list of the lengths of a block.
+///
+/// <details><summary>Contract (proved)</summary>
+///
+/// ```text
+/// ensures result ≡ list_of blocks
+/// ```
+/// [How to read it](ndarray_layout::contracts)
+/// </details>
+fn list_of(blocks: Blocks) -> i32 {
+    match blocks {
+        Blocks::Windows => WINDOW,
+        Blocks::Chunks => CHUNK,
+    }
+}
+
 /// Why blocks of a shape can't be taken.
 ///
 /// <details><summary>Contract (proved)</summary>
@@ -88,16 +104,17 @@ fn is_none(block: &[usize], axis: usize) -> bool {
 /// [How to read it](ndarray_layout::contracts)
 /// </details>
 fn blocks_reason(blocks: Blocks, shape: &[usize], block: &[usize]) -> Reason {
-    if block.len() != shape.len() {
-        return of_axis(INCOMPATIBLE_SHAPE, COUNT, 0, 0, block.len());
+    let (list, count) = (list_of(blocks), block.len());
+    if count != shape.len() {
+        return of_list(INCOMPATIBLE_SHAPE, COUNT, list, 0, count, shape.len());
     }
     for axis in 0..block.len() {
         if is_none(block, axis) {
-            return of_axis(UNSUPPORTED, EMPTY, axis, 0, 0);
+            return of_list(UNSUPPORTED, EMPTY, list, axis, 0, 0);
         }
     }
     if !has_size(blocks, shape, block) {
-        return of_axis(OVERFLOW, SIZE, 0, 0, 0);
+        return of_axis(OVERFLOW, SIZE, 0, 0, 0, 0);
     }
     no_reason()
 }

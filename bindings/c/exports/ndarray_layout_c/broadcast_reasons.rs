@@ -1,7 +1,7 @@
 // Made by `rust/erase` of `crates/ndarray_layout_c/src/broadcast_reasons.rt`: edit that.
 //! Why two shapes have none in common, and why a layout of a shape can't be read as one of another.
 
-use crate::ndarray_layout_c::reasons::{COMMON, COUNT, Reason, SIZE, STRETCH, no_reason, of_axis};
+use crate::ndarray_layout_c::reasons::{COMMON, COUNT, Reason, SIZE, STRETCH, TARGET, no_reason, of_axis, of_list};
 use crate::ndarray_layout_c::sizes::times_lengths;
 use crate::ndarray_layout_c::statuses::{INCOMPATIBLE_SHAPE, OK, OVERFLOW};
 
@@ -52,7 +52,9 @@ fn co_broadcast_reason(first: &[usize], second: &[usize]) -> Reason {
     let count = first.len().max(second.len());
     for axis in 0..count {
         if is_apart(count, first, second, axis) {
-            return of_axis(INCOMPATIBLE_SHAPE, COMMON, axis, 0, 0);
+            let one = padded_length(count, first, axis);
+            let other = padded_length(count, second, axis);
+            return of_axis(INCOMPATIBLE_SHAPE, COMMON, axis, 0, one, other);
         }
     }
     no_reason()
@@ -102,16 +104,16 @@ fn is_fixed(shape: &[usize], target: &[usize], axis: usize) -> bool {
 fn broadcast_reason(shape: &[usize], target: &[usize]) -> Reason {
     let count = target.len();
     if count < shape.len() {
-        return of_axis(INCOMPATIBLE_SHAPE, COUNT, 0, 0, count);
+        return of_list(INCOMPATIBLE_SHAPE, COUNT, TARGET, 0, count, shape.len());
     }
     for axis in 0..count {
         if is_fixed(shape, target, axis) {
             let len = padded_length(count, shape, axis);
-            return of_axis(INCOMPATIBLE_SHAPE, STRETCH, axis, 0, len);
+            return of_axis(INCOMPATIBLE_SHAPE, STRETCH, axis, 0, len, target[axis]);
         }
     }
     if times_lengths(1, target).is_none() {
-        return of_axis(OVERFLOW, SIZE, 0, 0, 0);
+        return of_axis(OVERFLOW, SIZE, 0, 0, 0, 0);
     }
     no_reason()
 }

@@ -1,7 +1,7 @@
 // Made by `rust/erase` of `crates/ndarray_layout_c/src/index_reasons.rt`: edit that.
 //! Why a list is no index of a shape.
 
-use crate::ndarray_layout_c::reasons::{COORDINATE, COUNT, Reason, no_reason, of_axis};
+use crate::ndarray_layout_c::reasons::{COORDINATE, COORDINATES, COUNT, Reason, no_reason, of_axis, of_list};
 use crate::ndarray_layout_c::statuses::{OK, OUT_OF_BOUNDS};
 
 /// Whether the coordinate of an axis is none of it.
@@ -30,11 +30,12 @@ fn is_outside(shape: &[usize], index: &[usize], axis: usize) -> bool {
 /// </details>
 fn index_reason(shape: &[usize], index: &[usize]) -> Reason {
     if index.len() != shape.len() {
-        return of_axis(OUT_OF_BOUNDS, COUNT, 0, 0, index.len());
+        let (count, ndim) = (index.len(), shape.len());
+        return of_list(OUT_OF_BOUNDS, COUNT, COORDINATES, 0, count, ndim);
     }
     for axis in 0..shape.len() {
         if is_outside(shape, index, axis) {
-            return of_axis(OUT_OF_BOUNDS, COORDINATE, axis, 0, index[axis]);
+            return of_axis(OUT_OF_BOUNDS, COORDINATE, axis, 0, index[axis], shape[axis]);
         }
     }
     no_reason()

@@ -3,7 +3,9 @@
 
 use crate::ndarray_layout_c::aliases::alias_reason;
 use crate::ndarray_layout_c::arguments::{is_choice, mode_named};
-use crate::ndarray_layout_c::reasons::{BYTES, COUNT, HIGHEST, LENGTH, LOWEST, Reason, SIZE, SPAN, no_reason, of_axis};
+use crate::ndarray_layout_c::reasons::{
+    BYTES, COUNT, HIGHEST, LENGTH, LOWEST, Reason, SIZE, SPAN, STRIDES, no_reason, of_axis, of_list,
+};
 use crate::ndarray_layout_c::statuses::{
     BAD_ARGUMENT, INCOMPATIBLE_LAYOUT, OK, OUT_OF_BOUNDS, OUT_OF_MEMORY, OVERFLOW,
 };
@@ -27,18 +29,18 @@ use ::ndarray_layout::{CanIndexCheckMode, low_span, new_ixdyn, size_of_shape_che
 fn span_or_reason(shape: &[usize], strides: &[usize], elem_size: usize) -> Result<Result<usize, Reason>, AllocError> {
     let dim = new_ixdyn(shape)?;
     if shape.len() != strides.len() {
-        let count = strides.len();
-        return Ok(Err(of_axis(INCOMPATIBLE_LAYOUT, COUNT, 0, 0, count)));
+        let (count, ndim) = (strides.len(), shape.len());
+        return Ok(Err(of_list(INCOMPATIBLE_LAYOUT, COUNT, STRIDES, 0, count, ndim)));
     }
     if size_of_shape_checked(&dim).is_err() {
-        return Ok(Err(of_axis(OVERFLOW, SIZE, 0, 0, 0)));
+        return Ok(Err(of_axis(OVERFLOW, SIZE, 0, 0, 0, 0)));
     }
     // (with elements of no bytes, only the span is left to be past the limit)
     let Ok(span) = span_of_lengths(0, shape, strides) else {
-        return Ok(Err(of_axis(OVERFLOW, SPAN, 0, 0, 0)));
+        return Ok(Err(of_axis(OVERFLOW, SPAN, 0, 0, 0, 0)));
     };
     if span_of_lengths(elem_size, shape, strides).is_err() {
-        return Ok(Err(of_axis(OVERFLOW, BYTES, 0, 0, span)));
+        return Ok(Err(of_axis(OVERFLOW, BYTES, 0, 0, span, elem_size)));
     }
     Ok(Ok(span))
 }
@@ -57,15 +59,15 @@ fn span_or_reason(shape: &[usize], strides: &[usize], elem_size: usize) -> Resul
 fn bounds_reason(start: usize, shape: &[usize], strides: &[usize], span: usize, len: usize) -> Option<Reason> {
     let low = low_span(shape, strides);
     if start < low {
-        return Some(of_axis(OUT_OF_BOUNDS, LOWEST, 0, 0, low));
+        return Some(of_axis(OUT_OF_BOUNDS, LOWEST, 0, 0, low, start));
     }
     let high = span - low;
     if start > isize::MAX as usize - high {
-        return Some(of_axis(OUT_OF_BOUNDS, HIGHEST, 0, 0, high));
+        return Some(of_axis(OUT_OF_BOUNDS, HIGHEST, 0, 0, high, start));
     }
     let highest = start + high;
     let is_past = if shape.contains(&0) { len < highest } else { len <= highest };
-    is_past.then_some(of_axis(OUT_OF_BOUNDS, LENGTH, 0, 0, highest))
+    is_past.then_some(of_axis(OUT_OF_BOUNDS, LENGTH, 0, 0, highest, len))
 }
 
 /// Why a layout within the limits isn't accepted over a buffer of `len` elements, from a start.

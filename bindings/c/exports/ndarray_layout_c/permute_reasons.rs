@@ -1,7 +1,7 @@
 // Made by `rust/erase` of `crates/ndarray_layout_c/src/permute_reasons.rt`: edit that.
 //! Why a list of axes is no order of the axes of a shape.
 
-use crate::ndarray_layout_c::reasons::{COUNT, MISSING, Reason, no_reason, of_axis};
+use crate::ndarray_layout_c::reasons::{AXES, COUNT, MISSING, Reason, no_reason, of_axis, of_list};
 use crate::ndarray_layout_c::statuses::{INCOMPATIBLE_SHAPE, OK};
 
 /// Whether an axis is listed.
@@ -27,13 +27,14 @@ fn is_listed(axes: &[usize], axis: usize) -> bool {
 /// [How to read it](ndarray_layout::contracts)
 /// </details>
 fn permute_reason(shape: &[usize], axes: &[usize]) -> Reason {
-    for axis in 0..shape.len() {
+    let ndim = shape.len();
+    for axis in 0..ndim {
         if !is_listed(axes, axis) {
-            return of_axis(INCOMPATIBLE_SHAPE, MISSING, axis, 0, 0);
+            return of_axis(INCOMPATIBLE_SHAPE, MISSING, axis, 0, axes.len(), ndim);
         }
     }
-    if axes.len() != shape.len() {
-        return of_axis(INCOMPATIBLE_SHAPE, COUNT, 0, 0, axes.len());
+    if axes.len() != ndim {
+        return of_list(INCOMPATIBLE_SHAPE, COUNT, AXES, 0, axes.len(), ndim);
     }
     no_reason()
 }

@@ -1,15 +1,19 @@
 // Made by `rust/erase` of `crates/ndarray_layout_c/src/reasons.rt`: edit that.
 //! Why a call returns its error, as C reads it: the rule that is broken, and numbers.
 
-/// The status of a call, the rule that is broken, and numbers; all 0 where no rule is.
+/// The status of a call, the rule that is broken, of which list, and numbers; all 0 where no rule is. Places, spans and strides
+/// count elements: `unit` is 0.
 #[derive(Clone, Copy)]
 #[repr(C)]
 pub struct Reason {
     pub status: i32,
     pub rule: i32,
+    pub list: i32,
+    pub unit: i32,
     pub axis: usize,
     pub number: isize,
     pub size: usize,
+    pub other: usize,
 }
 
 /// A list is of another count than there are axes.
@@ -75,6 +79,27 @@ pub(crate) const SAME_AXIS: i32 = 20;
 /// A split lies past the end of its axis.
 pub(crate) const SPLIT: i32 = 21;
 
+/// The strides of a layout.
+pub(crate) const STRIDES: i32 = 1;
+
+/// The elements of a slice, but for new axes.
+pub(crate) const SLICE: i32 = 2;
+
+/// The coordinates of an index.
+pub(crate) const COORDINATES: i32 = 3;
+
+/// The axes in their new order.
+pub(crate) const AXES: i32 = 4;
+
+/// The shape that a layout is broadcast to.
+pub(crate) const TARGET: i32 = 5;
+
+/// The lengths of a window.
+pub(crate) const WINDOW: i32 = 6;
+
+/// The lengths of a chunk.
+pub(crate) const CHUNK: i32 = 7;
+
 /// No rule is broken.
 ///
 /// <details><summary>Contract (proved)</summary>
@@ -85,7 +110,7 @@ pub(crate) const SPLIT: i32 = 21;
 /// [How to read it](ndarray_layout::contracts)
 /// </details>
 pub(crate) fn no_reason() -> Reason {
-    Reason { status: 0, rule: 0, axis: 0, number: 0, size: 0 }
+    Reason { status: 0, rule: 0, list: 0, unit: 0, axis: 0, number: 0, size: 0, other: 0 }
 }
 
 /// A rule is broken at an axis.
@@ -93,10 +118,23 @@ pub(crate) fn no_reason() -> Reason {
 /// <details><summary>Contract (proved)</summary>
 ///
 /// ```text
-/// ensures result ≡ of_axis status rule axis number size
+/// ensures result ≡ of_axis status rule axis number size other
 /// ```
 /// [How to read it](ndarray_layout::contracts)
 /// </details>
-pub(crate) fn of_axis(status: i32, rule: i32, axis: usize, number: isize, size: usize) -> Reason {
-    Reason { status, rule, axis, number, size }
+pub(crate) fn of_axis(status: i32, rule: i32, axis: usize, number: isize, size: usize, other: usize) -> Reason {
+    Reason { status, rule, list: 0, unit: 0, axis, number, size, other }
+}
+
+/// A list breaks a rule, at an axis where it is a length of it.
+///
+/// <details><summary>Contract (proved)</summary>
+///
+/// ```text
+/// ensures result ≡ of_list status rule list axis size other
+/// ```
+/// [How to read it](ndarray_layout::contracts)
+/// </details>
+pub(crate) fn of_list(status: i32, rule: i32, list: i32, axis: usize, size: usize, other: usize) -> Reason {
+    Reason { status, rule, list, unit: 0, axis, number: 0, size, other }
 }

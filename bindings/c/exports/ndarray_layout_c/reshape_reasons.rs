@@ -8,7 +8,7 @@ use crate::ndarray_layout_c::reasons::{COPY, OTHER_SIZE, Reason, SIZE, no_reason
 use crate::ndarray_layout_c::statuses::{BAD_ARGUMENT, INCOMPATIBLE_SHAPE, OK, OUT_OF_MEMORY, OVERFLOW, status_of};
 use ::ndarray_layout::memory::AllocError;
 use ::ndarray_layout::{
-    CanIndexCheckMode, ErrorKind, IxDyn, LayoutError, Order, Strided, new_ixdyn, size_of_shape_checked,
+    CanIndexCheckMode, ErrorKind, IxDyn, LayoutError, Order, Strided, new_ixdyn, signed, size_of_shape_checked,
 };
 
 /// The error of reading a view as one of a shape.
@@ -132,7 +132,24 @@ fn stuck_axis(shape: &[usize], strides: &[usize], new_shape: &IxDyn, order: Orde
     Ok(0)
 }
 
-/// Why a layout that is accepted can't be read as one of a shape.
+/// The strides can't be read past an axis: its stride and its length, where there is such an axis.
+///
+/// <details><summary>Contract (proved)</summary>
+///
+/// ```text
+/// requires same_count: length shape.now ≡ length strides.now
+/// ensures result ≡ copy_reason status shape.now strides.now axis
+/// ```
+/// [How to read it](ndarray_layout::contracts)
+/// </details>
+fn copy_reason(status: i32, shape: &[usize], strides: &[usize], axis: usize) -> Reason {
+    if axis >= shape.len() {
+        return of_axis(status, COPY, axis, 0, 0, 0);
+    }
+    of_axis(status, COPY, axis, signed(strides[axis]), shape[axis], 0)
+}
+
+/// Why a layout that is accepted, of so many indices, can't be read as one of a shape.
 ///
 /// Errors: out of memory, never for at most four axes of both.
 ///
@@ -140,11 +157,13 @@ fn stuck_axis(shape: &[usize], strides: &[usize], new_shape: &IxDyn, order: Orde
 ///
 /// ```text
 /// requires same_count: length shape.now ≡ length strides.now
+/// requires size: size ≡ size_of shape.now
 /// requires sized: fault ≡ Some ErrorKind.IncompatibleShape → nonzero_size (lengths new_shape.now) ≤ limit
 /// ensures memory: NeedsNoMemory None (length shape.now) →
 ///     NeedsNoMemory None (length strides.now) →
 ///     NeedsNoMemory None (length (lengths new_shape.now)) → IsOk result
-/// ensures reason: IfOk result (λ reason. reason ≡ fault_reason (lengths new_shape.now)
+/// ensures reason: IfOk result (λ reason. reason ≡ fault_reason shape.now strides.now
+///     (lengths new_shape.now)
 ///     (stuck_axis order (lengths new_shape.now) shape.now strides.now) fault)
 /// ```
 /// [How to read it](ndarray_layout::contracts)
@@ -154,18 +173,19 @@ fn fault_reason(
     strides: &[usize],
     new_shape: &IxDyn,
     order: Order,
+    size: usize,
     fault: Option<ErrorKind>,
 ) -> Result<Reason, AllocError> {
     match fault {
         None => Ok(no_reason()),
-        Some(ErrorKind::Overflow) => Ok(of_axis(OVERFLOW, SIZE, 0, 0, 0)),
+        Some(ErrorKind::Overflow) => Ok(of_axis(OVERFLOW, SIZE, 0, 0, 0, 0)),
         Some(ErrorKind::IncompatibleShape) => {
-            let size = size_of_shape_checked(new_shape).unwrap_or(0);
-            Ok(of_axis(INCOMPATIBLE_SHAPE, OTHER_SIZE, 0, 0, size))
+            let new_size = size_of_shape_checked(new_shape).unwrap_or(0);
+            Ok(of_axis(INCOMPATIBLE_SHAPE, OTHER_SIZE, 0, 0, new_size, size))
         }
         Some(kind) => {
             let axis = stuck_axis(shape, strides, new_shape, order)?;
-            Ok(of_axis(status_of(kind), COPY, axis, 0, 0))
+            Ok(copy_reason(status_of(kind), shape, strides, axis))
         }
     }
 }
@@ -188,8 +208,9 @@ fn reshape_reason(shape: &[usize], strides: &[usize], new_shape: &[usize], order
     match view(shape, strides) {
         Ok(view) => {
             let new_shape = new_ixdyn(new_shape)?;
+            let size = size_of_shape_checked(view.dim()).unwrap_or(0);
             let fault = view_fault(&view, &new_shape, order)?;
-            fault_reason(shape, strides, &new_shape, order, fault)
+            fault_reason(shape, strides, &new_shape, order, size, fault)
         }
         Err(LayoutError::Shape(_error)) => {
             let mode = CanIndexCheckMode::ReadOnly;

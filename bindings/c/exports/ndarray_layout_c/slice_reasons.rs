@@ -3,7 +3,7 @@
 
 use crate::ndarray_layout_c::arguments::{fit_named, is_choice};
 use crate::ndarray_layout_c::elements::{FEW, RawElem, are_elems, few_elems, many_elems};
-use crate::ndarray_layout_c::reasons::{BOUND, COUNT, INDEX, Reason, STEP, no_reason, of_axis};
+use crate::ndarray_layout_c::reasons::{BOUND, COUNT, INDEX, Reason, SLICE, STEP, no_reason, of_axis, of_list};
 use crate::ndarray_layout_c::statuses::{
     BAD_ARGUMENT, INCOMPATIBLE_SHAPE, OK, OUT_OF_BOUNDS, OUT_OF_MEMORY, UNSUPPORTED,
 };
@@ -55,10 +55,10 @@ fn bound_at_fault(len: usize, start: isize, end: Option<isize>, fit: Fit) -> Opt
 fn elem_reason(axis: usize, len: usize, elem: SliceInfoElem, fit: Fit) -> Reason {
     match elem {
         SliceInfoElem::Slice { start, end, .. } => match bound_at_fault(len, start, end, fit) {
-            Some(bound) => of_axis(OUT_OF_BOUNDS, BOUND, axis, bound, len),
-            None => of_axis(UNSUPPORTED, STEP, axis, 0, len),
+            Some(bound) => of_axis(OUT_OF_BOUNDS, BOUND, axis, bound, len, 0),
+            None => of_axis(UNSUPPORTED, STEP, axis, 0, len, 0),
         },
-        SliceInfoElem::Index(index) => of_axis(OUT_OF_BOUNDS, INDEX, axis, index, len),
+        SliceInfoElem::Index(index) => of_axis(OUT_OF_BOUNDS, INDEX, axis, index, len, 0),
         SliceInfoElem::NewAxis => no_reason(),
     }
 }
@@ -75,7 +75,7 @@ fn elem_reason(axis: usize, len: usize, elem: SliceInfoElem, fit: Fit) -> Reason
 fn argument_reason(shape: &[usize], elems: &[SliceInfoElem], fit: Fit) -> Reason {
     let count = in_ndim_of(elems);
     if count != shape.len() {
-        return of_axis(INCOMPATIBLE_SHAPE, COUNT, 0, 0, count);
+        return of_list(INCOMPATIBLE_SHAPE, COUNT, SLICE, 0, count, shape.len());
     }
     for (axis, (len, elem)) in AxisElems::new(shape, elems).enumerate() {
         if resolve_elem(len, elem, fit).is_err() {

@@ -3,11 +3,11 @@ ghost use Rattle.std.specs.Iterator.{CallableInFold, CallableInForEach, CallsOnE
 ghost use Rattle.std.specs.Prelude.{Some, map};
 ghost use Rattle.ndarray_layout.specs.declared.Order.TheVariants.{RowMajor};
 ghost use Rattle.ndarray_layout.specs.View.{view_places};
-ghost use Rattle.nd_parts.specs.AnyOrder.{InAnyOrder};
+ghost use Rattle.nd_lent.specs.AnyOrder.{InAnyOrder};
 ghost use Rattle.nd_lent.specs.AnyOrder.{InSomeOrder};
 ghost use Rattle.nd_lent.specs.LentRow.{row_items, rows_items};
 ghost use Rattle.nd_lent.specs.Lending.{lends};
-ghost use Rattle.nd_parts.specs.Items.{item_at_place};
+ghost use Rattle.nd_lent.specs.Items.{item_at_place};
 ghost use Rattle.nd_lent.specs.private.Folded.{HasFolded};
 
 use crate::array_view::{ArrayView, LentRow, LentRows};

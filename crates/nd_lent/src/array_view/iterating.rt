@@ -1,23 +1,23 @@
 //! The items of an array one after another, each lent, without a list of them.
 ghost use Rattle.std.specs.Borrow.{Bor};
-ghost use Rattle.std.specs.Iterator.{UpTo, YieldsFirstBy, item_count};
+ghost use Rattle.std.specs.Iterator.{UpTo, YieldsFirstBy, YieldsLastBy, item_count};
 ghost use Rattle.std.specs.Iterator.Runs.{EveryRun, ItemsMapTo};
 ghost use Rattle.std.specs.Iterator.SizeHint.{IsWithinCount};
 ghost use Rattle.std.specs.List.{All};
-ghost use Rattle.std.specs.Prelude.{◌≡◌, IfSome, List, Option, Some, length, map};
+ghost use Rattle.std.specs.Prelude.{◌≡◌, ◌-◌, IfSome, List, Option, Some, drop, length, map, take};
 ghost use Rattle.ndarray_layout.specs.declared.Order.TheVariants.{RowMajor};
 ghost use Rattle.ndarray_layout.specs.Bounds.{IsInBounds};
 ghost use Rattle.ndarray_layout.specs.Size.{size};
 ghost use Rattle.ndarray_layout.specs.View.{view_places};
-ghost use Rattle.nd_parts.specs.Items.{item_at_place};
+ghost use Rattle.nd_lent.specs.Items.{item_at_place};
 
 use crate::array_view::ArrayView;
 use ndarray_layout::{Lengths, Order, Places};
 use std::iter::FusedIterator;
 use std::marker::Model;
 
-/// The items of an array that are still to come, in row-major order of their indices, each lent. A contract sees the list
-/// of them.
+/// The items of an array that are still to come, in row-major order of their indices, from both ends, each lent. A contract
+/// sees the list of them.
 #[derive(Drop)]
 pub struct Iter<'a, T> {
     stored: &'a [T],
@@ -28,7 +28,7 @@ impl<'a, T> Model for Iter<'a, T> {
     ghost use Rattle.std.specs.List.{All};
     ghost use Rattle.std.specs.Prelude.{List, Option, length, map};
     ghost use Rattle.ndarray_layout.specs.Bounds.{IsInBounds};
-    ghost use Rattle.nd_parts.specs.Items.{item_at_place};
+    ghost use Rattle.nd_lent.specs.Items.{item_at_place};
 
     ghost Value = { List (Option T) };
 
@@ -46,6 +46,28 @@ impl<'a, T> Iter<'a, T> {
         ensures { result ≡ map (item_at_place stored.now) places.entry }
     {
         Iter { stored, places }
+    }
+
+    /// Leaves out so many items, or all where fewer are left: the next one is the one that comes after them.
+    ///
+    /// Takes no memory, and no time for each item (`Places::advance`).
+    ///
+    /// Of 8 7, after one item: 7. What `nth` of std's iterators leaves out one by one.
+    pub fn advance(&mut self, count: usize)
+        ensures { self.new ≡ drop count self.old }
+    {
+        self.places.advance(count);
+    }
+
+    /// Leaves out so many items at the back, or all where fewer are left: the last one is the one that comes before them.
+    ///
+    /// Takes no memory, and no time for each item (`Places::advance_back`).
+    ///
+    /// Of 8 7, without the last item: 8. What `nth_back` of std's iterators leaves out one by one.
+    pub fn advance_back(&mut self, count: usize)
+        ensures { self.new ≡ take (length self.old - count) self.old }
+    {
+        self.places.advance_back(count);
     }
 }
 
@@ -72,6 +94,17 @@ impl<'a, T> Iterator for Iter<'a, T> {
     }
 }
 
+impl<'a, T> DoubleEndedIterator for Iter<'a, T> {
+    ghost next_back_gives = { YieldsLastBy (λ item. Some item.now) (λ left. left) };
+
+    #[inline]
+    fn next_back(&mut self) -> Option<&'a T> {
+        let place = self.places.next_back()?;
+        let stored = self.stored;
+        Some(&stored[place])
+    }
+}
+
 impl<T> ExactSizeIterator for Iter<'_, T> {
     fn len(&self) -> usize {
         self.places.len()
@@ -82,7 +115,7 @@ impl<T> FusedIterator for Iter<'_, T> {}
 
 impl<'a, T, D: Lengths> ArrayView<'a, T, D> {
     /// An iterator over the items of all indices, in row-major order (the last axis moves fastest), which knows how many
-    /// are left. Spare items aren't among them.
+    /// are left and gives the last ones as well. Spare items aren't among them.
     ///
     /// Takes no memory, and lists nothing. An item takes the time of its place (`Strided::iter_places`).
     ///

@@ -9,7 +9,7 @@ ghost use Rattle.ndarray_layout.specs.Memory.{NeedsNoMemory};
 ghost use Rattle.ndarray_layout.specs.ShapeBuilder.{custom_strides, strides_list};
 ghost use Rattle.ndarray_layout.specs.ShapeFault.{shape_fault};
 ghost use Rattle.nd_lent.specs.ArrayView.{HasItems};
-ghost use Rattle.nd_parts.specs.Items.{view_from_0};
+ghost use Rattle.nd_lent.specs.Items.{view_from_0};
 
 use crate::array_view::ArrayView;
 use ndarray_layout::{CanIndexCheckMode, LayoutError, Lengths, ShapeError, StrideShape, Strided};

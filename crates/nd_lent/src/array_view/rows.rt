@@ -1,5 +1,5 @@
 //! The rows of an array one after another, each lent.
-ghost use Rattle.std.specs.Iterator.{UpTo, YieldsFirst, item_count};
+ghost use Rattle.std.specs.Iterator.{UpTo, YieldsFirst, YieldsLast, item_count};
 ghost use Rattle.std.specs.Iterator.Runs.{YieldsInOrder};
 ghost use Rattle.std.specs.Iterator.SizeHint.{IsWithinCount};
 ghost use Rattle.std.specs.List.{All};
@@ -10,7 +10,7 @@ ghost use Rattle.ndarray_layout.specs.Bounds.{IsInBounds};
 ghost use Rattle.ndarray_layout.specs.Rows.{view_rows};
 ghost use Rattle.ndarray_layout.specs.View.{view_places};
 ghost use Rattle.nd_lent.specs.LentRow.{HasRow, RowValue, is_contiguous, row_items, row_of, rows_items};
-ghost use Rattle.nd_parts.specs.Items.{item_at_place};
+ghost use Rattle.nd_lent.specs.Items.{item_at_place};
 
 use crate::array_view::ArrayView;
 use crate::nearest::nearest_rows;
@@ -22,8 +22,8 @@ use std::marker::Model;
 /// `ArrayView`.
 #[derive(Drop)]
 pub struct LentRow<'a, T> {
-    items: &'a [T],
-    row: Row,
+    pub(crate) items: &'a [T],
+    pub(crate) row: Row,
 }
 
 impl<'a, T> Model for LentRow<'a, T> {
@@ -106,7 +106,7 @@ impl<'a, T> LentRow<'a, T> {
     }
 }
 
-/// The rows of an array that are still to come, in row-major order, each lent. A contract sees the list of them.
+/// The rows of an array that are still to come, in row-major order, from both ends, each lent. A contract sees the list of them.
 #[derive(Drop)]
 pub struct LentRows<'a, T> {
     items: &'a [T],
@@ -160,6 +160,19 @@ impl<'a, T> Iterator for LentRows<'a, T> {
     }
 }
 
+impl<'a, T> DoubleEndedIterator for LentRows<'a, T> {
+    ghost next_back_gives = { YieldsLast (λ left. left) };
+
+    #[inline]
+    fn next_back(&mut self) -> Option<LentRow<'a, T>> {
+        let row = self.rows.next_back()?;
+        Some(LentRow {
+            items: self.items,
+            row,
+        })
+    }
+}
+
 impl<T> ExactSizeIterator for LentRows<'_, T> {
     fn len(&self) -> usize {
         self.rows.len()
@@ -187,8 +200,8 @@ impl<'a, T, D: Lengths> ArrayView<'a, T, D> {
         LentRows::new(self.stored(), nearest_rows(self.view(), nearest))
     }
 
-    /// An iterator over the rows along the last axis, in row-major order, which knows how many are left. Each is lent. An
-    /// array without axes has one row, of one item; an array without indices has none.
+    /// An iterator over the rows along the last axis, in row-major order, from both ends, which knows how many are left. Each is
+    /// lent. An array without axes has one row, of one item; an array without indices has none.
     ///
     /// Takes no memory, and lists nothing. A row takes the time of its places (`Strided::rows`).
     ///

@@ -3,7 +3,7 @@ ghost use Rattle.std.specs.Iterator.{CallableWhile};
 ghost use Rattle.std.specs.Prelude.{Some, map, not};
 ghost use Rattle.ndarray_layout.specs.declared.Order.TheVariants.{RowMajor};
 ghost use Rattle.ndarray_layout.specs.View.{view_places};
-ghost use Rattle.nd_parts.specs.Items.{item_at_place};
+ghost use Rattle.nd_lent.specs.Items.{item_at_place};
 ghost use Rattle.nd_lent.specs.LentRow.{row_items};
 ghost use Rattle.nd_lent.specs.Lending.{lends};
 ghost use Rattle.nd_lent.specs.private.Searched.{HasSearched};

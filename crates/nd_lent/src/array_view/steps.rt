@@ -22,7 +22,7 @@ ghost use Rattle.ndarray_layout.specs.SliceFault.{out_count};
 ghost use Rattle.ndarray_layout.specs.SlicedView.{slice_of, view_slice_fault};
 ghost use Rattle.ndarray_layout.specs.SplitView.{split_fault, first_part_of, second_part_of, second_source};
 ghost use Rattle.ndarray_layout.specs.WindowsView.{window_source, windows_fault, windows_of};
-ghost use Rattle.nd_parts.specs.ArrayOfStep.{IsArrayOfStep};
+ghost use Rattle.nd_lent.specs.ArrayOfStep.{IsArrayOfStep};
 
 use crate::array_view::ArrayView;
 use ndarray_layout::{

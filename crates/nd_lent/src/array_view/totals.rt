@@ -5,7 +5,7 @@ ghost use Rattle.std.specs.Option.{option_map_or};
 ghost use Rattle.std.specs.Prelude.{◌≡◌, ◌^◌, ◌<◌, ◌↔◌, ℕ, IfSome, IsSome, List, Option, Some, true, false, map};
 ghost use Rattle.ndarray_layout.specs.declared.Order.TheVariants.{RowMajor};
 ghost use Rattle.ndarray_layout.specs.View.{view_places};
-ghost use Rattle.nd_parts.specs.Items.{item_at_place};
+ghost use Rattle.nd_lent.specs.Items.{item_at_place};
 ghost use Rattle.nd_lent.specs.LentRow.{rows_items};
 ghost use Rattle.nd_lent.specs.Lending.{lends};
 ghost use Rattle.nd_lent.specs.private.Summed.{within_u64};

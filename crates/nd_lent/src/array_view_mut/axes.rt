@@ -11,7 +11,7 @@ ghost use Rattle.ndarray_layout.specs.Memory.{NeedsNoMemory};
 ghost use Rattle.ndarray_layout.specs.PermutedView.{swap_fault, swapped_of};
 ghost use Rattle.ndarray_layout.specs.ShapeFault.{shape_fault};
 ghost use Rattle.ndarray_layout.specs.Descends.{Descends};
-ghost use Rattle.nd_parts.specs.ArrayOfStep.{IsArrayOfStep};
+ghost use Rattle.nd_lent.specs.ArrayOfStep.{IsArrayOfStep};
 
 use crate::array_view_mut::ArrayViewMut;
 use ndarray_layout::{Axis, Dimension, Ix1, LayoutError, Lengths, ShapeError};
@@ -52,7 +52,7 @@ impl<'a, T: Drop, D: Lengths> ArrayViewMut<'a, T, D> {
     /// The items of the indices with the same coordinate on each axis: `Strided::diag`.
     ///
     /// `[2,2]` over 5 6 7 8: 5 8. ndarray's `diag_mut`.
-    #[tactic(auto, using(crate::proofs::laws::OwnedViews::owned_descendant))]
+    #[tactic(auto, using(crate::proofs::Laws::OwnedViews::owned_descendant))]
     pub fn diag(self) -> ArrayViewMut<'a, T, Ix1>
         ensures array { IsArrayOfStep Descends
             (diagonal_source (length (array_of self.entry).view.shape)) diagonal_of
@@ -72,7 +72,7 @@ impl<'a, T: Drop, D: Lengths + Copy> ArrayViewMut<'a, T, D> {
     ///
     /// From (1) to (3) of `[3]` over 7 8 9: 8 9; to (4) `None`. In place of ndarray's `slice_move` by ranges.
     #[inline]
-    #[tactic(auto, using(crate::proofs::laws::OwnedViews::owned_descendant))]
+    #[tactic(auto, using(crate::proofs::Laws::OwnedViews::owned_descendant))]
     pub fn crop(self, starts: &D, ends: &D) -> Option<Self>
         ensures found { IsSome result
             ↔ RangesFit (array_of self.entry).view.shape (D.list starts.now) (D.list ends.now) }
@@ -94,7 +94,7 @@ impl<'a, T: Drop, D: Dimension> ArrayViewMut<'a, T, D> {
     /// The array with a new axis of length 1: `Strided::insert_axis`, with its errors.
     ///
     /// ndarray's `insert_axis`.
-    #[tactic(auto, using(crate::proofs::laws::OwnedViews::owned_descendant))]
+    #[tactic(auto, using(crate::proofs::Laws::OwnedViews::owned_descendant))]
     pub fn insert_axis(
         self,
         alloc: Global,

@@ -8,7 +8,7 @@ ghost use Rattle.ndarray_layout.specs.AcceptanceFrom.{acceptance_from};
 ghost use Rattle.ndarray_layout.specs.Memory.{NeedsNoMemory};
 ghost use Rattle.ndarray_layout.specs.ShapeBuilder.{custom_strides, strides_list};
 ghost use Rattle.ndarray_layout.specs.ShapeFault.{shape_fault};
-ghost use Rattle.nd_parts.specs.Items.{IsOwned, view_from_0};
+ghost use Rattle.nd_lent.specs.Items.{IsOwned, view_from_0};
 
 use crate::array_view_mut::ArrayViewMut;
 use ndarray_layout::{CanIndexCheckMode, LayoutError, Lengths, ShapeError, StrideShape, Strided};

@@ -1,11 +1,11 @@
 //! An array that is lent as a part, and the parts that slices pick of it, lent at once.
 ghost use Rattle.std.specs.Prelude.{◌≡◌, [], map, IfOk, IsOk};
 ghost use Rattle.ndarray_layout.specs.ShapeFault.{shape_fault};
-ghost use Rattle.nd_parts.specs.Lent.{array_of as array_of_part};
-ghost use Rattle.nd_parts.specs.Slices.{IsFaultOfSlices, slice_array};
+ghost use Rattle.nd_lent.specs.Lent.{array_of as array_of_part};
+ghost use Rattle.nd_lent.specs.Slices.{IsFaultOfSlices, slice_array};
 
 use crate::array_view_mut::ArrayViewMut;
-use nd_parts::PartMut;
+use crate::part::PartMut;
 use ndarray_layout::{IxDyn, LayoutError, Lengths, SliceElems};
 use std::alloc::Global;
 

@@ -13,7 +13,7 @@ ghost use Rattle.ndarray_layout.specs.ShapeFault.{shape_fault};
 ghost use Rattle.ndarray_layout.specs.SliceFault.{out_count};
 ghost use Rattle.ndarray_layout.specs.SlicedView.{slice_of, view_slice_fault};
 ghost use Rattle.ndarray_layout.specs.Descends.{Descends};
-ghost use Rattle.nd_parts.specs.ArrayOfStep.{IsArrayOfStep};
+ghost use Rattle.nd_lent.specs.ArrayOfStep.{IsArrayOfStep};
 
 use crate::array_view_mut::ArrayViewMut;
 use ndarray_layout::{Axis, Fit, LayoutError, Lengths, Order, RemoveAxis, SliceElems};
@@ -26,7 +26,7 @@ impl<'a, T: Drop, D: Lengths> ArrayViewMut<'a, T, D> {
     ///
     /// `1..` of `[3]` over 7 8 9: 8 9. ndarray's `slice_move`.
     #[inline]
-    #[tactic(auto, using(crate::proofs::laws::OwnedViews::owned_descendant))]
+    #[tactic(auto, using(crate::proofs::Laws::OwnedViews::owned_descendant))]
     pub fn slice<E: Lengths, S: SliceElems>(
         self,
         alloc: Global,
@@ -51,7 +51,7 @@ impl<'a, T: Drop, D: Lengths> ArrayViewMut<'a, T, D> {
     /// The transpose: `Strided::reversed_axes`.
     ///
     /// (2,1) of the result is (1,2) of the array. ndarray's `reversed_axes`.
-    #[tactic(auto, using(crate::proofs::laws::OwnedViews::owned_descendant))]
+    #[tactic(auto, using(crate::proofs::Laws::OwnedViews::owned_descendant))]
     pub fn reversed_axes(self) -> Self
         ensures array { IsArrayOfStep Descends reverse reversed_of
             (array_of self.entry) (array_of result) }
@@ -65,7 +65,7 @@ impl<'a, T: Drop, D: Lengths> ArrayViewMut<'a, T, D> {
     /// The axes in another order: `Strided::permuted_axes`, with its errors.
     ///
     /// ndarray's `permuted_axes`.
-    #[tactic(auto, using(crate::proofs::laws::OwnedViews::owned_descendant))]
+    #[tactic(auto, using(crate::proofs::Laws::OwnedViews::owned_descendant))]
     pub fn permuted_axes(self, alloc: Global, axes: &[Axis]) -> Result<Self, LayoutError>
         ensures fault { shape_fault result ≡
             permute_fault (array_of self.entry).view.shape (axis_numbers axes.now) }
@@ -85,7 +85,7 @@ impl<'a, T: Drop, D: Lengths> ArrayViewMut<'a, T, D> {
     /// The same items along another shape, in an order: `Strided::reshape`, with its errors.
     ///
     /// ndarray's `into_shape_with_order`.
-    #[tactic(auto, using(crate::proofs::laws::OwnedViews::owned_descendant))]
+    #[tactic(auto, using(crate::proofs::Laws::OwnedViews::owned_descendant))]
     pub fn reshape<E: Lengths>(
         self,
         alloc: Global,
@@ -116,7 +116,7 @@ impl<'a, T: Drop, D: Lengths> ArrayViewMut<'a, T, D> {
     /// All chunks of a shape that lie side by side, as one array: `Strided::exact_chunks`, with its errors.
     ///
     /// Chunks of `[2]` of `[5]` over 5 6 7 8 9: 5 6 and 7 8. ndarray's `exact_chunks_mut`.
-    #[tactic(auto, using(crate::proofs::laws::OwnedViews::owned_descendant))]
+    #[tactic(auto, using(crate::proofs::Laws::OwnedViews::owned_descendant))]
     pub fn exact_chunks<E: Lengths>(
         self,
         alloc: Global,
@@ -145,7 +145,7 @@ impl<'a, T: Drop, D: RemoveAxis> ArrayViewMut<'a, T, D> {
     /// The items at one coordinate of an axis, without the axis: `Strided::index_axis`, with its errors.
     ///
     /// Coordinate 1 of axis 0 of `[2,3]`: the second row. ndarray's `index_axis_move`.
-    #[tactic(auto, using(crate::proofs::laws::OwnedViews::owned_descendant))]
+    #[tactic(auto, using(crate::proofs::Laws::OwnedViews::owned_descendant))]
     pub fn index_axis(
         self,
         alloc: Global,

@@ -2,8 +2,8 @@
 ghost use Rattle.std.specs.Prelude.{◌≡◌, ◌↔◌, IsOk, OnErr, OnOk, Some};
 ghost use Rattle.std.specs.Result.{result_err};
 ghost use Rattle.ndarray_layout.specs.declared.ErrorKind.TheVariants.{IncompatibleShape};
-ghost use Rattle.nd_parts.specs.HasItems.{HasItemsOf};
-ghost use Rattle.nd_parts.specs.Items.{item_at};
+ghost use Rattle.nd_lent.specs.HasItems.{HasItemsOf};
+ghost use Rattle.nd_lent.specs.Items.{item_at};
 
 use crate::array_view::ArrayView;
 use crate::array_view_mut::ArrayViewMut;

@@ -2,7 +2,7 @@
 use Rattle.std.proofs.Common.{◌≡◌, ℕ, ◌<◌, ◌^◌, ◌↔◌, None, List, [], ◌∷◌, All, map}
 use Rattle.std.proofs.lemmas.List.Elements.{All-head, All-tail}
 use Rattle.std.specs.List.{AllZip}
-use Rattle.nd_base.proofs.laws.Options.{option_or_none}
+use Rattle.nd_base.proofs.Laws.Options.{option_or_none}
 use Rattle.nd_slice.proofs.Definitions.{Fit, PicksIntersect, SliceInfoElem, elem_fault, elem_picks, fault_of_each}
 
 abbrev pub lens_of : List (ℕ × SliceInfoElem) → List ℕ

@@ -11,9 +11,9 @@ use Rattle.std.proofs.Math.Seq.{take-append_seam}
 use Rattle.std.proofs.lemmas.Int.{ints, int_rem_euclid_is, int_wrap_fits, int_wrap-mul_right, wrapping_mul-bits}
 use Rattle.std.proofs.lemmas.List.{append_assoc, drop-drop, get_or-drop, length-drop, length-take-le, take-append-drop, take_more}
 use Rattle.std.proofs.lemmas.List.Elements.{All-head, All-pop, All-tail}
-use Rattle.nd_base.proofs.laws.Definitions.{all_signed, signed, size}
-use Rattle.nd_base.proofs.laws.Size.{size-push}
-use Rattle.nd_base.proofs.laws.Times.{times_times}
+use Rattle.nd_base.proofs.Laws.Definitions.{all_signed, signed, size}
+use Rattle.nd_base.proofs.Laws.Size.{size-push}
+use Rattle.nd_base.proofs.Laws.Times.{times_times}
 use Rattle.ndarray_layout.specs.private.ReshapeProgress.{Writes, WritesBlock, block_strides, segment}
 
 -- ---- strides of axes that are iterated over as one

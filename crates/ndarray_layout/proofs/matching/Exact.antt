@@ -10,7 +10,7 @@ use Rattle.std.proofs.lemmas.Int.{ints}
 use Rattle.std.proofs.lemmas.List.{length-map}
 use Rattle.std.proofs.lemmas.Nat.{mod_below}
 use Rattle.nd_base.specs.Size.{size, is_empty}
-use Rattle.nd_base.proofs.laws.Size.{size_of_nonempty}
+use Rattle.nd_base.proofs.Laws.Size.{size_of_nonempty}
 use Rattle.ndarray_layout.specs.reshape.ForcedStrides.{offset_at_flat_index}
 use Rattle.ndarray_layout.specs.reshape.Joints.{has_bad_joint}
 use Rattle.ndarray_layout.proofs.matching.HasIndex.{HasIndex, PlacesAlike, SamePlaces, filled, is_empty-rest, rest-has_index}

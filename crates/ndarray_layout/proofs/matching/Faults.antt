@@ -4,7 +4,7 @@ use Rattle.std.specs.Prelude.{if◌then◌else◌}
 use Rattle.std.proofs.lemmas.Bool.{eq-eqb, eqb-true, ne_eqb}
 use Rattle.nd_base.specs.declared.error.ErrorKind.{ErrorKind}
 use Rattle.nd_base.specs.declared.error.ErrorKind.TheVariants.{IncompatibleShape, IncompatibleLayout}
-use Rattle.nd_base.proofs.laws.Definitions.{size}
+use Rattle.nd_base.proofs.Laws.Definitions.{size}
 use Rattle.ndarray_layout.specs.reshape.Joints.{has_bad_joint}
 use Rattle.ndarray_layout.specs.reshape.ReshapeFault.{fault_as_read}
 use Rattle.ndarray_layout.specs.private.ReshapeProgress.{Layouts, fault_of}

@@ -6,8 +6,8 @@ use Rattle.std.proofs.Math.Nat.{add-div_right, add-mod_right, div-add-mod, div-d
 use Rattle.std.proofs.Math.Nat.{one-mul, zero-div}
 use Rattle.std.proofs.lemmas.Int.{ints}
 use Rattle.std.proofs.lemmas.Nat.{div-mul-add, mod-mul-add, mod_below}
-use Rattle.nd_base.proofs.laws.Definitions.{index_of_flat, size}
-use Rattle.nd_base.proofs.laws.Times.{times_sum, times_times}
+use Rattle.nd_base.proofs.Laws.Definitions.{index_of_flat, size}
+use Rattle.nd_base.proofs.Laws.Times.{times_sum, times_times}
 use Rattle.ndarray_layout.specs.reshape.ForcedStrides.{offset_at_flat_index}
 
 pub length-index_of_flat : (shape : List ℕ) (r : ℕ) → length (index_of_flat shape r) ≡ length shape

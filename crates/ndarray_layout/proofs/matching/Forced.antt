@@ -6,9 +6,9 @@ use Rattle.std.proofs.Math.Nat.{div-eq_of_lt, div_self, mod-eq_of_lt, mod_self, 
 use Rattle.std.proofs.lemmas.Bool.{cases_lt, cond-true, lt-ltb, ltb-true, and_parts}
 use Rattle.std.proofs.lemmas.Int.{ints}
 use Rattle.std.proofs.lemmas.List.FromFn.{length-map-range_with_len, get_or-map-range_with_len}
-use Rattle.nd_base.proofs.laws.Definitions.{below, is_index, offset_of, index_of_flat, is_empty, size}
-use Rattle.nd_base.proofs.laws.FlatIndex.{is_index-index_of_flat}
-use Rattle.nd_base.proofs.laws.Size.{size_of_nonempty, size_from, size_drop_le, drop_nonempty}
+use Rattle.nd_base.proofs.Laws.Definitions.{below, is_index, offset_of, index_of_flat, is_empty, size}
+use Rattle.nd_base.proofs.Laws.FlatIndex.{is_index-index_of_flat}
+use Rattle.nd_base.proofs.Laws.Size.{size_of_nonempty, size_from, size_drop_le, drop_nonempty}
 use Rattle.nd_dim.specs.Strides.{size_after}
 use Rattle.ndarray_layout.specs.reshape.ForcedStrides.{offset_at_flat_index, stride_of_one, stride_at}
 use Rattle.ndarray_layout.proofs.matching.FlatOffsets.{offset-first}

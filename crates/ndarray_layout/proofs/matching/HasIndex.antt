@@ -2,8 +2,8 @@
 use Rattle.std.proofs.Common.{◌≡◌, ℕ, zero, suc, ◌<◌, ◌==◌, false, ℤ, List, [], ◌∷◌, length, take, arith}
 use Rattle.std.proofs.Math.Nat.{mul-pos}
 use Rattle.std.proofs.lemmas.Bool.{false_from_ne_true, ne_eqb, or_from, or_parts}
-use Rattle.nd_base.proofs.laws.Size.{size_of_empty}
-use Rattle.nd_base.proofs.laws.Definitions.{index_of_flat, is_empty, offset_of, size, IsValidLayout}
+use Rattle.nd_base.proofs.Laws.Size.{size_of_empty}
+use Rattle.nd_base.proofs.Laws.Definitions.{index_of_flat, is_empty, offset_of, size, IsValidLayout}
 
 -- a shape with an index has one without its first axis
 pub is_empty-rest : (len : ℕ) (lens : List ℕ) → is_empty (len ∷ lens) ≡ false → is_empty lens ≡ false

@@ -7,8 +7,8 @@ use Rattle.std.proofs.Math.Bool.{and-false}
 use Rattle.std.proofs.Math.Nat.{mul-le-mul_left, mul-one, mul-pos, mul_assoc}
 use Rattle.std.proofs.lemmas.Bool.{both_ways, cases_eq, cond-false, le-ltb, ne_eqb}
 use Rattle.std.proofs.lemmas.Int.{unsigned_abs-mul}
-use Rattle.nd_base.proofs.laws.Definitions.{is_empty, limit, magnitude, size, span}
-use Rattle.nd_base.proofs.laws.Size.{size_of_nonempty}
+use Rattle.nd_base.proofs.Laws.Definitions.{is_empty, limit, magnitude, size, span}
+use Rattle.nd_base.proofs.Laws.Size.{size_of_nonempty}
 use Rattle.nd_dim.specs.Strides.{size_after, size_until}
 use Rattle.ndarray_layout.specs.reshape.ForcedStrides.{offset_at_flat_index, ones_before, strides_of_ones}
 use Rattle.ndarray_layout.specs.private.ReshapeProgress.{CanMatch, GoesOn, Layouts, fault_of, forced, forced_at, with_from, with_to}

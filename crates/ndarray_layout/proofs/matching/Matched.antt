@@ -4,8 +4,8 @@ use Rattle.std.proofs.Common.{append-nil, sym, ap, ◌∙◌, arith, subst, Some
 use Rattle.std.proofs.Math.Nat.{mul-le-mul_left}
 use Rattle.std.proofs.lemmas.List.{append_assoc, length-map, map-append}
 use Rattle.nd_base.specs.declared.error.ErrorKind.TheVariants.{IncompatibleShape}
-use Rattle.nd_base.proofs.laws.Definitions.{all_signed, below, is_empty, signed, size}
-use Rattle.nd_base.proofs.laws.Size.{size_of_nonempty}
+use Rattle.nd_base.proofs.Laws.Definitions.{all_signed, below, is_empty, signed, size}
+use Rattle.nd_base.proofs.Laws.Size.{size_of_nonempty}
 use Rattle.ndarray_layout.specs.reshape.Joints.{has_bad_joint}
 use Rattle.ndarray_layout.specs.private.ReshapeProgress.{CanMatch, GoesOn, IsBlock, IsTurn, Layouts, Writes, WritesBlock, block_strides}
 use Rattle.ndarray_layout.specs.private.ReshapeProgress.{fault_of, forced, forced_at, with_from, with_to}

@@ -8,8 +8,8 @@ use Rattle.std.proofs.lemmas.Int.{fits_signed_from_abs, unsigned_abs-mul}
 use Rattle.std.proofs.lemmas.List.{append_assoc}
 use Rattle.std.proofs.lemmas.List.Elements.{All-cons, All-nil}
 use Rattle.nd_base.specs.declared.error.ErrorKind.TheVariants.{IncompatibleShape, IncompatibleLayout}
-use Rattle.nd_base.proofs.laws.Definitions.{all_signed, is_empty, limit, magnitude, signed, size}
-use Rattle.nd_base.proofs.laws.Size.{size-push, size_of_nonempty}
+use Rattle.nd_base.proofs.Laws.Definitions.{all_signed, is_empty, limit, magnitude, signed, size}
+use Rattle.nd_base.proofs.Laws.Size.{size-push, size_of_nonempty}
 use Rattle.ndarray_layout.specs.reshape.Joints.{has_bad_joint}
 use Rattle.ndarray_layout.specs.private.ReshapeProgress.{AreHeads, CanMatch, GoesOn, IsBlock, Layouts, block_strides, fault_of}
 use Rattle.ndarray_layout.specs.private.ReshapeProgress.{forced, with_from, with_to}

@@ -8,7 +8,7 @@ use Rattle.std.proofs.Math.Bool.{and-false}
 use Rattle.std.proofs.Math.Nat.{mul-le-mul_left, mul-one, mul_assoc}
 use Rattle.std.proofs.lemmas.Bool.{ne_eqb}
 use Rattle.std.proofs.lemmas.List.{length-map, map-append}
-use Rattle.nd_base.proofs.laws.Definitions.{below, is_empty, size}
+use Rattle.nd_base.proofs.Laws.Definitions.{below, is_empty, size}
 use Rattle.ndarray_layout.specs.reshape.ForcedStrides.{ones_before, strides_of_ones}
 use Rattle.ndarray_layout.proofs.matching.BadJoints.{eqb-times}
 use Rattle.ndarray_layout.proofs.matching.HasIndex.{some-len}

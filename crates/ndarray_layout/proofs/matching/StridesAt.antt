@@ -4,8 +4,8 @@ use Rattle.std.proofs.Common.{refl, sym, ap, ap₂, ◌∙◌, arith, subst}
 use Rattle.std.specs.List.{range_with_len}
 use Rattle.std.specs.Prelude.{if◌then◌else◌, nat_lt}
 use Rattle.std.proofs.lemmas.Bool.{ltb-false, ltb-true}
-use Rattle.nd_base.proofs.laws.Definitions.{below, is_empty}
-use Rattle.nd_base.proofs.laws.Size.{length_pos}
+use Rattle.nd_base.proofs.Laws.Definitions.{below, is_empty}
+use Rattle.nd_base.proofs.Laws.Size.{length_pos}
 use Rattle.nd_dim.specs.Strides.{size_after, size_until}
 use Rattle.ndarray_layout.specs.reshape.ForcedStrides.{offset_at_flat_index, ones_before, stride_of_axis, strides_of_ones}
 use Rattle.ndarray_layout.specs.private.ReshapeProgress.{Layouts, forced, forced_at}

@@ -1,15 +1,15 @@
 -- What the matching says of axes as they are read, said of them in order.
 use Rattle.std.proofs.Common.{◌≡◌, ℕ, ◌≤◌, false, List, length, map, sym, ap, ap₂, ◌∙◌, arith, subst, None}
 use Rattle.nd_base.specs.declared.order.Order.{Order}
-use Rattle.nd_base.proofs.laws.Definitions.{below, as_read, all_signed, signed, is_empty, limit, nonzero_size, reach, span}
-use Rattle.nd_base.proofs.laws.Definitions.{IsValidLayout}
-use Rattle.nd_base.proofs.laws.NonzeroSize.{nonzero_size_of_nonempty}
-use Rattle.nd_base.proofs.laws.AsRead.{length-as_read, as_read-as_read, size-as_read, is_empty-as_read, map-as_read, sum_over_axes-as_read}
+use Rattle.nd_base.proofs.Laws.Definitions.{below, as_read, all_signed, signed, is_empty, limit, nonzero_size, reach, span}
+use Rattle.nd_base.proofs.Laws.Definitions.{IsValidLayout}
+use Rattle.nd_base.proofs.Laws.NonzeroSize.{nonzero_size_of_nonempty}
+use Rattle.nd_base.proofs.Laws.AsRead.{length-as_read, as_read-as_read, size-as_read, is_empty-as_read, map-as_read, sum_over_axes-as_read}
 use Rattle.ndarray_layout.specs.reshape.ForcedStrides.{forced_strides, stride_at}
 use Rattle.ndarray_layout.specs.reshape.SamePlaces.{Keeps}
 use Rattle.ndarray_layout.specs.reshape.ReshapeFault.{reshape_fault, fault_as_read}
 use Rattle.ndarray_layout.specs.private.ReshapeProgress.{CanMatch, Layouts, fault_of, layouts}
-use Rattle.ndarray_layout.proofs.laws.Keeps.{fault-exactly, forced-keeps}
+use Rattle.ndarray_layout.proofs.Laws.Keeps.{fault-exactly, forced-keeps}
 use Rattle.ndarray_layout.proofs.matching.HasIndex.{HasIndex}
 
 -- both as they are read

@@ -5,8 +5,8 @@ use Rattle.std.specs.Prelude.{if◌then◌else◌}
 use Rattle.std.proofs.Math.Nat.{eq_of_mul-eq-mul_left, mul-le-mul_left, mul-le-mul_right, one-mul}
 use Rattle.std.proofs.lemmas.Bool.{cases_Bool, cases_eq, cond-true, eqb-true, ne_eqb}
 use Rattle.std.proofs.lemmas.Int.{ints}
-use Rattle.nd_base.proofs.laws.Definitions.{is_empty, size}
-use Rattle.nd_base.proofs.laws.Size.{size_of_nonempty}
+use Rattle.nd_base.proofs.Laws.Definitions.{is_empty, size}
+use Rattle.nd_base.proofs.Laws.Size.{size_of_nonempty}
 use Rattle.nd_dim.specs.Strides.{size_after, size_until}
 use Rattle.ndarray_layout.specs.reshape.ForcedStrides.{offset_at_flat_index, ones_before, strides_of_ones}
 use Rattle.ndarray_layout.specs.private.ReshapeProgress.{CanMatch, GoesOn, Layouts, fault_of, forced, forced_at, with_from, with_to}

@@ -8,7 +8,7 @@ use Rattle.nd_base.specs.declared.error.ErrorKind.TheVariants.{Overflow}
 use Rattle.nd_base.specs.declared.error.LayoutError.{LayoutError}
 use Rattle.nd_base.specs.declared.error.LayoutError.TheVariants.{Shape, Memory}
 use Rattle.nd_base.specs.declared.order.Order.{Order}
-use Rattle.nd_base.proofs.laws.Definitions.{NeedsNoMemory, all_signed, is_empty, limit, nonzero_size}
+use Rattle.nd_base.proofs.Laws.Definitions.{NeedsNoMemory, all_signed, is_empty, limit, nonzero_size}
 use Rattle.ndarray_layout.specs.reshape.ForcedStrides.{forced_strides}
 use Rattle.ndarray_layout.specs.reshape.ReshapeFault.{IsErrorFor, IsOfShape, reshape_fault}
 use Rattle.ndarray_layout.specs.ReshapedView.{IsReshapeError, reshaped_strides, view_reshape_fault}

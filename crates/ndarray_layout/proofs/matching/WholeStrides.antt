@@ -4,7 +4,7 @@ use Rattle.std.proofs.Common.{inr, arith}
 use Rattle.std.proofs.Math.Nat.{mul-le-mul_left, mul-le-mul_right}
 use Rattle.std.proofs.lemmas.Bool.{cases_lt}
 use Rattle.std.proofs.lemmas.Int.{ints}
-use Rattle.nd_base.proofs.laws.Definitions.{size}
+use Rattle.nd_base.proofs.Laws.Definitions.{size}
 use Rattle.ndarray_layout.specs.reshape.ForcedStrides.{offset_at_flat_index}
 use Rattle.ndarray_layout.proofs.matching.HasIndex.{SamePlaces}
 use Rattle.ndarray_layout.proofs.matching.FlatOffsets.{offset-whole, offset-within, offset-further, next-times}

@@ -9,7 +9,7 @@ use Rattle.nd_base.specs.declared.order.Order.TheVariants.{RowMajor, ColumnMajor
 use Rattle.nd_base.specs.Signed.{signed}
 use Rattle.nd_base.specs.Size.{size}
 use Rattle.nd_shape.specs.Merge.{MergeFits}
-use Rattle.nd_shape.proofs.laws.Merge.{steps_on}
+use Rattle.nd_shape.proofs.Laws.Merge.{steps_on}
 use Rattle.ndarray_layout.specs.declared.strided.rows.Fastest.{Fastest}
 use Rattle.ndarray_layout.specs.NumberedRows.{slowest}
 use Rattle.ndarray_layout.specs.Rows.{view_rows}

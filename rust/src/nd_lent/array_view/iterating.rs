@@ -6,7 +6,7 @@ use crate::nd_lent::array_view::ArrayView;
 use crate::ndarray_layout::{Lengths, Order, Places};
 use core::iter::FusedIterator;
 
-/// The items of an array that are still to come, in row-major order of their indices, each lent.
+/// The items of an array that are still to come, in row-major order of their indices, from both ends, each lent.
 pub struct Iter<'a, T> {
     pub(crate) stored: &'a [T],
     pub(crate) places: Places<'a>,
@@ -49,6 +49,70 @@ impl<'a, T> Iter<'a, T> {
     pub fn new(stored: &'a [T], places: Places<'a>) -> Self {
         Iter { stored, places }
     }
+
+    /// Leaves out so many items, or all where fewer are left: the next one is the one that comes after them.
+    ///
+    /// Takes no memory, and no time for each item (`Places::advance`).
+    ///
+    /// Of 8 7, after one item: 7. What `nth` of std's iterators leaves out one by one.
+    ///
+    /// # Examples
+    ///
+    /// ```
+    /// use ndarray_layout::{ArrayView, Ix2, LayoutError};
+    ///
+    /// # fn main() -> Result<(), LayoutError> {
+    /// let table = ArrayView::from_shape(Ix2(2, 2).into(), &[5, 6, 7, 8])?;
+    /// let mut left = table.iter();
+    /// left.advance(3);
+    /// assert_eq!((left.next(), left.next()), (Some(&8), None));
+    /// # Ok(())
+    /// # }
+    /// ```
+    ///
+    /// <details><summary>Contract (proved)</summary>
+    ///
+    /// ```text
+    /// ensures self.new ≡ drop count self.old
+    /// ```
+    /// [How to read it](crate::contracts)
+    /// </details>
+    #[inline]
+    pub fn advance(&mut self, count: usize) {
+        self.places.advance(count);
+    }
+
+    /// Leaves out so many items at the back, or all where fewer are left: the last one is the one that comes before them.
+    ///
+    /// Takes no memory, and no time for each item (`Places::advance_back`).
+    ///
+    /// Of 8 7, without the last item: 8. What `nth_back` of std's iterators leaves out one by one.
+    ///
+    /// # Examples
+    ///
+    /// ```
+    /// use ndarray_layout::{ArrayView, Ix2, LayoutError};
+    ///
+    /// # fn main() -> Result<(), LayoutError> {
+    /// let table = ArrayView::from_shape(Ix2(2, 2).into(), &[5, 6, 7, 8])?;
+    /// let mut left = table.iter();
+    /// left.advance_back(3);
+    /// assert_eq!((left.next_back(), left.next_back()), (Some(&5), None));
+    /// # Ok(())
+    /// # }
+    /// ```
+    ///
+    /// <details><summary>Contract (proved)</summary>
+    ///
+    /// ```text
+    /// ensures self.new ≡ take (length self.old - count) self.old
+    /// ```
+    /// [How to read it](crate::contracts)
+    /// </details>
+    #[inline]
+    pub fn advance_back(&mut self, count: usize) {
+        self.places.advance_back(count);
+    }
 }
 
 impl<'a, T> Iterator for Iter<'a, T> {
@@ -69,6 +133,15 @@ impl<'a, T> Iterator for Iter<'a, T> {
     crate::arrays::fold_iter!();
 }
 
+impl<'a, T> DoubleEndedIterator for Iter<'a, T> {
+    #[inline]
+    fn next_back(&mut self) -> Option<&'a T> {
+        let place = self.places.next_back()?;
+        let stored = self.stored;
+        Some(&stored[place])
+    }
+}
+
 impl<T> ExactSizeIterator for Iter<'_, T> {
     #[inline]
     fn len(&self) -> usize {
@@ -80,7 +153,7 @@ impl<T> FusedIterator for Iter<'_, T> {}
 
 impl<'a, T, D: Lengths> ArrayView<'a, T, D> {
     /// An iterator over the items of all indices, in row-major order (the last axis moves fastest), which knows how many
-    /// are left. Spare items aren't among them.
+    /// are left and gives the last ones as well. Spare items aren't among them.
     ///
     /// Takes no memory, and lists nothing. An item takes the time of its place (`Strided::iter_places`).
     ///

@@ -174,7 +174,7 @@ impl<'a, T> LentRow<'a, T> {
     }
 }
 
-/// The rows of an array that are still to come, in row-major order, each lent.
+/// The rows of an array that are still to come, in row-major order, from both ends, each lent.
 pub struct LentRows<'a, T> {
     items: &'a [T],
     rows: Rows<'a>,
@@ -214,6 +214,14 @@ impl<'a, T> Iterator for LentRows<'a, T> {
     #[inline]
     fn size_hint(&self) -> (usize, Option<usize>) {
         self.rows.size_hint()
+    }
+}
+
+impl<'a, T> DoubleEndedIterator for LentRows<'a, T> {
+    #[inline]
+    fn next_back(&mut self) -> Option<LentRow<'a, T>> {
+        let row = self.rows.next_back()?;
+        Some(LentRow { items: self.items, row })
     }
 }
 
@@ -258,8 +266,8 @@ impl<'a, T, D: Lengths> ArrayView<'a, T, D> {
         LentRows::new(self.stored(), nearest_rows(self.view(), nearest))
     }
 
-    /// An iterator over the rows along the last axis, in row-major order, which knows how many are left. Each is lent. An
-    /// array without axes has one row, of one item; an array without indices has none.
+    /// An iterator over the rows along the last axis, in row-major order, from both ends, which knows how many are left. Each is
+    /// lent. An array without axes has one row, of one item; an array without indices has none.
     ///
     /// Takes no memory, and lists nothing. A row takes the time of its places (`Strided::rows`).
     ///

@@ -3,7 +3,7 @@
 
 use crate::memory::prelude::Vec;
 use crate::nd_lent::array_view_mut::ArrayViewMut;
-use crate::nd_parts::PartMut;
+use crate::nd_lent::part::PartMut;
 use crate::ndarray_layout::{IxDyn, LayoutError, Lengths, SliceElems};
 
 impl<'a, T: Sized, D: Lengths> ArrayViewMut<'a, T, D> {

@@ -111,6 +111,7 @@ impl RowEnds for Rows<'_> {
 
 /// The places of a view that are still to come, in an order, from both ends: `Places` of `iter_places` and `IntoPlaces`
 /// of `into_places`.
+#[derive(Clone)]
 pub struct PlacesOf<R: RowEnds> {
     rows: R,
     // What is left of the last row that has begun at the back.
@@ -445,7 +446,7 @@ impl<R: RowEnds> DoubleEndedIterator for PlacesOf<R> {
         Some(place_along_axis(row.start, row.len, unsigned(row.stride)))
     }
 
-    crate::arrays::skip_places_back!();
+    crate::arrays::skip_back!();
 }
 
 impl<R: RowEnds> ExactSizeIterator for PlacesOf<R> {

@@ -8,7 +8,7 @@ use Rattle.std.proofs.lemmas.List.Elements.{All-head, All-tail}
 use Rattle.ndarray_layout.specs.declared.Order.TheVariants.{RowMajor}
 use Rattle.ndarray_layout.specs.Indices.{indices_in, is_index}
 use Rattle.ndarray_layout.specs.View.{View}
-use Rattle.ndarray_layout.proofs.laws.Indices.{All-indices_in, length-indices_in}
+use Rattle.ndarray_layout.proofs.Laws.Indices.{All-indices_in, length-indices_in}
 use Rattle.example_callers.proofs.blurs.blur.Goals as goal
 
 -- how many windows a picture has along each axis

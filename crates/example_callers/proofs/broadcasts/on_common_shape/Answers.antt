@@ -5,7 +5,7 @@ use Rattle.ndarray_layout.specs.CommonShape.{common_shape}
 use Rattle.ndarray_layout.specs.Memory.{NeedsNoMemory}
 use Rattle.ndarray_layout.specs.ShapeFault.{shape_fault}
 use Rattle.ndarray_layout.specs.View.{View}
-use Rattle.ndarray_layout.proofs.laws.CommonShape.{common_shape_count}
+use Rattle.ndarray_layout.proofs.Laws.CommonShape.{common_shape_count}
 use Rattle.example_callers.proofs.Common.{fault_in_common, fault_of_both, handed_on}
 use Rattle.example_callers.proofs.Common.{same_fault, without_error}
 use Rattle.example_callers.proofs.broadcasts.on_common_shape.Given.{Over}

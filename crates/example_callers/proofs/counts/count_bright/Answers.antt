@@ -3,7 +3,7 @@ use Rattle.std.proofs.Common.{◌≡◌, length, ap, arith}
 use Rattle.std.proofs.Common.{rules}
 use Rattle.ndarray_layout.specs.declared.Order.TheVariants.{RowMajor}
 use Rattle.ndarray_layout.specs.Indices.{indices_in}
-use Rattle.ndarray_layout.proofs.laws.Indices.{length-indices_in}
+use Rattle.ndarray_layout.proofs.Laws.Indices.{length-indices_in}
 use Rattle.example_callers.proofs.counts.count_bright.Goals as goal
 
 pub loop-index-init : goal.loop-index-init

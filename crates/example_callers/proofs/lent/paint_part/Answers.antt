@@ -2,8 +2,8 @@
 use Rattle.std.proofs.Common.{length, Some, subst}
 use Rattle.ndarray_layout.specs.CroppedView.{crop_source}
 use Rattle.ndarray_layout.specs.Dim.{lengths}
-use Rattle.nd_lent.proofs.laws.OwnedViews.{owned_descendant}
-use Rattle.nd_lent.proofs.laws.PartItems.{part_written}
+use Rattle.nd_lent.proofs.Laws.OwnedViews.{owned_descendant}
+use Rattle.nd_lent.proofs.Laws.PartItems.{part_written}
 use Rattle.nd_lent.specs.WrittenPart.{HasWrittenPart}
 use Rattle.example_callers.proofs.lent.paint_part.Goals as goal
 

@@ -3,7 +3,7 @@ use Rattle.std.proofs.lemmas.Bool.{both_ways}
 use Rattle.ndarray_layout.specs.declared.Fit.TheVariants.{Strict}
 use Rattle.ndarray_layout.specs.declared.Order.TheVariants.{RowMajor}
 use Rattle.ndarray_layout.specs.SlicedView.{slice_of}
-use Rattle.ndarray_layout.proofs.laws.SharePlace.{AreItsPlaces, shared_place_of_lists}
+use Rattle.ndarray_layout.proofs.Laws.SharePlace.{AreItsPlaces, shared_place_of_lists}
 use Rattle.example_callers.proofs.parts.separate_places.Goals as goal
 
 pub returns-clause-separate : goal.returns-clause-separate

@@ -4,12 +4,12 @@ use Rattle.std.specs.Prelude.{slice_index}
 use Rattle.ndarray_layout.specs.IndexedView.{indexed_of}
 use Rattle.ndarray_layout.specs.SharePlace.{SharePlace}
 use Rattle.ndarray_layout.specs.View.{View}
-use Rattle.ndarray_layout.proofs.laws.CollapsedView.{coordinate_of_no_fault}
-use Rattle.ndarray_layout.proofs.laws.IndexedView.{Descends-indexed_of}
-use Rattle.ndarray_layout.proofs.laws.IsIndex.{coordinate_of_index}
-use Rattle.nd_lent.proofs.laws.OwnedViews.{owned_descendant}
-use Rattle.nd_lent.proofs.laws.PlanesWritten.{index_of_its_plane, plane_at, plane_written, planes_are_apart}
-use Rattle.nd_lent.proofs.laws.PartsWritten.{PartOf, parts_written}
+use Rattle.ndarray_layout.proofs.Laws.CollapsedView.{coordinate_of_no_fault}
+use Rattle.ndarray_layout.proofs.Laws.IndexedView.{Descends-indexed_of}
+use Rattle.ndarray_layout.proofs.Laws.IsIndex.{coordinate_of_index}
+use Rattle.nd_lent.proofs.Laws.OwnedViews.{owned_descendant}
+use Rattle.nd_lent.proofs.Laws.PlanesWritten.{index_of_its_plane, plane_at, plane_written, planes_are_apart}
+use Rattle.nd_lent.proofs.Laws.PartsWritten.{PartOf, parts_written}
 use Rattle.example_callers.proofs.planes.paint_planes.Goals as goal
 
 pub paint_three-requires-clause-green : goal.paint_three-requires-clause-green

@@ -1,11 +1,11 @@
 -- The parts are taken of what those before leave, and what they wrote is put back, last taken first.
 use Rattle.std.proofs.Common.{rules, ◌≡◌, sym, subst, length, replicate, true, Option, Some, Bool, List, ℕ}
 use Rattle.ndarray_layout.specs.View.{View}
-use Rattle.nd_parts.specs.Cells.{without}
-use Rattle.nd_parts.specs.Part.{IsPart, marks_of}
-use Rattle.nd_parts.proofs.laws.Marks.{owned_beside, part_beside}
-use Rattle.nd_parts.specs.HasItems.{HasItemsOf}
-use Rattle.nd_lent.proofs.laws.PutBackItems.{part_put_back}
+use Rattle.nd_lent.specs.Cells.{without}
+use Rattle.nd_lent.specs.Part.{IsPart, marks_of}
+use Rattle.nd_lent.proofs.Laws.Marks.{owned_beside, part_beside}
+use Rattle.nd_lent.specs.HasItems.{HasItemsOf}
+use Rattle.nd_lent.proofs.Laws.PutBackItems.{part_put_back}
 use Rattle.example_callers.proofs.planes.paint_three.Goals as goal
 
 pub take-green_part-requires : goal.take-green_part-requires

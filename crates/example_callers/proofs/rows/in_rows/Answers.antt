@@ -5,7 +5,7 @@ use Rattle.ndarray_layout.specs.FlatIndex.{index_of_flat_in}
 use Rattle.ndarray_layout.specs.Indices.{is_index}
 use Rattle.ndarray_layout.specs.ReshapedView.{reshape_source}
 use Rattle.ndarray_layout.specs.View.{place_at}
-use Rattle.ndarray_layout.proofs.laws.RowMajor.{source_in_row, index_of_list}
+use Rattle.ndarray_layout.proofs.Laws.RowMajor.{source_in_row, index_of_list}
 use Rattle.example_callers.proofs.rows.in_rows.Goals as goal
 
 pub returns-clause-place : goal.returns-clause-place

@@ -14,8 +14,8 @@ use Rattle.ndarray_layout.specs.SlicedLayout.{sliced_shape}
 use Rattle.nd_owned.specs.ArrayOfStep.{ShowsItemsOf}
 use Rattle.nd_owned.specs.Owned.{ArrayValue, item_at}
 use Rattle.ndarray_layout.specs.SlicedView.{slice_of}
-use Rattle.ndarray_layout.proofs.laws.Between.{pick_down}
-use Rattle.ndarray_layout.proofs.laws.UnitStep.{length-picks_by_one, pick_of_all}
+use Rattle.ndarray_layout.proofs.Laws.Between.{pick_down}
+use Rattle.ndarray_layout.proofs.Laws.UnitStep.{length-picks_by_one, pick_of_all}
 use Rattle.example_callers.proofs.slices.alternate_rows.Goals as goal
 
 -- every other row from the last one up, and all columns

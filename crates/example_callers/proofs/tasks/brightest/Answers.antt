@@ -1,5 +1,5 @@
 -- An index has the greatest pixel, and none has a greater one.
-use Rattle.nd_lent.proofs.laws.FirstItems.{index_of_first, none_above_greatest}
+use Rattle.nd_lent.proofs.Laws.FirstItems.{index_of_first, none_above_greatest}
 use Rattle.example_callers.proofs.tasks.brightest.Goals as goal
 
 pub returns-clause-is_one : goal.returns-clause-is_one

@@ -8,7 +8,7 @@ use Rattle.ndarray_layout.specs.Indices.{is_index}
 use Rattle.ndarray_layout.specs.View.{view_places}
 use Rattle.nd_lent.specs.Extremes.{IsFirstOf}
 use Rattle.nd_owned.specs.Owned.{ArrayValue, item_at, item_at_place}
-use Rattle.nd_lent.proofs.laws.FirstItems.{index_of_first, none_before_first}
+use Rattle.nd_lent.proofs.Laws.FirstItems.{index_of_first, none_before_first}
 use Rattle.example_callers.proofs.tasks.darkest.Goals as goal
 
 pub returns-clause-is_one : goal.returns-clause-is_one

@@ -10,7 +10,7 @@ use Rattle.std.proofs.lemmas.List.{get_or_default}
 use Rattle.ndarray_layout.specs.declared.Order.TheVariants.{RowMajor}
 use Rattle.ndarray_layout.specs.View.{view_places}
 use Rattle.nd_owned.specs.Owned.{item_at_place}
-use Rattle.nd_lent.proofs.laws.IndexItems.{Contains-item_at, index_of_item}
+use Rattle.nd_lent.proofs.Laws.IndexItems.{Contains-item_at, index_of_item}
 use Rattle.example_callers.proofs.tasks.is_brighter.Goals as goal
 
 not_both : (bound : ℕ) (pixel : Option ℕ) → IsSomeAnd pixel (λ n. bound < n) → IfSome pixel (λ n. n ≤ bound) → ⊥

@@ -7,7 +7,7 @@ use Rattle.std.proofs.lemmas.Iterator.Consumers.{YieldsList-from_first}
 use Rattle.ndarray_layout.specs.declared.Order.TheVariants.{RowMajor}
 use Rattle.ndarray_layout.specs.View.{view_places}
 use Rattle.nd_owned.specs.Owned.{item_at_place}
-use Rattle.nd_lent.proofs.laws.IndexItems.{of_each_index}
+use Rattle.nd_lent.proofs.Laws.IndexItems.{of_each_index}
 use Rattle.example_callers.proofs.tasks.is_darker.Goals as goal
 
 pub returns : goal.returns

@@ -1,6 +1,6 @@
 -- The pixels of the picture backwards are those of the sources of its indices.
 use Rattle.std.proofs.Common.{◌∙◌}
-use Rattle.nd_lent.proofs.laws.StepItems.{items_of_sources}
+use Rattle.nd_lent.proofs.Laws.StepItems.{items_of_sources}
 use Rattle.example_callers.proofs.tasks.mirror.Goals as goal
 
 pub returns : goal.returns

@@ -2,7 +2,7 @@
 use Rattle.std.proofs.Common.{◌≡◌, IfSome, subst}
 use Rattle.std.specs.List.{sum_by}
 use Rattle.std.specs.Option.{option_map_or}
-use Rattle.nd_lent.proofs.laws.StepItems.{items_of_step}
+use Rattle.nd_lent.proofs.Laws.StepItems.{items_of_step}
 use Rattle.example_callers.proofs.tasks.sum_of_crop.Goals as goal
 
 pub returns : goal.returns

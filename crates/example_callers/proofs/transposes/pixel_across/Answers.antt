@@ -2,7 +2,7 @@
 use Rattle.std.proofs.Common.{◌≡◌, ℕ, Bool, true, false, [], ◌∷◌, refl, sym, ap, ◌∙◌, rules, reverse}
 use Rattle.ndarray_layout.specs.Indices.{is_index}
 use Rattle.ndarray_layout.specs.PermutedView.{reversed_of}
-use Rattle.ndarray_layout.proofs.laws.IsIndex.{is_index-reverse}
+use Rattle.ndarray_layout.proofs.Laws.IsIndex.{is_index-reverse}
 use Rattle.nd_owned.specs.ArrayOfStep.{ShowsItemsOf}
 use Rattle.nd_owned.specs.Owned.{ArrayValue, item_at}
 use Rattle.example_callers.proofs.transposes.pixel_across.Goals as goal

@@ -1,8 +1,8 @@
 use Rattle.std.proofs.Common.{sym, subst, length}
 use Rattle.ndarray_layout.specs.SharePlace.{SharePlace}
 use Rattle.ndarray_layout.specs.SplitView.{second_part_of}
-use Rattle.ndarray_layout.proofs.laws.SplitView.{parts_are_apart}
-use Rattle.nd_lent.proofs.laws.OwnedViews.{owned_descendant}
+use Rattle.ndarray_layout.proofs.Laws.SplitView.{parts_are_apart}
+use Rattle.nd_lent.proofs.Laws.OwnedViews.{owned_descendant}
 use Rattle.example_callers.proofs.wholes.set_halves.Goals as goal
 
 pub set_two-requires-clause-first : goal.set_two-requires-clause-first

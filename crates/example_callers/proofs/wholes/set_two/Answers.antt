@@ -1,9 +1,9 @@
 use Rattle.std.proofs.Common.{rules, ◌≡◌, ◌∙◌, subst, [], ◌∷◌, length, replicate, true, Bool, List, ℕ}
-use Rattle.nd_parts.specs.Cells.{chosen_of, without}
-use Rattle.nd_parts.specs.Items.{with_item}
-use Rattle.nd_parts.specs.Part.{IsPart, marks_of}
-use Rattle.nd_parts.proofs.laws.Marks.{owned_beside}
-use Rattle.nd_parts.proofs.laws.PutBack.{two_put_back}
+use Rattle.nd_lent.specs.Cells.{chosen_of, without}
+use Rattle.nd_lent.specs.Items.{with_item}
+use Rattle.nd_lent.specs.Part.{IsPart, marks_of}
+use Rattle.nd_lent.proofs.Laws.Marks.{owned_beside}
+use Rattle.nd_lent.proofs.Laws.PutBack.{two_put_back}
 use Rattle.example_callers.proofs.wholes.set_two.Goals as goal
 
 pub take-right-requires : goal.take-right-requires

@@ -1,6 +1,6 @@
 -- Of all that is written, these are the first and the second; they share no index, since their writes have no error.
 use Rattle.std.proofs.Common.{arith}
-use Rattle.nd_lent.proofs.laws.Faults.{on_ok}
+use Rattle.nd_lent.proofs.Laws.Faults.{on_ok}
 use Rattle.nd_owned.specs.MultiSet.{write_of}
 use Rattle.example_callers.proofs.writes.write_two_parts.Goals as goal
 

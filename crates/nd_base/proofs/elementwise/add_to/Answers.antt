@@ -1,7 +1,7 @@
 -- What the loop reads is what the lists had, and each turn combines one more item.
 use Rattle.std.proofs.Common.{◌+◌, ◌<◌, ◌^◌, arith}
 use Rattle.std.proofs.lemmas.List.Elements.{length_all_zip}
-use Rattle.nd_base.proofs.laws.ElementwiseLoop.{combined_read, combined_more, combined_all}
+use Rattle.nd_base.proofs.Laws.ElementwiseLoop.{combined_read, combined_more, combined_all}
 use Rattle.nd_base.proofs.elementwise.add_to.Goals as goal
 
 pub overflow_add-lens : goal.overflow_add-lens

@@ -1,6 +1,6 @@
 -- The items below the axis are combined, the others as they were.
 use Rattle.std.proofs.Common.{◌≡◌, ◌-◌}
-use Rattle.nd_base.proofs.laws.ElementwiseLoop.{combined}
+use Rattle.nd_base.proofs.Laws.ElementwiseLoop.{combined}
 use Rattle.nd_base.proofs.elementwise.subtract_from.Given as goal
 
 abbrev pub invariant-loop-axis : goal.invariant-loop-axis

@@ -3,7 +3,7 @@ use Rattle.std.specs.Prelude.{IsTrue, slice_index, ◌↔◌}
 use Rattle.std.proofs.lemmas.Bool.{ne_eqb}
 use Rattle.std.proofs.lemmas.Bool.Decides.{same_from_decides}
 use Rattle.nd_base.specs.Indices.{is_index as is_index_of_shape}
-use Rattle.nd_base.proofs.laws.IsIndex.{is_index_from_coordinates, coordinate_of_index}
+use Rattle.nd_base.proofs.Laws.IsIndex.{is_index_from_coordinates, coordinate_of_index}
 use Rattle.nd_base.proofs.IndexOffsets.{is_index_of_count}
 use Rattle.nd_base.proofs.indices.is_index.Goals as goal
 

@@ -1,8 +1,8 @@
 use Rattle.std.proofs.Common.{◌+◌, get_or, to_z, w64, arith}
 use Rattle.std.proofs.lemmas.Int.{ints, to_z-of_z}
-use Rattle.nd_base.proofs.laws.Definitions.{signed}
+use Rattle.nd_base.proofs.Laws.Definitions.{signed}
 use Rattle.nd_base.proofs.IndexOffsets.{IsNextPart, added, coordinate_offset, offset_from_step, offset_from_end}
-use Rattle.nd_base.proofs.laws.Span.{sum_from, sum_from_step}
+use Rattle.nd_base.proofs.Laws.Span.{sum_from, sum_from_step}
 use Rattle.nd_base.proofs.offsets.index_offset.Goals as goal
 use Rattle.nd_base.proofs.offsets.index_offset.Goals.{In-loop-axis}
 

@@ -1,8 +1,8 @@
 -- The offset so far, and that of the axes still to come, make the whole; it is no farther than they allow.
 use Rattle.std.proofs.Common.{◌≡◌, pos, ◌+ℤ◌, ◌≤ℤ◌}
-use Rattle.nd_base.proofs.laws.Definitions.{offset_of, all_signed, limit}
+use Rattle.nd_base.proofs.Laws.Definitions.{offset_of, all_signed, limit}
 use Rattle.nd_base.proofs.IndexOffsets.{coordinate_offset, offset_from}
-use Rattle.nd_base.proofs.laws.Span.{sum_from}
+use Rattle.nd_base.proofs.Laws.Span.{sum_from}
 use Rattle.nd_base.proofs.offsets.index_offset.Given as goal
 
 abbrev pub invariant-loop-axis : goal.invariant-loop-axis

@@ -2,12 +2,12 @@ use Rattle.std.proofs.Common.{refl, sym, ◌≡◌, ◌+◌, get_or, true, to_z,
 use Rattle.std.specs.Prelude.{Some}
 use Rattle.std.proofs.lemmas.Int.{ints, to_z-of_z}
 use Rattle.std.proofs.lemmas.List.{length-map}
-use Rattle.nd_base.proofs.laws.Definitions.{is_index, offset_of, all_signed, signed, reach}
+use Rattle.nd_base.proofs.Laws.Definitions.{is_index, offset_of, all_signed, signed, reach}
 use Rattle.nd_base.proofs.IndexOffsets.{IsNextPart, added, is_index_of_count, is_index_of_coordinate, coordinate_offset_le}
 use Rattle.nd_base.proofs.IndexOffsets.{offset_from_step, offset_from_end}
-use Rattle.nd_base.proofs.laws.IsIndex.{is_index_from_coordinates}
-use Rattle.nd_base.proofs.laws.NonzeroSize.{length_le_nonzero_size}
-use Rattle.nd_base.proofs.laws.Span.{sum_from, sum_from_step}
+use Rattle.nd_base.proofs.Laws.IsIndex.{is_index_from_coordinates}
+use Rattle.nd_base.proofs.Laws.NonzeroSize.{length_le_nonzero_size}
+use Rattle.nd_base.proofs.Laws.Span.{sum_from, sum_from_step}
 use Rattle.nd_base.proofs.offsets.stride_offset_checked.Goals as goal
 use Rattle.nd_base.proofs.offsets.stride_offset_checked.Goals.{Else-index-axis}
 

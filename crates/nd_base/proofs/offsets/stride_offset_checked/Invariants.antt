@@ -1,9 +1,9 @@
 -- Each coordinate so far is below its length. The offset so far, and that of the axes still to come, make the whole, and it is
 -- no farther than the reach of those axes allows.
 use Rattle.std.proofs.Common.{◌≡◌, ℕ, ◌<◌, get_or, pos, ◌+ℤ◌, ◌≤ℤ◌}
-use Rattle.nd_base.proofs.laws.Definitions.{offset_of, all_signed, limit, reach}
+use Rattle.nd_base.proofs.Laws.Definitions.{offset_of, all_signed, limit, reach}
 use Rattle.nd_base.proofs.IndexOffsets.{offset_from}
-use Rattle.nd_base.proofs.laws.Span.{sum_from}
+use Rattle.nd_base.proofs.Laws.Span.{sum_from}
 use Rattle.nd_base.proofs.offsets.stride_offset_checked.Given as goal
 
 abbrev pub invariant-loop-axis : goal.invariant-loop-axis

@@ -3,9 +3,9 @@ use Rattle.std.proofs.lemmas.Bool.{cond-false}
 use Rattle.std.proofs.lemmas.List.FromFn.{fill_by_all}
 use Rattle.nd_base.specs.Size.{size}
 use Rattle.nd_dim.specs.Strides.{size_after, default_strides}
-use Rattle.nd_dim.proofs.laws.Strides.{default_at}
-use Rattle.nd_base.proofs.laws.NonzeroSize.{size_le_nonzero_size}
-use Rattle.nd_base.proofs.laws.Size.{size_drop_le, size_drop_more}
+use Rattle.nd_dim.proofs.Laws.Strides.{default_at}
+use Rattle.nd_base.proofs.Laws.NonzeroSize.{size_le_nonzero_size}
+use Rattle.nd_base.proofs.Laws.Size.{size_drop_le, size_drop_more}
 use Rattle.nd_dim.proofs.contiguous.has_default_strides.Goals as goal
 
 pub overflow_mul-size : goal.overflow_mul-size

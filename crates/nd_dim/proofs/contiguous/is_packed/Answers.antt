@@ -1,7 +1,7 @@
 use Rattle.std.proofs.Common.{◌≡◌, false, get_or, length, arith, sym, ◌∙◌}
 use Rattle.std.proofs.lemmas.Bool.{both_ways, false_from_ne_true, or_from, ne_eqb}
-use Rattle.nd_base.proofs.laws.Below.{all_below, passes_below}
-use Rattle.nd_base.proofs.laws.Definitions.{all_signed, size}
+use Rattle.nd_base.proofs.Laws.Below.{all_below, passes_below}
+use Rattle.nd_base.proofs.Laws.Definitions.{all_signed, size}
 use Rattle.nd_dim.specs.StrideOrder.{magnitude_at}
 use Rattle.nd_dim.specs.Contiguous.{lens_before, is_packed_at}
 use Rattle.nd_dim.proofs.contiguous.is_packed.Goals as goal

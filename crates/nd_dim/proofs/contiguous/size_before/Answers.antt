@@ -1,5 +1,5 @@
 use Rattle.std.proofs.Common.{◌+◌, ◌*◌, drop, get_or, arith, sym, ◌∙◌, ℕ}
-use Rattle.nd_base.proofs.laws.Definitions.{all_signed, limit}
+use Rattle.nd_base.proofs.Laws.Definitions.{all_signed, limit}
 use Rattle.nd_dim.specs.StrideOrder.{comes_before}
 use Rattle.nd_dim.proofs.Packed.{chosen_taken, chosen_left}
 use Rattle.nd_dim.proofs.Products.{room_taken, room_left, within_room}

@@ -1,7 +1,7 @@
 -- The product of the chosen lengths so far, which leaves room for the later ones.
 use Rattle.std.proofs.Common.{◌≡◌, ◌≤◌, ◌*◌, drop, map}
 use Rattle.std.specs.List.{filter, slice_index}
-use Rattle.nd_base.proofs.laws.Definitions.{below, all_signed, limit, nonzero_size, size}
+use Rattle.nd_base.proofs.Laws.Definitions.{below, all_signed, limit, nonzero_size, size}
 use Rattle.nd_dim.specs.StrideOrder.{comes_before}
 use Rattle.nd_dim.proofs.contiguous.size_before.Given as goal
 

@@ -1,5 +1,5 @@
 use Rattle.std.proofs.Common.{ℕ, ◌+◌, length, set, arith, length-set, refl, set-set, sym, ap, subst, ◌∙◌}
-use Rattle.nd_base.proofs.laws.IsIndex.{length_of_index}
+use Rattle.nd_base.proofs.Laws.IsIndex.{length_of_index}
 use Rattle.nd_dim.proofs.Stepped.{IsCarried, carried_first, carried_coordinate, carried_more, carried_step, carried_end}
 use Rattle.nd_dim.proofs.next_index.advance.Goals as goal
 

@@ -2,10 +2,10 @@ use Rattle.std.proofs.Common.{rules, ◌≡◌, ◌+◌, ℕ, Bool, true, false,
 use Rattle.std.proofs.Common.{sym, ap, ap₂, subst, ◌∙◌, arith}
 use Rattle.std.proofs.lemmas.List.{length-reverse, reverse-reverse}
 use Rattle.nd_base.specs.declared.order.Order.TheVariants.{ColumnMajor}
-use Rattle.nd_base.proofs.laws.Definitions.{flat_index, flat_index_in, index_of_flat, index_of_flat_in}
-use Rattle.nd_base.proofs.laws.IsIndex.{is_index-reverse}
-use Rattle.nd_base.proofs.laws.Lists.{reverse-replicate}
-use Rattle.nd_base.proofs.laws.Size.{size-reverse}
+use Rattle.nd_base.proofs.Laws.Definitions.{flat_index, flat_index_in, index_of_flat, index_of_flat_in}
+use Rattle.nd_base.proofs.Laws.IsIndex.{is_index-reverse}
+use Rattle.nd_base.proofs.Laws.Lists.{reverse-replicate}
+use Rattle.nd_base.proofs.Laws.Size.{size-reverse}
 use Rattle.nd_dim.proofs.next_index.advance_row_major.Goals as goal
 
 -- both read from the back, the index has the flat index in row-major order

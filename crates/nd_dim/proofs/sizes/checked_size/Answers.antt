@@ -1,7 +1,7 @@
 use Rattle.std.proofs.Common.{◌≡◌, ◌<◌, ◌≤◌, ◌+◌, ◌*◌, ◌^◌, drop, sym, arith, ◌∙◌, get_or, mul_assoc, le-mul_of_pos_right}
 use Rattle.std.proofs.Common.{drop_of_length-le, mul-one, subst}
 use Rattle.nd_base.specs.Size.{size}
-use Rattle.nd_base.proofs.laws.Size.{size_of_empty, size_of_nonempty, drop_nonempty, size_from}
+use Rattle.nd_base.proofs.Laws.Size.{size_of_empty, size_of_nonempty, drop_nonempty, size_from}
 use Rattle.nd_dim.proofs.sizes.checked_size.Goals as goal
 
 pub returns-then-contains : goal.returns-then-contains

@@ -1,6 +1,6 @@
 use Rattle.std.proofs.Common.{◌≡◌, ◌<◌, ◌≤◌, ◌+◌, ◌*◌, drop, sym, arith, ◌∙◌, get_or, mul_assoc, le-mul_of_pos_right}
 use Rattle.nd_base.specs.Size.{size}
-use Rattle.nd_base.proofs.laws.Size.{size_of_empty, size_of_nonempty, drop_nonempty, size_from}
+use Rattle.nd_base.proofs.Laws.Size.{size_of_empty, size_of_nonempty, drop_nonempty, size_from}
 use Rattle.nd_dim.proofs.sizes.product.Goals as goal
 
 pub returns-then-contains : goal.returns-then-contains

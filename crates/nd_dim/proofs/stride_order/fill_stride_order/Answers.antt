@@ -2,8 +2,8 @@ use Rattle.std.proofs.Common.{rules, ◌+◌, get_or, length, arith, ◌∙◌, 
 use Rattle.std.specs.List.Sorted.{IsPermutation}
 use Rattle.std.proofs.lemmas.Fn.{always_returns_same}
 use Rattle.std.proofs.lemmas.List.{length-map}
-use Rattle.nd_base.proofs.laws.Below.{below_by_places}
-use Rattle.nd_base.proofs.laws.Definitions.{below, all_signed, signed}
+use Rattle.nd_base.proofs.Laws.Below.{below_by_places}
+use Rattle.nd_base.proofs.Laws.Definitions.{below, all_signed, signed}
 use Rattle.nd_dim.specs.StrideOrder.{magnitude_at}
 use Rattle.nd_dim.proofs.StrideOrderLoop.{positions_differ, before_from_not_after}
 use Rattle.nd_dim.proofs.stride_order.fill_stride_order.Goals as goal

@@ -1,9 +1,9 @@
 use Rattle.std.proofs.Common.{rules, ◌≡◌, length, reverse, sym, ap, subst, ◌∙◌, arith}
 use Rattle.std.proofs.lemmas.List.{reverse-reverse}
-use Rattle.nd_base.proofs.laws.Definitions.{size}
-use Rattle.nd_base.proofs.laws.Size.{size-reverse}
+use Rattle.nd_base.proofs.Laws.Definitions.{size}
+use Rattle.nd_base.proofs.Laws.Size.{size-reverse}
 use Rattle.nd_dim.specs.Strides.{default_strides, fortran_strides}
-use Rattle.nd_dim.proofs.laws.Strides.{default_by_fortran, default_count}
+use Rattle.nd_dim.proofs.Laws.Strides.{default_by_fortran, default_count}
 use Rattle.nd_dim.proofs.strides.default_strides.Goals as goal
 
 pub write_strides-requires-clause-size_fits : goal.write_strides-requires-clause-size_fits

@@ -1,8 +1,8 @@
 use Rattle.std.proofs.Common.{◌∙◌, ◌||◌, take, get_or, inl, inr, sym, ap, ap₂, arith}
 use Rattle.std.proofs.lemmas.Bool.{cases_Bool, ne_eqb}
 use Rattle.std.proofs.lemmas.List.{take_all, take_more}
-use Rattle.nd_base.proofs.laws.Definitions.{is_empty}
-use Rattle.nd_base.proofs.laws.Size.{is_empty-push, length_pos}
+use Rattle.nd_base.proofs.Laws.Definitions.{is_empty}
+use Rattle.nd_base.proofs.Laws.Size.{is_empty-push, length_pos}
 use Rattle.nd_dim.proofs.strides.has_zero.Goals as goal
 
 pub returns-then-item-eq0 : goal.returns-then-item-eq0

@@ -2,7 +2,7 @@ use Rattle.std.proofs.Common.{◌≡◌, ◌<◌, ◌+◌, ◌*◌, ℕ, List, l
 use Rattle.std.proofs.lemmas.List.Edits.{fill_by_more}
 use Rattle.nd_base.specs.Size.{size}
 use Rattle.nd_dim.specs.Strides.{size_until}
-use Rattle.nd_base.proofs.laws.Size.{size_take_more}
+use Rattle.nd_base.proofs.Laws.Size.{size_take_more}
 use Rattle.nd_dim.proofs.strides.write_products.Goals as goal
 
 -- the next product, as the code has it

@@ -1,8 +1,8 @@
 use Rattle.std.proofs.Common.{◌≡◌, ◌<◌, ℕ, List, length, get_or, sym, ◌∙◌, arith, one-mul, zero-mul}
 use Rattle.std.proofs.lemmas.List.{ext_get_or}
-use Rattle.nd_base.proofs.laws.Size.{size_take_le}
+use Rattle.nd_base.proofs.Laws.Size.{size_take_le}
 use Rattle.nd_dim.specs.Strides.{size_until, fortran_strides}
-use Rattle.nd_dim.proofs.laws.Strides.{fortran_at, fortran_count, zero_at}
+use Rattle.nd_dim.proofs.Laws.Strides.{fortran_at, fortran_count, zero_at}
 use Rattle.nd_dim.proofs.strides.write_strides.Goals as goal
 
 -- strides that are each as those of the shape

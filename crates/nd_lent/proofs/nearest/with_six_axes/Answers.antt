@@ -6,7 +6,7 @@ use Rattle.ndarray_layout.specs.declared.Order.TheVariants.{RowMajor}
 use Rattle.ndarray_layout.specs.Place.{places}
 use Rattle.ndarray_layout.specs.Signed.{all_signed, signed}
 use Rattle.ndarray_layout.specs.View.{View, IsView, view_places}
-use Rattle.nd_lent.proofs.SixAxes.{behind, places_behind, some_of_ok}
+use Rattle.nd_lent.proofs.SixAxes.{padded, places_padded, some_of_ok}
 use Rattle.nd_lent.proofs.nearest.with_six_axes.Given.{Over}
 use Rattle.nd_lent.proofs.nearest.with_six_axes.Goals as goal
 use Rattle.nd_lent.proofs.nearest.with_six_axes.Goals.{After-ok}
@@ -18,8 +18,8 @@ added view = 6 - length view.shape
 lens : (g : Over) (c : After-ok g) → c.slice-lens.result.now ≡ c.args.view.now.shape
 lens g c = c.slice-lens.ensures.list ∙ c.dim.ensures.list
 
-shape : (g : Over) (c : After-ok g) → c.six_axes-dim.result.index ≡ behind c.args.view.now.shape 1 (added c.args.view.now)
-shape g c = c.six_axes-dim.ensures ∙ ap (λ shape. behind shape 1 (6 - length shape)) (lens g c)
+shape : (g : Over) (c : After-ok g) → c.six_axes-dim.result.index ≡ padded c.args.view.now.shape 1 (added c.args.view.now)
+shape g c = c.six_axes-dim.ensures ∙ ap (λ shape. padded shape 1 (6 - length shape)) (lens g c)
 
 own : (g : Over) (c : After-ok g) → all_signed c.slice-strides.result.now ≡ c.args.view.now.strides
 own g c = ap all_signed c.slice-strides.ensures.list ∙ c.strides.ensures.list
@@ -29,8 +29,8 @@ count g c =
     c.start.ensures.is_view.valid.same_count ∙ sym (ap length (own g c)) ∙ length-map c.slice-strides.result.now signed
 
 strides : (g : Over) (c : After-ok g)
-    → c.six_axes-strides.result.index ≡ behind c.slice-strides.result.now 0 (added c.args.view.now)
-strides g c = c.six_axes-strides.ensures ∙ ap (λ n. behind c.slice-strides.result.now 0 (6 - n)) (sym (count g c))
+    → c.six_axes-strides.result.index ≡ padded c.slice-strides.result.now 0 (added c.args.view.now)
+strides g c = c.six_axes-strides.ensures ∙ ap (λ n. padded c.slice-strides.result.now 0 (6 - n)) (sym (count g c))
 
 same_places : (g : Over) (c : After-ok g)
     → places RowMajor c.start.result c.six_axes-dim.result.index (all_signed c.six_axes-strides.result.index)
@@ -39,8 +39,8 @@ same_places g c =
     let view = c.args.view.now in
     let start = c.start.result in
     ap (λ shape. places RowMajor start shape (all_signed c.six_axes-strides.result.index)) (shape g c)
-    ∙ ap (λ strides. places RowMajor start (behind view.shape 1 (added view)) (all_signed strides)) (strides g c)
-    ∙ places_behind start view.shape c.slice-strides.result.now (added view) (count g c)
+    ∙ ap (λ strides. places RowMajor start (padded view.shape 1 (added view)) (all_signed strides)) (strides g c)
+    ∙ places_padded start view.shape c.slice-strides.result.now (added view) (count g c)
     ∙ ap (places RowMajor start view.shape) (own g c)
     ∙ ap (λ start. places RowMajor start view.shape view.strides) c.start.ensures.place
 

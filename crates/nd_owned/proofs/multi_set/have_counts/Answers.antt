@@ -6,7 +6,7 @@ use Rattle.std.specs.Option.{option_or}
 use Rattle.std.specs.Result.{result_err}
 use Rattle.nd_owned.specs.MultiSet.{has_count, slices_fault, write_of}
 use Rattle.nd_owned.proofs.Faults.{next_count, next_fault, none_more}
-use Rattle.nd_lent.proofs.laws.Lists.{IsItem}
+use Rattle.nd_lent.proofs.Laws.Lists.{IsItem}
 use Rattle.nd_owned.proofs.multi_set.have_counts.Goals as goal
 use Rattle.nd_owned.proofs.multi_set.have_counts.Goals.{then-branch-len, else-branch-len}
 

@@ -8,13 +8,13 @@ use Rattle.ndarray_layout.specs.SliceFault.{argument_fault}
 use Rattle.ndarray_layout.specs.Size.{size}
 use Rattle.ndarray_layout.specs.SlicedView.{slice_of}
 use Rattle.ndarray_layout.specs.View.{LiesWithin, view_places}
-use Rattle.ndarray_layout.proofs.laws.View.{length-view_places}
+use Rattle.ndarray_layout.proofs.Laws.View.{length-view_places}
 use Rattle.nd_owned.specs.declared.picked_view.PickedView.{PickedView}
 use Rattle.nd_owned.specs.private.PickedView.{picked_places, view_of_picked}
 use Rattle.nd_owned.specs.MultiSet.{write_of, write_places}
 use Rattle.nd_owned.proofs.Faults.{all_pushed, ended, have_counts}
-use Rattle.nd_lent.proofs.laws.Faults.{handed_on}
-use Rattle.nd_lent.proofs.laws.Lists.{next, of_this}
+use Rattle.nd_lent.proofs.Laws.Faults.{handed_on}
+use Rattle.nd_lent.proofs.Laws.Lists.{next, of_this}
 use Rattle.nd_owned.proofs.Placed.{parts_ended, parts_pushed, parts_skipped}
 use Rattle.nd_owned.proofs.Slices.{each_count, each_fits}
 use Rattle.nd_owned.proofs.multi_set.picked_views.Goals as goal

@@ -4,7 +4,7 @@ use Rattle.std.specs.List.{flat_map}
 use Rattle.std.proofs.lemmas.List.{drop_all, drop_more}
 use Rattle.ndarray_layout.specs.declared.Order.TheVariants.{RowMajor}
 use Rattle.ndarray_layout.specs.View.{LiesWithin}
-use Rattle.ndarray_layout.proofs.laws.View.{places_lie_within}
+use Rattle.ndarray_layout.proofs.Laws.View.{places_lie_within}
 use Rattle.nd_owned.specs.private.PickedView.{picked_places, view_of_picked}
 use Rattle.nd_owned.specs.private.Written.{HasWritten}
 use Rattle.nd_owned.proofs.Placed.{AreBoth, first_distinct, none_written, parts_written, second_distinct}

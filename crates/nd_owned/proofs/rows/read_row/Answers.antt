@@ -6,7 +6,7 @@ use Rattle.ndarray_layout.specs.Bounds.{IsInBounds}
 use Rattle.ndarray_layout.specs.Rows.{row_places}
 use Rattle.nd_lent.specs.Items.{item_at_place}
 use Rattle.nd_owned.proofs.RowPlaces.{at_coordinate, copied_within, next_there, read_more}
-use Rattle.nd_lent.proofs.laws.RowItems.{begins, coordinate_in_bounds, read_neighbours, start_there}
+use Rattle.nd_lent.proofs.Laws.RowItems.{begins, coordinate_in_bounds, read_neighbours, start_there}
 use Rattle.nd_owned.proofs.rows.read_row.Goals as goal
 
 pub overflow_add-start : goal.overflow_add-start

@@ -7,7 +7,7 @@ use Rattle.ndarray_layout.specs.Rows.{row_places}
 use Rattle.nd_owned.specs.private.Written.{HasWritten}
 use Rattle.nd_owned.proofs.Placed.{none_written}
 use Rattle.nd_owned.proofs.RowPlaces.{after_first, at_coordinate, copied_within, next_there, write_more}
-use Rattle.nd_lent.proofs.laws.RowItems.{begins, coordinate_in_bounds, start_there}
+use Rattle.nd_lent.proofs.Laws.RowItems.{begins, coordinate_in_bounds, start_there}
 use Rattle.nd_owned.proofs.RowPlaces.{write_neighbours}
 use Rattle.nd_owned.proofs.rows.write_row.Goals as goal
 

@@ -5,7 +5,7 @@ use Rattle.std.proofs.lemmas.List.{length-drop, nil_from_length, take-append-dro
 use Rattle.std.proofs.lemmas.List.Elements.{All-head, All-tail}
 use Rattle.ndarray_layout.specs.declared.Order.TheVariants.{RowMajor}
 use Rattle.ndarray_layout.specs.Rows.{row_places, rows_places}
-use Rattle.ndarray_layout.proofs.laws.View.{length-view_places}
+use Rattle.ndarray_layout.proofs.Laws.View.{length-view_places}
 use Rattle.nd_owned.specs.private.Written.{AreInBounds, HasWritten}
 use Rattle.nd_owned.proofs.Placed.{first_distinct, none_written, parts_written, second_distinct}
 use Rattle.nd_owned.proofs.ViewRows.{first_and_others, length_left, rows_in_bounds}

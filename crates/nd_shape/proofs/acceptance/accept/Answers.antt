@@ -1,7 +1,7 @@
 -- Each fault is returned where the rule has it, and none where the rule accepts; the rest are laws of what is accepted.
 use Rattle.std.proofs.Common.{rules, sym}
 use Rattle.nd_base.specs.Signed.{all_signed}
-use Rattle.nd_shape.proofs.laws.Acceptance.{accepted_valid, accepted_lies_in_bounds, accepted_distinct}
+use Rattle.nd_shape.proofs.Laws.Acceptance.{accepted_valid, accepted_lies_in_bounds, accepted_distinct}
 use Rattle.nd_shape.proofs.acceptance.accept.Goals as goal
 
 pub returns-then-leaves_data-clause-fault : goal.returns-then-leaves_data-clause-fault

@@ -1,7 +1,7 @@
 use Rattle.std.proofs.Common.{sym, arith}
 use Rattle.std.proofs.lemmas.Grind.{common_steps}
-use Rattle.nd_shape.proofs.laws.AcceptanceByStrides.{standard_accepted_distinct, standard_accepted_in_bounds, standard_accepted_rule}
-use Rattle.nd_shape.proofs.laws.AcceptanceByStrides.{standard_accepted_valid}
+use Rattle.nd_shape.proofs.Laws.AcceptanceByStrides.{standard_accepted_distinct, standard_accepted_in_bounds, standard_accepted_rule}
+use Rattle.nd_shape.proofs.Laws.AcceptanceByStrides.{standard_accepted_valid}
 use Rattle.nd_shape.proofs.acceptance.can_index_slice_not_custom.Goals as goal
 
 pub returns-clause-fault : goal.returns-clause-fault

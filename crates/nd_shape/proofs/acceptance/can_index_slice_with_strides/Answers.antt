@@ -1,6 +1,6 @@
 use Rattle.std.proofs.Common.{rules, sym, ◌∙◌}
-use Rattle.nd_base.proofs.laws.Faults.{OnOk-without_error}
-use Rattle.nd_shape.proofs.laws.AcceptanceByStrides.{by_strides_valid, by_strides_in_bounds, by_strides_distinct}
+use Rattle.nd_base.proofs.Laws.Faults.{OnOk-without_error}
+use Rattle.nd_shape.proofs.Laws.AcceptanceByStrides.{by_strides_valid, by_strides_in_bounds, by_strides_distinct}
 use Rattle.nd_shape.proofs.acceptance.can_index_slice_with_strides.Goals as goal
 
 pub returns-in-C-clause-fault : goal.returns-in-C-clause-fault

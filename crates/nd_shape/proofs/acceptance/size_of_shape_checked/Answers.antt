@@ -1,8 +1,8 @@
 use Rattle.std.proofs.Common.{◌≡◌, sym, ◌∙◌, ap, arith}
 use Rattle.std.proofs.lemmas.Grind.{common_steps}
-use Rattle.nd_base.proofs.laws.Size.{size_of_empty}
+use Rattle.nd_base.proofs.Laws.Size.{size_of_empty}
 use Rattle.nd_base.specs.Size.{nonzero_size, size}
-use Rattle.nd_base.proofs.laws.NonzeroSize.{nonzero_size_of_nonempty}
+use Rattle.nd_base.proofs.Laws.NonzeroSize.{nonzero_size_of_nonempty}
 use Rattle.nd_shape.proofs.acceptance.size_of_shape_checked.Goals as goal
 use Rattle.nd_shape.proofs.acceptance.size_of_shape_checked.Goals.{then-contains, else-contains}
 

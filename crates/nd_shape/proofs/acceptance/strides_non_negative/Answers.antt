@@ -3,7 +3,7 @@ use Rattle.std.specs.Int.{is_negative}
 use Rattle.std.specs.List.{list_any}
 use Rattle.std.specs.Prelude.{◌||◌}
 use Rattle.std.proofs.lemmas.Bool.{cond-true, cond-false}
-use Rattle.nd_base.proofs.laws.Definitions.{all_signed, signed}
+use Rattle.nd_base.proofs.Laws.Definitions.{all_signed, signed}
 use Rattle.nd_shape.proofs.acceptance.strides_non_negative.Goals as goal
 
 -- a test of the strides as they are read is one of them as they are kept

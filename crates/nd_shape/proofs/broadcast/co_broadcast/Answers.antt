@@ -1,7 +1,7 @@
 use Rattle.std.proofs.Common.{◌≡◌, ◌<◌, max, length, ◌∙◌, arith}
 use Rattle.nd_base.specs.ShapeFault.{shape_fault}
 use Rattle.nd_shape.specs.CommonShape.{common_shape_fault}
-use Rattle.nd_shape.proofs.laws.CommonShape.{common_shape-commutes, common_shape_fault-commutes}
+use Rattle.nd_shape.proofs.Laws.CommonShape.{common_shape-commutes, common_shape_fault-commutes}
 use Rattle.nd_shape.proofs.broadcast.co_broadcast.Goals as goal
 
 pub returns-then-lens-others-clause-fault : goal.returns-then-lens-others-clause-fault

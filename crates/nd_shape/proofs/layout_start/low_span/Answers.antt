@@ -1,7 +1,7 @@
 use Rattle.std.proofs.Common.{rules, ◌≡◌, ◌+◌, length, arith}
 use Rattle.std.proofs.lemmas.List.{length_push}
-use Rattle.nd_base.proofs.laws.Definitions.{all_signed, signed, reach_down}
-use Rattle.nd_base.proofs.laws.Span.{sum_from, low_high_span}
+use Rattle.nd_base.proofs.Laws.Definitions.{all_signed, signed, reach_down}
+use Rattle.nd_base.proofs.Laws.Span.{sum_from, low_high_span}
 use Rattle.nd_shape.proofs.SumLoop.{sum_at_turn, sum_at_end}
 use Rattle.nd_shape.proofs.layout_start.low_span.Goals as goal
 use Rattle.nd_shape.proofs.layout_start.low_span.Goals.{In-Some}

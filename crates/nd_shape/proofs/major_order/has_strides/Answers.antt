@@ -1,10 +1,10 @@
 use Rattle.std.proofs.Common.{◌≡◌, ◌≢◌, ◌+◌, ◌*◌, inr, take, get_or, Fits, w64, arith, sym, ap₂, ◌∙◌, refl, below_more}
 use Rattle.nd_base.specs.declared.order.Order.TheVariants.{ColumnMajor}
-use Rattle.nd_base.proofs.laws.Definitions.{all_signed, size}
+use Rattle.nd_base.proofs.Laws.Definitions.{all_signed, size}
 use Rattle.nd_dim.specs.Strides.{size_until}
-use Rattle.nd_dim.proofs.laws.Strides.{fortran_at}
-use Rattle.nd_base.proofs.laws.NonzeroSize.{size_le_nonzero_size}
-use Rattle.nd_base.proofs.laws.Size.{size_take_le, size_take_more}
+use Rattle.nd_dim.proofs.Laws.Strides.{fortran_at}
+use Rattle.nd_base.proofs.Laws.NonzeroSize.{size_le_nonzero_size}
+use Rattle.nd_base.proofs.Laws.Size.{size_take_le, size_take_more}
 use Rattle.nd_shape.specs.MajorOrder.{SatisfiesOrderRule}
 use Rattle.nd_shape.proofs.OrderRule.{axis_by_rule, rule_by_axes}
 use Rattle.nd_shape.proofs.major_order.has_strides.Given.{Over}

@@ -1,9 +1,9 @@
 use Rattle.std.specs.Prelude.{IsTrue}
 use Rattle.std.proofs.Common.{◌↔◌, true, inl, refl, sym, ap, ◌∙◌, arith}
 use Rattle.nd_base.specs.declared.order.Order.TheVariants.{RowMajor}
-use Rattle.nd_base.proofs.laws.Definitions.{all_signed, is_empty, nonzero_size}
-use Rattle.nd_base.proofs.laws.NonzeroSize.{nonzero_size-reverse}
-use Rattle.nd_base.proofs.laws.Size.{is_empty-reverse}
+use Rattle.nd_base.proofs.Laws.Definitions.{all_signed, is_empty, nonzero_size}
+use Rattle.nd_base.proofs.Laws.NonzeroSize.{nonzero_size-reverse}
+use Rattle.nd_base.proofs.Laws.Size.{is_empty-reverse}
 use Rattle.nd_shape.specs.MajorOrder.{SatisfiesOrderRule}
 use Rattle.nd_shape.proofs.OrderRule.{lies_by_rule, rule_back}
 use Rattle.nd_shape.proofs.major_order.is_layout_c.Goals as goal

@@ -1,7 +1,7 @@
 use Rattle.std.specs.Prelude.{IsTrue}
 use Rattle.std.proofs.Common.{◌↔◌, true, inl, refl, sym, ap, ◌∙◌}
 use Rattle.nd_base.specs.declared.order.Order.TheVariants.{ColumnMajor}
-use Rattle.nd_base.proofs.laws.Definitions.{all_signed, is_empty}
+use Rattle.nd_base.proofs.Laws.Definitions.{all_signed, is_empty}
 use Rattle.nd_shape.specs.MajorOrder.{SatisfiesOrderRule}
 use Rattle.nd_shape.proofs.OrderRule.{lies_by_rule}
 use Rattle.nd_shape.proofs.major_order.is_layout_f.Goals as goal

@@ -3,7 +3,7 @@ use Rattle.std.proofs.lemmas.Bool.{both_ways}
 use Rattle.std.proofs.lemmas.List.{length-map, get_or-map, get_or-set_same}
 use Rattle.nd_base.specs.Signed.{all_signed, magnitude, signed}
 use Rattle.nd_base.specs.Span.{reach}
-use Rattle.nd_base.proofs.laws.NonzeroSize.{length_le_nonzero_size}
+use Rattle.nd_base.proofs.Laws.NonzeroSize.{length_le_nonzero_size}
 use Rattle.nd_shape.proofs.MergedStride.{short_taken, into_short, steps_on, steps_on_from_fit, two_lengths_le, two_reaches_le}
 use Rattle.nd_shape.proofs.merge.merge_fitting.Goals as goal
 use Rattle.nd_shape.proofs.merge.merge_fitting.Goals.{then-take_len-gt1+then-into_len-le1}

@@ -1,13 +1,13 @@
 use Rattle.std.proofs.Common.{rules, ◌≡◌, ◌⊎◌, ◌↔◌, Bool, List, ℕ, length, sym, ap, ◌∙◌}
 use Rattle.std.specs.Prelude.{IsFalse, IsTrue, not, ◌&&◌}
 use Rattle.std.proofs.lemmas.List.{length-map}
-use Rattle.nd_base.proofs.laws.Definitions.{HasDistinctOffsets, all_signed, signed, is_empty}
+use Rattle.nd_base.proofs.Laws.Definitions.{HasDistinctOffsets, all_signed, signed, is_empty}
 use Rattle.nd_dim.specs.StrideOrder.{IsStrideOrder}
 use Rattle.nd_shape.specs.NoAlias.{satisfies_no_alias_rule, SatisfiesNoAliasRule}
 use Rattle.nd_shape.specs.NoAliasPass.{holds_in_one_pass}
-use Rattle.nd_shape.proofs.laws.DistinctOffsets.{distinct_without_overlap}
-use Rattle.nd_shape.proofs.laws.NoAlias.{no_overlap}
-use Rattle.nd_shape.proofs.laws.NoAliasPass.{pass_decides_rule}
+use Rattle.nd_shape.proofs.Laws.DistinctOffsets.{distinct_without_overlap}
+use Rattle.nd_shape.proofs.Laws.NoAlias.{no_overlap}
+use Rattle.nd_shape.proofs.Laws.NoAliasPass.{pass_decides_rule}
 use Rattle.nd_shape.proofs.no_alias.has_overlap.Goals as goal
 
 -- what an answer by the rule says

@@ -8,14 +8,14 @@ use Rattle.std.proofs.lemmas.Int.{to_z-of_z}
 use Rattle.std.proofs.lemmas.List.{length-map}
 use Rattle.std.proofs.lemmas.List.Sorted.{IsPermutation-refl}
 use Rattle.std.proofs.lemmas.List.Sums.{sum_by_more}
-use Rattle.nd_base.proofs.laws.Below.{get_or-below, length-below}
-use Rattle.nd_base.proofs.laws.Definitions.{below, all_signed, signed, reach, span}
+use Rattle.nd_base.proofs.Laws.Below.{get_or-below, length-below}
+use Rattle.nd_base.proofs.Laws.Definitions.{below, all_signed, signed, reach, span}
 use Rattle.nd_dim.specs.StrideOrder.{magnitude_at}
 use Rattle.nd_shape.specs.NoAlias.{satisfies_no_alias_rule}
 use Rattle.nd_shape.specs.NoAliasPass.{reach_at}
 use Rattle.nd_shape.proofs.NoAliasTest.{signed_at}
-use Rattle.nd_shape.proofs.laws.NoAlias.{rule_tested}
-use Rattle.nd_shape.proofs.laws.NoAliasPass.{PassHolds, pass_stops, passed_le_span, reaches, reaches_nowhere, rule_from_pass}
+use Rattle.nd_shape.proofs.Laws.NoAlias.{rule_tested}
+use Rattle.nd_shape.proofs.Laws.NoAliasPass.{PassHolds, pass_stops, passed_le_span, reaches, reaches_nowhere, rule_from_pass}
 use Rattle.nd_shape.proofs.no_alias.overlap_in_one_pass.Given.{Over}
 use Rattle.nd_shape.proofs.no_alias.overlap_in_one_pass.Goals as goal
 use Rattle.nd_shape.proofs.no_alias.overlap_in_one_pass.Goals.{After-unsigned_abs-magnitude, then-len-gt1+else-magnitude-reached}

@@ -1,8 +1,8 @@
 use Rattle.std.proofs.Common.{reverse, sym, ap, ◌∙◌, arith}
 use Rattle.std.proofs.lemmas.List.{length-map}
-use Rattle.nd_base.proofs.laws.Definitions.{all_signed, reach, signed, span}
-use Rattle.nd_base.proofs.laws.Lists.{map-reverse}
-use Rattle.nd_base.proofs.laws.Span.{sum_over_axes-reverse}
+use Rattle.nd_base.proofs.Laws.Definitions.{all_signed, reach, signed, span}
+use Rattle.nd_base.proofs.Laws.Lists.{map-reverse}
+use Rattle.nd_base.proofs.Laws.Span.{sum_over_axes-reverse}
 use Rattle.nd_shape.specs.NoAlias.{satisfies_no_alias_rule}
 use Rattle.nd_shape.proofs.NoAliasTest.{no_alias_rule-reverse}
 use Rattle.nd_shape.proofs.no_alias.overlap_in_order.Goals as goal

@@ -1,7 +1,7 @@
 use Rattle.std.proofs.Common.{rules, ◌≡◌, w64, arith, ap, sym, ◌∙◌}
 use Rattle.std.specs.Prelude.{unsigned_abs, FitsSigned, remove}
 use Rattle.std.proofs.lemmas.Int.{to_z-of_z}
-use Rattle.nd_base.proofs.laws.Definitions.{all_signed}
+use Rattle.nd_base.proofs.Laws.Definitions.{all_signed}
 use Rattle.nd_dim.specs.StrideOrder.{magnitude_at}
 use Rattle.nd_shape.specs.NoAlias.{span_up_to, span_of_others}
 use Rattle.nd_shape.proofs.NoAliasTest.{signed_at, long_axis}

@@ -2,7 +2,7 @@ use Rattle.std.proofs.Common.{arith, sym, ◌∙◌, below_more}
 use Rattle.std.proofs.lemmas.Bool.{not_from_true, not_from_false, not-true, not-false}
 use Rattle.nd_base.specs.Signed.{all_signed}
 use Rattle.nd_shape.specs.NoAlias.{satisfies_no_alias_rule, strides_over_others}
-use Rattle.nd_shape.proofs.laws.NoAlias.{rule_satisfied, rule_broken}
+use Rattle.nd_shape.proofs.Laws.NoAlias.{rule_satisfied, rule_broken}
 use Rattle.nd_shape.proofs.no_alias.some_overlaps_others.Goals as goal
 
 pub returns : goal.returns

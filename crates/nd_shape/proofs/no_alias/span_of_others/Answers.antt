@@ -1,11 +1,11 @@
 use Rattle.std.proofs.Common.{◌≡◌, ℕ, ◌+◌, ◌≤◌, get_or, inl, inr, arith, ap}
 use Rattle.std.proofs.lemmas.Bool.{cases_lt}
 use Rattle.std.proofs.lemmas.List.{length-map}
-use Rattle.nd_base.proofs.laws.Definitions.{all_signed, signed, reach, span}
-use Rattle.nd_base.proofs.laws.Span.{sum_from, sum_from_step, sum_from_end, sum_le, sum_and_others, reach_le_span}
+use Rattle.nd_base.proofs.Laws.Definitions.{all_signed, signed, reach, span}
+use Rattle.nd_base.proofs.Laws.Span.{sum_from, sum_from_step, sum_from_end, sum_le, sum_and_others, reach_le_span}
 use Rattle.nd_shape.specs.NoAlias.{span_up_to}
 use Rattle.nd_shape.proofs.NoAliasTest.{signed_at}
-use Rattle.nd_shape.proofs.laws.NoAlias.{reach_up_to, reach_up_to_le}
+use Rattle.nd_shape.proofs.Laws.NoAlias.{reach_up_to, reach_up_to_le}
 use Rattle.nd_shape.proofs.no_alias.span_of_others.Goals as goal
 use Rattle.nd_shape.proofs.no_alias.span_of_others.Goals.{In-loop-other, then-other-axis, else-other-axis}
 

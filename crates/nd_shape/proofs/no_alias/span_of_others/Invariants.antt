@@ -1,9 +1,9 @@
 -- The sum so far, and that of the axes still to come, make the whole, but for the axis that is left out.
 use Rattle.std.proofs.Common.{◌≡◌, ◌+◌, ◌<◌, ◌≤◌, get_or}
-use Rattle.nd_base.proofs.laws.Definitions.{all_signed, signed}
+use Rattle.nd_base.proofs.Laws.Definitions.{all_signed, signed}
 use Rattle.nd_shape.specs.NoAlias.{span_up_to}
-use Rattle.nd_shape.proofs.laws.NoAlias.{reach_up_to}
-use Rattle.nd_base.proofs.laws.Span.{sum_from}
+use Rattle.nd_shape.proofs.Laws.NoAlias.{reach_up_to}
+use Rattle.nd_base.proofs.Laws.Span.{sum_from}
 use Rattle.nd_shape.proofs.no_alias.span_of_others.Given as goal
 
 abbrev pub invariant-loop-other : goal.invariant-loop-other

@@ -1,7 +1,7 @@
 use Rattle.std.proofs.Common.{◌≡◌, ◌+◌, ◌*◌, ◌≤◌, arith, drop, get_or, sym, ◌∙◌, drop_of_length-le, mul_assoc, mul-one}
 use Rattle.std.proofs.Common.{le-mul_of_pos_right}
 use Rattle.nd_base.specs.Size.{nonzero_size}
-use Rattle.nd_base.proofs.laws.NonzeroSize.{nonzero_size_from_zero, nonzero_size_from_other, nonzero_size_pos}
+use Rattle.nd_base.proofs.Laws.NonzeroSize.{nonzero_size_from_zero, nonzero_size_from_other, nonzero_size_pos}
 use Rattle.nd_shape.proofs.size_limits.checked_nonzero_size.Goals as goal
 use Rattle.nd_shape.proofs.size_limits.checked_nonzero_size.Goals.{then-len-ne0+in_ok-size, else-len-ne0}
 

@@ -1,7 +1,7 @@
 -- The sum so far is within the limit, and that of the axes still to come completes it.
 use Rattle.std.proofs.Common.{◌≡◌, ◌+◌, ◌≤◌, length}
-use Rattle.nd_base.proofs.laws.Definitions.{all_signed, limit, reach, span}
-use Rattle.nd_base.proofs.laws.Span.{sum_from}
+use Rattle.nd_base.proofs.Laws.Definitions.{all_signed, limit, reach, span}
+use Rattle.nd_base.proofs.Laws.Span.{sum_from}
 use Rattle.nd_shape.proofs.size_limits.checked_span.Given as goal
 
 abbrev pub invariant-loop-len : goal.invariant-loop-len

@@ -3,8 +3,8 @@ use Rattle.std.proofs.Common.{◌≡◌, pos, get_or, ap, arith, w64, ◌-◌, �
 use Rattle.std.proofs.lemmas.Int.{fits_signed_mul}
 use Rattle.std.proofs.lemmas.List.{get_or-map, length-map}
 use Rattle.nd_slice.proofs.Definitions.{all_signed, limit, magnitude, reach, signed}
-use Rattle.nd_base.proofs.laws.NonzeroSize.{length_le_nonzero_size}
-use Rattle.nd_base.proofs.laws.Span.{sum_and_others}
+use Rattle.nd_base.proofs.Laws.NonzeroSize.{length_le_nonzero_size}
+use Rattle.nd_base.proofs.Laws.Span.{sum_and_others}
 use Rattle.nd_slice.proofs.collapse.do_collapse_axis.Goals as goal
 
 pub stride_offset-offset-requires-clause-small : goal.stride_offset-offset-requires-clause-small

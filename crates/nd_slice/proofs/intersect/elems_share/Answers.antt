@@ -1,7 +1,7 @@
 -- Each element picks what lies between the bounds of its range, which end on the axis.
 use Rattle.std.proofs.Common.{rules, arith, ◌≡◌}
 use Rattle.nd_slice.specs.ElemRange.{elem_range}
-use Rattle.nd_slice.proofs.laws.ElemRange.{end_of_range, picks_of_range}
+use Rattle.nd_slice.proofs.Laws.ElemRange.{end_of_range, picks_of_range}
 use Rattle.nd_slice.proofs.intersect.elems_share.Goals as goal
 use Rattle.nd_slice.proofs.intersect.elems_share.Goals.{After-unwrap}
 

@@ -1,9 +1,9 @@
 use Rattle.std.proofs.Common.{rules, ◌≡◌, ◌<◌, ◌^◌, refl, sym, ◌∙◌}
 use Rattle.std.proofs.lemmas.Bool.{both_ways}
 use Rattle.std.proofs.lemmas.List.Elements.{All-same}
-use Rattle.nd_slice.proofs.laws.SliceFault.{elements_of_no_fault}
-use Rattle.nd_slice.proofs.laws.AxisElems.{lens_of_axis_elems}
-use Rattle.nd_slice.proofs.laws.Intersect.{intersect_by_axis}
+use Rattle.nd_slice.proofs.Laws.SliceFault.{elements_of_no_fault}
+use Rattle.nd_slice.proofs.Laws.AxisElems.{lens_of_axis_elems}
+use Rattle.nd_slice.proofs.Laws.Intersect.{intersect_by_axis}
 use Rattle.nd_slice.proofs.intersect_lemmas.Intersecting.{lens_of, go_on, stop, at_end}
 use Rattle.nd_slice.proofs.Definitions.{axis_elems}
 use Rattle.nd_slice.proofs.intersect.elems_share_all.Goals as goal

@@ -1,6 +1,6 @@
 -- Slices whose ranges are apart on one axis share no index.
 use Rattle.std.proofs.Common.{◌-◌, length}
-use Rattle.nd_slice.proofs.laws.RangesApart.{apart_either}
+use Rattle.nd_slice.proofs.Laws.RangesApart.{apart_either}
 use Rattle.nd_slice.proofs.ranges_apart.have_ranges_apart.Goals as goal
 
 pub returns-then-ranges_are_apart : goal.returns-then-ranges_are_apart

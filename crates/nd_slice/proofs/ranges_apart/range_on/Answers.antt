@@ -3,8 +3,8 @@ use Rattle.std.proofs.Common.{◌≡◌, pos, None, IfSome, get_or, sym, subst, 
 use Rattle.nd_slice.proofs.Definitions.{SliceInfoElem, elem_on}
 use Rattle.nd_slice.specs.ElemRange.{elem_range}
 use Rattle.nd_slice.specs.declared.elem.SliceInfoElem.TheVariants as elem
-use Rattle.nd_slice.proofs.laws.SliceFault.{elements_of_no_fault}
-use Rattle.nd_slice.proofs.laws.RangesApart.{elem_on-at}
+use Rattle.nd_slice.proofs.Laws.SliceFault.{elements_of_no_fault}
+use Rattle.nd_slice.proofs.Laws.RangesApart.{elem_on-at}
 use Rattle.nd_slice.proofs.ranges_apart.range_on.Goals as goal
 use Rattle.nd_slice.proofs.ranges_apart.range_on.Goals.{After-range_of}
 

@@ -1,9 +1,9 @@
 use Rattle.std.proofs.Common.{rules, ◌≡◌, arith, ap, sym, ◌∙◌, length, pos, ℤ, ◌+ℤ◌, ◌*ℤ◌, to_z, of_z, w64}
 use Rattle.std.proofs.lemmas.Int.{to_z-of_z}
 use Rattle.nd_slice.proofs.Definitions.{first_offset, picked_stride, picks, signed}
-use Rattle.nd_slice.proofs.laws.SlicedAxis.{pick_offset}
-use Rattle.nd_slice.proofs.laws.Picks.{pick_below}
-use Rattle.nd_slice.proofs.laws.AxisFault.{fits_of_no_fault}
+use Rattle.nd_slice.proofs.Laws.SlicedAxis.{pick_offset}
+use Rattle.nd_slice.proofs.Laws.Picks.{pick_below}
+use Rattle.nd_slice.proofs.Laws.AxisFault.{fits_of_no_fault}
 use Rattle.nd_slice.proofs.sliced_axis.do_slice.Goals as goal
 
 pub returns-clause-steps : goal.returns-clause-steps

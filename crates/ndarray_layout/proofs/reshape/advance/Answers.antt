@@ -2,8 +2,8 @@ use Rattle.std.proofs.Common.{◌+◌, ◌<◌, ap, arith, get_or, length, refl,
 use Rattle.std.specs.Int.RustNames.{FitsSigned}
 use Rattle.std.specs.List.{All}
 use Rattle.std.proofs.lemmas.List.{length-drop}
-use Rattle.nd_base.proofs.laws.AsRead.{length-as_read}
-use Rattle.nd_base.proofs.laws.Definitions.{all_signed, as_read, signed}
+use Rattle.nd_base.proofs.Laws.AsRead.{length-as_read}
+use Rattle.nd_base.proofs.Laws.Definitions.{all_signed, as_read, signed}
 use Rattle.ndarray_layout.specs.private.ReshapeProgress.{block_strides}
 use Rattle.ndarray_layout.proofs.matching.Blocks.{segment-front}
 use Rattle.ndarray_layout.proofs.matching.Matched.{block-read, both-read, from-goes, to-read, turn-passed}

@@ -1,7 +1,7 @@
 use Rattle.std.proofs.Common.{ap, arith, drop, length, sym, ◌∙◌}
 use Rattle.std.proofs.lemmas.List.{drop_all}
-use Rattle.nd_base.proofs.laws.AsRead.{length-as_read}
-use Rattle.nd_base.proofs.laws.Definitions.{as_read}
+use Rattle.nd_base.proofs.Laws.AsRead.{length-as_read}
+use Rattle.nd_base.proofs.Laws.Definitions.{as_read}
 use Rattle.ndarray_layout.proofs.matching.Matched.{all-strides, turn-passed, turn-through}
 use Rattle.ndarray_layout.proofs.reshape.fill.Goals as goal
 

@@ -1,6 +1,6 @@
 -- Both shapes are read so far, and the axes that are read have their strides.
 use Rattle.std.proofs.Common.{◌≡◌, ◌+◌, ◌-◌, length}
-use Rattle.nd_base.proofs.laws.Definitions.{as_read}
+use Rattle.nd_base.proofs.Laws.Definitions.{as_read}
 use Rattle.ndarray_layout.specs.private.ReshapeProgress.{IsTurn, left_at, left_in}
 use Rattle.ndarray_layout.proofs.reshape.fill.Given as goal
 

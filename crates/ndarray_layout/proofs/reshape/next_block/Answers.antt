@@ -1,8 +1,8 @@
 use Rattle.std.proofs.Common.{ℕ, ◌+◌, ◌*◌, ◌<◌, ap, arith, length, subst, sym, ◌∙◌, Some}
 use Rattle.std.proofs.lemmas.Bool.{both_ways}
 use Rattle.std.proofs.lemmas.List.{drop_all}
-use Rattle.nd_base.proofs.laws.AsRead.{length-as_read}
-use Rattle.nd_base.proofs.laws.Definitions.{all_signed, as_read, signed}
+use Rattle.nd_base.proofs.Laws.AsRead.{length-as_read}
+use Rattle.nd_base.proofs.Laws.Definitions.{all_signed, as_read, signed}
 use Rattle.ndarray_layout.specs.private.ReshapeProgress.{left_at, left_in}
 use Rattle.ndarray_layout.proofs.matching.Merged.{IsJoined, apart-fault, from-end-fault, joined-block, joined-first, joined-new, joined-old}
 use Rattle.ndarray_layout.proofs.matching.Merged.{joined-one, new-product-fits, next-stride, old-product-fits, to-end-fault}

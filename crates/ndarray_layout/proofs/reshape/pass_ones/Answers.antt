@@ -1,7 +1,7 @@
 use Rattle.std.proofs.Common.{◌<◌, ap, arith, length, sym, ◌∙◌, Some}
 use Rattle.std.proofs.lemmas.List.{drop_all}
-use Rattle.nd_base.proofs.laws.AsRead.{length-as_read}
-use Rattle.nd_base.proofs.laws.Definitions.{as_read}
+use Rattle.nd_base.proofs.Laws.AsRead.{length-as_read}
+use Rattle.nd_base.proofs.Laws.Definitions.{as_read}
 use Rattle.ndarray_layout.proofs.matching.Matched.{from-goes, none-longer, to-over-fault}
 use Rattle.ndarray_layout.proofs.matching.Merged.{next-stride}
 use Rattle.ndarray_layout.proofs.matching.Turns.{goes-through}

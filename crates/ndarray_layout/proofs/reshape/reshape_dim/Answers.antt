@@ -1,10 +1,10 @@
 use Rattle.std.proofs.Common.{◌≡◌, ap, length, subst, sym, ◌∙◌}
-use Rattle.nd_base.proofs.laws.Definitions.{all_signed}
+use Rattle.nd_base.proofs.Laws.Definitions.{all_signed}
 use Rattle.ndarray_layout.specs.reshape.SamePlaces.{Keeps}
 use Rattle.ndarray_layout.proofs.reshape.reshape_dim.Given.{Over}
 use Rattle.ndarray_layout.proofs.matching.Turned.{keeps-filled, layouts-same}
 use Rattle.ndarray_layout.proofs.matching.HasIndex.{has_index-of-valid}
-use Rattle.ndarray_layout.proofs.laws.Keeps.{fault-complete, keeps-agree}
+use Rattle.ndarray_layout.proofs.Laws.Keeps.{fault-complete, keeps-agree}
 use Rattle.ndarray_layout.proofs.reshape.reshape_dim.Goals as goal
 
 pub returns-in_err-others-clause-complete : goal.returns-in_err-others-clause-complete

@@ -1,7 +1,7 @@
 use Rattle.std.proofs.Common.{◌≡◌, ◌+◌, ◌-◌, ◌∷◌, [], ap, arith, length, ◌∙◌, subst}
 use Rattle.std.proofs.lemmas.List.{length-drop, length-take-le}
-use Rattle.nd_base.proofs.laws.AsRead.{length-as_read}
-use Rattle.nd_base.proofs.laws.Definitions.{as_read}
+use Rattle.nd_base.proofs.Laws.AsRead.{length-as_read}
+use Rattle.nd_base.proofs.Laws.Definitions.{as_read}
 use Rattle.ndarray_layout.specs.private.ReshapeProgress.{Writes, segment}
 use Rattle.ndarray_layout.proofs.matching.Blocks.{part-all, part-first, part-more, segment-push}
 use Rattle.ndarray_layout.proofs.reshape.write_block.Goals as goal

@@ -1,6 +1,6 @@
 -- The strides of the axes that are read last are written.
 use Rattle.std.proofs.Common.{◌≡◌, ◌-◌, ◌<◌, ◌≤◌, length}
-use Rattle.nd_base.proofs.laws.Definitions.{as_read, signed}
+use Rattle.nd_base.proofs.Laws.Definitions.{as_read, signed}
 use Rattle.ndarray_layout.specs.private.ReshapeProgress.{block_strides, segment}
 use Rattle.ndarray_layout.proofs.matching.Blocks.{IsPartOfBlock}
 use Rattle.ndarray_layout.proofs.reshape.write_block.Given as goal

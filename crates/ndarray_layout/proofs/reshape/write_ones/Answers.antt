@@ -1,7 +1,7 @@
 use Rattle.std.proofs.Common.{◌+◌, ap, arith, sym, ◌∙◌, Some}
 use Rattle.std.proofs.lemmas.List.{drop_all, length-drop}
-use Rattle.nd_base.proofs.laws.AsRead.{length-as_read}
-use Rattle.nd_base.proofs.laws.Definitions.{as_read}
+use Rattle.nd_base.proofs.Laws.AsRead.{length-as_read}
+use Rattle.nd_base.proofs.Laws.Definitions.{as_read}
 use Rattle.ndarray_layout.proofs.matching.Matched.{from-over-fault, none-longer, to-read, turn-through}
 use Rattle.ndarray_layout.proofs.reshape.write_ones.Goals as goal
 

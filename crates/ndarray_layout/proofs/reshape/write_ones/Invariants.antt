@@ -1,6 +1,6 @@
 -- The strides of the axes so far are written.
 use Rattle.std.proofs.Common.{◌≡◌, length}
-use Rattle.nd_base.proofs.laws.Definitions.{as_read}
+use Rattle.nd_base.proofs.Laws.Definitions.{as_read}
 use Rattle.ndarray_layout.specs.private.ReshapeProgress.{IsTurn, left_at, left_in}
 use Rattle.ndarray_layout.proofs.reshape.write_ones.Given as goal
 

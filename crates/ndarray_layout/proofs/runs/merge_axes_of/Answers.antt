@@ -1,6 +1,6 @@
 -- Axes that are there can be merged exactly where a stride has the coordinates of both.
 use Rattle.std.proofs.Common.{Some, ap, sym, ◌∙◌}
-use Rattle.ndarray_layout.proofs.laws.MergedView.{merge_fault_of_answer}
+use Rattle.ndarray_layout.proofs.Laws.MergedView.{merge_fault_of_answer}
 use Rattle.ndarray_layout.proofs.runs.merge_axes_of.Goals as goal
 
 pub returns-then-branch-clause-fault : goal.returns-then-branch-clause-fault

@@ -6,9 +6,9 @@ use Rattle.ndarray_layout.specs.Step.{SliceBy, MergeInto, rule_of}
 use Rattle.ndarray_layout.specs.StepRule.{IsStepError}
 use Rattle.ndarray_layout.specs.View.{View}
 use Rattle.ndarray_layout.proofs.TakenSteps.{error_of, error_of_fault}
-use Rattle.ndarray_layout.proofs.laws.Step.{lawful}
+use Rattle.ndarray_layout.proofs.Laws.Step.{lawful}
 use Rattle.ndarray_layout.proofs.runs.take_step.Goals as goal
-use Rattle.nd_base.proofs.laws.Faults.{IfErr-handed_on}
+use Rattle.nd_base.proofs.Laws.Faults.{IfErr-handed_on}
 
 pub returns-in_err-sliced-in-Slice-clause-fault : goal.returns-in_err-sliced-in-Slice-clause-fault
 returns-in_err-sliced-in-Slice-clause-fault c =

@@ -4,9 +4,9 @@ use Rattle.std.specs.Option.{option_map}
 use Rattle.std.specs.Prelude.{unsigned_abs, FitsSigned, not, remove}
 use Rattle.std.proofs.lemmas.Bool.Decides.{nat_tests}
 use Rattle.std.proofs.lemmas.Int.{to_z-of_z}
-use Rattle.ndarray_layout.proofs.laws.Definitions.{all_signed}
+use Rattle.ndarray_layout.proofs.Laws.Definitions.{all_signed}
 use Rattle.ndarray_layout.specs.NoAlias.{span_up_to, span_of_others, strides_over_others}
-use Rattle.ndarray_layout.proofs.laws.NoAlias.{axis_tested}
+use Rattle.ndarray_layout.proofs.Laws.NoAlias.{axis_tested}
 use Rattle.ndarray_layout.specs.StrideOrder.{magnitude_at}
 use Rattle.ndarray_layout_c.specs.Reasons.{of_axis}
 use Rattle.ndarray_layout_c.proofs.FirstOf.{first_found, first_passed}
@@ -43,9 +43,9 @@ returns-then-magnitude-others c =
     omega (arith, others, magnitude_is at, c.if-magnitude-others.true) in
     let first = first_found (λ axis. not (strides_over_others shape strides axis)) axis (length shape) c.loop-axis-test.true
     (ap not (not_over shape strides axis c.if-shape-axis-gt1.true near)) c.loop-axis.invariant in
-    let told = c.of_axis.ensures ∙ ap₂ (of_axis (pos 5) (pos 11) axis) (stride_is at) others in
+    let told = c.of_axis.ensures ∙ ap₂ (λ stride reach. of_axis (pos 5) (pos 11) axis stride reach 0) (stride_is at) others in
     ap Some told
-    ∙ ap (option_map (λ axis. of_axis (pos 5) (pos 11) axis (get_or strides axis (pos 0)) (span_of_others shape strides axis))) first
+    ∙ ap (option_map (λ axis. of_axis (pos 5) (pos 11) axis (get_or strides axis (pos 0)) (span_of_others shape strides axis) 0)) first
 
 pub loop-axis-preserved : goal.loop-axis-preserved
 loop-axis-preserved c =

@@ -1,8 +1,8 @@
 use Rattle.std.proofs.Common.{arith}
 use Rattle.std.proofs.lemmas.List.{length-map}
-use Rattle.ndarray_layout.proofs.laws.Definitions.{all_signed, signed}
-use Rattle.ndarray_layout.proofs.laws.Span.{reach_le_span, sum_and_others}
-use Rattle.ndarray_layout.proofs.laws.NoAlias.{reach_up_to}
+use Rattle.ndarray_layout.proofs.Laws.Definitions.{all_signed, signed}
+use Rattle.ndarray_layout.proofs.Laws.Span.{reach_le_span, sum_and_others}
+use Rattle.ndarray_layout.proofs.Laws.NoAlias.{reach_up_to}
 use Rattle.ndarray_layout_c.proofs.Strides.{signed_at}
 use Rattle.ndarray_layout_c.proofs.aliases.span_of_others.Goals as goal
 

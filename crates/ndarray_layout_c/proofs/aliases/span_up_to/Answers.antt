@@ -1,9 +1,9 @@
 use Rattle.std.proofs.Common.{◌≡◌, ◌+◌, ◌≤◌, get_or, arith}
 use Rattle.std.proofs.lemmas.List.{length-map}
-use Rattle.ndarray_layout.proofs.laws.Definitions.{all_signed, signed, reach, span}
-use Rattle.ndarray_layout.proofs.laws.Span.{sum_from, sum_from_step, sum_from_end, sum_le, reach_le_span}
+use Rattle.ndarray_layout.proofs.Laws.Definitions.{all_signed, signed, reach, span}
+use Rattle.ndarray_layout.proofs.Laws.Span.{sum_from, sum_from_step, sum_from_end, sum_le, reach_le_span}
 use Rattle.ndarray_layout.specs.NoAlias.{span_up_to}
-use Rattle.ndarray_layout.proofs.laws.NoAlias.{reach_up_to, reach_up_to_le}
+use Rattle.ndarray_layout.proofs.Laws.NoAlias.{reach_up_to, reach_up_to_le}
 use Rattle.ndarray_layout_c.proofs.Strides.{signed_at}
 use Rattle.ndarray_layout_c.proofs.aliases.span_up_to.Goals as goal
 use Rattle.ndarray_layout_c.proofs.aliases.span_up_to.Goals.{In-loop-axis}

@@ -2,8 +2,8 @@
 use Rattle.std.proofs.Common.{◌≡◌, ◌+◌}
 use Rattle.ndarray_layout.specs.NoAlias.{span_up_to}
 use Rattle.ndarray_layout.specs.Signed.{all_signed}
-use Rattle.ndarray_layout.proofs.laws.NoAlias.{reach_up_to}
-use Rattle.ndarray_layout.proofs.laws.Span.{sum_from}
+use Rattle.ndarray_layout.proofs.Laws.NoAlias.{reach_up_to}
+use Rattle.ndarray_layout.proofs.Laws.Span.{sum_from}
 use Rattle.ndarray_layout_c.proofs.aliases.span_up_to.Given as goal
 
 abbrev pub invariant-loop-axis : goal.invariant-loop-axis

@@ -4,7 +4,7 @@ use Rattle.std.proofs.Common.{le-mul_of_pos_right, mul_comm, one-mul}
 use Rattle.std.proofs.lemmas.Bool.{false_from_ne_true, le-leb, leb-true}
 use Rattle.std.specs.Prelude.{SomeIff}
 use Rattle.ndarray_layout.specs.Size.{limit, nonzero_size}
-use Rattle.ndarray_layout.proofs.laws.NonzeroSize.{nonzero_size_pos}
+use Rattle.ndarray_layout.proofs.Laws.NonzeroSize.{nonzero_size_pos}
 use Rattle.ndarray_layout_c.specs.BlockReasons.{taken_counts}
 use Rattle.ndarray_layout_c.proofs.BlockCounts.{product_of_both}
 use Rattle.ndarray_layout_c.proofs.block_reasons.has_size.Goals as goal

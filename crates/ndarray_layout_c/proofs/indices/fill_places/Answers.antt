@@ -2,7 +2,7 @@
 use Rattle.std.proofs.Common.{◌≡◌, ◌++◌, ℤ, pos, List, length, map, take, arith, ap, ◌∙◌, inl}
 use Rattle.std.specs.Iterator.Adapters.{enumerate_count, enumerate_source}
 use Rattle.std.specs.declared.iter.Enumerate.{Enumerate}
-use Rattle.ndarray_layout.proofs.laws.View.{length-view_places, size_fits}
+use Rattle.ndarray_layout.proofs.Laws.View.{length-view_places, size_fits}
 use Rattle.ndarray_layout_c.proofs.indices.fill_places.Goals as goal
 
 -- none is counted yet, and all are to come

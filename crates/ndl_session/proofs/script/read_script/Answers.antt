@@ -1,7 +1,7 @@
 -- What is given is the script of the input, which is the one whose text this is.
 use Rattle.std.proofs.Common.{◌≡◌, Ok, Err, rules, List, ℕ, sym, ap, subst, ◌∙◌}
 use Rattle.ndl_session.specs.script.Script.{Gives, IsScript, ScriptValue, script_of, script_text, script_value}
-use Rattle.ndl_session.proofs.laws.PrintedScript.{script_of-script_text}
+use Rattle.ndl_session.proofs.Laws.PrintedScript.{script_of-script_text}
 use Rattle.ndl_session.proofs.script.read_script.Goals as goal
 
 spelled : (input : List ℕ) (script : ScriptValue) → IsScript script → input ≡ script_text script → script_of input ≡ Ok script

@@ -2,7 +2,7 @@ use Rattle.std.proofs.Common.{sym, ap, ◌∙◌}
 use Rattle.std.proofs.lemmas.List.{length-map}
 use Rattle.nd_base.specs.Signed.{signed, all_signed}
 use Rattle.nd_dim.specs.Contiguous.{is_contiguous}
-use Rattle.nd_dim.proofs.laws.Contiguous.{contiguous_exactly}
+use Rattle.nd_dim.proofs.Laws.Contiguous.{contiguous_exactly}
 use Rattle.nd_dim.proofs.dimension.Dimension.is_contiguous.Goals as goal
 
 pub returns-clause-rule : goal.returns-clause-rule

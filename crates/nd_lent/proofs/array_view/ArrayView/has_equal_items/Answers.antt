@@ -8,7 +8,7 @@ use Rattle.ndarray_layout.specs.declared.Order.TheVariants.{RowMajor}
 use Rattle.ndarray_layout.specs.Nearest.{pairs_of_places}
 use Rattle.ndarray_layout.specs.Rows.{rows_places}
 use Rattle.ndarray_layout.specs.View.{place_at}
-use Rattle.nd_parts.specs.Items.{item_at_place}
+use Rattle.nd_lent.specs.Items.{item_at_place}
 use Rattle.nd_lent.specs.Equal.{both_equal}
 use Rattle.nd_lent.specs.LentRow.{row_of, rows_items}
 use Rattle.nd_lent.proofs.Moved.{AreAlike, alike_moved, first_moved, second_moved}

@@ -4,9 +4,9 @@ use Rattle.std.specs.Iterator.{YieldsFirstBy}
 use Rattle.std.proofs.iter.runs.Sources.{from_front}
 use Rattle.std.proofs.lemmas.List.{length-map}
 use Rattle.ndarray_layout.specs.declared.Order.TheVariants.{RowMajor}
-use Rattle.ndarray_layout.proofs.laws.View.{length-view_places}
-use Rattle.nd_parts.specs.Items.{item_at_place}
-use Rattle.nd_lent.proofs.laws.ItemPlaces.{all_places, are_in_bounds}
+use Rattle.ndarray_layout.proofs.Laws.View.{length-view_places}
+use Rattle.nd_lent.specs.Items.{item_at_place}
+use Rattle.nd_lent.proofs.Laws.ItemPlaces.{all_places, are_in_bounds}
 use Rattle.nd_lent.proofs.array_view.ArrayView.iter.Goals as goal
 
 pub new-requires : goal.new-requires

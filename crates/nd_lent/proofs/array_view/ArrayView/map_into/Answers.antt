@@ -6,13 +6,13 @@ use Rattle.std.proofs.lemmas.List.Sorted.{IsPermutation-refl}
 use Rattle.ndarray_layout.specs.declared.Order.TheVariants.{RowMajor}
 use Rattle.ndarray_layout.specs.Indices.{indices_in}
 use Rattle.ndarray_layout.specs.View.{place_at, view_places}
-use Rattle.ndarray_layout.proofs.laws.DistinctPlaces.{AllPairs-view_places}
-use Rattle.ndarray_layout.proofs.laws.View.{places_lie_within}
+use Rattle.ndarray_layout.proofs.Laws.DistinctPlaces.{AllPairs-view_places}
+use Rattle.ndarray_layout.proofs.Laws.View.{places_lie_within}
 use Rattle.nd_lent.specs.Lender.{array_of}
 use Rattle.nd_lent.specs.Mapped.{RunsOver, gives}
-use Rattle.nd_parts.specs.Items.{item_at, item_at_place}
+use Rattle.nd_lent.specs.Items.{item_at, item_at_place}
 use Rattle.nd_lent.proofs.Runs.{changed, mapped, ran_over, spare}
-use Rattle.nd_lent.proofs.laws.IndexItems.{items_in}
+use Rattle.nd_lent.proofs.Laws.IndexItems.{items_in}
 use Rattle.nd_lent.proofs.array_view.ArrayView.map_into.Given.{Over}
 use Rattle.nd_lent.proofs.array_view.ArrayView.map_into.Goals as goal
 use Rattle.nd_lent.proofs.array_view.ArrayView.map_into.Goals.{After-view}

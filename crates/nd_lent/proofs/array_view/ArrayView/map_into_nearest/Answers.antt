@@ -11,15 +11,15 @@ use Rattle.ndarray_layout.specs.Indices.{indices_in}
 use Rattle.ndarray_layout.specs.Nearest.{pairs_of_places}
 use Rattle.ndarray_layout.specs.Size.{size}
 use Rattle.ndarray_layout.specs.View.{View, place_at, view_places}
-use Rattle.ndarray_layout.proofs.laws.View.{length-view_places, places_lie_within}
+use Rattle.ndarray_layout.proofs.Laws.View.{length-view_places, places_lie_within}
 use Rattle.nd_lent.specs.Lender.{array_of}
 use Rattle.nd_lent.specs.Mapped.{RunsOver}
-use Rattle.nd_parts.specs.Items.{item_at, item_at_place}
-use Rattle.nd_parts.proofs.laws.Faults.{on_ok}
+use Rattle.nd_lent.specs.Items.{item_at, item_at_place}
+use Rattle.nd_lent.proofs.Laws.Faults.{on_ok}
 use Rattle.nd_lent.proofs.Moved.{AreAlike, alike_moved, first_moved, second_moved}
 use Rattle.nd_lent.proofs.Runs.{mapped, runs_in_some_order, spare}
 use Rattle.nd_lent.proofs.Sets.{distinct_of_owned}
-use Rattle.nd_lent.proofs.laws.IndexItems.{items_in}
+use Rattle.nd_lent.proofs.Laws.IndexItems.{items_in}
 use Rattle.nd_lent.proofs.array_view.ArrayView.map_into_nearest.Given.{Over}
 use Rattle.nd_lent.proofs.array_view.ArrayView.map_into_nearest.Goals as goal
 use Rattle.nd_lent.proofs.array_view.ArrayView.map_into_nearest.Goals.{After-nearest_views, After-stored}

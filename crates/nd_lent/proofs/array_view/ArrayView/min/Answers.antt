@@ -4,8 +4,8 @@ use Rattle.std.proofs.lemmas.List.{length-map}
 use Rattle.ndarray_layout.specs.declared.Order.TheVariants.{RowMajor}
 use Rattle.ndarray_layout.specs.Size.{size}
 use Rattle.ndarray_layout.specs.View.{view_places}
-use Rattle.ndarray_layout.proofs.laws.View.{length-view_places}
-use Rattle.nd_parts.specs.Items.{item_at_place}
+use Rattle.ndarray_layout.proofs.Laws.View.{length-view_places}
+use Rattle.nd_lent.specs.Items.{item_at_place}
 use Rattle.nd_lent.proofs.Equals.{picked_first}
 use Rattle.nd_lent.proofs.Extremes.{picked, picks_less}
 use Rattle.nd_lent.proofs.array_view.ArrayView.min.Goals as goal

@@ -4,7 +4,7 @@ use Rattle.std.specs.Iterator.{YieldsFirst}
 use Rattle.std.proofs.iter.runs.Sources.{as_is, from_front}
 use Rattle.ndarray_layout.specs.declared.Order.TheVariants.{RowMajor}
 use Rattle.ndarray_layout.specs.Rows.{view_rows}
-use Rattle.ndarray_layout.proofs.laws.Rows.{rows_places-view_rows, some_in_each_row}
+use Rattle.ndarray_layout.proofs.Laws.Rows.{rows_places-view_rows, some_in_each_row}
 use Rattle.nd_lent.specs.LentRow.{RowValue, row_of, rows_items}
 use Rattle.nd_lent.proofs.Permuted.{permuted}
 use Rattle.nd_lent.proofs.RowsLent.{items_of_rows, rows_have_items}

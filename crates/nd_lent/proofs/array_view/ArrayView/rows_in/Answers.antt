@@ -6,7 +6,7 @@ use Rattle.ndarray_layout.specs.declared.Order.TheVariants.{RowMajor}
 use Rattle.ndarray_layout.specs.Rows.{rows_places}
 use Rattle.ndarray_layout.specs.View.{view_places}
 use Rattle.nd_lent.specs.LentRow.{rows_items}
-use Rattle.nd_parts.specs.Items.{item_at_place}
+use Rattle.nd_lent.specs.Items.{item_at_place}
 use Rattle.nd_lent.proofs.RowsLent.{rows_have_items, rows_items-row_of}
 use Rattle.nd_lent.proofs.array_view.ArrayView.rows_in.Given.{Over}
 use Rattle.nd_lent.proofs.array_view.ArrayView.rows_in.Goals as goal

@@ -4,7 +4,7 @@ use Rattle.std.specs.Iterator.{CallableWhile}
 use Rattle.std.specs.Prelude.{not}
 use Rattle.ndarray_layout.specs.declared.Order.TheVariants.{RowMajor}
 use Rattle.ndarray_layout.specs.View.{view_places}
-use Rattle.nd_parts.specs.Items.{item_at_place}
+use Rattle.nd_lent.specs.Items.{item_at_place}
 use Rattle.nd_lent.specs.LentRow.{rows_items}
 use Rattle.nd_lent.specs.Lending.{lends}
 use Rattle.nd_lent.specs.private.Searched.{HasSearched}

@@ -7,7 +7,7 @@ use Rattle.std.proofs.lemmas.List.Sorted.{sum_by-IsPermutation}
 use Rattle.ndarray_layout.specs.declared.Order.TheVariants.{RowMajor}
 use Rattle.ndarray_layout.specs.View.{view_places}
 use Rattle.nd_lent.specs.LentRow.{rows_items}
-use Rattle.nd_parts.specs.Items.{item_at_place}
+use Rattle.nd_lent.specs.Items.{item_at_place}
 use Rattle.nd_lent.proofs.Sums.{summed_fits, summed_is}
 use Rattle.nd_lent.proofs.array_view.ArrayView.sum.Given.{Over}
 use Rattle.nd_lent.proofs.array_view.ArrayView.sum.Goals as goal

@@ -1,8 +1,8 @@
 -- Each item is overwritten by a copy of another one.
 use Rattle.std.proofs.Common.{rules, ◌≡◌, refl}
-use Rattle.nd_parts.specs.Items.{item_at}
+use Rattle.nd_lent.specs.Items.{item_at}
 use Rattle.nd_lent.proofs.Sets.{copied}
-use Rattle.nd_parts.proofs.laws.Faults.{on_ok}
+use Rattle.nd_lent.proofs.Laws.Faults.{on_ok}
 use Rattle.nd_lent.proofs.array_view_mut.ArrayViewMut.assign.Goals as goal
 
 pub returns-clause-assigned : goal.returns-clause-assigned

@@ -1,5 +1,5 @@
 -- With a new axis there is an item for each index.
-use Rattle.nd_lent.proofs.laws.OwnedViews.{owned_descendant}
+use Rattle.nd_lent.proofs.Laws.OwnedViews.{owned_descendant}
 use Rattle.nd_lent.proofs.array_view_mut.ArrayViewMut.insert_axis.Goals as goal
 
 pub new-requires : goal.new-requires

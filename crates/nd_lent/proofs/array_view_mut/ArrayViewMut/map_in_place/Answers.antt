@@ -4,12 +4,12 @@ use Rattle.std.specs.Fn.{CalledAtMut}
 use Rattle.std.proofs.lemmas.List.Sorted.{IsPermutation-refl}
 use Rattle.ndarray_layout.specs.declared.Order.TheVariants.{RowMajor}
 use Rattle.ndarray_layout.specs.Indices.{indices_in}
-use Rattle.ndarray_layout.proofs.laws.DistinctPlaces.{AllPairs-view_places}
-use Rattle.ndarray_layout.proofs.laws.View.{places_lie_within}
+use Rattle.ndarray_layout.proofs.Laws.DistinctPlaces.{AllPairs-view_places}
+use Rattle.ndarray_layout.proofs.Laws.View.{places_lie_within}
 use Rattle.nd_lent.specs.Lender.{array_of}
 use Rattle.nd_lent.specs.Mapped.{CallableOnEachMut}
 use Rattle.nd_lent.proofs.Runs.{mapped, ran_over, spare}
-use Rattle.nd_lent.proofs.laws.IndexItems.{items_in}
+use Rattle.nd_lent.proofs.Laws.IndexItems.{items_in}
 use Rattle.nd_lent.proofs.array_view_mut.ArrayViewMut.map_in_place.Goals as goal
 
 pub map_view-requires-clause-within : goal.map_view-requires-clause-within

@@ -7,14 +7,14 @@ use Rattle.ndarray_layout.specs.declared.Order.TheVariants.{RowMajor}
 use Rattle.ndarray_layout.specs.Bounds.{IsInBounds}
 use Rattle.ndarray_layout.specs.Indices.{indices_in}
 use Rattle.ndarray_layout.specs.View.{View, view_places}
-use Rattle.ndarray_layout.proofs.laws.View.{places_lie_within}
+use Rattle.ndarray_layout.proofs.Laws.View.{places_lie_within}
 use Rattle.nd_lent.specs.Lender.{array_of}
 use Rattle.nd_lent.specs.Mapped.{RunsOver, row_major_items}
-use Rattle.nd_parts.specs.Items.{item_at, item_at_place}
+use Rattle.nd_lent.specs.Items.{item_at, item_at_place}
 use Rattle.nd_lent.proofs.Moved.{all_moved}
 use Rattle.nd_lent.proofs.Runs.{mapped, runs_in_some_order, spare}
 use Rattle.nd_lent.proofs.Sets.{distinct_of_owned}
-use Rattle.nd_lent.proofs.laws.IndexItems.{items_in}
+use Rattle.nd_lent.proofs.Laws.IndexItems.{items_in}
 use Rattle.nd_lent.proofs.array_view_mut.ArrayViewMut.map_in_place_nearest.Goals as goal
 
 pub map_view-requires-clause-within : goal.map_view-requires-clause-within

@@ -1,5 +1,5 @@
 -- The reshaped view has an item for each index as the other has.
-use Rattle.nd_lent.proofs.laws.OwnedViews.{owned_descendant}
+use Rattle.nd_lent.proofs.Laws.OwnedViews.{owned_descendant}
 use Rattle.nd_lent.proofs.array_view_mut.ArrayViewMut.reshape.Goals as goal
 
 pub new-requires : goal.new-requires

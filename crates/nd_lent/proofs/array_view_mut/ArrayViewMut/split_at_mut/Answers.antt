@@ -2,8 +2,8 @@
 use Rattle.std.proofs.Common.{◌-◌, length, refl, subst, ◌∙◌}
 use Rattle.std.specs.Prelude.{if◌then◌else◌}
 use Rattle.ndarray_layout.specs.SplitView.{first_part_of, second_part_of, split_fault}
-use Rattle.ndarray_layout.proofs.laws.SplitView.{Descends-first_part_of, Descends-second_part_of}
-use Rattle.nd_parts.specs.Items.{IsOwned}
+use Rattle.ndarray_layout.proofs.Laws.SplitView.{Descends-first_part_of, Descends-second_part_of}
+use Rattle.nd_lent.specs.Items.{IsOwned}
 use Rattle.nd_lent.specs.SplitItems.{IsMoved}
 use Rattle.nd_lent.proofs.SplitItems.{lower_shown, no_split_fault, upper_shown}
 use Rattle.nd_lent.proofs.array_view_mut.ArrayViewMut.split_at_mut.Goals as goal

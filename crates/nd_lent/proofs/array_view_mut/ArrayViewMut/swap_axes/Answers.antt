@@ -1,6 +1,6 @@
 -- Each index has an item to itself as before.
 use Rattle.std.specs.List.{swap}
-use Rattle.nd_lent.proofs.laws.OwnedViews.{owned_after}
+use Rattle.nd_lent.proofs.Laws.OwnedViews.{owned_after}
 use Rattle.nd_lent.proofs.array_view_mut.ArrayViewMut.swap_axes.Goals as goal
 
 pub invariant_of-self : goal.invariant_of-self

@@ -4,9 +4,9 @@ use Rattle.std.specs.Fn.{CalledAtMut}
 use Rattle.std.proofs.lemmas.List.{length-map}
 use Rattle.std.proofs.lemmas.Option.{slice_get-get_or}
 use Rattle.ndarray_layout.specs.Bounds.{IsInBounds}
-use Rattle.ndarray_layout.proofs.laws.Rows.{get_or-row_places, length-row_places}
+use Rattle.ndarray_layout.proofs.Laws.Rows.{get_or-row_places, length-row_places}
 use Rattle.nd_lent.specs.LentRow.{places_of}
-use Rattle.nd_parts.specs.Items.{item_at_place}
+use Rattle.nd_lent.specs.Items.{item_at_place}
 use Rattle.nd_lent.specs.Mapped.{TakesAtMut}
 use Rattle.nd_lent.proofs.RowRuns.{IsNext, all_run, begins, next_in_place, one_more, takes_next}
 use Rattle.nd_lent.proofs.RowsLent.{place_of_coordinate}

@@ -5,7 +5,7 @@ use Rattle.std.specs.List.{All}
 use Rattle.ndarray_layout.specs.Rows.{rows_places}
 use Rattle.nd_lent.specs.LentRow.{HasRow}
 use Rattle.nd_lent.specs.Mapped.{CallableOnEachMut}
-use Rattle.nd_parts.specs.Items.{item_at_place}
+use Rattle.nd_lent.specs.Items.{item_at_place}
 use Rattle.nd_lent.specs.private.RunTo.{HasRunTo}
 use Rattle.nd_lent.proofs.Sets.{Distinct}
 use Rattle.nd_lent.proofs.array_view_mut.mapping.map_rows.Given as goal

@@ -4,8 +4,8 @@ use Rattle.std.specs.Fn.{CalledAtMut}
 use Rattle.std.proofs.lemmas.List.{length-map}
 use Rattle.std.proofs.lemmas.Option.{slice_get-get_or}
 use Rattle.ndarray_layout.specs.Rows.{row_places}
-use Rattle.ndarray_layout.proofs.laws.Rows.{length-row_places}
-use Rattle.nd_parts.specs.Items.{item_at_place}
+use Rattle.ndarray_layout.proofs.Laws.Rows.{length-row_places}
+use Rattle.nd_lent.specs.Items.{item_at_place}
 use Rattle.nd_lent.specs.Mapped.{CallableOnEachMut, TakesAtMut}
 use Rattle.nd_lent.specs.private.RunTo.{HasRunTo}
 use Rattle.nd_lent.proofs.RowRuns.{IsNext, all_neighbours, all_run, begins, neighbour, neighbours_distinct, next_in_place, one_more}

@@ -2,7 +2,7 @@
 use Rattle.std.proofs.Common.{rules, ◌<◌, pos, length, refl, sym, subst, ◌∙◌, arith}
 use Rattle.std.specs.Fn.{CalledAt, TakesAt}
 use Rattle.ndarray_layout.specs.Bounds.{IsInBounds}
-use Rattle.ndarray_layout.proofs.laws.Rows.{get_or-row_places, length-row_places}
+use Rattle.ndarray_layout.proofs.Laws.Rows.{get_or-row_places, length-row_places}
 use Rattle.nd_lent.specs.LentRow.{places_of, row_items}
 use Rattle.nd_lent.proofs.RowRuns.{all_run, IsNext, one_more, same_long, takes_next}
 use Rattle.nd_lent.proofs.RowsLent.{place_of_coordinate}

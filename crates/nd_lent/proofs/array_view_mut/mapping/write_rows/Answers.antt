@@ -8,12 +8,12 @@ use Rattle.std.proofs.lemmas.List.Elements.{All-head, All-tail}
 use Rattle.ndarray_layout.specs.declared.Row.{Row}
 use Rattle.ndarray_layout.specs.Rows.{rows_places}
 use Rattle.nd_lent.specs.LentRow.{HasRow, RowValue, places_of, row_items, rows_items}
-use Rattle.nd_parts.specs.Items.{item_at_place}
+use Rattle.nd_lent.specs.Items.{item_at_place}
 use Rattle.nd_lent.specs.Mapped.{gives}
 use Rattle.nd_lent.specs.private.RunTo.{HasRunTo}
 use Rattle.nd_lent.proofs.RowRuns.{both_run, callable_after, callable_in_part, no_run, same_long}
 use Rattle.nd_lent.proofs.Sets.{Distinct}
-use Rattle.nd_parts.proofs.laws.Lists.{pairs_first, pairs_second}
+use Rattle.nd_lent.proofs.Laws.Lists.{pairs_first, pairs_second}
 use Rattle.nd_lent.proofs.array_view_mut.mapping.write_rows.Given.{Over}
 use Rattle.nd_lent.proofs.array_view_mut.mapping.write_rows.Goals as goal
 use Rattle.nd_lent.proofs.array_view_mut.mapping.write_rows.Goals.{In-Some-next}

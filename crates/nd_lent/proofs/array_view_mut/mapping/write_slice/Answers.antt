@@ -3,7 +3,7 @@ use Rattle.std.proofs.Common.{rules, ◌≡◌, ◌<◌, pos, Some, None, List, 
 use Rattle.std.specs.Fn.{CalledAt, TakesAt}
 use Rattle.std.proofs.lemmas.List.{get_or-map, length-map, take_all}
 use Rattle.ndarray_layout.specs.Rows.{row_places}
-use Rattle.ndarray_layout.proofs.laws.Rows.{length-row_places}
+use Rattle.ndarray_layout.proofs.Laws.Rows.{length-row_places}
 use Rattle.nd_lent.proofs.RowRuns.{IsNext, all_run, neighbour, neighbours_distinct, one_more, takes_next}
 use Rattle.nd_lent.proofs.array_view_mut.mapping.write_slice.Given.{Over}
 use Rattle.nd_lent.proofs.array_view_mut.mapping.write_slice.Goals as goal

@@ -8,7 +8,7 @@ use Rattle.ndarray_layout.specs.View.{view_places}
 use Rattle.nd_lent.specs.LentRow.{rows_items}
 use Rattle.nd_lent.specs.Mapped.{gives}
 use Rattle.nd_lent.specs.Written.{HasRun}
-use Rattle.nd_parts.specs.Items.{item_at_place}
+use Rattle.nd_lent.specs.Items.{item_at_place}
 use Rattle.nd_lent.proofs.Permuted.{permuted}
 use Rattle.nd_lent.proofs.RowsLent.{All-as_long, items_of_rows, rows_beside, rows_within}
 use Rattle.nd_lent.proofs.array_view_mut.mapping.write_view.Given.{Over}

@@ -11,7 +11,7 @@ use Rattle.ndarray_layout.specs.SliceFault.{argument_fault}
 use Rattle.nd_lent.specs.HasItems.{HasItemsOf, KeepsSpare}
 use Rattle.nd_lent.specs.Mapped.{CallableOnEachMut, RunsOver, part_of, row_major_items}
 use Rattle.nd_lent.specs.Items.{item_at}
-use Rattle.nd_lent.proofs.laws.OwnedViews.{owned_descendant}
+use Rattle.nd_lent.proofs.Laws.OwnedViews.{owned_descendant}
 use Rattle.nd_lent.specs.Items.{ArrayValue}
 use Rattle.nd_owned.proofs.owned.OwnedArray.map_in_place.Goals as goal
 

@@ -13,10 +13,10 @@ use Rattle.nd_owned.proofs.Faults.{HaveCounts}
 use Rattle.std.specs.List.{flat_map}
 use Rattle.nd_owned.proofs.owned.OwnedArray.multi_set.Goals.{After-drop-parts}
 use Rattle.nd_owned.specs.MultiSet.{HaveNoItems, IsFaultOfWrites, IsWritten, KeepsOthers, write_of}
-use Rattle.nd_lent.proofs.laws.Faults.{handed_on}
+use Rattle.nd_lent.proofs.Laws.Faults.{handed_on}
 use Rattle.nd_owned.proofs.Faults.{have_counts, no_fault}
 use Rattle.nd_owned.proofs.Slices.{all_distinct, all_written, one_fault, one_kept, one_written, only, others_kept}
-use Rattle.nd_lent.proofs.laws.Faults.{on_ok}
+use Rattle.nd_lent.proofs.Laws.Faults.{on_ok}
 use Rattle.nd_owned.proofs.owned.OwnedArray.multi_set.Given.{Over}
 use Rattle.nd_owned.proofs.owned.OwnedArray.multi_set.Goals as goal
 use Rattle.nd_owned.proofs.owned.OwnedArray.multi_set.Goals.{After-set_one}

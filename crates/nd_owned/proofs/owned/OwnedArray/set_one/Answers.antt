@@ -5,9 +5,9 @@ use Rattle.ndarray_layout.specs.declared.Fit.TheVariants.{Strict}
 use Rattle.ndarray_layout.specs.SliceFault.{argument_fault}
 use Rattle.nd_owned.specs.private.Written.{HasWritten}
 use Rattle.nd_owned.specs.MultiSet.{write_of, write_places}
-use Rattle.nd_lent.proofs.laws.Faults.{both_none}
+use Rattle.nd_lent.proofs.Laws.Faults.{both_none}
 use Rattle.nd_owned.proofs.Faults.{have_counts}
-use Rattle.nd_lent.proofs.laws.SlicePlaces.{slice_distinct}
+use Rattle.nd_lent.proofs.Laws.SlicePlaces.{slice_distinct}
 use Rattle.nd_owned.proofs.owned.OwnedArray.set_one.Goals as goal
 
 pub write-requires-clause-within : goal.write-requires-clause-within

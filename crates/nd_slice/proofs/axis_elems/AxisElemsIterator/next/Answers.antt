@@ -1,6 +1,6 @@
 use Rattle.std.proofs.Common.{◌≡◌, [], sym, ◌∙◌}
 use Rattle.std.specs.Slice.Iter.{iter_rest}
-use Rattle.nd_slice.proofs.laws.AxisElems.{axis_elems-no_axes}
+use Rattle.nd_slice.proofs.Laws.AxisElems.{axis_elems-no_axes}
 use Rattle.nd_slice.proofs.axis_elems.AxisElemsIterator.next.Goals as goal
 
 pub returns-in_err-next-clause-steps : goal.returns-in_err-next-clause-steps

@@ -2,8 +2,8 @@ use Rattle.std.proofs.Common.{rules, ◌≡◌, ◌-◌, sym, ap, ◌∙◌, w64
 use Rattle.std.proofs.lemmas.Int.{to_z-of_z}
 use Rattle.std.specs.Int.{div_ceil}
 use Rattle.nd_slice.proofs.Definitions.{magnitude}
-use Rattle.nd_slice.proofs.laws.Between.{length-between}
-use Rattle.nd_slice.proofs.laws.UnitStep.{length-between_unit}
+use Rattle.nd_slice.proofs.Laws.Between.{length-between}
+use Rattle.nd_slice.proofs.Laws.UnitStep.{length-between_unit}
 use Rattle.nd_slice.proofs.picks.AxisPicks.count.Goals as goal
 use Rattle.nd_slice.proofs.picks.AxisPicks.count.Goals.{After-unsigned_abs-step}
 

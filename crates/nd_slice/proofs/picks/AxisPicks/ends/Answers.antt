@@ -1,6 +1,6 @@
 use Rattle.std.proofs.Common.{arith}
 use Rattle.std.proofs.lemmas.Int.{ints}
-use Rattle.nd_slice.proofs.laws.Between.{some_between}
+use Rattle.nd_slice.proofs.Laws.Between.{some_between}
 use Rattle.nd_slice.proofs.Ends.{IsExtent, ends_back, ends_on}
 use Rattle.nd_slice.proofs.picks.AxisPicks.ends.Goals as goal
 use Rattle.nd_slice.proofs.picks.AxisPicks.ends.Goals.{After-extent-extent}

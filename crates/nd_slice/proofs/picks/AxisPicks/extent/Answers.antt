@@ -2,7 +2,7 @@
 use Rattle.std.proofs.Common.{rules, ◌-◌, ◌*◌, ap, ◌∙◌, arith, w64}
 use Rattle.std.proofs.lemmas.Int.{to_z-of_z}
 use Rattle.nd_slice.proofs.Definitions.{magnitude}
-use Rattle.nd_slice.proofs.laws.Between.{some_between}
+use Rattle.nd_slice.proofs.Laws.Between.{some_between}
 use Rattle.nd_slice.proofs.Ends.{IsExtent, extent_of}
 use Rattle.nd_slice.proofs.picks.AxisPicks.extent.Goals as goal
 use Rattle.nd_slice.proofs.picks.AxisPicks.extent.Goals.{After-unsigned_abs}

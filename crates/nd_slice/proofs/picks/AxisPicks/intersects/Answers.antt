@@ -2,7 +2,7 @@
 use Rattle.std.proofs.Common.{◌≡◌, true, pos, arith, ◌↔◌}
 use Rattle.nd_slice.proofs.Definitions.{SequencesIntersect, magnitude}
 use Rattle.nd_slice.proofs.intersect_lemmas.Signs.{of_non_negative}
-use Rattle.nd_slice.proofs.laws.PickSequences.{ArePicks, in_range, share_a_pick}
+use Rattle.nd_slice.proofs.Laws.PickSequences.{ArePicks, in_range, share_a_pick}
 use Rattle.nd_slice.proofs.picks.AxisPicks.intersects.Goals as goal
 
 pub returns-then-max-min : goal.returns-then-max-min

@@ -2,7 +2,7 @@ use Rattle.std.proofs.Common.{rules, ◌≡◌, arith, sym, ◌∙◌, length, �
 use Rattle.std.proofs.lemmas.Int.{to_z-of_z}
 use Rattle.nd_slice.proofs.Definitions.{between, signed}
 use Rattle.nd_slice.proofs.Slicing.{stride_fits}
-use Rattle.nd_slice.proofs.laws.Offsets.{picked_many}
+use Rattle.nd_slice.proofs.Laws.Offsets.{picked_many}
 use Rattle.nd_slice.proofs.picks.AxisPicks.stride.Goals as goal
 use Rattle.nd_slice.proofs.picks.AxisPicks.stride.Goals.{After-signed}
 

@@ -3,7 +3,7 @@ use Rattle.std.proofs.Common.{◌≡◌, None, sym, refl}
 use Rattle.ndarray_layout.specs.BroadcastView.{broadcast_fault, broadcast_of, broadcast_source}
 use Rattle.ndarray_layout.specs.Descends.{IsViewOf}
 use Rattle.ndarray_layout.specs.View.{View, view_of}
-use Rattle.ndarray_layout.proofs.laws.BroadcastView.{IsViewOf-broadcast_of}
+use Rattle.ndarray_layout.proofs.Laws.BroadcastView.{IsViewOf-broadcast_of}
 use Rattle.ndarray_layout.proofs.strided.Strided.broadcast.Given.{Over}
 use Rattle.ndarray_layout.proofs.strided.Strided.broadcast.Goals as goal
 use Rattle.ndarray_layout.proofs.strided.Strided.broadcast.Goals.{In_ok-dim}

@@ -3,11 +3,11 @@ use Rattle.std.proofs.Common.{rules, ◌≡◌, None, FitsSigned, pos, ◌+ℤ�
 use Rattle.std.specs.Int.{w64}
 use Rattle.std.proofs.Math.ListN.{get_or-map}
 use Rattle.std.proofs.lemmas.Int.{to_z-of_z}
-use Rattle.nd_base.proofs.laws.Definitions.{magnitude, signed}
+use Rattle.nd_base.proofs.Laws.Definitions.{magnitude, signed}
 use Rattle.ndarray_layout.specs.CollapsedView.{collapse_fault, collapse_of, collapse_source}
 use Rattle.ndarray_layout.specs.Descends.{Descends}
 use Rattle.ndarray_layout.specs.View.{IsPlace, View, view_of}
-use Rattle.ndarray_layout.proofs.laws.CollapsedView.{collapsed_start_within, Descends-collapse_of}
+use Rattle.ndarray_layout.proofs.Laws.CollapsedView.{collapsed_start_within, Descends-collapse_of}
 use Rattle.ndarray_layout.proofs.strided.Strided.collapse.Given.{Over}
 use Rattle.ndarray_layout.proofs.strided.Strided.collapse.Goals.{After-do_collapse_axis-offset, After-offset_place-self-inside}
 use Rattle.ndarray_layout.proofs.strided.Strided.collapse.Goals as goal

@@ -2,11 +2,11 @@
 use Rattle.std.proofs.Common.{rules, ◌≡◌, FitsSigned, pos, ◌+ℤ◌, length, ap, ◌∙◌, refl}
 use Rattle.std.specs.Int.{w64}
 use Rattle.std.proofs.lemmas.Int.{to_z-of_z}
-use Rattle.nd_base.proofs.laws.Definitions.{magnitude, offset_of}
+use Rattle.nd_base.proofs.Laws.Definitions.{magnitude, offset_of}
 use Rattle.ndarray_layout.specs.CroppedView.{RangesFit, moved_starts, cropped_of, crop_source}
 use Rattle.ndarray_layout.specs.Descends.{Descends}
 use Rattle.ndarray_layout.specs.View.{IsPlace, View, view_of}
-use Rattle.ndarray_layout.proofs.laws.CroppedView.{cropped_start_within, moved_small, moved_far, Descends-cropped_of}
+use Rattle.ndarray_layout.proofs.Laws.CroppedView.{cropped_start_within, moved_small, moved_far, Descends-cropped_of}
 use Rattle.ndarray_layout.proofs.strided.Strided.crop.Given.{Over}
 use Rattle.ndarray_layout.proofs.strided.Strided.crop.Goals as goal
 use Rattle.ndarray_layout.proofs.strided.Strided.crop.Goals.{After-slice-6, After-index_offset-offset, After-offset_place-start}

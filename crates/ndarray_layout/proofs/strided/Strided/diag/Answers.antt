@@ -3,7 +3,7 @@ use Rattle.std.proofs.Common.{◌≡◌, length, refl}
 use Rattle.ndarray_layout.specs.Descends.{Descends}
 use Rattle.ndarray_layout.specs.DiagonalView.{diagonal_of, diagonal_source}
 use Rattle.ndarray_layout.specs.View.{View, view_of}
-use Rattle.ndarray_layout.proofs.laws.DiagonalView.{Descends-diagonal_of}
+use Rattle.ndarray_layout.proofs.Laws.DiagonalView.{Descends-diagonal_of}
 use Rattle.ndarray_layout.proofs.strided.Strided.diag.Given.{Over}
 use Rattle.ndarray_layout.proofs.strided.Strided.diag.Goals as goal
 use Rattle.ndarray_layout.proofs.strided.Strided.diag.Goals.{After-new_ix1-2}

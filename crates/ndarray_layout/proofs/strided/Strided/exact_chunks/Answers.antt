@@ -3,7 +3,7 @@ use Rattle.std.proofs.Common.{◌≡◌, None, sym, refl}
 use Rattle.ndarray_layout.specs.ChunksView.{chunk_source, chunks_fault, chunks_of}
 use Rattle.ndarray_layout.specs.Descends.{Descends}
 use Rattle.ndarray_layout.specs.View.{View, view_of}
-use Rattle.ndarray_layout.proofs.laws.ChunksView.{Descends-chunks_of}
+use Rattle.ndarray_layout.proofs.Laws.ChunksView.{Descends-chunks_of}
 use Rattle.ndarray_layout.proofs.strided.Strided.exact_chunks.Given.{Over}
 use Rattle.ndarray_layout.proofs.strided.Strided.exact_chunks.Goals as goal
 use Rattle.ndarray_layout.proofs.strided.Strided.exact_chunks.Goals.{In_ok-dim}

@@ -6,12 +6,12 @@ use Rattle.nd_base.specs.declared.error.ErrorKind.{ErrorKind}
 use Rattle.nd_slice.specs.declared.fit.Fit.{Fit}
 use Rattle.nd_slice.specs.declared.elem.SliceInfoElem.{SliceInfoElem}
 use Rattle.nd_slice.specs.Intersections.{IsIntersection, slices_fault}
-use Rattle.nd_slice.proofs.laws.SliceFault.{each_fits, on_fitting}
+use Rattle.nd_slice.proofs.Laws.SliceFault.{each_fits, on_fitting}
 use Rattle.ndarray_layout.specs.DistinctPlaces.{HasDistinctPlaces}
 use Rattle.ndarray_layout.specs.SlicesSharePlace.{IsSharedPlace}
 use Rattle.ndarray_layout.specs.View.{View, IsView}
-use Rattle.ndarray_layout.proofs.laws.SharePlace.{intersect_is_shared_place, intersect_of_shared_place}
-use Rattle.ndarray_layout.proofs.laws.View.{lens_fit}
+use Rattle.ndarray_layout.proofs.Laws.SharePlace.{intersect_is_shared_place, intersect_of_shared_place}
+use Rattle.ndarray_layout.proofs.Laws.View.{lens_fit}
 use Rattle.ndarray_layout.proofs.strided.Strided.first_intersection.Goals as goal
 
 of_found : (fit : Fit) (slices : List (List SliceInfoElem)) {view : View} (found : Option (ℕ × ℕ)) → IsView view

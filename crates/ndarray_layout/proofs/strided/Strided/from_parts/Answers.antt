@@ -1,12 +1,12 @@
 -- The start is no lower than the layout reaches down, and the highest place fits.
 use Rattle.std.proofs.Common.{◌≡◌, ℕ, ◌-◌, ℤ, true, false, None, Some, List, arith, rules, sym, ap, ◌∙◌}
-use Rattle.nd_base.proofs.laws.Definitions.{all_signed, high_span, is_empty, low_span, span}
-use Rattle.nd_base.proofs.laws.Span.{low_high_span}
+use Rattle.nd_base.proofs.Laws.Definitions.{all_signed, high_span, is_empty, low_span, span}
+use Rattle.nd_base.proofs.Laws.Span.{low_high_span}
 use Rattle.nd_shape.specs.Acceptance.{may_share}
 use Rattle.nd_shape.specs.declared.acceptance.CanIndexCheckMode.TheVariants.{OwnedMutable}
 use Rattle.ndarray_layout.specs.AcceptanceFrom.{acceptance_from, leaves_data_from}
 use Rattle.ndarray_layout.proofs.FromStart.{accepted, leaves_above, leaves_below, outside, shared, shares_owned, shares_read}
-use Rattle.ndarray_layout.proofs.laws.AcceptanceFrom.{placed_in_bounds, placed_is_view}
+use Rattle.ndarray_layout.proofs.Laws.AcceptanceFrom.{placed_in_bounds, placed_is_view}
 use Rattle.ndarray_layout.proofs.strided.Strided.from_parts.Given.{Over}
 use Rattle.ndarray_layout.proofs.strided.Strided.from_parts.Goals as goal
 use Rattle.ndarray_layout.proofs.strided.Strided.from_parts.Goals.{Joined-else-eq, then-start-low-via-then-start-low}

@@ -1,11 +1,11 @@
 -- The first index lies as far on as the layout reaches down.
 use Rattle.std.proofs.Common.{◌≡◌, ℕ, ◌≤◌, List, arith, subst, sym}
-use Rattle.nd_base.proofs.laws.Definitions.{all_signed, limit, nonzero_size, low_span, IsValidLayout}
-use Rattle.nd_base.proofs.laws.NonzeroSize.{size_le_nonzero_size}
+use Rattle.nd_base.proofs.Laws.Definitions.{all_signed, limit, nonzero_size, low_span, IsValidLayout}
+use Rattle.nd_base.proofs.Laws.NonzeroSize.{size_le_nonzero_size}
 use Rattle.ndarray_layout.specs.View.{IsView, view_of}
 use Rattle.nd_shape.specs.NoAlias.{SatisfiesNoAliasRule}
 use Rattle.ndarray_layout.proofs.AcceptedRule.{by_strides_satisfy}
-use Rattle.ndarray_layout.proofs.laws.View.{lowest_view}
+use Rattle.ndarray_layout.proofs.Laws.View.{lowest_view}
 use Rattle.ndarray_layout.proofs.strided.Strided.from_shape.Goals as goal
 
 pub strides_for_dim-requires-clause-size_fits : goal.strides_for_dim-requires-clause-size_fits

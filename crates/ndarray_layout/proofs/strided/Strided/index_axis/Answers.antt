@@ -1,14 +1,14 @@
 -- What was written is the view at the coordinate.
 use Rattle.std.proofs.Common.{◌≡◌, None, pos, ◌+ℤ◌, ◌*ℤ◌, get_or, ap, ◌∙◌, refl}
-use Rattle.nd_base.proofs.laws.Definitions.{magnitude, signed}
+use Rattle.nd_base.proofs.Laws.Definitions.{magnitude, signed}
 use Rattle.ndarray_layout.specs.CollapsedView.{collapse_fault}
 use Rattle.ndarray_layout.specs.Descends.{Descends}
 use Rattle.ndarray_layout.specs.IndexedView.{indexed_of, index_source}
 use Rattle.ndarray_layout.specs.View.{IsPlace, View, view_of}
 use Rattle.ndarray_layout.proofs.OneAxis.{stride_read}
 use Rattle.ndarray_layout.proofs.OneAxis.{map-remove}
-use Rattle.ndarray_layout.proofs.laws.CollapsedView.{collapsed_start_within}
-use Rattle.ndarray_layout.proofs.laws.IndexedView.{Descends-indexed_of, index_small}
+use Rattle.ndarray_layout.proofs.Laws.CollapsedView.{collapsed_start_within}
+use Rattle.ndarray_layout.proofs.Laws.IndexedView.{Descends-indexed_of, index_small}
 use Rattle.ndarray_layout.proofs.strided.Strided.index_axis.Given.{Over}
 use Rattle.ndarray_layout.proofs.strided.Strided.index_axis.Goals as goal
 use Rattle.ndarray_layout.proofs.strided.Strided.index_axis.Goals.{After-axis_of-stride, After-place_along_axis-start}

@@ -5,7 +5,7 @@ use Rattle.ndarray_layout.specs.Descends.{Descends}
 use Rattle.ndarray_layout.specs.InsertedView.{inserted_of, insert_source}
 use Rattle.ndarray_layout.specs.View.{View, view_of}
 use Rattle.ndarray_layout.proofs.OneAxis.{map-insert}
-use Rattle.ndarray_layout.proofs.laws.InsertedView.{Descends-inserted_of}
+use Rattle.ndarray_layout.proofs.Laws.InsertedView.{Descends-inserted_of}
 use Rattle.ndarray_layout.proofs.strided.Strided.insert_axis.Given.{Over}
 use Rattle.ndarray_layout.proofs.strided.Strided.insert_axis.Goals as goal
 use Rattle.ndarray_layout.proofs.strided.Strided.insert_axis.Goals.{In_ok-strides}

@@ -5,14 +5,14 @@ use Rattle.std.specs.Int.{w64}
 use Rattle.std.specs.Iterator.{YieldsFirst}
 use Rattle.std.proofs.iter.runs.Sources.{as_is, from_front}
 use Rattle.std.proofs.lemmas.Int.{to_z-of_z}
-use Rattle.nd_base.proofs.laws.Definitions.{signed}
+use Rattle.nd_base.proofs.Laws.Definitions.{signed}
 use Rattle.ndarray_layout.specs.declared.strided.rows.Row.{Row}
 use Rattle.ndarray_layout.specs.Rows.{rows_places}
 use Rattle.ndarray_layout.specs.RowsLeft.{axis_view}
 use Rattle.ndarray_layout.specs.View.{IsView, view_of, view_places}
 use Rattle.ndarray_layout.proofs.LongestRow.{as_long, longest}
 use Rattle.ndarray_layout.proofs.NumberedRows.{few_of_axis, is_slower_view, rows_of_axis, same_axes}
-use Rattle.ndarray_layout.proofs.laws.Rows.{rows_places-view_rows, some_in_each_row}
+use Rattle.ndarray_layout.proofs.Laws.Rows.{rows_places-view_rows, some_in_each_row}
 use Rattle.ndarray_layout.proofs.strided.Strided.into_joined_rows.Goals as goal
 
 pub along-requires-clause-axes : goal.along-requires-clause-axes

@@ -4,7 +4,7 @@ use Rattle.std.specs.Int.{w64}
 use Rattle.std.specs.Iterator.{YieldsFirst}
 use Rattle.std.proofs.iter.runs.Sources.{as_is, from_front}
 use Rattle.std.proofs.lemmas.Int.{to_z-of_z}
-use Rattle.nd_base.proofs.laws.Definitions.{signed}
+use Rattle.nd_base.proofs.Laws.Definitions.{signed}
 use Rattle.ndarray_layout.specs.declared.strided.rows.Row.{Row}
 use Rattle.ndarray_layout.specs.Rows.{view_rows}
 use Rattle.ndarray_layout.specs.View.{IsView, view_of}

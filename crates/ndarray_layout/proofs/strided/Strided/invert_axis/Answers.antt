@@ -1,13 +1,13 @@
 -- What was written is the view with the axis backwards.
 use Rattle.std.proofs.Common.{rules, ◌≡◌, ◌-◌, ◌<◌, length, set, pos, ◌+ℤ◌, ◌*ℤ◌, get_or, ap, ◌∙◌, arith, refl}
 use Rattle.std.proofs.lemmas.List.{length-set, map-set}
-use Rattle.nd_base.proofs.laws.Definitions.{magnitude, signed}
-use Rattle.nd_base.proofs.laws.NonzeroSize.{length_le_nonzero_size}
+use Rattle.nd_base.proofs.Laws.Definitions.{magnitude, signed}
+use Rattle.nd_base.proofs.Laws.NonzeroSize.{length_le_nonzero_size}
 use Rattle.ndarray_layout.specs.Descends.{Descends}
 use Rattle.ndarray_layout.specs.InvertedView.{inverted_of, invert_source, opposite_stride}
 use Rattle.ndarray_layout.specs.View.{IsPlace, View, view_of}
 use Rattle.ndarray_layout.proofs.OneAxis.{length_read, stride_read}
-use Rattle.ndarray_layout.proofs.laws.InvertedView.{inverted_start_within, Descends-inverted_of}
+use Rattle.ndarray_layout.proofs.Laws.InvertedView.{inverted_start_within, Descends-inverted_of}
 use Rattle.ndarray_layout.proofs.strided.Strided.invert_axis.Given.{Over}
 use Rattle.ndarray_layout.proofs.strided.Strided.invert_axis.Goals as goal
 use Rattle.ndarray_layout.proofs.strided.Strided.invert_axis.Goals.{After-saturating_sub, After-place_along_axis-self-inside}

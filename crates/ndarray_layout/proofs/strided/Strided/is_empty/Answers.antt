@@ -1,7 +1,7 @@
 -- A shape has no index exactly where a length is 0.
 use Rattle.std.proofs.Common.{rules, ◌≡◌, ℕ, Bool, true, false, List, refl, sym, ◌∙◌, arith}
 use Rattle.nd_base.specs.Size.{is_empty, size}
-use Rattle.nd_base.proofs.laws.Size.{size_of_empty, size_of_nonempty}
+use Rattle.nd_base.proofs.Laws.Size.{size_of_empty, size_of_nonempty}
 use Rattle.ndarray_layout.proofs.strided.Strided.is_empty.Goals as goal
 
 empty_of_size : (shape : List ℕ) → size shape ≡ 0 → is_empty shape ≡ true

@@ -3,11 +3,11 @@ use Rattle.std.proofs.Common.{ℤ, pos, List, length, sym, ap, subst, ◌^◌, a
 use Rattle.std.specs.Iterator.{YieldsFirstBy}
 use Rattle.std.specs.List.{All}
 use Rattle.std.proofs.iter.runs.Sources.{from_front}
-use Rattle.nd_base.proofs.laws.Definitions.{IsInBounds}
-use Rattle.nd_base.proofs.laws.NonzeroSize.{size_le_nonzero_size}
+use Rattle.nd_base.proofs.Laws.Definitions.{IsInBounds}
+use Rattle.nd_base.proofs.Laws.NonzeroSize.{size_le_nonzero_size}
 use Rattle.ndarray_layout.specs.View.{View, IsView, view_of}
-use Rattle.ndarray_layout.proofs.laws.Rows.{places_fit}
-use Rattle.ndarray_layout.proofs.laws.View.{length-view_places}
+use Rattle.ndarray_layout.proofs.Laws.Rows.{places_fit}
+use Rattle.ndarray_layout.proofs.Laws.View.{length-view_places}
 use Rattle.ndarray_layout.proofs.strided.Strided.iter_places.Goals as goal
 
 pub new-requires-clause-in_bounds : goal.new-requires-clause-in_bounds

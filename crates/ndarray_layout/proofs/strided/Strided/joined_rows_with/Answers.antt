@@ -6,7 +6,7 @@ use Rattle.ndarray_layout.specs.RowsLeft.{axis_view}
 use Rattle.ndarray_layout.specs.View.{View, IsView, view_of, view_places}
 use Rattle.ndarray_layout.proofs.LongestRow.{as_long}
 use Rattle.ndarray_layout.proofs.AlikeRows.{longest_of_both, rows-alike}
-use Rattle.ndarray_layout.proofs.laws.Rows.{rows_places-view_rows, some_in_each_row}
+use Rattle.ndarray_layout.proofs.Laws.Rows.{rows_places-view_rows, some_in_each_row}
 use Rattle.ndarray_layout.proofs.strided.Strided.joined_rows_with.Goals as goal
 
 pub along-requires : goal.along-requires

@@ -1,7 +1,7 @@
 -- The size of a view fits.
 use Rattle.std.proofs.Common.{◌<◌, ◌^◌, sym, subst}
 use Rattle.nd_base.specs.Size.{size}
-use Rattle.ndarray_layout.proofs.laws.View.{size_fits}
+use Rattle.ndarray_layout.proofs.Laws.View.{size_fits}
 use Rattle.ndarray_layout.proofs.strided.Strided.len.Goals as goal
 
 pub product-requires : goal.product-requires

@@ -12,10 +12,10 @@ use Rattle.ndarray_layout.specs.DistinctPlaces.{HasDistinctPlaces}
 use Rattle.ndarray_layout.specs.SharePlace.{SharePlace}
 use Rattle.ndarray_layout.specs.SlicedView.{slice_of}
 use Rattle.ndarray_layout.specs.View.{View, IsView}
-use Rattle.ndarray_layout.proofs.laws.SharePlace.{intersect_is_shared_place}
-use Rattle.ndarray_layout.proofs.laws.View.{lens_fit}
+use Rattle.ndarray_layout.proofs.Laws.SharePlace.{intersect_is_shared_place}
+use Rattle.ndarray_layout.proofs.Laws.View.{lens_fit}
 use Rattle.ndarray_layout.proofs.strided.Strided.meets.Goals as goal
-use Rattle.nd_base.proofs.laws.Options.{option_or_none}
+use Rattle.nd_base.proofs.Laws.Options.{option_or_none}
 
 by_places : (fit : Fit) (one other : List SliceInfoElem) {view : View} (answer : Result Bool ErrorKind) → IsView view
     → result_err answer ≡ option_or (argument_fault fit view.shape one) (argument_fault fit view.shape other)

@@ -8,7 +8,7 @@ use Rattle.nd_shape.specs.Merge.{merged_shape, merged_strides}
 use Rattle.ndarray_layout.specs.Descends.{Descends}
 use Rattle.ndarray_layout.specs.MergedView.{HasMergedStride, axes_fault, lasting_axis, merge_of, merge_source}
 use Rattle.ndarray_layout.specs.View.{View, IsView, view_of}
-use Rattle.ndarray_layout.proofs.laws.MergedView.{has_merged_stride-Decides, no_fault_where_it_can, Descends-merge_of}
+use Rattle.ndarray_layout.proofs.Laws.MergedView.{has_merged_stride-Decides, no_fault_where_it_can, Descends-merge_of}
 use Rattle.ndarray_layout.proofs.strided.Strided.merge.Given.{Over}
 use Rattle.ndarray_layout.proofs.strided.Strided.merge.Goals as goal
 

@@ -1,5 +1,5 @@
 -- The first index lies as far on as the layout reaches down.
-use Rattle.ndarray_layout.proofs.laws.View.{lowest_view}
+use Rattle.ndarray_layout.proofs.Laws.View.{lowest_view}
 use Rattle.ndarray_layout.proofs.strided.Strided.new.Goals as goal
 
 pub invariant_of-result : goal.invariant_of-result

@@ -5,7 +5,7 @@ use Rattle.nd_dim.specs.AxesInOrder.{reordered as in_order}
 use Rattle.ndarray_layout.specs.Descends.{Descends}
 use Rattle.ndarray_layout.specs.PermutedView.{permuted_of, permute_source}
 use Rattle.ndarray_layout.specs.View.{View, view_of}
-use Rattle.ndarray_layout.proofs.laws.PermutedView.{no_fault_of_order, order_of_no_fault, signed_in_order, Descends-permuted_of}
+use Rattle.ndarray_layout.proofs.Laws.PermutedView.{no_fault_of_order, order_of_no_fault, signed_in_order, Descends-permuted_of}
 use Rattle.ndarray_layout.proofs.strided.Strided.permuted_axes.Given.{Over}
 use Rattle.ndarray_layout.proofs.strided.Strided.permuted_axes.Goals as goal
 use Rattle.ndarray_layout.proofs.strided.Strided.permuted_axes.Goals.{In_ok-reordered}

@@ -1,7 +1,7 @@
 use Rattle.std.proofs.Common.{rules, FitsSigned}
 use Rattle.std.specs.Int.{w64}
 use Rattle.std.proofs.lemmas.Int.{to_z-of_z}
-use Rattle.ndarray_layout.proofs.laws.View.{offset_place_within}
+use Rattle.ndarray_layout.proofs.Laws.View.{offset_place_within}
 use Rattle.ndarray_layout.proofs.strided.Strided.place.Goals as goal
 
 pub offset_place-requires-clause-there : goal.offset_place-requires-clause-there

@@ -1,10 +1,10 @@
 use Rattle.std.proofs.Common.{◌≡◌, ◌^◌, pos, map, length, refl, sym, ap, subst, ◌∙◌, arith}
 use Rattle.std.specs.List.{All}
-use Rattle.nd_base.proofs.laws.Definitions.{IsInBounds, size}
-use Rattle.nd_base.proofs.laws.NonzeroSize.{size_le_nonzero_size}
+use Rattle.nd_base.proofs.Laws.Definitions.{IsInBounds, size}
+use Rattle.nd_base.proofs.Laws.NonzeroSize.{size_le_nonzero_size}
 use Rattle.ndarray_layout.specs.View.{View, IsView, view_of, view_places}
-use Rattle.ndarray_layout.proofs.laws.Rows.{places_fit}
-use Rattle.ndarray_layout.proofs.laws.View.{item_at_flat_index, items_lie_within, length-view_places, size_fits}
+use Rattle.ndarray_layout.proofs.Laws.Rows.{places_fit}
+use Rattle.ndarray_layout.proofs.Laws.View.{item_at_flat_index, items_lie_within, length-view_places, size_fits}
 use Rattle.ndarray_layout.proofs.strided.Strided.places.Goals as goal
 
 pub product-size-requires : goal.product-size-requires

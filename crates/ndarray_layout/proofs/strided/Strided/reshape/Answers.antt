@@ -2,7 +2,7 @@
 use Rattle.std.proofs.Common.{◌≡◌, ap, refl, subst, sym}
 use Rattle.ndarray_layout.specs.ReshapedView.{reshape_of}
 use Rattle.ndarray_layout.specs.View.{View, view_of, view_places}
-use Rattle.ndarray_layout.proofs.laws.ReshapedView.{view_reshape_fault-ReshapeFits, Descends-reshape_of, view_places-reshape_of}
+use Rattle.ndarray_layout.proofs.Laws.ReshapedView.{view_reshape_fault-ReshapeFits, Descends-reshape_of, view_places-reshape_of}
 use Rattle.ndarray_layout.proofs.strided.Strided.reshape.Given.{Over}
 use Rattle.ndarray_layout.proofs.strided.Strided.reshape.Goals as goal
 use Rattle.ndarray_layout.proofs.strided.Strided.reshape.Goals.{In_ok-duplicate}

@@ -2,7 +2,7 @@
 use Rattle.std.proofs.Common.{◌≡◌, ◌≤◌, sym, ap, subst, ◌∙◌}
 use Rattle.std.specs.Prelude.{None, IfErr, IfOk, OnOk}
 use Rattle.std.proofs.lemmas.Bool.{false≢true}
-use Rattle.nd_base.proofs.laws.Definitions.{NeedsNoMemory, all_signed, is_empty, limit, nonzero_size}
+use Rattle.nd_base.proofs.Laws.Definitions.{NeedsNoMemory, all_signed, is_empty, limit, nonzero_size}
 use Rattle.ndarray_layout.specs.ReshapedView.{IsReshapeError, reshaped_strides as strides_of, view_reshape_fault}
 use Rattle.ndarray_layout.specs.View.{View, view_of}
 use Rattle.ndarray_layout.proofs.matching.Views.{HaveIndices, view_fault_between, error_between, both_are, strides_between, strides_of_none}
@@ -10,7 +10,7 @@ use Rattle.ndarray_layout.proofs.matching.Views.{within_limit}
 use Rattle.std.specs.Prelude.{length}
 use Rattle.ndarray_layout.proofs.strided.Strided.reshaped_strides.Given.{Over}
 use Rattle.ndarray_layout.proofs.strided.Strided.reshaped_strides.Goals as goal
-use Rattle.nd_base.proofs.laws.Faults.{IfErr-handed_on}
+use Rattle.nd_base.proofs.Laws.Faults.{IfErr-handed_on}
 
 pub returns-in_err-zeros-clause-fault : goal.returns-in_err-zeros-clause-fault
 returns-in_err-zeros-clause-fault g c =

@@ -1,11 +1,11 @@
 -- What was written is the transpose of the view.
 use Rattle.std.proofs.Common.{◌≡◌, length, reverse, sym, ap, subst, ◌∙◌}
 use Rattle.nd_base.specs.Signed.{signed}
-use Rattle.nd_base.proofs.laws.Lists.{map-reverse}
+use Rattle.nd_base.proofs.Laws.Lists.{map-reverse}
 use Rattle.ndarray_layout.specs.Descends.{Descends}
 use Rattle.ndarray_layout.specs.PermutedView.{reversed_of}
 use Rattle.ndarray_layout.specs.View.{IsView, view_of}
-use Rattle.ndarray_layout.proofs.laws.PermutedView.{Descends-reversed_of}
+use Rattle.ndarray_layout.proofs.Laws.PermutedView.{Descends-reversed_of}
 use Rattle.ndarray_layout.proofs.strided.Strided.reversed_axes.Given.{Over}
 use Rattle.ndarray_layout.proofs.strided.Strided.reversed_axes.Goals as goal
 use Rattle.ndarray_layout.proofs.strided.Strided.reversed_axes.Goals.{After-reverse-2}

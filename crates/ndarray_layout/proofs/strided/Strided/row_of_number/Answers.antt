@@ -8,7 +8,7 @@ use Rattle.nd_base.specs.Signed.{all_signed, signed}
 use Rattle.nd_base.specs.Size.{size}
 use Rattle.ndarray_layout.specs.View.{IsView, view_of}
 use Rattle.ndarray_layout.proofs.NthRow.{none_at, row_at_number, row_is_view, row_within, slower}
-use Rattle.ndarray_layout.proofs.laws.View.{size_fits}
+use Rattle.ndarray_layout.proofs.Laws.View.{size_fits}
 use Rattle.ndarray_layout.proofs.strided.Strided.row_of_number.Given.{Over}
 use Rattle.ndarray_layout.proofs.strided.Strided.row_of_number.Goals as goal
 use Rattle.ndarray_layout.proofs.strided.Strided.row_of_number.Goals.{After-signed, then-axis-eq0-via-then-axis-eq0}

@@ -2,13 +2,13 @@
 use Rattle.std.proofs.Common.{rules, ◌≡◌, None, FitsSigned, pos, ◌+ℤ◌, sym, ap, ◌∙◌, refl}
 use Rattle.std.specs.Int.{w64}
 use Rattle.std.proofs.lemmas.Int.{to_z-of_z}
-use Rattle.nd_base.proofs.laws.Definitions.{magnitude}
+use Rattle.nd_base.proofs.Laws.Definitions.{magnitude}
 use Rattle.nd_slice.specs.SliceFault.{argument_fault}
 use Rattle.nd_slice.specs.Selected.{selected}
 use Rattle.ndarray_layout.specs.Descends.{Descends}
 use Rattle.ndarray_layout.specs.SlicedView.{slice_of}
 use Rattle.ndarray_layout.specs.View.{IsPlace, View, view_of}
-use Rattle.ndarray_layout.proofs.laws.SlicedView.{no_argument_fault, sliced_start_within, Descends-slice_of}
+use Rattle.ndarray_layout.proofs.Laws.SlicedView.{no_argument_fault, sliced_start_within, Descends-slice_of}
 use Rattle.ndarray_layout.proofs.strided.Strided.slice.Given.{Over}
 use Rattle.ndarray_layout.proofs.strided.Strided.slice.Goals as goal
 use Rattle.ndarray_layout.proofs.strided.Strided.slice.Goals.{After-struct_told-1, After-offset_place-start}

@@ -1,11 +1,11 @@
 -- What was written are the two parts of the view.
 use Rattle.std.proofs.Common.{◌≡◌, None, ap, arith, refl}
-use Rattle.nd_base.proofs.laws.Definitions.{magnitude}
+use Rattle.nd_base.proofs.Laws.Definitions.{magnitude}
 use Rattle.ndarray_layout.specs.Descends.{Descends}
 use Rattle.ndarray_layout.specs.SplitView.{split_fault, first_part_of, second_part_of, second_source}
 use Rattle.ndarray_layout.specs.View.{View, view_of}
 use Rattle.ndarray_layout.proofs.OneAxis.{length_read}
-use Rattle.ndarray_layout.proofs.laws.SplitView.{cut_of_no_fault, Descends-first_part_of, Descends-second_part_of}
+use Rattle.ndarray_layout.proofs.Laws.SplitView.{cut_of_no_fault, Descends-first_part_of, Descends-second_part_of}
 use Rattle.ndarray_layout.proofs.strided.Strided.split_at.Given.{Over}
 use Rattle.ndarray_layout.proofs.strided.Strided.split_at.Goals as goal
 use Rattle.ndarray_layout.proofs.strided.Strided.split_at.Goals.{After-with_length-2}

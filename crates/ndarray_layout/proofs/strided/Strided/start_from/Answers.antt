@@ -1,12 +1,12 @@
 -- The part begins where its first coordinate does.
 use Rattle.std.proofs.Common.{◌≡◌, inl, inr, None, pos, ◌+ℤ◌, ◌*ℤ◌, get_or, arith, refl, ◌∙◌}
-use Rattle.nd_base.proofs.laws.Definitions.{signed}
-use Rattle.nd_base.proofs.laws.NonzeroSize.{length_le_nonzero_size}
+use Rattle.nd_base.proofs.Laws.Definitions.{signed}
+use Rattle.nd_base.proofs.Laws.NonzeroSize.{length_le_nonzero_size}
 use Rattle.ndarray_layout.specs.SplitView.{split_fault, second_start}
 use Rattle.ndarray_layout.specs.View.{View, view_of}
 use Rattle.ndarray_layout.proofs.AxisByAxis.{range_cases}
 use Rattle.ndarray_layout.proofs.OneAxis.{length_read, stride_read}
-use Rattle.ndarray_layout.proofs.laws.SplitView.{second_start_within}
+use Rattle.ndarray_layout.proofs.Laws.SplitView.{second_start_within}
 use Rattle.ndarray_layout.proofs.strided.Strided.start_from.Given.{Over}
 use Rattle.ndarray_layout.proofs.strided.Strided.start_from.Goals as goal
 use Rattle.ndarray_layout.proofs.strided.Strided.start_from.Goals.{After-moved_start}

@@ -1,12 +1,12 @@
 -- The layout lies in the order if and only if the places follow one another, and then they are so many.
 use Rattle.std.proofs.Common.{◌≡◌, ◌≤◌, ℕ, eqb, refl, ap, sym, ◌∙◌, arith}
 use Rattle.std.proofs.lemmas.Bool.{cond-true, cond-false, eq-eqb, false≢true, ne_eqb}
-use Rattle.nd_base.proofs.laws.Definitions.{limit, size}
-use Rattle.nd_base.proofs.laws.NonzeroSize.{size_le_nonzero_size}
+use Rattle.nd_base.proofs.Laws.Definitions.{limit, size}
+use Rattle.nd_base.proofs.Laws.NonzeroSize.{size_le_nonzero_size}
 use Rattle.ndarray_layout.specs.Stretch.{stretch_start}
 use Rattle.ndarray_layout.specs.View.{view_of}
-use Rattle.ndarray_layout.proofs.laws.Stretch.{IsStretch-exactly, stretch_in_bounds}
-use Rattle.ndarray_layout.proofs.laws.View.{size_fits}
+use Rattle.ndarray_layout.proofs.Laws.Stretch.{IsStretch-exactly, stretch_in_bounds}
+use Rattle.ndarray_layout.proofs.Laws.View.{size_fits}
 use Rattle.ndarray_layout.proofs.strided.Strided.stretch.Goals as goal
 use Rattle.ndarray_layout.proofs.strided.Strided.stretch.Goals.{then-size-eq0, else-size-eq0}
 

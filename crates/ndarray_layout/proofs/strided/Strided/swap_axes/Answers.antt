@@ -6,7 +6,7 @@ use Rattle.nd_base.specs.Signed.{signed}
 use Rattle.ndarray_layout.specs.Descends.{Descends}
 use Rattle.ndarray_layout.specs.PermutedView.{swapped_of}
 use Rattle.ndarray_layout.specs.View.{View, view_of}
-use Rattle.ndarray_layout.proofs.laws.PermutedView.{map-swap, no_fault_of_axes, Descends-swapped_of}
+use Rattle.ndarray_layout.proofs.Laws.PermutedView.{map-swap, no_fault_of_axes, Descends-swapped_of}
 use Rattle.ndarray_layout.proofs.strided.Strided.swap_axes.Given.{Over}
 use Rattle.ndarray_layout.proofs.strided.Strided.swap_axes.Goals as goal
 use Rattle.ndarray_layout.proofs.strided.Strided.swap_axes.Goals.{After-swap-2}

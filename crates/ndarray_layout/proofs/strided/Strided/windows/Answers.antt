@@ -3,7 +3,7 @@ use Rattle.std.proofs.Common.{◌≡◌, None, length, sym, refl}
 use Rattle.ndarray_layout.specs.Descends.{IsViewOf}
 use Rattle.ndarray_layout.specs.View.{View, view_of}
 use Rattle.ndarray_layout.specs.WindowsView.{window_source, windows_fault, windows_of}
-use Rattle.ndarray_layout.proofs.laws.WindowsView.{IsViewOf-windows_of}
+use Rattle.ndarray_layout.proofs.Laws.WindowsView.{IsViewOf-windows_of}
 use Rattle.ndarray_layout.proofs.strided.Strided.windows.Given.{Over}
 use Rattle.ndarray_layout.proofs.strided.Strided.windows.Goals as goal
 use Rattle.ndarray_layout.proofs.strided.Strided.windows.Goals.{In_ok-dim}

@@ -1,14 +1,14 @@
 -- Axes that go on where both so far end are joined to them; the first that doesn't stays.
 use Rattle.std.proofs.Common.{◌*◌, ◌<◌, ap, refl, arith}
 use Rattle.std.proofs.lemmas.Bool.{both_ways}
-use Rattle.nd_base.proofs.laws.Definitions.{all_signed, low_span, signed}
+use Rattle.nd_base.proofs.Laws.Definitions.{all_signed, low_span, signed}
 use Rattle.nd_shape.specs.Merge.{IsMergedStride}
-use Rattle.nd_shape.proofs.laws.Merge.{into_short, short_taken, steps_on}
+use Rattle.nd_shape.proofs.Laws.Merge.{into_short, short_taken, steps_on}
 use Rattle.ndarray_layout.specs.declared.strided.rows.Fastest.{Fastest}
 use Rattle.ndarray_layout.proofs.AlikeRows.{NoneGoesOnInBoth-first, NoneGoesOnInBoth-second, next_alike}
 use Rattle.ndarray_layout.proofs.JoinedAxis.{HasPlaces-joined, HasPlaces-one, IsNext, Joins, NoneGoesOn-apart, both_fit, counts}
 use Rattle.ndarray_layout.proofs.JoinedAxis.{len_fits, next_fits}
-use Rattle.ndarray_layout.proofs.laws.View.{lowest_view}
+use Rattle.ndarray_layout.proofs.Laws.View.{lowest_view}
 use Rattle.ndarray_layout.proofs.strided.alike_rows.joined_axes.Goals as goal
 use Rattle.ndarray_layout.proofs.strided.alike_rows.joined_axes.Goals.{then-axis-gt1, else-axis-gt1, else-next-gt1}
 use Rattle.ndarray_layout.proofs.strided.alike_rows.joined_axes.Goals.{then-next-gt1+else-not-goes_on+else-not-goes_on-2}

@@ -2,12 +2,12 @@
 use Rattle.std.proofs.Common.{◌≡◌, ◌*◌, true, false, cond, pos, List, ℕ, ◌∷◌, ◌++◌, length, replicate, None, zero, suc, refl, sym, ap}
 use Rattle.std.proofs.Common.{◌∙◌, arith}
 use Rattle.std.proofs.lemmas.List.{length-append}
-use Rattle.nd_base.proofs.laws.Definitions.{all_signed, is_empty}
-use Rattle.nd_base.proofs.laws.NonzeroSize.{length_le_nonzero_size}
+use Rattle.nd_base.proofs.Laws.Definitions.{all_signed, is_empty}
+use Rattle.nd_base.proofs.Laws.NonzeroSize.{length_le_nonzero_size}
 use Rattle.ndarray_layout.specs.BlocksView.{blocks_fault}
 use Rattle.ndarray_layout.specs.private.Blocks.{block_counts, block_strides}
 use Rattle.ndarray_layout.proofs.BlocksWritten.{length-block_counts}
-use Rattle.ndarray_layout.proofs.laws.BlocksView.{can_take_blocks}
+use Rattle.ndarray_layout.proofs.Laws.BlocksView.{can_take_blocks}
 use Rattle.ndarray_layout.proofs.strided.blocks.block_axes.Given.{Over}
 use Rattle.ndarray_layout.proofs.strided.blocks.block_axes.Goals as goal
 use Rattle.ndarray_layout.proofs.strided.blocks.block_axes.Goals.{Joined-not-contains, else-not-contains, then-not-contains}

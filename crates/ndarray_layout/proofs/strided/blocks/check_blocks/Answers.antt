@@ -5,11 +5,11 @@ use Rattle.std.proofs.lemmas.Bool.{lt-ltb, ltb-false, ltb-true}
 use Rattle.std.specs.Prelude.{◌&&◌, ◌==◌, nat_lt}
 use Rattle.std.specs.Result.{result_err}
 use Rattle.nd_base.specs.declared.error.ErrorKind.TheVariants.{Overflow}
-use Rattle.nd_base.proofs.laws.Definitions.{is_empty, limit, nonzero_size}
-use Rattle.nd_base.proofs.laws.NonzeroSize.{nonzero_size_of_nonempty, nonzero_size_pos, size_le_nonzero_size}
+use Rattle.nd_base.proofs.Laws.Definitions.{is_empty, limit, nonzero_size}
+use Rattle.nd_base.proofs.Laws.NonzeroSize.{nonzero_size_of_nonempty, nonzero_size_pos, size_le_nonzero_size}
 use Rattle.ndarray_layout.specs.private.Blocks.{block_counts}
 use Rattle.ndarray_layout.proofs.BlocksWritten.{no_overflow_reported, overflow_fault, overflow_reported}
-use Rattle.ndarray_layout.proofs.laws.BlocksView.{allows}
+use Rattle.ndarray_layout.proofs.Laws.BlocksView.{allows}
 use Rattle.ndarray_layout.proofs.strided.blocks.check_blocks.Given.{Over}
 use Rattle.ndarray_layout.proofs.strided.blocks.check_blocks.Goals as goal
 use Rattle.ndarray_layout.proofs.strided.blocks.check_blocks.Goals.{Else-contains, In_ok-size}

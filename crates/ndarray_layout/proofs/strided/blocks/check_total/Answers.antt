@@ -7,7 +7,7 @@ use Rattle.std.specs.Prelude.{nat_lt}
 use Rattle.std.specs.Result.{result_err}
 use Rattle.nd_base.specs.declared.error.ErrorKind.TheVariants.{Overflow}
 use Rattle.nd_base.specs.Size.{limit, nonzero_size, size}
-use Rattle.nd_base.proofs.laws.NonzeroSize.{nonzero_size_from_other, nonzero_size_from_zero, nonzero_size_of_nonempty, nonzero_size_pos}
+use Rattle.nd_base.proofs.Laws.NonzeroSize.{nonzero_size_from_other, nonzero_size_from_zero, nonzero_size_of_nonempty, nonzero_size_pos}
 use Rattle.ndarray_layout.specs.private.Blocks.{block_counts}
 use Rattle.ndarray_layout.proofs.BlocksWritten.{get_or-block_counts, length-block_counts, no_overflow_reported, overflow_reported}
 use Rattle.ndarray_layout.proofs.strided.blocks.check_total.Goals as goal

@@ -2,9 +2,9 @@ use Rattle.std.proofs.Common.{◌≡◌, ◌≢◌, ◌<◌, ◌++◌, pos, leng
 use Rattle.std.proofs.Common.{get_or-set_same}
 use Rattle.std.proofs.Math.ListN.{length-set}
 use Rattle.std.proofs.lemmas.List.{get_or-map, length-map, map-append, take-map}
-use Rattle.nd_base.proofs.laws.Definitions.{all_signed, signed}
-use Rattle.nd_base.proofs.laws.NonzeroSize.{length_le_nonzero_size}
-use Rattle.nd_base.proofs.laws.Span.{reach_le_span}
+use Rattle.nd_base.proofs.Laws.Definitions.{all_signed, signed}
+use Rattle.nd_base.proofs.Laws.NonzeroSize.{length_le_nonzero_size}
+use Rattle.nd_base.proofs.Laws.Span.{reach_le_span}
 use Rattle.ndarray_layout.specs.private.Blocks.{block_strides}
 use Rattle.ndarray_layout.proofs.BlocksWritten.{first_items, get_or-block_strides, length-block_strides, two_parts}
 use Rattle.ndarray_layout.proofs.strided.blocks.write_strides.Goals as goal

@@ -1,6 +1,6 @@
 -- The strides from one block to the next so far are written.
 use Rattle.std.proofs.Common.{◌≡◌, ℕ, ◌+◌, ◌<◌, pos, length, get_or}
-use Rattle.nd_base.proofs.laws.Definitions.{all_signed, signed}
+use Rattle.nd_base.proofs.Laws.Definitions.{all_signed, signed}
 use Rattle.ndarray_layout.specs.private.Blocks.{block_strides}
 use Rattle.ndarray_layout.proofs.strided.blocks.write_strides.Given as goal
 

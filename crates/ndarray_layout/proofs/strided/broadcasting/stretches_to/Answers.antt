@@ -1,5 +1,5 @@
 use Rattle.std.proofs.Common.{arith, sym}
-use Rattle.ndarray_layout.proofs.laws.BroadcastView.{takes_in_by_axes, takes_in_no_fewer, takes_in_no_other}
+use Rattle.ndarray_layout.proofs.Laws.BroadcastView.{takes_in_by_axes, takes_in_no_fewer, takes_in_no_other}
 use Rattle.ndarray_layout.proofs.strided.broadcasting.stretches_to.Goals as goal
 
 pub returns-then-view_shape-shape : goal.returns-then-view_shape-shape

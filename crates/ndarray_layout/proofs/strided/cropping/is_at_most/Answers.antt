@@ -3,7 +3,7 @@ use Rattle.std.proofs.Common.{rules, ◌≡◌, ℕ, ◌<◌, ◌≤◌, length,
 use Rattle.std.specs.Prelude.{IsTrue, slice_index, ◌↔◌}
 use Rattle.std.proofs.lemmas.Bool.{eqb-true}
 use Rattle.std.proofs.lemmas.List.Elements.{AllZip-get_or, length_all_zip}
-use Rattle.ndarray_layout.proofs.laws.CroppedView.{fit_by_axes}
+use Rattle.ndarray_layout.proofs.Laws.CroppedView.{fit_by_axes}
 use Rattle.ndarray_layout.proofs.strided.cropping.is_at_most.Goals as goal
 
 pub returns-then-lows-highs : goal.returns-then-lows-highs

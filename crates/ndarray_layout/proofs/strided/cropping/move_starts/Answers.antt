@@ -1,7 +1,7 @@
 -- What the loop reads is what the lists had, and each turn moves one more start.
 use Rattle.std.proofs.Common.{◌∙◌, ℕ, cond, set, ap, arith}
 use Rattle.std.specs.Prelude.{nat_lt}
-use Rattle.nd_base.proofs.laws.ElementwiseLoop.{combined_all, combined_more}
+use Rattle.nd_base.proofs.Laws.ElementwiseLoop.{combined_all, combined_more}
 use Rattle.ndarray_layout.proofs.strided.cropping.move_starts.Goals as goal
 
 abbrev moved : ℕ → ℕ → ℕ

@@ -1,7 +1,7 @@
 -- The starts of the axes so far have moved.
 use Rattle.std.proofs.Common.{◌≡◌, cond}
 use Rattle.std.specs.Prelude.{nat_lt}
-use Rattle.nd_base.proofs.laws.ElementwiseLoop.{combined}
+use Rattle.nd_base.proofs.Laws.ElementwiseLoop.{combined}
 use Rattle.ndarray_layout.proofs.strided.cropping.move_starts.Given as goal
 
 abbrev pub invariant-loop-axis : goal.invariant-loop-axis

@@ -1,7 +1,7 @@
 -- What the loop reads is what the lists had, and each turn subtracts one more start.
 use Rattle.std.proofs.Common.{◌-◌, ◌≤◌, arith}
 use Rattle.std.proofs.lemmas.List.Elements.{length_all_zip}
-use Rattle.nd_base.proofs.laws.ElementwiseLoop.{combined_all, combined_more, combined_read}
+use Rattle.nd_base.proofs.Laws.ElementwiseLoop.{combined_all, combined_more, combined_read}
 use Rattle.ndarray_layout.proofs.strided.cropping.subtract_starts.Goals as goal
 
 pub overflow_sub-ends : goal.overflow_sub-ends

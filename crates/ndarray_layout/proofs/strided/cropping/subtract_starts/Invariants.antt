@@ -1,6 +1,6 @@
 -- The ends of the axes so far are differences.
 use Rattle.std.proofs.Common.{◌≡◌, ◌-◌}
-use Rattle.nd_base.proofs.laws.ElementwiseLoop.{combined}
+use Rattle.nd_base.proofs.Laws.ElementwiseLoop.{combined}
 use Rattle.ndarray_layout.proofs.strided.cropping.subtract_starts.Given as goal
 
 abbrev pub invariant-loop-axis : goal.invariant-loop-axis

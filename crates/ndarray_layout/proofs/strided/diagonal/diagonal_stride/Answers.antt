@@ -5,9 +5,9 @@ use Rattle.std.proofs.Math.Nat.{mul-le-mul_right}
 use Rattle.std.proofs.lemmas.Int.{ints, to_z-of_z}
 use Rattle.std.proofs.lemmas.List.{get_or-map, length-map}
 use Rattle.std.proofs.lemmas.List.Sums.{fold_more}
-use Rattle.nd_base.proofs.laws.Definitions.{all_signed, limit, reach, signed}
-use Rattle.nd_base.proofs.laws.Span.{sum_from, sum_from_step}
-use Rattle.ndarray_layout.proofs.laws.DiagonalView.{diagonal_len_below}
+use Rattle.nd_base.proofs.Laws.Definitions.{all_signed, limit, reach, signed}
+use Rattle.nd_base.proofs.Laws.Span.{sum_from, sum_from_step}
+use Rattle.ndarray_layout.proofs.Laws.DiagonalView.{diagonal_len_below}
 use Rattle.ndarray_layout.proofs.strided.diagonal.diagonal_stride.Goals as goal
 use Rattle.ndarray_layout.proofs.strided.diagonal.diagonal_stride.Goals.{After-signed-sum, In-loop-stride}
 

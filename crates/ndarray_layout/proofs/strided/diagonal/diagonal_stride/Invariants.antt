@@ -1,7 +1,7 @@
 -- The sum of the strides so far, and the reaches of the axes still to come fit beside it.
 use Rattle.std.proofs.Common.{◌≡◌, fold, take, pos, ◌+ℤ◌, ◌≤ℤ◌}
-use Rattle.nd_base.proofs.laws.Definitions.{all_signed, limit, reach}
-use Rattle.nd_base.proofs.laws.Span.{sum_from}
+use Rattle.nd_base.proofs.Laws.Definitions.{all_signed, limit, reach}
+use Rattle.nd_base.proofs.Laws.Span.{sum_from}
 use Rattle.ndarray_layout.proofs.strided.diagonal.diagonal_stride.Given as goal
 
 abbrev pub invariant-loop-stride : goal.invariant-loop-stride

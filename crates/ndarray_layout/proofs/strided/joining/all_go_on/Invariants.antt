@@ -1,6 +1,6 @@
 -- The axis goes on in each layout so far.
 use Rattle.std.proofs.Common.{◌≡◌, ℕ, ◌+◌, ◌*◌, ◌<◌, pos, ◌*ℤ◌, get_or}
-use Rattle.nd_base.proofs.laws.Definitions.{signed}
+use Rattle.nd_base.proofs.Laws.Definitions.{signed}
 use Rattle.ndarray_layout.proofs.strided.joining.all_go_on.Given as goal
 
 abbrev pub invariant-loop-number : goal.invariant-loop-number

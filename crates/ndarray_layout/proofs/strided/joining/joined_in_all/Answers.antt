@@ -1,9 +1,9 @@
 -- An axis that goes on in each layout is joined in each.
 use Rattle.std.proofs.Common.{◌≡◌, ℕ, ◌+◌, ◌*◌, ◌<◌, length, get_or, sym, subst, arith}
 use Rattle.std.proofs.lemmas.Bool.{both_ways}
-use Rattle.nd_base.proofs.laws.Definitions.{signed}
+use Rattle.nd_base.proofs.Laws.Definitions.{signed}
 use Rattle.nd_shape.specs.Merge.{IsMergedStride}
-use Rattle.nd_shape.proofs.laws.Merge.{into_short, short_taken, steps_on}
+use Rattle.nd_shape.proofs.Laws.Merge.{into_short, short_taken, steps_on}
 use Rattle.ndarray_layout.specs.JoinedInAll.{AreJoined, strides_of}
 use Rattle.ndarray_layout.proofs.JoinedInAll.{each_so_far, goes_on_from_fit, joined_fits, longer_fits, none_joined, one_more_joined}
 use Rattle.ndarray_layout.proofs.JoinedInAll.{step_fits}

@@ -5,7 +5,7 @@ use Rattle.std.proofs.lemmas.Bool.{false≢true}
 use Rattle.std.proofs.lemmas.List.{length-map}
 use Rattle.nd_base.specs.declared.axis.Axis.{Axis}
 use Rattle.nd_dim.specs.AxesInOrder.{axis_numbers}
-use Rattle.nd_dim.proofs.laws.AxesInOrder.{order_by_axes}
+use Rattle.nd_dim.proofs.Laws.AxesInOrder.{order_by_axes}
 use Rattle.ndarray_layout.proofs.strided.permuting.has_each_axis.Goals as goal
 
 named : (axes : List Axis) (number : ℕ) → list_any (λ other. number == other) (axis_numbers axes) ≡ list_any (λ axis. number == axis.0) axes

@@ -5,7 +5,7 @@ use Rattle.std.proofs.lemmas.List.{ext_get_or, get_or-map, get_or-set_other, get
 use Rattle.nd_base.specs.declared.axis.Axis.{Axis}
 use Rattle.nd_dim.specs.AxesInOrder.{axis_numbers}
 use Rattle.nd_dim.specs.AxesInOrder.{reordered as in_order}
-use Rattle.nd_dim.proofs.laws.AxesInOrder.{get_or_map_at, item_below}
+use Rattle.nd_dim.proofs.Laws.AxesInOrder.{get_or_map_at, item_below}
 use Rattle.ndarray_layout.proofs.strided.permuting.write_reordered.Goals as goal
 
 -- the number of the axis at a place

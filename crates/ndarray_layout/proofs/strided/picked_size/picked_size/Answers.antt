@@ -2,8 +2,8 @@ use Rattle.std.proofs.Common.{rules, ◌≡◌, ◌≤◌, ◌*◌, arith, lengt
 use Rattle.nd_slice.specs.SliceFault.{elem_fault}
 use Rattle.nd_slice.specs.AxisElems.{axis_elems}
 use Rattle.nd_slice.specs.Intersect.{elem_picks}
-use Rattle.nd_slice.proofs.laws.ElemRange.{end_of_range, picks_of_range}
-use Rattle.nd_slice.proofs.laws.Picks.{length-between_le}
+use Rattle.nd_slice.proofs.Laws.ElemRange.{end_of_range, picks_of_range}
+use Rattle.nd_slice.proofs.Laws.Picks.{length-between_le}
 use Rattle.ndarray_layout.proofs.PickedSize.{PickedSoFar, next_picked, none_picked, size_small}
 use Rattle.ndarray_layout.proofs.strided.picked_size.picked_size.Goals as goal
 use Rattle.ndarray_layout.proofs.strided.picked_size.picked_size.Goals.{After-count}

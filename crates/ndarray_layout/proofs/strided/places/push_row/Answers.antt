@@ -5,7 +5,7 @@ use Rattle.std.proofs.lemmas.List.{map-append}
 use Rattle.nd_base.specs.Signed.{signed}
 use Rattle.ndarray_layout.specs.Rows.{row_places}
 use Rattle.ndarray_layout.proofs.RowSteps.{appended, place_bounds, start_bound}
-use Rattle.ndarray_layout.proofs.laws.Rows.{row_more}
+use Rattle.ndarray_layout.proofs.Laws.Rows.{row_more}
 use Rattle.ndarray_layout.proofs.strided.places.push_row.Goals as goal
 
 pub place_along_axis-requires-clause-first : goal.place_along_axis-requires-clause-first

@@ -2,7 +2,7 @@
 use Rattle.std.proofs.Common.{◌^◌, pos, map, length, ◌++◌, refl, sym, ap, subst, ◌∙◌, arith}
 use Rattle.std.specs.List.{All}
 use Rattle.std.proofs.lemmas.List.{append-nil}
-use Rattle.nd_base.proofs.laws.Definitions.{IsInBounds}
+use Rattle.nd_base.proofs.Laws.Definitions.{IsInBounds}
 use Rattle.ndarray_layout.specs.Rows.{rows_places}
 use Rattle.ndarray_layout.proofs.RowSteps.{IsFirstRow, append-first, in_bounds-first, length-first}
 use Rattle.ndarray_layout.proofs.strided.places.push_rows.Goals as goal

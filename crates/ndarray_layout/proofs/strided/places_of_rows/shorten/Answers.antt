@@ -2,12 +2,12 @@
 use Rattle.std.proofs.Common.{◌≡◌, ◌≤◌, ◌-◌, pos, ◌+ℤ◌, ◌*ℤ◌, length, sym, ap, ◌∙◌, arith}
 use Rattle.std.proofs.lemmas.Int.{ints}
 use Rattle.std.proofs.lemmas.List.{drop_all}
-use Rattle.nd_base.proofs.laws.Definitions.{signed}
+use Rattle.nd_base.proofs.Laws.Definitions.{signed}
 use Rattle.ndarray_layout.specs.Rows.{row_places}
 use Rattle.ndarray_layout.proofs.ByRows.{row_from}
 use Rattle.ndarray_layout.proofs.LaterPlaces.{row_drop}
 use Rattle.ndarray_layout.proofs.RowSteps.{place_bounds, start_bound}
-use Rattle.ndarray_layout.proofs.laws.Rows.{length-row_places}
+use Rattle.ndarray_layout.proofs.Laws.Rows.{length-row_places}
 use Rattle.ndarray_layout.proofs.strided.places_of_rows.shorten.Goals as goal
 
 pub returns-then-count-row : goal.returns-then-count-row

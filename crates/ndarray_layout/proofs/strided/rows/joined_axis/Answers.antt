@@ -1,11 +1,11 @@
 -- An axis that goes on where the one so far ends is joined to it; the first one that doesn't stays.
 use Rattle.std.proofs.Common.{◌*◌, refl, arith}
 use Rattle.std.proofs.lemmas.Bool.{both_ways}
-use Rattle.nd_base.proofs.laws.Definitions.{all_signed, low_span, signed}
-use Rattle.nd_shape.proofs.laws.Merge.{into_short, short_taken, steps_on}
+use Rattle.nd_base.proofs.Laws.Definitions.{all_signed, low_span, signed}
+use Rattle.nd_shape.proofs.Laws.Merge.{into_short, short_taken, steps_on}
 use Rattle.ndarray_layout.proofs.JoinedAxis.{HasPlaces-joined, HasPlaces-one, NoneGoesOn-apart, Joins}
 use Rattle.ndarray_layout.proofs.JoinedAxis.{both_fit, counts, len_fits, next_fits}
-use Rattle.ndarray_layout.proofs.laws.View.{lowest_view}
+use Rattle.ndarray_layout.proofs.Laws.View.{lowest_view}
 use Rattle.ndarray_layout.proofs.strided.rows.joined_axis.Goals as goal
 use Rattle.ndarray_layout.proofs.strided.rows.joined_axis.Goals.{then-axis-gt1+else-next-gt1, else-axis-gt1}
 use Rattle.ndarray_layout.proofs.strided.rows.joined_axis.Goals.{else-next-gt1-via-then-next-gt1+else-not-goes_on}

@@ -3,7 +3,7 @@ use Rattle.std.proofs.Common.{rules, ◌-◌, ◌+ℤ◌, ◌-ℤ◌, FitsSigned
 use Rattle.std.specs.Int.{w64}
 use Rattle.std.proofs.lemmas.Int.{ints, to_z-of_z}
 use Rattle.ndarray_layout.proofs.Fastest.{length-others}
-use Rattle.ndarray_layout.proofs.laws.View.{lowest_view}
+use Rattle.ndarray_layout.proofs.Laws.View.{lowest_view}
 use Rattle.ndarray_layout.proofs.NextRow.{at_end, back, back_within, flat_within, len_fits, of_one, others_later, stride_on}
 use Rattle.ndarray_layout.proofs.strided.rows.offset_from_previous.Goals as goal
 use Rattle.ndarray_layout.proofs.strided.rows.offset_from_previous.Goals.{then-axis-gt1+else-left-axis-gt0, else-axis-gt1}

@@ -4,13 +4,13 @@ use Rattle.std.proofs.Common.{◌∙◌}
 use Rattle.std.specs.Prelude.{◌↔◌, IsTrue}
 use Rattle.std.proofs.lemmas.List.{length-replicate}
 use Rattle.nd_base.specs.declared.error.ErrorKind.{ErrorKind}
-use Rattle.nd_base.proofs.laws.Definitions.{NeedsNoMemory, shape_fault, all_signed}
+use Rattle.nd_base.proofs.Laws.Definitions.{NeedsNoMemory, shape_fault, all_signed}
 use Rattle.nd_slice.specs.declared.fit.Fit.{Fit}
 use Rattle.nd_slice.specs.declared.elem.SliceInfoElem.{SliceInfoElem}
 use Rattle.nd_slice.specs.SliceFault.{first_fault}
 use Rattle.nd_slice.specs.AxisCounts.{HasCounts}
 use Rattle.ndarray_layout.specs.SlicedView.{view_slice_fault}
-use Rattle.ndarray_layout.proofs.laws.SlicedView.{view_fault_of_counts}
+use Rattle.ndarray_layout.proofs.Laws.SlicedView.{view_fault_of_counts}
 use Rattle.ndarray_layout.proofs.strided.slicing.sliced_axes.Goals as goal
 
 no_fault : {first : Option ErrorKind} {fixed named : Option ℕ} (n : ℕ) → fixed ≡ named → (first ≡ None) ⊎ NeedsNoMemory fixed n

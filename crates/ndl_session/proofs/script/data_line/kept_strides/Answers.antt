@@ -4,7 +4,7 @@ use Rattle.std.specs.Option.{option_map}
 use Rattle.std.proofs.lemmas.Result.{IfOk-weaker}
 use Rattle.ndarray_layout.specs.Dim.{lengths}
 use Rattle.ndarray_layout.specs.Signed.{all_signed}
-use Rattle.ndarray_layout.proofs.laws.Options.{option_map-option_map}
+use Rattle.ndarray_layout.proofs.Laws.Options.{option_map-option_map}
 use Rattle.ndl_session.proofs.KeptStrides.{strides_signed}
 use Rattle.ndl_session.proofs.script.data_line.kept_strides.Goals as goal
 

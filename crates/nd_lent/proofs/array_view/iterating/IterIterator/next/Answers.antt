@@ -1,7 +1,7 @@
 -- The item at the first of the places that are left comes, and the others are still in bounds.
 use Rattle.std.proofs.Common.{Some, ◌∷◌, map, ap, sym, ◌∙◌}
-use Rattle.nd_parts.specs.Items.{item_at_place}
-use Rattle.nd_lent.proofs.laws.ItemPlaces.{first_in_bounds, first_item}
+use Rattle.nd_lent.specs.Items.{item_at_place}
+use Rattle.nd_lent.proofs.Laws.ItemPlaces.{first_in_bounds, first_item}
 use Rattle.nd_lent.proofs.array_view.iterating.IterIterator.next.Goals as goal
 
 pub invariant_of-self-2 : goal.invariant_of-self-2

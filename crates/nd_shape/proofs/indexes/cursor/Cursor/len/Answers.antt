@@ -2,7 +2,7 @@
 use Rattle.std.proofs.Common.{length, sym, ap, ◌∙◌}
 use Rattle.nd_base.specs.Dim.{lengths}
 use Rattle.nd_shape.proofs.IndicesIteration.{after_within}
-use Rattle.nd_shape.proofs.laws.IndicesLeft.{length-indices_left}
+use Rattle.nd_shape.proofs.Laws.IndicesLeft.{length-indices_left}
 use Rattle.nd_shape.proofs.indexes.cursor.Cursor.len.Goals as goal
 
 pub returns : goal.returns

@@ -1,12 +1,12 @@
 -- At first all indices are left.
 use Rattle.std.proofs.Common.{◌≡◌, ◌<◌, ◌≤◌, false, replicate, length, refl, arith, ap, ◌∙◌}
 use Rattle.std.proofs.lemmas.Bool.{both_ways}
-use Rattle.nd_base.proofs.laws.Definitions.{lengths, size}
+use Rattle.nd_base.proofs.Laws.Definitions.{lengths, size}
 use Rattle.nd_base.specs.declared.lengths.TheConstants.{INLINE_AXES}
-use Rattle.nd_base.proofs.laws.Size.{size_of_empty}
+use Rattle.nd_base.proofs.Laws.Size.{size_of_empty}
 use Rattle.nd_shape.specs.IndicesLeft.{indices_left}
 use Rattle.nd_shape.proofs.IndicesIteration.{starts}
-use Rattle.nd_shape.proofs.laws.IndicesLeft.{indices_left-whole}
+use Rattle.nd_shape.proofs.Laws.IndicesLeft.{indices_left-whole}
 use Rattle.nd_shape.proofs.indexes.cursor.Cursor.new.Given.{Over}
 use Rattle.nd_shape.proofs.indexes.cursor.Cursor.new.Goals as goal
 use Rattle.nd_shape.proofs.indexes.cursor.Cursor.new.Goals.{In_ok-index, then-left-eq0, else-left-eq0}

@@ -3,7 +3,7 @@ use Rattle.std.proofs.Common.{ap, ◌∙◌}
 use Rattle.nd_base.specs.Size.{size}
 use Rattle.nd_shape.specs.IndicesLeft.{indices_left}
 use Rattle.nd_shape.proofs.IndicesIteration.{starts_at}
-use Rattle.nd_shape.proofs.laws.IndicesLeft.{indices_left-whole}
+use Rattle.nd_shape.proofs.Laws.IndicesLeft.{indices_left-whole}
 use Rattle.nd_shape.proofs.indexes.indices_iter.IndexIter.starting.Goals as goal
 
 pub invariant_of-result : goal.invariant_of-result

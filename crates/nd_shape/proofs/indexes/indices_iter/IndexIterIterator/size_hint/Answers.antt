@@ -1,6 +1,6 @@
 use Rattle.std.proofs.Common.{cond, Some, None, length, ap, sym, ◌∙◌, arith}
 use Rattle.nd_shape.proofs.IndicesIteration.{within_shape}
-use Rattle.nd_shape.proofs.laws.IndicesLeft.{length-indices_left}
+use Rattle.nd_shape.proofs.Laws.IndicesLeft.{length-indices_left}
 use Rattle.nd_shape.proofs.indexes.indices_iter.IndexIterIterator.size_hint.Goals as goal
 
 pub returns-clause-exact : goal.returns-clause-exact

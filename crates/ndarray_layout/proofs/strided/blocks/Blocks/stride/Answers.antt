@@ -3,7 +3,7 @@ use Rattle.std.proofs.Common.{◌*◌, ◌-◌, ◌≤◌, pos, w64, arith}
 use Rattle.std.specs.Prelude.{◌/◌}
 use Rattle.std.proofs.Math.Nat.{div-mul-le_self, mul-le-mul_right}
 use Rattle.std.proofs.lemmas.Int.{fits_signed_mul}
-use Rattle.nd_base.proofs.laws.Definitions.{magnitude, signed}
+use Rattle.nd_base.proofs.Laws.Definitions.{magnitude, signed}
 use Rattle.ndarray_layout.proofs.strided.blocks.Blocks.stride.Goals as goal
 
 pub stride_offset-requires-clause-fits : goal.stride_offset-requires-clause-fits

@@ -2,12 +2,12 @@
 use Rattle.std.proofs.Common.{rules, ◌≡◌, FitsSigned, to_z, of_z, cond, nat_eq, ap, subst, sym, ◌∙◌, arith}
 use Rattle.std.proofs.lemmas.Int.{to_z-of_z}
 use Rattle.std.specs.Int.{w64}
-use Rattle.nd_base.proofs.laws.Definitions.{signed, size}
+use Rattle.nd_base.proofs.Laws.Definitions.{signed, size}
 use Rattle.ndarray_layout.specs.NumberedRows.{slowest_view}
 use Rattle.ndarray_layout.specs.View.{IsView, view_of}
 use Rattle.ndarray_layout.proofs.NumberedRows.{all_between, slowest_view-of}
 use Rattle.ndarray_layout.proofs.RowColumns.{has_columns}
-use Rattle.ndarray_layout.proofs.laws.View.{size_fits}
+use Rattle.ndarray_layout.proofs.Laws.View.{size_fits}
 use Rattle.ndarray_layout.proofs.strided.into_rows.StridedRows.along.Goals as goal
 
 pub joined_axis-column-requires : goal.joined_axis-column-requires

@@ -2,7 +2,7 @@
 use Rattle.std.proofs.Common.{◌≡◌, ◌-◌, pos, ◌+ℤ◌, ◌*ℤ◌, of_z, to_z, w64, length, sym, ap, ◌∙◌, arith}
 use Rattle.std.proofs.lemmas.Int.{ints}
 use Rattle.std.proofs.lemmas.List.{length_push}
-use Rattle.nd_base.proofs.laws.Definitions.{signed}
+use Rattle.nd_base.proofs.Laws.Definitions.{signed}
 use Rattle.ndarray_layout.proofs.BothEnds.{last_place, last_small, last_start, left_without_last, without_last}
 use Rattle.ndarray_layout.proofs.strided.places_of_rows.PlacesOfDoubleEndedIterator.next_back.Goals as goal
 

@@ -1,6 +1,6 @@
 -- The row before the one that comes next is found by its number.
 use Rattle.std.proofs.Common.{◌<◌, drop, length, ap, ◌∙◌, arith}
-use Rattle.nd_base.proofs.laws.NonzeroSize.{size_le_nonzero_size}
+use Rattle.nd_base.proofs.Laws.NonzeroSize.{size_le_nonzero_size}
 use Rattle.ndarray_layout.specs.RowsLeft.{axis_view, count_given, count_left}
 use Rattle.ndarray_layout.proofs.KeptRows.{all_within, column_of_some, columns_within, later_begun, left_skipped}
 use Rattle.ndarray_layout.proofs.KeptRows.{length-rows_left, rows_skipped}

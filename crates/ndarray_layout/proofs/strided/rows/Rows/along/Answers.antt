@@ -2,7 +2,7 @@
 use Rattle.std.proofs.Common.{refl, arith}
 use Rattle.std.proofs.lemmas.Int.{ints}
 use Rattle.ndarray_layout.proofs.RowsLeft.{IsFirst, IsView-slower, all_left, first_rows, size-axis_view}
-use Rattle.ndarray_layout.proofs.laws.View.{size_fits}
+use Rattle.ndarray_layout.proofs.Laws.View.{size_fits}
 use Rattle.ndarray_layout.proofs.strided.rows.Rows.along.Goals as goal
 
 pub joined_axis-column-requires : goal.joined_axis-column-requires

@@ -3,7 +3,7 @@ use Rattle.std.specs.List.{All}
 use Rattle.ndarray_layout.specs.Rows.{rows_places}
 use Rattle.ndarray_layout.specs.RowsLeft.{axis_view}
 use Rattle.ndarray_layout.proofs.LongestRow.{as_long, longest}
-use Rattle.ndarray_layout.proofs.laws.Rows.{rows_places-view_rows, some_in_each_row}
+use Rattle.ndarray_layout.proofs.Laws.Rows.{rows_places-view_rows, some_in_each_row}
 use Rattle.ndarray_layout.proofs.strided.rows.Rows.of_places.Goals as goal
 
 pub along-requires : goal.along-requires

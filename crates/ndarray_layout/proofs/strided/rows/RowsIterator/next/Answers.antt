@@ -1,7 +1,7 @@
 -- The next row lies a stride on in its column, or else it is the first one of the next column.
 use Rattle.std.proofs.Common.{◌≡◌, ◌+◌, ◌-◌, ◌*◌, ◌<◌, length, mul-pos, sym, ap, ◌∙◌, arith}
 use Rattle.std.proofs.lemmas.Int.{ints}
-use Rattle.nd_base.proofs.laws.NonzeroSize.{size_le_nonzero_size}
+use Rattle.nd_base.proofs.Laws.NonzeroSize.{size_le_nonzero_size}
 use Rattle.ndarray_layout.specs.RowsLeft.{count_given, row_place, rows_left}
 use Rattle.ndarray_layout.proofs.KeptRows.{begins, first_of_left, in_next_column, is_column, left_after, lesser}
 use Rattle.ndarray_layout.proofs.KeptRows.{next_in_column, next_within, none_left}

@@ -1,0 +1,91 @@
+-- Rows of a part: each of their places is the part's own, those of one row and those of the others.
+use Rattle.std.proofs.Common.{◌≡◌, ◌≢◌, ℕ, ◌+◌, ◌<◌, ◌^◌, ℤ, pos, ◌+ℤ◌, ◌*ℤ◌, true, Bool, List, ◌∷◌, ◌++◌, length}
+use Rattle.std.proofs.Common.{sym, ap, subst, arith}
+use Rattle.std.specs.List.{All}
+use Rattle.std.proofs.lemmas.List.{get_or-append-add, length-append}
+use Rattle.std.proofs.lemmas.List.Elements.{All-head, All-map, All-tail, All-weaker}
+use Rattle.ndarray_layout.specs.declared.Order.{Order}
+use Rattle.ndarray_layout.specs.declared.Row.{Row}
+use Rattle.ndarray_layout.specs.Bounds.{IsInBounds}
+use Rattle.ndarray_layout.specs.Indices.{indices_in, is_index}
+use Rattle.ndarray_layout.specs.Rows.{row_places, rows_places}
+use Rattle.ndarray_layout.specs.View.{View, place_at, view_places}
+use Rattle.ndarray_layout.proofs.Laws.DistinctPlaces.{AllPairs-view_places}
+use Rattle.ndarray_layout.proofs.Laws.Indices.{All-indices_in}
+use Rattle.ndarray_layout.proofs.Laws.Rows.{All-first_row, get_or-row_places, length-row_places, places_fit}
+use Rattle.nd_lent.specs.Own.{AreOwn}
+use Rattle.nd_lent.specs.Part.{IsPart, has_mark}
+use Rattle.nd_lent.specs.private.OwnedRows.{OwnsEachRow, OwnsRow}
+use Rattle.nd_lent.proofs.Laws.Lists.{all_first, pairs_first, pairs_second}
+use Rattle.nd_lent.proofs.Laws.RowItems.{begins, coordinate_in_bounds}
+use Rattle.nd_lent.proofs.Laws.RowLens.{short_rows}
+
+all_second : {X : Type 0} (P : X → Type 0) (xs ys : List X) → All P (xs ++ ys) → All P ys
+all_second P xs ys all = λ k d below.
+    subst P (get_or-append-add xs ys k d) (all (length xs + k) d (omega (arith, length-append xs ys, below)))
+
+-- ---- places of a right, in two parts
+module _ {marks : List Bool} (xs ys : List ℤ) (own : AreOwn marks (xs ++ ys)) where
+  first_own : AreOwn marks xs
+  first_own = record {
+    marked = all_first (λ place. has_mark marks place ≡ true) xs ys own.marked;
+    apart = pairs_first (λ one other. one ≢ other) xs ys own.apart;
+  }
+
+  second_own : AreOwn marks ys
+  second_own = record {
+    marked = all_second (λ place. has_mark marks place ≡ true) xs ys own.marked;
+    apart = pairs_second (λ one other. one ≢ other) xs ys own.apart;
+  }
+
+-- ---- the first row, and the others
+module _ {marks : List Bool} {row : Row} {rows : List Row} (owns : OwnsEachRow marks (row ∷ rows)) where
+  pub owns_first : OwnsRow marks row
+  owns_first = record {
+    short = All-head (λ row. row.len < 2 ^ 63) row rows owns.short;
+    fit = (All-first_row (IsInBounds (2 ^ 63)) row rows owns.fit).0;
+    own = first_own (row_places row.start row.stride row.len) (rows_places rows) owns.own;
+  }
+
+  pub owns_others : OwnsEachRow marks rows
+  owns_others = record {
+    short = All-tail (λ row. row.len < 2 ^ 63) row rows owns.short;
+    fit = (All-first_row (IsInBounds (2 ^ 63)) row rows owns.fit).1;
+    own = second_own (row_places row.start row.stride row.len) (rows_places rows) owns.own;
+  }
+
+-- ---- the places of a part, in any order
+own_in_order : (order : Order) (marks : List Bool) (view : View) → IsPart marks view → AreOwn marks (view_places order view)
+own_in_order order marks view part =
+    let indices = indices_in order view.shape in
+    record {
+      marked = All-map (λ place. has_mark marks place ≡ true) (place_at view) indices
+          (All-weaker (λ index. is_index view.shape index ≡ true) (λ index. has_mark marks (place_at view index) ≡ true) part.marked
+          indices (All-indices_in order view.shape));
+      apart = AllPairs-view_places order view part.distinct;
+    }
+
+pub rows_of_part : (order : Order) (marks : List Bool) (view : View) (rows : List Row) → IsPart marks view
+    → rows_places rows ≡ view_places order view → OwnsEachRow marks rows
+rows_of_part order marks view rows part are = record {
+  short = short_rows order view rows (ap length are) part.is_view;
+  fit = subst (All (IsInBounds (2 ^ 63))) (sym are) (places_fit order part.is_view);
+  own = subst (AreOwn marks) (sym are) (own_in_order order marks view part);
+}
+
+-- ---- a coordinate of a row, and its place
+pub record IsPlaceOfRow (marks : List Bool) (row : Row) (coordinate : ℕ) : Type 0 where
+  pub first : row.start < 2 ^ 63
+  pub small : coordinate < 2 ^ 63
+  pub fits : IsInBounds (2 ^ 63) (pos row.start +ℤ (pos coordinate *ℤ row.stride))
+  pub marked : has_mark marks (pos row.start +ℤ (pos coordinate *ℤ row.stride)) ≡ true
+
+pub place_of_row : (marks : List Bool) (row : Row) (coordinate : ℕ) → OwnsRow marks row → coordinate < row.len
+    → IsPlaceOfRow marks row coordinate
+place_of_row marks row coordinate owns below = record {
+  first = begins (2 ^ 63) row.start row.stride row.len owns.fit (omega (arith, below));
+  small = omega (arith, below, owns.short);
+  fits = coordinate_in_bounds (2 ^ 63) row.start row.stride row.len coordinate owns.fit below;
+  marked = subst (λ place. has_mark marks place ≡ true) (get_or-row_places row.start row.stride row.len coordinate (pos 0) below)
+      (owns.own.marked coordinate (pos 0) (omega (arith, below, length-row_places row.start row.stride row.len)));
+}

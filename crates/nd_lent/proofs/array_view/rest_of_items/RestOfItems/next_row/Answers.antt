@@ -1,0 +1,15 @@
+-- The row has its items, and so have the other places.
+use Rattle.std.proofs.Common.{length, subst}
+use Rattle.ndarray_layout.specs.Rows.{row_places}
+use Rattle.nd_lent.specs.LentPlaces.{ArePlacesOf}
+use Rattle.nd_lent.proofs.BothEnds.{first_row_has_items, second_of_places}
+use Rattle.nd_lent.proofs.array_view.rest_of_items.RestOfItems.next_row.Goals as goal
+
+pub invariant_of-result : goal.invariant_of-result
+invariant_of-result g c =
+    first_row_has_items c.in_ok-row.row c.next_row.new.self c.in_ok-row.ensures.0 c.in_ok-row.ensures.1 c.self.invariant
+
+pub invariant_of-self-2 : goal.invariant_of-self-2
+invariant_of-self-2 g c =
+    second_of_places (row_places c.in_ok-row.row.start c.in_ok-row.row.stride c.in_ok-row.row.len) c.next_row.new.self
+    (subst (ArePlacesOf (length c.self.inside.items.now)) c.in_ok-row.ensures.1 c.self.invariant)

@@ -1,0 +1,14 @@
+-- There are as many as coordinates.
+use Rattle.std.proofs.Common.{◌≤◌, length, sym, ap, ◌∙◌, arith}
+use Rattle.nd_lent.specs.LentRow.{row_items, row_of}
+use Rattle.nd_lent.proofs.BothEnds.{count_between}
+use Rattle.nd_lent.proofs.RowsLent.{count_of_items}
+use Rattle.nd_lent.proofs.array_view.row_items.RowItemsExactSizeIterator.len.Goals as goal
+
+pub returns-clause-value : goal.returns-clause-value
+returns-clause-value g c =
+    let left = c.self.inside in
+    let has = c.self.invariant in
+    let items = row_items (row_of left.items.now left.row) in
+    let within : left.end ≤ length items = omega (arith, has.within, count_of_items left.items.now left.row) in
+    sym (count_between items left.begun left.end has.begun_first within) ∙ ap length c.self.view_is

@@ -1,0 +1,73 @@
+-- A value of `PartMut`: its machine value and what it holds. Assumes `Logic`.
+--     Bound                what the type of the view's shape brings
+--     part_word p us       the machine value of a part whose first element lies at p, and whose view is us
+--     part_had             a proof's step: of a value to its machine value and to what it holds.        part_made     the other way
+use Prim.Native.Nat.{ℕ}
+use mathlib.Core.Path.{◌≡◌, refl, ◌∙◌}
+use mathlib.Core.List.{List, [], ◌∷◌, ◌++◌}
+use seplogic.Ra.Ura.{Ura}
+use mir.Val.{Val, vstruct, of_list}
+use types.Logic.{Logic}
+use types.Kit.{Goal, Seq, Step, step, Item, ‵, ◌$◌, drop, move, fsplit, fjoin, fpick, fpack, feq_l, feq_i}
+use denote.RattleType.{RattleType, Valss}
+use denote.RawPtr.{Ptr}
+use denote.Ref.{NamedLft}
+use denote.Steps.{nothing}
+use denote.Struct.Declared.{shape}
+use denote.Struct.Field.{Field}
+use denote.Struct.Struct.{within}
+use Rattle.std.specs.declared.cmp.PartialEq as eq
+use Rattle.std.specs.declared.ops.Index as index
+use Rattle.std.specs.declared.fmt.Debug as debug
+use Rattle.ndarray_layout.specs.declared.FixedCount as fixed
+use Rattle.ndarray_layout.specs.declared.Lengths as lengths
+use Rattle.ndarray_layout.specs.contracts.strided.Strided as V-type
+use Rattle.nd_lent.specs.Cells.{holds_cells}
+use Rattle.nd_lent.specs.declared.part.PartMut.{PartMut}
+use Rattle.nd_lent.specs.contracts.part.PartMut as P-type
+use Rattle.nd_lent.proofs.lending.Held.{word, cells_had, cells_made}
+
+-- what the type of the view's shape brings
+pub record Bound (D : Type 0) : Type 1 where
+  pub lens : lengths.Ghosts D
+  pub count : fixed.Ghosts D
+  pub same : eq.Ghosts D
+  pub text : debug.Ghosts D
+  pub at : index.Ghosts D ℕ ℕ
+
+abbrev pub Part : Type 0 → (D : Type 0) → Bound D → Type 0
+Part T D g = PartMut T D g.lens g.count g.same g.text g.at
+
+abbrev pub part_word : Ptr → List Val → Val
+part_word p us = vstruct (of_list ((word p ∷ []) ++ (us ++ [])))
+
+module _ (κ : NamedLft) (R D : RattleType) (g : Bound D.Denot) where
+  abbrev pub ItsPart : RattleType
+  ItsPart = P-type.the_row κ R D g.lens g.count g.same g.text g.at
+
+module _ (D : RattleType) (g : Bound D.Denot) where
+  abbrev pub ViewField : Field
+  ViewField = V-type.the_field D g.lens g.count g.same g.text g.at
+
+  abbrev pub ItsView : RattleType
+  ItsView = V-type.the_row D g.lens g.count g.same g.text g.at
+
+module _ {M : Type 1} {𝓤 : Ura M} {𝓛 : Logic 𝓤} {K : Type 0} {Γ : List (Item 𝓤)} {G : Goal 𝓤 𝓛.H} where
+  pub part_made : K → (κ : NamedLft) (R D : RattleType) (g : Bound D.Denot) (p : Part R.Denot D.Denot g) (us : List Val)
+      → Step K 𝓛 (‵ ((ItsPart κ R D g).own_val p (part_word p.cells.first us ∷ [])) ∷ Γ) G
+      (‵ (holds_cells κ.lft R p.cells.name p.cells.first p.cells.marks p.cells.items) ∷ ‵ ((ItsView D g).own_val p.view us) ∷ Γ) G
+  part_made t κ R D g p us =
+      step (λ s. cells_made t κ R p.cells $ nothing t $ move t (2 ∷ 0 ∷ []) $ fjoin t $ move t (1 ∷ 0 ∷ []) $ fjoin t $
+      feq_i t (List Val) (part_word p.cells.first us ∷ []) (part_word p.cells.first us ∷ []) refl $ fjoin t $
+      let S = shape (P-type.the_type κ R D g.lens g.count g.same g.text g.at) in
+      fpack t (Valss S.fields) (within S (p.cells, ((ViewField D g).into p.view, tt)) (part_word p.cells.first us ∷ []))
+      (word p.cells.first ∷ [], (us, tt)) $ s)
+
+  pub part_had : K → (κ : NamedLft) (R D : RattleType) (g : Bound D.Denot) (p : Part R.Denot D.Denot g) (vs : List Val)
+      → ((us : List Val) → vs ≡ part_word p.cells.first us ∷ []
+      → Seq K 𝓛 (‵ (holds_cells κ.lft R p.cells.name p.cells.first p.cells.marks p.cells.items)
+      ∷ ‵ ((ItsView D g).own_val p.view us) ∷ Γ) G)
+      → Seq K 𝓛 (‵ ((ItsPart κ R D g).own_val p vs) ∷ Γ) G
+  part_had t κ R D g p vs k = fpick t (λ vss. fsplit t $ feq_l t (λ e. fsplit t $ cells_had t κ R p.cells vss.0 (λ is.
+      move t (1 ∷ []) $ fsplit t $ move t (1 ∷ []) $ drop t $ move t (1 ∷ 0 ∷ []) $
+      k vss.1.0 (e ∙ (λ i. vstruct (of_list (is i ++ (vss.1.0 ++ []))) ∷ [])))))

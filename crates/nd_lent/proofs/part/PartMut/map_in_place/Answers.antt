@@ -1,0 +1,27 @@
+-- A call is made at each place of the part, in row-major order.
+use Rattle.std.proofs.Common.{sym, subst}
+use Rattle.ndarray_layout.specs.declared.Order.TheVariants.{RowMajor}
+use Rattle.nd_lent.specs.Lent.{array_of}
+use Rattle.nd_lent.specs.Mapped.{CallableOnEachMut}
+use Rattle.nd_lent.proofs.PartRuns.{in_order, mapped, ran_over, spare}
+use Rattle.nd_lent.proofs.Laws.IndexItems.{items_in}
+use Rattle.nd_lent.proofs.part.PartMut.map_in_place.Goals as goal
+
+pub map_view-requires-clause-callable : goal.map_view-requires-clause-callable
+map_view-requires-clause-callable g c =
+    subst (λ items. CallableOnEachMut g.F.FnMut items c.args.f) (sym (items_in RowMajor (array_of c.args.self.now))) c.requires
+
+pub returns-clause-ran : goal.returns-clause-ran
+returns-clause-ran g c = ran_over g.F.FnMut (array_of c.args.self.now) c.map_view.new.cells.items c.map_view.ensures.ran
+
+pub returns-clause-mapped : goal.returns-clause-mapped
+returns-clause-mapped g c =
+    let array = array_of c.args.self.now in
+    let new = c.map_view.new.cells.items in
+    mapped g.F.FnMut array new (in_order g.F.FnMut array new c.map_view.ensures.ran)
+
+pub returns-clause-spare : goal.returns-clause-spare
+returns-clause-spare g c =
+    let array = array_of c.args.self.now in
+    let new = c.map_view.new.cells.items in
+    spare g.F.FnMut array new (in_order g.F.FnMut array new c.map_view.ensures.ran)

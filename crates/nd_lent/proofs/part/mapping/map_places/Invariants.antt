@@ -1,0 +1,14 @@
+-- The calls at the coordinates below this one are made.
+use Rattle.std.proofs.Common.{◌≡◌, length}
+use Rattle.ndarray_layout.specs.Rows.{row_places}
+use Rattle.nd_lent.specs.Rights.{right_of}
+use Rattle.nd_lent.proofs.Laws.RunsTo.{HasMappedSoFar}
+use Rattle.nd_lent.proofs.part.mapping.map_places.Given as goal
+
+abbrev pub invariant-loop-coordinate : goal.invariant-loop-coordinate
+invariant-loop-coordinate g l = record {
+  run : HasMappedSoFar g.F.FnMut l.initial.f (row_places l.row.start l.row.stride l.row.len) l.initial.cells.items l.coordinate
+      l.cells.items l.f;
+  long : length l.cells.items ≡ length l.initial.cells.items;
+  same_right : right_of l.cells ≡ right_of l.initial.cells;
+}

@@ -1,0 +1,158 @@
+//! The right to read and write some elements of a slice, whatever lies between them.
+ghost use Rattle.std.specs.Prelude.{◌≡◌, ℕ, ◌+◌, ◌≤◌, Bool, IsTrue, true, false, Some, List, length};
+ghost use Rattle.std.specs.Prelude.{get_or, slice_get, take, drop, replicate};
+ghost use Rattle.std.specs.Borrow.{sem};
+ghost use base.Fml.{GName};
+ghost use denote.Array.{Array};
+ghost use denote.Follow.{follows, follows_both};
+ghost use Rattle.nd_lent.specs.Items.{IsOwned};
+ghost use Rattle.nd_lent.specs.Part.{IsPart};
+ghost use Rattle.nd_lent.specs.Cells.{are_within, chosen_of, holds_cells, shows_cells, span_of, without, written_at};
+
+mod rest;
+mod swapping;
+mod taken;
+mod whole;
+
+use crate::part::PartMut;
+use ndarray_layout::{Lengths, Strided};
+pub use rest::Rest;
+use std::marker::{Model, PhantomData, Send, Sync};
+use std::slice::from_raw_parts_mut;
+pub use taken::Taken;
+pub use whole::Whole;
+
+/// The right to read and write some elements of a slice, at the price of a pointer: those that have a mark. A proof knows all elements
+/// of the slice; those without a mark are as they were when the right was made, and no call reads them.
+///
+/// The project's own.
+#[derive(Drop)]
+pub(crate) struct Cells<'a, T> {
+    first: *mut T,
+    mark: PhantomData<&'a mut T>,
+    ghost name: { GName },
+    ghost marks: { List Bool },
+    ghost items: { List T },
+}
+
+impl<'a, T> Model for Cells<'a, T> {
+    ghost also_owns = { λ c. holds_cells 'a T.row c.name c.first c.marks c.items };
+
+    ghost also_shares = { λ c _ κ. shows_cells 'a T.row c.first c.marks c.items κ };
+}
+
+unsafe impl<T: Send> Send for Cells<'_, T> {}
+
+unsafe impl<T: Sync> Sync for Cells<'_, T> {}
+
+impl<'a, T> Cells<'a, T> {
+    ghost use Rattle.nd_lent.specs.LendingCells.{LendsCell};
+
+    /// The element at a place, counted in elements from the first of the slice, to be read. The caller ensures that it has a mark.
+    ///
+    /// Of 7 8 9, place 1 is 8. The project's own.
+    pub(crate) fn get(&self, place: usize) -> &T
+        requires { IsTrue (get_or self.now.marks place false) }
+        ensures { slice_get self.now.items place ≡ Some result.now }
+    {
+        unsafe { &*self.first.add(place) }
+    }
+
+    /// The element at a place, counted in elements from the first of the slice, to be written. The caller ensures that it has a mark.
+    ///
+    /// Of 7 8 9, place 1 is 8. The project's own.
+    pub(crate) fn item_mut(&mut self, place: usize) -> &mut T
+        requires { IsTrue (get_or self.old.marks place false) }
+        ensures* writes_back { sem 𝓛 (LendsCell T.row self.entry place result) }
+        ensures value { (slice_get self.old.items place ≡ Some result.now) × (length self.old.items ≡ length self.old.marks) }
+    {
+        unsafe { &mut *self.first.add(place) }
+    }
+
+    /// The right to some of the elements, for as long as the whole is lent; the right to the others stays. The caller ensures that the
+    /// chosen ones have a mark; a proof says which they are, by the value that is given, and no code reads that. Both may be used at
+    /// once, and in threads.
+    ///
+    /// Of 7 8 9 with the first and third chosen: one may write 7 and 9, the other 8. The project's own.
+    pub(crate) fn take_part<V>(&mut self, _by: &V) -> Self
+        ghost chosen: { List Bool }
+        requires { IsTrue (are_within chosen self.old.marks) }
+        ensures* writes_back { sem 𝓛 (follows_both (Array T.row 0) (Array T.row 0) (Array T.row 0)
+            self.old.name result.name self.new.name (chosen_of chosen)) }
+        ensures all { (result.items ≡ self.old.items) × (self.new.items ≡ self.old.items)
+            × (result.marks ≡ chosen) × (self.new.marks ≡ without chosen self.old.marks) }
+    {
+        Cells {
+            first: self.first,
+            mark: PhantomData,
+        }
+    }
+
+    /// So many elements from a place on, as a slice for as long as the whole is lent; the right to the others stays. The caller ensures
+    /// that each of them has a mark.
+    ///
+    /// Of 7 8 9, two from place 1 on: 8 and 9; 7 stays. The project's own.
+    pub(crate) fn take_slice(&mut self, start: usize, len: usize) -> &'a mut [T]
+        requires { IsTrue (are_within (span_of start len self.old.marks) self.old.marks) × (start + len ≤ length self.old.marks) }
+        ensures* writes_back { sem 𝓛 (follows_both (Array T.row 0) (Array T.row 0) (Array T.row 0)
+            self.old.name result.ghost_name self.new.name (written_at start)) }
+        ensures all { (result.now ≡ take len (drop start self.old.items)) × (self.new.items ≡ self.old.items)
+            × (self.new.marks ≡ without (span_of start len self.old.marks) self.old.marks)
+            × (start + len ≤ length self.old.items) }
+    {
+        unsafe { from_raw_parts_mut(self.first.add(start), len) }
+    }
+}
+
+impl<'a, T, D: Lengths> PartMut<'a, T, D> {
+    ghost use Rattle.nd_lent.specs.LendsItem.{LendsItem, LendsItems};
+    ghost use Rattle.nd_lent.specs.Lent.{array_of};
+
+    /// The part of all indices of a view. The caller ensures that each index has an item to itself, as `Strided::from_shape`, `new` and
+    /// `from_parts` check it in owned mode; `over` checks it. Once the part and all that is made of it are gone, the items are what they
+    /// hold. Takes no memory.
+    ///
+    /// `[2]`, `[-1]` from 1 over 7 8 9: (0) is 8, (1) is 7, and 9 is no part of it. The project's own.
+    pub fn new(view: Strided<D>, items: &'a mut [T]) -> Self
+        requires { IsOwned (length items.old) view }
+        ensures* writes_back { sem 𝓛 (follows (Array T.row 0) (Array T.row 0) items.entry.ghost_name result.cells.name (λ ws. ws)) }
+        ensures array { ((array_of result).items ≡ items.old) × ((array_of result).view ≡ view) }
+    {
+        PartMut {
+            cells: Cells {
+                first: items.as_mut_ptr(),
+                mark: PhantomData,
+            },
+            view,
+        }
+    }
+
+    /// The element at a place, counted in elements from the first of the slice. The caller ensures that it has a mark.
+    ///
+    /// Of 7 8 9, place 1 is 8. The project's own.
+    pub(crate) fn item_mut(&mut self, place: usize) -> &mut T
+        requires { IsTrue (get_or self.old.cells.marks place false) }
+        ensures* writes_back { sem 𝓛 (LendsItem T.row D.row self.entry place result) }
+        ensures value { slice_get self.old.cells.items place ≡ Some result.now }
+    {
+        unsafe { &mut *self.cells.first.add(place) }
+    }
+
+    /// Another view of the same items, for a shorter time. The caller ensures that each of its indices has a place to itself, which has a
+    /// mark.
+    ///
+    /// `[2]` from 1 of 7 8 9: 8 and 9. The project's own.
+    pub(crate) fn borrowed<E: Lengths>(&mut self, view: Strided<E>) -> PartMut<'_, T, E>
+        requires { IsPart self.old.cells.marks view }
+        ensures* writes_back { sem 𝓛 (LendsItems T.row D.row self.entry result.cells.name) }
+        ensures all { (result.cells.items ≡ self.old.cells.items) × (result.cells.marks ≡ self.old.cells.marks) × (result.view ≡ view) }
+    {
+        PartMut {
+            cells: Cells {
+                first: self.cells.first,
+                mark: PhantomData,
+            },
+            view,
+        }
+    }
+}

@@ -1,0 +1,56 @@
+//! Parts that are taken of the items of a slice, used at once, and put back.
+ghost use Rattle.std.specs.Prelude.{◌≡◌, length};
+ghost use Rattle.nd_lent.specs.Cells.{chosen_of, without};
+ghost use Rattle.nd_lent.specs.Part.{IsPart, marks_of};
+
+use crate::cells::{Cells, Taken};
+use crate::part::PartMut;
+use ndarray_layout::{Lengths, Strided};
+
+/// The items of a slice that no part has: `Whole::rest` has them all, `take` lends some as a part, and `put_back` brings them again.
+///
+/// Of 7 8 9 by `[2]`, `[2]` from 0: the part has 7 and 9, the rest 8. The project's own.
+#[derive(Drop)]
+pub struct Rest<'a, T> {
+    pub(crate) cells: Cells<'a, T>,
+}
+
+impl<'a, T> Rest<'a, T> {
+    ghost use Rattle.nd_lent.specs.Lent.{array_of};
+    ghost use Rattle.nd_lent.specs.Rights.{right_of};
+
+    /// The part of all indices of a view, and what is needed to put it back. It may be used beside those that were taken before, and
+    /// in a thread. The caller ensures that each index has an item to itself, which no other part has. Takes no memory.
+    ///
+    /// `[2]`, `[2]` from 0 of 7 8 9: (0) of the part is 7, (1) is 9. The project's own.
+    pub fn take<D: Lengths>(&mut self, view: Strided<D>) -> (PartMut<'a, T, D>, Taken<'a, T>)
+        requires { IsPart self.old.cells.marks view }
+        ensures items { (array_of result.0).items ≡ self.old.cells.items }
+        ensures view { (array_of result.0).view ≡ view }
+        ensures rest_items { self.new.cells.items ≡ self.old.cells.items }
+        ensures marks { result.0.cells.marks ≡ marks_of (length self.old.cells.marks) view }
+        ensures rest_marks { self.new.cells.marks ≡
+            without (marks_of (length self.old.cells.marks) view) self.old.cells.marks }
+        ensures counted { length self.new.cells.marks ≡ length self.old.cells.marks }
+        ensures home { result.1.home ≡ right_of self.old.cells }
+        ensures rest { result.1.rest ≡ right_of self.new.cells }
+        ensures part { result.1.part ≡ right_of result.0.cells }
+    {
+        let (cells, taken) = self.cells.lend_part(&view);
+        (PartMut { cells, view }, taken)
+    }
+
+    /// The part is put back: the rest holds its items as it left them, and the others as they were. The caller ensures that each part
+    /// that was taken since was put back before. Takes no memory.
+    ///
+    /// `[2]`, `[2]` from 0 of 7 8 9 with 5 set at (1): 7 8 5. The project's own.
+    pub fn put_back<D: Lengths>(&mut self, part: PartMut<'a, T, D>, taken: Taken<'a, T>)
+        requires rest { right_of self.old.cells ≡ taken.rest }
+        requires part { right_of part.cells ≡ taken.part }
+        ensures items { self.new.cells.items ≡
+            chosen_of part.entry.cells.marks (array_of part.entry).items self.old.cells.items }
+        ensures home { right_of self.new.cells ≡ taken.entry.home }
+    {
+        self.cells.put_back(part.into_cells(), taken);
+    }
+}

@@ -1,0 +1,146 @@
+//! A slice whose items are lent as a part, and which a proof knows once the part has come back.
+ghost use Rattle.std.specs.Prelude.{◌≡◌, length, replicate, true};
+ghost use Rattle.nd_lent.specs.Items.{IsOwned};
+
+use crate::cells::{Cells, Rest};
+use crate::part::PartMut;
+use ndarray_layout::{Lengths, Strided};
+use std::marker::PhantomData;
+use std::mem::replace;
+use std::slice::from_raw_parts_mut;
+
+/// A slice whose items are lent as a part. A proof knows what the slice holds once the part has come back, as `end` says; of a
+/// part that `PartMut::new` makes it doesn't.
+///
+/// `[2]`, `[-1]` from 1 over 7 8 9: 5 written at (0) of the part that it lends makes the slice 7 5 9. The project's own.
+pub struct Whole<'a, T> {
+    items: &'a mut [T],
+    len: usize,
+}
+
+impl<T> Drop for Whole<'_, T> {
+    fn drop(self)
+        ensures { self.exit.0.now ≡ self.entry.items.now }
+    {
+        let Whole { items: _, len: _ } = self;
+    }
+}
+
+impl<'a, T> Whole<'a, T> {
+    ghost use Rattle.nd_lent.specs.Lent.{array_of};
+
+    /// The whole of a slice. Takes no memory.
+    ///
+    /// Of 7 8 9: it has these three. The project's own.
+    pub fn new(items: &'a mut [T]) -> Self
+        ensures items { result.items.now ≡ items.old }
+        ensures len { result.len ≡ length items.old }
+        ensures same_right { result.items.ghost_name ≡ items.entry.ghost_name }
+    {
+        let len = items.len();
+        Whole { items, len }
+    }
+
+    /// The part of all its items, by a view of them. It has no items then, until `end` gives them back. The caller ensures that
+    /// each index of the view has an item to itself, as `Strided::from_shape`, `new` and `from_parts` check it in owned mode.
+    /// Takes no memory.
+    ///
+    /// `[2]`, `[-1]` from 1 over 7 8 9: (0) of the part is 8, (1) is 7. The project's own.
+    pub fn lend<D: Lengths>(&mut self, view: Strided<D>) -> PartMut<'a, T, D>
+        requires { IsOwned (length self.old.items.now) view }
+        ensures items { (array_of result).items ≡ self.old.items.now }
+        ensures view { (array_of result).view ≡ view }
+        ensures len { self.new.len ≡ self.old.len }
+        ensures marks { result.cells.marks ≡ replicate (length self.old.items.now) true }
+        ensures same_right { result.cells.name ≡ self.old.items.ghost_name }
+    {
+        let items = replace(&mut self.items, &mut []);
+        PartMut::of_all(Cells::all_of(items), view)
+    }
+
+    /// The part comes back: the slice holds what the part and all that was made of it left. The caller ensures that it is the
+    /// part of all items, as `lend` returned it, or as `set` and `replace` left it. Takes no memory.
+    ///
+    /// `[2]`, `[-1]` from 1 over 7 8 9 with 5 set at (0): 7 5 9. The project's own.
+    pub fn end<D: Lengths>(&mut self, part: PartMut<'a, T, D>)
+        requires marks { part.cells.marks ≡ replicate self.old.len true }
+        ensures items { self.new.items.now ≡ (array_of part.entry).items }
+        ensures same_right { self.new.items.ghost_name ≡ part.entry.cells.name }
+    {
+        self.items = part.into_cells().finish(self.len);
+    }
+
+    /// All its items, of which parts are taken. It has no items then, until `close` gives them back. Takes no memory.
+    ///
+    /// Of 7 8 9: these three, and none is left. The project's own.
+    pub fn rest(&mut self) -> Rest<'a, T>
+        ensures items { result.cells.items ≡ self.old.items.now }
+        ensures len { self.new.len ≡ self.old.len }
+        ensures counted { length result.cells.marks ≡ length self.old.items.now }
+        ensures marks { result.cells.marks ≡ replicate (length self.old.items.now) true }
+        ensures same_right { result.cells.name ≡ self.old.items.ghost_name }
+    {
+        let items = replace(&mut self.items, &mut []);
+        Rest {
+            cells: Cells::all_of(items),
+        }
+    }
+
+    /// All items come back: the slice holds what the parts left. The caller ensures that each part was put back. Takes no memory.
+    ///
+    /// Of 7 8 9 with 5 set at the last item: 7 8 5. The project's own.
+    pub fn close(&mut self, rest: Rest<'a, T>)
+        requires marks { rest.cells.marks ≡ replicate self.old.len true }
+        ensures items { self.new.items.now ≡ rest.entry.cells.items }
+        ensures same_right { self.new.items.ghost_name ≡ rest.entry.cells.name }
+    {
+        let Rest { cells } = rest;
+        self.items = cells.finish(self.len);
+    }
+}
+
+impl<'a, T> Cells<'a, T> {
+    /// The right to all elements of a slice, under the name of its reference.
+    ///
+    /// Of 7 8 9: each of them. The project's own.
+    fn all_of(items: &'a mut [T]) -> Self
+        ensures all { (result.name ≡ items.entry.ghost_name) × (result.items ≡ items.old)
+            × (result.marks ≡ replicate (length items.old) true) }
+    {
+        Cells {
+            first: items.as_mut_ptr(),
+            mark: PhantomData,
+        }
+    }
+
+    /// The elements as a slice again, under the same name. The caller ensures that each has a mark, and that there are so many.
+    ///
+    /// All 3 of 7 8 9: that slice. The project's own.
+    fn finish(self, len: usize) -> &'a mut [T]
+        requires { (len ≡ length self.marks) × (self.marks ≡ replicate (length self.marks) true) }
+        ensures all { (result.ghost_name ≡ self.entry.name) × (result.now ≡ self.entry.items) }
+    {
+        unsafe { from_raw_parts_mut(self.first, len) }
+    }
+}
+
+impl<'a, T, D: Lengths> PartMut<'a, T, D> {
+    ghost use Rattle.nd_lent.specs.Lent.{array_of};
+
+    /// The part of all items, by a view.
+    fn of_all(cells: Cells<'a, T>, view: Strided<D>) -> Self
+        requires { (cells.marks ≡ replicate (length cells.items) true) × IsOwned (length cells.items) view }
+        ensures array { ((array_of result).items ≡ cells.entry.items) × ((array_of result).view ≡ view) }
+        ensures same_right { result.cells ≡ cells.entry }
+    {
+        PartMut { cells, view }
+    }
+
+    /// The right that a part has, without its view.
+    pub(crate) fn into_cells(self) -> Cells<'a, T>
+        ensures { result ≡ self.entry.cells }
+    {
+        let PartMut { cells, view: _ } = self;
+        cells
+    }
+}

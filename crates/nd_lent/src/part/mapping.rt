@@ -1,0 +1,175 @@
+//! Calls of a closure at all items of a part.
+ghost use Rattle.std.specs.Fn.{CalledAtMut};
+ghost use Rattle.std.specs.Option.{option_map};
+ghost use Rattle.std.specs.Prelude.{◌≡◌, ◌<◌, ◌^◌, ◌+ℤ◌, ◌*ℤ◌, pos, map};
+ghost use Rattle.ndarray_layout.specs.declared.Order.TheVariants.{RowMajor};
+ghost use Rattle.ndarray_layout.specs.Bounds.{IsInBounds};
+ghost use Rattle.ndarray_layout.specs.Rows.{row_places, rows_places};
+ghost use Rattle.ndarray_layout.specs.View.{view_places};
+ghost use Rattle.nd_lent.specs.AnyOrder.{InAnyOrder, RunsOverInSomeOrder};
+ghost use Rattle.nd_lent.specs.HasItems.{HasItemsOf, KeepsSpare};
+ghost use Rattle.nd_lent.specs.Items.{item_at, item_at_place};
+ghost use Rattle.nd_lent.specs.Mapped.{ActsAsAtMut, CallableOnEachMut, RunsOver, row_major_items};
+ghost use Rattle.nd_lent.specs.Part.{IsPart};
+ghost use Rattle.nd_lent.specs.Rights.{right_of};
+ghost use Rattle.nd_lent.specs.Written.{HasRun};
+ghost use Rattle.nd_lent.specs.private.OwnedRows.{OwnsEachRow, OwnsRow};
+ghost use Rattle.nd_lent.specs.private.RunTo.{HasRunAt, HasRunTo};
+
+use crate::cells::Cells;
+use crate::part::PartMut;
+use ndarray_layout::{Lengths, Order, Row, Rows, Strided};
+use std::alloc::Global;
+
+/// The place of a coordinate of a row. The caller ensures that neither it nor the first place is past an `isize`.
+#[inline(always)]
+fn place_in_row(row: Row, coordinate: usize) -> usize
+    requires first { row.start < 2 ^ 63 }
+    requires small { coordinate < 2 ^ 63 }
+    requires in_bounds { IsInBounds (2 ^ 63) (pos row.start +ℤ (pos coordinate *ℤ row.stride)) }
+    ensures { pos result ≡ pos row.start +ℤ (pos coordinate *ℤ row.stride) }
+{
+    (row.start as isize + coordinate as isize * row.stride) as usize
+}
+
+/// Calls a closure at the item of each place of a row, one after another, and hands it back.
+#[inline(always)]
+fn map_places<T, F: FnMut(&mut T)>(cells: &mut Cells<'_, T>, row: Row, mut f: F) -> F
+    requires row { OwnsRow cells.old.marks row }
+    requires callable { CallableOnEachMut F.FnMut
+        (map (item_at_place cells.old.items) (row_places row.start row.stride row.len)) f }
+    ensures ran { HasRunTo (λ p x y q. CalledAtMut F.FnMut p x tt q y) f (row_places row.start row.stride row.len)
+        (map (item_at_place cells.old.items) (row_places row.start row.stride row.len)) cells.old.items cells.new.items result }
+    ensures same_right { right_of cells.new ≡ right_of cells.old }
+{
+    for coordinate in 0..row.len {
+        let place = place_in_row(row, coordinate);
+        f(cells.item_mut(place));
+    }
+    f
+}
+
+/// Calls a closure at each item of a row, one after another, and hands it back.
+#[inline(always)]
+fn map_row<T, F: FnMut(&mut T)>(cells: &mut Cells<'_, T>, row: Row, f: F) -> F
+    requires row { OwnsRow cells.old.marks row }
+    requires callable { CallableOnEachMut F.FnMut
+        (map (item_at_place cells.old.items) (row_places row.start row.stride row.len)) f }
+    ensures ran { HasRunTo (λ p x y q. CalledAtMut F.FnMut p x tt q y) f (row_places row.start row.stride row.len)
+        (map (item_at_place cells.old.items) (row_places row.start row.stride row.len)) cells.old.items cells.new.items result }
+    ensures same_right { right_of cells.new ≡ right_of cells.old }
+{
+    if row.stride == 1 {
+        // (by a stride that is known, the loop is one over a slice)
+        let neighbours = Row {
+            start: row.start,
+            stride: 1,
+            len: row.len,
+        };
+        return map_places(cells, neighbours, f);
+    }
+    map_places(cells, row, f)
+}
+
+/// Calls a closure at each item of these rows, one after another.
+#[inline(always)]
+fn map_rows<T, F: FnMut(&mut T)>(cells: &mut Cells<'_, T>, rows: Rows<'_>, mut f: F)
+    requires rows { OwnsEachRow cells.old.marks rows }
+    requires callable { CallableOnEachMut F.FnMut (map (item_at_place cells.old.items) (rows_places rows)) f }
+    ensures ran { HasRun (λ p x y q. CalledAtMut F.FnMut p x tt q y) f (rows_places rows.entry)
+        (map (item_at_place cells.old.items) (rows_places rows.entry)) cells.old.items cells.new.items }
+    ensures same_right { right_of cells.new ≡ right_of cells.old }
+{
+    for row in rows {
+        f = map_row(cells, row, f);
+    }
+}
+
+/// Calls a closure at the item of each index of a view, in an order of the indices.
+#[inline(always)]
+fn map_view<T, D: Lengths, F: FnMut(&mut T)>(
+    cells: &mut Cells<'_, T>,
+    view: &Strided<D>,
+    order: Order,
+    f: F,
+)
+    requires part { IsPart cells.old.marks view.now }
+    requires callable { CallableOnEachMut F.FnMut (map (item_at_place cells.old.items) (view_places order view.now)) f }
+    ensures ran { HasRun (λ p x y q. CalledAtMut F.FnMut p x tt q y) f (view_places order view.now)
+        (map (item_at_place cells.old.items) (view_places order view.now)) cells.old.items cells.new.items }
+    ensures same_right { right_of cells.new ≡ right_of cells.old }
+{
+    map_rows(cells, view.joined_rows(order), f);
+}
+
+/// Calls a closure at the item of each index of a view, each once: in the order in which they lie, or in row-major order where there
+/// is no memory for another view.
+#[inline(always)]
+pub(crate) fn map_nearest<T, D: Lengths, F: FnMut(&mut T)>(
+    alloc: Global,
+    cells: &mut Cells<'_, T>,
+    view: &Strided<D>,
+    f: F,
+)
+    requires part { IsPart cells.old.marks view.now }
+    requires callable { InAnyOrder (λ items. CallableOnEachMut F.FnMut items f)
+        (map (item_at_place cells.old.items) (view_places RowMajor view.now)) }
+    ensures ran { HasRunAt (λ p x y q. CalledAtMut F.FnMut p x tt q y) f (view_places RowMajor view.now)
+        cells.old.items cells.new.items }
+    ensures same_right { right_of cells.new ≡ right_of cells.old }
+{
+    match view.duplicate(alloc) {
+        Ok(copy) => map_view(cells, &copy.nearest(), Order::RowMajor, f),
+        Err(_) => map_view(cells, view, Order::RowMajor, f),
+    }
+}
+
+impl<'a, T: Drop, D: Lengths> PartMut<'a, T, D> {
+    ghost use Rattle.nd_lent.specs.Lent.{array_of};
+
+    /// Calls a closure at the item of each index, in row-major order, to change it in place. Other items are unchanged.
+    ///
+    /// Takes no memory. Goes over the longest rows that the axes allow (`Strided::joined_rows`).
+    ///
+    /// `|item| *item *= 2` at `[2]`, `[-1]` from 1 over 7 8 9: 14 16 9. ndarray's `map_inplace`.
+    pub fn map_in_place<F: FnMut(&mut T)>(&mut self, f: F)
+        requires { CallableOnEachMut F.FnMut (row_major_items (array_of self.old)) f }
+        ensures ran { RunsOver (λ p x y q. CalledAtMut F.FnMut p x tt q y) f
+            (row_major_items (array_of self.old)) (row_major_items (array_of self.new)) }
+        ensures mapped { (h : T → T) → ActsAsAtMut F.FnMut f h → HasItemsOf
+            (λ index. option_map h (item_at (array_of self.old) index))
+            (array_of self.old) (array_of self.new) }
+        ensures view { (array_of self.new).view ≡ (array_of self.old).view }
+        ensures spare { KeepsSpare (array_of self.old) (array_of self.new) }
+        ensures same_right { self.new.cells.name ≡ self.old.cells.name }
+        ensures same_marks { self.new.cells.marks ≡ self.old.cells.marks }
+        ensures same_right_of { right_of self.new.cells ≡ right_of self.old.cells }
+    {
+        map_view(&mut self.cells, &self.view, Order::RowMajor, f);
+    }
+
+    /// Calls a closure at the item of each index, each once, to change it in place, in the order in which they lie: that in which
+    /// ndarray goes. Other items are unchanged.
+    ///
+    /// It is `map_in_place` for a closure that needs no order: a part that is transposed, mirrored or column-major is one row as well,
+    /// where its items lie side by side (`Strided::nearest`). Takes memory for a copy of the view, but never where the type fixes the
+    /// count of axes or there are at most 4; where there is none, it goes as `map_in_place` does.
+    ///
+    /// `|item| *item *= 2` at `[2]`, `[-1]` from 1 over 7 8 9: at 7, then at 8, 14 16 9. ndarray's `map_inplace`.
+    pub fn map_in_place_nearest<F: FnMut(&mut T)>(&mut self, alloc: Global, f: F)
+        requires { InAnyOrder (λ items. CallableOnEachMut F.FnMut items f)
+            (row_major_items (array_of self.old)) }
+        ensures ran { RunsOverInSomeOrder (λ p x y q. CalledAtMut F.FnMut p x tt q y) f
+            (row_major_items (array_of self.old)) (row_major_items (array_of self.new)) }
+        ensures mapped { (h : T → T) → ActsAsAtMut F.FnMut f h → HasItemsOf
+            (λ index. option_map h (item_at (array_of self.old) index))
+            (array_of self.old) (array_of self.new) }
+        ensures view { (array_of self.new).view ≡ (array_of self.old).view }
+        ensures spare { KeepsSpare (array_of self.old) (array_of self.new) }
+        ensures same_right { self.new.cells.name ≡ self.old.cells.name }
+        ensures same_marks { self.new.cells.marks ≡ self.old.cells.marks }
+        ensures same_right_of { right_of self.new.cells ≡ right_of self.old.cells }
+    {
+        map_nearest(alloc, &mut self.cells, &self.view, f);
+    }
+}

@@ -1,0 +1,64 @@
+//! Writes to all items of a part, and swaps of two.
+ghost use Rattle.std.specs.Prelude.{◌≡◌, ◌&&◌, Some, length};
+ghost use Rattle.ndarray_layout.specs.Indices.{is_index};
+ghost use Rattle.nd_lent.specs.HasItems.{HasItemsOf, with_swapped};
+ghost use Rattle.nd_lent.specs.Rights.{right_of};
+
+use crate::part::PartMut;
+use crate::part::mapping::map_nearest;
+use ndarray_layout::{Lengths, NdIndex};
+use std::alloc::Global;
+
+impl<'a, T: Drop, D: Lengths> PartMut<'a, T, D> {
+    ghost use Rattle.nd_lent.specs.Lent.{array_of};
+
+    /// Swaps the items of two indices, and returns whether both are indices of the shape; else the part is unchanged.
+    ///
+    /// `[2]`, `[2]` from 0 over 7 8 9: (0) and (1) make the items 9 8 7. ndarray's `swap`, which panics where one is no index.
+    pub fn swap<I: NdIndex<D>, J: NdIndex<D>>(&mut self, index: &I, other: &J) -> bool
+        ensures are_indices { result ≡
+            (is_index (array_of self.old).view.shape (I.index_list index.now)
+            && is_index (array_of self.old).view.shape (J.index_list other.now)) }
+        ensures swapped { array_of self.new ≡ with_swapped (array_of self.old)
+            (I.index_list index.now) (J.index_list other.now) }
+        ensures same_right { self.new.cells.name ≡ self.old.cells.name }
+        ensures same_marks { self.new.cells.marks ≡ self.old.cells.marks }
+        ensures same_right_of { right_of self.new.cells ≡ right_of self.old.cells }
+    {
+        match (self.view.place(index), self.view.place(other)) {
+            (Some(one), Some(other)) => {
+                self.cells.swap(one, other);
+                true
+            },
+            _ => false,
+        }
+    }
+}
+
+impl<'a, T: Drop + Copy, D: Lengths> PartMut<'a, T, D> {
+    ghost use Rattle.nd_lent.specs.Lent.{array_of};
+
+    /// Writes an item at each index. Other items are unchanged.
+    ///
+    /// Goes over the items in the order in which they lie, as `map_in_place_nearest` does, with its cost.
+    ///
+    /// 5 to `[2]`, `[-1]` from 1 over 7 8 9: 5 5 9. ndarray's `fill`.
+    pub fn fill(&mut self, alloc: Global, item: T)
+        ensures filled { HasItemsOf (λ index. Some item) (array_of self.old) (array_of self.new) }
+        ensures count { length (array_of self.new).items ≡ length (array_of self.old).items }
+        ensures same_right { self.new.cells.name ≡ self.old.cells.name }
+        ensures same_marks { self.new.cells.marks ≡ self.old.cells.marks }
+        ensures same_right_of { right_of self.new.cells ≡ right_of self.old.cells }
+    {
+        map_nearest(
+            alloc,
+            &mut self.cells,
+            &self.view,
+            |stored: &mut T|
+                ensures { stored.new ≡ item }
+            {
+                *stored = item;
+            },
+        );
+    }
+}

@@ -1,0 +1,13 @@
+pub use Rattle.nd_lent.proofs.Laws.Faults
+pub use Rattle.nd_lent.proofs.Laws.FirstItems
+pub use Rattle.nd_lent.proofs.Laws.Folds
+pub use Rattle.nd_lent.proofs.Laws.IndexItems
+pub use Rattle.nd_lent.proofs.Laws.ItemPlaces
+pub use Rattle.nd_lent.proofs.Laws.Lists
+pub use Rattle.nd_lent.proofs.Laws.OwnedViews
+pub use Rattle.nd_lent.proofs.Laws.PartItems
+pub use Rattle.nd_lent.proofs.Laws.RowItems
+pub use Rattle.nd_lent.proofs.Laws.SlicePlaces
+pub use Rattle.nd_lent.proofs.Laws.StepItems
+pub use Rattle.nd_lent.proofs.Laws.Written
+pub mod Writes

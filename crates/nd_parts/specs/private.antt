@@ -1,2 +1,0 @@
-pub mod OwnedRows
-pub mod RunTo

@@ -1,0 +1,132 @@
+// Made by `rust/erase` of `crates/nd_lent/src/array_view/rest_of_items.rt`: edit that.
+//! The rest of the items of an array, whose rows come at once: the iterator has the view.
+
+use crate::nd_lent::array_view::{ArrayView, LentRow, RowItems};
+use crate::ndarray_layout::{IntoPlaces, Lengths, Order};
+
+/// The items of an array that are still to come, in row-major order of their indices, row by row.
+pub(crate) struct RestOfItems<'a, T, D: Lengths> {
+    pub(crate) items: &'a [T],
+    pub(crate) places: IntoPlaces<D>,
+}
+
+impl<'a, T, D: Lengths> RestOfItems<'a, T, D> {
+    /// All items of an array, row by row.
+    ///
+    /// <details><summary>Contract (proved)</summary>
+    ///
+    /// ```text
+    /// ensures result ≡ map (item_at_place array.entry.items) (view_places RowMajor array.entry.view)
+    /// ```
+    /// [How to read it](crate::contracts)
+    /// </details>
+    #[inline]
+    pub(super) fn new(array: ArrayView<'a, T, D>) -> Self {
+        let ArrayView { items, view } = array;
+        RestOfItems { items, places: view.into_places(Order::RowMajor) }
+    }
+
+    /// How many are left.
+    ///
+    /// <details><summary>Contract (proved)</summary>
+    ///
+    /// ```text
+    /// ensures result ≡ length self.now
+    /// ```
+    /// [How to read it](crate::contracts)
+    /// </details>
+    #[inline]
+    pub(super) fn len(&self) -> usize {
+        self.places.len()
+    }
+
+    /// None of these items.
+    ///
+    /// <details><summary>Contract (proved)</summary>
+    ///
+    /// ```text
+    /// ensures result ≡ []
+    /// ```
+    /// [How to read it](crate::contracts)
+    /// </details>
+    #[inline]
+    pub(super) fn none(&self) -> RowItems<'a, T> {
+        RowItems::none(self.items)
+    }
+
+    /// Leaves out so many items, or all where fewer are left.
+    ///
+    /// <details><summary>Contract (proved)</summary>
+    ///
+    /// ```text
+    /// ensures self.new ≡ drop count self.old
+    /// ```
+    /// [How to read it](crate::contracts)
+    /// </details>
+    #[inline]
+    pub(super) fn advance(&mut self, count: usize) {
+        self.places.advance(count);
+    }
+
+    /// Leaves out so many items at the back, or all where fewer are left.
+    ///
+    /// <details><summary>Contract (proved)</summary>
+    ///
+    /// ```text
+    /// ensures self.new ≡ take (length self.old - count) self.old
+    /// ```
+    /// [How to read it](crate::contracts)
+    /// </details>
+    #[inline]
+    pub(super) fn advance_back(&mut self, count: usize) {
+        self.places.advance_back(count);
+    }
+
+    /// The last item.
+    ///
+    /// <details><summary>Contract (proved)</summary>
+    ///
+    /// ```text
+    /// ensures YieldsLastBy (λ item. Some item.now) (λ left. left) self.old result self.new
+    /// ```
+    /// [How to read it](crate::contracts)
+    /// </details>
+    #[inline]
+    pub(super) fn next_back(&mut self) -> Option<&'a T> {
+        let place = self.places.next_back()?;
+        let items = self.items;
+        Some(&items[place])
+    }
+
+    /// The row that comes next; `None` after the last item.
+    ///
+    /// <details><summary>Contract (proved)</summary>
+    ///
+    /// ```text
+    /// ensures MatchOption result ((self.old ≡ []) × (self.new ≡ []))
+    ///     (λ row. (0 < row.row.len) × (self.old ≡ row_items row ++ self.new))
+    /// ```
+    /// [How to read it](crate::contracts)
+    /// </details>
+    #[inline]
+    pub(super) fn next_row(&mut self) -> Option<LentRow<'a, T>> {
+        let row = self.places.next_row()?;
+        Some(LentRow { items: self.items, row })
+    }
+
+    /// What is left of the last row; `None` before the first item.
+    ///
+    /// <details><summary>Contract (proved)</summary>
+    ///
+    /// ```text
+    /// ensures MatchOption result ((self.old ≡ []) × (self.new ≡ []))
+    ///     (λ row. (0 < row.row.len) × (self.old ≡ self.new ++ row_items row))
+    /// ```
+    /// [How to read it](crate::contracts)
+    /// </details>
+    #[inline]
+    pub(super) fn next_row_back(&mut self) -> Option<LentRow<'a, T>> {
+        let row = self.places.next_row_back()?;
+        Some(LentRow { items: self.items, row })
+    }
+}

@@ -1,0 +1,160 @@
+// Made by `rust/erase` of `crates/nd_lent/src/array_view/row_items.rt`: edit that.
+//! The items of a row one after another, lent for as long as the data is.
+
+use crate::nd_lent::array_view::LentRow;
+use crate::ndarray_layout::Row;
+use core::iter::FusedIterator;
+
+/// The items of a row that are still to come, from both ends, each lent for as long as the data is. ndarray's `Iter` of
+/// a row.
+pub struct RowItems<'a, T> {
+    pub(crate) items: &'a [T],
+    pub(crate) row: Row,
+    // The coordinate that comes next, and the one after the last that is left.
+    pub(crate) begun: usize,
+    pub(crate) end: usize,
+}
+
+impl<'a, T> RowItems<'a, T> {
+    /// None of these items.
+    ///
+    /// <details><summary>Contract (proved)</summary>
+    ///
+    /// ```text
+    /// ensures result ≡ []
+    /// ```
+    /// [How to read it](crate::contracts)
+    /// </details>
+    #[inline]
+    pub(super) fn none(items: &'a [T]) -> Self {
+        let row = Row { start: 0, stride: 0, len: 0 };
+        RowItems { items, row, begun: 0, end: 0 }
+    }
+
+    /// Leaves out so many items, or all where fewer are left: the next one is the one that comes after them.
+    ///
+    /// Of a row of 5 6 7, after two items: 7. What `nth` of std's iterators leaves out one by one.
+    ///
+    /// # Examples
+    ///
+    /// ```
+    /// use ndarray_layout::{ArrayView, Ix2, LayoutError};
+    ///
+    /// # fn main() -> Result<(), LayoutError> {
+    /// let table = ArrayView::from_shape(Ix2(1, 3).into(), &[5, 6, 7])?;
+    /// if let Some(row) = table.into_rows().next() {
+    ///     let mut left = row.into_iter();
+    ///     left.advance(2);
+    ///     assert_eq!((left.next(), left.next()), (Some(&7), None));
+    /// }
+    /// # Ok(())
+    /// # }
+    /// ```
+    ///
+    /// <details><summary>Contract (proved)</summary>
+    ///
+    /// ```text
+    /// ensures self.new ≡ drop count self.old
+    /// ```
+    /// [How to read it](crate::contracts)
+    /// </details>
+    #[inline]
+    pub fn advance(&mut self, count: usize) {
+        self.begun += count.min(self.end - self.begun);
+    }
+
+    /// Leaves out so many items at the back, or all where fewer are left: the last one is the one that comes before them.
+    ///
+    /// Of a row of 5 6 7, without the last two: 5. What `nth_back` of std's iterators leaves out one by one.
+    ///
+    /// # Examples
+    ///
+    /// ```
+    /// use ndarray_layout::{ArrayView, Ix2, LayoutError};
+    ///
+    /// # fn main() -> Result<(), LayoutError> {
+    /// let table = ArrayView::from_shape(Ix2(1, 3).into(), &[5, 6, 7])?;
+    /// if let Some(row) = table.into_rows().next() {
+    ///     let mut left = row.into_iter();
+    ///     left.advance_back(2);
+    ///     assert_eq!((left.next_back(), left.next_back()), (Some(&5), None));
+    /// }
+    /// # Ok(())
+    /// # }
+    /// ```
+    ///
+    /// <details><summary>Contract (proved)</summary>
+    ///
+    /// ```text
+    /// ensures self.new ≡ take (length self.old - count) self.old
+    /// ```
+    /// [How to read it](crate::contracts)
+    /// </details>
+    #[inline]
+    pub fn advance_back(&mut self, count: usize) {
+        self.end -= count.min(self.end - self.begun);
+    }
+}
+
+impl<'a, T> Iterator for RowItems<'a, T> {
+    type Item = &'a T;
+
+    #[inline]
+    fn next(&mut self) -> Option<&'a T> {
+        if self.begun == self.end {
+            return None;
+        }
+        let row = LentRow { items: self.items, row: self.row };
+        let item = row.item(self.begun);
+        self.begun += 1;
+        Some(item)
+    }
+
+    #[inline]
+    fn size_hint(&self) -> (usize, Option<usize>) {
+        let left = self.len();
+        (left, Some(left))
+    }
+
+    crate::arrays::fold_row_items!();
+}
+
+impl<'a, T> DoubleEndedIterator for RowItems<'a, T> {
+    #[inline]
+    fn next_back(&mut self) -> Option<&'a T> {
+        if self.begun == self.end {
+            return None;
+        }
+        self.end -= 1;
+        let row = LentRow { items: self.items, row: self.row };
+        Some(row.item(self.end))
+    }
+
+    crate::arrays::rfold_row_items!();
+}
+
+impl<T> ExactSizeIterator for RowItems<'_, T> {
+    #[inline]
+    fn len(&self) -> usize {
+        self.end - self.begun
+    }
+}
+
+impl<T> FusedIterator for RowItems<'_, T> {}
+
+/// Iterates over the items of the row.
+///
+/// Takes no memory. An item costs a product.
+///
+/// Of `[2,2]` over 5 6 7 8 the second row gives 7 8. ndarray's `into_iter` of a row.
+impl<'a, T> IntoIterator for LentRow<'a, T> {
+    type Item = &'a T;
+
+    type IntoIter = RowItems<'a, T>;
+
+    #[inline]
+    fn into_iter(self) -> RowItems<'a, T> {
+        let LentRow { items, row } = self;
+        RowItems { items, row, begun: 0, end: row.len }
+    }
+}

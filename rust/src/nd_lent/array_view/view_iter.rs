@@ -1,0 +1,159 @@
+// Made by `rust/erase` of `crates/nd_lent/src/array_view/view_iter.rt`: edit that.
+//! The items of an array one after another, lent for as long as the data is: the iterator has the view.
+
+use crate::nd_lent::array_view::{ArrayView, RestOfItems, RowItems};
+use crate::ndarray_layout::Lengths;
+use core::iter::FusedIterator;
+
+/// The items of an array that are still to come, in row-major order of their indices, from both ends, each lent for as
+/// long as the data is: a function that is handed an `ArrayView` may return this. ndarray's `Iter`.
+pub struct ViewIter<'a, T, D: Lengths> {
+    // What is left of the row that has begun at the front.
+    pub(crate) row: RowItems<'a, T>,
+    pub(crate) rest: RestOfItems<'a, T, D>,
+}
+
+/// The first item of the row that comes next, which begins. It stays a call, so that a loop over items is short.
+///
+/// <details><summary>Contract (proved)</summary>
+///
+/// ```text
+/// requires row.old ≡ []
+/// ensures MatchOption result ((rest.old ≡ []) × (row.new ++ rest.new ≡ []))
+///     (λ item. rest.old ≡ Some item.now ∷ row.new ++ rest.new)
+/// ```
+/// [How to read it](crate::contracts)
+/// </details>
+#[inline(never)]
+fn begin_row<'a, T, D: Lengths>(row: &mut RowItems<'a, T>, rest: &mut RestOfItems<'a, T, D>) -> Option<&'a T> {
+    *row = rest.next_row()?.into_iter();
+    row.next()
+}
+
+impl<'a, T, D: Lengths> ViewIter<'a, T, D> {
+    /// Leaves out so many items, or all where fewer are left: the next one is the one that comes after them.
+    ///
+    /// Takes no memory, and no time for each item (`IntoPlaces::advance`).
+    ///
+    /// Of 8 7, after one item: 7. What `nth` of std's iterators leaves out one by one.
+    ///
+    /// # Examples
+    ///
+    /// ```
+    /// use ndarray_layout::{ArrayView, Ix2, LayoutError};
+    ///
+    /// # fn main() -> Result<(), LayoutError> {
+    /// let table = ArrayView::from_shape(Ix2(2, 2).into(), &[5, 6, 7, 8])?;
+    /// let mut left = table.into_iter();
+    /// left.advance(3);
+    /// assert_eq!((left.next(), left.next()), (Some(&8), None));
+    /// # Ok(())
+    /// # }
+    /// ```
+    ///
+    /// <details><summary>Contract (proved)</summary>
+    ///
+    /// ```text
+    /// ensures self.new ≡ drop count self.old
+    /// ```
+    /// [How to read it](crate::contracts)
+    /// </details>
+    #[inline]
+    pub fn advance(&mut self, count: usize) {
+        let in_row = self.row.len();
+        self.row.advance(count);
+        self.rest.advance(count.saturating_sub(in_row));
+    }
+
+    /// Leaves out so many items at the back, or all where fewer are left: the last one is the one that comes before them.
+    ///
+    /// Takes no memory, and no time for each item (`IntoPlaces::advance_back`).
+    ///
+    /// Of 8 7, without the last item: 8. What `nth_back` of std's iterators leaves out one by one.
+    ///
+    /// # Examples
+    ///
+    /// ```
+    /// use ndarray_layout::{ArrayView, Ix2, LayoutError};
+    ///
+    /// # fn main() -> Result<(), LayoutError> {
+    /// let table = ArrayView::from_shape(Ix2(2, 2).into(), &[5, 6, 7, 8])?;
+    /// let mut left = table.into_iter();
+    /// left.advance_back(3);
+    /// assert_eq!((left.next_back(), left.next_back()), (Some(&5), None));
+    /// # Ok(())
+    /// # }
+    /// ```
+    ///
+    /// <details><summary>Contract (proved)</summary>
+    ///
+    /// ```text
+    /// ensures self.new ≡ take (length self.old - count) self.old
+    /// ```
+    /// [How to read it](crate::contracts)
+    /// </details>
+    #[inline]
+    pub fn advance_back(&mut self, count: usize) {
+        let in_rest = self.rest.len();
+        self.rest.advance_back(count);
+        self.row.advance_back(count.saturating_sub(in_rest));
+    }
+}
+
+impl<'a, T, D: Lengths> Iterator for ViewIter<'a, T, D> {
+    type Item = &'a T;
+
+    #[inline]
+    fn next(&mut self) -> Option<&'a T> {
+        if let Some(item) = self.row.next() {
+            return Some(item);
+        }
+        begin_row(&mut self.row, &mut self.rest)
+    }
+
+    #[inline]
+    fn size_hint(&self) -> (usize, Option<usize>) {
+        let left = self.len();
+        (left, Some(left))
+    }
+
+    crate::arrays::fold_view_iter!();
+}
+
+impl<'a, T, D: Lengths> DoubleEndedIterator for ViewIter<'a, T, D> {
+    #[inline]
+    fn next_back(&mut self) -> Option<&'a T> {
+        if let Some(item) = self.rest.next_back() {
+            return Some(item);
+        }
+        self.row.next_back()
+    }
+
+    crate::arrays::rfold_view_iter!();
+}
+
+impl<'a, T, D: Lengths> ExactSizeIterator for ViewIter<'a, T, D> {
+    #[inline]
+    fn len(&self) -> usize {
+        self.row.len() + self.rest.len()
+    }
+}
+
+impl<'a, T, D: Lengths> FusedIterator for ViewIter<'a, T, D> {}
+
+/// Iterates over the items in row-major order.
+///
+/// Takes no memory. An item takes the time of its place (`Strided::into_places`).
+///
+/// `a.into_iter()` gives 8 7. ndarray's `into_iter` of a view.
+impl<'a, T, D: Lengths> IntoIterator for ArrayView<'a, T, D> {
+    type Item = &'a T;
+
+    type IntoIter = ViewIter<'a, T, D>;
+
+    #[inline]
+    fn into_iter(self) -> ViewIter<'a, T, D> {
+        let rest = RestOfItems::new(self);
+        ViewIter { row: rest.none(), rest }
+    }
+}

@@ -1,0 +1,201 @@
+// Made by `rust/erase` of `crates/nd_lent/src/cells.rt`: edit that.
+//! The right to read and write some elements of a slice, whatever lies between them.
+
+#![allow(unsafe_code, reason = "proved: a comment says by which clauses")]
+
+mod swapping;
+mod taken;
+
+use crate::nd_lent::part::PartMut;
+use crate::ndarray_layout::{Lengths, Strided};
+use core::marker::PhantomData;
+use core::slice::from_raw_parts_mut;
+
+/// The right to read and write some elements of a slice, at the price of a pointer: those that have a mark.
+///
+/// The project's own.
+pub(in crate::nd_lent) struct Cells<'a, T> {
+    first: *mut T,
+    mark: PhantomData<&'a mut T>,
+}
+
+// SAFETY: no other `Cells` has a mark that this one has (`array` of `new`, `all` of `take_part`), so it is sent as a
+// `&mut [T]` of its elements would be.
+unsafe impl<T: Send> Send for Cells<'_, T> {}
+
+// SAFETY: what is shared only reads (`get`), as a `&[T]` of its elements would.
+unsafe impl<T: Sync> Sync for Cells<'_, T> {}
+
+impl<'a, T> Cells<'a, T> {
+    /// The element at a place, counted in elements from the first of the slice, to be read.
+    ///
+    /// Of 7 8 9, place 1 is 8. The project's own.
+    ///
+    /// # Conditions
+    ///
+    /// The caller ensures that it has a mark. Otherwise the behaviour is undefined.
+    ///
+    /// <details><summary>Contract (proved)</summary>
+    ///
+    /// ```text
+    /// requires IsTrue (get_or self.now.marks place false)
+    /// ensures slice_get self.now.items place ≡ Some result.now
+    /// ```
+    /// [How to read it](crate::contracts)
+    /// </details>
+    #[inline]
+    pub(in crate::nd_lent) fn get(&self, place: usize) -> &T {
+        // SAFETY: the place has a mark, which the caller ensures; so it is one of the slice that was lent (`new`), and
+        // no other `Cells` has its mark (`all` of `take_part`). While the result is in use this one is borrowed, so
+        // nothing writes the element.
+        unsafe { &*self.first.add(place) }
+    }
+
+    /// The element at a place, counted in elements from the first of the slice, to be written.
+    ///
+    /// Of 7 8 9, place 1 is 8. The project's own.
+    ///
+    /// # Conditions
+    ///
+    /// The caller ensures that it has a mark. Otherwise the behaviour is undefined.
+    ///
+    /// <details><summary>Contract (proved)</summary>
+    ///
+    /// ```text
+    /// requires IsTrue (get_or self.old.marks place false)
+    /// ensures value: (slice_get self.old.items place ≡ Some result.now) × (length self.old.items ≡ length self.old.marks)
+    /// ```
+    /// [How to read it](crate::contracts)
+    /// </details>
+    #[inline]
+    pub(in crate::nd_lent) fn item_mut(&mut self, place: usize) -> &mut T {
+        // SAFETY: the place has a mark, which the caller ensures; so it is one of the slice that was lent (`new`), and
+        // no other `Cells` has its mark (`all` of `take_part`). While the result is in use the part is borrowed, so
+        // nothing else reads or writes the element.
+        unsafe { &mut *self.first.add(place) }
+    }
+
+    /// The right to some of the elements, for as long as the whole is lent; the right to the others stays. Both may be
+    /// used at once, and in threads.
+    ///
+    /// Of 7 8 9 with the first and third chosen: one may write 7 and 9, the other 8. The project's own.
+    ///
+    /// # Conditions
+    ///
+    /// The caller ensures that the chosen ones have a mark; a proof says which they are, by the value that is given,
+    /// and no code reads that. Otherwise the behaviour is undefined.
+    ///
+    /// <details><summary>Contract (proved)</summary>
+    ///
+    /// ```text
+    /// requires IsTrue (are_within chosen self.old.marks)
+    /// ensures all: (result.items ≡ self.old.items) × (self.new.items ≡ self.old.items)
+    ///     × (result.marks ≡ chosen) × (self.new.marks ≡ without chosen self.old.marks)
+    /// ```
+    /// [How to read it](crate::contracts)
+    /// </details>
+    #[inline]
+    pub(in crate::nd_lent) fn take_part<V>(&mut self, _by: &V) -> Self {
+        Cells { first: self.first, mark: PhantomData }
+    }
+
+    /// So many elements from a place on, as a slice for as long as the whole is lent; the right to the others stays.
+    ///
+    /// Of 7 8 9, two from place 1 on: 8 and 9; 7 stays. The project's own.
+    ///
+    /// # Conditions
+    ///
+    /// The caller ensures that each of them has a mark. Otherwise the behaviour is undefined.
+    ///
+    /// <details><summary>Contract (proved)</summary>
+    ///
+    /// ```text
+    /// requires IsTrue (are_within (span_of start len self.old.marks) self.old.marks) × (start + len ≤ length self.old.marks)
+    /// ensures all: (result.now ≡ take len (drop start self.old.items)) × (self.new.items ≡ self.old.items)
+    ///     × (self.new.marks ≡ without (span_of start len self.old.marks) self.old.marks)
+    ///     × (start + len ≤ length self.old.items)
+    /// ```
+    /// [How to read it](crate::contracts)
+    /// </details>
+    #[inline]
+    pub(in crate::nd_lent) fn take_slice(&mut self, start: usize, len: usize) -> &'a mut [T] {
+        // SAFETY: each of these places has a mark, which the caller ensures, and has none afterwards (`all`, here). So
+        // they are those of the slice that was lent (`new`), and no call of this `Cells` or of another reads or writes
+        // them again.
+        unsafe { from_raw_parts_mut(self.first.add(start), len) }
+    }
+}
+
+impl<'a, T, D: Lengths> PartMut<'a, T, D> {
+    /// The part of all indices of a view. Once the part and all that is made of it are gone, the items are what they
+    /// hold. Takes no memory.
+    ///
+    /// `[2]`, `[-1]` from 1 over 7 8 9: (0) is 8, (1) is 7, and 9 is no part of it. The project's own.
+    ///
+    /// # Conditions
+    ///
+    /// The caller ensures that each index has an item to itself, as `Strided::from_shape`, `new` and `from_parts` check
+    /// it in owned mode; `over` checks it. This call panics where two indices have one item, or one lies past the
+    /// items. Where the rule of owned mode does not show that none have, it takes memory and time for a sort of the
+    /// places.
+    ///
+    /// # Examples
+    ///
+    /// ```
+    /// use ndarray_layout::{CanIndexCheckMode, Ix1, LayoutError, PartMut, Strided, unsigned};
+    ///
+    /// # fn main() -> Result<(), LayoutError> {
+    /// let mut items = [7, 8, 9];
+    /// let view = Strided::from_parts(1, Ix1(2), Ix1(unsigned(-1)), 1, items.len(), CanIndexCheckMode::OwnedMutable)?;
+    /// let part = PartMut::new(view, &mut items);
+    /// assert_eq!((part.get(&0), part.get(&1), part.get(&2)), (Some(&8), Some(&7), None));
+    /// # Ok(())
+    /// # }
+    /// ```
+    ///
+    /// <details><summary>Contract (proved)</summary>
+    ///
+    /// ```text
+    /// requires IsOwned (length items.old) view
+    /// ensures array: ((array_of result).items ≡ items.old) × ((array_of result).view ≡ view)
+    /// ```
+    /// [How to read it](crate::contracts)
+    /// </details>
+    #[inline]
+    #[must_use]
+    pub fn new(view: Strided<D>, items: &'a mut [T]) -> Self {
+        assert!(
+            crate::parts::has_own_items(&view, items.len()),
+            "two indices of the view share an item, or one is past the items"
+        );
+        PartMut { cells: Cells { first: items.as_mut_ptr(), mark: PhantomData }, view }
+    }
+
+    /// The element at a place, counted in elements from the first of the slice. The caller ensures that it has a mark.
+    ///
+    /// Of 7 8 9, place 1 is 8. The project's own.
+    ///
+    /// <details><summary>Contract (proved)</summary>
+    ///
+    /// ```text
+    /// ensures value: slice_get self.old.cells.items place ≡ Some result.now
+    /// ```
+    /// [How to read it](crate::contracts)
+    /// </details>
+    #[inline]
+    pub(in crate::nd_lent) fn item_mut(&mut self, place: usize) -> &mut T {
+        // SAFETY: the place has a mark, which the caller ensures; so it is one of the slice that was lent (`new`), and
+        // no other `Cells` has its mark (`all` of `take_part`). While the result is in use the part is borrowed, so
+        // nothing else reads or writes the element.
+        unsafe { &mut *self.cells.first.add(place) }
+    }
+
+    /// Another view of the same items, for a shorter time. The caller ensures that each of its indices has a place to itself, which has a
+    /// mark.
+    ///
+    /// `[2]` from 1 of 7 8 9: 8 and 9. The project's own.
+    #[inline]
+    pub(in crate::nd_lent) fn borrowed<E: Lengths>(&mut self, view: Strided<E>) -> PartMut<'_, T, E> {
+        PartMut { cells: Cells { first: self.cells.first, mark: PhantomData }, view }
+    }
+}

@@ -1,0 +1,230 @@
+// Made by `rust/erase` of `crates/nd_lent/src/part/mapping.rt`: edit that.
+//! Calls of a closure at all items of a part.
+
+use crate::memory::prelude::Vec;
+use crate::nd_lent::cells::Cells;
+use crate::nd_lent::part::PartMut;
+use crate::ndarray_layout::{Lengths, Order, Row, Rows, Strided};
+
+/// The place of a coordinate of a row.
+///
+/// # Conditions
+///
+/// The caller ensures that neither it nor the first place is past an `isize`. Otherwise the behaviour is undefined.
+///
+/// <details><summary>Contract (proved)</summary>
+///
+/// ```text
+/// requires first: row.start < 2 ^ 63
+/// requires small: coordinate < 2 ^ 63
+/// requires in_bounds: IsInBounds (2 ^ 63) (pos row.start +ℤ (pos coordinate *ℤ row.stride))
+/// ensures pos result ≡ pos row.start +ℤ (pos coordinate *ℤ row.stride)
+/// ```
+/// [How to read it](crate::contracts)
+/// </details>
+#[inline(always)]
+fn place_in_row(row: Row, coordinate: usize) -> usize {
+    (row.start as isize + coordinate as isize * row.stride) as usize
+}
+
+/// Calls a closure at the item of each place of a row, one after another, and hands it back.
+///
+/// <details><summary>Contract (proved)</summary>
+///
+/// ```text
+/// requires row: OwnsRow cells.old.marks row
+/// requires callable: CallableOnEachMut F.FnMut
+///     (map (item_at_place cells.old.items) (row_places row.start row.stride row.len)) f
+/// ensures ran: HasRunTo (λ p x y q. CalledAtMut F.FnMut p x tt q y) f (row_places row.start row.stride row.len)
+///     (map (item_at_place cells.old.items) (row_places row.start row.stride row.len)) cells.old.items cells.new.items result
+/// ```
+/// [How to read it](crate::contracts)
+/// </details>
+#[inline(always)]
+fn map_places<T, F: FnMut(&mut T)>(cells: &mut Cells<'_, T>, row: Row, mut f: F) -> F {
+    for coordinate in 0..row.len {
+        let place = place_in_row(row, coordinate);
+        f(cells.item_mut(place));
+    }
+    f
+}
+
+/// Calls a closure at each item of a row, one after another, and hands it back.
+///
+/// <details><summary>Contract (proved)</summary>
+///
+/// ```text
+/// requires row: OwnsRow cells.old.marks row
+/// requires callable: CallableOnEachMut F.FnMut
+///     (map (item_at_place cells.old.items) (row_places row.start row.stride row.len)) f
+/// ensures ran: HasRunTo (λ p x y q. CalledAtMut F.FnMut p x tt q y) f (row_places row.start row.stride row.len)
+///     (map (item_at_place cells.old.items) (row_places row.start row.stride row.len)) cells.old.items cells.new.items result
+/// ```
+/// [How to read it](crate::contracts)
+/// </details>
+#[inline(always)]
+fn map_row<T, F: FnMut(&mut T)>(cells: &mut Cells<'_, T>, row: Row, f: F) -> F {
+    if row.stride == 1 {
+        // (by a stride that is known, the loop is one over a slice)
+        let neighbours = Row { start: row.start, stride: 1, len: row.len };
+        return map_places(cells, neighbours, f);
+    }
+    map_places(cells, row, f)
+}
+
+/// Calls a closure at each item of these rows, one after another.
+///
+/// <details><summary>Contract (proved)</summary>
+///
+/// ```text
+/// requires rows: OwnsEachRow cells.old.marks rows
+/// requires callable: CallableOnEachMut F.FnMut (map (item_at_place cells.old.items) (rows_places rows)) f
+/// ensures ran: HasRun (λ p x y q. CalledAtMut F.FnMut p x tt q y) f (rows_places rows.entry)
+///     (map (item_at_place cells.old.items) (rows_places rows.entry)) cells.old.items cells.new.items
+/// ```
+/// [How to read it](crate::contracts)
+/// </details>
+#[inline(always)]
+fn map_rows<T, F: FnMut(&mut T)>(cells: &mut Cells<'_, T>, rows: Rows<'_>, mut f: F) {
+    for row in rows {
+        f = map_row(cells, row, f);
+    }
+}
+
+/// Calls a closure at the item of each index of a view, in an order of the indices.
+///
+/// <details><summary>Contract (proved)</summary>
+///
+/// ```text
+/// requires part: IsPart cells.old.marks view.now
+/// requires callable: CallableOnEachMut F.FnMut (map (item_at_place cells.old.items) (view_places order view.now)) f
+/// ensures ran: HasRun (λ p x y q. CalledAtMut F.FnMut p x tt q y) f (view_places order view.now)
+///     (map (item_at_place cells.old.items) (view_places order view.now)) cells.old.items cells.new.items
+/// ```
+/// [How to read it](crate::contracts)
+/// </details>
+#[inline(always)]
+fn map_view<T, D: Lengths, F: FnMut(&mut T)>(cells: &mut Cells<'_, T>, view: &Strided<D>, order: Order, f: F) {
+    map_rows(cells, view.joined_rows(order), f);
+}
+
+/// Calls a closure at the item of each index of a view, each once: in the order in which they lie, or in row-major order where there
+/// is no memory for another view.
+///
+/// <details><summary>Contract (proved)</summary>
+///
+/// ```text
+/// requires part: IsPart cells.old.marks view.now
+/// requires callable: InAnyOrder (λ items. CallableOnEachMut F.FnMut items f)
+///     (map (item_at_place cells.old.items) (view_places RowMajor view.now))
+/// ensures ran: HasRunAt (λ p x y q. CalledAtMut F.FnMut p x tt q y) f (view_places RowMajor view.now)
+///     cells.old.items cells.new.items
+/// ```
+/// [How to read it](crate::contracts)
+/// </details>
+#[inline(always)]
+pub(in crate::nd_lent) fn map_nearest<T, D: Lengths, F: FnMut(&mut T)>(
+    cells: &mut Cells<'_, T>,
+    view: &Strided<D>,
+    f: F,
+) {
+    match view.duplicate() {
+        Ok(copy) => map_view(cells, &copy.nearest(), Order::RowMajor, f),
+        Err(_) => map_view(cells, view, Order::RowMajor, f),
+    }
+}
+
+impl<'a, T: Sized, D: Lengths> PartMut<'a, T, D> {
+    /// Calls a closure at the item of each index, in row-major order, to change it in place. Other items are unchanged.
+    ///
+    /// Takes no memory. Goes over the longest rows that the axes allow (`Strided::joined_rows`).
+    ///
+    /// `|item| *item *= 2` at `[2]`, `[-1]` from 1 over 7 8 9: 14 16 9. ndarray's `map_inplace`.
+    ///
+    /// # Conditions
+    ///
+    /// The function may be called with any item of the array, whatever it was called with before. Where it panics, so
+    /// does this call, and the items before keep what it wrote.
+    ///
+    /// # Examples
+    ///
+    /// ```
+    /// use ndarray_layout::{ArrayViewMut, Ix2, LayoutError, s};
+    ///
+    /// # fn main() -> Result<(), LayoutError> {
+    /// let mut items = [1, 2, 3, 4];
+    /// let mut table = ArrayViewMut::from_shape(Ix2(2, 2).into(), &mut items)?;
+    /// let (mut row, mut item) = table.multi_sliced_mut((s![0, ..], s![1, 1]))?;
+    /// row.map_in_place(|item| *item *= 10);
+    /// item.map_in_place(|item| *item += 1);
+    /// assert_eq!(items, [10, 20, 3, 5]);
+    /// # Ok(())
+    /// # }
+    /// ```
+    ///
+    /// <details><summary>Contract (proved)</summary>
+    ///
+    /// ```text
+    /// requires CallableOnEachMut F.FnMut (row_major_items (array_of self.old)) f
+    /// ensures ran: RunsOver (λ p x y q. CalledAtMut F.FnMut p x tt q y) f
+    ///     (row_major_items (array_of self.old)) (row_major_items (array_of self.new))
+    /// ensures mapped: (h : T → T) → ActsAsAtMut F.FnMut f h → HasItemsOf
+    ///     (λ index. option_map h (item_at (array_of self.old) index))
+    ///     (array_of self.old) (array_of self.new)
+    /// ensures view: (array_of self.new).view ≡ (array_of self.old).view
+    /// ensures spare: KeepsSpare (array_of self.old) (array_of self.new)
+    /// ```
+    /// [How to read it](crate::contracts)
+    /// </details>
+    #[inline]
+    pub fn map_in_place<F: FnMut(&mut T)>(&mut self, f: F) {
+        map_view(&mut self.cells, &self.view, Order::RowMajor, f);
+    }
+
+    /// Calls a closure at the item of each index, each once, to change it in place, in the order in which they lie: that in which
+    /// ndarray goes. Other items are unchanged.
+    ///
+    /// It is `map_in_place` for a closure that needs no order: a part that is transposed, mirrored or column-major is one row as well,
+    /// where its items lie side by side (`Strided::nearest`). Takes memory for a copy of the view, but never where the type fixes the
+    /// count of axes or there are at most 4; where there is none, it goes as `map_in_place` does.
+    ///
+    /// `|item| *item *= 2` at `[2]`, `[-1]` from 1 over 7 8 9: at 7, then at 8, 14 16 9. ndarray's `map_inplace`.
+    ///
+    /// # Conditions
+    ///
+    /// The function may be called with any item of the array, whatever it was called with before. Where it panics, so
+    /// does this call, and the items before keep what it wrote.
+    ///
+    /// # Examples
+    ///
+    /// ```
+    /// use ndarray_layout::{ArrayViewMut, Ix2, LayoutError};
+    ///
+    /// # fn main() -> Result<(), LayoutError> {
+    /// let (mut items, mut met) = ([1, 2, 3, 4], Vec::new());
+    /// let mut part = ArrayViewMut::from_shape(Ix2(2, 2).into(), &mut items)?.into_part().reversed_axes();
+    /// part.map_in_place_nearest(|item| met.push(*item));
+    /// assert_eq!(met, [1, 2, 3, 4]);
+    /// # Ok(())
+    /// # }
+    /// ```
+    ///
+    /// <details><summary>Contract (proved)</summary>
+    ///
+    /// ```text
+    /// requires InAnyOrder (λ items. CallableOnEachMut F.FnMut items f) (row_major_items (array_of self.old))
+    /// ensures ran: RunsOverInSomeOrder (λ p x y q. CalledAtMut F.FnMut p x tt q y) f
+    ///     (row_major_items (array_of self.old)) (row_major_items (array_of self.new))
+    /// ensures mapped: (h : T → T) → ActsAsAtMut F.FnMut f h → HasItemsOf
+    ///     (λ index. option_map h (item_at (array_of self.old) index))
+    ///     (array_of self.old) (array_of self.new)
+    /// ensures view: (array_of self.new).view ≡ (array_of self.old).view
+    /// ensures spare: KeepsSpare (array_of self.old) (array_of self.new)
+    /// ```
+    /// [How to read it](crate::contracts)
+    /// </details>
+    #[inline]
+    pub fn map_in_place_nearest<F: FnMut(&mut T)>(&mut self, f: F) {
+        map_nearest(&mut self.cells, &self.view, f);
+    }
+}
