@@ -232,7 +232,7 @@ pub const FOLDED: &[(&str, &str, &str)] = &[
     ("Iterator", "Iter", "fold_iter"),
     ("Iterator", "PlacesOf", "fold_places"),
     ("DoubleEndedIterator", "PlacesOf", "skip_back"),
-    ("Iterator", "PartItems", "skip"),
+    ("Iterator", "PartItems", "fold_part_items"),
     ("DoubleEndedIterator", "PartItems", "skip_back"),
     ("Iterator", "PartRows", "skip"),
     ("DoubleEndedIterator", "PartRows", "skip_back"),

@@ -17,7 +17,6 @@ mod indexing;
 mod iter;
 mod iter_mut;
 mod line;
-mod line_mut;
 mod owned;
 mod pairs;
 mod pieces;
@@ -30,10 +29,11 @@ pub(crate) use crate::parts::{skip, skip_back};
 pub use axis_chunks::{AxisChunksIter, AxisChunksIterMut};
 pub use axis_iter::{AxisIter, AxisIterMut};
 pub(crate) use folding::{
-    fold_items, fold_iter, fold_lent, fold_places, fold_row_items, fold_view_iter, rfold_lent, rfold_row_items,
-    rfold_view_iter,
+    fold_items, fold_iter, fold_lent, fold_one_by_one, fold_part_items, fold_places, fold_row_items, fold_view_iter,
+    rfold_lent, rfold_row_items, rfold_view_iter,
 };
-pub use indexed::{IndexedIter, IndexedIterMut, PartIndexedIterMut};
+pub(crate) use indexed::Odometer;
+pub use indexed::{Indexed, IndexedIter, IndexedIterMut, PartIndexedIterMut};
 pub(crate) use indexing::no_such_index;
 pub use iter_mut::IterMut;
 pub(crate) use line::{fold_row, rfold_row};

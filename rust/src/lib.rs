@@ -113,8 +113,8 @@ struct Readme;
 struct MustUse;
 
 pub use crate::arrays::{
-    AxisChunksIter, AxisChunksIterMut, AxisIter, AxisIterMut, IndexedIter, IndexedIterMut, IterMut, PartIndexedIterMut,
-    RowsMut,
+    AxisChunksIter, AxisChunksIterMut, AxisIter, AxisIterMut, Indexed, IndexedIter, IndexedIterMut, IterMut,
+    PartIndexedIterMut, RowsMut,
 };
 pub use crate::convenience::*;
 #[doc(inline)]

@@ -6,16 +6,16 @@ use Rattle.std.specs.Prelude.{nat_lt, slice_get}
 use Rattle.std.proofs.lemmas.Bool.{and_parts, cases_lt, false≢true, ltb-true}
 use Rattle.std.proofs.lemmas.Int.{ints}
 use Rattle.std.proofs.lemmas.Grind.{flat_map-append}
-use Rattle.std.proofs.lemmas.List.{append-nil, get_or-append-add, length-append, map-append, take-append-drop}
+use Rattle.std.proofs.lemmas.List.{append-nil, get_or-append-add, length-append, length-map, map-append, take-append-drop}
 use Rattle.std.proofs.lemmas.Option.{none-some, same_Some, slice_get_within}
 use Rattle.ndarray_layout.specs.declared.Row.{Row}
 use Rattle.ndarray_layout.specs.DistinctPlaces.{HasDistinctPlaces}
 use Rattle.ndarray_layout.specs.Indices.{is_index}
 use Rattle.ndarray_layout.specs.Rows.{row_places, row_view, rows_places}
 use Rattle.ndarray_layout.specs.View.{View, IsView, place_at}
-use Rattle.ndarray_layout.proofs.Laws.Rows.{get_or-row_places, left_from, length-row_places, none_left_from}
+use Rattle.ndarray_layout.proofs.Laws.Rows.{get_or-row_places, left_from, length-row_places, none_left_from, places-row_view}
 use Rattle.nd_lent.specs.Cells.{without}
-use Rattle.nd_lent.specs.Items.{ArrayValue}
+use Rattle.nd_lent.specs.Items.{ArrayValue, item_at_place, items_of}
 use Rattle.nd_lent.specs.Own.{AreOwn}
 use Rattle.nd_lent.specs.RowsLeft.{row_array}
 use Rattle.nd_lent.specs.Part.{has_mark, AreMarked, IsPart, marks_of}
@@ -195,6 +195,41 @@ module _ (marks : List Bool) (all : List Row) (begun end : ℕ) {row : View} (so
       ∙ ap (λ view. map (row_array items) before ++ record { items = items; view = view } ∷ []) (sym last.is)
       ∙ ap (λ one. map (row_array items) before ++ one ∷ []) (sym same)
       ∙ ap (λ xs. map (row_array xs) before ++ array ∷ []) (sym stays)
+
+-- ---- a row of places that are left
+-- as a part it has the items at them
+module _ {T : Type 0} (row : Row) (items : List T) (some : 0 < row.len) (is : IsView (row_view row)) {array : ArrayValue T}
+    (same : array ≡ row_array items row) where
+  items_of_row : items_of array ≡ map (item_at_place items) (row_places row.start row.stride row.len)
+  items_of_row = ap items_of same ∙ ap (map (item_at_place items)) (places-row_view row some is)
+
+  pub some_items : items_of array ≢ []
+  some_items none =
+      omega (
+        arith,
+        some,
+        ap length (sym items_of_row ∙ none),
+        length-map (row_places row.start row.stride row.len) (item_at_place items),
+        length-row_places row.start row.stride row.len,
+      )
+
+  module _ (others : List ℤ) {kept : List T} {before : List (Option T)} (stays : kept ≡ items) where
+    -- and the items at the others are left, after it or before it
+    pub front_row_comes : before ≡ map (item_at_place items) (row_places row.start row.stride row.len ++ others)
+        → before ≡ items_of array ++ map (item_at_place kept) others
+    front_row_comes was =
+        was
+        ∙ map-append (item_at_place items) (row_places row.start row.stride row.len) others
+        ∙ ap (λ first. first ++ map (item_at_place items) others) (sym items_of_row)
+        ∙ ap (λ xs. items_of array ++ map (item_at_place xs) others) (sym stays)
+
+    pub back_row_comes : before ≡ map (item_at_place items) (others ++ row_places row.start row.stride row.len)
+        → before ≡ map (item_at_place kept) others ++ items_of array
+    back_row_comes was =
+        was
+        ∙ map-append (item_at_place items) others (row_places row.start row.stride row.len)
+        ∙ ap (λ last. map (item_at_place items) others ++ last) (sym items_of_row)
+        ∙ ap (λ xs. map (item_at_place xs) others ++ items_of array) (sym stays)
 
 -- ---- of some of them
 -- those of rows after so many, and as many of the first

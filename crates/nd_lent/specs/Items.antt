@@ -1,15 +1,16 @@
 -- What a contract sees of an array: its items, and a view that has places among them.
 use Rattle.std.specs.Prelude.{◌≡◌, ℕ, ℤ, pos, negsuc, Option, Some, None, if◌then◌else◌, List, [], ◌∷◌, nat_eq, slice_get, slice_index}
-use Rattle.std.specs.Prelude.{slice_set, refl}
+use Rattle.std.specs.Prelude.{map, slice_set, refl}
 use Rattle.std.proofs.Common.{ap, eq-eqb}
 use Rattle.std.proofs.lemmas.Bool.{both_ways}
 use Rattle.std.proofs.Props.{props}
+use Rattle.ndarray_layout.specs.declared.Order.TheVariants.{RowMajor}
 use Rattle.ndarray_layout.specs.Bounds.{IsInBounds}
 use Rattle.ndarray_layout.specs.DistinctPlaces.{HasDistinctPlaces}
 use Rattle.ndarray_layout.specs.Indices.{is_index}
 use Rattle.ndarray_layout.specs.Signed.{all_signed, magnitude}
 use Rattle.ndarray_layout.specs.Span.{low_span}
-use Rattle.ndarray_layout.specs.View.{View, IsView, LiesWithin, place_at, view_of}
+use Rattle.ndarray_layout.specs.View.{View, IsView, LiesWithin, place_at, view_of, view_places}
 
 -- what a contract sees of an array: the items, and the view that has places among them; items at no place are spare ones
 pub record ArrayValue (T : Type 0) : Type 0 where
@@ -38,6 +39,10 @@ view_from_0 shape strides = view_of (low_span shape (all_signed strides)) shape 
 abbrev pub item_at_place : {T : Type 0} → List T → ℤ → Option T
 item_at_place items (pos place) = slice_get items place
 item_at_place items (negsuc below) = None
+
+-- the items of all indices of an array, in row-major order
+abbrev pub items_of : {T : Type 0} → ArrayValue T → List (Option T)
+items_of array = map (item_at_place array.items) (view_places RowMajor array.view)
 
 -- the item of an index of the shape
 abbrev pub item_at : {T : Type 0} → ArrayValue T → List ℕ → Option T

@@ -29,6 +29,7 @@ pub mod ReadView
 pub mod RowsLeft
 pub mod RowColumns
 pub mod RowSteps
+pub mod RowViews
 pub mod Slices
 pub mod SliceSteps
 pub mod SlowestAxes

@@ -1,28 +1,22 @@
 -- The rows of a view by columns: from one row to the next one, and to the one before.
-use Rattle.std.proofs.Common.{◌≡◌, ℕ, zero, suc, ◌+◌, ◌-◌, ◌*◌, ◌/◌, ◌%◌, ◌<◌, ◌≤◌, ℤ, pos, ◌+ℤ◌, ◌*ℤ◌, inl, inr, List, [], ◌∷◌, ◌++◌}
-use Rattle.std.proofs.Common.{add-one, append_assoc, get_or, drop, length, map, take}
+use Rattle.std.proofs.Common.{◌≡◌, ℕ, ◌+◌, ◌-◌, ◌*◌, ◌/◌, ◌%◌, ◌<◌, ◌≤◌, ℤ, pos, ◌+ℤ◌, inl, inr, List}
+use Rattle.std.proofs.Common.{get_or, drop, length}
 use Rattle.std.proofs.Common.{sym, ap, subst, ◌∙◌, arith}
 use Rattle.std.proofs.Math.Nat.{mod-le}
 use Rattle.std.proofs.lemmas.Bool.{cases_lt}
-use Rattle.std.proofs.lemmas.Int.{ints}
-use Rattle.std.proofs.lemmas.List.{map-append}
 use Rattle.std.proofs.lemmas.Nat.{div-add-mod', mod-mul-add, mod_below}
 use Rattle.nd_base.specs.declared.order.Order.{Order}
 use Rattle.nd_base.proofs.Laws.Definitions.{index_of_flat_in, signed, size}
 use Rattle.ndarray_layout.specs.declared.strided.into_rows.Columns.{Columns}
 use Rattle.ndarray_layout.specs.declared.strided.into_rows.InColumn.{InColumn}
 use Rattle.ndarray_layout.specs.declared.strided.rows.Fastest.{Fastest}
-use Rattle.ndarray_layout.specs.declared.strided.rows.Row.{Row}
-use Rattle.ndarray_layout.specs.NumberedRows.{AreRowsBetween, HasColumns, IsAfter, IsBefore, numbered_place, rows_between, slowest}
+use Rattle.ndarray_layout.specs.NumberedRows.{HasColumns, IsAfter, IsBefore, numbered_place, slowest}
 use Rattle.ndarray_layout.specs.NumberedRows.{slowest_view}
-use Rattle.ndarray_layout.specs.Rows.{row_places}
-use Rattle.ndarray_layout.specs.RowsLeft.{axis_view, moved_to, row_place}
+use Rattle.ndarray_layout.specs.RowsLeft.{axis_view, row_place}
 use Rattle.ndarray_layout.specs.View.{View, IsPlace, IsView, place_at, view_of, view_places}
 use Rattle.ndarray_layout.specs.private.Fastest.{HasPlaces}
-use Rattle.ndarray_layout.proofs.JoinedAxis.{row_from-more}
 use Rattle.ndarray_layout.proofs.NextRow.{axis_of_flat, first_place, flat_within, next_place, row_on}
 use Rattle.ndarray_layout.proofs.RowsLeft.{factor_of_some, size-axis_view}
-use Rattle.ndarray_layout.proofs.Laws.Rows.{no_step, one_more_step}
 use Rattle.ndarray_layout.proofs.Laws.View.{length-view_places}
 
 -- ---- numbers by columns
@@ -156,84 +150,3 @@ module _ {order : Order} {slower : ℕ} {view : View} {columns : Columns} where
 
       pub last_after_fits : IsView (slowest_view order slower view) → IsPlace (pos last.place)
       last_after_fits v = subst IsPlace (sym (b.place some)) (numbered_within order slower view v (number + 1) (b.below some))
-
--- ---- the rows that are left of a column
--- with the one that came last they are no more than a column has
-pub column_within : {order : Order} {slower : ℕ} {view : View} {columns : Columns} (number : ℕ) {last : InColumn}
-    → IsBefore order slower view columns (number + 1) last → 0 < columns.len → number % columns.len + (last.left + 1) ≤ columns.len
-column_within {columns = columns} number {last} before some = elim (cases_lt 0 last.left) [
-  | inl more ↦
-      let same : number ≡ number + 1 - 1 = omega arith in
-      omega (arith, before.within more, ap (λ n. n % columns.len) same)
-  | inr none ↦ omega (arith, none, mod_below number columns.len some)
-]
-
-module _ {order : Order} {slower : ℕ} {view : View} {columns : Columns} (h : HasColumns order slower view columns)
-    {begun end place : ℕ} (row : Row) (l : AreRowsBetween order slower view row.len begun end)
-    (at : pos place ≡ numbered_place order slower view begun) where
-  -- they lie in one column
-  remainder_after : (k : ℕ) → begun % columns.len + k < columns.len → (begun + k) % columns.len ≡ begun % columns.len + k
-  remainder_after k less =
-      let some : 0 < columns.len = omega (arith, less) in
-      let more : begun + k ≡ (begun / columns.len) * columns.len + (begun % columns.len + k) =
-      omega (arith, div-add-mod' begun columns.len) in
-      ap (λ m. m % columns.len) more ∙ mod-mul-add (begun / columns.len) columns.len (begun % columns.len + k) less
-
-  -- so each begins so many strides on
-  place_after : (k : ℕ) → begun % columns.len + k < columns.len → begun + k < end
-      → numbered_place order slower view (begun + k) ≡ pos place +ℤ (pos k *ℤ columns.stride)
-  place_after zero less below =
-      let same : begun + 0 ≡ begun = omega arith in
-      ap (numbered_place order slower view) same ∙ sym at ∙ sym (no_step (pos place) columns.stride)
-  place_after (suc k) less below =
-      let same : begun + suc k ≡ begun + k + 1 = omega arith in
-      let more : suc k ≡ k + 1 = omega arith in
-      let before = place_after k (omega (arith, less)) (omega (arith, below)) in
-      let rest : (begun + k + 1) % columns.len ≡ begun % columns.len + suc k =
-      ap (λ n. n % columns.len) (sym same) ∙ remainder_after (suc k) less in
-      let on = h.on (begun + k) (omega (arith, below, l.within)) (omega (arith, rest)) in
-      omega (
-        arith,
-        ints,
-        ap (numbered_place order slower view) same,
-        on,
-        before,
-        one_more_step k columns.stride,
-        ap (λ n. pos n *ℤ columns.stride) more,
-      )
-
-  -- the row of a number is the first of those from there on
-  next_between : (number : ℕ) → number < end → rows_between order slower view row number end
-      ≡ moved_to row (numbered_place order slower view number) ∷ rows_between order slower view row (number + 1) end
-  next_between number below =
-      let starts = view_places order (slowest_view order slower view) in
-      let others = drop (number + 1) starts in
-      let more : end - number ≡ end - (number + 1) + 1 = omega (arith, below) in
-      ap (λ places. map (moved_to row) (take (end - number) places))
-      (next_place order (slowest_view order slower view) number (omega (arith, below, l.within)))
-      ∙ ap (λ n. map (moved_to row) (take n (numbered_place order slower view number ∷ others)))
-      (more ∙ add-one (end - (number + 1)))
-
-  pub rows_of_column : (k : ℕ) → begun % columns.len + k ≤ columns.len → begun + k ≤ end
-      → rows_between order slower view row begun end
-      ≡ map (moved_to row) (row_places place columns.stride k) ++ rows_between order slower view row (begun + k) end
-  rows_of_column zero less below =
-      let same : begun ≡ begun + 0 = omega arith in
-      ap (λ n. rows_between order slower view row n end) same
-  rows_of_column (suc k) less below =
-      let row_of = moved_to row in
-      let before = row_places place columns.stride k in
-      let z = pos place +ℤ (pos k *ℤ columns.stride) in
-      let others = rows_between order slower view row (begun + suc k) end in
-      let more : suc k ≡ k + 1 = omega arith in
-      let same : begun + k + 1 ≡ begun + suc k = omega arith in
-      rows_of_column k (omega (arith, less)) (omega (arith, below))
-      ∙ ap (λ xs. map row_of before ++ xs)
-      (next_between (begun + k) (omega (arith, below))
-      ∙ ap (λ p. row_of p ∷ rows_between order slower view row (begun + k + 1) end)
-      (place_after k (omega (arith, less)) (omega (arith, below)))
-      ∙ ap (λ n. row_of z ∷ rows_between order slower view row n end) same)
-      ∙ sym (append_assoc (map row_of before) (row_of z ∷ []) others)
-      ∙ ap (λ xs. xs ++ others)
-      (sym (map-append row_of before (z ∷ []))
-      ∙ ap (map row_of) (sym (ap (row_places place columns.stride) more ∙ row_from-more (pos place) columns.stride k)))

@@ -10,11 +10,9 @@ use Rattle.nd_base.specs.declared.order.Order.{Order}
 use Rattle.nd_base.specs.declared.order.Order.TheVariants.{RowMajor, ColumnMajor}
 use Rattle.nd_base.specs.FlatIndex.{index_of_flat_in}
 use Rattle.nd_base.specs.Size.{size, limit}
-use Rattle.ndarray_layout.specs.declared.strided.into_rows.Column.{Column}
 use Rattle.ndarray_layout.specs.declared.strided.into_rows.Columns.{Columns}
 use Rattle.ndarray_layout.specs.declared.strided.into_rows.InColumn.{InColumn}
 use Rattle.ndarray_layout.specs.declared.strided.rows.Row.{Row}
-use Rattle.ndarray_layout.specs.Rows.{row_places}
 use Rattle.ndarray_layout.specs.RowsLeft.{moved_to}
 use Rattle.ndarray_layout.specs.View.{View, IsView, place_at, view_places}
 
@@ -67,10 +65,6 @@ pub record IsAfter (order : Order) (slower : ℕ) (view : View) (columns : Colum
   pub place : 0 < last.left → pos last.place ≡ numbered_place order slower view number
   pub within : 0 < last.left → last.left ≤ number % columns.len
 
--- rows like the first one, whose places lie a stride apart
-abbrev pub column_rows : Column → List Row
-column_rows column = map (moved_to column.first) (row_places column.first.start column.stride column.count)
-
 -- an iterator has these rows left, and knows where in their columns those lie that came last
 pub record AreRowsInColumns (order : Order) (slower : ℕ) (view : View) (len : ℕ) (columns : Columns) (front back : InColumn)
     (begun end : ℕ) : Type 0 where
@@ -107,10 +101,3 @@ past_the_column view before = lt_irrefl 3 (before.within (lit≤ tt))
 
 of_the_column_before : (view : View) → IsAfter RowMajor 1 view (record { len = 3; stride = pos 2 }) 3 (record { place = 4; left = 1 }) → ⊥
 of_the_column_before view after = le→nltb 0 1 (after.within (lit≤ tt))
-
-two_in_a_column : column_rows (record { first = record { start = 4; stride = pos 1; len = 2 }; count = 2; stride = negsuc 1 })
-    ≡ record { start = 4; stride = pos 1; len = 2 } ∷ record { start = 2; stride = pos 1; len = 2 } ∷ []
-two_in_a_column = refl
-
-no_column : (first : Row) → column_rows (record { first = first; count = 0; stride = pos 1 }) ≡ []
-no_column first = refl

@@ -45,5 +45,4 @@ pub use reshape::reshape_dim;
 
 // Views, and runs of steps from one to the next.
 pub use runs::{Step, Stopped, run};
-pub(crate) use strided::Column;
 pub use strided::{IntoPlaces, Places, PlacesOf, Row, Rows, Strided, StridedRows, joined_in_all};

@@ -32,7 +32,6 @@ mod stretch;
 mod windows;
 
 pub use into_places::IntoPlaces;
-pub(crate) use into_rows::Column;
 pub use into_rows::StridedRows;
 pub use iter_places::Places;
 pub use joining::joined_in_all;

@@ -133,6 +133,42 @@ macro_rules! fold_items {
 }
 pub(crate) use fold_items;
 
+/// What a loop over `next` returns.
+#[inline]
+pub(crate) fn fold_one_by_one<I: Iterator, B>(items: I, init: B, f: &mut impl FnMut(B, I::Item) -> B) -> B {
+    let mut total = init;
+    for item in items {
+        total = f(total, item);
+    }
+    total
+}
+
+/// Of `PartItems`.
+macro_rules! fold_part_items {
+    () => {
+        crate::arrays::skip!();
+
+        /// What a loop over `next` returns; rows whose items lie side by side are slices. Not proved.
+        #[inline]
+        fn fold<B, F: FnMut(B, &'a mut T) -> B>(self, init: B, mut f: F) -> B {
+            let (mut items, mut total) = (self, init);
+            while let Some(row) = items.next_row() {
+                // (one by one, items of rows that are short take less time)
+                let is_short = row.len() < 8;
+                match row.into_slice() {
+                    Ok(slice) => total = slice.iter_mut().fold(total, &mut f),
+                    Err(row) => total = crate::arrays::fold_one_by_one(row.into_items(), total, &mut f),
+                }
+                if is_short {
+                    return crate::arrays::fold_one_by_one(items, total, &mut f);
+                }
+            }
+            total
+        }
+    };
+}
+pub(crate) use fold_part_items;
+
 /// Of `PlacesOf`.
 macro_rules! fold_places {
     () => {

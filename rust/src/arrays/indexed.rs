@@ -1,23 +1,23 @@
 //! The items of an array with their indices.
 
 use super::IterMut;
+use crate::ViewIter;
 use crate::convenience::OUT_OF_MEMORY;
 use crate::nd_dim::Dimension;
 use crate::nd_lent::PartItems;
 use crate::ndarray_layout::Strided;
-use crate::{ArrayView, ArrayViewMut, PartMut, ViewIter};
 use core::fmt;
 use core::iter::FusedIterator;
 
 /// The indices of a shape that are still to come, in row-major order. It doesn't know where it ends.
-struct Odometer<D> {
+pub(crate) struct Odometer<D> {
     dim: D,
     index: D,
 }
 
 impl<D: Dimension> Odometer<D> {
     /// From the first index of a view on.
-    fn new(view: &Strided<D>) -> Self {
+    pub(crate) fn new(view: &Strided<D>) -> Self {
         let dim = view.dim().duplicate().expect(OUT_OF_MEMORY);
         let index = D::zeros(dim.ndim()).expect(OUT_OF_MEMORY);
         Odometer { dim, index }
@@ -38,6 +38,54 @@ impl<D: Dimension> Odometer<D> {
     }
 }
 
+/// What is still to come of items in row-major order, each with its index. Not proved.
+pub struct Indexed<D: Dimension, I> {
+    odometer: Odometer<D>,
+    items: I,
+}
+
+impl<D: Dimension, I: ExactSizeIterator> Indexed<D, I> {
+    /// The items of an array of this view. Panics where an allocation fails, never for at most 4 axes.
+    pub(crate) fn new(odometer: Odometer<D>, items: I) -> Self {
+        Indexed { odometer, items }
+    }
+}
+
+/// Panics where an allocation fails, never for at most 4 axes. Not proved.
+impl<D: Dimension, I: ExactSizeIterator> Iterator for Indexed<D, I> {
+    type Item = (D::Pattern, I::Item);
+
+    #[inline]
+    fn next(&mut self) -> Option<Self::Item> {
+        let item = self.items.next()?;
+        Some((self.odometer.next(), item))
+    }
+
+    #[inline]
+    fn size_hint(&self) -> (usize, Option<usize>) {
+        self.items.size_hint()
+    }
+
+    #[inline]
+    fn fold<B, F: FnMut(B, Self::Item) -> B>(self, init: B, mut f: F) -> B {
+        let Indexed { mut odometer, items } = self;
+        items.fold(init, |total, item| f(total, (odometer.next(), item)))
+    }
+}
+
+/// Not proved.
+impl<D: Dimension, I: ExactSizeIterator> ExactSizeIterator for Indexed<D, I> {}
+
+/// Not proved.
+impl<D: Dimension, I: ExactSizeIterator + FusedIterator> FusedIterator for Indexed<D, I> {}
+
+/// Prints how many items are left. Not proved.
+impl<D: Dimension, I: ExactSizeIterator> fmt::Debug for Indexed<D, I> {
+    fn fmt(&self, f: &mut fmt::Formatter<'_>) -> fmt::Result {
+        f.debug_struct("Indexed").field("left", &self.items.len()).finish_non_exhaustive()
+    }
+}
+
 /// The items of an array that are still to come, each with its index, in row-major order, lent for as long as the data is.
 /// ndarray's `IndexedIter`. Not proved.
 ///
@@ -49,10 +97,7 @@ impl<D: Dimension> Odometer<D> {
 /// assert_eq!(found, Some(((1, 0), &"c")));
 /// # Ok::<(), LayoutError>(())
 /// ```
-pub struct IndexedIter<'a, T, D: Dimension> {
-    odometer: Odometer<D>,
-    items: ViewIter<'a, T, D>,
-}
+pub type IndexedIter<'a, T, D> = Indexed<D, ViewIter<'a, T, D>>;
 
 /// The items of an array that are still to come, each with its index and lent to be written, in row-major order. ndarray's
 /// `IndexedIterMut`. Not proved.
@@ -68,10 +113,7 @@ pub struct IndexedIter<'a, T, D: Dimension> {
 /// assert_eq!(items, [0, 1, 2, 10, 11, 12]);
 /// # Ok::<(), LayoutError>(())
 /// ```
-pub struct IndexedIterMut<'a, T, D: Dimension> {
-    odometer: Odometer<D>,
-    items: IterMut<'a, T, D>,
-}
+pub type IndexedIterMut<'a, T, D> = Indexed<D, IterMut<'a, T, D>>;
 
 /// The items of a part that are still to come, each with its index and lent to be written, in row-major order, whatever the strides
 /// are. ndarray's `IndexedIterMut`. Not proved.
@@ -87,69 +129,4 @@ pub struct IndexedIterMut<'a, T, D: Dimension> {
 /// assert_eq!(items, [0, 10, 20, 1, 11, 21]);
 /// # Ok::<(), LayoutError>(())
 /// ```
-pub struct PartIndexedIterMut<'a, T, D: Dimension> {
-    odometer: Odometer<D>,
-    items: PartItems<'a, T, D>,
-}
-
-impl<'a, T, D: Dimension> IndexedIter<'a, T, D> {
-    pub(crate) fn new(array: ArrayView<'a, T, D>) -> Self {
-        IndexedIter { odometer: Odometer::new(array.view()), items: array.into_iter() }
-    }
-}
-
-impl<'a, T, D: Dimension> IndexedIterMut<'a, T, D> {
-    pub(crate) fn new(array: ArrayViewMut<'a, T, D>) -> Self {
-        IndexedIterMut { odometer: Odometer::new(array.view()), items: IterMut::new(array) }
-    }
-}
-
-impl<'a, T, D: Dimension> PartIndexedIterMut<'a, T, D> {
-    pub(crate) fn new(part: PartMut<'a, T, D>) -> Self {
-        PartIndexedIterMut { odometer: Odometer::new(part.view()), items: part.into_items() }
-    }
-}
-
-/// What all have.
-macro_rules! indexed {
-    ($name:ident, $item:ty) => {
-        /// Panics where an allocation fails, never for at most 4 axes. Not proved.
-        impl<'a, T, D: Dimension> Iterator for $name<'a, T, D> {
-            type Item = (D::Pattern, $item);
-
-            #[inline]
-            fn next(&mut self) -> Option<(D::Pattern, $item)> {
-                let item = self.items.next()?;
-                Some((self.odometer.next(), item))
-            }
-
-            #[inline]
-            fn size_hint(&self) -> (usize, Option<usize>) {
-                self.items.size_hint()
-            }
-
-            #[inline]
-            fn fold<B, F: FnMut(B, Self::Item) -> B>(self, init: B, mut f: F) -> B {
-                let $name { mut odometer, items } = self;
-                items.fold(init, |total, item| f(total, (odometer.next(), item)))
-            }
-        }
-
-        /// Not proved.
-        impl<T, D: Dimension> ExactSizeIterator for $name<'_, T, D> {}
-
-        /// Not proved.
-        impl<T, D: Dimension> FusedIterator for $name<'_, T, D> {}
-
-        /// Prints how many items are left. Not proved.
-        impl<T, D: Dimension> fmt::Debug for $name<'_, T, D> {
-            fn fmt(&self, f: &mut fmt::Formatter<'_>) -> fmt::Result {
-                f.debug_struct(stringify!($name)).field("left", &self.len()).finish_non_exhaustive()
-            }
-        }
-    };
-}
-
-indexed!(IndexedIter, &'a T);
-indexed!(IndexedIterMut, &'a mut T);
-indexed!(PartIndexedIterMut, &'a mut T);
+pub type PartIndexedIterMut<'a, T, D> = Indexed<D, PartItems<'a, T, D>>;

@@ -1,12 +1,26 @@
 //! Items cut into the pieces of rows that don't interleave, in row-major order from both ends.
 
-use super::line_mut::{LineMut, Piece};
 use crate::ArrayViewMut;
 use crate::memory::FallibleVec;
-use crate::nd_base::{Axis, ErrorKind, LayoutError, Lengths, from_kind, signed};
-use crate::ndarray_layout::{Column, Order, Row, Strided, StridedRows};
+use crate::nd_base::{Axis, ErrorKind, Ix1, LayoutError, Lengths, from_kind, signed};
+use crate::ndarray_layout::{Order, Row, Strided, StridedRows};
 use alloc::vec::{self, Vec};
-use core::slice;
+
+/// The items from the lowest place of a row to its highest one.
+pub(crate) struct Piece<'a, T> {
+    pub items: &'a mut [T],
+    pub stride: isize,
+    pub len: usize,
+}
+
+impl<'a, T> Piece<'a, T> {
+    /// The piece as an array.
+    #[inline]
+    pub fn into_array(self) -> ArrayViewMut<'a, T, Ix1> {
+        let start = if self.stride < 0 { self.items.len() - 1 } else { 0 };
+        ArrayViewMut::new(Row { start, stride: self.stride, len: self.len }.layout(), self.items)
+    }
+}
 
 /// The pieces that are still to come.
 pub(crate) enum Pieces<'a, T, D: Lengths> {
@@ -89,12 +103,6 @@ fn ascend<D: Lengths>(view: &Strided<D>, row: Row) -> bool {
     true
 }
 
-/// The axis along which places are nearest to one another, of those that have more than one coordinate.
-fn nearest_axis<D: Lengths>(view: &Strided<D>) -> Option<usize> {
-    let axes = view.axes().filter(|axis| axis.len > 1);
-    axes.min_by_key(|axis| axis.stride.unsigned_abs()).map(|axis| axis.axis.index())
-}
-
 impl<'a, T, D: Lengths> Pieces<'a, T, D> {
     /// The rows along the last axis. Errors: `IncompatibleLayout` where rows interleave; out of memory where they don't ascend.
     pub fn rows(array: ArrayViewMut<'a, T, D>) -> Result<Self, LayoutError> {
@@ -109,101 +117,7 @@ impl<'a, T, D: Lengths> Pieces<'a, T, D> {
     }
 }
 
-/// The items of an array by rows that are as long as may be.
-pub(crate) enum Cutting<'a, T, D: Lengths> {
-    /// One row.
-    Whole(Piece<'a, T>),
-    /// Each row is above the one before.
-    Cut(Cut<'a, T, D>),
-    /// They aren't.
-    Otherwise(Strided<D>, &'a mut [T]),
-}
-
-impl<'a, T, D: Lengths> Cutting<'a, T, D> {
-    #[inline]
-    pub fn new(array: ArrayViewMut<'a, T, D>) -> Self {
-        let (view, items) = into_parts(array);
-        let mut rows = view.joined_rows(Order::RowMajor);
-        let row = rows.next().unwrap_or(Row { start: 0, stride: 1, len: 0 });
-        if rows.len() == 0 {
-            let items = items.get_mut(low(row)..).and_then(|items| items.get_mut(..width(row)));
-            return Cutting::Whole(Piece { items: items.unwrap_or_default(), stride: row.stride, len: row.len });
-        }
-        if !ascend(&view, row) {
-            return Cutting::Otherwise(view, items);
-        }
-        Cutting::Cut(Cut { left: Left { items, first: 0 }, rows: view.into_joined_rows(Order::RowMajor) })
-    }
-}
-
-/// The pieces of a column of rows.
-pub(crate) struct Band<'a, T> {
-    chunks: slice::ChunksMut<'a, T>,
-    /// How many of the items of a chunk are the piece.
-    width: usize,
-    stride: isize,
-    len: usize,
-}
-
-impl<'a, T> Band<'a, T> {
-    /// No pieces.
-    #[inline]
-    pub fn empty() -> Self {
-        Band { chunks: [].chunks_mut(1), width: 0, stride: 0, len: 0 }
-    }
-
-    /// How many items are left.
-    #[inline]
-    pub fn len(&self) -> usize {
-        self.chunks.len() * self.len
-    }
-
-    /// The piece of a chunk.
-    #[inline]
-    fn piece(&self, chunk: &'a mut [T]) -> Option<Piece<'a, T>> {
-        Some(Piece { items: chunk.get_mut(..self.width)?, stride: self.stride, len: self.len })
-    }
-
-    #[inline]
-    pub fn next(&mut self) -> Option<Piece<'a, T>> {
-        let chunk = self.chunks.next()?;
-        self.piece(chunk)
-    }
-
-    #[inline]
-    pub fn next_back(&mut self) -> Option<Piece<'a, T>> {
-        let chunk = self.chunks.next_back()?;
-        self.piece(chunk)
-    }
-
-    /// Folds the items that are left.
-    #[inline]
-    pub fn fold<B>(mut self, init: B, f: &mut impl FnMut(B, &'a mut T) -> B) -> B {
-        let mut total = init;
-        while let Some(piece) = self.next() {
-            total = LineMut::new(piece).fold(total, f);
-        }
-        total
-    }
-}
-
 impl<'a, T, D: Lengths> Cut<'a, T, D> {
-    /// How many items are left.
-    #[inline]
-    pub fn len(&self) -> usize {
-        self.rows.len() * self.rows.row_len()
-    }
-
-    /// The pieces of the next column of rows.
-    #[inline]
-    pub fn next_band(&mut self) -> Option<Band<'a, T>> {
-        let Column { first, count, stride } = self.rows.next_column()?;
-        let (width, step) = (width(first), stride.unsigned_abs());
-        let items = self.left.take_front(low(first), (count - 1) * step + width).expect(SHARED_OR_PAST);
-        let chunks = items.chunks_mut(if count == 1 { width } else { step });
-        Some(Band { chunks, width, stride: first.stride, len: first.len })
-    }
-
     /// The piece of the next row.
     #[inline]
     fn next(&mut self) -> Option<Piece<'a, T>> {
@@ -219,29 +133,6 @@ impl<'a, T, D: Lengths> Cut<'a, T, D> {
         let items = self.left.take_back(low(row), width(row)).expect(SHARED_OR_PAST);
         Some(Piece { items, stride: row.stride, len: row.len })
     }
-}
-
-/// Lines along the axis whose places are nearest to one another, in row-major order of the other coordinates.
-pub(crate) struct Lines<'a, T> {
-    pub lines: Vec<&'a mut [T]>,
-    /// The stride of each, and how many items it has.
-    pub stride: isize,
-    pub len: usize,
-    /// How many lines are for each index of the axes before this one.
-    pub beside: usize,
-}
-
-/// The lines of an array. Errors: those of `list`.
-pub(crate) fn nearest_lines<'a, T, D: Lengths>(
-    view: Strided<D>,
-    items: &'a mut [T],
-) -> Result<Lines<'a, T>, LayoutError> {
-    let Some(axis) = nearest_axis(&view) else {
-        return Ok(Lines { lines: Vec::new(), stride: 0, len: 0, beside: 0 });
-    };
-    let lines = list(items, &view, axis)?;
-    let (lens, stride) = (view.dim().slice(), signed(view.strides().slice()[axis]));
-    Ok(Lines { lines, stride, len: lens[axis], beside: lens[axis + 1..].iter().product() })
 }
 
 /// The items of the lines along an axis, each from its lowest place to its highest one, in row-major order of the other coordinates.

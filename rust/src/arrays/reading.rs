@@ -1,6 +1,6 @@
 //! What may be read of an array of any number of axes.
 
-use super::{AxisChunksIter, IndexedIter};
+use super::{AxisChunksIter, IndexedIter, Odometer};
 use crate::nd_base::{Axis, ErrorKind, LayoutError, Lengths, Order, ShapeError, from_kind};
 use crate::nd_dim::{Dimension, product};
 use crate::nd_shape::offset_from_low_addr_ptr_to_logical_ptr;
@@ -225,7 +225,7 @@ macro_rules! reads {
             where
                 D: Dimension,
             {
-                IndexedIter::new(self.borrowed())
+                IndexedIter::new(Odometer::new(self.view()), self.borrowed().into_iter())
             }
         }
     };

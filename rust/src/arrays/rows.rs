@@ -1,8 +1,7 @@
 //! The rows of an array one after another, lent to be written, and a row as an array.
 
 use super::pieces::Pieces;
-use crate::nd_base::{Ix1, LayoutError, Lengths, new_ix1, unsigned};
-use crate::ndarray_layout::Strided;
+use crate::nd_base::{Ix1, LayoutError, Lengths};
 use crate::{ArrayView, ArrayViewMut, LentRow};
 use core::fmt;
 use core::iter::FusedIterator;
@@ -83,7 +82,6 @@ impl<'a, T> LentRow<'a, T> {
     #[must_use]
     pub fn into_array(self) -> ArrayView<'a, T, Ix1> {
         let LentRow { items, row } = self;
-        let (dim, strides) = (new_ix1(row.len), new_ix1(unsigned(row.stride)));
-        ArrayView { items, view: Strided { start: row.start, dim, strides } }
+        ArrayView { items, view: row.layout() }
     }
 }

@@ -1,7 +1,7 @@
 //! What may be written of an array of any number of axes.
 
 use super::reading::{block, first_place, last_place, with_last};
-use super::{AxisChunksIterMut, IndexedIterMut, IterMut, RowsMut};
+use super::{AxisChunksIterMut, IndexedIterMut, IterMut, Odometer, RowsMut};
 use crate::nd_base::{Axis, LayoutError, Lengths, Order, ShapeError};
 use crate::nd_dim::Dimension;
 use crate::nd_shape::NdIndex;
@@ -139,7 +139,7 @@ macro_rules! writes {
 
             /// An iterator over the items in row-major order, each lent to be written. ndarray's `iter_mut`. Not proved.
             ///
-            /// Takes memory only where rows don't lie one above another: `IterMut` says how much.
+            /// Takes memory only where the items don't all lie side by side: as much for any layout (`IterMut`).
             ///
             /// # Panics
             ///
@@ -181,7 +181,7 @@ macro_rules! writes {
             where
                 D: Dimension,
             {
-                IndexedIterMut::new(self.view_mut())
+                IndexedIterMut::new(Odometer::new(self.view()), self.iter_mut())
             }
 
             /// An iterator over the rows along the last axis, in row-major order, each lent to be written. ndarray's `rows_mut`.

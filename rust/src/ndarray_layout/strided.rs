@@ -35,7 +35,6 @@ mod places_of_rows;
 
 use crate::nd_base::Lengths;
 pub use into_places::IntoPlaces;
-pub(crate) use into_rows::Column;
 pub use into_rows::StridedRows;
 pub use iter_places::Places;
 pub use joining::joined_in_all;

@@ -1,6 +1,6 @@
 //! The items of a part one after another, each lent to be written.
 
-use crate::arrays::PartIndexedIterMut;
+use crate::arrays::{Odometer, PartIndexedIterMut};
 use crate::nd_base::Lengths;
 use crate::nd_dim::Dimension;
 use crate::nd_lent::{PartItems, PartMut};
@@ -68,7 +68,7 @@ impl<T, D: Lengths> PartMut<'_, T, D> {
     where
         D: Dimension,
     {
-        PartIndexedIterMut::new(self.view_mut())
+        PartIndexedIterMut::new(Odometer::new(self.view()), self.iter_mut())
     }
 }
 

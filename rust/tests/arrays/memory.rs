@@ -2,7 +2,7 @@
 
 use crate::allocator::failing_at;
 use crate::layouts::Layout;
-use ndarray_layout::{Axis, LayoutError, OwnedArray, StrideShape, Strides};
+use ndarray_layout::{ArrayViewMut, Axis, Ix2, LayoutError, OwnedArray, StrideShape, Strides};
 use std::panic::{AssertUnwindSafe, catch_unwind};
 
 /// Ten numbers along five axes, so that a shape takes memory, with the rows and the columns turned.
@@ -59,15 +59,18 @@ fn an_iterator_panics_where_memory_runs_out() {
     let five = layout().array(&numbers);
     assert_eq!((panics(|| five.borrowed()), panics(|| (&five).into_iter().count())), (2, 2));
     let mut array = small.array_mut(&mut numbers);
-    // where each line begins, its items twice, and what is left
-    assert_eq!(panics(|| array.iter_mut().count()), 4);
+    // the items that don't lie side by side
+    assert_eq!(panics(|| array.iter_mut().count()), 1);
+    let mut whole = [0; 6];
+    let mut array = ArrayViewMut::from_shape(Ix2(2, 3).into(), &mut whole).unwrap();
+    assert_eq!(panics(|| array.iter_mut().count()), 0);
 }
 
 #[test]
 fn items_are_handed_out_in_another_list_or_in_their_own() {
     for (strides, due) in [(Strides::C, 0), (Strides::F, 2)] {
         let make = || {
-            let shape = StrideShape { dim: ndarray_layout::Ix2(2, 3), strides };
+            let shape = StrideShape { dim: Ix2(2, 3), strides };
             OwnedArray::from_shape_vec(shape, (0..6).collect()).unwrap_or_else(|_| panic!("six items"))
         };
         let failing = |failing: &usize| {

@@ -1,9 +1,18 @@
 //! The items of parts from both ends, beside a list.
 
 use crate::model::Picked;
-use ndarray_layout::{ArrayViewMut, Ix0, Ix2, LayoutError, Lengths, PartMut, s};
+use ndarray_layout::{ArrayViewMut, Ix0, Ix1, Ix2, LayoutError, Lengths, PartMut, Row, ShapeBuilder, s};
 use std::collections::VecDeque;
 use std::fmt::Debug;
+
+/// Asserts that a row has the items that are due at one end, and that there is none where no item is due.
+fn comes_as_row<T: PartialEq + Debug>(row: Option<PartMut<'_, T, Ix1>>, due: &mut VecDeque<T>, at_front: bool) {
+    let come: Vec<&mut T> = row.into_iter().flatten().collect();
+    assert_eq!(come.is_empty(), due.is_empty());
+    let after = due.split_off(if at_front { come.len() } else { due.len() - come.len() });
+    let next = if at_front { std::mem::replace(due, after) } else { after };
+    assert!(come.iter().map(|item| &**item).eq(&next), "{come:?} {next:?}");
+}
 
 /// Asserts that a part has the items of its places, in this order from both ends, by calls that a number chooses.
 pub fn iterates<T: PartialEq + Debug, E: Lengths>(
@@ -16,6 +25,13 @@ pub fn iterates<T: PartialEq + Debug, E: Lengths>(
     let (mut items, mut seed) = (part.into_iter(), seed);
     loop {
         assert_eq!((items.len(), items.size_hint()), (due.len(), (due.len(), Some(due.len()))));
+        if seed % 11 == 3 {
+            let at_front = seed % 2 == 0;
+            let row = if at_front { items.next_row() } else { items.next_row_back() };
+            comes_as_row(row, &mut due, at_front);
+            seed = (seed * 75 + 74) % 65_537;
+            continue;
+        }
         let (come, next) = match seed % 7 {
             0..3 => (items.next(), due.pop_front()),
             3 | 4 => (items.next_back(), due.pop_back()),
@@ -58,4 +74,35 @@ fn items_are_written_in_row_major_order() -> Result<(), LayoutError> {
     assert!(ArrayViewMut::from_shape(Ix2(0, 3).into(), &mut none)?.into_part().into_iter().next_back().is_none());
     assert_eq!(ArrayViewMut::from_shape(Ix0().into(), &mut [7])?.into_part().into_iter().next_back(), Some(&mut 7));
     Ok(())
+}
+
+/// Two rows of two items, with a spare one between them, as a part.
+fn table(items: &mut [i32; 5]) -> Result<PartMut<'_, i32, Ix2>, LayoutError> {
+    Ok(ArrayViewMut::from_shape(Ix2(2, 2).strides(Ix2(3, 1))?, items)?.into_part())
+}
+
+#[test]
+fn rows_of_items_are_parts_of_their_own() -> Result<(), LayoutError> {
+    let (mut whole, mut items) = ([0; 6], [5, 6, 7, 8, 9]);
+    let mut left = ArrayViewMut::from_shape(Ix2(2, 3).into(), &mut whole)?.into_part().into_items();
+    assert_eq!(left.next_row().map(|row| row.len()), Some(6));
+    assert!(left.next_row().is_none() && left.next_row_back().is_none());
+    let mut left = table(&mut items)?.into_items();
+    assert_eq!(left.next(), Some(&mut 5));
+    let (mut row, mut other) = (left.next_row().unwrap(), left.next_row().unwrap());
+    (row[0], other[1]) = (11, 12);
+    assert_eq!((row.len(), other.len(), other[0]), (1, 2, 8));
+    let mut left = table(&mut items)?.into_items();
+    assert_eq!(left.next_back(), Some(&mut 12));
+    let (last, first) = (left.next_row_back().unwrap(), left.next_row_back().unwrap());
+    assert_eq!((last.into_slice().unwrap(), first.into_slice().unwrap()), (&mut [8][..], &mut [5, 11][..]));
+    assert_eq!(items, [5, 11, 7, 8, 12]);
+    Ok(())
+}
+
+#[test]
+fn a_row_is_a_layout_of_one_axis() {
+    let layout = Row { start: 7, stride: -3, len: 3 }.layout();
+    assert_eq!((layout.start(), layout.dim().slice()), (7, &[3][..]));
+    assert_eq!([0, 1, 2, 3].map(|at| layout.place(&at)), [Some(7), Some(4), Some(1), None]);
 }

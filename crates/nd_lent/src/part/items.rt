@@ -1,7 +1,7 @@
 //! The items of a part one after another, each lent to be written, without a list of them.
 ghost use Rattle.std.specs.Iterator.{UpTo, YieldsFirstBy, YieldsLastBy, item_count};
 ghost use Rattle.std.specs.Iterator.SizeHint.{IsWithinCount};
-ghost use Rattle.std.specs.Prelude.{◌≡◌, ◌-◌, IfSome, Some, drop, length, map, take};
+ghost use Rattle.std.specs.Prelude.{◌≡◌, ◌≢◌, ◌-◌, ◌++◌, [], IfSome, MatchOption, Some, drop, length, map, take};
 ghost use Rattle.ndarray_layout.specs.declared.Order.TheVariants.{RowMajor};
 ghost use Rattle.ndarray_layout.specs.View.{view_places};
 ghost use Rattle.nd_lent.specs.Items.{item_at_place};
@@ -9,7 +9,7 @@ ghost use Rattle.nd_lent.specs.Own.{AreOwn, AreOwn-prop};
 
 use crate::cells::Cells;
 use crate::part::PartMut;
-use ndarray_layout::{IntoPlaces, Lengths, Order};
+use ndarray_layout::{IntoPlaces, Ix1, Lengths, Order};
 use std::iter::FusedIterator;
 
 /// The items of a part that are still to come, in row-major order of their indices, from both ends, each lent to be written.
@@ -92,6 +92,43 @@ impl<'a, T, D: Lengths> PartItems<'a, T, D> {
         ensures same_right { self.new.cells.name ≡ self.old.cells.name }
     {
         self.places.advance_back(count);
+    }
+}
+
+impl<'a, T: Drop, D: Lengths> PartItems<'a, T, D> {
+    ghost use Rattle.nd_lent.specs.ItemsLeft.{items_left};
+    ghost use Rattle.nd_lent.specs.Items.{items_of};
+    ghost use Rattle.nd_lent.specs.Lent.{array_of};
+
+    /// The items that come next and lie evenly, at once, as a part of their own: what is left of the row in progress, or else the
+    /// next row; `None` after the last item.
+    ///
+    /// Takes no memory. Costs as much as an item.
+    ///
+    /// Of the items of `[2,2]` with strides `[3,1]` over 5 6 7 8 9, after one item: a part of 6, and then one of 8 9. The project's own.
+    pub fn next_row(&mut self) -> Option<PartMut<'a, T, Ix1>>
+        ensures row { MatchOption result ((items_left self.old ≡ []) × (items_left self.new ≡ []))
+            (λ row. items_left self.old ≡ items_of (array_of row) ++ items_left self.new) }
+        ensures some { IfSome result (λ row. items_of (array_of row) ≢ []) }
+    {
+        let row = self.places.next_row()?;
+        Some(PartMut::take_from(&mut self.cells, row.layout()))
+    }
+
+    /// The last items that lie evenly, at once, as a part of their own: what is left of the row in progress at the back, or else
+    /// the last row; `None` before the first item.
+    ///
+    /// Takes no memory. Costs as much as an item from the back.
+    ///
+    /// Of the items of `[2,2]` with strides `[3,1]` over 5 6 7 8 9, without the last one: a part of 8, and then one of 5 6. The
+    /// project's own.
+    pub fn next_row_back(&mut self) -> Option<PartMut<'a, T, Ix1>>
+        ensures row { MatchOption result ((items_left self.old ≡ []) × (items_left self.new ≡ []))
+            (λ row. items_left self.old ≡ items_left self.new ++ items_of (array_of row)) }
+        ensures some { IfSome result (λ row. items_of (array_of row) ≢ []) }
+    {
+        let row = self.places.next_row_back()?;
+        Some(PartMut::take_from(&mut self.cells, row.layout()))
     }
 }
 

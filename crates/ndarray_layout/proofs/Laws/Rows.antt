@@ -9,6 +9,7 @@ use Rattle.std.proofs.Math.Seq.{drop-append_seam, drop-nil, take-append_seam}
 use Rattle.std.proofs.lemmas.Bool.{eqb-false}
 use Rattle.std.proofs.lemmas.Int.{ints}
 use Rattle.std.proofs.lemmas.List.Elements.{All-cons, All-drop, All-head, All-map, All-nil, All-tail, All-take, All-weaker}
+use Rattle.std.proofs.lemmas.List.{append-nil}
 use Rattle.std.proofs.lemmas.List.FromFn.{get_or-map-range_with_len, length-map-range_with_len, map-range_with_len_more}
 use Rattle.std.proofs.lemmas.Option.{get_or_from_slice_get, none-some, slice_get_within}
 use Rattle.nd_base.specs.declared.order.Order.{Order}
@@ -19,7 +20,7 @@ use Rattle.nd_base.proofs.Laws.Bounds.{in_bounds_from}
 use Rattle.nd_base.proofs.Laws.NonzeroSize.{size_le_nonzero_size}
 use Rattle.nd_base.proofs.Laws.Signed.{magnitude_from}
 use Rattle.ndarray_layout.specs.declared.strided.rows.Row.{Row}
-use Rattle.ndarray_layout.specs.Rows.{fastest_item, row_at, row_places, rows_places, slower_items, slower_view, view_rows}
+use Rattle.ndarray_layout.specs.Rows.{fastest_item, row_at, row_places, row_view, rows_places, slower_items, slower_view, view_rows}
 use Rattle.ndarray_layout.specs.View.{View, IsView, LiesWithin, place_at, view_places}
 use Rattle.ndarray_layout.proofs.ByRows.{row_from, rows_from}
 use Rattle.ndarray_layout.proofs.Fastest.{IsView-others, ends_of_some, places-others, size-others}
@@ -146,6 +147,19 @@ some_in_each_row order view = by (nat_eq (size view.shape) 0) refl
     by false e =
         let some = some_of_size order view.shape (omega (arith, pos_of_ne-zero (eqb-false (size view.shape) 0 e))) in
         All-map (λ row. 0 < row.len) (row_at order view) (view_places order (slower_view order view)) (λ k d below. some)
+
+-- a row as a view of one axis has its places
+pub places-row_view : (row : Row) → 0 < row.len → IsView (row_view row)
+    → view_places RowMajor (row_view row) ≡ row_places row.start row.stride row.len
+places-row_view row some v = sym (rows_places-view_rows RowMajor v) ∙ by (nat_eq (row.len * 1) 0) refl
+  where
+    by : (none : Bool) → nat_eq (row.len * 1) 0 ≡ none → rows_places (cond none []
+        (map (row_at RowMajor (row_view row)) (view_places RowMajor (slower_view RowMajor (row_view row)))))
+        ≡ row_places row.start row.stride row.len
+    by true e = absurd (omega (arith, some, eqb-true (row.len * 1) 0 e))
+    by false e =
+        append-nil (row_places (row.start + 0) row.stride row.len)
+        ∙ ap (λ start. row_places start row.stride row.len) (let same : row.start + 0 ≡ row.start = omega arith in same)
 
 -- so there are as many rows as places, or fewer
 pub no_more : (rows : List Row) → All (λ row. 0 < row.len) rows → length rows ≤ length (rows_places rows)

@@ -6,7 +6,7 @@ ghost use Rattle.std.specs.List.{All};
 ghost use Rattle.std.specs.Prelude.{◌≡◌, ◌==◌, ◌+◌, ◌-◌, ◌*◌, ◌<◌, ◌≤◌, ◌^◌, ◌++◌, [], pos, if◌then◌else◌, drop, take, length, IfSome, MatchOption, Some};
 ghost use Rattle.nd_base.specs.FlatIndex.{index_of_flat_in};
 ghost use Rattle.nd_base.specs.Size.{limit, size};
-ghost use Rattle.ndarray_layout.specs.NumberedRows.{HasColumns, IsAfter, IsBefore, column_rows, numbered_place, rows_between, slowest, slowest_view};
+ghost use Rattle.ndarray_layout.specs.NumberedRows.{HasColumns, IsAfter, IsBefore, numbered_place, rows_between, slowest, slowest_view};
 ghost use Rattle.ndarray_layout.specs.Rows.{BeginsAsRow, rows_places, view_rows};
 ghost use Rattle.ndarray_layout.specs.View.{IsView, place_at, view_places};
 
@@ -145,15 +145,6 @@ fn previous_in_column<D: Lengths>(
     }
 }
 
-/// Rows that follow one another and lie evenly: the row `i` is `first`, from `i * stride` places farther on, for each `i` below
-/// `count`.
-#[derive(Clone, Copy)]
-pub(crate) struct Column {
-    pub(crate) first: Row,
-    pub(crate) count: usize,
-    pub(crate) stride: isize,
-}
-
 /// The rows of a view that are still to come, in an order, with the view, from both ends. A contract sees the list of them.
 #[derive(Drop)]
 pub struct StridedRows<D: Lengths> {
@@ -223,37 +214,6 @@ impl<D: Lengths> StridedRows<D> {
         ensures { All (λ row. row.len ≡ result) self.now }
     {
         self.len
-    }
-
-    /// The rows that come next and are left of a column, at once; `None` after the last row.
-    #[inline(always)]
-    pub(crate) fn next_column(&mut self) -> Option<Column>
-        ensures { MatchOption result ((self.old ≡ []) × (self.new ≡ [])) (λ column. (0 < column.count)
-            × (self.old ≡ column_rows column ++ self.new)) }
-    {
-        if self.begun == self.end {
-            return None;
-        }
-        let first = next_in_column(
-            &self.view,
-            self.order,
-            self.slower,
-            self.columns,
-            self.begun,
-            self.front,
-        );
-        let count = (first.left + 1).min(self.end - self.begun);
-        self.begun += count;
-        self.front.left = 0;
-        Some(Column {
-            first: Row {
-                start: first.place,
-                stride: self.stride,
-                len: self.len,
-            },
-            count,
-            stride: self.columns.stride,
-        })
     }
 
     /// Leaves out so many rows, or all where fewer are left: the next one is the one that comes after them.

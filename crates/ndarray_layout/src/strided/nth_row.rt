@@ -82,10 +82,27 @@ impl<D: Lengths> Strided<D> {
         ensures is_view { IsView self.now }
     {
         let row = self.row_of_number(order, number)?;
-        Some(Strided {
-            start: row.start,
-            dim: new_ix1(row.len),
-            strides: new_ix1(unsigned(row.stride)),
-        })
+        Some(row.layout())
+    }
+}
+
+impl Row {
+    /// The row as a layout of one axis. The caller ensures that it has a place, that each of its places is an `isize`, and that it
+    /// has no more of them than an `isize` counts.
+    ///
+    /// Takes no memory.
+    ///
+    /// The row of the places 7 4 1: the shape `[3]`, from 7 by -3. The project's own.
+    #[inline]
+    pub fn layout(self) -> Strided<Ix1>
+        requires { IsView (row_view self) }
+        ensures view { result ≡ row_view self }
+        ensures is_view { IsView result }
+    {
+        Strided {
+            start: self.start,
+            dim: new_ix1(self.len),
+            strides: new_ix1(unsigned(self.stride)),
+        }
     }
 }

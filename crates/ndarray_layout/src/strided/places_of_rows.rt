@@ -6,7 +6,8 @@ ghost use Rattle.std.specs.Prelude.{◌≡◌, ◌-◌, ◌<◌, ◌≤◌, ◌^
 ghost use Rattle.nd_base.specs.Bounds.{IsInBounds};
 ghost use Rattle.nd_base.specs.Size.{limit};
 ghost use Rattle.ndarray_layout.specs.PlacesLeft.{ArePlacesLeft, places_after, rows_and};
-ghost use Rattle.ndarray_layout.specs.Rows.{row_places, rows_places};
+ghost use Rattle.ndarray_layout.specs.Rows.{row_places, row_view, rows_places};
+ghost use Rattle.ndarray_layout.specs.View.{IsView};
 
 use crate::strided::places::{offset_place, place_along_axis};
 use crate::strided::rows::{Row, Rows};
@@ -203,8 +204,9 @@ impl<R: RowEnds> PlacesOf<R> {
     /// Of the places of `[2,3]` with strides `[5,1]` from 0, after one place: the row of 1 2, and then that of 5 6 7.
     /// The project's own.
     pub fn next_row(&mut self) -> Option<Row>
-        ensures { MatchOption result ((self.old ≡ []) × (self.new ≡ [])) (λ row. (0 < row.len)
+        ensures row { MatchOption result ((self.old ≡ []) × (self.new ≡ [])) (λ row. (0 < row.len)
             × (self.old ≡ row_places row.start row.stride row.len ++ self.new)) }
+        ensures row_is_view { IfSome result (λ row. IsView (row_view row)) }
     {
         if self.left == 0 {
             let row = first_row(&mut self.rows, &mut self.back)?;
@@ -228,8 +230,9 @@ impl<R: RowEnds> PlacesOf<R> {
     /// Of the places of `[2,3]` with strides `[5,1]` from 0, without the last one: the row of 5 6, and then that of 0 1 2.
     /// The project's own.
     pub fn next_row_back(&mut self) -> Option<Row>
-        ensures { MatchOption result ((self.old ≡ []) × (self.new ≡ [])) (λ row. (0 < row.len)
+        ensures row { MatchOption result ((self.old ≡ []) × (self.new ≡ [])) (λ row. (0 < row.len)
             × (self.old ≡ self.new ++ row_places row.start row.stride row.len)) }
+        ensures row_is_view { IfSome result (λ row. IsView (row_view row)) }
     {
         let row = last_row(
             &mut self.rows,

@@ -3,7 +3,7 @@
 
 use crate::nd_lent::cells::Cells;
 use crate::nd_lent::part::PartMut;
-use crate::ndarray_layout::{IntoPlaces, Lengths, Order};
+use crate::ndarray_layout::{IntoPlaces, Ix1, Lengths, Order};
 use core::iter::FusedIterator;
 
 /// The items of a part that are still to come, in row-major order of their indices, from both ends, each lent to be written.
@@ -27,7 +27,7 @@ impl<'a, T, D: Lengths> Iterator for PartItems<'a, T, D> {
         self.places.size_hint()
     }
 
-    crate::arrays::skip!();
+    crate::arrays::fold_part_items!();
 }
 
 impl<'a, T, D: Lengths> DoubleEndedIterator for PartItems<'a, T, D> {
@@ -85,6 +85,55 @@ impl<'a, T, D: Lengths> PartItems<'a, T, D> {
     #[inline]
     pub fn advance_back(&mut self, count: usize) {
         self.places.advance_back(count);
+    }
+}
+
+impl<'a, T: Sized, D: Lengths> PartItems<'a, T, D> {
+    /// The items that come next and lie evenly, at once, as a part of their own: what is left of the row in progress, or else the
+    /// next row; `None` after the last item.
+    ///
+    /// Takes no memory. Costs as much as an item.
+    ///
+    /// Of the items of `[2,2]` with strides `[3,1]` over 5 6 7 8 9, after one item: a part of 6, and then one of 8 9. The project's own.
+    ///
+    /// <details><summary>Contract (proved)</summary>
+    ///
+    /// ```text
+    /// ensures row: MatchOption result ((items_left self.old ≡ []) × (items_left self.new ≡ []))
+    ///     (λ row. items_left self.old ≡ items_of (array_of row) ++ items_left self.new)
+    /// ensures some: IfSome result (λ row. items_of (array_of row) ≢ [])
+    /// ```
+    /// [How to read it](crate::contracts)
+    /// </details>
+    #[inline]
+    #[must_use]
+    pub fn next_row(&mut self) -> Option<PartMut<'a, T, Ix1>> {
+        let row = self.places.next_row()?;
+        Some(PartMut::take_from(&mut self.cells, row.layout()))
+    }
+
+    /// The last items that lie evenly, at once, as a part of their own: what is left of the row in progress at the back, or else
+    /// the last row; `None` before the first item.
+    ///
+    /// Takes no memory. Costs as much as an item from the back.
+    ///
+    /// Of the items of `[2,2]` with strides `[3,1]` over 5 6 7 8 9, without the last one: a part of 8, and then one of 5 6. The
+    /// project's own.
+    ///
+    /// <details><summary>Contract (proved)</summary>
+    ///
+    /// ```text
+    /// ensures row: MatchOption result ((items_left self.old ≡ []) × (items_left self.new ≡ []))
+    ///     (λ row. items_left self.old ≡ items_left self.new ++ items_of (array_of row))
+    /// ensures some: IfSome result (λ row. items_of (array_of row) ≢ [])
+    /// ```
+    /// [How to read it](crate::contracts)
+    /// </details>
+    #[inline]
+    #[must_use]
+    pub fn next_row_back(&mut self) -> Option<PartMut<'a, T, Ix1>> {
+        let row = self.places.next_row_back()?;
+        Some(PartMut::take_from(&mut self.cells, row.layout()))
     }
 }
 

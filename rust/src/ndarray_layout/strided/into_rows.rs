@@ -146,15 +146,6 @@ fn previous_in_column<D: Lengths>(
     InColumn { place: place_of_number(view, order, slower, number), left: number % columns.len }
 }
 
-/// Rows that follow one another and lie evenly: the row `i` is `first`, from `i * stride` places farther on, for each `i` below
-/// `count`.
-#[derive(Clone, Copy)]
-pub(crate) struct Column {
-    pub(crate) first: Row,
-    pub(crate) count: usize,
-    pub(crate) stride: isize,
-}
-
 /// The rows of a view that are still to come, in an order, with the view, from both ends.
 #[derive(Clone)]
 pub struct StridedRows<D: Lengths> {
@@ -210,32 +201,6 @@ impl<D: Lengths> StridedRows<D> {
     #[inline]
     pub(crate) fn row_len(&self) -> usize {
         self.len
-    }
-
-    /// The rows that come next and are left of a column, at once; `None` after the last row.
-    ///
-    /// <details><summary>Contract (proved)</summary>
-    ///
-    /// ```text
-    /// ensures MatchOption result ((self.old ≡ []) × (self.new ≡ [])) (λ column. (0 < column.count)
-    ///     × (self.old ≡ column_rows column ++ self.new))
-    /// ```
-    /// [How to read it](crate::contracts)
-    /// </details>
-    #[inline(always)]
-    pub(crate) fn next_column(&mut self) -> Option<Column> {
-        if self.begun == self.end {
-            return None;
-        }
-        let first = next_in_column(&self.view, self.order, self.slower, self.columns, self.begun, self.front);
-        let count = (first.left + 1).min(self.end - self.begun);
-        self.begun += count;
-        self.front.left = 0;
-        Some(Column {
-            first: Row { start: first.place, stride: self.stride, len: self.len },
-            count,
-            stride: self.columns.stride,
-        })
     }
 
     /// Leaves out so many rows, or all where fewer are left: the next one is the one that comes after them.

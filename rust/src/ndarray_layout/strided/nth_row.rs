@@ -109,6 +109,34 @@ impl<D: Lengths> Strided<D> {
     #[must_use]
     pub fn nth_row(&self, order: Order, number: usize) -> Option<Strided<Ix1>> {
         let row = self.row_of_number(order, number)?;
-        Some(Strided { start: row.start, dim: new_ix1(row.len), strides: new_ix1(unsigned(row.stride)) })
+        Some(row.layout())
+    }
+}
+
+impl Row {
+    /// The row as a layout of one axis.
+    ///
+    /// Takes no memory.
+    ///
+    /// The row of the places 7 4 1: the shape `[3]`, from 7 by -3. The project's own.
+    ///
+    /// # Conditions
+    ///
+    /// The caller ensures that it has a place, that each of its places is an `isize`, and that it has no more of them
+    /// than an `isize` counts. Otherwise this call or a later one panics or returns unspecified values.
+    ///
+    /// <details><summary>Contract (proved)</summary>
+    ///
+    /// ```text
+    /// requires IsView (row_view self)
+    /// ensures view: result ≡ row_view self
+    /// ensures is_view: IsView result
+    /// ```
+    /// [How to read it](crate::contracts)
+    /// </details>
+    #[must_use]
+    #[inline]
+    pub fn layout(self) -> Strided<Ix1> {
+        Strided { start: self.start, dim: new_ix1(self.len), strides: new_ix1(unsigned(self.stride)) }
     }
 }

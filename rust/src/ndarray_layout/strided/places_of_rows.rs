@@ -248,8 +248,9 @@ impl<R: RowEnds> PlacesOf<R> {
     /// <details><summary>Contract (proved)</summary>
     ///
     /// ```text
-    /// ensures MatchOption result ((self.old ≡ []) × (self.new ≡ [])) (λ row. (0 < row.len)
+    /// ensures row: MatchOption result ((self.old ≡ []) × (self.new ≡ [])) (λ row. (0 < row.len)
     ///     × (self.old ≡ row_places row.start row.stride row.len ++ self.new))
+    /// ensures row_is_view: IfSome result (λ row. IsView (row_view row))
     /// ```
     /// [How to read it](crate::contracts)
     /// </details>
@@ -294,8 +295,9 @@ impl<R: RowEnds> PlacesOf<R> {
     /// <details><summary>Contract (proved)</summary>
     ///
     /// ```text
-    /// ensures MatchOption result ((self.old ≡ []) × (self.new ≡ [])) (λ row. (0 < row.len)
+    /// ensures row: MatchOption result ((self.old ≡ []) × (self.new ≡ [])) (λ row. (0 < row.len)
     ///     × (self.old ≡ self.new ++ row_places row.start row.stride row.len))
+    /// ensures row_is_view: IfSome result (λ row. IsView (row_view row))
     /// ```
     /// [How to read it](crate::contracts)
     /// </details>

@@ -5,6 +5,7 @@ use Rattle.ndarray_layout.specs.PlacesLeft.{rows_and}
 use Rattle.ndarray_layout.specs.Rows.{row_places, rows_places}
 use Rattle.ndarray_layout.proofs.ByRows.{row_from}
 use Rattle.ndarray_layout.proofs.LaterPlaces.{left_after_row, left_ended, row_first_of}
+use Rattle.ndarray_layout.proofs.RowViews.{first_is_view}
 use Rattle.ndarray_layout.proofs.RowSteps.{after, bounds_of_place, left_after_end, next_in_bounds, some_in_row}
 use Rattle.ndarray_layout.proofs.strided.places_of_rows.PlacesOf.next_row.Goals as goal
 
@@ -16,8 +17,8 @@ offset_place-requires-clause-there g c =
 pub invariant_of-self-2 : goal.invariant_of-self-2
 invariant_of-self-2 g c = left_ended c.self.invariant
 
-pub returns : goal.returns
-returns g c =
+pub returns-clause-row : goal.returns-clause-row
+returns-clause-row g c =
     let places = c.self.inside in
     let rows = rows_and (g.R.RowEnds.rows places.rows) places.back in
     let at : pos c.offset_place.result ≡ pos places.place +ℤ places.stride = omega (arith, ints, c.offset_place.ensures) in
@@ -35,8 +36,18 @@ invariant_of-self g c = left_after_end c.self.invariant c.if-self-eq0.true c.in_
 pub invariant_of-self-then-self-eq0 : goal.invariant_of-self-then-self-eq0
 invariant_of-self-then-self-eq0 g c = left_after_row c.self.invariant c.if-self-eq0.true c.in_ok-row.ensures
 
-pub returns-then-self-eq0 : goal.returns-then-self-eq0
-returns-then-self-eq0 g c = (
+pub returns-then-self-eq0-clause-row : goal.returns-then-self-eq0-clause-row
+returns-then-self-eq0-clause-row g c = (
   some_in_row c.self.invariant c.in_ok-row.ensures,
   sym c.self.view_is ∙ row_first_of c.self.invariant c.if-self-eq0.true c.in_ok-row.ensures,
 )
+
+pub returns-clause-row_is_view : goal.returns-clause-row_is_view
+returns-clause-row_is_view g c =
+    let row = returns-clause-row g c in
+    first_is_view _ _ c.self.invariant.in_bounds c.self.invariant.fits row.0 (c.self.view_is ∙ row.1)
+
+pub returns-then-self-eq0-clause-row_is_view : goal.returns-then-self-eq0-clause-row_is_view
+returns-then-self-eq0-clause-row_is_view g c =
+    let row = returns-then-self-eq0-clause-row g c in
+    first_is_view _ _ c.self.invariant.in_bounds c.self.invariant.fits row.0 (c.self.view_is ∙ row.1)

@@ -3,6 +3,7 @@ use Rattle.std.proofs.Common.{◌≡◌, of_z, to_z, w64, sym, ap, subst, ◌∙
 use Rattle.std.proofs.lemmas.Int.{ints}
 use Rattle.ndarray_layout.specs.PlacesLeft.{ArePlacesLeft, places_after}
 use Rattle.ndarray_layout.specs.Rows.{row_places}
+use Rattle.ndarray_layout.proofs.RowViews.{last_is_view}
 use Rattle.ndarray_layout.proofs.BothEnds.{and_none, left_without_row, without_row}
 use Rattle.ndarray_layout.proofs.strided.places_of_rows.PlacesOf.next_row_back.Goals as goal
 
@@ -15,8 +16,8 @@ invariant_of-self-2 g c =
     subst (ArePlacesLeft p.place p.stride c.last_row.new.left) (sym (and_none rows c.last_row.new.back c.in_ok-row.ensures.back))
     (left_without_row c.self.invariant c.last_row.new.left rows c.in_ok-row.row same row.0 row.1 c.in_ok-row.ensures.some)
 
-pub returns : goal.returns
-returns g c =
+pub returns-clause-row : goal.returns-clause-row
+returns-clause-row g c =
     let p = c.self.inside in
     let rows = g.R.RowEnds.rows c.last_row.new.rows in
     let last = c.in_ok-row.row in
@@ -28,3 +29,8 @@ returns g c =
           ∙ ap (λ xs. places_after p.place p.stride c.last_row.new.left xs ++ row_places last.start last.stride last.len)
           (sym (and_none rows c.last_row.new.back c.in_ok-row.ensures.back)),
     )
+
+pub returns-clause-row_is_view : goal.returns-clause-row_is_view
+returns-clause-row_is_view g c =
+    let row = returns-clause-row g c in
+    last_is_view _ _ c.self.invariant.in_bounds c.self.invariant.fits row.0 (c.self.view_is ∙ row.1)
