@@ -31,27 +31,6 @@ pub(crate) use skipping::{skip, skip_back};
 pub type LentPart<'a, T, D> = PartMut<'a, T, D>;
 
 impl<T, D: Lengths> PartMut<'_, T, D> {
-    /// The shape. Not proved.
-    #[inline]
-    #[must_use]
-    pub fn dim(&self) -> &D {
-        self.view().dim()
-    }
-
-    /// How many indices the shape has. Not proved.
-    #[inline]
-    #[must_use]
-    pub fn len(&self) -> usize {
-        self.view().len()
-    }
-
-    /// Whether the shape has no index. Not proved.
-    #[inline]
-    #[must_use]
-    pub fn is_empty(&self) -> bool {
-        self.view().is_empty()
-    }
-
     /// The part once more, for as long as this one is borrowed: `reborrow`, which is proved. ndarray's `view_mut`. Not proved.
     ///
     /// # Panics

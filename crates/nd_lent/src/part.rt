@@ -6,6 +6,7 @@ ghost use Rattle.ndarray_layout.specs.Indices.{is_index};
 ghost use Rattle.ndarray_layout.specs.Memory.{NeedsNoMemory};
 ghost use Rattle.ndarray_layout.specs.ShapeFault.{shape_fault};
 ghost use Rattle.ndarray_layout.specs.declared.Order.TheVariants.{RowMajor};
+ghost use Rattle.ndarray_layout.specs.Size.{size};
 ghost use Rattle.ndarray_layout.specs.SplitView.{first_part_of, second_part_of, split_fault};
 ghost use Rattle.ndarray_layout.specs.Stretch.{IsStretch};
 ghost use Rattle.ndarray_layout.specs.View.{view_places};
@@ -77,6 +78,32 @@ impl<'a, T: Drop, D: Lengths> PartMut<'a, T, D> {
         ensures { result.now ≡ (array_of self.now).view }
     {
         &self.view
+    }
+
+    /// The shape. ndarray's `raw_dim`, which copies it.
+    #[inline]
+    pub fn dim(&self) -> &D
+        ensures list { D.list result.now ≡ (array_of self.now).view.shape }
+    {
+        self.view.dim()
+    }
+
+    /// How many indices the shape has.
+    ///
+    /// `[2]`, `[-1]` from 1 over 7 8 9: 2. ndarray's `len`.
+    #[inline]
+    pub fn len(&self) -> usize
+        ensures { result ≡ size (array_of self.now).view.shape }
+    {
+        self.view.len()
+    }
+
+    /// Whether the shape has no index. ndarray's `is_empty`.
+    #[inline]
+    pub fn is_empty(&self) -> bool
+        ensures { IsTrue result ↔ (size (array_of self.now).view.shape ≡ 0) }
+    {
+        self.view.is_empty()
     }
 
     /// The item of an index; `None` where it is no index of the shape.

@@ -94,6 +94,90 @@ impl<'a, T: Sized, D: Lengths> PartMut<'a, T, D> {
         &self.view
     }
 
+    /// The shape. ndarray's `raw_dim`, which copies it.
+    ///
+    /// # Examples
+    ///
+    /// ```
+    /// use ndarray_layout::{Ix2, LayoutError, PartMut};
+    ///
+    /// # fn main() -> Result<(), LayoutError> {
+    /// let mut items = [0, 1, 2, 3, 4, 5];
+    /// assert_eq!(PartMut::from_shape(Ix2(2, 3).into(), &mut items)?.dim(), &Ix2(2, 3));
+    /// # Ok(())
+    /// # }
+    /// ```
+    ///
+    /// <details><summary>Contract (proved)</summary>
+    ///
+    /// ```text
+    /// ensures list: D.list result.now ≡ (array_of self.now).view.shape
+    /// ```
+    /// [How to read it](crate::contracts)
+    /// </details>
+    #[must_use]
+    #[inline]
+    pub fn dim(&self) -> &D {
+        self.view.dim()
+    }
+
+    /// How many indices the shape has.
+    ///
+    /// `[2]`, `[-1]` from 1 over 7 8 9: 2. ndarray's `len`.
+    ///
+    /// # Examples
+    ///
+    /// ```
+    /// use ndarray_layout::{Ix1, LayoutError, PartMut, ShapeBuilder, unsigned};
+    ///
+    /// # fn main() -> Result<(), LayoutError> {
+    /// let mut items = [7, 8, 9];
+    /// assert_eq!(PartMut::from_shape(Ix1(2).strides(Ix1(unsigned(-1)))?, &mut items)?.len(), 2);
+    /// # Ok(())
+    /// # }
+    /// ```
+    ///
+    /// <details><summary>Contract (proved)</summary>
+    ///
+    /// ```text
+    /// ensures result ≡ size (array_of self.now).view.shape
+    /// ```
+    /// [How to read it](crate::contracts)
+    /// </details>
+    #[must_use]
+    #[inline]
+    pub fn len(&self) -> usize {
+        self.view.len()
+    }
+
+    /// Whether the shape has no index. ndarray's `is_empty`.
+    ///
+    /// # Examples
+    ///
+    /// ```
+    /// use ndarray_layout::{Ix2, LayoutError, PartMut};
+    ///
+    /// # fn main() -> Result<(), LayoutError> {
+    /// let mut items = [7, 8, 9];
+    /// assert!(!PartMut::from_shape(Ix2(1, 3).into(), &mut items)?.is_empty());
+    /// assert!(PartMut::from_shape(Ix2(0, 3).into(), &mut items)?.is_empty());
+    /// # Ok(())
+    /// # }
+    /// ```
+    ///
+    /// <details><summary>Contract (proved)</summary>
+    ///
+    /// ```text
+    /// ensures IsTrue result ↔ (size (array_of self.now).view.shape ≡ 0)
+    /// ```
+    /// [How to read it](crate::contracts)
+    /// </details>
+    #[must_use]
+    #[inline]
+    pub fn is_empty(&self) -> bool {
+        self.view.is_empty()
+    }
+
     /// The item of an index; `None` where it is no index of the shape.
     ///
     /// `[2]`, `[-1]` from 1 over 7 8 9: (0) is 8, and (2) is `None`. ndarray's `get`.

@@ -13,6 +13,7 @@ pub fn answer(call: &Call) -> Option<String> {
     match call.name {
         "ArrayView::from_shape" => Some(call.told(|| ArrayView::from_shape(shape, &numbers))),
         "ArrayViewMut::from_shape" => Some(call.told(|| ArrayViewMut::from_shape(shape, &mut numbers))),
+        "PartMut::from_shape" => Some(call.told(|| PartMut::from_shape(shape, &mut numbers))),
         _ if call.name.starts_with("ArrayView::") => read(call, ArrayView::over(call.view(), &numbers).ok()?),
         _ if call.name.starts_with("PartMut::") => {
             part(call, ArrayViewMut::from_shape(call.laid(), &mut numbers).ok()?.into_part())

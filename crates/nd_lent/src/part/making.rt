@@ -1,12 +1,18 @@
-//! The checked way to make a part.
-ghost use Rattle.std.specs.Prelude.{◌≡◌, IfOk, length};
+//! The checked ways to make a part.
+ghost use Rattle.std.specs.Option.{IsSome};
+ghost use Rattle.std.specs.Prelude.{◌≡◌, None, IfOk, IsOk, length};
 ghost use Rattle.std.specs.Result.{result_err};
 ghost use Rattle.ndarray_layout.specs.declared.CanIndexCheckMode.TheVariants.{OwnedMutable};
+ghost use Rattle.ndarray_layout.specs.AcceptanceByStrides.{acceptance_by_strides};
 ghost use Rattle.ndarray_layout.specs.AcceptanceFrom.{acceptance_from};
-ghost use Rattle.nd_lent.specs.Items.{IsOwned};
+ghost use Rattle.ndarray_layout.specs.Memory.{NeedsNoMemory};
+ghost use Rattle.ndarray_layout.specs.ShapeBuilder.{custom_strides, strides_list};
+ghost use Rattle.ndarray_layout.specs.ShapeFault.{shape_fault};
+ghost use Rattle.nd_lent.specs.Items.{IsOwned, view_from_0};
 
 use crate::part::PartMut;
-use ndarray_layout::{CanIndexCheckMode, Lengths, ShapeError, Strided};
+use ndarray_layout::{CanIndexCheckMode, LayoutError, Lengths, ShapeError, StrideShape, Strided};
+use std::alloc::Global;
 
 impl<'a, T: Drop, D: Lengths> PartMut<'a, T, D> {
     ghost use Rattle.nd_lent.specs.Lent.{array_of};
@@ -34,6 +40,39 @@ impl<'a, T: Drop, D: Lengths> PartMut<'a, T, D> {
     {
         let start = view.start();
         let view = view.moved_to(start, 1, items.len(), CanIndexCheckMode::OwnedMutable)?;
+        Ok(PartMut::new(view, items))
+    }
+
+    /// The part of a shape, by its own strides or by given ones, over items.
+    ///
+    /// The lowest place of the layout is 0, the first item. Items past the layout, or between its places, are no part of it.
+    ///
+    /// # Errors
+    ///
+    /// Those of `Strided::from_shape` in owned mode, over as many elements of one byte as there are items.
+    ///
+    /// `[2]` with the stride `[-1]` over 7 8 9: (0) is 8, (1) is 7. ndarray's `from_shape`.
+    pub fn from_shape(
+        alloc: Global,
+        shape: StrideShape<D>,
+        items: &'a mut [T],
+    ) -> Result<Self, LayoutError>
+        ensures fault { shape_fault result ≡
+            acceptance_by_strides D.list 1 (length items.old) OwnedMutable
+            (D.list shape.dim) shape.strides }
+        ensures given { shape_fault result ≡ None → IsSome (custom_strides shape.strides) →
+            IsOk result }
+        ensures memory { shape_fault result ≡ None →
+            NeedsNoMemory D.NDIM (length (D.list shape.dim)) → IsOk result }
+        ensures items { IfOk result (λ part. (array_of part).items ≡ items.old) }
+        ensures view { IfOk result (λ part. (array_of part).view ≡
+            view_from_0 (D.list shape.dim)
+            (strides_list D.list (D.list shape.dim) shape.strides)) }
+        ensures owned { IfOk result (λ part.
+            IsOwned (length (array_of part).items) (array_of part).view) }
+    {
+        let len = items.len();
+        let view = Strided::from_shape(alloc, shape, 1, len, CanIndexCheckMode::OwnedMutable)?;
         Ok(PartMut::new(view, items))
     }
 }

@@ -1,8 +1,8 @@
 // Made by `rust/erase` of `crates/nd_lent/src/part/making.rt`: edit that.
-//! The checked way to make a part.
+//! The checked ways to make a part.
 
 use crate::nd_lent::part::PartMut;
-use crate::ndarray_layout::{CanIndexCheckMode, Lengths, ShapeError, Strided};
+use crate::ndarray_layout::{CanIndexCheckMode, LayoutError, Lengths, ShapeError, StrideShape, Strided};
 
 impl<'a, T: Sized, D: Lengths> PartMut<'a, T, D> {
     /// The part of all indices of a view over items, where each index has one of them to itself. The items may be fewer than
@@ -50,6 +50,54 @@ impl<'a, T: Sized, D: Lengths> PartMut<'a, T, D> {
     pub fn over(view: Strided<D>, items: &'a mut [T]) -> Result<Self, ShapeError> {
         let start = view.start();
         let view = view.moved_to(start, 1, items.len(), CanIndexCheckMode::OwnedMutable)?;
+        Ok(PartMut::new(view, items))
+    }
+
+    /// The part of a shape, by its own strides or by given ones, over items.
+    ///
+    /// The lowest place of the layout is 0, the first item. Items past the layout, or between its places, are no part of it.
+    ///
+    /// `[2]` with the stride `[-1]` over 7 8 9: (0) is 8, (1) is 7. ndarray's `from_shape`.
+    ///
+    /// # Errors
+    ///
+    /// Those of `Strided::from_shape` in owned mode, over as many elements of one byte as there are items.
+    ///
+    /// # Examples
+    ///
+    /// ```
+    /// use ndarray_layout::{ErrorKind, Ix1, LayoutError, PartMut, ShapeBuilder, from_kind, unsigned};
+    ///
+    /// # fn main() -> Result<(), LayoutError> {
+    /// let mut items = [7, 8, 9];
+    /// let part = PartMut::from_shape(Ix1(2).strides(Ix1(unsigned(-1)))?, &mut items)?;
+    /// assert_eq!((part.get(&0), part.get(&1)), (Some(&8), Some(&7)));
+    /// let too_long = PartMut::from_shape(Ix1(4).into(), &mut items);
+    /// assert_eq!(too_long.err(), Some(from_kind(ErrorKind::OutOfBounds).into()));
+    /// # Ok(())
+    /// # }
+    /// ```
+    ///
+    /// <details><summary>Contract (proved)</summary>
+    ///
+    /// ```text
+    /// ensures fault: shape_fault result ≡
+    ///     acceptance_by_strides D.list 1 (length items.old) OwnedMutable
+    ///     (D.list shape.dim) shape.strides
+    /// ensures given: shape_fault result ≡ None → IsSome (custom_strides shape.strides) → IsOk result
+    /// ensures memory: shape_fault result ≡ None → NeedsNoMemory D.NDIM (length (D.list shape.dim)) → IsOk result
+    /// ensures items: IfOk result (λ part. (array_of part).items ≡ items.old)
+    /// ensures view: IfOk result (λ part. (array_of part).view ≡
+    ///     view_from_0 (D.list shape.dim)
+    ///     (strides_list D.list (D.list shape.dim) shape.strides))
+    /// ensures owned: IfOk result (λ part. IsOwned (length (array_of part).items) (array_of part).view)
+    /// ```
+    /// [How to read it](crate::contracts)
+    /// </details>
+    #[inline]
+    pub fn from_shape(shape: StrideShape<D>, items: &'a mut [T]) -> Result<Self, LayoutError> {
+        let len = items.len();
+        let view = Strided::from_shape(shape, 1, len, CanIndexCheckMode::OwnedMutable)?;
         Ok(PartMut::new(view, items))
     }
 }
