@@ -13,7 +13,7 @@ pub const MODULES: &[(&str, &str, &[&str])] = &[
     ("marker", "core", &["PhantomData"]),
     ("mem", "core", &["replace", "swap"]),
     ("ops", "core", OPERATORS),
-    ("slice", "core", &["Iter", "from_raw_parts_mut", "from_ref"]),
+    ("slice", "core", &["Iter", "from_raw_parts", "from_raw_parts_mut", "from_ref"]),
     ("str", "core", &["SplitWhitespace", "from_utf8"]),
 ];
 
@@ -199,8 +199,10 @@ pub const CHECKED: &[(&str, &str, &str, &str, &str)] = &[(
 )];
 
 /// Modules that only a proof calls, each with its crate and what it hands on: a condition on the right to all items, which no code can
-/// check, keeps `unsafe` sound there. Plain Rust needs none of it, for once the parts are gone the items are what they left.
+/// check, keeps `unsafe` sound there. Plain Rust needs none of it, for once the parts are gone the items are what they left. And
+/// `readers`, which nothing of the package calls yet.
 pub const LEFT_OUT: &[(&str, &str, &[&str])] = &[
+    ("nd_lent", "readers", &[]),
     ("nd_lent", "rest", &["Rest", "Taken"]),
     ("nd_lent", "whole", &["Whole"]),
     ("example_callers", "planes", &["paint_plane", "paint_planes"]),

@@ -2,6 +2,7 @@ pub mod CellLends
 pub mod Crosses
 pub mod Handed
 pub mod Held
+pub mod HeldReader
 pub mod HeldSlot
 pub mod Lent
 pub mod One
@@ -10,6 +11,8 @@ pub mod PartLends
 pub mod Parted
 pub mod Passed
 pub mod Places
+pub mod Read
+pub mod ReadCrosses
 pub mod SameName
 pub mod Shared
 pub mod Stretch

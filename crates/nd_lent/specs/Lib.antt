@@ -17,6 +17,7 @@ pub mod LentRow
 pub mod Mapped
 pub mod Own
 pub mod Part
+pub mod Reader
 pub mod Right
 pub mod Rights
 pub mod RowItemsLeft

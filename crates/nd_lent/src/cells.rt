@@ -8,7 +8,9 @@ ghost use denote.Follow.{follows, follows_both};
 ghost use Rattle.nd_lent.specs.Items.{IsOwned};
 ghost use Rattle.nd_lent.specs.Part.{IsPart};
 ghost use Rattle.nd_lent.specs.Cells.{are_within, chosen_of, holds_cells, shows_cells, span_of, without, written_at};
+ghost use Rattle.nd_lent.specs.Reader.{reads_cells};
 
+mod readers;
 mod rest;
 mod swapping;
 mod taken;
@@ -18,7 +20,7 @@ use crate::part::PartMut;
 use ndarray_layout::{Lengths, Strided};
 pub use rest::Rest;
 use std::marker::{Model, PhantomData, Send, Sync};
-use std::slice::from_raw_parts_mut;
+use std::slice::{from_raw_parts, from_raw_parts_mut};
 pub use taken::Taken;
 pub use whole::Whole;
 
@@ -56,6 +58,18 @@ impl<'a, T> Cells<'a, T> {
         ensures { slice_get self.now.items place ≡ Some result.now }
     {
         unsafe { &*self.first.add(place) }
+    }
+
+    /// Those that have a mark, to be read by as many as like while the right is borrowed. Takes no memory.
+    ///
+    /// Of 7 8 9 with the first and third marked: 7 and 9. The project's own.
+    pub(crate) fn shared(&self) -> Reader<'_, T>
+        ensures all { (result.items ≡ self.now.items) × (result.marks ≡ self.now.marks) }
+    {
+        Reader {
+            first: self.first,
+            mark: PhantomData,
+        }
     }
 
     /// The element at a place, counted in elements from the first of the slice, to be written. The caller ensures that it has a mark.
@@ -101,6 +115,58 @@ impl<'a, T> Cells<'a, T> {
             × (start + len ≤ length self.old.items) }
     {
         unsafe { from_raw_parts_mut(self.first.add(start), len) }
+    }
+}
+
+/// Some elements of a slice, lent to be read, at the price of a pointer: those that have a mark. A proof knows all elements of the
+/// slice; no call reads those without a mark, so others may write them meanwhile.
+///
+/// The project's own.
+#[derive(Drop)]
+pub(crate) struct Reader<'s, T> {
+    first: *const T,
+    mark: PhantomData<&'s T>,
+    ghost marks: { List Bool },
+    ghost items: { List T },
+}
+
+impl<'s, T> Model for Reader<'s, T> {
+    ghost also_owns = { λ r. reads_cells T.row r.first r.marks r.items 's };
+
+    ghost also_shares = { λ r _ _. reads_cells T.row r.first r.marks r.items 's };
+}
+
+// SAFETY: it only reads (`get`, `slice`), so it is sent as a `&[T]` of its elements would be.
+unsafe impl<T: Sync> Send for Reader<'_, T> {}
+
+// SAFETY: what is shared only reads (`get`, `slice`), as a `&[T]` of its elements would.
+unsafe impl<T: Sync> Sync for Reader<'_, T> {}
+
+impl<'s, T> Reader<'s, T> {
+    /// The element at a place, counted in elements from the first of the slice. The caller ensures that it has a mark.
+    ///
+    /// Of 7 8 9, place 1 is 8. The project's own.
+    pub(crate) fn get(&self, place: usize) -> &'s T
+        requires { IsTrue (get_or self.now.marks place false) }
+        ensures { slice_get self.now.items place ≡ Some result.now }
+    {
+        // SAFETY: the place has a mark, which the caller ensures; so it is one of the slice that was lent, and the
+        // `Cells` that has its mark is borrowed for as long as the result is in use (`shared`). So nothing writes the
+        // element.
+        unsafe { &*self.first.add(place) }
+    }
+
+    /// So many elements from a place on, as a slice. The caller ensures that each of them has a mark.
+    ///
+    /// Of 7 8 9, two from place 1 on: 8 and 9. The project's own.
+    pub(crate) fn slice(&self, start: usize, len: usize) -> &'s [T]
+        requires { IsTrue (are_within (span_of start len self.now.marks) self.now.marks) × (start + len ≤ length self.now.marks) }
+        ensures all { (result.now ≡ take len (drop start self.now.items)) × (start + len ≤ length self.now.items) }
+    {
+        // SAFETY: each of these places has a mark, which the caller ensures; so they are those of the slice that was
+        // lent, and the `Cells` that has their marks is borrowed for as long as the result is in use (`shared`). So
+        // nothing writes the elements.
+        unsafe { from_raw_parts(self.first.add(start), len) }
     }
 }
 

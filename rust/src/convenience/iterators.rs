@@ -37,7 +37,7 @@ printed! {
     [T, D: Lengths] IntoRows<'_, T, D>;
     [T] RowItems<'_, T>;
     [T, D: Lengths] PartItems<'_, T, D>;
-    [T] PartIter<'_, '_, T>;
+    [T] PartIter<'_, T>;
     [T, D: Lengths] PartRows<'_, T, D>;
     [D: Dimension] IndicesIter<D>;
     [D: Dimension] IndicesIterF<D>;

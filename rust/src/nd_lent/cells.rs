@@ -9,6 +9,7 @@ mod taken;
 use crate::nd_lent::part::PartMut;
 use crate::ndarray_layout::{Lengths, Strided};
 use core::marker::PhantomData;
+use core::slice::from_raw_parts;
 use core::slice::from_raw_parts_mut;
 
 /// The right to read and write some elements of a slice, at the price of a pointer: those that have a mark.
@@ -49,6 +50,22 @@ impl<'a, T> Cells<'a, T> {
         // no other `Cells` has its mark (`all` of `take_part`). While the result is in use this one is borrowed, so
         // nothing writes the element.
         unsafe { &*self.first.add(place) }
+    }
+
+    /// Those that have a mark, to be read by as many as like while the right is borrowed. Takes no memory.
+    ///
+    /// Of 7 8 9 with the first and third marked: 7 and 9. The project's own.
+    ///
+    /// <details><summary>Contract (proved)</summary>
+    ///
+    /// ```text
+    /// ensures all: (result.items ≡ self.now.items) × (result.marks ≡ self.now.marks)
+    /// ```
+    /// [How to read it](crate::contracts)
+    /// </details>
+    #[inline]
+    pub(in crate::nd_lent) fn shared(&self) -> Reader<'_, T> {
+        Reader { first: self.first, mark: PhantomData }
     }
 
     /// The element at a place, counted in elements from the first of the slice, to be written.
@@ -123,6 +140,70 @@ impl<'a, T> Cells<'a, T> {
         // they are those of the slice that was lent (`new`), and no call of this `Cells` or of another reads or writes
         // them again.
         unsafe { from_raw_parts_mut(self.first.add(start), len) }
+    }
+}
+
+/// Some elements of a slice, lent to be read, at the price of a pointer: those that have a mark.
+///
+/// The project's own.
+pub(in crate::nd_lent) struct Reader<'s, T> {
+    first: *const T,
+    mark: PhantomData<&'s T>,
+}
+
+// SAFETY: it only reads (`get`, `slice`), so it is sent as a `&[T]` of its elements would be.
+unsafe impl<T: Sync> Send for Reader<'_, T> {}
+
+// SAFETY: what is shared only reads (`get`, `slice`), as a `&[T]` of its elements would.
+unsafe impl<T: Sync> Sync for Reader<'_, T> {}
+
+impl<'s, T> Reader<'s, T> {
+    /// The element at a place, counted in elements from the first of the slice.
+    ///
+    /// Of 7 8 9, place 1 is 8. The project's own.
+    ///
+    /// # Conditions
+    ///
+    /// The caller ensures that it has a mark. Otherwise the behaviour is undefined.
+    ///
+    /// <details><summary>Contract (proved)</summary>
+    ///
+    /// ```text
+    /// requires IsTrue (get_or self.now.marks place false)
+    /// ensures slice_get self.now.items place ≡ Some result.now
+    /// ```
+    /// [How to read it](crate::contracts)
+    /// </details>
+    #[inline]
+    pub(in crate::nd_lent) fn get(&self, place: usize) -> &'s T {
+        // SAFETY: the place has a mark, which the caller ensures; so it is one of the slice that was lent, and the
+        // `Cells` that has its mark is borrowed for as long as the result is in use (`shared`). So nothing writes the
+        // element.
+        unsafe { &*self.first.add(place) }
+    }
+
+    /// So many elements from a place on, as a slice.
+    ///
+    /// Of 7 8 9, two from place 1 on: 8 and 9. The project's own.
+    ///
+    /// # Conditions
+    ///
+    /// The caller ensures that each of them has a mark. Otherwise the behaviour is undefined.
+    ///
+    /// <details><summary>Contract (proved)</summary>
+    ///
+    /// ```text
+    /// requires IsTrue (are_within (span_of start len self.now.marks) self.now.marks) × (start + len ≤ length self.now.marks)
+    /// ensures all: (result.now ≡ take len (drop start self.now.items)) × (start + len ≤ length self.now.items)
+    /// ```
+    /// [How to read it](crate::contracts)
+    /// </details>
+    #[inline]
+    pub(in crate::nd_lent) fn slice(&self, start: usize, len: usize) -> &'s [T] {
+        // SAFETY: each of these places has a mark, which the caller ensures; so they are those of the slice that was
+        // lent, and the `Cells` that has their marks is borrowed for as long as the result is in use (`shared`). So
+        // nothing writes the elements.
+        unsafe { from_raw_parts(self.first.add(start), len) }
     }
 }
 

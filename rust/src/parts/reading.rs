@@ -21,12 +21,12 @@ use crate::{ArrayView, ArrayViewMut, OwnedArray};
 /// # Ok(())
 /// # }
 /// ```
-impl<'s, 'a, T, D: Lengths> IntoIterator for &'s PartMut<'a, T, D> {
+impl<'s, T, D: Lengths> IntoIterator for &'s PartMut<'_, T, D> {
     type Item = &'s T;
-    type IntoIter = PartIter<'s, 'a, T>;
+    type IntoIter = PartIter<'s, T>;
 
     #[inline]
-    fn into_iter(self) -> PartIter<'s, 'a, T> {
+    fn into_iter(self) -> PartIter<'s, T> {
         self.iter()
     }
 }

@@ -118,6 +118,40 @@ fn rows_are_those_of_the_last_axis_or_single_items() -> Result<(), LayoutError> 
 }
 
 #[test]
+fn a_part_has_a_slice_where_its_items_follow_one_another() -> Result<(), LayoutError> {
+    let mut numbers = NUMBERS;
+    assert_eq!(kind(PartMut::from_shape(Ix2(2, 4).into(), &mut numbers)), Some(OutOfBounds));
+    let part = PartMut::from_shape(Ix2(2, 3).into(), &mut numbers)?;
+    assert_eq!(part.as_slice(), Some(&[0, 1, 2, 3, 4, 5][..]));
+    let (above, below) = part.split_at(Axis(0), 1)?;
+    assert_eq!((above.as_slice(), below.as_slice()), (Some(&[0, 1, 2][..]), Some(&[3, 4, 5][..])));
+    let (mut item, pair) = below.split_at(Axis(1), 1)?;
+    assert!(item.set(&(0, 0), 7));
+    assert_eq!((item.as_slice(), pair.as_slice()), (Some(&[7][..]), Some(&[4, 5][..])));
+    let backwards = rows_mut(&mut numbers).sliced_move(s![.., ..;-1])?.into_part();
+    assert_eq!((backwards.as_slice(), backwards.len()), (None, 6));
+    let none = rows_mut(&mut numbers).sliced_move(s![2.., ..])?.into_part();
+    assert_eq!((none.as_slice(), none.is_empty()), (Some(&[][..]), true));
+    Ok(())
+}
+
+#[test]
+fn a_part_is_read_in_a_thread_while_another_is_written() -> Result<(), LayoutError> {
+    let mut numbers = NUMBERS;
+    let mut rows = rows_mut(&mut numbers);
+    let (read, mut written) = rows.multi_sliced_mut((s![.., ..;2], s![.., 1]))?;
+    let sum = thread::scope(|scope| {
+        let (items, others) = (read.iter(), read.iter());
+        let sum = scope.spawn(move || items.copied().sum::<u8>());
+        written.fill(9);
+        (sum.join().expect("a sum"), others.copied().collect::<Vec<u8>>())
+    });
+    assert_eq!(sum, (10, vec![0, 2, 3, 5]));
+    assert_eq!(numbers, [0, 9, 2, 3, 9, 5, 6]);
+    Ok(())
+}
+
+#[test]
 #[should_panic(expected = "index (0, 2) is out of bounds of the shape [2, 2]")]
 fn an_index_past_a_part_panics() {
     let mut numbers = NUMBERS;

@@ -14,7 +14,7 @@ use denote.Struct.Owning.{shape, fields, to}
 use Rattle.nd_lent.specs.Cells.{cell_if, cells_where, lent_if, lent_where}
 use Rattle.nd_lent.specs.contracts.cells.Cells as C-type
 
-quiet : {D X : Type 0} (f : D → X) (e : Exit X) → Quiet e → Quiet (hidden (under f e))
+pub quiet : {D X : Type 0} (f : D → X) (e : Exit X) → Quiet e → Quiet (hidden (under f e))
 quiet f unchanged q = λ x w. tt
 quiet f (leaves L l S s r₀) q = λ d. q (f d)
 
@@ -47,7 +47,7 @@ lent_keyless : (R : RattleType) → IsSync R → (p : Ptr) (mine : Bool) (x : R.
 lent_keyless R s p true x κ = (inside p ftrue tt, s.shared x (block_of p) (count_of p) κ)
 lent_keyless R s p false x κ = tt
 
-seen_keyless : (R : RattleType) → IsSync R → (p : Ptr) (marks : List Bool) (items : List R.Denot) (κ : Lft)
+pub seen_keyless : (R : RattleType) → IsSync R → (p : Ptr) (marks : List Bool) (items : List R.Denot) (κ : Lft)
     → Keyless (lent_where R p marks items κ)
 seen_keyless R s p [] items κ = tt
 seen_keyless R s p (m ∷ marks) [] κ = tt

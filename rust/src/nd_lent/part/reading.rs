@@ -1,26 +1,25 @@
 // Made by `rust/erase` of `crates/nd_lent/src/part/reading.rt`: edit that.
 //! The items of a part one after another, each lent to be read, without a list of them.
 
-use crate::nd_lent::cells::Cells;
+use crate::nd_lent::cells::Reader;
 use crate::nd_lent::part::PartMut;
 use crate::ndarray_layout::{Lengths, Order, Places};
 use core::iter::FusedIterator;
 
 /// The items of a part that are still to come, in row-major order of their indices, each lent to be read. ndarray's
 /// `Iter`.
-pub struct PartIter<'s, 'a, T> {
-    cells: &'s Cells<'a, T>,
+pub struct PartIter<'s, T> {
+    reader: Reader<'s, T>,
     places: Places<'s>,
 }
 
-impl<'s, 'a, T> Iterator for PartIter<'s, 'a, T> {
+impl<'s, T> Iterator for PartIter<'s, T> {
     type Item = &'s T;
 
     #[inline]
     fn next(&mut self) -> Option<&'s T> {
         let place = self.places.next()?;
-        let cells = self.cells;
-        Some(cells.get(place))
+        Some(self.reader.get(place))
     }
 
     #[inline]
@@ -29,16 +28,53 @@ impl<'s, 'a, T> Iterator for PartIter<'s, 'a, T> {
     }
 }
 
-impl<'s, 'a, T> ExactSizeIterator for PartIter<'s, 'a, T> {
+impl<'s, T> ExactSizeIterator for PartIter<'s, T> {
     #[inline]
     fn len(&self) -> usize {
         self.places.len()
     }
 }
 
-impl<'s, 'a, T> FusedIterator for PartIter<'s, 'a, T> {}
+impl<'s, T> FusedIterator for PartIter<'s, T> {}
 
 impl<'a, T: Sized, D: Lengths> PartMut<'a, T, D> {
+    /// The items as a slice, to be read, where their places follow one another in row-major order; else `None`.
+    ///
+    /// Takes no memory, and time in proportion to the count of axes.
+    ///
+    /// `[2]`, `[1]` from 1 over 7 8 9: 8 9; with the stride `[-1]` `None`. ndarray's `as_slice`.
+    ///
+    /// # Examples
+    ///
+    /// ```
+    /// use ndarray_layout::{Ix2, LayoutError, PartMut};
+    ///
+    /// # fn main() -> Result<(), LayoutError> {
+    /// let mut items = [7, 8, 9, 10];
+    /// let part = PartMut::from_shape(Ix2(2, 2).into(), &mut items)?;
+    /// assert_eq!(part.as_slice(), Some(&[7, 8, 9, 10][..]));
+    /// assert_eq!(part.reversed_axes().as_slice(), None);
+    /// # Ok(())
+    /// # }
+    /// ```
+    ///
+    /// <details><summary>Contract (proved)</summary>
+    ///
+    /// ```text
+    /// ensures found: IsSome result ↔ IsStretch RowMajor (array_of self.now).view
+    /// ensures items: IfSome result (λ items. map Some items.now ≡
+    ///     map (item_at_place (array_of self.now).items)
+    ///     (view_places RowMajor (array_of self.now).view))
+    /// ```
+    /// [How to read it](crate::contracts)
+    /// </details>
+    #[inline]
+    #[must_use]
+    pub fn as_slice(&self) -> Option<&[T]> {
+        let places = self.view.stretch(Order::RowMajor)?;
+        Some(self.cells.shared().slice(places.start, places.end - places.start))
+    }
+
     /// An iterator over the items of all indices, in row-major order (the last axis moves fastest), each lent to be read. It knows how
     /// many are left.
     ///
@@ -74,7 +110,7 @@ impl<'a, T: Sized, D: Lengths> PartMut<'a, T, D> {
     /// </details>
     #[inline]
     #[must_use]
-    pub fn iter(&self) -> PartIter<'_, 'a, T> {
-        PartIter { cells: &self.cells, places: self.view.iter_places(Order::RowMajor) }
+    pub fn iter(&self) -> PartIter<'_, T> {
+        PartIter { reader: self.cells.shared(), places: self.view.iter_places(Order::RowMajor) }
     }
 }

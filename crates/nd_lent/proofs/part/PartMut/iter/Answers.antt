@@ -5,6 +5,7 @@ use Rattle.std.specs.List.{All}
 use Rattle.std.proofs.iter.runs.Sources.{from_front}
 use Rattle.std.proofs.lemmas.List.{length-map}
 use Rattle.ndarray_layout.specs.declared.Order.TheVariants.{RowMajor}
+use Rattle.ndarray_layout.specs.View.{view_places}
 use Rattle.ndarray_layout.proofs.Laws.View.{length-view_places}
 use Rattle.nd_lent.specs.Items.{item_at_place}
 use Rattle.nd_lent.specs.Part.{has_mark}
@@ -14,12 +15,13 @@ use Rattle.nd_lent.proofs.part.PartMut.iter.Goals as goal
 pub invariant_of-result : goal.invariant_of-result
 invariant_of-result g c =
     let self = c.args.self.now in
-    subst (All (λ place. has_mark self.cells.marks place ≡ true)) (sym c.iter_places.ensures.items)
-    (own_of_part self.cells.marks self.view self.part).marked
+    subst (All (λ place. has_mark c.shared.result.marks place ≡ true)) (sym c.iter_places.ensures.items)
+    (subst (λ marks. All (λ place. has_mark marks place ≡ true) (view_places RowMajor self.view)) (sym c.shared.ensures.all.1)
+    (own_of_part self.cells.marks self.view self.part).marked)
 
 pub returns-clause-count : goal.returns-clause-count
 returns-clause-count g c =
-    length-map c.iter_places.result (item_at_place c.args.self.now.cells.items)
+    length-map c.iter_places.result (item_at_place c.shared.result.items)
     ∙ ap length c.iter_places.ensures.items
     ∙ length-view_places RowMajor c.args.self.now.view
 

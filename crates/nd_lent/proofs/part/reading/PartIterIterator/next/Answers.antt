@@ -7,5 +7,5 @@ use Rattle.nd_lent.proofs.part.reading.PartIterIterator.next.Goals as goal
 
 pub invariant_of-self-2 : goal.invariant_of-self-2
 invariant_of-self-2 g c =
-    let marked = λ (place : ℤ). has_mark c.self.inside.cells.now.marks place ≡ true in
+    let marked = λ (place : ℤ). has_mark c.self.inside.reader.marks place ≡ true in
     All-tail marked (pos c.in_ok-place.place) c.next.new.self (subst (All marked) c.in_ok-place.ensures.steps c.self.invariant)
