@@ -25,6 +25,7 @@ pub use aliases::{
 pub use dimension_types::{DimAdd, DimMax};
 pub use dimensions::{Dim, DimensionExt, Ix, Ix0, Ix1, Ix2, Ix3, Ix4, Ix5, Ix6, IxDyn, Ixs};
 pub use iterators::IndexCopies;
+pub(crate) use iterators::printed;
 pub(crate) use printing::print_nested;
 pub use slice_arguments::{SliceBuilder, SliceNextDim, stepped};
 

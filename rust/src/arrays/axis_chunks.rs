@@ -2,10 +2,10 @@
 
 use super::axis_iter::reach;
 use super::pieces::{Left, into_parts};
+use crate::convenience::printed;
 use crate::nd_base::{Axis, ErrorKind, LayoutError, Lengths, from_kind, signed};
 use crate::ndarray_layout::Strided;
 use crate::{ArrayView, ArrayViewMut};
-use core::fmt;
 use core::iter::FusedIterator;
 use core::ops::Range;
 
@@ -160,12 +160,7 @@ macro_rules! chunks {
         /// Not proved.
         impl<T, D: Lengths> FusedIterator for $name<'_, T, D> {}
 
-        /// Prints how many chunks are left. Not proved.
-        impl<T, D: Lengths> fmt::Debug for $name<'_, T, D> {
-            fn fmt(&self, f: &mut fmt::Formatter<'_>) -> fmt::Result {
-                f.debug_struct(stringify!($name)).field("left", &self.len()).finish_non_exhaustive()
-            }
-        }
+        printed! { [T, D: Lengths] $name<'_, T, D>; }
     };
 }
 

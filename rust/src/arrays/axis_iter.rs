@@ -2,12 +2,12 @@
 
 use super::pieces::{Left, into_parts};
 use crate::convenience::OUT_OF_MEMORY;
+use crate::convenience::printed;
 use crate::nd_base::{Axis, ErrorKind, LayoutError, Lengths, from_kind, signed};
 use crate::nd_dim::product;
 use crate::nd_shape::{max_abs_offset_check_overflow, offset_from_low_addr_ptr_to_logical_ptr};
 use crate::ndarray_layout::{RemoveAxis, Strided};
 use crate::{ArrayView, ArrayViewMut};
-use core::fmt;
 use core::iter::FusedIterator;
 use core::ops::Range;
 
@@ -182,12 +182,7 @@ macro_rules! along_axis {
         /// Not proved.
         impl<T, D: Lengths> FusedIterator for $name<'_, T, D> {}
 
-        /// Prints how many arrays are left. Not proved.
-        impl<T, D: Lengths> fmt::Debug for $name<'_, T, D> {
-            fn fmt(&self, f: &mut fmt::Formatter<'_>) -> fmt::Result {
-                f.debug_struct(stringify!($name)).field("left", &self.len()).finish_non_exhaustive()
-            }
-        }
+        printed! { [T, D: Lengths] $name<'_, T, D>; }
     };
 }
 

@@ -3,10 +3,10 @@
 use super::IterMut;
 use crate::ViewIter;
 use crate::convenience::OUT_OF_MEMORY;
+use crate::convenience::printed;
 use crate::nd_dim::Dimension;
 use crate::nd_lent::PartItems;
 use crate::ndarray_layout::Strided;
-use core::fmt;
 use core::iter::FusedIterator;
 
 /// The indices of a shape that are still to come, in row-major order. It doesn't know where it ends.
@@ -79,12 +79,7 @@ impl<D: Dimension, I: ExactSizeIterator> ExactSizeIterator for Indexed<D, I> {}
 /// Not proved.
 impl<D: Dimension, I: ExactSizeIterator + FusedIterator> FusedIterator for Indexed<D, I> {}
 
-/// Prints how many items are left. Not proved.
-impl<D: Dimension, I: ExactSizeIterator> fmt::Debug for Indexed<D, I> {
-    fn fmt(&self, f: &mut fmt::Formatter<'_>) -> fmt::Result {
-        f.debug_struct("Indexed").field("left", &self.items.len()).finish_non_exhaustive()
-    }
-}
+printed! { [D: Dimension, I: ExactSizeIterator] Indexed<D, I>; }
 
 /// The items of an array that are still to come, each with its index, in row-major order, lent for as long as the data is.
 /// ndarray's `IndexedIter`. Not proved.

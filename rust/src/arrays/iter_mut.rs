@@ -1,11 +1,10 @@
 //! The items of an array one after another, lent to be written.
 
-use crate::convenience::OUT_OF_MEMORY;
+use crate::convenience::{OUT_OF_MEMORY, printed};
 use crate::memory::FallibleVec;
 use crate::nd_base::{Ix1, Lengths};
 use crate::{ArrayViewMut, PartItems, PartMut};
 use alloc::vec::Vec;
-use core::fmt;
 use core::iter::FusedIterator;
 use core::slice;
 
@@ -161,9 +160,4 @@ impl<T, D: Lengths> ExactSizeIterator for IterMut<'_, T, D> {}
 /// Not proved.
 impl<T, D: Lengths> FusedIterator for IterMut<'_, T, D> {}
 
-/// Prints how many items are left. Not proved.
-impl<T, D: Lengths> fmt::Debug for IterMut<'_, T, D> {
-    fn fmt(&self, f: &mut fmt::Formatter<'_>) -> fmt::Result {
-        f.debug_struct("IterMut").field("left", &self.len()).finish_non_exhaustive()
-    }
-}
+printed! { [T, D: Lengths] IterMut<'_, T, D>; }

@@ -1,9 +1,9 @@
 //! The rows of an array one after another, lent to be written, and a row as an array.
 
 use super::pieces::Pieces;
+use crate::convenience::printed;
 use crate::nd_base::{Ix1, LayoutError, Lengths};
 use crate::{ArrayView, ArrayViewMut, LentRow};
-use core::fmt;
 use core::iter::FusedIterator;
 
 /// The rows of an array that are still to come, in row-major order, from both ends, each lent to be written. ndarray's
@@ -60,12 +60,7 @@ impl<T, D: Lengths> ExactSizeIterator for RowsMut<'_, T, D> {}
 /// Not proved.
 impl<T, D: Lengths> FusedIterator for RowsMut<'_, T, D> {}
 
-/// Prints how many rows are left. Not proved.
-impl<T, D: Lengths> fmt::Debug for RowsMut<'_, T, D> {
-    fn fmt(&self, f: &mut fmt::Formatter<'_>) -> fmt::Result {
-        f.debug_struct("RowsMut").field("left", &self.len()).finish_non_exhaustive()
-    }
-}
+printed! { [T, D: Lengths] RowsMut<'_, T, D>; }
 
 impl<'a, T> LentRow<'a, T> {
     /// The row as an array of one axis. Not proved.

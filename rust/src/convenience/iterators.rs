@@ -6,25 +6,20 @@ use crate::nd_dim::Dimension;
 use crate::nd_shape::{IndexCursor, IndexCursorF, IndicesIter, IndicesIterF};
 use crate::ndarray_layout::{IntoPlaces, Places, Rows};
 use crate::{IntoRows, Items, Iter, LentRows, PartItems, PartIter, PartRows, RowItems, ViewIter};
-use core::fmt;
 use core::iter::FusedIterator;
-
-/// Prints how many items an iterator has left.
-fn print_left(f: &mut fmt::Formatter<'_>, name: &str, left: usize) -> fmt::Result {
-    f.debug_struct(name).field("left", &left).finish_non_exhaustive()
-}
 
 /// What prints how many items are left: its generics, and its type.
 macro_rules! printed {
     ($([$($generics:tt)*] $name:ident$(<$($of:tt),*>)?;)*) => {$(
         /// Not proved.
-        impl<$($generics)*> fmt::Debug for $name$(<$($of),*>)? {
-            fn fmt(&self, f: &mut fmt::Formatter<'_>) -> fmt::Result {
-                print_left(f, stringify!($name), self.len())
+        impl<$($generics)*> core::fmt::Debug for $name$(<$($of),*>)? {
+            fn fmt(&self, f: &mut core::fmt::Formatter<'_>) -> core::fmt::Result {
+                f.debug_struct(stringify!($name)).field("left", &self.len()).finish_non_exhaustive()
             }
         }
     )*};
 }
+pub(crate) use printed;
 
 printed! {
     [] Places<'_>;
@@ -70,12 +65,7 @@ pub struct IndexCopies<C> {
 /// The traits of a cursor and of the iterator over it.
 macro_rules! copies {
     ($cursor:ident) => {
-        /// Not proved.
-        impl fmt::Debug for $cursor {
-            fn fmt(&self, f: &mut fmt::Formatter<'_>) -> fmt::Result {
-                print_left(f, stringify!($cursor), self.len())
-            }
-        }
+        printed! { [] $cursor; }
 
         /// Not proved.
         impl IntoIterator for $cursor {

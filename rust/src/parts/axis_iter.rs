@@ -1,10 +1,10 @@
 //! The parts at the coordinates of an axis, and the chunks along one, one after another from both ends, whatever the strides are.
 
 use crate::convenience::OUT_OF_MEMORY;
+use crate::convenience::printed;
 use crate::nd_base::{Axis, ErrorKind, LayoutError, Lengths, from_kind};
 use crate::nd_lent::PartMut;
 use crate::ndarray_layout::RemoveAxis;
-use core::fmt;
 use core::iter::FusedIterator;
 
 /// A part of which coordinates of an axis are cut off at both ends.
@@ -125,12 +125,7 @@ impl<T, D: RemoveAxis> ExactSizeIterator for PartAxisIterMut<'_, T, D> {}
 /// Not proved.
 impl<T, D: RemoveAxis> FusedIterator for PartAxisIterMut<'_, T, D> {}
 
-/// Prints how many parts are left. Not proved.
-impl<T, D: Lengths> fmt::Debug for PartAxisIterMut<'_, T, D> {
-    fn fmt(&self, f: &mut fmt::Formatter<'_>) -> fmt::Result {
-        f.debug_struct("PartAxisIterMut").field("left", &self.cuts.len()).finish_non_exhaustive()
-    }
-}
+printed! { [T, D: RemoveAxis] PartAxisIterMut<'_, T, D>; }
 
 /// The chunks of a part along an axis that are still to come, from both ends, each lent to be written, whatever the strides are:
 /// several may be used at once, and in threads. ndarray's `AxisChunksIterMut`. Not proved.
@@ -200,9 +195,4 @@ impl<T, D: Lengths> ExactSizeIterator for PartAxisChunksIterMut<'_, T, D> {}
 /// Not proved.
 impl<T, D: Lengths> FusedIterator for PartAxisChunksIterMut<'_, T, D> {}
 
-/// Prints how many chunks are left. Not proved.
-impl<T, D: Lengths> fmt::Debug for PartAxisChunksIterMut<'_, T, D> {
-    fn fmt(&self, f: &mut fmt::Formatter<'_>) -> fmt::Result {
-        f.debug_struct("PartAxisChunksIterMut").field("left", &self.len()).finish_non_exhaustive()
-    }
-}
+printed! { [T, D: Lengths] PartAxisChunksIterMut<'_, T, D>; }
