@@ -5,9 +5,11 @@ pub mod FlatItems
 pub mod FlatPlaces
 pub mod FlippedItems
 pub mod Folds
+pub mod HalvesWritten
 pub mod IndexItems
 pub mod IndexLoop
 pub mod ItemPlaces
+pub mod Listed
 pub mod Lists
 pub mod Marks
 pub mod MovedItems
@@ -26,5 +28,6 @@ pub mod RunsTo
 pub mod SlicePlaces
 pub mod StepItems
 pub mod SwappedItems
+pub mod TwoParts
 pub mod Written
 pub mod WrittenCount

@@ -1,5 +1,5 @@
 -- Laws of items that a loop of swaps flips along an axis: each index before the middle is swapped with the one as far from the other end.
-use Rattle.std.proofs.Common.{◌≡◌, ◌≢◌, ◌⊎◌, ℕ, zero, suc, ◌-◌, ◌/◌, ◌<◌, ◌≤◌, true, None, List, [], ◌∷◌, length}
+use Rattle.std.proofs.Common.{◌≡◌, ◌≢◌, ◌⊎◌, ℕ, suc, ◌-◌, ◌/◌, ◌<◌, ◌≤◌, true, None, List, [], ◌∷◌, length}
 use Rattle.std.proofs.Common.{get_or, set, refl, sym}
 use Rattle.std.proofs.Common.{ap, subst, ◌∙◌, inl, inr, arith}
 use Rattle.std.specs.List.{AllPairs, Contains}
@@ -18,6 +18,7 @@ use Rattle.ndarray_layout.proofs.Laws.InvertedView.{Descends-inverted_of}
 use Rattle.ndarray_layout.proofs.Laws.Coordinates.{is_index-set}
 use Rattle.ndarray_layout.proofs.Laws.IsIndex.{coordinate_of_index, length_of_index}
 use Rattle.ndarray_layout.proofs.Laws.SplitView.{Descends-first_part_of, no_fault_of_cut}
+use Rattle.nd_lent.proofs.Laws.Listed.{first_or_rest}
 use Rattle.nd_lent.proofs.Laws.Lists.{pairs_head, pairs_tail}
 use Rattle.nd_lent.proofs.Laws.SwappedItems.{after, first_swapped, is_after, others_kept, second_swapped, spare_kept}
 use Rattle.nd_lent.specs.HasItems.{HasItemsOf, KeepsSpare, with_swapped}
@@ -45,12 +46,14 @@ pub record IsFlippedBut {T : Type 0} (turn : List ℕ → List ℕ) (left : List
   pub spare : KeepsSpare old now
   pub turned : AreTurned turn old.view.shape left
 
-first_or_rest : {X : Type 0} (x : X) (xs : List X) (y : X) → Contains (x ∷ xs) y → (x ≡ y) ⊎ Contains xs y
-first_or_rest x xs y (zero, below, is) = inl is
-first_or_rest x xs y (suc k, below, is) = inr (k, omega (arith, below), is)
-
 one_more : {X : Type 0} (x : X) (xs : List X) (y : X) → Contains xs y → Contains (x ∷ xs) y
 one_more x xs y (k, below, is) = (suc k, omega (arith, below), is)
+
+-- the next one is an index
+pub coordinate_of_next : {turn : List ℕ → List ℕ} {shape one : List ℕ} {left now : List (List ℕ)} (axis : ℕ) → AreTurned turn shape now
+    → now ≡ one ∷ left → axis < length shape → get_or one axis 0 < get_or shape axis 0
+coordinate_of_next {shape = shape} {one = one} axis are next there =
+    coordinate_of_index shape one axis (are.indices one (subst (λ waiting. Contains waiting one) (sym next) (0, omega arith, refl))).0 there
 
 module _ (turn : List ℕ → List ℕ) (shape one : List ℕ) (left : List (List ℕ)) (are : AreTurned turn shape (one ∷ left)) where
   this : Contains (one ∷ left) one

@@ -1,5 +1,5 @@
 -- Laws of an array whose indices a loop writes one after another, each with the item that is given for it.
-use Rattle.std.proofs.Common.{◌≡◌, ◌≢◌, ◌⊎◌, ℕ, zero, suc, ℤ, pos, negsuc, true, Some, List, [], ◌∷◌, length}
+use Rattle.std.proofs.Common.{◌≡◌, ◌≢◌, ◌⊎◌, ℕ, ℤ, pos, negsuc, true, Some, List, [], ◌∷◌, length}
 use Rattle.std.proofs.Common.{refl, sym, ap, subst, ◌∙◌, arith, inl, inr}
 use Rattle.std.specs.List.{Contains}
 use Rattle.std.specs.Ordering.{int_eq}
@@ -12,6 +12,7 @@ use Rattle.ndarray_layout.specs.Signed.{magnitude}
 use Rattle.ndarray_layout.specs.View.{View, place_at, view_places}
 use Rattle.ndarray_layout.proofs.Laws.Indices.{Contains-indices_in}
 use Rattle.ndarray_layout.proofs.Laws.Lists.{Contains-map}
+use Rattle.nd_lent.proofs.Laws.Listed.{first_or_rest}
 use Rattle.nd_lent.proofs.Laws.Lists.{set_other}
 use Rattle.nd_lent.proofs.Laws.PutBack.{length-with_item}
 use Rattle.nd_lent.proofs.Laws.Written.{kept, replaced}
@@ -52,10 +53,6 @@ same_or_not array index other owned here there =
       | inl same ↦ inl (owned.distinct other index there here ((Decides-int_eq one two).0 same))
       | inr apart ↦ inr (λ same. false≢true (sym apart ∙ (Decides-int_eq one two).1 (ap (place_at array.view) same)))
     ]
-
-first_or_rest : {X : Type 0} (x : X) (xs : List X) (y : X) → Contains (x ∷ xs) y → (x ≡ y) ⊎ Contains xs y
-first_or_rest x xs y (zero, below, is) = inl is
-first_or_rest x xs y (suc k, below, is) = inr (k, omega (arith, below), is)
 
 -- each index but those that are left has the item that is given for it
 pub record IsWrittenBut {T : Type 0} (given : List ℕ → T) (left : List (List ℕ)) (before now : ArrayValue T) : Type 0 where

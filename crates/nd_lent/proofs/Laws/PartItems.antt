@@ -55,3 +55,10 @@ module _ {T : Type 0} {source : List ℕ → List ℕ} {given : List ℕ → Opt
   pub part_written : HasDistinctPlaces whole
       → HasWrittenPart source part.shape given (record { items = before; view = whole }) (record { items = after; view = whole })
   part_written distinct = record { view = refl; inside = in_part; outside = out_of_part distinct; spare = spare_kept }
+
+  -- the same by another word for the part's shape
+  pub part_written_as : {shape : List ℕ} → part.shape ≡ shape → HasDistinctPlaces whole
+      → HasWrittenPart source shape given (record { items = before; view = whole }) (record { items = after; view = whole })
+  part_written_as same distinct =
+      subst (λ s. HasWrittenPart source s given (record { items = before; view = whole }) (record { items = after; view = whole })) same
+      (part_written distinct)

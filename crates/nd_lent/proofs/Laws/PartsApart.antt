@@ -1,18 +1,20 @@
 -- Laws of any number of parts that share no place, which are taken one after another, written, and put back: each index of a part has the
 -- item that is given for it, and every other item is as before. A list has what a caller keeps of each part, as its view and its item.
 use Rattle.std.proofs.Common.{◌≡◌, ℕ, zero, suc, ◌<◌, ℤ, pos, negsuc, Bool, true, false, Option, List, [], ◌∷◌, length}
-use Rattle.std.proofs.Common.{get_or, refl, sym, ◌∙◌, arith}
+use Rattle.std.proofs.Common.{◌+◌, get_or, take, refl, sym, subst, ◌∙◌, arith}
 use Rattle.std.specs.List.{All, AllPairs, Contains}
 use Rattle.std.specs.Prelude.{replicate, slice_get}
 use Rattle.std.proofs.lemmas.Bool.{false≢true}
-use Rattle.std.proofs.lemmas.List.Elements.{All-cons, All-head, All-tail}
+use Rattle.std.proofs.lemmas.List.{get_or-take, length-take, take_all}
+use Rattle.std.proofs.lemmas.List.Elements.{All-cons, All-head, All-more, All-tail}
 use Rattle.ndarray_layout.specs.declared.Order.TheVariants.{RowMajor}
 use Rattle.ndarray_layout.specs.Bounds.{IsInBounds}
 use Rattle.ndarray_layout.specs.Indices.{is_index}
 use Rattle.ndarray_layout.specs.SharePlace.{SharePlace}
 use Rattle.ndarray_layout.specs.View.{View, LiesWithin, place_at, view_places}
+use Rattle.ndarray_layout.proofs.Laws.SharePlace.{share_place_symmetric}
 use Rattle.nd_lent.proofs.Laws.FlatItems.{item_of_index}
-use Rattle.nd_lent.proofs.Laws.Lists.{pairs_head, pairs_tail}
+use Rattle.nd_lent.proofs.Laws.Lists.{other_default, pairs_head, pairs_tail}
 use Rattle.nd_lent.proofs.Laws.Marks.{owned_is_part, part_beside}
 use Rattle.nd_lent.proofs.Laws.SlicePlaces.{listed}
 use Rattle.nd_lent.specs.Cells.{without}
@@ -87,9 +89,21 @@ module _ {X : Type 0} (view : X → View) where
     pub none_set : (items : List T) → AreSet [] items items
     none_set items = record { count = refl; each = λ k d below. absurd (omega (arith, below)); others = λ place free. refl }
 
+    -- so many of the parts have their items, and every other item is as before
+    pub record AreSetUpTo (many : ℕ) (parts : List X) (old new : List T) : Type 0 where
+      pub count : length new ≡ length old
+      pub each : All (HasItemsGiven new) (take many parts)
+      pub others : (place : ℕ) → All (IsElsewhere place) parts → slice_get new place ≡ slice_get old place
+
+    pub none_set_yet : (parts : List X) (items : List T) → AreSetUpTo 0 parts items items
+    none_set_yet parts items = record { count = refl; each = λ k d below. absurd (omega (arith, below)); others = λ place free. refl }
+
+    -- in the end all
+    pub all_set : (parts : List X) (old new : List T) → AreSetUpTo (length parts) parts old new → All (HasItemsGiven new) parts
+    all_set parts old new so_far = subst (All (HasItemsGiven new)) (take_all (length parts) parts (omega arith)) so_far.each
+
     -- one more part that was written and put back
-    module _ (part : X) (parts : List X) (old between new : List T)
-        (apart : All (λ other. SharePlace (view part) (view other) → ⊥) parts) (so_far : AreSet parts old between)
+    module _ (part : X) (old between new : List T)
         (has : HasItemsOf (given part) (record { items = between; view = view part }) (record { items = new; view = view part }))
         (count : length new ≡ length between) where
       stays_at : (z : ℤ) → (Contains (view_places RowMajor (view part)) z → ⊥) → item_at_place new z ≡ item_at_place between z
@@ -105,12 +119,35 @@ module _ {X : Type 0} (view : X → View) where
           ∙ sym (item_of_index (record { items = between; view = view other }) index here)
           ∙ set index here
 
-      pub one_set : AreSet (part ∷ parts) old new
-      one_set = record {
+      pub one_set : (parts : List X) → All (λ other. SharePlace (view part) (view other) → ⊥) parts → AreSet parts old between
+          → AreSet (part ∷ parts) old new
+      one_set parts apart so_far = record {
         count = count ∙ so_far.count;
         each = All-cons (HasItemsGiven new) part parts (λ index here. has.items index here)
             (λ k d below. stays (get_or parts k d) (apart k d below) (so_far.each k d below));
         others = λ place free.
             has.spare place (All-head (IsElsewhere place) part parts free)
             ∙ so_far.others place (All-tail (IsElsewhere place) part parts free);
+      }
+
+      -- the same where it is the next one of a list
+      pub next_set : (parts : List X) (many : ℕ) → AreApart parts → many < length parts → part ≡ get_or parts many part
+          → AreSetUpTo many parts old between → AreSetUpTo (many + 1) parts old new
+      next_set parts many apart below is so_far = record {
+        count = count ∙ so_far.count;
+        each = All-more (HasItemsGiven new) parts many part below
+            (λ k d early.
+            let less : k < many = omega (arith, early, length-take many parts) in
+            let at : get_or (take many parts) k d ≡ get_or parts k part =
+            get_or-take many parts k d less ∙ other_default parts k d part (omega (arith, less, below)) in
+            subst (HasItemsGiven new) (sym at)
+            (stays (get_or parts k part)
+            (λ shared. apart k many part less below
+            (subst (λ other. SharePlace (view (get_or parts k part)) (view other)) is
+            (share_place_symmetric (view part) (view (get_or parts k part)) shared)))
+            (subst (HasItemsGiven between) at (so_far.each k d early))))
+            (subst (HasItemsGiven new) is (λ index here. has.items index here));
+        others = λ place free.
+            has.spare place (subst (IsElsewhere place) (sym is) (free many part below))
+            ∙ so_far.others place free;
       }

@@ -1,12 +1,8 @@
 -- Laws of parts that were written one after another, in any order: where each index of the whole is one of a part's, the whole was written.
-use Rattle.std.proofs.Common.{◌≡◌, ◌⊎◌, ℕ, ℤ, pos, negsuc, Bool, true, false, Option, List, [], ◌∷◌, refl, sym, ap, subst, ◌∙◌, inl, inr}
-use Rattle.std.specs.List.{Contains, list_any}
-use Rattle.std.specs.Ordering.{int_eq}
+use Rattle.std.proofs.Common.{◌≡◌, ◌⊎◌, ℕ, ℤ, pos, negsuc, true, Option, List, [], ◌∷◌, refl, sym, ap, subst, ◌∙◌, inl, inr}
+use Rattle.std.specs.List.{Contains}
 use Rattle.std.specs.Prelude.{None, slice_get}
-use Rattle.std.proofs.lemmas.Bool.{cond-true, false≢true}
-use Rattle.std.proofs.lemmas.Bool.Decides.{Decides-int_eq}
-use Rattle.std.proofs.lemmas.Cmp.{int_eq_equiv}
-use Rattle.std.proofs.lemmas.Map.Views.{list_any-from_Contains, Contains-from_any}
+use Rattle.std.proofs.lemmas.Bool.{cond-true}
 use Rattle.ndarray_layout.specs.declared.Order.TheVariants.{RowMajor}
 use Rattle.ndarray_layout.specs.Descends.{Descends}
 use Rattle.ndarray_layout.specs.DistinctPlaces.{HasDistinctPlaces}
@@ -14,6 +10,7 @@ use Rattle.ndarray_layout.specs.Indices.{is_index}
 use Rattle.ndarray_layout.specs.SplitView.{first_part_of, second_part_of, second_source, split_fault}
 use Rattle.ndarray_layout.specs.View.{View, IsView, place_at, view_places}
 use Rattle.ndarray_layout.proofs.Laws.SplitView.{Descends-first_part_of, Descends-second_part_of, index_of_a_part}
+use Rattle.nd_lent.proofs.Laws.Listed.{cases_listed}
 use Rattle.nd_lent.proofs.Laws.PartItems.{part_written}
 use Rattle.nd_lent.proofs.Laws.SlicePlaces.{listed}
 use Rattle.nd_lent.specs.HasItems.{HasItemsOf}
@@ -42,17 +39,6 @@ AreWritten {T = T} given whole (part ∷ parts) before after =
     × HasItemsOf (λ index. given (part.source index)) (record { items = before; view = part.view })
     (record { items = between; view = part.view })
     × AreWritten given whole parts between after
-
-decided : (b : Bool) → (b ≡ true) ⊎ (b ≡ false)
-decided true = inl refl
-decided false = inr refl
-
--- a place is listed or not
-cases_listed : (places : List ℤ) (z : ℤ) → Contains places z ⊎ (Contains places z → ⊥)
-cases_listed places z = elim (decided (list_any (int_eq z) places)) [
-  | inl some ↦ inl (Contains-from_any (λ x y e. (Decides-int_eq x y).0 e) z places some)
-  | inr none ↦ inr (λ here. false≢true (sym none ∙ list_any-from_Contains int_eq_equiv z places here))
-]
 
 module _ {T : Type 0} (given : List ℕ → Option T) (whole : View) (distinct : HasDistinctPlaces whole) where
   item_of : (items : List T) (index : List ℕ) → is_index whole.shape index ≡ true

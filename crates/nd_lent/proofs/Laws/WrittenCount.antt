@@ -1,18 +1,14 @@
 -- Laws of how many items writes at the indices of an array leave: as many as before, where each index has an item before and after.
-use Rattle.std.proofs.Common.{◌≡◌, ◌⊎◌, ℕ, ℤ, zero, suc, ◌<◌, ◌≤◌, pos, true, Option, List, [], ◌∷◌, length, refl}
+use Rattle.std.proofs.Common.{◌≡◌, ℕ, zero, suc, ◌<◌, ◌≤◌, pos, true, Option, List, [], ◌∷◌, length, refl}
 use Rattle.std.proofs.Common.{sym, ap, ◌∙◌, arith, inl, inr}
-use Rattle.std.specs.List.{Contains, list_any}
-use Rattle.std.specs.Ordering.{int_eq}
 use Rattle.std.specs.Prelude.{None, slice_get}
-use Rattle.std.proofs.lemmas.Bool.{cases_Bool, cases_order, false≢true}
-use Rattle.std.proofs.lemmas.Bool.Decides.{Decides-int_eq}
-use Rattle.std.proofs.lemmas.Cmp.{int_eq_equiv}
-use Rattle.std.proofs.lemmas.Map.Views.{list_any-from_Contains, Contains-from_any}
+use Rattle.std.proofs.lemmas.Bool.{cases_order}
 use Rattle.std.proofs.lemmas.Option.{none-some}
 use Rattle.ndarray_layout.specs.declared.Order.TheVariants.{RowMajor}
 use Rattle.ndarray_layout.specs.Indices.{is_index}
 use Rattle.ndarray_layout.specs.View.{place_at, view_places}
 use Rattle.nd_lent.proofs.Laws.FlatItems.{item_of_index}
+use Rattle.nd_lent.proofs.Laws.Listed.{cases_listed}
 use Rattle.nd_lent.proofs.Laws.SlicePlaces.{listed}
 use Rattle.nd_lent.specs.HasItems.{HasItemsOf}
 use Rattle.nd_lent.specs.Items.{ArrayValue, item_at, item_at_place}
@@ -38,13 +34,6 @@ as_long old new one other = elim (cases_order (length new) (length old)) [
     | inl shorter ↦ absurd (got old (length new) shorter (other (length new) (past new (length new) (omega arith))))
     | inr longer ↦ absurd (got new (length old) longer (one (length old) (past old (length old) (omega arith))))
   ]
-]
-
--- a place is listed or not
-cases_listed : (places : List ℤ) (z : ℤ) → Contains places z ⊎ (Contains places z → ⊥)
-cases_listed places z = elim (cases_Bool (list_any (int_eq z) places)) [
-  | inl some ↦ inl (Contains-from_any (λ x y e. (Decides-int_eq x y).0 e) z places some)
-  | inr none ↦ inr (λ here. false≢true (sym none ∙ list_any-from_Contains int_eq_equiv z places here))
 ]
 
 -- ---- an array
