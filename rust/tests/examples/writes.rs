@@ -1,8 +1,11 @@
 //! Writes to pictures.
 
-use crate::example_callers::{brighten, paint, paint_owned, with_two_parts, write_parts};
+use crate::example_callers::{brighten, flip, paint, paint_owned, with_two_parts, write_parts};
 use crate::{Hundreds, Layout, Listed, Places, SIX_AXES, pixels, strides};
-use ndarray_layout::{ArrayViewMut, IxDyn, OwnedArray, ShapeBuilder, SliceInfoElem, s};
+use ndarray_layout::CanIndexCheckMode::OwnedMutable;
+use ndarray_layout::{
+    ArrayView, ArrayViewMut, Axis, Ix2, IxDyn, OwnedArray, ShapeBuilder, SliceInfoElem, Strided, s, unsigned,
+};
 
 /// Part of an array, and the pixels for it.
 type Part = (Vec<SliceInfoElem>, Vec<u8>);
@@ -65,4 +68,34 @@ fn pixels_of_a_picture_are_brightened_and_spare_ones_are_not() {
     let mut picture = ArrayViewMut::from_shape((2, 3).strides((4, 1)).unwrap(), &mut pixels).unwrap();
     brighten(&mut picture);
     assert_eq!(pixels, [1, 2, 3, 3, 5, 6, 7, 7]);
+}
+
+/// Rows and columns, the strides of both, how many pixels they lie in, and the pixels once the picture is upside down.
+type Flipped = ([usize; 2], [isize; 2], usize, Places);
+
+const FLIPPED: &[Flipped] = &[
+    ([3, 2], [2, 1], 7, Listed(&[4, 5, 2, 3, 0, 1, 6])),
+    ([2, 3], [4, 1], 8, Listed(&[4, 5, 6, 3, 0, 1, 2, 7])),
+    ([4, 1], [-1, 1], 4, Listed(&[3, 2, 1, 0])),
+    ([2, 3], [1, 2], 6, Listed(&[1, 0, 3, 2, 5, 4])),
+    ([1, 3], [3, 1], 3, Listed(&[0, 1, 2])),
+    ([0, 3], [3, 1], 2, Listed(&[0, 1])),
+    ([3, 0], [1, 1], 3, Listed(&[0, 1, 2])),
+    ([100, 100], [100, 1], 10_000, Hundreds(9900, -100, 1)),
+];
+
+#[test]
+fn a_picture_is_turned_upside_down_and_spare_pixels_stay() {
+    for &([rows, columns], [by_row, by_column], len, due) in FLIPPED {
+        let strides = Ix2(unsigned(by_row), unsigned(by_column));
+        let view = || Strided::new(Ix2(rows, columns), strides, 1, len, OwnedMutable).unwrap();
+        let before = pixels(len);
+        let mut flipped = before.clone();
+        assert_eq!(flip(view(), &mut flipped), Ok(()));
+        assert_eq!(flipped, due.pixels(), "{rows} {columns}");
+        let mut mirrored = ArrayView::over(view(), &before).unwrap();
+        mirrored.invert_axis(Axis(0)).unwrap();
+        let now = ArrayView::over(view(), &flipped).unwrap();
+        assert!(now.iter().eq(mirrored.iter()), "{rows} {columns}");
+    }
 }
