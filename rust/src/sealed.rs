@@ -2,7 +2,7 @@
 
 use crate::nd_base::{Dim, FixedCount};
 use crate::nd_dim::{Forward, Reverse};
-use crate::nd_slice::{SliceElems, SliceInfo};
+use crate::nd_slice::{Grouped, SliceElems, SliceInfo};
 use alloc::vec::Vec;
 
 /// No caller can name it. He could implement a trait for types of his own crate alone and for references to them, so each impl
@@ -31,6 +31,8 @@ pub trait Sealed {}
 impl<I> Sealed for Dim<I> {}
 
 impl<T: SliceElems, Din: FixedCount, Dout: FixedCount> Sealed for SliceInfo<T, Din, Dout> {}
+
+impl Sealed for Grouped<'_> {}
 
 impl<D> Sealed for Forward<D> {}
 

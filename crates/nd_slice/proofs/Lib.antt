@@ -2,8 +2,13 @@ pub mod Definitions
 pub mod Ends
 pub mod Every
 pub mod EveryItems
+pub mod FirstInGroups
+pub mod GroupsCut
+pub mod Permuted
 pub mod Slices
+pub mod SlicesInGroups
 pub mod SlicesInRows
+pub mod SlicesMoved
 pub mod Slicing
 pub mod Times
 pub mod intersect_lemmas

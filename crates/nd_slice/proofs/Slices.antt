@@ -114,7 +114,7 @@ module _ (fit : Fit) (shape : List ℕ) (slices : List (List SliceInfoElem)) whe
           (intersect_symmetric fit shape (get_or slices i []) (get_or slices j []) shared)))
 
   -- two that share an index do at their positions, the less first
-  shared_at : (one other : ℕ) → one < other → other < length slices
+  pub shared_at : (one other : ℕ) → one < other → other < length slices
       → Intersect fit shape (get_or slices one []) (get_or slices other []) → IntersectAt fit shape slices one other
   shared_at one other order below shared = (
     order,

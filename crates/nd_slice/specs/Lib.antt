@@ -17,6 +17,7 @@ pub mod SliceFault
 pub mod SliceText
 pub mod SlicedAxis
 pub mod SlicedLayout
+pub mod SlicesInGroups
 pub mod SlicesInOrder
 pub use Rattle.nd_base.specs.Lengths
 pub use Rattle.nd_base.specs.Memory

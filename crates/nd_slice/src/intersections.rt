@@ -17,7 +17,11 @@ use crate::slices_in_rows::lie_in_rows;
 use nd_base::{Lengths, ShapeError};
 
 /// Checks that each slice fits a shape. Errors: those of `check_elems` for the first slice with one.
-fn check_slices<S: SliceElems>(shape: &[usize], slices: &[S], fit: Fit) -> Result<(), ShapeError>
+pub(crate) fn check_slices<S: SliceElems>(
+    shape: &[usize],
+    slices: &[S],
+    fit: Fit,
+) -> Result<(), ShapeError>
     ensures { result_err result ≡ slices_fault fit shape.now (map S.list slices.now) }
 {
     for slice in slices {
@@ -125,6 +129,7 @@ pub fn first_elems_intersection<S: SliceElems>(
 /// overlaps few others there: an argument is compared only with those that begin before it ends. So
 /// it is for the rows of an array or its tiles, from the first to the last or from the last to the
 /// first. Arguments in no order, or with new axes, are compared pair by pair: `k * (k - 1) / 2`.
+/// `first_intersection_sorted` takes memory, and less time for those in no order.
 ///
 /// `..2,..`, `3..,..` and `1,5` on `[4,9]`: `Some((0, 2))`, by (1,5). In place of the panic of
 /// ndarray's `multi_slice_mut`.

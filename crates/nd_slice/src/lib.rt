@@ -12,11 +12,13 @@ mod fit;
 mod info;
 mod intersect;
 mod intersections;
+mod intersections_sorted;
 mod picks;
 mod ranges_apart;
 mod slice;
 mod slice_errors;
 mod sliced_axis;
+mod slices_in_groups;
 mod slices_in_order;
 mod slices_in_rows;
 
@@ -33,7 +35,9 @@ pub use intersect::{
     solve_linear_diophantine_eq,
 };
 pub use intersections::{first_elems_intersection, first_intersection};
+pub use intersections_sorted::{first_elems_intersection_sorted, first_intersection_sorted};
 pub use picks::{AxisPicks, resolve_elem, resolve_slice, slice_min_max};
 pub use slice::Slice;
 pub use slice_errors::{check_elems, check_slice, in_ndim_of, out_ndim_of};
 pub use sliced_axis::do_slice;
+pub(crate) use slices_in_groups::Grouped;

@@ -31,6 +31,7 @@ pub mod RowColumns
 pub mod RowSteps
 pub mod RowViews
 pub mod Slices
+pub mod SlicesFound
 pub mod SliceSteps
 pub mod SlowestAxes
 pub mod TakenSteps

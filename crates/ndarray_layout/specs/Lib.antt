@@ -72,6 +72,7 @@ pub use Rattle.nd_shape.specs.NoAlias
 pub use Rattle.nd_shape.specs.NoAliasPass
 pub use Rattle.nd_slice.specs.SliceFault
 pub use Rattle.nd_slice.specs.RangesApart
+pub use Rattle.nd_slice.specs.SlicesInGroups
 pub use Rattle.nd_slice.specs.SlicesInOrder
 pub use Rattle.nd_slice.specs.Intersections
 pub use Rattle.nd_slice.specs.AxisElems

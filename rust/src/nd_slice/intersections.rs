@@ -21,7 +21,7 @@ use crate::nd_slice::slices_in_rows::lie_in_rows;
 /// [How to read it](crate::contracts)
 /// </details>
 #[inline]
-fn check_slices<S: SliceElems>(shape: &[usize], slices: &[S], fit: Fit) -> Result<(), ShapeError> {
+pub(crate) fn check_slices<S: SliceElems>(shape: &[usize], slices: &[S], fit: Fit) -> Result<(), ShapeError> {
     for slice in slices {
         check_elems(shape, slice.elems(), fit)?;
     }
@@ -139,6 +139,7 @@ pub fn first_elems_intersection<S: SliceElems>(shape: &[usize], slices: &[S], fi
 /// overlaps few others there: an argument is compared only with those that begin before it ends. So
 /// it is for the rows of an array or its tiles, from the first to the last or from the last to the
 /// first. Arguments in no order, or with new axes, are compared pair by pair: `k * (k - 1) / 2`.
+/// `first_intersection_sorted` takes memory, and less time for those in no order.
 ///
 /// `..2,..`, `3..,..` and `1,5` on `[4,9]`: `Some((0, 2))`, by (1,5). In place of the panic of
 /// ndarray's `multi_slice_mut`.

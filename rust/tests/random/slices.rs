@@ -8,7 +8,7 @@ use crate::types::{axes_of, dimension, lists_of, of_types, strided};
 use ndarray_layout::CanIndexCheckMode::ReadOnly;
 use ndarray_layout::{
     Fit, IxDyn, LayoutError, Lengths, SliceInfoElem, StrideShape, Strided, Strides, check_slice, first_intersection,
-    slices_intersect,
+    first_intersection_sorted, slices_intersect,
 };
 use std::cell::Cell;
 
@@ -127,16 +127,20 @@ fn intersections_are_the_models() {
     assert!((10_000..CALLS - 10_000).contains(&yes.get()), "{} yes", yes.get());
 }
 
-/// Whether two of many slices of a shape share an index, by the view and by the function. The two that they return do.
+/// Whether two of many slices of a shape share an index, by the view and by the functions. The two that they return do.
 fn any_intersect<D: Lengths>(shape: &[usize], slices: &[Vec<SliceInfoElem>], fit: Fit) -> Result<bool, LayoutError> {
     let view = of_shape::<D>(shape)?;
     let found = view.first_intersection(slices, fit);
     assert_eq!(first_intersection(view.dim(), slices, fit), found);
-    if let Ok(Some((one, other))) = found {
+    let sorted = view.first_intersection_sorted(slices, fit);
+    assert_eq!(first_intersection_sorted(view.dim(), slices, fit), sorted);
+    for (one, other) in [&found, &sorted].into_iter().filter_map(|found| found.as_ref().ok()?.as_ref()) {
         assert!(one < other);
-        assert_eq!(view.meets(&slices[one], &slices[other], fit), Ok(true));
+        assert_eq!(view.meets(&slices[*one], &slices[*other], fit), Ok(true));
     }
-    Ok(found?.is_some())
+    let (found, sorted) = (found.map(|pair| pair.is_some()), sorted.map(|pair| pair.is_some()));
+    assert_eq!(sorted, found);
+    Ok(found?)
 }
 
 /// Where the range of an element for an axis begins, as far as its order goes.
@@ -159,7 +163,7 @@ fn small_slices(numbers: &mut Numbers, shape: &[usize]) -> Vec<Vec<SliceInfoElem
         }
         SliceInfoElem::Slice { start: start as isize, end: Some(end as isize), step: numbers.pick(&step) }
     };
-    let count = numbers.below(9);
+    let count = if numbers.once_in(8) { 5 + numbers.below(30) } else { numbers.below(9) };
     let mut slices: Vec<Vec<_>> = (0..count).map(|_| shape.iter().map(|len| elem(numbers, *len)).collect()).collect();
     if !shape.is_empty() && !numbers.once_in(4) {
         let axis = numbers.below(shape.len());

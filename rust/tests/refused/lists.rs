@@ -3,9 +3,12 @@
 
 use crate::call::Call;
 use crate::dimensions::built;
+use crate::written::Written;
+use Fit::Strict;
 use ndarray_layout::{
-    Dimension, IndexCursor, IndexCursorF, IntoDimension, IxDyn, IxDynImpl, ShapeArg, all_indices, co_broadcast,
-    indices_iter_f, new_dim, new_ixdyn,
+    CanIndexCheckMode, Dimension, Fit, IndexCursor, IndexCursorF, IntoDimension, Ix1, IxDyn, IxDynImpl, Lengths,
+    ShapeArg, ShapeError, SliceInfoElem, Strided, all_indices, co_broadcast, first_elems_intersection_sorted,
+    first_intersection_sorted, indices_iter_f, new_dim, new_ixdyn,
 };
 
 /// What a call answers, by the group of its name.
@@ -16,6 +19,7 @@ pub fn answer(call: &Call) -> Option<String> {
         Some(("IxDynImpl", name)) => of_coordinates(call, name, &lens),
         Some(("Vec", name)) => of_vector(call, name, lens),
         Some(("walk", name)) => iterated(call, name),
+        Some(("Strided", _)) => of_coordinates_as_slices(call, &lens),
         _ => of_slice(call, &lens),
     }
 }
@@ -30,6 +34,24 @@ fn of_slice(call: &Call, lens: &[usize]) -> Option<String> {
         "zeros" => call.told(|| IxDyn::zeros(lens.len())),
         "copy_from" => call.told(|| IxDynImpl::copy_from(lens)),
         "co_broadcast" => call.told(|| co_broadcast::<_, _, IxDyn>(&first, &second)),
+        _ => return of_coordinates_as_slices(call, lens),
+    })
+}
+
+/// Two of many coordinates that are equal, as slices of an axis, whose length is the second list.
+fn of_coordinates_as_slices(call: &Call, coordinates: &[usize]) -> Option<String> {
+    let slices: Vec<_> = coordinates.iter().map(|coordinate| [SliceInfoElem::from(*coordinate as isize)]).collect();
+    let dim = Ix1(*call.list(1).first()?);
+    let view = Strided::from_shape(dim.into(), 0, dim.size(), CanIndexCheckMode::ReadOnly).ok()?;
+    let pair = |found: Result<Option<(usize, usize)>, ShapeError>| {
+        found.unwrap().map_or(vec![], |(one, other)| vec![one, other]).written()
+    };
+    Some(match call.name {
+        "first_intersection_sorted" => pair(call.makes(|| first_intersection_sorted(&dim, &slices, Strict))),
+        "Strided::first_intersection_sorted" => pair(call.makes(|| view.first_intersection_sorted(&slices, Strict))),
+        "first_elems_intersection_sorted" => call.told(|| {
+            first_elems_intersection_sorted(dim.slice(), &slices, Strict).map(|found| found.is_some() as usize)
+        }),
         _ => return None,
     })
 }

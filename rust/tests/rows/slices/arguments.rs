@@ -3,8 +3,9 @@
 use crate::shapes::values::{assert_distinct, hash_of};
 use ndarray_layout::SliceInfoElem::{Index, NewAxis};
 use ndarray_layout::{
-    ErrorKind, Fit, Ix1, Ix2, Slice, SliceInfoElem, check_elems, check_slice, do_collapse_axis, first_intersection,
-    from_kind, in_ndim_of, out_ndim_of, slices_intersect, unsigned,
+    ErrorKind, Fit, Ix1, Ix2, Lengths, Slice, SliceInfoElem, check_elems, check_slice, do_collapse_axis,
+    first_elems_intersection_sorted, first_intersection, first_intersection_sorted, from_kind, in_ndim_of, new_ixdyn,
+    out_ndim_of, slices_intersect, unsigned,
 };
 
 /// Slices that differ in one part.
@@ -46,6 +47,53 @@ fn ten_thousand_arguments() {
     assert_eq!(first_intersection(&Ix1(10_000), &slices, Fit::Strict), Ok(Some((0, 10_000))));
     slices.reverse();
     assert_eq!(first_intersection(&Ix1(10_000), &slices[1..], Fit::Strict), Ok(None));
+}
+
+/// Tiles of the length 2 along each of `axes` axes, `2^bits` along each, in Morton order: the bits of a tile's number are those
+/// of its coordinates, in turn.
+fn tiles_in_morton_order(axes: usize, bits: usize) -> Vec<Vec<SliceInfoElem>> {
+    let bit_of = |number: usize, axis: usize, bit: usize| ((number >> (bit * axes + axis)) & 1) << bit;
+    let coordinate = |number, axis| (0..bits).map(|bit| bit_of(number, axis, bit)).sum::<usize>();
+    let elem = |at: isize| SliceInfoElem::from(2 * at..2 * at + 2);
+    let tile = |number| (0..axes).map(|axis| elem(coordinate(number, axis) as isize)).collect();
+    (0..1 << (axes * bits)).map(tile).collect()
+}
+
+// No two tiles of a grid share an index, and one that is moved by 1 shares one with each of those that it then covers in part.
+#[test]
+fn grids_in_morton_order() {
+    for (axes, bits) in [(1, 7), (2, 4), (3, 3), (5, 2)] {
+        let (dim, mut tiles) = (new_ixdyn(&vec![2 << bits; axes]).unwrap(), tiles_in_morton_order(axes, bits));
+        for order in 0..3 {
+            assert_eq!(first_intersection_sorted(&dim, &tiles, Fit::Strict), Ok(None));
+            assert_eq!(first_elems_intersection_sorted(dim.slice(), &tiles, Fit::Strict), Ok(None));
+            let moved = tiles.len() / (order + 2);
+            let kept = std::mem::replace(&mut tiles[moved], vec![SliceInfoElem::from(1..3); axes]);
+            let found = first_intersection_sorted(&dim, &tiles, Fit::Strict).unwrap().expect("two that share an index");
+            assert!(found.0 == moved || found.1 == moved, "{found:?}");
+            assert_eq!(slices_intersect(&dim, &tiles[found.0], &tiles[found.1], Fit::Strict), Ok(true));
+            tiles[moved] = kept;
+            let third = tiles.len() / 3;
+            tiles.rotate_left(third);
+        }
+    }
+}
+
+// Blocks that lie around one another like the arms of a pinwheel, which no cut parts.
+#[test]
+fn blocks_that_no_cut_parts() {
+    let block =
+        |rows: [isize; 2], columns: [isize; 2]| [rows, columns].map(|[start, end]| SliceInfoElem::from(start..end));
+    let mut blocks = vec![
+        block([0, 1], [0, 2]),
+        block([0, 2], [2, 3]),
+        block([2, 3], [1, 3]),
+        block([1, 3], [0, 1]),
+        block([1, 2], [1, 2]),
+    ];
+    assert_eq!(first_intersection_sorted(&Ix2(3, 3), &blocks, Fit::Strict), Ok(None));
+    blocks[4] = block([1, 2], [1, 3]);
+    assert_eq!(first_intersection_sorted(&Ix2(3, 3), &blocks, Fit::Strict), Ok(Some((1, 4))));
 }
 
 #[test]

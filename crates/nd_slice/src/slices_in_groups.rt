@@ -1,0 +1,133 @@
+//! Slices in groups of which no two share an index: groups of few slices, where most are apart on some axis.
+ghost use Rattle.std.specs.Prelude.{◌≡◌, IfOk, IfSome, map};
+ghost use Rattle.std.specs.List.{All, enumerate_from};
+ghost use Rattle.std.specs.List.Sorted.{IsPermutation};
+ghost use Rattle.nd_slice.specs.SlicesInGroups.{AreApartAcross, AreInGroups, AreSorted, HasNoFault, IsCut, IsOnAxis, kept, named};
+
+use crate::elem::SliceInfoElem;
+use crate::elems::SliceElems;
+use crate::fit::Fit;
+use crate::ranges_apart::range_on;
+use std::alloc::{AllocError, Global};
+
+/// A slice of a list with its position there, in a group of slices, and its range on an axis.
+#[derive(Clone, Copy)]
+pub(crate) struct Grouped<'a> {
+    pub(crate) group: usize,
+    pub(crate) start: usize,
+    pub(crate) end: usize,
+    pub(crate) position: usize,
+    pub(crate) elems: &'a [SliceInfoElem],
+}
+
+impl SliceElems for Grouped<'_> {
+    ghost list = { λ item. item.elems.now };
+
+    #[inline]
+    fn elems(&self) -> &[SliceInfoElem] {
+        self.elems
+    }
+}
+
+/// All slices of a list, as one group.
+pub(crate) fn one_group<S: SliceElems>(
+    alloc: Global,
+    slices: &[S],
+) -> Result<Vec<Grouped<'_>>, AllocError>
+    ensures named { IfOk result (λ items. map named items.items
+        ≡ enumerate_from 0 (map S.list slices.now)) }
+    ensures group { IfOk result (λ items. All (λ item. item.group ≡ 0) items.items) }
+{
+    let mut items = Vec::with_capacity(alloc, slices.len())?;
+    for position in 0..slices.len() {
+        items.push(Grouped {
+            group: 0,
+            start: 0,
+            end: 0,
+            position,
+            elems: slices[position].elems(),
+        })?;
+    }
+    Ok(items)
+}
+
+/// The same slices with their ranges on an axis. `None` where one of them isn't known.
+fn on_axis<'a>(
+    alloc: Global,
+    shape: &[usize],
+    axis: usize,
+    items: &[Grouped<'a>],
+    fit: Fit,
+) -> Result<Option<Vec<Grouped<'a>>>, AllocError>
+    requires { All (HasNoFault fit shape.now) items.now }
+    ensures kept { IfOk result (λ found. IfSome found (λ new.
+        map kept new.items ≡ map kept items.now)) }
+    ensures on_axis { IfOk result (λ found. IfSome found (λ new.
+        All (IsOnAxis fit shape.now axis) new.items)) }
+{
+    let mut new = Vec::with_capacity(alloc, items.len())?;
+    for item in items {
+        let Some((start, end)) = range_on(shape, axis, item.elems, fit) else {
+            return Ok(None);
+        };
+        new.push(Grouped {
+            group: item.group,
+            start,
+            end,
+            position: item.position,
+            elems: item.elems,
+        })?;
+    }
+    Ok(Some(new))
+}
+
+/// The same slices in more groups: one ends where the next slice begins past all of it.
+fn cut<'a>(alloc: Global, items: &[Grouped<'a>]) -> Result<Vec<Grouped<'a>>, AllocError>
+    requires { AreSorted items.now }
+    ensures named { IfOk result (λ cut. map named cut.items ≡ map named items.now) }
+    ensures in_order { IfOk result (λ cut. AreInGroups cut.items) }
+    ensures cut { IfOk result (λ cut. IsCut items.now cut.items) }
+{
+    let mut cut = Vec::with_capacity(alloc, items.len())?;
+    // The number of the group, which it had before, and where all of it ends.
+    let (mut group, mut last, mut reach) = (0, 0, 0);
+    for item in items {
+        if item.group != last || reach <= item.start {
+            group += 1;
+            last = item.group;
+            reach = 0;
+        }
+        reach = reach.max(item.end);
+        cut.push(Grouped {
+            group,
+            start: item.start,
+            end: item.end,
+            position: item.position,
+            elems: item.elems,
+        })?;
+    }
+    Ok(cut)
+}
+
+/// The same slices in more groups, in order of these: those are apart that lie apart on an axis. `None` where a range isn't known.
+pub(crate) fn cut_on_axis<'a>(
+    alloc: Global,
+    shape: &[usize],
+    axis: usize,
+    items: &[Grouped<'a>],
+    fit: Fit,
+) -> Result<Option<Vec<Grouped<'a>>>, AllocError>
+    requires fits { All (HasNoFault fit shape.now) items.now }
+    requires apart { AreApartAcross fit shape.now items.now }
+    ensures named { IfOk result (λ found. IfSome found (λ new.
+        IsPermutation (map named items.now) (map named new.items))) }
+    ensures in_order { IfOk result (λ found. IfSome found (λ new. AreInGroups new.items)) }
+    ensures apart { IfOk result (λ found. IfSome found (λ new.
+        AreApartAcross fit shape.now new.items)) }
+{
+    let Some(mut new) = on_axis(alloc, shape, axis, items, fit)? else {
+        return Ok(None);
+    };
+    new.sort_unstable_by_key(|item| (item.group, item.start));
+    Ok(Some(cut(alloc, new.as_slice())?))
+}
