@@ -31,12 +31,20 @@ fn holds(part: &PartMut<'_, usize, IxDyn>, item: usize) -> bool {
     false
 }
 
+/// Whether the slice of a part has all of its items, or none is there, as of two items or more that don't follow one another.
+fn has_slice_of_all(part: &PartMut<'_, usize, IxDyn>) -> bool {
+    match part.as_slice() {
+        Some(items) => items.len() == part.len(),
+        None => part.len() > 1,
+    }
+}
+
 /// Whether this is an index of a part, whose item is replaced, and read then.
 fn is_placed(part: &mut PartMut<'_, usize, IxDyn>, placed: &Placed) -> bool {
     let (index, item) = placed;
     let is_set = part.set(index, *item);
     match part.get(index) {
-        Some(found) => is_set && *found == *item && holds(part, *item),
+        Some(found) => is_set && *found == *item && holds(part, *item) && has_slice_of_all(part),
         None => false,
     }
 }
