@@ -376,9 +376,10 @@ int32_t nd_slices_intersect(const size_t *shape, size_t shape_len, const nd_slic
  * `pair`. Where several pairs do, it is one of them, and need not be the least. `elems`: those of all slices, one slice after
  * another. `counts`: how many each slice has. `pair`: two.
  *
- * Slices that begin in their order along an axis, or in the reverse order, and overlap few others there take time in
- * proportion to their count k. Those in no order, or with new axes, are compared pair by pair, k * (k - 1) / 2 times: 10,000
- * of one axis took a millisecond in order, and a second in no order.
+ * Tiles from the first to the last, or from the last to the first, take time in proportion to their count k. Others are sorted,
+ * and cut at gaps between them, on one axis after another: if that parts most of them, as tiles in any order, they take time in
+ * proportion to k * log(k). 16,384 tiles took half a millisecond in order, and 3 in no order. Slices with new axes, or that no
+ * gap parts, are compared pair by pair, up to k * (k - 1) / 2 times, and so are all if memory for the sort is lacking.
  *
  * ND_BAD_ARGUMENT, first, also where the counts don't add up to that of the elements. ND_OVERFLOW as of nd_slices_intersect;
  * then those of nd_slice for the elements of the first slice with one.

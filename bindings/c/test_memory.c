@@ -143,7 +143,6 @@ static void test_long_lists(void) {
     REQUESTS(2, nd_rows(0, LONG_LAYOUT, ND_COLUMN_MAJOR, written.starts, 6, &written.stride, &written.number));
     REQUESTS(5, nd_slice(0, LONG_LAYOUT, LIST(elems), ND_STRICT, &written.number, written.shape, 6, written.strides, 6));
     REQUESTS(4, nd_slices_intersect(LIST(long_shape), LIST(elems), LIST(elems), ND_STRICT, &written.answer));
-    REQUESTS(2, nd_first_intersection(flat, 1, LIST(elems), LIST(long_counts), ND_STRICT, written.starts, 2, &written.answer));
     REQUESTS(3, nd_picked(LIST(long_shape), LIST(elems), ND_STRICT, &written.number));
     REQUESTS(5, nd_broadcast(LONG_LAYOUT, LIST(target), written.strides, 6));
     REQUESTS(5, nd_reshape(LONG_LAYOUT, LIST(regrouped), ND_ROW_MAJOR, written.strides, 6));
@@ -157,6 +156,22 @@ static void test_long_lists(void) {
     REQUESTS(1, nd_layout_start_reason(LONG_LAYOUT, 1, 12, ND_OWNED, &written.reason));
     REQUESTS(1, nd_check_layout_reason(0, LONG_LAYOUT, 1, 12, ND_OWNED, &written.reason));
     REQUESTS(5, nd_reshape_reason(LONG_LAYOUT, LIST(regrouped), ND_ROW_MAJOR, &written.reason));
+}
+
+/* After two requests for lists, those for a sort of the slices: where one of them is refused, the slices are compared without. */
+static void test_sorted_slices(void) {
+    int32_t status;
+    for (refused = 1;; refused++) {
+        memset(&written, 0x5a, sizeof written);
+        requests = 0;
+        status = nd_first_intersection(flat, 1, LIST(elems), LIST(long_counts), ND_STRICT, written.starts, 2, &written.answer);
+        if (refused <= 2)
+            CHECK(status == ND_OUT_OF_MEMORY && written.answer == 0x5a5a5a5a && requests == refused);
+        else
+            CHECK(status == ND_OK && written.answer == 1 && written.starts[0] < written.starts[1] && written.starts[1] < 6);
+        if (requests < refused) break;
+    }
+    CHECK(requests == 7 && refused == 8);
 }
 
 /* Makes the iterator of a view; ND_BAD_ARGUMENT where it has a row after an error. */
@@ -218,6 +233,7 @@ int main(void) {
     test_short_lists();
     test_no_memory();
     test_long_lists();
+    test_sorted_slices();
     printf("%d checked, %d failed\n", checked, failed);
     return failed != 0;
 }

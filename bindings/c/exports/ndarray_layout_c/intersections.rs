@@ -97,7 +97,7 @@ fn intersection(
         return Ok(view.first_intersection(&parts[..counts.len()], fit)?);
     }
     let parts = many_parts(elems, counts)?;
-    Ok(view.first_intersection(parts.as_slice(), fit)?)
+    Ok(view.first_intersection_sorted(parts.as_slice(), fit)?)
 }
 
 /// Two of many slices of a shape that intersect.
