@@ -5,14 +5,14 @@ proved.txt has what the last gate that passed has proved: the kit's words, the d
 code with its line there, and of its definitions and proofs. checks/gate writes it.
 
 checked.txt has what the last whole check passed on: one checksum of all that was committed but these two, so hand-written Rust and Python too;
-the kit's words, how many steps passed and were left out, how many tests there are, and the date. ./check writes it where no step failed or lacked a
+the kit's words, how many steps passed and were skipped, how many tests there are, and the date. ./check writes it where no step failed or lacked a
 tool, and nothing but what is committed stood here from its begin to its end.
 
 usage: checks/record.py               says of which crates the sources are others than proved.txt has, and whether the kit is
        checks/record.py --release     as well whether anything isn't committed, or is other than checked.txt has: what makes a release asks this
        checks/record.py --committed   prints the checksum of what is committed, if nothing else stands here: ./check, at its begin
-       checks/record.py --checked PASSED FAILED LEFT_OUT LACKING COMMITTED    ./check, at its end: how many steps ended so, how many of
-                                      those that were left out lack a tool, and that checksum
+       checks/record.py --checked PASSED FAILED SKIPPED LACKING COMMITTED    ./check, at its end: how many steps ended so, how many of
+                                      those that were skipped lack a tool, and that checksum
 The status of the first two is 1 where they say something.
 """
 import datetime, hashlib, pathlib, re, subprocess, sys
@@ -101,7 +101,7 @@ def tests():
         yield f"{sum(map(int, numbers))} of {language}"
 
 
-def keep_checked(passed, failed, left_out, lacking, before):
+def keep_checked(passed, failed, skipped, lacking, before):
     """Keeps what a whole check has passed on, where it has; says what it did."""
     reasons = [
         (failed != "0", f"{failed} failed"),
@@ -112,7 +112,7 @@ def keep_checked(passed, failed, left_out, lacking, before):
     for holds, reason in reasons:
         if holds:
             return f"{CHECKED} isn't written: {reason}"
-    write_checked(before, f"{passed} passed, {left_out} left out")
+    write_checked(before, f"{passed} passed, {skipped} skipped")
     return f"{CHECKED} is written: commit it, and {PROVED}"
 
 

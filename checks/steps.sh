@@ -14,12 +14,12 @@ has() {
 }
 
 # Runs a step in a shell of its own, up to the first command that fails, also in a pipe. Says how the step ended, with the end of what it
-# printed where it failed; or that it was left out, since a tool is missing. It is called plainly: bash goes on after a command that fails
+# printed where it failed; or that it was skipped, since a tool is missing. It is called plainly: bash goes on after a command that fails
 # wherever the caller stands in a condition (`if`, `!`, `&&`, `||`). A step that is called so has failed.
 run_step() { # its name, the tools that it needs, and the command
     local tool status
     for tool in $2; do
-        has "$tool" || { echo "check $1: left out, no $tool"; return; }
+        has "$tool" || { echo "check $1: skipped, no $tool"; return; }
     done
     (set -e; false; :)
     if [ $? -eq 0 ]; then echo "check $1: failed, bash would go on after a command that fails"; return 1; fi

@@ -7,13 +7,13 @@
  * the place of its index (0, .., 0). Strides and places count elements, and never bytes. The limit is PTRDIFF_MAX.
  *
  * Lists. A list is a pointer and, after it, its count. Every list has a count of its own: counts that don't go together are
- * a status. A list that a call writes (no `const`) is lent by the caller, with exactly the count that is due. That may be as
+ * a status. A list that a call writes (no `const`) is lent by the caller, with exactly the count that its comment says. That may be as
  * much as the limit even over one byte, as for the rows of (2^61+1,1), strides (0,0), read-only. Allocate such a list by
  * `calloc(count, sizeof *list)`, which returns null then: the product in `malloc(count * sizeof *list)` wraps to 8 bytes.
  *
  * Statuses. Each call returns one of ND_OK to ND_OUT_OF_MEMORY. After any status but ND_OK nothing has been written.
  * ND_BAD_ARGUMENT is a number that has no meaning (an order, a mode, a fit, a kind of element), or a list that is only
- * written of another count than is due. It comes before every other status, ND_OUT_OF_MEMORY too. Only the counts of what
+ * written and has the wrong length. It comes before every other status, ND_OUT_OF_MEMORY too. Only the counts of what
  * nd_places, nd_rows and nd_slice write are tested last. Where a list is read as well, another count is ND_OUT_OF_BOUNDS of
  * nd_next_index, and ND_INCOMPATIBLE_LAYOUT of nd_merge_axes. ND_OUT_OF_MEMORY may come where a list that is read has more than
  * four items, or the new layout of nd_windows or nd_exact_chunks more than four axes, in place of every status but a
@@ -770,7 +770,7 @@ ND_INLINE const char *nd_status_message(int32_t status) {
     case ND_OUT_OF_BOUNDS: return "OutOfBounds: out of bounds indexing";
     case ND_UNSUPPORTED: return "Unsupported: unsupported operation";
     case ND_OVERFLOW: return "Overflow: arithmetic overflow";
-    case ND_BAD_ARGUMENT: return "BadArgument: a number without a meaning, or a list of another count than is due";
+    case ND_BAD_ARGUMENT: return "BadArgument: a number without a meaning, or a list of the wrong length";
     case ND_OUT_OF_MEMORY: return "OutOfMemory: memory was refused";
     default: return "a number that is no status";
     }

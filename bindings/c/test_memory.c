@@ -49,7 +49,7 @@ static struct {
 } written;
 
 /* A call that makes so many requests, or none: after a refused one it returns ND_OUT_OF_MEMORY, and has written nothing. */
-#define REQUESTS(due, call) \
+#define REQUESTS(expected, call) \
     do { \
         unsigned char before[sizeof written]; \
         int32_t status; \
@@ -61,7 +61,7 @@ static struct {
             if (requests < refused) break; \
             CHECK(status == ND_OUT_OF_MEMORY && memcmp(before, &written, sizeof written) == 0); \
         } \
-        CHECK(status == ND_OK && requests == (due)); \
+        CHECK(status == ND_OK && requests == (expected)); \
     } while (0)
 
 static const size_t long_shape[6] = {2, 1, 3, 1, 2, 1}, long_index[6] = {1, 0, 2, 0, 1, 0}, long_axes[6] = {5, 4, 3, 2, 1, 0};

@@ -20,10 +20,10 @@ static void check(int holds, int line, const char *what) {
 /* The call succeeds, and writes these numbers: of a list, or of none. */
 #define TOLD_OF(list, call, status, rule, axis, number, size, other) \
     do { \
-        const nd_reason due = {status, rule, list, ND_ELEMENTS, axis, number, size, other}; \
+        const nd_reason expected = {status, rule, list, ND_ELEMENTS, axis, number, size, other}; \
         memset(&reason, 7, sizeof reason); \
         CHECK((call) == ND_OK); \
-        CHECK(is_same(&reason, &due)); \
+        CHECK(is_same(&reason, &expected)); \
     } while (0)
 #define TOLD(call, status, rule, axis, number, size, other) TOLD_OF(0, call, status, rule, axis, number, size, other)
 /* The call returns ND_BAD_ARGUMENT, and writes nothing. */

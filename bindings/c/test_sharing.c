@@ -54,12 +54,12 @@ static void test_beside_bytes(void) {
     for (round = 0; round < 60000; round++) {
         nd_view first, second;
         int32_t answer = 7, backwards = 7;
-        int due;
+        int expected;
         if (!random_one(&first) || !random_one(&second)) continue;
         memset(bytes, 0, sizeof bytes);
         if (mark(&first, bytes, 0) != 0) continue;
-        due = mark(&second, bytes, 1);
-        CHECK_QUIETLY(nd_views_share_element(&first, &second, &answer) == ND_OK && answer == (due == 1));
+        expected = mark(&second, bytes, 1);
+        CHECK_QUIETLY(nd_views_share_element(&first, &second, &answer) == ND_OK && answer == (expected == 1));
         CHECK_QUIETLY(nd_views_share_element(&second, &first, &backwards) == ND_OK && backwards == answer);
         if (answer) shared++;
         if (!answer) apart++;

@@ -57,13 +57,13 @@ static size_t product_of_lesser(const size_t *shape, const ptrdiff_t *strides, s
 }
 
 static int is_contiguous_without_index(const size_t *shape, const ptrdiff_t *strides) {
-    int all_zero = 1, all_due = 1;
+    int all_zero = 1, all_expected = 1;
     for (size_t axis = 0; axis < AXES; axis++) {
         const size_t stride = (size_t)labs((long)strides[axis]);
         all_zero &= stride == 0;
-        all_due &= shape[axis] == 1 || stride == product_of_lesser(shape, strides, axis);
+        all_expected &= shape[axis] == 1 || stride == product_of_lesser(shape, strides, axis);
     }
-    return all_zero || all_due;
+    return all_zero || all_expected;
 }
 
 static void test_is_contiguous(void) {
@@ -72,8 +72,8 @@ static void test_is_contiguous(void) {
     for (unsigned number = 0; read_layout(number, AXES, shape, strides); number++) {
         const size_t size = shape[0] * shape[1] * shape[2];
         int32_t answer = 77;
-        const int due = size > 0 ? fills_a_stretch(shape, strides, size) : is_contiguous_without_index(shape, strides);
-        CHECK(nd_is_contiguous(LIST(shape), LIST(strides), &answer) == ND_OK && answer == due);
+        const int expected = size > 0 ? fills_a_stretch(shape, strides, size) : is_contiguous_without_index(shape, strides);
+        CHECK(nd_is_contiguous(LIST(shape), LIST(strides), &answer) == ND_OK && answer == expected);
     }
 }
 
@@ -82,11 +82,11 @@ static void test_merged_strides(void) {
     size_t shape[2], old_shape[2];
     ptrdiff_t strides[2], old_strides[2];
     for (unsigned number = 0; read_layout(number, 2, old_shape, old_strides); number++) {
-        const ptrdiff_t due = old_strides[old_shape[0] > 1 && old_shape[1] <= 1 ? 0 : 1];
+        const ptrdiff_t expected = old_strides[old_shape[0] > 1 && old_shape[1] <= 1 ? 0 : 1];
         int32_t merged = 77;
         read_layout(number, 2, shape, strides);
         CHECK(nd_merge_axes(LIST(shape), LIST(strides), 0, 1, &merged) == ND_OK);
-        CHECK(strides[0] == old_strides[0] && strides[1] == (merged ? due : old_strides[1]));
+        CHECK(strides[0] == old_strides[0] && strides[1] == (merged ? expected : old_strides[1]));
     }
 }
 
@@ -131,12 +131,12 @@ static void test_bounds(void) {
         const nd_slice_elem from[1] = {{ND_SLICE, 0, bound, 0, 1}}, to[1] = {{ND_SLICE, 1, 0, bound, 1}};
         const nd_slice_elem at[1] = {{ND_INDEX, 0, bound, 0, 0}};
         const size_t before = (size_t)(bound < 0 ? bound + 4 : bound);
-        const int32_t due = bound < -4 || bound > 4 ? ND_OUT_OF_BOUNDS : ND_OK;
+        const int32_t expected = bound < -4 || bound > 4 ? ND_OUT_OF_BOUNDS : ND_OK;
         size_t count = 4 - before;
-        CHECK(nd_picked(LIST(four), LIST(from), ND_STRICT, &count) == due && count == 4 - before);
+        CHECK(nd_picked(LIST(four), LIST(from), ND_STRICT, &count) == expected && count == 4 - before);
         count = before;
-        CHECK(nd_picked(LIST(four), LIST(to), ND_STRICT, &count) == due && count == before);
-        CHECK(nd_picked(LIST(four), LIST(at), ND_CLAMPED, &count) == (bound == 4 ? ND_OUT_OF_BOUNDS : due));
+        CHECK(nd_picked(LIST(four), LIST(to), ND_STRICT, &count) == expected && count == before);
+        CHECK(nd_picked(LIST(four), LIST(at), ND_CLAMPED, &count) == (bound == 4 ? ND_OUT_OF_BOUNDS : expected));
     }
 }
 

@@ -3,7 +3,7 @@
     python3 numpys_own_tests.py
 
 The tests are those of the NumPy that is installed: `test_mem_overlap` and `test_stride_tricks`, which need pytest.
-What stands in is listed in `OVERLAP` and `STRIDES`. `LEFT_OUT` names the tests that fail with it, and says why.
+What stands in is listed in `OVERLAP` and `STRIDES`. `SKIPPED` names the tests that fail with it, and says why.
 Where NumPy or pytest is missing, or lacks a name, they fail.
 """
 
@@ -26,7 +26,7 @@ from ndarray_layout._sharing import Part, share_byte
 
 LIMIT = 2**63 - 1
 
-LEFT_OUT = {
+SKIPPED = {
     "test_writeable": "views of `as_strided`, which these are made by, can't be set writeable again",
     "test_may_share_memory_bad_max_work": "a count of steps may be any number, and not only one of 64 bits",
     "TestSlidingWindowView.test_2d_repeated_axis": "windows along an axis twice are no call of this package",
@@ -171,7 +171,7 @@ class NumpysOwn(unittest.TestCase):
             before = sum(calls.values())
             with self.subTest(name), warnings.catch_warnings():
                 warnings.simplefilter("ignore", DeprecationWarning)
-                if name in LEFT_OUT:
+                if name in SKIPPED:
                     self.assertRaises((Exception, pytest.fail.Exception), test)
                 else:
                     test()

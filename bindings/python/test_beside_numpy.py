@@ -1,4 +1,4 @@
-"""`ndarray_layout` beside NumPy: random arrays, and the keys that it takes. Without NumPy it says that it is left out.
+"""`ndarray_layout` beside NumPy: random arrays, and the keys that it takes. Without NumPy it says that it is skipped.
 
     NDARRAY_LAYOUT_LIB=.../libndarray_layout.so python3 test_beside_numpy.py
 """
@@ -17,12 +17,12 @@ except ImportError:
 
 MAX, MIN = 2**63 - 1, -(2**63)
 ARRAYS = 20_000
-LEFT_OUT = "NumPy is missing: slices, broadcasts, reshapes, bounds and shares_memory are not compared"
+SKIPPED = "NumPy is missing: slices, broadcasts, reshapes, bounds and shares_memory are not compared"
 
 
 def setUpModule():
     if np is None:
-        print(LEFT_OUT)
+        print(SKIPPED)
 
 
 def view_of(numbers, base):
@@ -107,7 +107,7 @@ def longer_axes(shape, strides):
     return [stride for length, stride in zip(shape, strides) if length > 1]
 
 
-@unittest.skipIf(np is None, LEFT_OUT)
+@unittest.skipIf(np is None, SKIPPED)
 class BesideNumpy(unittest.TestCase):
     """20,000 random arrays for each comparison. Where NumPy is known to differ, that is counted and printed."""
 
@@ -298,7 +298,7 @@ class BesideNumpy(unittest.TestCase):
         return all(isinstance(a[key], np.ndarray) for key in keys)
 
 
-@unittest.skipIf(np is None, LEFT_OUT)
+@unittest.skipIf(np is None, SKIPPED)
 class Keys(unittest.TestCase):
     def test_windows(self):
         """Rows of windows overwrite one another, and are never said to be apart."""

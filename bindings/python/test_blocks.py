@@ -16,12 +16,12 @@ try:
 except ImportError:
     np = None
 
-LEFT_OUT = "NumPy is missing: windows, chunks, parts and rows are not compared"
+SKIPPED = "NumPy is missing: windows, chunks, parts and rows are not compared"
 
 
 def setUpModule():
     if np is None:
-        print(LEFT_OUT)
+        print(SKIPPED)
 
 
 class Counted(unittest.TestCase):
@@ -37,7 +37,7 @@ class Counted(unittest.TestCase):
             print(f"{self._testMethodName}: {counts}")
 
 
-@unittest.skipIf(np is None, LEFT_OUT)
+@unittest.skipIf(np is None, SKIPPED)
 class BesideNumpy(Counted):
     """20,000 random arrays each."""
 
@@ -60,7 +60,7 @@ class BesideNumpy(Counted):
         return block + [1] * (numbers.random() < 0.02)
 
     def assert_error(self, shape, block, result):
-        """A refusal, which is the one that is due. Returns whether there is one."""
+        """A refusal, which is the one that is expected. Returns whether there is one."""
         wrong = len(shape) != len(block) or 0 in block
         self.assertEqual(result == "ValueError", wrong, (shape, block))
         self.seen["errors"] += wrong

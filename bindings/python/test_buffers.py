@@ -21,7 +21,7 @@ try:
 except ImportError:
     np = None
 
-LEFT_OUT = "NumPy is missing: arrays over buffers are not tested"
+SKIPPED = "NumPy is missing: arrays over buffers are not tested"
 
 MAPPED = """
 import mmap
@@ -62,7 +62,7 @@ def run(program):
     return subprocess.run([sys.executable, "-B", "-c", lines], stdout=subprocess.PIPE, text=True, env=found, timeout=60)
 
 
-@unittest.skipIf(np is None, LEFT_OUT)
+@unittest.skipIf(np is None, SKIPPED)
 class Held(unittest.TestCase):
     """An array holds its buffer, as `numpy.frombuffer` does: what would move or free it raises `BufferError`."""
 
@@ -115,7 +115,7 @@ class Held(unittest.TestCase):
             memory.close()
 
 
-@unittest.skipIf(np is None, LEFT_OUT)
+@unittest.skipIf(np is None, SKIPPED)
 class Items(unittest.TestCase):
     """Items of each dtype, also of those for which the buffer protocol has no format."""
 

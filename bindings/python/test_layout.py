@@ -20,12 +20,12 @@ except ImportError:
     np = None
 
 LAYOUTS = 20_000
-LEFT_OUT = "NumPy is missing: arrays of layouts are not compared"
+SKIPPED = "NumPy is missing: arrays of layouts are not compared"
 
 
 def setUpModule():
     if np is None:
-        print(LEFT_OUT)
+        print(SKIPPED)
 
 
 class Accepted(unittest.TestCase):
@@ -250,7 +250,7 @@ class Memoryviews(unittest.TestCase):
         self.assertEqual(items.tolist(), [0, 9, 2])
 
 
-@unittest.skipIf(np is None, LEFT_OUT)
+@unittest.skipIf(np is None, SKIPPED)
 class Arrays(unittest.TestCase):
     def test_random_arrays(self):
         """The array of a layout is the array that NumPy makes by the same keys."""

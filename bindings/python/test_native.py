@@ -28,7 +28,7 @@ except ImportError:
     _native = None
 
 INPUTS = 10_000
-LEFT_OUT = "there is no _native: build_native makes it"
+SKIPPED = "there is no _native: build_native makes it"
 PLACES = [
     (_views, "sliced"),
     (_layout, "intersect"),
@@ -43,7 +43,7 @@ PLACES = [
 
 def setUpModule():
     if _native is None:
-        print(LEFT_OUT)
+        print(SKIPPED)
     elif _usual.native is None:
         _native.bind(str(_usual.library_path), tuple(vars(_usual.Fields)[name] for name in _usual.FIELDS))
 
@@ -75,7 +75,7 @@ def outcome(call, arguments):
     return type(found), found, getattr(found, "itemsize", None), getattr(found, "format", None)
 
 
-@unittest.skipIf(_native is None or np is None, LEFT_OUT)
+@unittest.skipIf(_native is None or np is None, SKIPPED)
 class BesideCtypes(unittest.TestCase):
     """Calls of random inputs."""
 
@@ -223,7 +223,7 @@ class BesideCtypes(unittest.TestCase):
         self.compare(nd.first_conflict, inputs, INPUTS // 4)
 
 
-@unittest.skipIf(_native is None or np is None, LEFT_OUT)
+@unittest.skipIf(_native is None or np is None, SKIPPED)
 class Alone(unittest.TestCase):
     """What the module itself does."""
 

@@ -19,12 +19,12 @@ except ImportError:
     np = None
 
 ARRAYS = 20_000
-LEFT_OUT = "NumPy is missing: shares_memory is not compared"
+SKIPPED = "NumPy is missing: shares_memory is not compared"
 
 
 def setUpModule():
     if np is None:
-        print(LEFT_OUT)
+        print(SKIPPED)
 
 
 def bytes_of(part, itemsize):
@@ -109,7 +109,7 @@ class Bounds(unittest.TestCase):
         self.assertIs(share_byte(Part(0, (9,) * 4, (1009, 1013, 1019, 1021)), Part(7, (), ()), 1, None), False)
 
 
-@unittest.skipIf(np is None, LEFT_OUT)
+@unittest.skipIf(np is None, SKIPPED)
 class BesideNumpy(unittest.TestCase):
     def test_strided(self):
         """Arrays of `as_strided`, whose elements may be the same or overlap by some bytes."""

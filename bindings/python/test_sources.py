@@ -23,12 +23,12 @@ except ImportError:
     np = None
 
 PAIRS = 20_000
-LEFT_OUT = "NumPy is missing: what it says of arrays is not compared"
+SKIPPED = "NumPy is missing: what it says of arrays is not compared"
 
 
 def setUpModule():
     if np is None:
-        print(LEFT_OUT)
+        print(SKIPPED)
 
 
 class Interface:
@@ -112,7 +112,7 @@ class DLPack(unittest.TestCase):
         self.assertRaises((LayoutError, TypeError), nd.share_element, evens, Tensor(at, (6,), (2,), device=2))
         self.assertFalse(nd.share_element(evens, Tensor(None, (0,), (1,), device=2)))
 
-    @unittest.skipIf(np is None, LEFT_OUT)
+    @unittest.skipIf(np is None, SKIPPED)
     def test_numpys_capsules(self):
         """The layout of NumPy's own capsule is that of the array, which the capsule lets go."""
 
@@ -134,7 +134,7 @@ class DLPack(unittest.TestCase):
         self.assertIsNone(kept())
 
 
-@unittest.skipIf(np is None, LEFT_OUT)
+@unittest.skipIf(np is None, SKIPPED)
 class Interfaces(unittest.TestCase):
     def test_beside_numpy(self):
         """What is read of the interface of an array is what is read of the array."""
@@ -198,7 +198,7 @@ class Copies:
         return self.items.copy().__dlpack__()
 
 
-@unittest.skipIf(np is None, LEFT_OUT)
+@unittest.skipIf(np is None, SKIPPED)
 class Memory(unittest.TestCase):
     """Where arrays lie that say so in other ways than by a pair of an address and a flag."""
 
@@ -364,7 +364,7 @@ class Memory(unittest.TestCase):
         self.assertEqual(Layout.of(array), Layout.of(self.numbers[2:4]))
 
 
-@unittest.skipIf(np is None, LEFT_OUT)
+@unittest.skipIf(np is None, SKIPPED)
 class TwoArrays(unittest.TestCase):
     """`share_element(x, y)` beside `numpy.shares_memory`."""
 

@@ -20,12 +20,12 @@ except ImportError:
     np = None
 
 ARRAYS = 3_000
-LEFT_OUT = "NumPy is missing: what it says of strides in bytes is not compared"
+SKIPPED = "NumPy is missing: what it says of strides in bytes is not compared"
 
 
 def setUpModule():
     if np is None:
-        print(LEFT_OUT)
+        print(SKIPPED)
 
 
 def array_of(shape, strides, itemsize):
@@ -273,7 +273,7 @@ class Layouts(unittest.TestCase):
         self.assertEqual((Layout.of(layout).itemsize, Layout.of(layout).format), (4, "i"))
 
 
-@unittest.skipIf(np is None, LEFT_OUT)
+@unittest.skipIf(np is None, SKIPPED)
 class BesideNumPy(unittest.TestCase):
     """Random arrays: any axes, steps and item sizes, and strides that are no multiples of these."""
 

@@ -22,12 +22,12 @@ except ImportError:
     np = None
 
 LAYOUTS = 10_000
-LEFT_OUT = "NumPy is missing: views are not compared"
+SKIPPED = "NumPy is missing: views are not compared"
 
 
 def setUpModule():
     if np is None:
-        print(LEFT_OUT)
+        print(SKIPPED)
 
 
 def any_layout(numbers, most=4):
@@ -40,7 +40,7 @@ def indices(layout):
     return product(*map(range, layout.shape))
 
 
-@unittest.skipIf(np is None, LEFT_OUT)
+@unittest.skipIf(np is None, SKIPPED)
 class BesideNumPy(unittest.TestCase):
     """The same call of a layout and of an array that it lies over, at random, with negative axes and wrong ones."""
 

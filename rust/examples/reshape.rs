@@ -23,9 +23,9 @@ fn main() -> Result<(), LayoutError> {
         ("both reversed", array.sliced(s![..;-1, ..;-1])?, "a list of 24 from 23 on, stride -1"),
         ("the transpose", array.duplicate()?.reversed_axes(), "a copy is needed"),
     ];
-    for (name, view, due) in &cases {
+    for (name, view, expected) in &cases {
         println!("{name}: {}", told(view));
-        assert_eq!(told(view), *due);
+        assert_eq!(told(view), *expected);
     }
 
     // two axes become four, and no element moves

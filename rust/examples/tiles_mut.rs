@@ -25,12 +25,12 @@ fn main() -> Result<(), LayoutError> {
         Ok::<(), LayoutError>(())
     })?;
     println!("{picture:?}");
-    let due = [
+    let expected = [
         1, 1, 1, 2, 2, 2, 3, 0, //
         1, 1, 1, 2, 2, 2, 3, 0, //
         1, 1, 1, 2, 2, 2, 3, 0, //
         4, 4, 4, 5, 5, 5, 6, 0,
     ];
-    assert_eq!(pixels, due);
+    assert_eq!(pixels, expected);
     Ok(())
 }

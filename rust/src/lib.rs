@@ -125,4 +125,4 @@ pub use crate::nd_owned::{
     Unsigned, ViewIter,
 };
 pub use crate::ndarray_layout::*;
-pub use crate::parts::{LentPart, MultiSliceArg, PartAxisChunksIterMut, PartAxisIterMut, PartIterMut};
+pub use crate::parts::{MultiSliceArg, PartAxisChunksIterMut, PartAxisIterMut, PartIterMut};

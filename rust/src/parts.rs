@@ -27,9 +27,6 @@ pub use multi_slice::MultiSliceArg;
 pub(crate) use own_items::has_own_items;
 pub(crate) use skipping::{skip, skip_back};
 
-/// A part of an array, by its older name. Not proved.
-pub type LentPart<'a, T, D> = PartMut<'a, T, D>;
-
 impl<T, D: Lengths> PartMut<'_, T, D> {
     /// The part once more, for as long as this one is borrowed: `reborrow`, which is proved. ndarray's `view_mut`. Not proved.
     ///

@@ -25,9 +25,9 @@ impl Count {
 }
 
 /// The items of a list: up to four of them in the value itself, more of them in memory.
-pub(crate) struct SmallVec<T, const N: usize>(Items<T>);
+pub(crate) struct SmallVec<T, const N: usize>(Storage<T>);
 
-enum Items<T> {
+enum Storage<T> {
     Inline([T; 4], Count),
     Heap(Vec<T>),
 }
@@ -42,18 +42,18 @@ impl<T: Copy + Default> SmallVec<T, 4> {
     /// The first `len` items of an array.
     #[inline]
     pub(crate) fn from_buf_and_len(items: [T; 4], len: usize) -> Self {
-        SmallVec(Items::Inline(items, Count::of(len)))
+        SmallVec(Storage::Inline(items, Count::of(len)))
     }
 
     /// The items of an array.
     #[inline]
     pub(crate) fn from_buf(items: [T; 4]) -> Self {
-        SmallVec(Items::Inline(items, Count::Four))
+        SmallVec(Storage::Inline(items, Count::Four))
     }
 
     /// The items of a vector, whose memory is kept.
     pub(crate) fn from_vec(items: Vec<T>) -> Self {
-        SmallVec(Items::Heap(items))
+        SmallVec(Storage::Heap(items))
     }
 
     /// One item, so many times.
@@ -63,15 +63,15 @@ impl<T: Copy + Default> SmallVec<T, 4> {
         }
         let mut items = Vec::fallible_with_capacity(len)?;
         items.resize(len, item);
-        Ok(SmallVec(Items::Heap(items)))
+        Ok(SmallVec(Storage::Heap(items)))
     }
 
     /// The items, in order.
     #[inline]
     pub(crate) fn as_slice(&self) -> &[T] {
         match &self.0 {
-            Items::Inline(items, count) => &items[..*count as usize],
-            Items::Heap(items) => items,
+            Storage::Inline(items, count) => &items[..*count as usize],
+            Storage::Heap(items) => items,
         }
     }
 
@@ -79,8 +79,8 @@ impl<T: Copy + Default> SmallVec<T, 4> {
     #[inline]
     pub(crate) fn as_mut_slice(&mut self) -> &mut [T] {
         match &mut self.0 {
-            Items::Inline(items, count) => &mut items[..*count as usize],
-            Items::Heap(items) => items,
+            Storage::Inline(items, count) => &mut items[..*count as usize],
+            Storage::Heap(items) => items,
         }
     }
 
@@ -94,7 +94,7 @@ impl<T: Copy + Default> SmallVec<T, 4> {
         if capacity <= 4 {
             return Ok(Self::new());
         }
-        Ok(SmallVec(Items::Heap(Vec::fallible_with_capacity(capacity)?)))
+        Ok(SmallVec(Storage::Heap(Vec::fallible_with_capacity(capacity)?)))
     }
 
     /// The items of a slice: more than four of them, so that this is left out of line.
@@ -114,8 +114,8 @@ impl<T: Copy + Default> SmallVec<T, 4> {
     /// The items of a slice after the own ones.
     pub(crate) fn fallible_extend_from_slice(&mut self, others: &[T]) -> Result<(), AllocError> {
         match &mut self.0 {
-            Items::Heap(items) => return items.fallible_extend_from_slice(others),
-            Items::Inline(items, count) => {
+            Storage::Heap(items) => return items.fallible_extend_from_slice(others),
+            Storage::Inline(items, count) => {
                 let (len, whole) = (*count as usize, *count as usize + others.len());
                 if let Some(room) = items.get_mut(len..whole) {
                     room.copy_from_slice(others);
@@ -125,7 +125,7 @@ impl<T: Copy + Default> SmallVec<T, 4> {
                 let mut moved = Vec::fallible_with_capacity(whole)?;
                 moved.extend_from_slice(&items[..len]);
                 moved.extend_from_slice(others);
-                self.0 = Items::Heap(moved);
+                self.0 = Storage::Heap(moved);
             }
         }
         Ok(())
@@ -134,13 +134,13 @@ impl<T: Copy + Default> SmallVec<T, 4> {
 
 #[cfg(test)]
 mod tests {
-    use super::{Items, SmallVec};
+    use super::{SmallVec, Storage};
 
     type List = SmallVec<usize, 4>;
 
     /// Whether the items lie in memory.
     fn is_spilled(list: &List) -> bool {
-        matches!(list.0, Items::Heap(_))
+        matches!(list.0, Storage::Heap(_))
     }
 
     #[test]

@@ -29,14 +29,14 @@ class Even(NamedTuple):
         return number * self.length
 
     def count(self, picks: range) -> int:
-        """How many runs the numbers of the chunks make up: `touched` without a list."""
+        """How many ranges the numbers of the chunks make up: `touched` without a list."""
         step = abs(picks.step)
         if self.length == 1 or step <= self.length or not picks:
             return min(len(picks), 1)
         return min(len(picks), self.length // gcd(step, self.length))  # (so many steps are a multiple of the chunk)
 
     def touched(self, picks: range) -> list[range]:
-        """The numbers of the chunks that have one of the indices, in runs that ascend: each number once."""
+        """The numbers of the chunks that have one of the indices, in ranges that ascend: each number once."""
         ascending = picks if picks.step > 0 else picks[::-1]
         count = self.count(picks)
         if self.length == 1 or not picks:
@@ -60,11 +60,11 @@ class Uneven(NamedTuple):
         return self.ends[number - 1] if number else 0
 
     def count(self, picks: range) -> int:
-        """How many runs the numbers of the chunks make up."""
+        """How many ranges the numbers of the chunks make up."""
         return len(self.touched(picks))
 
     def touched(self, picks: range) -> list[range]:
-        """The numbers of the chunks that have one of the indices, in runs that ascend: each number once.
+        """The numbers of the chunks that have one of the indices, in ranges that ascend: each number once.
 
         The search goes from chunk to chunk, so it takes time for the chunks that have one, and not for the indices.
         """

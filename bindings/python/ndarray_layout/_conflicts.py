@@ -142,37 +142,37 @@ def conflicts_of(axes: int, parts: list[Part], compare: Compare) -> Iterator[Pai
 
 def _steps(dimensions: int, parts: list[Part]) -> list[set[int]]:
     """The steps above 1 along each axis."""
-    return [{runs[axis].step for _, runs in parts if len(runs[axis]) > 1} - {1} for axis in range(dimensions)]
+    return [{ranges[axis].step for _, ranges in parts if len(ranges[axis]) > 1} - {1} for axis in range(dimensions)]
 
 
 def _stretches(parts: list[Part], axis: int) -> Intervals:
     """From the first number of each part to the last."""
-    return Intervals([runs[axis][0] for _, runs in parts], [runs[axis][-1] for _, runs in parts])
+    return Intervals([ranges[axis][0] for _, ranges in parts], [ranges[axis][-1] for _, ranges in parts])
 
 
-# With one step above 1 along an axis, two runs share a number if and only if both their intervals share one and their
+# With one step above 1 along an axis, two ranges share a number if and only if both their intervals share one and their
 # remainders by the step do. With more steps, all that have a number in common have it by their greatest divisor.
 
 
 def _remainders(parts: list[Part], axis: int, step: int) -> Intervals:
-    """The remainders of the numbers by a step: all, one, or those of a short run."""
-    runs = [runs[axis] for _, runs in parts]
-    covers = [run.step == 1 and len(run) >= step for run in runs]
-    lows = [0 if all_of_them else run[0] % step for run, all_of_them in zip(runs, covers)]
-    return Intervals(lows, [step - 1 if all_of_them else run[-1] % step for run, all_of_them in zip(runs, covers)])
+    """The remainders of the numbers by a step: all, one, or those of a short range."""
+    ranges = [ranges[axis] for _, ranges in parts]
+    covers = [numbers.step == 1 and len(numbers) >= step for numbers in ranges]
+    lows = [0 if all_of_them else numbers[0] % step for numbers, all_of_them in zip(ranges, covers)]
+    return Intervals(lows, [step - 1 if all_of_them else numbers[-1] % step for numbers, all_of_them in zip(ranges, covers)])
 
 
 def _unwrapped(parts: list[Part], axis: int, step: int) -> list[Part]:
     """The same parts, with two for each whose remainders along an axis begin again: they have no least one to last."""
     found: list[Part] = []
-    for position, runs in parts:
-        run = runs[axis]
-        cut = run[-1] // step * step
-        if run[0] < cut and run.step == 1 and len(run) < step:
-            halves = range(run[0], cut), range(cut, run[-1] + 1)
-            found += [(position, (*runs[:axis], half, *runs[axis + 1 :])) for half in halves]
+    for position, ranges in parts:
+        numbers = ranges[axis]
+        cut = numbers[-1] // step * step
+        if numbers[0] < cut and numbers.step == 1 and len(numbers) < step:
+            halves = range(numbers[0], cut), range(cut, numbers[-1] + 1)
+            found += [(position, (*ranges[:axis], half, *ranges[axis + 1 :])) for half in halves]
         else:
-            found.append((position, runs))
+            found.append((position, ranges))
     return found
 
 
@@ -194,8 +194,8 @@ def _first_compared(parts: list[Part]) -> Iterator[Pair]:
     They are compared in their order along the axis that comes first: there the most begin apart.
     """
     dimensions = range(len(parts[0][1]))
-    axes = sorted(dimensions, key=lambda axis: -len({runs[axis].start for _, runs in parts}))
-    shape = unsigned([1 + max(runs[axis][-1] for _, runs in parts) for axis in axes])
+    axes = sorted(dimensions, key=lambda axis: -len({ranges[axis].start for _, ranges in parts}))
+    shape = unsigned([1 + max(ranges[axis][-1] for _, ranges in parts) for axis in axes])
     in_order = sorted(parts, key=lambda part: part[1][axes[0]].start)
     pieces = [_piece(axes, in_order[at : at + PIECE]) for at in range(0, len(parts), PIECE)]
     pairs = (_pair_of(shape, one, other) for one, other in combinations_with_replacement(pieces, 2))
@@ -220,30 +220,30 @@ def each_compared(parts: list[Part]) -> Iterator[Pair]:
 
 def _count_cut(parts: list[Part], axes: list[int]) -> int:
     """How many parts there are where those that step along some axes are cut into their numbers there."""
-    return sum(prod([len(runs[axis]) for axis in axes if runs[axis].step > 1]) for _, runs in parts)
+    return sum(prod([len(ranges[axis]) for axis in axes if ranges[axis].step > 1]) for _, ranges in parts)
 
 
 def _cut(parts: list[Part], axes: list[int]) -> list[Part]:
     """The same parts, where those that step along some axes are cut into their numbers there."""
     for axis in axes:
         cut = [
-            (position, (*runs[:axis], number, *runs[axis + 1 :]))
-            for position, runs in parts
-            for number in (_numbers(runs[axis]) if runs[axis].step > 1 else (runs[axis],))
+            (position, (*ranges[:axis], number, *ranges[axis + 1 :]))
+            for position, ranges in parts
+            for number in (_numbers(ranges[axis]) if ranges[axis].step > 1 else (ranges[axis],))
         ]
         parts = cut
     return parts
 
 
-def _numbers(run: range) -> Iterator[range]:
-    return (range(number, number + 1) for number in run)
+def _numbers(numbers: range) -> Iterator[range]:
+    return (range(number, number + 1) for number in numbers)
 
 
 def _of_pairs(parts: list[Part], pairs: Iterable[Pair]) -> Iterator[Pair]:
     """The positions of those two of some parts that share a number on each axis."""
     axes, answer = range(len(parts[0][1])), one_answer()
     shape, count = unsigned([1 + max(_stretches(parts, axis).highs) for axis in axes]), count_of(len(axes))
-    packed = [count_of(4 * len(axes)).pack_signed(*sum(map(_fields, runs), ())) for _, runs in parts]
+    packed = [count_of(4 * len(axes)).pack_signed(*sum(map(_fields, ranges), ())) for _, ranges in parts]
     for one, other in pairs:
         library.slices_intersect(*shape, packed[one], count, packed[other], count, False, answer)
         if answer[0]:
@@ -251,14 +251,14 @@ def _of_pairs(parts: list[Part], pairs: Iterable[Pair]) -> Iterator[Pair]:
 
 
 def _piece(axes: list[int], parts: list[Part]) -> _Piece:
-    fields = [field for _, runs in parts for axis in axes for field in _fields(runs[axis])]
+    fields = [field for _, ranges in parts for axis in axes for field in _fields(ranges[axis])]
     positions, stretches = [position for position, _ in parts], _stretches(parts, axes[0])
     return _Piece(positions, array("q", fields).tobytes(), stretches.lows[0], max(stretches.highs))
 
 
-def _fields(run: range) -> tuple[int, int, int, int]:
-    """A run as an element of a slice. (a step above the limit leaves one number)"""
-    return SLICE_WITH_END, run.start, run[-1] + 1, min(run.step, LIMIT)
+def _fields(numbers: range) -> tuple[int, int, int, int]:
+    """A range as an element of a slice. (a step above the limit leaves one number)"""
+    return SLICE_WITH_END, numbers.start, numbers[-1] + 1, min(numbers.step, LIMIT)
 
 
 def _pair_of(shape: Packed, one: _Piece, other: _Piece) -> Optional[Pair]:

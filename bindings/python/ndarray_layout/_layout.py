@@ -407,9 +407,9 @@ class Layout(Views):
         if self.ndim == 1:
             return items[Row(self.start, *self.strides, *self.shape).as_slice()]
         self._check_rows()
-        run = items[self.start : self.start + self.size].cast("B")
+        stretch = items[self.start : self.start + self.size].cast("B")
         try:
-            return run.cast(items.format, self.shape)
+            return stretch.cast(items.format, self.shape)
         except ValueError as error:  # (of more axes than a `memoryview` has)
             raise ShapeError("IncompatibleBuffer", str(error)) from None
 

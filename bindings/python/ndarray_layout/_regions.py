@@ -200,7 +200,7 @@ def _usual_picks(length: int, elem: Elem) -> Optional[range]:
 
 def parts_of_slices(position: int, picks: list[range]) -> Iterable[Part]:
     """The part that a slice takes, where it has an index."""
-    return ((position, tuple([run if run.step > 0 else run[::-1] for run in picks])),) if all(picks) else ()
+    return ((position, tuple([numbers if numbers.step > 0 else numbers[::-1] for numbers in picks])),) if all(picks) else ()
 
 
 # ---- The chunks that a region touches

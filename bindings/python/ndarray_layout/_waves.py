@@ -50,7 +50,7 @@ def waves(
     alike = _alike(plan)
     without_index = alike.pop((), [])
     kinds = sorted(alike.items(), key=lambda kind: [run[0] for run in kind[0][0]])
-    wave_of = _first_fit([len(members) for _, members in kinds], _earlier(plan.axes, [runs for runs, _ in kinds]))
+    wave_of = _first_fit([len(members) for _, members in kinds], _earlier(plan.axes, [ranges for ranges, _ in kinds]))
     last = max([number for numbers in wave_of for number in numbers], default=0 if without_index else -1)
     found: list[list[int]] = [[] for _ in range(last + 1)]
     for (_, members), numbers in zip(kinds, wave_of):
@@ -64,8 +64,8 @@ def waves(
 def _alike(plan: Plan) -> dict[tuple[tuple[range, ...], ...], list[int]]:
     """The positions of the regions by their parts. Those without an index have none."""
     parts_of: list[list[tuple[range, ...]]] = [[] for _ in range(plan.regions)]
-    for position, runs in plan.parts:
-        parts_of[position].append(runs)
+    for position, ranges in plan.parts:
+        parts_of[position].append(ranges)
     found: dict[tuple[tuple[range, ...], ...], list[int]] = {}
     for position, parts in enumerate(parts_of):
         found.setdefault(tuple(parts), []).append(position)
@@ -74,7 +74,7 @@ def _alike(plan: Plan) -> dict[tuple[tuple[range, ...], ...], list[int]]:
 
 def _earlier(axes: int, kinds: list[tuple[tuple[range, ...], ...]]) -> list[list[int]]:
     """For each kind of regions those before it that conflict with it."""
-    parts: list[Part] = [(number, runs) for number, kind in enumerate(kinds) for runs in kind]
+    parts: list[Part] = [(number, ranges) for number, kind in enumerate(kinds) for ranges in kind]
     earlier: list[list[int]] = [[] for _ in kinds]
     for one, other in conflicts_of(axes, parts, each_compared):
         earlier[max(one, other)].append(min(one, other))
@@ -109,8 +109,8 @@ def chunks_of(
     return tuple([_numbers(along.touched(run)) for along, run in zip(chunk, picks)])
 
 
-def _numbers(runs: list[range]) -> Sequence[int]:
-    return runs[0] if len(runs) == 1 else tuple(sorted(chain(*runs))) if runs else range(0)
+def _numbers(ranges: list[range]) -> Sequence[int]:
+    return ranges[0] if len(ranges) == 1 else tuple(sorted(chain(*ranges))) if ranges else range(0)
 
 
 def aligned(

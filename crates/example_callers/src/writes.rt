@@ -3,7 +3,7 @@ ghost use Rattle.std.specs.Prelude.{◌≡◌, IfErr, IfOk, IsOk, IsTrue, None, 
 ghost use Rattle.std.specs.List.{All};
 ghost use Rattle.ndarray_layout.specs.declared.ErrorKind.{ErrorKind};
 ghost use Rattle.ndarray_layout.specs.declared.Fit.TheVariants.{Strict};
-ghost use Rattle.ndarray_layout.specs.Intersections.{AreApart};
+ghost use Rattle.ndarray_layout.specs.IntersectingPair.{AreApart};
 ghost use Rattle.nd_owned.specs.Owned.{shape_fault_of};
 ghost use Rattle.nd_owned.specs.MultiSet.{HaveNoItems, IsFaultOfWrites, IsWritten, KeepsOthers, write_of};
 

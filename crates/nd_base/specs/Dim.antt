@@ -3,9 +3,9 @@ use Rattle.std.specs.Prelude.{◌≡◌, ℕ, List, [], ◌∷◌, length, refl}
 use Rattle.std.specs.List.{refill}
 use Rattle.nd_base.specs.declared.dim.Dim.{Dim}
 
--- what a dimension keeps
-abbrev pub kept : {A : Type 0} → Dim A → A
-kept d = d.index
+-- the numbers of a dimension, one for each axis
+abbrev pub numbers_of : {A : Type 0} → Dim A → A
+numbers_of d = d.index
 
 -- the lengths of a dimension, in order
 abbrev pub lengths : Dim (List ℕ) → List ℕ

@@ -4,7 +4,7 @@ ghost use Rattle.std.specs.Borrow.{Lends, sem, Array, u64 as word};
 ghost use Rattle.std.specs.List.{refill};
 ghost use Rattle.std.proofs.Common.{ap, sym, ◌∙◌};
 ghost use Rattle.std.proofs.Math.Seq.{take-append_seam};
-ghost use Rattle.nd_base.specs.Dim.{kept};
+ghost use Rattle.nd_base.specs.Dim.{numbers_of};
 
 use crate::dim::Dim;
 use crate::dynindeximpl::IxDynImpl;
@@ -40,7 +40,7 @@ where
     Dim<Self>: Lengths,
 {
     // What the dimension stands for is what it keeps.
-    ghost list_is_kept: { ⟦<Dim<Self> as Lengths>⟧.list ≡ (λ dim. Self.list (kept dim)) };
+    ghost list_is_kept: { ⟦<Dim<Self> as Lengths>⟧.list ≡ (λ dim. Self.list (numbers_of dim)) };
 }
 
 impl<const N: usize> Numbers for [usize; N] {

@@ -13,7 +13,7 @@ use crate::signed_strides::stride_offset;
 
 /// An offset, moved from coordinate 0 of an axis to another one.
 #[inline(always)]
-fn moved(offset: isize, coordinate: usize, stride: usize) -> isize
+fn offset_along(offset: isize, coordinate: usize, stride: usize) -> isize
     requires small { coordinate ≤ limit }
     requires part { FitsSigned w64 (pos coordinate *ℤ signed stride) }
     requires whole { FitsSigned w64 (offset +ℤ (pos coordinate *ℤ signed stride)) }
@@ -41,7 +41,7 @@ pub fn index_offset(index: &[usize], strides: &[usize]) -> isize
     let axes = index.len().min(strides.len());
     let mut offset = 0isize;
     for axis in 0..axes {
-        offset = moved(offset, index[axis], strides[axis]);
+        offset = offset_along(offset, index[axis], strides[axis]);
     }
     offset
 }
@@ -70,7 +70,7 @@ pub fn stride_offset_checked(dim: &[usize], strides: &[usize], index: &[usize]) 
         if index[axis] >= dim[axis] {
             return None;
         }
-        offset = moved(offset, index[axis], strides[axis]);
+        offset = offset_along(offset, index[axis], strides[axis]);
     }
     Some(offset)
 }

@@ -1,6 +1,6 @@
 //! The operators of dimensions. Their conditions rule out other counts and results that do not fit.
 ghost use Rattle.std.specs.Prelude.{◌≡◌, ◌↔◌, [], ◌∷◌, replicate, IsTrue};
-ghost use Rattle.nd_base.specs.Dim.{lengths, kept};
+ghost use Rattle.nd_base.specs.Dim.{lengths, numbers_of};
 ghost use Rattle.nd_base.specs.Elementwise.{sums, differences, products, scaled, SumsFit, DifferencesFit, ProductsFit, ScaledFit};
 
 use crate::dim::{Dim, Ix1};
@@ -25,10 +25,10 @@ impl<const N: usize> Dim<[usize; N]> {
 }
 
 impl<I: Numbers> AddAssign<&Dim<I>> for Dim<I> {
-    ghost can_add_assign = { λ dim others. SumsFit (I.list (kept dim)) (I.list (kept others.now)) };
+    ghost can_add_assign = { λ dim others. SumsFit (I.list (numbers_of dim)) (I.list (numbers_of others.now)) };
 
     ghost add_assign_gives = { λ dim others result.
-        I.list (kept result) ≡ sums (I.list (kept dim)) (I.list (kept others.now)) };
+        I.list (numbers_of result) ≡ sums (I.list (numbers_of dim)) (I.list (numbers_of others.now)) };
 
     fn add_assign(&mut self, others: &Self) {
         add_to(self.index.slice_mut(), others.index.slice());
@@ -36,10 +36,10 @@ impl<I: Numbers> AddAssign<&Dim<I>> for Dim<I> {
 }
 
 impl<I: Numbers> AddAssign for Dim<I> {
-    ghost can_add_assign = { λ dim others. SumsFit (I.list (kept dim)) (I.list (kept others)) };
+    ghost can_add_assign = { λ dim others. SumsFit (I.list (numbers_of dim)) (I.list (numbers_of others)) };
 
     ghost add_assign_gives = { λ dim others result.
-        I.list (kept result) ≡ sums (I.list (kept dim)) (I.list (kept others)) };
+        I.list (numbers_of result) ≡ sums (I.list (numbers_of dim)) (I.list (numbers_of others)) };
 
     fn add_assign(&mut self, others: Self) {
         *self += &others;
@@ -49,10 +49,10 @@ impl<I: Numbers> AddAssign for Dim<I> {
 impl<I: Numbers> Add for Dim<I> {
     type Output = Self;
 
-    ghost can_add = { λ dim others. SumsFit (I.list (kept dim)) (I.list (kept others)) };
+    ghost can_add = { λ dim others. SumsFit (I.list (numbers_of dim)) (I.list (numbers_of others)) };
 
     ghost add_gives = { λ dim others result.
-        I.list (kept result) ≡ sums (I.list (kept dim)) (I.list (kept others)) };
+        I.list (numbers_of result) ≡ sums (I.list (numbers_of dim)) (I.list (numbers_of others)) };
 
     fn add(mut self, others: Self) -> Self {
         self += &others;
@@ -62,10 +62,10 @@ impl<I: Numbers> Add for Dim<I> {
 
 impl<I: Numbers> SubAssign<&Dim<I>> for Dim<I> {
     ghost can_sub_assign = { λ dim others.
-        DifferencesFit (I.list (kept dim)) (I.list (kept others.now)) };
+        DifferencesFit (I.list (numbers_of dim)) (I.list (numbers_of others.now)) };
 
     ghost sub_assign_gives = { λ dim others result.
-        I.list (kept result) ≡ differences (I.list (kept dim)) (I.list (kept others.now)) };
+        I.list (numbers_of result) ≡ differences (I.list (numbers_of dim)) (I.list (numbers_of others.now)) };
 
     fn sub_assign(&mut self, others: &Self) {
         subtract_from(self.index.slice_mut(), others.index.slice());
@@ -74,10 +74,10 @@ impl<I: Numbers> SubAssign<&Dim<I>> for Dim<I> {
 
 impl<I: Numbers> SubAssign for Dim<I> {
     ghost can_sub_assign = { λ dim others.
-        DifferencesFit (I.list (kept dim)) (I.list (kept others)) };
+        DifferencesFit (I.list (numbers_of dim)) (I.list (numbers_of others)) };
 
     ghost sub_assign_gives = { λ dim others result.
-        I.list (kept result) ≡ differences (I.list (kept dim)) (I.list (kept others)) };
+        I.list (numbers_of result) ≡ differences (I.list (numbers_of dim)) (I.list (numbers_of others)) };
 
     fn sub_assign(&mut self, others: Self) {
         *self -= &others;
@@ -87,10 +87,10 @@ impl<I: Numbers> SubAssign for Dim<I> {
 impl<I: Numbers> Sub for Dim<I> {
     type Output = Self;
 
-    ghost can_sub = { λ dim others. DifferencesFit (I.list (kept dim)) (I.list (kept others)) };
+    ghost can_sub = { λ dim others. DifferencesFit (I.list (numbers_of dim)) (I.list (numbers_of others)) };
 
     ghost sub_gives = { λ dim others result.
-        I.list (kept result) ≡ differences (I.list (kept dim)) (I.list (kept others)) };
+        I.list (numbers_of result) ≡ differences (I.list (numbers_of dim)) (I.list (numbers_of others)) };
 
     fn sub(mut self, others: Self) -> Self {
         self -= &others;
@@ -100,10 +100,10 @@ impl<I: Numbers> Sub for Dim<I> {
 
 impl<I: Numbers> MulAssign<&Dim<I>> for Dim<I> {
     ghost can_mul_assign = { λ dim others.
-        ProductsFit (I.list (kept dim)) (I.list (kept others.now)) };
+        ProductsFit (I.list (numbers_of dim)) (I.list (numbers_of others.now)) };
 
     ghost mul_assign_gives = { λ dim others result.
-        I.list (kept result) ≡ products (I.list (kept dim)) (I.list (kept others.now)) };
+        I.list (numbers_of result) ≡ products (I.list (numbers_of dim)) (I.list (numbers_of others.now)) };
 
     fn mul_assign(&mut self, others: &Self) {
         multiply_by(self.index.slice_mut(), others.index.slice());
@@ -111,10 +111,10 @@ impl<I: Numbers> MulAssign<&Dim<I>> for Dim<I> {
 }
 
 impl<I: Numbers> MulAssign for Dim<I> {
-    ghost can_mul_assign = { λ dim others. ProductsFit (I.list (kept dim)) (I.list (kept others)) };
+    ghost can_mul_assign = { λ dim others. ProductsFit (I.list (numbers_of dim)) (I.list (numbers_of others)) };
 
     ghost mul_assign_gives = { λ dim others result.
-        I.list (kept result) ≡ products (I.list (kept dim)) (I.list (kept others)) };
+        I.list (numbers_of result) ≡ products (I.list (numbers_of dim)) (I.list (numbers_of others)) };
 
     fn mul_assign(&mut self, others: Self) {
         *self *= &others;
@@ -124,10 +124,10 @@ impl<I: Numbers> MulAssign for Dim<I> {
 impl<I: Numbers> Mul for Dim<I> {
     type Output = Self;
 
-    ghost can_mul = { λ dim others. ProductsFit (I.list (kept dim)) (I.list (kept others)) };
+    ghost can_mul = { λ dim others. ProductsFit (I.list (numbers_of dim)) (I.list (numbers_of others)) };
 
     ghost mul_gives = { λ dim others result.
-        I.list (kept result) ≡ products (I.list (kept dim)) (I.list (kept others)) };
+        I.list (numbers_of result) ≡ products (I.list (numbers_of dim)) (I.list (numbers_of others)) };
 
     fn mul(mut self, others: Self) -> Self {
         self *= &others;
@@ -136,10 +136,10 @@ impl<I: Numbers> Mul for Dim<I> {
 }
 
 impl<I: Numbers> MulAssign<usize> for Dim<I> {
-    ghost can_mul_assign = { λ dim factor. ScaledFit (I.list (kept dim)) factor };
+    ghost can_mul_assign = { λ dim factor. ScaledFit (I.list (numbers_of dim)) factor };
 
     ghost mul_assign_gives = { λ dim factor result.
-        I.list (kept result) ≡ scaled (I.list (kept dim)) factor };
+        I.list (numbers_of result) ≡ scaled (I.list (numbers_of dim)) factor };
 
     fn mul_assign(&mut self, factor: usize) {
         scale(self.index.slice_mut(), factor);
@@ -149,10 +149,10 @@ impl<I: Numbers> MulAssign<usize> for Dim<I> {
 impl<I: Numbers> Mul<usize> for Dim<I> {
     type Output = Self;
 
-    ghost can_mul = { λ dim factor. ScaledFit (I.list (kept dim)) factor };
+    ghost can_mul = { λ dim factor. ScaledFit (I.list (numbers_of dim)) factor };
 
     ghost mul_gives = { λ dim factor result.
-        I.list (kept result) ≡ scaled (I.list (kept dim)) factor };
+        I.list (numbers_of result) ≡ scaled (I.list (numbers_of dim)) factor };
 
     fn mul(mut self, factor: usize) -> Self {
         self *= factor;

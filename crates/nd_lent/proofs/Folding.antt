@@ -7,7 +7,7 @@ use Rattle.std.specs.List.{FoldsTo}
 use Rattle.std.proofs.lemmas.List.{append-nil, drop_more, get_or-map, length-map, map-append, take_more}
 use Rattle.nd_lent.specs.Lending.{lends}
 use Rattle.nd_lent.specs.private.Folded.{HasCalled, HasFolded}
-pub use Rattle.nd_lent.proofs.Laws.RunsTo.{then_folded}
+pub use Rattle.nd_lent.proofs.Laws.MapsTo.{then_folded}
 
 abbrev pub shown : {T : Type 0} → List (Bor T) → List (Option T)
 shown lent = map (λ item. Some item.now) lent

@@ -24,7 +24,7 @@ pub mod PutBack
 pub mod PutBackItems
 pub mod RowItems
 pub mod RowLens
-pub mod RunsTo
+pub mod MapsTo
 pub mod SlicePlaces
 pub mod StepItems
 pub mod SwappedItems

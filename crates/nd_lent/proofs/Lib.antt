@@ -8,12 +8,12 @@ pub mod ItemWritten
 pub mod Moved
 pub mod OwnPlaces
 pub mod OwnRows
-pub mod PartRuns
+pub mod PartMaps
 pub mod Permuted
-pub mod RowRuns
+pub mod RowMaps
 pub mod RowsLent
 pub mod RowsOwned
-pub mod Runs
+pub mod ArrayMaps
 pub mod Searching
 pub mod Sets
 pub mod SixAxes

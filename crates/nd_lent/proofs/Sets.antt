@@ -20,7 +20,7 @@ use Rattle.nd_lent.specs.HasItems.{HasItemsOf}
 use Rattle.nd_lent.specs.Items.{ArrayValue, IsOwned, item_at, item_at_place}
 use Rattle.nd_lent.specs.Written.{HasSet}
 use Rattle.nd_lent.proofs.Permuted.{distinct_permuted}
-pub use Rattle.nd_lent.proofs.Laws.RunsTo.{Distinct}
+pub use Rattle.nd_lent.proofs.Laws.MapsTo.{Distinct}
 
 -- ---- what stands at an index
 -- what two functions make of a list is the same at each of its items

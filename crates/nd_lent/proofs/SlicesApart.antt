@@ -8,7 +8,7 @@ use Rattle.ndarray_layout.specs.declared.Fit.TheVariants.{Strict}
 use Rattle.ndarray_layout.specs.declared.SliceInfoElem.{SliceInfoElem}
 use Rattle.ndarray_layout.specs.Descends.{Descends}
 use Rattle.ndarray_layout.specs.DistinctPlaces.{HasDistinctPlaces}
-use Rattle.ndarray_layout.specs.Intersections.{slices_fault}
+use Rattle.ndarray_layout.specs.IntersectingPair.{slices_fault}
 use Rattle.ndarray_layout.specs.SharePlace.{SharePlace}
 use Rattle.ndarray_layout.specs.SlicedView.{slice_of}
 use Rattle.ndarray_layout.specs.SlicesSharePlace.{SlicesSharePlace}

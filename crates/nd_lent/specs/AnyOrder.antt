@@ -8,7 +8,7 @@ use Rattle.std.specs.List.Sorted.{IsPermutation}
 use Rattle.ndarray_layout.specs.declared.Order.TheVariants.{RowMajor}
 use Rattle.ndarray_layout.specs.Indices.{indices_in}
 use Rattle.nd_lent.specs.Items.{ArrayValue, item_at}
-use Rattle.nd_lent.specs.Mapped.{Makes, RunsOver}
+use Rattle.nd_lent.specs.Mapped.{Makes, CallsMake}
 
 -- it holds of the items, in whatever order
 abbrev pub InAnyOrder : {X : Type 0} → (List X → Type 0) → List X → Type 0
@@ -20,7 +20,7 @@ InSomeOrder {X} P items = (others : List X) × IsPermutation others items × P o
 
 -- calls in turn, each as the one before left the closure, one for each of the given items, in some order: each makes the item at its place
 -- in the other list
-pub record RunsOverInSomeOrder {F X Y : Type 0} (call : F → X → Y → F → Type 0) (f : F) (given : List (Option X))
+pub record CallsMakeInSomeOrder {F X Y : Type 0} (call : F → X → Y → F → Type 0) (f : F) (given : List (Option X))
     (made : List (Option Y)) : Type 0 where
   pub pairs : List (Option X × Option Y)
   pub each_once : IsPermutation pairs (zip given made)
@@ -28,17 +28,17 @@ pub record RunsOverInSomeOrder {F X Y : Type 0} (call : F → X → Y → F → 
   pub calls : FoldsTo (Makes call) f pairs last
 
 -- calls in turn make the items of an array of those at the same indices of another one: at each index once, in some order
-pub record RunsInSomeOrder {F X Y : Type 0} (call : F → X → Y → F → Type 0) (f : F) (given : ArrayValue X) (made : ArrayValue Y)
+pub record CallsMakeArrayInSomeOrder {F X Y : Type 0} (call : F → X → Y → F → Type 0) (f : F) (given : ArrayValue X) (made : ArrayValue Y)
     : Type 0 where
   pub indices : List (List ℕ)
   pub each_once : IsPermutation indices (indices_in RowMajor made.view.shape)
-  pub ran : RunsOver call f (map (item_at given) indices) (map (item_at made) indices)
+  pub ran : CallsMake call f (map (item_at given) indices) (map (item_at made) indices)
 
 -- examples: a call that adds what it counts, from 5 on
 abbrev counts : ℕ → ℕ → ℕ → ℕ → Type 0
 counts before x y after = (y ≡ x + before) × (after ≡ before + 1)
 
-second_item_first : RunsOverInSomeOrder counts 5 (Some 10 ∷ Some 20 ∷ []) (Some 16 ∷ Some 25 ∷ [])
+second_item_first : CallsMakeInSomeOrder counts 5 (Some 10 ∷ Some 20 ∷ []) (Some 16 ∷ Some 25 ∷ [])
 second_item_first = record {
   pairs = (Some 20, Some 25) ∷ (Some 10, Some 16) ∷ [];
   each_once = IsPermutation-reverse ((Some 20, Some 25) ∷ (Some 10, Some 16) ∷ []);
@@ -54,7 +54,7 @@ in_no_order is =
 abbrev row : List ℕ → ArrayValue ℕ
 row items = record { items = items; view = record { start = 0; shape = length items ∷ []; strides = pos 1 ∷ [] } }
 
-last_one_first : RunsInSomeOrder counts 5 (row (10 ∷ 20 ∷ [])) (row (16 ∷ 25 ∷ []))
+last_one_first : CallsMakeArrayInSomeOrder counts 5 (row (10 ∷ 20 ∷ [])) (row (16 ∷ 25 ∷ []))
 last_one_first = record {
   indices = (1 ∷ []) ∷ (0 ∷ []) ∷ [];
   each_once = record { moves = (0, 1) ∷ []; below = (ltb-true 0 2 refl, ltb-true 1 2 refl, tt); is = refl };

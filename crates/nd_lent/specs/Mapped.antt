@@ -21,8 +21,8 @@ Makes call before (Some x, Some y) after = call before x y after
 Makes call before (Some x, None) after = ⊥
 Makes call before (None, y) after = ⊥
 
--- calls in turn, each as the one before left the closure, make these items, each of the one at its place in the other list
-pub record RunsOver {F X Y : Type 0} (call : F → X → Y → F → Type 0) (f : F) (given : List (Option X))
+-- calls in turn, each as the one before left the closure, make these items, each of the one at its position in the other list
+pub record CallsMake {F X Y : Type 0} (call : F → X → Y → F → Type 0) (f : F) (given : List (Option X))
     (made : List (Option Y)) : Type 0 where
   pub last : F
   pub calls : FoldsTo (Makes call) f (zip given made) last
@@ -60,13 +60,13 @@ part_of slice array = record { items = array.items; view = slice_of Strict slice
 abbrev counts : ℕ → ℕ → ℕ → ℕ → Type 0
 counts before x y after = (y ≡ x + before) × (after ≡ before + 1)
 
-two_calls : RunsOver counts 5 (Some 10 ∷ Some 20 ∷ []) (Some 15 ∷ Some 26 ∷ [])
+two_calls : CallsMake counts 5 (Some 10 ∷ Some 20 ∷ []) (Some 15 ∷ Some 26 ∷ [])
 two_calls = record { last = 7; calls = (6, (refl, refl), (7, (refl, refl), refl)) }
 
-other_order : RunsOver counts 5 (Some 10 ∷ Some 20 ∷ []) (Some 16 ∷ Some 25 ∷ []) → ⊥
+other_order : CallsMake counts 5 (Some 10 ∷ Some 20 ∷ []) (Some 16 ∷ Some 25 ∷ []) → ⊥
 other_order run = both_ways (nat_eq 16 15) refl (eq-eqb 16 15 run.calls.1.0)
 
-none_made : RunsOver counts 5 (Some 10 ∷ []) (None ∷ []) → ⊥
+none_made : CallsMake counts 5 (Some 10 ∷ []) (None ∷ []) → ⊥
 none_made run = run.calls.1
 
 abbrev row_of_three : ArrayValue ℕ

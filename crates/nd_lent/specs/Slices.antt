@@ -7,7 +7,7 @@ use Rattle.ndarray_layout.specs.declared.ErrorKind.TheVariants.{OutOfBounds, Uns
 use Rattle.ndarray_layout.specs.declared.Fit.TheVariants.{Strict}
 use Rattle.ndarray_layout.specs.declared.SliceInfoElem.{SliceInfoElem}
 use Rattle.ndarray_layout.specs.declared.SliceInfoElem.TheVariants as elem
-use Rattle.ndarray_layout.specs.Intersections.{AreApart, SomeIntersect, slices_fault}
+use Rattle.ndarray_layout.specs.IntersectingPair.{AreApart, SomeIntersect, slices_fault}
 use Rattle.ndarray_layout.specs.SlicesSharePlace.{SlicesSharePlace}
 use Rattle.ndarray_layout.specs.SlicedView.{slice_of}
 use Rattle.ndarray_layout.specs.View.{View}

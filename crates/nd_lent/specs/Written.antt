@@ -5,7 +5,7 @@ use Rattle.std.proofs.Math.Nat.{not-suc-le-zero}
 use Rattle.std.proofs.lemmas.Bool.{both_ways}
 use Rattle.std.specs.List.{Contains}
 use Rattle.nd_lent.specs.Items.{item_at_place}
-use Rattle.nd_lent.specs.Mapped.{RunsOver}
+use Rattle.nd_lent.specs.Mapped.{CallsMake}
 
 -- at every other place is the same item in both lists, and none is past the end of one alone
 abbrev pub KeepsAllBut : {T : Type 0} → List ℤ → List T → List T → Type 0
@@ -17,9 +17,9 @@ pub record HasSet {T : Type 0} (places : List ℤ) (items : List (Option T)) (ol
   pub others : KeepsAllBut places old new
 
 -- calls in turn made the items at the places of the given ones
-pub record HasRun {F X Y : Type 0} (call : F → X → Y → F → Type 0) (f : F) (places : List ℤ) (given : List (Option X))
+pub record Maps {F X Y : Type 0} (call : F → X → Y → F → Type 0) (f : F) (places : List ℤ) (given : List (Option X))
     (old new : List Y) : Type 0 where
-  pub ran : RunsOver call f given (map (item_at_place new) places)
+  pub ran : CallsMake call f given (map (item_at_place new) places)
   pub others : KeepsAllBut places old new
 
 -- examples

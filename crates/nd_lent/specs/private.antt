@@ -1,6 +1,6 @@
 pub mod Folded
 pub mod OwnedRows
 pub mod Picked
-pub mod RunTo
+pub mod MapsTo
 pub mod Searched
 pub mod Summed

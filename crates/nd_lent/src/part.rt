@@ -69,8 +69,8 @@ impl<'a, T: Drop, D: Lengths> PartMut<'a, T, D> {
         ensures left { cells.new.marks ≡
             without (marks_of (length cells.old.marks) view) cells.old.marks }
     {
-        let own = cells.take_part(&view);
-        PartMut { cells: own, view }
+        let taken = cells.take_part(&view);
+        PartMut { cells: taken, view }
     }
 
     /// The view, by which each index of the part has its place among all items. The project's own.

@@ -14,7 +14,7 @@ use Rattle.ndarray_layout.specs.declared.Order.TheVariants.{RowMajor}
 use Rattle.ndarray_layout.specs.declared.SliceInfoElem.{SliceInfoElem}
 use Rattle.ndarray_layout.specs.declared.SliceInfoElem.TheVariants as elem
 use Rattle.ndarray_layout.specs.Intersect.{Intersect}
-use Rattle.ndarray_layout.specs.Intersections.{slices_fault as fault_of_slices}
+use Rattle.ndarray_layout.specs.IntersectingPair.{slices_fault as fault_of_slices}
 use Rattle.ndarray_layout.specs.Size.{size}
 use Rattle.ndarray_layout.specs.SlicedLayout.{sliced_shape}
 use Rattle.ndarray_layout.specs.SlicedView.{slice_of}

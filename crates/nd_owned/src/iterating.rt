@@ -70,7 +70,7 @@ impl<T: Copy, D: Lengths> OwnedArray<T, D> {
             (view_places RowMajor self.now.view) }
         ensures count { length result ≡ size self.now.view.shape }
         ensures in_order { EveryRun (YieldsFirstBy Some (λ (left : List (Option T)). left))
-            (λ run. ItemsMapTo run Some run.from) }
+            (λ turns. ItemsMapTo turns Some turns.from) }
         ensures owned { IsOwned (length self.now.items) self.now.view }
     {
         Items {

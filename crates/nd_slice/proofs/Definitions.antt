@@ -18,4 +18,4 @@ pub use Rattle.nd_slice.specs.AxisFault.{IndexFits, SliceFits, index_fault, is_w
 pub use Rattle.nd_slice.specs.SlicedLayout.{sliced_shape}
 pub use Rattle.nd_slice.specs.RangesApart.{IsPast, elem_on, end_on, start_on}
 pub use Rattle.nd_slice.specs.SlicesInOrder.{AreInOrder, position_of, slice_at}
-pub use Rattle.nd_slice.specs.Intersections.{AreApart, IntersectAt, IsIntersection, slices_fault}
+pub use Rattle.nd_slice.specs.IntersectingPair.{AreApart, IntersectAt, IsIntersection, slices_fault}

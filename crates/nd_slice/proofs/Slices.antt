@@ -1,4 +1,4 @@
--- Lists of slice arguments: their faults, each of them by its place, and their order along an axis.
+-- Lists of slice arguments: their faults, each of them by its position, and their order along an axis.
 use Rattle.std.proofs.Common.{◌≡◌, ℕ, ◌+◌, ◌-◌, ◌<◌, ◌≤◌, Bool, true, false, None, Some, List, [], ◌∷◌, length, get_or, map, drop}
 use Rattle.std.proofs.Common.{sym, ap, subst, ◌∙◌, below_more, arith, max, min}
 use Rattle.std.specs.List.{AllPairs}
@@ -27,18 +27,18 @@ module _ {X Y : Type 0} (f : X → Y) (xs : List X) (i : ℕ) where
   item_at d {x} below is = ap f is ∙ sym (get_or-map f xs i x d below)
 
 -- ---- slices that fit
-pub position_below : (backwards : Bool) (count place : ℕ) → place < count → position_of backwards count place < count
-position_below true count place below = omega (arith, below)
-position_below false count place below = below
+pub position_below : (backwards : Bool) (count turn : ℕ) → turn < count → position_of backwards count turn < count
+position_below true count turn below = omega (arith, below)
+position_below false count turn below = below
 
 module _ (fit : Fit) (shape : List ℕ) (slices : List (List SliceInfoElem)) (backwards : Bool) where
   abbrev pub at : ℕ → List SliceInfoElem
-  at place = slice_at slices backwards place
+  at turn = slice_at slices backwards turn
 
-  pub fits_read : (place : ℕ) → slices_fault fit shape slices ≡ None → place < length slices → argument_fault fit shape (at place) ≡ None
-  fits_read place none below =
-      each_fits fit shape slices none (position_of backwards (length slices) place) []
-      (position_below backwards (length slices) place below)
+  pub fits_read : (turn : ℕ) → slices_fault fit shape slices ≡ None → turn < length slices → argument_fault fit shape (at turn) ≡ None
+  fits_read turn none below =
+      each_fits fit shape slices none (position_of backwards (length slices) turn) []
+      (position_below backwards (length slices) turn below)
 
   -- ---- slices in order, with none of the first count that begins after a number
   pub record SoFar (axis count last : ℕ) : Type 0 where
@@ -91,8 +91,8 @@ module _ (fit : Fit) (shape : List ℕ) (slices : List (List SliceInfoElem)) (ba
 -- ---- two slices by the order in which they are read
 module _ (fit : Fit) (shape : List ℕ) (slices : List (List SliceInfoElem)) where
   -- those at any two positions are apart where each is apart from those that are read after it
-  pub all_apart : (backwards : Bool) → ((place later : ℕ) → place < later → later < length slices
-      → AreApart fit shape (slice_at slices backwards place) (slice_at slices backwards later)) → AllPairs (AreApart fit shape) slices
+  pub all_apart : (backwards : Bool) → ((turn later : ℕ) → turn < later → later < length slices
+      → AreApart fit shape (slice_at slices backwards turn) (slice_at slices backwards later)) → AllPairs (AreApart fit shape) slices
   all_apart backwards apart i j d before below =
       subst (λ one. AreApart fit shape one (get_or slices j d)) (same i (omega (arith, before, below)))
       (subst (AreApart fit shape (get_or slices i [])) (same j below) (by backwards apart))
@@ -103,8 +103,8 @@ module _ (fit : Fit) (shape : List ℕ) (slices : List (List SliceInfoElem)) whe
       back : (k : ℕ) → k < length slices → k ≡ length slices - 1 - (length slices - 1 - k)
       back k below = omega (arith, below)
 
-      by : (backwards : Bool) → ((place later : ℕ) → place < later → later < length slices
-          → AreApart fit shape (slice_at slices backwards place) (slice_at slices backwards later))
+      by : (backwards : Bool) → ((turn later : ℕ) → turn < later → later < length slices
+          → AreApart fit shape (slice_at slices backwards turn) (slice_at slices backwards later))
           → AreApart fit shape (get_or slices i []) (get_or slices j [])
       by false apart = apart i j before below
       by true apart = λ shared.
@@ -123,16 +123,16 @@ module _ (fit : Fit) (shape : List ℕ) (slices : List (List SliceInfoElem)) whe
         (subst (λ o. IsSomeAnd o (Intersect fit shape (get_or slices one []))) (sym (slice_get-get_or slices other [] below)) shared),
   )
 
-  pub shared_read : (backwards : Bool) (place later : ℕ) → place < later → later < length slices
-      → Intersect fit shape (slice_at slices backwards place) (slice_at slices backwards later)
-      → IntersectAt fit shape slices (min (position_of backwards (length slices) place) (position_of backwards (length slices) later))
-      (max (position_of backwards (length slices) place) (position_of backwards (length slices) later))
-  shared_read false place later order below shared =
-      let low : min place later ≡ place = omega (arith, order) in
-      let high : max place later ≡ later = omega (arith, order) in
-      rw (low, high) (shared_at place later order below shared)
-  shared_read true place later order below shared =
-      let one = length slices - 1 - place in
+  pub shared_read : (backwards : Bool) (turn later : ℕ) → turn < later → later < length slices
+      → Intersect fit shape (slice_at slices backwards turn) (slice_at slices backwards later)
+      → IntersectAt fit shape slices (min (position_of backwards (length slices) turn) (position_of backwards (length slices) later))
+      (max (position_of backwards (length slices) turn) (position_of backwards (length slices) later))
+  shared_read false turn later order below shared =
+      let low : min turn later ≡ turn = omega (arith, order) in
+      let high : max turn later ≡ later = omega (arith, order) in
+      rw (low, high) (shared_at turn later order below shared)
+  shared_read true turn later order below shared =
+      let one = length slices - 1 - turn in
       let other = length slices - 1 - later in
       let low : min one other ≡ other = omega (arith, order) in
       let high : max one other ≡ one = omega (arith, order) in

@@ -6,7 +6,7 @@ use Rattle.nd_slice.proofs.Laws.RangesApart.{apart_past}
 
 module _ (fit : Fit) (shape : List ℕ) (slices : List (List SliceInfoElem)) (backwards : Bool) where
   abbrev at : ℕ → List SliceInfoElem
-  at place = slice_at slices backwards place
+  at turn = slice_at slices backwards turn
 
   -- of the first count none ends on the first axis past `below`, and each ends there at `above` or before, or on the second at `left`
   -- or before

@@ -6,7 +6,7 @@ pub mod ElemRange
 pub mod ElementText
 pub mod Equation
 pub mod Intersect
-pub mod Intersections
+pub mod IntersectingPair
 pub mod Picks
 pub mod PicksIntersect
 pub mod RangesApart

@@ -4,7 +4,7 @@ use Rattle.std.specs.List.{AllPairs}
 use Rattle.nd_slice.specs.declared.fit.Fit.{Fit}
 use Rattle.nd_slice.specs.declared.elem.SliceInfoElem.{SliceInfoElem}
 use Rattle.nd_slice.specs.declared.slices_in_groups.Grouped.{Grouped}
-use Rattle.nd_slice.specs.Intersections.{AreApart}
+use Rattle.nd_slice.specs.IntersectingPair.{AreApart}
 use Rattle.nd_slice.specs.RangesApart.{end_on, start_on}
 use Rattle.nd_slice.specs.SliceFault.{argument_fault}
 

@@ -9,13 +9,13 @@ use Rattle.nd_slice.specs.declared.elem.SliceInfoElem.{SliceInfoElem}
 use Rattle.nd_slice.specs.declared.elem.SliceInfoElem.TheVariants as elem
 use Rattle.nd_slice.specs.RangesApart.{start_on}
 
--- the position in a list of count items of the one that is read after place others
+-- the position in a list of count items of the one that is read at a turn, from 0 on
 abbrev pub position_of : Bool → ℕ → ℕ → ℕ
-position_of backwards count place = if backwards then count - 1 - place else place
+position_of backwards count turn = if backwards then count - 1 - turn else turn
 
 -- that item
 abbrev pub slice_at : List (List SliceInfoElem) → Bool → ℕ → List SliceInfoElem
-slice_at slices backwards place = slice_index_or slices (position_of backwards (length slices) place) []
+slice_at slices backwards turn = slice_index_or slices (position_of backwards (length slices) turn) []
 
 -- none begins on the axis before one that is read earlier
 pub record AreInOrder (fit : Fit) (shape : List ℕ) (axis : ℕ) (slices : List (List SliceInfoElem)) (backwards : Bool) : Type 0 where

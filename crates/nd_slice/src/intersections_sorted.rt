@@ -4,12 +4,12 @@ ghost use Rattle.std.specs.List.{All};
 ghost use Rattle.std.specs.List.Sorted.{IsPermutation};
 ghost use Rattle.std.specs.Result.{result_err};
 ghost use Rattle.nd_slice.specs.Intersect.{Intersect};
-ghost use Rattle.nd_slice.specs.Intersections.{AreApart, IsIntersection, slices_fault};
+ghost use Rattle.nd_slice.specs.IntersectingPair.{AreApart, IsIntersection, slices_fault};
 ghost use Rattle.nd_slice.specs.SlicesInGroups.{AreApartAcross, AreInGroups, HasNoFault, elems_at, named};
 
 use crate::elems::SliceElems;
 use crate::fit::Fit;
-use crate::intersections::{check_slices, first_elems_intersection};
+use crate::intersecting_pair::{check_slices, first_elems_intersection};
 use crate::slices_in_groups::{Grouped, cut_on_axis, one_group};
 use crate::slices_in_order::{FromFirst, FromLast};
 use crate::slices_in_rows::lie_in_rows;

@@ -11,7 +11,7 @@ mod elems;
 mod fit;
 mod info;
 mod intersect;
-mod intersections;
+mod intersecting_pair;
 mod intersections_sorted;
 mod picks;
 mod ranges_apart;
@@ -34,7 +34,7 @@ pub use intersect::{
     arith_seq_intersect, elems_intersect, extended_gcd, slices_intersect,
     solve_linear_diophantine_eq,
 };
-pub use intersections::{first_elems_intersection, first_intersection};
+pub use intersecting_pair::{first_elems_intersection, first_intersection};
 pub use intersections_sorted::{first_elems_intersection_sorted, first_intersection_sorted};
 pub use picks::{AxisPicks, resolve_elem, resolve_slice, slice_min_max};
 pub use slice::Slice;

@@ -3,7 +3,7 @@ ghost use Rattle.std.specs.Prelude.{◌≡◌, ℕ, ◌<◌, ◌≤◌, Bool, tr
 ghost use Rattle.nd_slice.specs.declared.fit.Fit.{Fit};
 ghost use Rattle.nd_slice.specs.SliceFault.{argument_fault};
 ghost use Rattle.nd_slice.specs.RangesApart.{end_on, start_on};
-ghost use Rattle.nd_slice.specs.Intersections.{slices_fault};
+ghost use Rattle.nd_slice.specs.IntersectingPair.{slices_fault};
 ghost use Rattle.nd_slice.specs.SlicesInOrder.{AreInOrder, position_of, slice_at};
 
 use crate::elem::SliceInfoElem;
@@ -16,10 +16,10 @@ pub(crate) trait Direction {
     // Whether that is the last one.
     ghost backwards: { Bool };
 
-    /// The position in a list of `count` slices of the one that is read after `place` others.
-    fn position(count: usize, place: usize) -> usize
-        requires { place < count }
-        ensures { result ≡ position_of backwards count place };
+    /// The position in a list of `count` slices of the one that is read at the `turn`, from 0 on.
+    fn position(count: usize, turn: usize) -> usize
+        requires { turn < count }
+        ensures { result ≡ position_of backwards count turn };
 }
 
 /// From the first slice on.
@@ -34,8 +34,8 @@ impl Direction for FromFirst {
     ghost backwards = { false };
 
     #[inline(always)]
-    fn position(_count: usize, place: usize) -> usize {
-        place
+    fn position(_count: usize, turn: usize) -> usize {
+        turn
     }
 }
 
@@ -43,20 +43,20 @@ impl Direction for FromLast {
     ghost backwards = { true };
 
     #[inline(always)]
-    fn position(count: usize, place: usize) -> usize {
-        count - 1 - place
+    fn position(count: usize, turn: usize) -> usize {
+        count - 1 - turn
     }
 }
 
-/// The elements of the slice that is read after `place` others.
+/// The elements of the slice that is read at the `turn`, from 0 on.
 #[inline(always)]
-pub(crate) fn elems_at<S: SliceElems, R: Direction>(slices: &[S], place: usize) -> &[SliceInfoElem]
-    requires { place < length slices.now }
-    ensures slice { result.now ≡ slice_at (map S.list slices.now) R.backwards place }
+pub(crate) fn elems_at<S: SliceElems, R: Direction>(slices: &[S], turn: usize) -> &[SliceInfoElem]
+    requires { turn < length slices.now }
+    ensures slice { result.now ≡ slice_at (map S.list slices.now) R.backwards turn }
     ensures fits { (fit : Fit) (shape : List ℕ) → slices_fault fit shape (map S.list slices.now)
         ≡ None → argument_fault fit shape result.now ≡ None }
 {
-    slices[R::position(slices.len(), place)].elems()
+    slices[R::position(slices.len(), turn)].elems()
 }
 
 /// The axis on which slices are in order, and where a slice stops there. `None` where one of them isn't known.
@@ -108,8 +108,8 @@ fn are_in_order<S: SliceElems, R: Direction>(
     ensures { IsTrue result → AreInOrder fit shape.now axis (map S.list slices.now) R.backwards }
 {
     let mut last = 0;
-    for place in 0..slices.len() {
-        let Some((start, _)) = range_on(shape, axis, elems_at::<S, R>(slices, place), fit) else {
+    for turn in 0..slices.len() {
+        let Some((start, _)) = range_on(shape, axis, elems_at::<S, R>(slices, turn), fit) else {
             return false;
         };
         if start < last {

@@ -1,7 +1,7 @@
 //! Slices that lie as the tiles of a picture do, row of tiles after row of tiles.
 ghost use Rattle.std.specs.Prelude.{◌≡◌, None, IsTrue, map};
 ghost use Rattle.std.specs.List.{AllPairs};
-ghost use Rattle.nd_slice.specs.Intersections.{AreApart, slices_fault};
+ghost use Rattle.nd_slice.specs.IntersectingPair.{AreApart, slices_fault};
 
 use crate::elems::SliceElems;
 use crate::fit::Fit;
@@ -20,8 +20,8 @@ pub(crate) fn lie_in_rows<S: SliceElems, R: Direction>(
 {
     // Where the rows before end on the first axis, where all slices so far do, and where those of the row end on the second.
     let (mut above, mut below, mut left) = (0, 0, 0);
-    for place in 0..slices.len() {
-        let slice = elems_at::<S, R>(slices, place);
+    for turn in 0..slices.len() {
+        let slice = elems_at::<S, R>(slices, turn);
         let Some((top, bottom)) = range_on(shape, 0, slice, fit) else {
             return false;
         };

@@ -5,7 +5,7 @@ use Rattle.std.specs.Result.{result_err}
 use Rattle.nd_base.specs.declared.error.ErrorKind.{ErrorKind}
 use Rattle.nd_slice.specs.declared.fit.Fit.{Fit}
 use Rattle.nd_slice.specs.declared.elem.SliceInfoElem.{SliceInfoElem}
-use Rattle.nd_slice.specs.Intersections.{IsIntersection, slices_fault}
+use Rattle.nd_slice.specs.IntersectingPair.{IsIntersection, slices_fault}
 use Rattle.nd_slice.proofs.Laws.SliceFault.{each_fits, on_fitting}
 use Rattle.ndarray_layout.specs.DistinctPlaces.{HasDistinctPlaces}
 use Rattle.ndarray_layout.specs.SlicesSharePlace.{IsSharedPlace}

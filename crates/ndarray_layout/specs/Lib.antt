@@ -74,7 +74,7 @@ pub use Rattle.nd_slice.specs.SliceFault
 pub use Rattle.nd_slice.specs.RangesApart
 pub use Rattle.nd_slice.specs.SlicesInGroups
 pub use Rattle.nd_slice.specs.SlicesInOrder
-pub use Rattle.nd_slice.specs.Intersections
+pub use Rattle.nd_slice.specs.IntersectingPair
 pub use Rattle.nd_slice.specs.AxisElems
 pub use Rattle.nd_slice.specs.AxisCounts
 pub use Rattle.nd_slice.specs.ElemRange

@@ -19,5 +19,5 @@ pub mod RowsFrom
 pub mod SliceReasons
 pub mod SlicesNamed
 pub mod Statuses
-pub mod Texts
+pub mod StatusTexts
 pub mod Version

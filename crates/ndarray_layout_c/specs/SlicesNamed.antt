@@ -10,14 +10,14 @@ abbrev pub total : List ℕ → ℕ
 total [] = 0
 total (count ∷ counts) = count + total counts
 
--- a list in parts one after another, of these counts
-abbrev pub parts : {A : Type 0} → List ℕ → List A → List (List A)
-parts [] items = []
-parts (count ∷ counts) items = take count items ∷ parts counts (drop count items)
+-- a list in slices one after another, of these counts
+abbrev pub cut_by : {A : Type 0} → List ℕ → List A → List (List A)
+cut_by [] items = []
+cut_by (count ∷ counts) items = take count items ∷ cut_by counts (drop count items)
 
 -- the meanings of the elements, in slices of these counts
 abbrev pub slices_named : List ℕ → List RawElem → List (List SliceInfoElem)
-slices_named counts raws = parts counts (elems_named raws)
+slices_named counts raws = cut_by counts (elems_named raws)
 
 -- the two positions that a call wrote, where its answer is 1
 abbrev pub pair_found : ℤ → List ℕ → Option (ℕ × ℕ)

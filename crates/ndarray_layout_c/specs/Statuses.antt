@@ -8,7 +8,7 @@ use Rattle.ndarray_layout.specs.declared.ErrorKind.TheVariants.{OutOfBounds, Uns
 abbrev pub ok : ℤ
 ok = pos 0
 
--- the status of a number without a meaning, or of a list of another count than is due
+-- the status of a number without a meaning, or of a list of the wrong length
 abbrev pub bad_argument : ℤ
 bad_argument = pos 7
 

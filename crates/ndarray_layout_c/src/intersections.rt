@@ -5,11 +5,11 @@ ghost use Rattle.std.specs.Result.{result_err};
 ghost use Rattle.ndarray_layout.specs.declared.ErrorKind.{ErrorKind};
 ghost use Rattle.ndarray_layout.specs.Memory.{NeedsNoMemory};
 ghost use Rattle.ndarray_layout.specs.ShapeFault.{shape_fault};
-ghost use Rattle.ndarray_layout.specs.Intersections.{IsIntersection, slices_fault};
+ghost use Rattle.ndarray_layout.specs.IntersectingPair.{IsIntersection, slices_fault};
 ghost use Rattle.ndarray_layout_c.specs.Arguments.{fit_named, is_choice};
 ghost use Rattle.ndarray_layout_c.specs.Elements.{are_elems, elems_named};
 ghost use Rattle.ndarray_layout_c.specs.LayoutFault.{own_layout_fault};
-ghost use Rattle.ndarray_layout_c.specs.SlicesNamed.{pair_found, parts, slices_named, total};
+ghost use Rattle.ndarray_layout_c.specs.SlicesNamed.{pair_found, cut_by, slices_named, total};
 ghost use Rattle.ndarray_layout_c.specs.Statuses.{bad_argument, ok, out_of_memory, status_where};
 
 use crate::arguments::{answer_of, fit_named, is_choice};
@@ -33,39 +33,39 @@ fn add_up_to(counts: &[usize], len: usize) -> bool
     left == 0
 }
 
-/// A list in few parts one after another, of these counts, with empty ones after them.
-fn few_parts<'a>(elems: &'a [SliceInfoElem], counts: &[usize]) -> [&'a [SliceInfoElem]; FEW]
+/// A list in few slices one after another, of these counts, with empty ones after them.
+fn few_slices<'a>(elems: &'a [SliceInfoElem], counts: &[usize]) -> [&'a [SliceInfoElem]; FEW]
     requires few { length counts.now ≤ 4 }
     requires counts { total counts.now ≡ length elems.now }
-    ensures { map (λ part. part.now) (take (length counts.now) result) ≡
-        parts counts.now elems.now }
+    ensures { map (λ slice. slice.now) (take (length counts.now) result) ≡
+        cut_by counts.now elems.now }
 {
-    let (mut parts, mut left) = ([&elems[..0]; FEW], elems);
-    for place in 0..counts.len() {
-        let (part, rest) = left.split_at(counts[place]);
-        parts[place] = part;
+    let (mut slices, mut left) = ([&elems[..0]; FEW], elems);
+    for position in 0..counts.len() {
+        let (slice, rest) = left.split_at(counts[position]);
+        slices[position] = slice;
         left = rest;
     }
-    parts
+    slices
 }
 
-/// A list in parts one after another, of these counts.
-fn many_parts<'a>(
+/// A list in slices one after another, of these counts.
+fn many_slices<'a>(
     alloc: Global,
     elems: &'a [SliceInfoElem],
     counts: &[usize],
 ) -> Result<Vec<&'a [SliceInfoElem]>, AllocError>
     requires { total counts.now ≡ length elems.now }
-    ensures { IfOk result (λ found. map (λ part. part.now) found.items ≡
-        parts counts.now elems.now) }
+    ensures { IfOk result (λ found. map (λ slice. slice.now) found.items ≡
+        cut_by counts.now elems.now) }
 {
-    let (mut parts, mut left) = (Vec::with_capacity(alloc, counts.len())?, elems);
+    let (mut slices, mut left) = (Vec::with_capacity(alloc, counts.len())?, elems);
     for count in counts {
-        let (part, rest) = left.split_at(*count);
-        parts.push(part)?;
+        let (slice, rest) = left.split_at(*count);
+        slices.push(slice)?;
         left = rest;
     }
-    Ok(parts)
+    Ok(slices)
 }
 
 /// Two of many slices of a view that intersect, of which all elements are given one after another and how many each has.
@@ -80,19 +80,19 @@ fn intersection(
 ) -> Result<Option<(usize, usize)>, LayoutError>
     requires { total counts.now ≡ length elems.now }
     ensures fits { OnOk result
-        (slices_fault fit view.now.shape (parts counts.now elems.now) ≡ None) }
+        (slices_fault fit view.now.shape (cut_by counts.now elems.now) ≡ None) }
     ensures fault { (kind : ErrorKind) → shape_fault result ≡ Some kind →
-        slices_fault fit view.now.shape (parts counts.now elems.now) ≡ Some kind }
+        slices_fault fit view.now.shape (cut_by counts.now elems.now) ≡ Some kind }
     ensures memory { length counts.now ≤ 4 → shape_fault result ≡ None → IsOk result }
     ensures intersection { IfOk result (λ found.
-        IsIntersection fit view.now.shape (parts counts.now elems.now) found) }
+        IsIntersection fit view.now.shape (cut_by counts.now elems.now) found) }
 {
     if counts.len() <= FEW {
-        let parts = few_parts(elems, counts);
-        return Ok(view.first_intersection(&parts[..counts.len()], fit)?);
+        let slices = few_slices(elems, counts);
+        return Ok(view.first_intersection(&slices[..counts.len()], fit)?);
     }
-    let parts = many_parts(alloc, elems, counts)?;
-    Ok(view.first_intersection_sorted(alloc, parts.as_slice(), fit)?)
+    let slices = many_slices(alloc, elems, counts)?;
+    Ok(view.first_intersection_sorted(alloc, slices.as_slice(), fit)?)
 }
 
 /// Two of many slices of a shape that intersect.

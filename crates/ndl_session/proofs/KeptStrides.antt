@@ -5,7 +5,7 @@ use Rattle.std.specs.Str.{bytes_eq}
 use Rattle.std.proofs.lemmas.Int.{to_z-of_z}
 use Rattle.ndarray_layout.specs.Signed.{all_signed, unsigned}
 use Rattle.ndl_session.specs.text.Bytes.{comma}
-use Rattle.ndl_session.specs.text.Lines.{parts}
+use Rattle.ndl_session.specs.text.Lines.{cut_at}
 use Rattle.ndl_session.specs.text.Numbers.{IsIsize, signed_number_of}
 use Rattle.ndl_session.specs.script.Lists.{list_of, stride_of, strides_of}
 use Rattle.ndl_session.specs.script.Reading.{◌>>=◌, read_each}
@@ -31,4 +31,4 @@ in_list true texts = refl
 in_list false texts = each_signed texts
 
 pub strides_signed : (word : List ℕ) → option_map all_signed (list_of stride_of word) ≡ strides_of word
-strides_signed word = in_list (bytes_eq word (codes "-")) (parts comma word)
+strides_signed word = in_list (bytes_eq word (codes "-")) (cut_at comma word)

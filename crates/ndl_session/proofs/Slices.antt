@@ -7,9 +7,9 @@ use Rattle.ndarray_layout.specs.declared.SliceInfoElem.{SliceInfoElem}
 use Rattle.ndarray_layout.specs.declared.SliceInfoElem.TheVariants as elem
 use Rattle.ndl_session.specs.text.Bytes.{dot, semicolon}
 use Rattle.ndl_session.specs.script.Reading.{◌>>=◌}
-use Rattle.ndl_session.specs.text.Lines.{parts}
+use Rattle.ndl_session.specs.text.Lines.{cut_at}
 use Rattle.ndl_session.specs.text.Numbers.{signed_number_of}
-use Rattle.ndl_session.specs.script.Elements.{start_of, end_of, slice_of_bounds, slice_of_parts}
+use Rattle.ndl_session.specs.script.Elements.{start_of, end_of, slice_of_bounds, slice_of_pieces}
 use Rattle.ndl_session.proofs.text_lemmas.Parts.{lone_part, some_part}
 use Rattle.ndl_session.proofs.text_lemmas.NumberParts.{no_dot, no_semicolon, number_part}
 
@@ -17,15 +17,15 @@ use Rattle.ndl_session.proofs.text_lemmas.NumberParts.{no_dot, no_semicolon, num
 module _ (range step : List ℕ) where
   step_at : (cut : List (List ℕ)) (o : Option ℤ) → signed_number_of step ≡ o → ((z : ℤ) → o ≡ Some z → cut ≡ step ∷ [])
       → ((part : List ℕ) → cut ≡ part ∷ [] → part ≡ step) → cut ≢ []
-      → slice_of_parts (range ∷ cut) ≡ (o >>= λ z. slice_of_bounds z (parts dot range))
+      → slice_of_pieces (range ∷ cut) ≡ (o >>= λ z. slice_of_bounds z (cut_at dot range))
   step_at cut (Some z) e one lone some = rw (one z refl, e) refl
   step_at [] None e one lone some = absurd (some refl)
   step_at (part ∷ []) None e one lone some = rw (lone part refl, e) refl
   step_at (part ∷ other ∷ more) None e one lone some = refl
 
-  pub with_step : slice_of_parts (range ∷ parts semicolon step) ≡ (signed_number_of step >>= λ z. slice_of_bounds z (parts dot range))
+  pub with_step : slice_of_pieces (range ∷ cut_at semicolon step) ≡ (signed_number_of step >>= λ z. slice_of_bounds z (cut_at dot range))
   with_step =
-      step_at (parts semicolon step) (signed_number_of step) refl
+      step_at (cut_at semicolon step) (signed_number_of step) refl
       (number_part semicolon no_semicolon step) (lone_part semicolon step) (some_part semicolon step)
 
 -- ---- the bounds
@@ -33,7 +33,7 @@ some_of_map : {A B : Type 0} (f : A → B) (o : Option A) (y : B) → option_map
 some_of_map f (Some x) y e = (x, refl)
 some_of_map f None y e = absurd (cc)
 
-end_part : (end : List ℕ) (e : Option ℤ) → end_of end ≡ Some e → parts dot end ≡ end ∷ []
+end_part : (end : List ℕ) (e : Option ℤ) → end_of end ≡ Some e → cut_at dot end ≡ end ∷ []
 end_part [] e h = refl
 end_part (b ∷ bs) e h =
     let some = some_of_map Some (signed_number_of (b ∷ bs)) e h in
@@ -55,13 +55,13 @@ module _ (step : ℤ) (start end : List ℕ) where
   bounds_at (part ∷ []) None h one lone = rw (lone part refl, h) refl
   bounds_at (part ∷ other ∷ more) None h one lone = sym (no_end step (start_of start))
 
-  two_dots : slice_of_bounds step (start ∷ [] ∷ parts dot end) ≡ slice_from step (start_of start) (end_of end)
-  two_dots = bounds_at (parts dot end) (end_of end) refl (end_part end) (lone_part dot end)
+  two_dots : slice_of_bounds step (start ∷ [] ∷ cut_at dot end) ≡ slice_from step (start_of start) (end_of end)
+  two_dots = bounds_at (cut_at dot end) (end_of end) refl (end_part end) (lone_part dot end)
 
 -- both dots are there
-pub cut_bounds : {start end : List ℕ} (step : ℤ) (range rest : List ℕ) → parts dot range ≡ start ∷ parts dot rest
+pub cut_bounds : {start end : List ℕ} (step : ℤ) (range rest : List ℕ) → cut_at dot range ≡ start ∷ cut_at dot rest
     → pointwise nat_eq (take 1 rest) (dot ∷ []) ≡ true → end ≡ drop 1 rest
-    → slice_of_bounds step (parts dot range) ≡ slice_from step (start_of start) (end_of end)
+    → slice_of_bounds step (cut_at dot range) ≡ slice_from step (start_of start) (end_of end)
 cut_bounds step range [] cut second e = absurd (cc)
 cut_bounds {start} step range (b ∷ bs) cut second e =
     rw (cut, (and_parts (eqb b dot) true second).0) (two_dots step start bs ∙ ap (λ t. slice_from step (start_of start) (end_of t)) (sym e))

@@ -202,7 +202,7 @@ fn last_line(front: &str) -> (usize, &str) {
     (left.split("\n").count(), line)
 }
 
-/// Whether a front of a script has the answer that is due: that of the row for its last line, or `unreadable`.
+/// Whether a front of a script has the answer that is expected: that of the row for its last line, or `unreadable`.
 fn front_holds(alloc: Global, front: &str, rows: &str) -> Option<bool> {
     let (number, line) = last_line(front);
     let line = format!(in alloc; "{number}: {line}").ok()?;

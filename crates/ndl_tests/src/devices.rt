@@ -26,8 +26,8 @@ struct Devices {
 /// out.
 type Ended<'a> = (u8, usize, usize, &'a [u8]);
 
-/// What is due of a run: it ends at the first read that fails, and what goes out ends at the first write that does.
-fn due(case: Case, devices: Devices) -> Ended {
+/// What is expected of a run: it ends at the first read that fails, and what goes out ends at the first write that does.
+fn expected(case: Case, devices: Devices) -> Ended {
     let reads = calls(case.input.len(), devices.most).saturating_add(1);
     match devices.read {
         Some((call, _)) if call < reads => {
@@ -38,7 +38,7 @@ fn due(case: Case, devices: Devices) -> Ended {
     }
 }
 
-/// What is due of a run that has a whole text to write.
+/// What is expected of a run that has a whole text to write.
 fn written(status: u8, reads: usize, text: &[u8], devices: Devices) -> Ended {
     let writes = calls(text.len(), devices.most);
     match devices.write {
@@ -56,20 +56,20 @@ fn calls(bytes: usize, most: usize) -> usize {
 }
 
 /// Whether a run over these devices ends so, and uses neither late.
-fn ends(alloc: Global, reader: Fake<&[u8]>, writer: Fake<Vec<u8>>, due: Ended) -> bool {
+fn ends(alloc: Global, reader: Fake<&[u8]>, writer: Fake<Vec<u8>>, expected: Ended) -> bool {
     let mut reader = Watched::new(reader);
     let mut writer = Watched::new(writer);
     let status = session(alloc, &mut reader, &mut writer);
     let on_time = !reader.used_late() && !writer.used_late();
     let (reader, writer) = (reader.into_inner(), writer.into_inner());
-    on_time && (status, reader.calls, writer.calls, writer.bytes.as_slice()) == due
+    on_time && (status, reader.calls, writer.calls, writer.bytes.as_slice()) == expected
 }
 
-/// Whether a run over such devices leaves what is due of it.
+/// Whether a run over such devices leaves what is expected of it.
 fn holds(alloc: Global, case: Case, devices: Devices) -> bool {
     let reader = Fake::new(case.input, devices.most, devices.read);
     let writer = Fake::new(Vec::new(alloc), devices.most, devices.write);
-    ends(alloc, reader, writer, due(case, devices))
+    ends(alloc, reader, writer, expected(case, devices))
 }
 
 const BROKEN: Fault = Fault::Error(ErrorKind::BrokenPipe);
@@ -79,7 +79,7 @@ const INTERRUPTED: Fault = Fault::Error(ErrorKind::Interrupted);
 /// Whether the runs hold in which each write in turn fails in each way, and those in which none does.
 fn writes_hold(alloc: Global, case: Case, most: usize, read: FaultyCall) -> bool {
     let write = None;
-    let (_, _, writes, _) = due(case, Devices { most, read, write });
+    let (_, _, writes, _) = expected(case, Devices { most, read, write });
     for call in 0..=writes {
         for fault in [BROKEN, INTERRUPTED, Fault::Nothing] {
             let write = Some((call, fault));
@@ -139,8 +139,8 @@ fn an_input_ends_once(rt: HostRuntime) {
     let input = b"data 4 owned 4 1\n".as_slice();
     let reader = Fake::new(input, 1, Some((2, Fault::Nothing)));
     let writer = Fake::new(Vec::new(rt.alloc()), 100, None);
-    let due = (2, 3, 1, b"line 1: unreadable\n".as_slice());
-    assert!(rt; ends(rt.alloc(), reader, writer, due));
+    let expected = (2, 3, 1, b"line 1: unreadable\n".as_slice());
+    assert!(rt; ends(rt.alloc(), reader, writer, expected));
 }
 
 #[test]

@@ -1,7 +1,7 @@
 //! The chunks of an array along an axis one after another.
 
 use super::axis_iter::reach;
-use super::pieces::{Left, into_parts};
+use super::pieces::{UncutItems, into_parts};
 use crate::convenience::printed;
 use crate::nd_base::{Axis, ErrorKind, LayoutError, Lengths, from_kind, signed};
 use crate::ndarray_layout::Strided;
@@ -91,7 +91,7 @@ impl<'a, T, D: Lengths> AxisChunksIter<'a, T, D> {
 /// # Ok::<(), LayoutError>(())
 /// ```
 pub struct AxisChunksIterMut<'a, T, D: Lengths> {
-    items: Left<'a, T>,
+    items: UncutItems<'a, T>,
     chunks: Chunks<D>,
 }
 
@@ -106,7 +106,7 @@ impl<'a, T, D: Lengths> AxisChunksIterMut<'a, T, D> {
         if chunks.left.len() > 1 && chunks.stride().unsigned_abs() < width {
             return Err(LayoutError::Shape(from_kind(ErrorKind::IncompatibleLayout)));
         }
-        Ok(AxisChunksIterMut { items: Left { items, first: 0 }, chunks })
+        Ok(AxisChunksIterMut { items: UncutItems { items, first: 0 }, chunks })
     }
 
     /// The chunk of a number, the first that is left or the last one.

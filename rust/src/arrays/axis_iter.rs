@@ -1,6 +1,6 @@
 //! The arrays at the coordinates of an axis one after another.
 
-use super::pieces::{Left, into_parts};
+use super::pieces::{UncutItems, into_parts};
 use crate::convenience::OUT_OF_MEMORY;
 use crate::convenience::printed;
 use crate::nd_base::{Axis, ErrorKind, LayoutError, Lengths, from_kind, signed};
@@ -12,7 +12,7 @@ use core::iter::FusedIterator;
 use core::ops::Range;
 
 /// The views at the coordinates of an axis, which are alike but for their starts.
-struct Blocks<D: Lengths> {
+struct AxisViews<D: Lengths> {
     /// The view at the first coordinate.
     view: Strided<D>,
     stride: isize,
@@ -20,8 +20,8 @@ struct Blocks<D: Lengths> {
     left: Range<usize>,
 }
 
-impl<D: Lengths> Blocks<D> {
-    /// The blocks along an axis. Errors: those of `Strided::index_axis`, but none where the axis has length 0.
+impl<D: Lengths> AxisViews<D> {
+    /// The views along an axis. Errors: those of `Strided::index_axis`, but none where the axis has length 0.
     fn new<L: RemoveAxis<Smaller = D>>(view: &Strided<L>, axis: Axis) -> Result<Self, LayoutError> {
         let Some(len) = view.dim().slice().get(axis.index()).copied() else {
             return Err(LayoutError::Shape(from_kind(ErrorKind::OutOfBounds)));
@@ -31,7 +31,7 @@ impl<D: Lengths> Blocks<D> {
         if product(dim.slice()) == 0 {
             (strides, stride) = (D::zeros(dim.ndim())?, 0);
         }
-        Ok(Blocks { view: Strided { start: view.start(), dim, strides }, stride, left: 0..len })
+        Ok(AxisViews { view: Strided { start: view.start(), dim, strides }, stride, left: 0..len })
     }
 
     /// The view at a coordinate.
@@ -66,7 +66,7 @@ pub(crate) fn reach<D: Lengths>(view: &Strided<D>) -> Result<(usize, usize), Lay
 /// ```
 pub struct AxisIter<'a, T, D: Lengths> {
     items: &'a [T],
-    blocks: Blocks<D>,
+    blocks: AxisViews<D>,
 }
 
 impl<'a, T, D: Lengths> AxisIter<'a, T, D> {
@@ -75,7 +75,7 @@ impl<'a, T, D: Lengths> AxisIter<'a, T, D> {
     where
         L: RemoveAxis<Smaller = D>,
     {
-        Ok(AxisIter { items, blocks: Blocks::new(view, axis)? })
+        Ok(AxisIter { items, blocks: AxisViews::new(view, axis)? })
     }
 
     #[inline]
@@ -99,8 +99,8 @@ impl<'a, T, D: Lengths> AxisIter<'a, T, D> {
 /// # Ok::<(), LayoutError>(())
 /// ```
 pub struct AxisIterMut<'a, T, D: Lengths> {
-    items: Left<'a, T>,
-    blocks: Blocks<D>,
+    items: UncutItems<'a, T>,
+    blocks: AxisViews<D>,
     /// How far a block reaches below its start, and how many items it reaches over.
     below: usize,
     width: usize,
@@ -113,12 +113,12 @@ impl<'a, T, D: Lengths> AxisIterMut<'a, T, D> {
         L: RemoveAxis<Smaller = D>,
     {
         let (view, items) = into_parts(array);
-        let blocks = Blocks::new(&view, axis)?;
+        let blocks = AxisViews::new(&view, axis)?;
         let (below, width) = reach(&blocks.view)?;
         if blocks.left.len() > 1 && blocks.stride.unsigned_abs() < width {
             return Err(LayoutError::Shape(from_kind(ErrorKind::IncompatibleLayout)));
         }
-        Ok(AxisIterMut { items: Left { items, first: 0 }, blocks, below, width })
+        Ok(AxisIterMut { items: UncutItems { items, first: 0 }, blocks, below, width })
     }
 
     /// The array at the first coordinate that is left, or at the last one.

@@ -4,7 +4,7 @@ use crate::{LentRow, RowItems};
 
 /// The place that is so many steps farther.
 #[inline]
-pub(crate) fn moved(place: usize, steps: usize, step: isize) -> usize {
+pub(crate) fn place_after(place: usize, steps: usize, step: isize) -> usize {
     place.wrapping_add_signed((steps as isize).wrapping_mul(step))
 }
 

@@ -1,6 +1,6 @@
 //! Two views of one shape, whose rows are gone over side by side.
 
-use super::line::moved;
+use super::line::place_after;
 use crate::LentRow;
 use crate::nd_base::{ErrorKind, Lengths, ShapeError, from_kind};
 use crate::nd_lent::nearest::{nearest_rows_with, nearest_views};
@@ -26,20 +26,20 @@ pub(crate) fn zip_mut<T, U, D: Lengths>(
 
 /// Calls a closure at the items of two rows of equal lengths.
 #[inline]
-fn zip_row<T, U>(own: (Row, &mut [T]), other: LentRow<'_, U>, f: &mut impl FnMut(&mut T, &U)) {
-    let (row, items) = own;
+fn zip_row<T, U>(one: (Row, &mut [T]), other: LentRow<'_, U>, f: &mut impl FnMut(&mut T, &U)) {
+    let (row, items) = one;
     if let (Some(_), Some(others)) = (LentRow { items: &*items, row }.as_slice(), other.as_slice()) {
         items[row.start..][..row.len].iter_mut().zip(others).for_each(|(item, other)| f(item, other));
         return;
     }
     for coordinate in 0..row.len {
-        f(&mut items[moved(row.start, coordinate, row.stride)], other.item(coordinate));
+        f(&mut items[place_after(row.start, coordinate, row.stride)], other.item(coordinate));
     }
 }
 
 /// Whether two views have one shape and, at each index, equal items; compared in the order in which those of the first lie.
-pub(crate) fn same_items<T: PartialEq<U>, U, D: Lengths>(own: (&Strided<D>, &[T]), other: (&Strided<D>, &[U])) -> bool {
-    let ((view, items), (other_view, others)) = (own, other);
+pub(crate) fn same_items<T: PartialEq<U>, U, D: Lengths>(one: (&Strided<D>, &[T]), other: (&Strided<D>, &[U])) -> bool {
+    let ((view, items), (other_view, others)) = (one, other);
     view.dim().equal(other_view.dim()) && {
         let nearest = nearest_views(view, other_view);
         let (rows, beside) = nearest_rows_with(view, other_view, &nearest);
@@ -49,9 +49,9 @@ pub(crate) fn same_items<T: PartialEq<U>, U, D: Lengths>(own: (&Strided<D>, &[T]
 
 /// Whether two rows of equal lengths have equal items.
 #[inline]
-fn same_row<T: PartialEq<U>, U>(own: LentRow<'_, T>, other: LentRow<'_, U>) -> bool {
-    match (own.as_slice(), other.as_slice()) {
+fn same_row<T: PartialEq<U>, U>(one: LentRow<'_, T>, other: LentRow<'_, U>) -> bool {
+    match (one.as_slice(), other.as_slice()) {
         (Some(items), Some(others)) => items == others,
-        _ => (0..own.len()).all(|coordinate| own.item(coordinate) == other.item(coordinate)),
+        _ => (0..one.len()).all(|coordinate| one.item(coordinate) == other.item(coordinate)),
     }
 }

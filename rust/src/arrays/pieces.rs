@@ -32,24 +32,24 @@ pub(crate) enum Pieces<'a, T, D: Lengths> {
 
 /// Items of which those of rows are cut off at both ends. The places of the rows ascend.
 pub(crate) struct Cut<'a, T, D: Lengths> {
-    left: Left<'a, T>,
+    left: UncutItems<'a, T>,
     rows: StridedRows<D>,
 }
 
 /// Items that are left in the middle, and the place of the first of them.
-pub(crate) struct Left<'a, T> {
+pub(crate) struct UncutItems<'a, T> {
     pub items: &'a mut [T],
     pub first: usize,
 }
 
-impl<'a, T> Left<'a, T> {
+impl<'a, T> UncutItems<'a, T> {
     /// The items from a place on, `len` of them; those before are left out. `None` where some of them are gone.
     #[inline]
     pub fn take_front(&mut self, place: usize, len: usize) -> Option<&'a mut [T]> {
         let skipped = place.checked_sub(self.first)?;
         let (_, items) = core::mem::take(&mut self.items).split_at_mut_checked(skipped)?;
         let (taken, items) = items.split_at_mut_checked(len)?;
-        *self = Left { items, first: place + len };
+        *self = UncutItems { items, first: place + len };
         Some(taken)
     }
 
@@ -112,7 +112,7 @@ impl<'a, T, D: Lengths> Pieces<'a, T, D> {
                 let lines = list(items, &view, view.dim().ndim() - 1)?.into_iter();
                 Ok(Pieces::Listed { lines, stride: row.stride, len: row.len })
             }
-            _ => Ok(Pieces::Cut(Cut { left: Left { items, first: 0 }, rows: view.into_rows(Order::RowMajor) })),
+            _ => Ok(Pieces::Cut(Cut { left: UncutItems { items, first: 0 }, rows: view.into_rows(Order::RowMajor) })),
         }
     }
 }
@@ -152,7 +152,7 @@ fn list<'a, T, D: Lengths>(
     lows.sort_unstable();
     let mut lines: Vec<&'a mut [T]> = Vec::fallible_with_capacity(lows.len())?;
     lines.resize_with(lows.len(), Default::default);
-    let mut left = Left { items, first: 0 };
+    let mut left = UncutItems { items, first: 0 };
     for (lowest, number) in lows {
         let taken = left.take_front(lowest, width(row_from(lowest)));
         lines[number] = taken.ok_or(LayoutError::Shape(from_kind(ErrorKind::IncompatibleLayout)))?;

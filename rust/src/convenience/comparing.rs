@@ -17,7 +17,7 @@ fn hash_of<T: Hash, D: Lengths, H: Hasher>((view, items): Read<'_, T, D>, state:
 
 /// Equality of each pair of types.
 macro_rules! compared {
-    ($($own:ty, $other:ty: $($lifetime:lifetime),*;)*) => {$(
+    ($($one:ty, $other:ty: $($lifetime:lifetime),*;)*) => {$(
         /// Whether both have one shape and, at each index, equal items. Layouts and spare items don't count. Rows whose items
         /// lie side by side are compared as slices. Not proved.
         ///
@@ -34,7 +34,7 @@ macro_rules! compared {
         /// # Ok(())
         /// # }
         /// ```
-        impl<$($lifetime,)* T: PartialEq<U>, U, D: Lengths> PartialEq<$other> for $own {
+        impl<$($lifetime,)* T: PartialEq<U>, U, D: Lengths> PartialEq<$other> for $one {
             fn eq(&self, other: &$other) -> bool {
                 same_items((self.view(), self.stored()), (other.view(), other.stored()))
             }

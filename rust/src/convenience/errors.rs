@@ -34,8 +34,8 @@ impl Clone for LayoutError {
 impl PartialEq for LayoutError {
     fn eq(&self, other: &Self) -> bool {
         match (self, other) {
-            (LayoutError::Shape(own), LayoutError::Shape(other)) => own == other,
-            (LayoutError::Memory(own), LayoutError::Memory(other)) => own == other,
+            (LayoutError::Shape(one), LayoutError::Shape(other)) => one == other,
+            (LayoutError::Memory(one), LayoutError::Memory(other)) => one == other,
             _ => false,
         }
     }

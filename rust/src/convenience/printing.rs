@@ -153,8 +153,8 @@ macro_rules! printed {
         /// let numbers = [1, 2, 3, 4];
         /// let upwards = Strided::new(Ix2(2, 2), Ix2(unsigned(-2), 1), 4, 4, ndarray_layout::CanIndexCheckMode::ReadOnly)?;
         /// let array = ArrayView::over(upwards, &numbers)?;
-        /// let due = "[[3, 4],\n [1, 2]], shape=[2, 2], strides=[-2, 1], layout=c (0x4), const ndim=2";
-        /// assert_eq!(format!("{array:?}"), due);
+        /// let expected = "[[3, 4],\n [1, 2]], shape=[2, 2], strides=[-2, 1], layout=c (0x4), const ndim=2";
+        /// assert_eq!(format!("{array:?}"), expected);
         /// # Ok(())
         /// # }
         /// ```

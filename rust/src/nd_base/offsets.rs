@@ -16,7 +16,7 @@ use crate::nd_base::signed_strides::stride_offset;
 /// [How to read it](crate::contracts)
 /// </details>
 #[inline(always)]
-fn moved(offset: isize, coordinate: usize, stride: usize) -> isize {
+fn offset_along(offset: isize, coordinate: usize, stride: usize) -> isize {
     offset + stride_offset(coordinate, stride)
 }
 
@@ -48,7 +48,7 @@ pub fn index_offset(index: &[usize], strides: &[usize]) -> isize {
     let axes = index.len().min(strides.len());
     let mut offset = 0isize;
     for axis in 0..axes {
-        offset = moved(offset, index[axis], strides[axis]);
+        offset = offset_along(offset, index[axis], strides[axis]);
     }
     offset
 }
@@ -87,7 +87,7 @@ pub fn stride_offset_checked(dim: &[usize], strides: &[usize], index: &[usize]) 
         if index[axis] >= dim[axis] {
             return None;
         }
-        offset = moved(offset, index[axis], strides[axis]);
+        offset = offset_along(offset, index[axis], strides[axis]);
     }
     Some(offset)
 }

@@ -62,8 +62,8 @@ impl<'a, T: Sized, D: Lengths> PartMut<'a, T, D> {
     /// </details>
     #[inline]
     fn take_from(cells: &mut Cells<'a, T>, view: Strided<D>) -> Self {
-        let own = cells.take_part(&view);
-        PartMut { cells: own, view }
+        let taken = cells.take_part(&view);
+        PartMut { cells: taken, view }
     }
 
     /// The view, by which each index of the part has its place among all items. The project's own.

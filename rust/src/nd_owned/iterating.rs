@@ -64,7 +64,7 @@ impl<T: Copy, D: Lengths> OwnedArray<T, D> {
     /// ensures items: result ≡ map (item_at_place self.now.items) (view_places RowMajor self.now.view)
     /// ensures count: length result ≡ size self.now.view.shape
     /// ensures in_order: EveryRun (YieldsFirstBy Some (λ (left : List (Option T)). left))
-    ///     (λ run. ItemsMapTo run Some run.from)
+    ///     (λ turns. ItemsMapTo turns Some turns.from)
     /// ensures owned: IsOwned (length self.now.items) self.now.view
     /// ```
     /// [How to read it](crate::contracts)

@@ -6,7 +6,7 @@ use crate::memory::prelude::Vec;
 use crate::nd_base::{Lengths, ShapeError};
 use crate::nd_slice::elems::SliceElems;
 use crate::nd_slice::fit::Fit;
-use crate::nd_slice::intersections::{check_slices, first_elems_intersection};
+use crate::nd_slice::intersecting_pair::{check_slices, first_elems_intersection};
 use crate::nd_slice::slices_in_groups::{Grouped, cut_on_axis, one_group};
 use crate::nd_slice::slices_in_order::{FromFirst, FromLast};
 use crate::nd_slice::slices_in_rows::lie_in_rows;

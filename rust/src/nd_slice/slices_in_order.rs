@@ -8,17 +8,17 @@ use crate::nd_slice::ranges_apart::range_on;
 
 /// From which end a list of slices is read.
 pub(crate) trait Direction {
-    /// The position in a list of `count` slices of the one that is read after `place` others.
+    /// The position in a list of `count` slices of the one that is read at the `turn`, from 0 on.
     ///
     /// <details><summary>Contract (proved)</summary>
     ///
     /// ```text
-    /// requires place < count
-    /// ensures result ≡ position_of backwards count place
+    /// requires turn < count
+    /// ensures result ≡ position_of backwards count turn
     /// ```
     /// [How to read it](crate::contracts)
     /// </details>
-    fn position(count: usize, place: usize) -> usize;
+    fn position(count: usize, turn: usize) -> usize;
 }
 
 /// From the first slice on.
@@ -29,33 +29,33 @@ pub(crate) struct FromLast;
 
 impl Direction for FromFirst {
     #[inline(always)]
-    fn position(_count: usize, place: usize) -> usize {
-        place
+    fn position(_count: usize, turn: usize) -> usize {
+        turn
     }
 }
 
 impl Direction for FromLast {
     #[inline(always)]
-    fn position(count: usize, place: usize) -> usize {
-        count - 1 - place
+    fn position(count: usize, turn: usize) -> usize {
+        count - 1 - turn
     }
 }
 
-/// The elements of the slice that is read after `place` others.
+/// The elements of the slice that is read at the `turn`, from 0 on.
 ///
 /// <details><summary>Contract (proved)</summary>
 ///
 /// ```text
-/// requires place < length slices.now
-/// ensures slice: result.now ≡ slice_at (map S.list slices.now) R.backwards place
+/// requires turn < length slices.now
+/// ensures slice: result.now ≡ slice_at (map S.list slices.now) R.backwards turn
 /// ensures fits: (fit : Fit) (shape : List ℕ) → slices_fault fit shape (map S.list slices.now)
 ///     ≡ None → argument_fault fit shape result.now ≡ None
 /// ```
 /// [How to read it](crate::contracts)
 /// </details>
 #[inline(always)]
-pub(crate) fn elems_at<S: SliceElems, R: Direction>(slices: &[S], place: usize) -> &[SliceInfoElem] {
-    slices[R::position(slices.len(), place)].elems()
+pub(crate) fn elems_at<S: SliceElems, R: Direction>(slices: &[S], turn: usize) -> &[SliceInfoElem] {
+    slices[R::position(slices.len(), turn)].elems()
 }
 
 /// The axis on which slices are in order, and where a slice stops there. `None` where one of them isn't known.
@@ -116,8 +116,8 @@ pub(crate) fn begins_past(shape: &[usize], end: Option<(usize, usize)>, slice: &
 #[inline]
 fn are_in_order<S: SliceElems, R: Direction>(shape: &[usize], axis: usize, slices: &[S], fit: Fit) -> bool {
     let mut last = 0;
-    for place in 0..slices.len() {
-        let Some((start, _)) = range_on(shape, axis, elems_at::<S, R>(slices, place), fit) else {
+    for turn in 0..slices.len() {
+        let Some((start, _)) = range_on(shape, axis, elems_at::<S, R>(slices, turn), fit) else {
             return false;
         };
         if start < last {

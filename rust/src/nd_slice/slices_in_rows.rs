@@ -21,8 +21,8 @@ use crate::nd_slice::slices_in_order::{Direction, elems_at};
 pub(crate) fn lie_in_rows<S: SliceElems, R: Direction>(shape: &[usize], slices: &[S], fit: Fit) -> bool {
     // Where the rows before end on the first axis, where all slices so far do, and where those of the row end on the second.
     let (mut above, mut below, mut left) = (0, 0, 0);
-    for place in 0..slices.len() {
-        let slice = elems_at::<S, R>(slices, place);
+    for turn in 0..slices.len() {
+        let slice = elems_at::<S, R>(slices, turn);
         let Some((top, bottom)) = range_on(shape, 0, slice, fit) else {
             return false;
         };

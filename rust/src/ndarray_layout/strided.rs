@@ -26,7 +26,7 @@ mod alike_rows;
 mod blocks;
 mod into_places;
 mod into_rows;
-mod joining;
+mod joined_layouts;
 mod moving;
 mod nearest;
 mod nth_row;
@@ -37,7 +37,7 @@ use crate::nd_base::Lengths;
 pub use into_places::IntoPlaces;
 pub use into_rows::StridedRows;
 pub use iter_places::Places;
-pub use joining::joined_in_all;
+pub use joined_layouts::joined_in_all;
 pub use places_of_rows::PlacesOf;
 pub use rows::{Row, Rows};
 

@@ -1,4 +1,4 @@
-//! Parts that are read: run over, and compared with one another and with arrays.
+//! Parts that are read: iterated, and compared with one another and with arrays.
 
 use crate::nd_base::{Lengths, Order};
 use crate::nd_lent::Iter;
@@ -64,14 +64,14 @@ macro_rules! read {
 
 read!(ArrayView<'_, T, D>, ArrayViewMut<'_, T, D>, OwnedArray<T, D>);
 
-fn are_equal<A: Read<Item: PartialEq<B::Item>>, B: Read<Dim = A::Dim>>(own: &A, other: &B) -> bool {
-    let ((dim, items), (other_dim, others)) = (own.read(), other.read());
+fn are_equal<A: Read<Item: PartialEq<B::Item>>, B: Read<Dim = A::Dim>>(one: &A, other: &B) -> bool {
+    let ((dim, items), (other_dim, others)) = (one.read(), other.read());
     dim.equal(other_dim) && items.eq(others)
 }
 
 /// Equality of each pair of types.
 macro_rules! compared {
-    ($($own:ty, $other:ty;)*) => {$(
+    ($($one:ty, $other:ty;)*) => {$(
         /// Whether both have one shape and, at each index, equal items, whatever their layouts are. Not proved.
         ///
         /// ```
@@ -85,7 +85,7 @@ macro_rules! compared {
         /// # Ok(())
         /// # }
         /// ```
-        impl<T: PartialEq<U>, U, D: Lengths> PartialEq<$other> for $own {
+        impl<T: PartialEq<U>, U, D: Lengths> PartialEq<$other> for $one {
             fn eq(&self, other: &$other) -> bool {
                 are_equal(self, other)
             }

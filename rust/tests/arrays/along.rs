@@ -100,20 +100,20 @@ fn arrays_of_an_axis_are_the_models() {
         };
         let numbered: Vec<usize> = (0..layout.count).collect();
         let array = layout.array(&numbered);
-        let due: Vec<Vec<usize>> = (0..layout.shape[axis]).map(|at| layout.at(axis, at).places()).collect();
+        let expected: Vec<Vec<usize>> = (0..layout.shape[axis]).map(|at| layout.at(axis, at).places()).collect();
         let mut left = array.axis_iter(Axis(axis)).unwrap();
-        assert_eq!(left.len(), due.len(), "{layout:?} along {axis}");
-        let skipped = numbers.below(due.len() + 1);
+        assert_eq!(left.len(), expected.len(), "{layout:?} along {axis}");
+        let skipped = numbers.below(expected.len() + 1);
         let mut last: Option<Vec<usize>> = None;
         if numbers.once_in(2) {
             last = left.next_back().map(|part| part.to_vec().unwrap());
         }
         let found: Option<Vec<usize>> = left.nth(skipped).map(|part| part.to_vec().unwrap());
-        assert!(last.is_none() || last.as_ref() == due.last(), "{layout:?} along {axis}");
-        let end = due.len() - usize::from(last.is_some());
-        assert_eq!(found.as_ref(), due[..end].get(skipped), "{layout:?} along {axis}");
+        assert!(last.is_none() || last.as_ref() == expected.last(), "{layout:?} along {axis}");
+        let end = expected.len() - usize::from(last.is_some());
+        assert_eq!(found.as_ref(), expected[..end].get(skipped), "{layout:?} along {axis}");
         let parts: Vec<_> = array.axis_iter(Axis(axis)).unwrap().map(|part| part.to_vec().unwrap()).collect();
-        assert_eq!(parts, due, "{layout:?} along {axis}");
+        assert_eq!(parts, expected, "{layout:?} along {axis}");
     });
 }
 
@@ -132,11 +132,11 @@ fn arrays_of_an_axis_are_written_as_the_models() {
         let Ok(mut left) = made else {
             return;
         };
-        let mut due: Vec<Vec<usize>> = parts.iter().map(Layout::places).collect();
-        while !due.is_empty() {
+        let mut expected: Vec<Vec<usize>> = parts.iter().map(Layout::places).collect();
+        while !expected.is_empty() {
             let (part, places) = match numbers.once_in(2) {
-                true => (left.next(), due.remove(0)),
-                false => (left.next_back(), due.pop().unwrap()),
+                true => (left.next(), expected.remove(0)),
+                false => (left.next_back(), expected.pop().unwrap()),
             };
             let mut part = part.unwrap();
             assert_eq!(part.to_vec().unwrap(), places, "{layout:?} along {axis}");
@@ -144,7 +144,7 @@ fn arrays_of_an_axis_are_written_as_the_models() {
         }
         assert!(left.next().is_none() && left.next_back().is_none());
         let written = layout.places();
-        let due = |place| if written.contains(&place) { place + 1000 } else { place };
-        assert_eq!(numbered, (0..layout.count).map(due).collect::<Vec<_>>(), "{layout:?} along {axis}");
+        let expected = |place| if written.contains(&place) { place + 1000 } else { place };
+        assert_eq!(numbered, (0..layout.count).map(expected).collect::<Vec<_>>(), "{layout:?} along {axis}");
     });
 }

@@ -39,9 +39,9 @@ fn items_that_are_mapped_in_place_are_each_met_once() {
         let layout = with_more_axes(numbers);
         let all: Vec<usize> = (0..layout.count).collect();
         let check = |seen: Vec<usize>, items: Vec<usize>| {
-            let mut due = all.clone();
-            seen.iter().zip(1_000..).for_each(|(place, turn)| due[*place] = turn);
-            assert_eq!((items, sorted(seen)), (due, sorted(layout.places())), "{layout:?}");
+            let mut expected = all.clone();
+            seen.iter().zip(1_000..).for_each(|(place, turn)| expected[*place] = turn);
+            assert_eq!((items, sorted(seen)), (expected, sorted(layout.places())), "{layout:?}");
         };
         let mut items = all.clone();
         check(number(layout.array_mut(&mut items)), items);
@@ -77,13 +77,13 @@ fn items_that_are_written_beside_others_are_each_met_once() {
         let pairs: Vec<(usize, usize)> = layout.places().into_iter().zip(other.places()).collect();
         let turns = sorted(pairs.iter().map(|(place, _)| items[*place].0).collect());
         assert_eq!(turns, (1..=pairs.len()).collect::<Vec<_>>(), "{other:?} to {layout:?}");
-        let mut due = all;
+        let mut expected = all;
         for (place, from) in pairs {
             let turn = items[place].0;
             assert_eq!(seen[turn - 1], from, "{other:?} to {layout:?}");
-            due[place] = (turn, from);
+            expected[place] = (turn, from);
         }
-        assert_eq!(items, due, "{other:?} to {layout:?}");
+        assert_eq!(items, expected, "{other:?} to {layout:?}");
     });
 }
 
@@ -92,14 +92,14 @@ fn items_that_are_read_are_each_met_once() {
     rounds(10_000, 33, |numbers| {
         let layout = if numbers.once_in(3) { Layout::shared(numbers) } else { with_more_axes(numbers) };
         let items: Vec<u64> = (0..layout.count as u64).map(|place| place * place).collect();
-        let due: Vec<u64> = layout.places().into_iter().map(|place| items[place]).collect();
+        let expected: Vec<u64> = layout.places().into_iter().map(|place| items[place]).collect();
         let array = layout.array(&items);
         let mut seen = Vec::new();
         array.for_each_nearest(|item| seen.push(*item));
-        assert_eq!(sorted(seen), sorted(due.clone()), "{layout:?}");
+        assert_eq!(sorted(seen), sorted(expected.clone()), "{layout:?}");
         let folded = array.fold_nearest((0, 0), |(count, total), item| (count + 1, total + item));
-        assert_eq!(folded, (due.len(), due.iter().sum()), "{layout:?}");
-        assert_eq!(array.sum(), Some(due.iter().sum()), "{layout:?}");
+        assert_eq!(folded, (expected.len(), expected.iter().sum()), "{layout:?}");
+        assert_eq!(array.sum(), Some(expected.iter().sum()), "{layout:?}");
     });
 }
 

@@ -54,14 +54,14 @@ fn chunks_are_the_models() {
         };
         let size = 1 + numbers.below(4);
         let numbered: Vec<usize> = (0..layout.count).collect();
-        let due: Vec<Vec<usize>> = chunks_of(&layout, axis, size).iter().map(Layout::places).collect();
+        let expected: Vec<Vec<usize>> = chunks_of(&layout, axis, size).iter().map(Layout::places).collect();
         let array = layout.array(&numbered);
         let left = || array.axis_chunks_iter(Axis(axis), size).unwrap();
-        assert_eq!(left().len(), due.len(), "{layout:?} along {axis} by {size}");
+        assert_eq!(left().len(), expected.len(), "{layout:?} along {axis} by {size}");
         let forward: Vec<_> = left().map(|chunk| chunk.to_vec().unwrap()).collect();
         let backwards: Vec<_> = left().rev().map(|chunk| chunk.to_vec().unwrap()).collect();
-        assert_eq!(forward, due, "{layout:?} along {axis} by {size}");
-        assert!(backwards.iter().rev().eq(&due), "{layout:?} along {axis} by {size}");
+        assert_eq!(forward, expected, "{layout:?} along {axis} by {size}");
+        assert!(backwards.iter().rev().eq(&expected), "{layout:?} along {axis} by {size}");
     });
 }
 
@@ -82,11 +82,11 @@ fn chunks_are_written_as_the_models() {
             return;
         };
         assert!(!interleave(&parts), "{layout:?} along {axis} by {size}");
-        let mut due: Vec<Vec<usize>> = parts.iter().map(Layout::places).collect();
-        while !due.is_empty() {
+        let mut expected: Vec<Vec<usize>> = parts.iter().map(Layout::places).collect();
+        while !expected.is_empty() {
             let (chunk, places) = match numbers.once_in(2) {
-                true => (left.next(), due.remove(0)),
-                false => (left.next_back(), due.pop().unwrap()),
+                true => (left.next(), expected.remove(0)),
+                false => (left.next_back(), expected.pop().unwrap()),
             };
             let mut chunk = chunk.unwrap();
             assert_eq!(chunk.to_vec().unwrap(), places, "{layout:?} along {axis} by {size}");
@@ -94,7 +94,7 @@ fn chunks_are_written_as_the_models() {
         }
         assert!(left.next().is_none() && left.next_back().is_none());
         let written = layout.places();
-        let due = |place| if written.contains(&place) { place + 1000 } else { place };
-        assert_eq!(numbered, (0..layout.count).map(due).collect::<Vec<_>>(), "{layout:?} along {axis} by {size}");
+        let expected = |place| if written.contains(&place) { place + 1000 } else { place };
+        assert_eq!(numbered, (0..layout.count).map(expected).collect::<Vec<_>>(), "{layout:?} along {axis} by {size}");
     });
 }

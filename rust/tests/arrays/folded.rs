@@ -19,8 +19,12 @@ fn sums_and_joins_are_those_of_the_items() {
 }
 
 /// Whether an iterator gives the items of a list: some are taken or left out at its front, then the others are folded.
-fn gives<I: Iterator<Item = usize> + ExactSizeIterator>(numbers: &mut Numbers, mut items: I, due: &[usize]) -> bool {
-    let mut left = due.iter().copied();
+fn gives<I: Iterator<Item = usize> + ExactSizeIterator>(
+    numbers: &mut Numbers,
+    mut items: I,
+    expected: &[usize],
+) -> bool {
+    let mut left = expected.iter().copied();
     for _ in 0..numbers.below(6) {
         let skipped = numbers.below(3) * numbers.below(left.len() + 2);
         if items.nth(skipped) != left.nth(skipped) || items.len() != left.len() {
@@ -40,9 +44,9 @@ fn folds_are_the_models() {
     rounds(20_000, 4, |numbers| {
         let layout = if numbers.once_in(2) { Layout::random(numbers) } else { Layout::shared(numbers) };
         let items: Vec<usize> = (0..layout.count).collect();
-        let (array, due) = (layout.array(&items), layout.places());
-        assert!(gives(numbers, array.iter().copied(), &due), "{layout:?}");
-        assert!(gives(numbers, array.view().iter_places(Order::RowMajor), &due), "{layout:?}");
+        let (array, expected) = (layout.array(&items), layout.places());
+        assert!(gives(numbers, array.iter().copied(), &expected), "{layout:?}");
+        assert!(gives(numbers, array.view().iter_places(Order::RowMajor), &expected), "{layout:?}");
         let turned = array.reversed_axes();
         let by_columns: Vec<usize> = turned.borrowed().into_iter().copied().collect();
         assert!(gives(numbers, turned.iter().copied(), &by_columns), "{layout:?}, turned");
@@ -55,8 +59,8 @@ fn folds_by_columns_are_the_lists() {
         let layout = Layout::random(numbers);
         let items: Vec<usize> = (0..layout.count).collect();
         let array = layout.array(&items);
-        let due = array.view().places(Order::ColumnMajor).unwrap();
-        assert!(gives(numbers, array.view().iter_places(Order::ColumnMajor), &due), "{layout:?}");
+        let expected = array.view().places(Order::ColumnMajor).unwrap();
+        assert!(gives(numbers, array.view().iter_places(Order::ColumnMajor), &expected), "{layout:?}");
     });
 }
 
@@ -68,8 +72,8 @@ fn copies_are_folded_as_the_models() {
         let strides = if numbers.once_in(2) { Strides::C } else { Strides::F };
         let shape = StrideShape { dim: ndarray_layout::IxDyn(&shape), strides };
         let array = OwnedArray::from_shape_vec(shape, items).unwrap_or_else(|_| panic!("as many items"));
-        let due: Vec<usize> = array.view().iter_places(Order::RowMajor).collect();
-        assert!(gives(numbers, array.iter(), &due));
+        let expected: Vec<usize> = array.view().iter_places(Order::RowMajor).collect();
+        assert!(gives(numbers, array.iter(), &expected));
     });
 }
 
@@ -78,12 +82,12 @@ fn totals_are_the_models() {
     rounds(10_000, 6, |numbers| {
         let layout = if numbers.once_in(2) { Layout::random(numbers) } else { Layout::shared(numbers) };
         let items: Vec<usize> = (0..layout.count).map(|_| numbers.below(50)).collect();
-        let (array, due) = (layout.array(&items), layout.places());
-        let due = || due.iter().map(|place| items[*place]);
-        assert_eq!(array.sum(), Some(due().sum::<usize>() as u64), "{layout:?}");
-        assert_eq!((array.min(), array.max()), (due().min(), due().max()), "{layout:?}");
+        let (array, expected) = (layout.array(&items), layout.places());
+        let expected = || expected.iter().map(|place| items[*place]);
+        assert_eq!(array.sum(), Some(expected().sum::<usize>() as u64), "{layout:?}");
+        assert_eq!((array.min(), array.max()), (expected().min(), expected().max()), "{layout:?}");
         let least = numbers.below(50);
-        assert_eq!(array.any(|item| *item > least), due().any(|item| item > least), "{layout:?}");
-        assert_eq!(array.all(|item| *item > least), due().all(|item| item > least), "{layout:?}");
+        assert_eq!(array.any(|item| *item > least), expected().any(|item| item > least), "{layout:?}");
+        assert_eq!(array.all(|item| *item > least), expected().all(|item| item > least), "{layout:?}");
     });
 }

@@ -41,13 +41,13 @@ fn said<T>(call: impl FnOnce() -> T) -> String {
 
 #[test]
 fn an_index_that_is_none_is_named_with_the_shape() {
-    let due = "index (2, 0) is out of bounds of the shape [2, 3]";
+    let expected = "index (2, 0) is out of bounds of the shape [2, 3]";
     let mut numbers = NUMBERS;
-    assert_eq!(said(|| rows(&NUMBERS)[(2, 0)]), due);
-    assert_eq!(said(|| rows_mut(&mut numbers)[(2, 0)]), due);
-    assert_eq!(said(|| rows_mut(&mut numbers)[(2, 0)] = 1), due);
-    assert_eq!(said(|| owned(texts())[(2, 0)].len()), due);
-    assert_eq!(said(|| owned(texts())[(2, 0)].push('a')), due);
+    assert_eq!(said(|| rows(&NUMBERS)[(2, 0)]), expected);
+    assert_eq!(said(|| rows_mut(&mut numbers)[(2, 0)]), expected);
+    assert_eq!(said(|| rows_mut(&mut numbers)[(2, 0)] = 1), expected);
+    assert_eq!(said(|| owned(texts())[(2, 0)].len()), expected);
+    assert_eq!(said(|| owned(texts())[(2, 0)].push('a')), expected);
     assert_eq!(said(|| rows(&NUMBERS)[[0, 3]]), "index [0, 3] is out of bounds of the shape [2, 3]");
 }
 
@@ -56,7 +56,7 @@ fn items_by_index_are_the_models() {
     rounds(5_000, 9, |numbers| {
         let layout = Layout::random(numbers);
         let mut items: Vec<usize> = (0..layout.count).collect();
-        let mut due = items.clone();
+        let mut expected = items.clone();
         let mut array = layout.array_mut(&mut items);
         for _ in 0..4 {
             let index: Vec<usize> = layout.shape.iter().map(|len| numbers.below(len + 1)).collect();
@@ -64,10 +64,10 @@ fn items_by_index_are_the_models() {
             assert_eq!(array.get_mut(&IxDyn(&index)).is_some(), is_index, "{layout:?} at {index:?}");
             if is_index {
                 array[IxDyn(&index)] += 1000;
-                due[layout.place(&index)] += 1000;
-                assert_eq!(array[IxDyn(&index)], due[layout.place(&index)], "{layout:?} at {index:?}");
+                expected[layout.place(&index)] += 1000;
+                assert_eq!(array[IxDyn(&index)], expected[layout.place(&index)], "{layout:?} at {index:?}");
             }
         }
-        assert_eq!(items, due, "{layout:?}");
+        assert_eq!(items, expected, "{layout:?}");
     });
 }

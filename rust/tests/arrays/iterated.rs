@@ -74,7 +74,7 @@ fn is_same_step<'a, T: PartialEq + Debug, D: Lengths>(
     model: &mut VecDeque<&'a T>,
 ) -> bool {
     let skipped = if numbers.once_in(2) { numbers.below(3) } else { numbers.below(model.len() + 2) };
-    let (found, due) = match numbers.below(4) {
+    let (found, expected) = match numbers.below(4) {
         0 => (left.next(), model.pop_front()),
         1 => (left.next_back(), model.pop_back()),
         2 => {
@@ -86,7 +86,7 @@ fn is_same_step<'a, T: PartialEq + Debug, D: Lengths>(
             (left.nth_back(skipped), model.pop_back())
         }
     };
-    found == due && left.len() == model.len()
+    found == expected && left.len() == model.len()
 }
 
 /// Compares an iterator with the model: steps at both ends, then all that is left.
@@ -97,15 +97,15 @@ fn compare<T: PartialEq + Debug, D: Dimension>(numbers: &mut Numbers, array: Arr
     for _ in 0..numbers.below(8) {
         assert!(is_same_step(numbers, &mut left, &mut model), "{layout:?}");
     }
-    let due: Vec<&T> = model.iter().copied().collect();
+    let expected: Vec<&T> = model.iter().copied().collect();
     let backwards: Vec<&T> = model.iter().rev().copied().collect();
     let mut folded = Vec::new();
     left.clone().for_each(|item| folded.push(item));
     let rfolded = left.clone().rfold(Vec::new(), |list, item| [list, vec![item]].concat());
-    assert_eq!((&folded, &rfolded), (&due, &backwards), "{layout:?}");
-    assert_eq!((left.clone().last(), left.clone().count()), (due.last().copied(), due.len()), "{layout:?}");
+    assert_eq!((&folded, &rfolded), (&expected, &backwards), "{layout:?}");
+    assert_eq!((left.clone().last(), left.clone().count()), (expected.last().copied(), expected.len()), "{layout:?}");
     assert_eq!(left.clone().rev().collect::<Vec<_>>(), backwards, "{layout:?}");
-    assert_eq!(left.by_ref().collect::<Vec<_>>(), due, "{layout:?}");
+    assert_eq!(left.by_ref().collect::<Vec<_>>(), expected, "{layout:?}");
     assert_eq!((left.next(), left.next_back(), left.len()), (None, None, 0), "{layout:?}");
 }
 
@@ -135,11 +135,11 @@ fn indexed_items_are_the_models() {
     rounds(2_000, 3, |numbers| {
         let layout = Layout::shared(numbers);
         let items: Vec<usize> = (0..layout.count).collect();
-        let due: Vec<_> = layout.indices().into_iter().map(|index| (layout.place(&index), index)).collect();
+        let expected: Vec<_> = layout.indices().into_iter().map(|index| (layout.place(&index), index)).collect();
         let array = layout.array(&items);
         let found: Vec<_> = array.indexed_iter().map(|(index, item)| (*item, index.slice().to_vec())).collect();
         let mut folded = Vec::new();
         array.indexed_iter().for_each(|(index, item)| folded.push((*item, index.slice().to_vec())));
-        assert_eq!((&found, &folded, array.indexed_iter().len()), (&due, &due, due.len()), "{layout:?}");
+        assert_eq!((&found, &folded, array.indexed_iter().len()), (&expected, &expected, expected.len()), "{layout:?}");
     });
 }

@@ -77,7 +77,7 @@ fn is_same_step<'a, D: Lengths>(
     model: &mut VecDeque<usize>,
 ) -> bool {
     let skipped = if numbers.once_in(2) { numbers.below(3) } else { numbers.below(model.len() + 2) };
-    let (found, due) = match numbers.below(3) {
+    let (found, expected) = match numbers.below(3) {
         0 => (left.next(), model.pop_front()),
         1 => (left.next_back(), model.pop_back()),
         _ => {
@@ -85,7 +85,7 @@ fn is_same_step<'a, D: Lengths>(
             (left.nth(skipped), model.pop_front())
         }
     };
-    found.as_deref() == due.as_ref() && left.len() == model.len()
+    found.as_deref() == expected.as_ref() && left.len() == model.len()
 }
 
 /// Compares an iterator with the model: steps at both ends, then all that is left, each written.
@@ -122,8 +122,8 @@ fn items_from_both_ends_are_the_models() {
         let layout = Layout::random(numbers);
         let mut items: Vec<usize> = (0..layout.count).collect();
         let written = compare(numbers, layout.array_mut(&mut items), &layout);
-        let due = |place: usize| if written.contains(&place) { place + 1000 } else { place };
-        assert_eq!(items, (0..layout.count).map(due).collect::<Vec<_>>(), "{layout:?}");
+        let expected = |place: usize| if written.contains(&place) { place + 1000 } else { place };
+        assert_eq!(items, (0..layout.count).map(expected).collect::<Vec<_>>(), "{layout:?}");
         let mut items: Vec<usize> = (0..layout.count).collect();
         of_count!(layout.shape.len(), D => {
             compare(numbers, layout.array_mut(&mut items).into_dimensionality::<D>().unwrap(), &layout);
@@ -136,12 +136,12 @@ fn indexed_items_are_written_as_the_models() {
     rounds(2_000, 8, |numbers| {
         let layout = Layout::random(numbers);
         let mut items = vec![Vec::new(); layout.count];
-        let mut due = items.clone();
+        let mut expected = items.clone();
         for index in layout.indices() {
             let place = layout.place(&index);
-            due[place] = index;
+            expected[place] = index;
         }
         layout.array_mut(&mut items).indexed_iter_mut().for_each(|(index, item)| *item = index.slice().to_vec());
-        assert_eq!(items, due, "{layout:?}");
+        assert_eq!(items, expected, "{layout:?}");
     });
 }

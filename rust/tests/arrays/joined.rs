@@ -34,11 +34,11 @@ fn evenly(places: &[usize]) -> usize {
 fn rows_are_as_long_as_the_first_places_lie_evenly() {
     rounds(10_000, 11, |numbers| {
         let layout = layout(numbers);
-        let due = layout.places();
+        let expected = layout.places();
         let view = layout.view(ReadOnly).unwrap();
         let rows: Vec<Row> = view.joined_rows(Order::RowMajor).collect();
-        assert_eq!(rows.iter().copied().flat_map(places).collect::<Vec<_>>(), due, "{layout:?}");
-        assert!(rows.iter().all(|row| row.len == evenly(&due)), "{layout:?}: {rows:?}");
+        assert_eq!(rows.iter().copied().flat_map(places).collect::<Vec<_>>(), expected, "{layout:?}");
+        assert!(rows.iter().all(|row| row.len == evenly(&expected)), "{layout:?}: {rows:?}");
         assert_eq!(view.joined_rows(Order::RowMajor).len(), rows.len(), "{layout:?}");
     });
 }
@@ -50,10 +50,10 @@ fn rows_by_columns_are_those_of_turned_axes() {
         let mut turned = layout.clone();
         turned.shape.reverse();
         turned.strides.reverse();
-        let (view, due) = (layout.view(ReadOnly).unwrap(), turned.places());
+        let (view, expected) = (layout.view(ReadOnly).unwrap(), turned.places());
         let rows: Vec<Row> = view.joined_rows(Order::ColumnMajor).collect();
-        assert_eq!(rows.iter().copied().flat_map(places).collect::<Vec<_>>(), due, "{layout:?}");
-        assert!(rows.iter().all(|row| row.len == evenly(&due)), "{layout:?}: {rows:?}");
+        assert_eq!(rows.iter().copied().flat_map(places).collect::<Vec<_>>(), expected, "{layout:?}");
+        assert!(rows.iter().all(|row| row.len == evenly(&expected)), "{layout:?}: {rows:?}");
     });
 }
 
@@ -74,10 +74,10 @@ fn rows_of_two_views_are_as_long_as_both_lie_evenly() {
         let (view, another) = (one.view(ReadOnly).unwrap(), other.view(ReadOnly).unwrap());
         let (rows, others) = view.joined_rows_with(&another, Order::RowMajor);
         let (rows, others): (Vec<Row>, Vec<Row>) = (rows.collect(), others.collect());
-        let (due, also) = (one.places(), other.places());
-        assert_eq!(rows.iter().copied().flat_map(places).collect::<Vec<_>>(), due, "{one:?}, {other:?}");
+        let (expected, also) = (one.places(), other.places());
+        assert_eq!(rows.iter().copied().flat_map(places).collect::<Vec<_>>(), expected, "{one:?}, {other:?}");
         assert_eq!(others.iter().copied().flat_map(places).collect::<Vec<_>>(), also, "{one:?}, {other:?}");
-        let len = evenly_in_both(&due, &also);
+        let len = evenly_in_both(&expected, &also);
         assert!(rows.iter().chain(&others).all(|row| row.len == len), "{one:?}, {other:?}: {rows:?}");
     });
 }
@@ -107,9 +107,13 @@ fn axes_joined_in_all_layouts_are_as_long_as_all_lie_evenly() {
         let (count, len) = joined_in_all(Order::RowMajor, &first.shape, &strides, &mut joined);
         let mut least = usize::MAX;
         for (layout, stride) in layouts.iter().zip(&joined) {
-            let due = layout.places();
-            assert_eq!(with_joined(layout, count, len, *stride).places(), due, "{layouts:?}: {count} {len} {joined:?}");
-            least = least.min(evenly(&due));
+            let expected = layout.places();
+            assert_eq!(
+                with_joined(layout, count, len, *stride).places(),
+                expected,
+                "{layouts:?}: {count} {len} {joined:?}"
+            );
+            least = least.min(evenly(&expected));
         }
         if !first.shape.contains(&0) {
             assert_eq!(len, least, "{layouts:?}: {count} {joined:?}");
@@ -145,11 +149,13 @@ ends!(impl Ends for Rows<'_>);
 ends!(impl<D: Lengths> Ends for StridedRows<D>);
 
 /// Whether an iterator gives a list, taken from both ends in any order, with items left out at either.
-fn gives_from_both_ends(numbers: &mut Numbers, mut rows: impl Ends, due: &[Row]) -> bool {
-    let mut left = due.iter();
-    let same = |row: Option<Row>, due: Option<&Row>| match (row, due) {
-        (Some(row), Some(due)) => (row.start, row.stride, row.len) == (due.start, due.stride, due.len),
-        (row, due) => row.is_none() && due.is_none(),
+fn gives_from_both_ends(numbers: &mut Numbers, mut rows: impl Ends, expected: &[Row]) -> bool {
+    let mut left = expected.iter();
+    let same = |row: Option<Row>, expected: Option<&Row>| match (row, expected) {
+        (Some(row), Some(expected)) => {
+            (row.start, row.stride, row.len) == (expected.start, expected.stride, expected.len)
+        }
+        (row, expected) => row.is_none() && expected.is_none(),
     };
     while left.len() > 0 && !numbers.once_in(40) {
         let skipped = if numbers.once_in(3) { numbers.below(4) } else { 0 };
@@ -164,7 +170,7 @@ fn gives_from_both_ends(numbers: &mut Numbers, mut rows: impl Ends, due: &[Row])
             return false;
         }
     }
-    rows.len() == left.len() && rows.zip(left).all(|(row, due)| same(Some(row), Some(due)))
+    rows.len() == left.len() && rows.zip(left).all(|(row, expected)| same(Some(row), Some(expected)))
 }
 
 #[test]
@@ -175,12 +181,15 @@ fn rows_come_from_both_ends() {
         let order = if numbers.once_in(2) { Order::RowMajor } else { Order::ColumnMajor };
         let rows = || if layout.count % 2 == 0 { view.rows(order) } else { view.joined_rows(order) };
         // (forwards they are those of the list of places)
-        let due: Vec<Row> = rows().collect();
-        assert!(gives_from_both_ends(numbers, rows(), &due), "{layout:?} {order:?}");
+        let expected: Vec<Row> = rows().collect();
+        assert!(gives_from_both_ends(numbers, rows(), &expected), "{layout:?} {order:?}");
         let owned = layout.view(ReadOnly).unwrap();
         let owned = if layout.count % 2 == 0 { owned.into_rows(order) } else { owned.into_joined_rows(order) };
-        assert!(gives_from_both_ends(numbers, owned, &due), "{layout:?} {order:?}");
-        assert!(rows().rev().map(|row| row.start).eq(due.iter().rev().map(|row| row.start)), "{layout:?} {order:?}");
+        assert!(gives_from_both_ends(numbers, owned, &expected), "{layout:?} {order:?}");
+        assert!(
+            rows().rev().map(|row| row.start).eq(expected.iter().rev().map(|row| row.start)),
+            "{layout:?} {order:?}"
+        );
     });
 }
 

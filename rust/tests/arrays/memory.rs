@@ -68,7 +68,7 @@ fn an_iterator_panics_where_memory_runs_out() {
 
 #[test]
 fn items_are_handed_out_in_another_list_or_in_their_own() {
-    for (strides, due) in [(Strides::C, 0), (Strides::F, 2)] {
+    for (strides, expected) in [(Strides::C, 0), (Strides::F, 2)] {
         let make = || {
             let shape = StrideShape { dim: Ix2(2, 3), strides };
             OwnedArray::from_shape_vec(shape, (0..6).collect()).unwrap_or_else(|_| panic!("six items"))
@@ -77,6 +77,6 @@ fn items_are_handed_out_in_another_list_or_in_their_own() {
             let array = make();
             failing_at(*failing, || catch_unwind(AssertUnwindSafe(|| array.into_iter().count())).is_err()).0
         };
-        assert_eq!((0..).take_while(failing).count(), due);
+        assert_eq!((0..).take_while(failing).count(), expected);
     }
 }

@@ -33,18 +33,18 @@ fn go_forwards(strides: &[isize]) -> bool {
 }
 
 /// Checks what the nearest view has of a view that has these places.
-fn check<D: Lengths>(view: Strided<D>, due: &[usize], layout: &Layout) {
+fn check<D: Lengths>(view: Strided<D>, expected: &[usize], layout: &Layout) {
     let forwards = go_forwards(&layout.strides);
     let nearest = view.nearest();
     let (shape, strides, places) = (nearest.dim().slice().to_vec(), strides(&nearest), places(&nearest));
     assert!(go_forwards(&strides), "{layout:?}: {strides:?}");
-    assert_eq!(sorted(places.clone()), sorted(due.to_vec()), "{layout:?}: {shape:?} {strides:?}");
+    assert_eq!(sorted(places.clone()), sorted(expected.to_vec()), "{layout:?}: {shape:?} {strides:?}");
     let axes = |shape: &[usize], strides: &[isize]| -> Vec<(usize, usize)> {
         sorted(shape.iter().copied().zip(strides.iter().map(|stride| stride.unsigned_abs())).collect())
     };
     assert_eq!(axes(&shape, &strides), axes(&layout.shape, &layout.strides), "{layout:?}");
     if forwards {
-        assert_eq!((&shape, &strides, &places[..]), (&layout.shape, &layout.strides, due), "{layout:?}");
+        assert_eq!((&shape, &strides, &places[..]), (&layout.shape, &layout.strides, expected), "{layout:?}");
     }
 }
 
@@ -52,11 +52,11 @@ fn check<D: Lengths>(view: Strided<D>, due: &[usize], layout: &Layout) {
 fn the_nearest_view_has_each_place_as_often() {
     rounds(10_000, 16, |numbers| {
         let layout = layout(numbers);
-        let due = layout.places();
-        check(layout.view(ReadOnly).unwrap(), &due, &layout);
+        let expected = layout.places();
+        check(layout.view(ReadOnly).unwrap(), &expected, &layout);
         of_count!(layout.shape.len(), D => {
             let view = layout.view(ReadOnly).unwrap().into_dimensionality::<D>().unwrap();
-            check(view, &due, &layout);
+            check(view, &expected, &layout);
         });
     });
 }
@@ -72,8 +72,8 @@ fn check_both<D: Lengths>(view: Strided<D>, other: Strided<D>, (one, another): (
         assert_eq!(places.len(), others.len(), "{one:?}, {another:?}");
         sorted(places.into_iter().zip(others).collect())
     };
-    let (due, now) = (pairs(one.places(), another.places()), pairs(places(&first), places(&second)));
-    assert_eq!(now, due, "{one:?}, {another:?}");
+    let (expected, now) = (pairs(one.places(), another.places()), pairs(places(&first), places(&second)));
+    assert_eq!(now, expected, "{one:?}, {another:?}");
     if go_forwards(&one.strides) {
         assert_eq!(
             (second.start(), strides(&second)),

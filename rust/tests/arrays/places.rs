@@ -151,9 +151,9 @@ fn places_come_from_both_ends() {
     rounds(60_000, 16, |numbers| {
         let (layout, order) = (layout(numbers), order(numbers));
         let view = layout.view(ReadOnly).unwrap();
-        let due = places_in(order, &layout);
-        assert!(gives_from_both_ends(numbers, view.iter_places(order), due.clone()), "{layout:?} {order:?}");
-        assert!(gives_from_both_ends(numbers, view.into_places(order), due), "{layout:?} {order:?}");
+        let expected = places_in(order, &layout);
+        assert!(gives_from_both_ends(numbers, view.iter_places(order), expected.clone()), "{layout:?} {order:?}");
+        assert!(gives_from_both_ends(numbers, view.into_places(order), expected), "{layout:?} {order:?}");
     });
 }
 
@@ -176,14 +176,14 @@ fn rows_of_places_are_joined_from_either_end() {
         let (layout, order) = (layout(numbers), order(numbers));
         let view = layout.view(ReadOnly).unwrap();
         let mut joined = view.joined_rows(order);
-        let due = rows_by(|| joined.next());
-        let backwards: Vec<_> = due.iter().rev().copied().collect();
+        let expected = rows_by(|| joined.next());
+        let backwards: Vec<_> = expected.iter().rev().copied().collect();
         let (mut places, mut others) = (view.iter_places(order), view.iter_places(order));
         let lent = (rows_by(|| places.next_row()), rows_by(|| others.next_row_back()));
         let into_places = || layout.view(ReadOnly).unwrap().into_places(order);
         let (mut places, mut others) = (into_places(), into_places());
         let owned = (rows_by(|| places.next_row()), rows_by(|| others.next_row_back()));
-        assert!(lent == owned && lent == (due, backwards), "{layout:?} {order:?}");
+        assert!(lent == owned && lent == (expected, backwards), "{layout:?} {order:?}");
     });
 }
 

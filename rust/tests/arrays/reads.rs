@@ -127,16 +127,16 @@ fn copies_of_shared_items_are_the_models() {
     rounds(5_000, 11, |numbers| {
         let layout = Layout::shared(numbers);
         let items: Vec<String> = (0..layout.count).map(|place| place.to_string()).collect();
-        let due: Vec<String> = layout.places().iter().map(usize::to_string).collect();
+        let expected: Vec<String> = layout.places().iter().map(usize::to_string).collect();
         let (array, other) = (layout.array(&items), layout.array(&items).to_array().unwrap());
-        assert_eq!((array.to_vec().unwrap(), other.stored()), (due.clone(), &due[..]), "{layout:?}");
+        assert_eq!((array.to_vec().unwrap(), other.stored()), (expected.clone(), &expected[..]), "{layout:?}");
         of_count!(layout.shape.len(), D => {
             let fixed = array.into_dimensionality::<D>().unwrap();
-            assert_eq!((fixed.first(), fixed.last()), (due.first(), due.last()), "{layout:?}");
+            assert_eq!((fixed.first(), fixed.last()), (expected.first(), expected.last()), "{layout:?}");
         });
         let same = other.t().to_array().unwrap().t().to_array().unwrap();
         assert!(same == other, "{layout:?}");
-        if let Some(place) = numbers.below(due.len() + 1).checked_sub(1) {
+        if let Some(place) = numbers.below(expected.len() + 1).checked_sub(1) {
             let mut changed = other.to_array().unwrap();
             changed.stored_mut()[place].push('a');
             assert!(changed != other, "{layout:?} at {place}");

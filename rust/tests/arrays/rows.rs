@@ -84,15 +84,15 @@ fn lanes_are_the_models() {
         };
         let numbered: Vec<usize> = (0..layout.count).collect();
         let lanes = layout.lanes(axis);
-        let due: Vec<Vec<usize>> = lanes.iter().map(Layout::places).collect();
+        let expected: Vec<Vec<usize>> = lanes.iter().map(Layout::places).collect();
         let array = layout.array(&numbered);
         let found = array.lanes(Axis(axis)).unwrap();
-        assert_eq!(found.len(), due.len(), "{layout:?} along {axis}");
-        assert_eq!(found.map(items).collect::<Vec<_>>(), due, "{layout:?} along {axis}");
+        assert_eq!(found.len(), expected.len(), "{layout:?} along {axis}");
+        assert_eq!(found.map(items).collect::<Vec<_>>(), expected, "{layout:?} along {axis}");
         let backwards: Vec<_> = array.lanes(Axis(axis)).unwrap().rev().map(items).collect();
-        assert!(backwards.iter().rev().eq(due.iter()), "{layout:?} along {axis}");
+        assert!(backwards.iter().rev().eq(expected.iter()), "{layout:?} along {axis}");
         if axis + 1 == layout.shape.len() {
-            assert_eq!(array.into_rows().map(items).collect::<Vec<_>>(), due, "{layout:?}");
+            assert_eq!(array.into_rows().map(items).collect::<Vec<_>>(), expected, "{layout:?}");
         }
     });
 }
@@ -112,12 +112,12 @@ fn lanes_to_be_written_are_the_models() {
         let Ok(mut left) = made else {
             return;
         };
-        let mut due: Vec<Vec<usize>> = lanes.iter().map(Layout::places).collect();
-        assert_eq!(left.len(), due.len(), "{layout:?} along {axis}");
-        while !due.is_empty() {
+        let mut expected: Vec<Vec<usize>> = lanes.iter().map(Layout::places).collect();
+        assert_eq!(left.len(), expected.len(), "{layout:?} along {axis}");
+        while !expected.is_empty() {
             let (row, places) = match numbers.once_in(2) {
-                true => (left.next(), due.remove(0)),
-                false => (left.next_back(), due.pop().unwrap()),
+                true => (left.next(), expected.remove(0)),
+                false => (left.next_back(), expected.pop().unwrap()),
             };
             let mut row = row.unwrap();
             assert_eq!(row.to_vec().unwrap(), places, "{layout:?} along {axis}");
@@ -125,7 +125,7 @@ fn lanes_to_be_written_are_the_models() {
         }
         assert!(left.next().is_none() && left.next_back().is_none());
         let written = layout.places();
-        let due = |place| if written.contains(&place) { place + 1000 } else { place };
-        assert_eq!(numbered, (0..layout.count).map(due).collect::<Vec<_>>(), "{layout:?} along {axis}");
+        let expected = |place| if written.contains(&place) { place + 1000 } else { place };
+        assert_eq!(numbered, (0..layout.count).map(expected).collect::<Vec<_>>(), "{layout:?} along {axis}");
     });
 }

@@ -66,8 +66,8 @@ fn items_that_are_handed_out_are_the_models() {
         let items: Vec<String> = (0..shape.iter().product::<usize>() + spare).map(|place| place.to_string()).collect();
         let array = OwnedArray::from_shape_vec(StrideShape { dim: IxDyn(&shape), strides }, items);
         let array = array.unwrap_or_else(|_| panic!("as many items"));
-        let due = array.to_vec().unwrap();
-        assert!(array.into_iter().eq(due), "{shape:?}");
+        let expected = array.to_vec().unwrap();
+        assert!(array.into_iter().eq(expected), "{shape:?}");
     });
 }
 
@@ -104,11 +104,11 @@ fn pairs_of_items_are_the_models() {
         other.strides = layout.shape.iter().map(|_| numbers.between(0, 3)).collect();
         (other.start, other.count) = (0, 1 + 4 * 3 * layout.shape.iter().sum::<usize>());
         let mut items: Vec<usize> = (0..layout.count).collect();
-        let mut due = items.clone();
+        let mut expected = items.clone();
         let mut pairs = Vec::new();
         for (place, other) in layout.places().into_iter().zip(other.places()) {
             pairs.push((place, other));
-            due[place] = 1000 + other;
+            expected[place] = 1000 + other;
         }
         let others: Vec<usize> = (0..other.count).collect();
         let mut found = Vec::new();
@@ -120,7 +120,7 @@ fn pairs_of_items_are_the_models() {
         // (in the order of the places, which is another one than that of the indices)
         found.sort_unstable();
         pairs.sort_unstable();
-        assert_eq!((found, items), (pairs, due), "{layout:?} beside {other:?}");
+        assert_eq!((found, items), (pairs, expected), "{layout:?} beside {other:?}");
     });
 }
 
@@ -129,16 +129,16 @@ fn items_that_are_mapped_in_place_are_the_models() {
     rounds(20_000, 21, |numbers| {
         let layout = Layout::random(numbers);
         let mut items: Vec<String> = (0..layout.count).map(|place| place.to_string()).collect();
-        let mut due = items.clone();
+        let mut expected = items.clone();
         for (turn, place) in layout.places().into_iter().enumerate() {
-            due[place].push_str(&format!(" at {turn}"));
+            expected[place].push_str(&format!(" at {turn}"));
         }
         let mut turn = 0;
         layout.array_mut(&mut items).map_in_place(|item| {
             item.push_str(&format!(" at {turn}"));
             turn += 1;
         });
-        assert_eq!(items, due, "{layout:?}");
+        assert_eq!(items, expected, "{layout:?}");
     });
 }
 
@@ -147,15 +147,15 @@ fn an_array_is_filled_as_the_model() {
     rounds(10_000, 22, |numbers| {
         let layout = Layout::random(numbers);
         let mut items: Vec<usize> = (0..layout.count).collect();
-        let mut due = items.clone();
-        layout.places().into_iter().for_each(|place| due[place] = 1_000);
+        let mut expected = items.clone();
+        layout.places().into_iter().for_each(|place| expected[place] = 1_000);
         let mut counted = items.clone();
         layout.array_mut(&mut items).fill(1_000);
-        assert_eq!(items, due, "{layout:?}");
+        assert_eq!(items, expected, "{layout:?}");
         of_count!(layout.shape.len(), D => {
             layout.array_mut(&mut counted).into_dimensionality::<D>().unwrap().fill(1_000);
         });
-        assert_eq!(counted, due, "{layout:?} of a fixed count of axes");
+        assert_eq!(counted, expected, "{layout:?} of a fixed count of axes");
     });
 }
 
@@ -180,24 +180,24 @@ fn items_that_are_written_and_compared_beside_others_are_the_models() {
         };
         let others: Vec<usize> = (0..other.count).collect();
         let mut items: Vec<usize> = (0..layout.count).collect();
-        let (mut due, mut assigned) = (items.clone(), items.clone());
+        let (mut expected, mut assigned) = (items.clone(), items.clone());
         for (turn, (place, from)) in layout.places().into_iter().zip(other.places()).enumerate() {
-            due[place] = 1_000 * turn + from;
+            expected[place] = 1_000 * turn + from;
             assigned[place] = from;
         }
         let mut turns = 0..;
         let source = other.array(&others);
         let made = |item: &usize| 1_000 * turns.next().unwrap() + item;
         source.map_into(&mut layout.array_mut(&mut items), made).unwrap();
-        assert_eq!(items, due, "{other:?} to {layout:?}");
+        assert_eq!(items, expected, "{other:?} to {layout:?}");
         let mut counted = items.clone();
         of_count!(layout.shape.len(), D => {
             let source = other.array(&others).into_dimensionality::<D>().unwrap();
             layout.array_mut(&mut counted).into_dimensionality::<D>().unwrap().assign(&source).unwrap();
         });
         layout.array_mut(&mut items).assign(&source).unwrap();
-        layout.places().into_iter().for_each(|place| due[place] = assigned[place]);
-        assert_eq!((&items, counted), (&due, due.clone()), "{other:?} to {layout:?}");
+        layout.places().into_iter().for_each(|place| expected[place] = assigned[place]);
+        assert_eq!((&items, counted), (&expected, expected.clone()), "{other:?} to {layout:?}");
         assert!(layout.array(&items).eq(&source) && source.eq(&layout.array(&items)), "{layout:?}");
         if let Some(place) = layout.places().last().copied() {
             items[place] += 1;

@@ -20,7 +20,7 @@ fn slices_of_rows_and_columns_have_orders() {
     let columns = Array2::<f32>::zeros((5, 5).f());
     let of_rows = |info| letters(rows.slice(info).layout());
     let of_columns = |info| letters(columns.slice(info).layout());
-    let due = [
+    let expected = [
         (s![..1;1, ..;1], "CFcf", "Custom"),
         (s![..;1, ..1;1], "Custom", "CFcf"),
         (s![1..;1, ..;1], "Cc", "f"),
@@ -30,7 +30,7 @@ fn slices_of_rows_and_columns_have_orders() {
         (s![..;-1, ..;1], "c", "Custom"),
         (s![..0;1, ..;1], "CFcf", "CFcf"),
     ];
-    for (number, (info, row, column)) in due.into_iter().enumerate() {
+    for (number, (info, row, column)) in expected.into_iter().enumerate() {
         assert_eq!((of_rows(info), of_columns(info)), (row.to_string(), column.to_string()), "{number}");
     }
     assert_eq!((letters(rows.layout()), letters(columns.layout())), ("Cc".to_string(), "Ff".to_string()));
@@ -117,6 +117,6 @@ fn places_of<D: ndarray_layout::Dimension>(view: &Strided<D>) -> Vec<(D::Pattern
 fn a_function_over_the_package_calls_both() {
     let shape = (2, 2).f().strides(Ix2(1, 3));
     let view = Strided::from_shape(shape, 1, 5, CanIndexCheckMode::ReadOnly).expect("a layout");
-    let due = [((0, 0), Some(0)), ((0, 1), Some(3)), ((1, 0), Some(1)), ((1, 1), Some(4))];
-    assert_eq!(places_of(&view), due);
+    let expected = [((0, 0), Some(0)), ((0, 1), Some(3)), ((1, 0), Some(1)), ((1, 1), Some(4))];
+    assert_eq!(places_of(&view), expected);
 }

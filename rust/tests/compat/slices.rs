@@ -19,10 +19,10 @@ fn a_slice_moves_the_first_coordinate() {
         (Slice::new(9, None, 1), (0, 0, 0)),
         (Slice::from(..0_isize), (0, 0, 0)),
     ];
-    for (slice, due) in rows {
+    for (slice, expected) in rows {
         let (mut dim, mut stride) = (9, 4);
         let offset = do_slice(&mut dim, &mut stride, slice);
-        assert_eq!((dim, stride, offset), due, "{slice:?}");
+        assert_eq!((dim, stride, offset), expected, "{slice:?}");
     }
 }
 

@@ -56,8 +56,8 @@ fn any_count_of_axes_crops_as_a_fixed_one_does() -> Result<(), LayoutError> {
     for (starts, ends) in
         [([1, 2], [3, 5]), ([0, 0], [4, 6]), ([2, 3], [2, 6]), ([4, 6], [4, 6]), ([3, 0], [2, 6]), ([0, 0], [5, 1])]
     {
-        let due = view.crop(&Dim(starts), &Dim(ends)).map(Strided::into_dyn);
-        assert_eq!(view.into_dyn().crop(&IxDyn(&starts), &IxDyn(&ends)), due, "{starts:?} {ends:?}");
+        let expected = view.crop(&Dim(starts), &Dim(ends)).map(Strided::into_dyn);
+        assert_eq!(view.into_dyn().crop(&IxDyn(&starts), &IxDyn(&ends)), expected, "{starts:?} {ends:?}");
     }
     assert_eq!(view.into_dyn().crop(&IxDyn(&[0]), &IxDyn(&[1])), None);
     let array = counted(IxDyn(&[4, 6]))?;

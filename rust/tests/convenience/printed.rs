@@ -17,9 +17,9 @@ fn items_are_nested_lists() -> Result<(), LayoutError> {
     assert_eq!(printed(Ix0())?, "0, shape=[], strides=[], layout=CFcf (0xf), const ndim=0");
     assert_eq!(printed(Ix1(3))?, "[0, 1, 2], shape=[3], strides=[1], layout=CFcf (0xf), const ndim=1");
     assert_eq!(printed(Ix2(2, 2))?, "[[0, 1],\n [2, 3]], shape=[2, 2], strides=[2, 1], layout=Cc (0x5), const ndim=2");
-    let due = "[[[0, 1],\n  [2, 3]],\n\n [[4, 5],\n  [6, 7]]], shape=[2, 2, 2], strides=[4, 2, 1], layout=Cc (0x5), \
+    let expected = "[[[0, 1],\n  [2, 3]],\n\n [[4, 5],\n  [6, 7]]], shape=[2, 2, 2], strides=[4, 2, 1], layout=Cc (0x5), \
                dynamic ndim=3";
-    assert_eq!(printed(IxDyn(&[2, 2, 2]))?, due);
+    assert_eq!(printed(IxDyn(&[2, 2, 2]))?, expected);
     assert_eq!(printed(Ix2(2, 0))?, "[[]], shape=[2, 0], strides=[0, 0], layout=CFcf (0xf), const ndim=2");
     Ok(())
 }
@@ -29,8 +29,8 @@ fn views_print_strides_with_their_signs() -> Result<(), LayoutError> {
     let texts = ["a", "b", "c", "d"].map(String::from);
     let view = Strided::new(Ix2(2, 2), Ix2(1, unsigned(-2)), 24, 4, ReadOnly)?;
     let array = ArrayView::over(view, &texts)?;
-    let due = "[[\"c\", \"a\"],\n [\"d\", \"b\"]], shape=[2, 2], strides=[1, -2], layout=f (0x8), const ndim=2";
-    assert_eq!(format!("{array:?}"), due);
+    let expected = "[[\"c\", \"a\"],\n [\"d\", \"b\"]], shape=[2, 2], strides=[1, -2], layout=f (0x8), const ndim=2";
+    assert_eq!(format!("{array:?}"), expected);
     let mut numbers = [1, 2, 3, 4];
     let columns = StrideShape { dim: Ix2(2, 2), strides: Strides::F };
     let array = ArrayViewMut::from_shape(columns, &mut numbers)?;
@@ -88,9 +88,9 @@ fn rows_and_splits_print() -> Result<(), LayoutError> {
     let view = *array.view();
     assert_eq!(format!("{:?}", PartMut::over(view, &mut items)?), "[[1, 2],\n [3, 4]], shape=[2, 2]");
     let row = "dim: [1, 2], strides: [2, 1] }";
-    let due = format!(
+    let expected = format!(
         "SplitViews {{ first: Strided {{ start: 0, {row}, second: Strided {{ start: 0, {row}, cut: 2, first_is_lower: true }}"
     );
-    assert_eq!(format!("{:?}", SplitViews::new(view, 4, Axis(0), 1)?), due);
+    assert_eq!(format!("{:?}", SplitViews::new(view, 4, Axis(0), 1)?), expected);
     Ok(())
 }

@@ -40,10 +40,10 @@ fn slices<T: Clone + PartialEq + Debug>(
     item: impl Fn(usize) -> T,
 ) {
     let mut items: Vec<T> = (0..plain.len).map(&item).collect();
-    let due: Vec<T> = picked.places.iter().map(|place| item(*place)).collect();
+    let expected: Vec<T> = picked.places.iter().map(|place| item(*place)).collect();
     let array = ArrayView::over(view_of(plain), &items).expect("room for the layout");
     let part = array.sliced(elems).expect("a slice within the shape");
-    assert_eq!((part.dim().slice(), part.iter().cloned().collect::<Vec<_>>()), (&picked.shape[..], due));
+    assert_eq!((part.dim().slice(), part.iter().cloned().collect::<Vec<_>>()), (&picked.shape[..], expected));
     let mut array = ArrayViewMut::over(view_of(plain), &mut items).expect("room for the layout");
     assert_eq!(array.sliced(elems).expect("a slice").len(), picked.places.len());
     array.sliced_mut(elems).expect("a slice").map_in_place(|written| *written = item(1000));
@@ -114,14 +114,14 @@ fn arrays_print_as_nested_lists() {
         let array = ArrayView::over(view_of(&plain), &items).expect("room for the layout");
         let in_order: Vec<u8> =
             plain.picked(&whole).expect("the whole array").places.iter().map(|place| items[*place]).collect();
-        let due = format!(
+        let expected = format!(
             "{}, shape={:?}, strides={:?}, layout=",
             nested(&plain.shape, 0, &in_order),
             plain.shape,
             plain.strides
         );
         let printed = format!("{array:#?}");
-        assert!(printed.starts_with(&due), "{printed}\n{due}");
+        assert!(printed.starts_with(&expected), "{printed}\n{expected}");
         assert!(printed.ends_with(&format!(", dynamic ndim={}", plain.shape.len())));
     }
 }

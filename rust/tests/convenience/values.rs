@@ -4,8 +4,8 @@ use super::{counted, view_of};
 use ndarray_layout::CanIndexCheckMode::ReadOnly;
 use ndarray_layout::{
     Axis, CanIndexCheckMode, ErrorKind, Fit, Forward, IndexCursor, IndexCursorF, Ix1, Ix2, Ix3, Ix6, IxDyn, IxDynImpl,
-    LayoutError, Lengths, LentPart, Order, OwnedArray, Reverse, Shape, ShapeBuilder, SliceInfo, SliceInfoElem, Step,
-    Stopped, StrideShape, Strided, Strides, all_indices, from_kind, indices_iter_f, memory, run, s, signed, unsigned,
+    LayoutError, Lengths, Order, OwnedArray, Reverse, Shape, ShapeBuilder, SliceInfo, SliceInfoElem, Step, Stopped,
+    StrideShape, Strided, Strides, all_indices, from_kind, indices_iter_f, memory, run, s, signed, unsigned,
 };
 use std::collections::HashSet;
 use std::error::Error;
@@ -34,9 +34,9 @@ fn exact_fault<S: Into<StrideShape<Ix2>>>(shape: S, count: usize) -> Option<Erro
 fn a_list_of_another_length_than_the_shape_is_refused() -> Result<(), Box<dyn Error>> {
     assert_eq!(exact(Ix2(2, 3), vec![7, 8, 9, 10, 11, 12])?[(1, 0)], 10);
     assert_eq!(exact((2, 3).f()?, vec![7, 8, 9, 10, 11, 12])?[(1, 0)], 8);
-    for (count, due) in [(5, ErrorKind::OutOfBounds), (7, ErrorKind::IncompatibleShape)] {
-        assert_eq!(exact_fault(Ix2(2, 3), count), Some(due));
-        assert_eq!(exact_fault((2, 3).f()?, count), Some(due));
+    for (count, expected) in [(5, ErrorKind::OutOfBounds), (7, ErrorKind::IncompatibleShape)] {
+        assert_eq!(exact_fault(Ix2(2, 3), count), Some(expected));
+        assert_eq!(exact_fault((2, 3).f()?, count), Some(expected));
     }
     // rows of three, with one item between them
     let spaced = || Ix2(2, 3).strides(Ix2(4, 1));
@@ -276,7 +276,6 @@ fn types_are_send_and_sync() {
     is_send_and_sync::<IxDyn>();
     is_send_and_sync::<Strided<IxDyn>>();
     is_send_and_sync::<OwnedArray<u8, Ix6>>();
-    is_send_and_sync::<LentPart<'_, u8, Ix6>>();
     is_send_and_sync::<SliceInfo<Vec<SliceInfoElem>, Ix2, IxDyn>>();
     is_send_and_sync::<LayoutError>();
     is_send_and_sync::<Stopped>();

@@ -20,10 +20,10 @@ fn a_function_of_the_layer_is_inlined() {
             "/// A. /// /// <details><summary>Contract (proved)</summary> /// /// ```text /// ensures x /// ``` /// [How to read it](crate::contracts) /// </details> #[inline] #[must_use] pub fn f() -> u8 { 1 }",
         ),
     ];
-    for (source, due) in ROWS {
+    for (source, expected) in ROWS {
         let names = Names { inlined: true, ..NAMES };
         let text = trees_of(source).and_then(|(trees, _)| erase(&trees, &names)).expect("known forms").text;
-        assert_eq!(text.split_whitespace().collect::<Vec<_>>().join(" "), *due, "{source}");
+        assert_eq!(text.split_whitespace().collect::<Vec<_>>().join(" "), *expected, "{source}");
     }
 }
 
@@ -50,8 +50,8 @@ fn a_result_that_nobody_is_told_of_must_be_used() {
             "/// A. /// /// <details><summary>Contract (proved)</summary> /// /// ```text /// ensures x /// ``` /// [How to read it](crate::contracts) /// </details> #[must_use] pub fn f() -> u8;",
         ),
     ];
-    for (source, due) in ROWS {
-        assert_eq!(line(source), *if due.is_empty() { source } else { due }, "{source}");
+    for (source, expected) in ROWS {
+        assert_eq!(line(source), *if expected.is_empty() { source } else { expected }, "{source}");
     }
     let names = Names { package: "::ndarray_layout", ..NAMES };
     let text = trees_of("pub fn f() -> u8;").and_then(|(trees, _)| erase(&trees, &names));
@@ -78,7 +78,7 @@ fn a_trait_that_leads_to_places_is_sealed() {
         ("pub trait IntoDimension {} trait Lengths {} trait Other {}", ""),
         ("pub trait Other {}", "1: `Other` is a trait that neither `SEALED` nor `OPEN` of rust/eraser/names.rs has"),
     ];
-    for (source, due) in ROWS {
-        assert_eq!(line(source), *if due.is_empty() { source } else { due }, "{source}");
+    for (source, expected) in ROWS {
+        assert_eq!(line(source), *if expected.is_empty() { source } else { expected }, "{source}");
     }
 }

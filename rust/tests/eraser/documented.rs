@@ -15,8 +15,9 @@ fn contract(clauses: &str) -> String {
 fn a_contract_is_documentation() {
     let source = "/// One more.\n#[inline]\nfn f(x: u8) -> u8\n    requires small { x < 255 }\n    ensures { result ≡\n        x + 1 }\n    ensures same { x.ghost_name ≡ y.ghost_name }\n    ensures* back { sem 𝓛 (Lends x y) }\n{\n    x + 1\n}\n\nfn g() ensures { 1 ≡ 1 } {}\n";
     let clauses = contract("/// requires small: x < 255\n/// ensures result ≡ x + 1\n");
-    let due = format!("/// One more.\n///\n{clauses}#[inline]\nfn f(x: u8) -> u8\n{{\n    x + 1\n}}\n\nfn g() {{}}\n");
-    assert_eq!(erased(source), due);
+    let expected =
+        format!("/// One more.\n///\n{clauses}#[inline]\nfn f(x: u8) -> u8\n{{\n    x + 1\n}}\n\nfn g() {{}}\n");
+    assert_eq!(erased(source), expected);
     // (a fact that takes more than a line keeps its lines)
     let long = "x ≡ y + 1 ".repeat(8);
     let source = format!("/// A.\nfn f() ensures all {{ {long}→\n  {long}}} {{}}");
@@ -28,10 +29,10 @@ fn a_contract_is_documentation() {
 fn errors_stand_behind_cost_and_numbers() {
     let source =
         "/// A.\n///\n/// # Errors\n///\n/// `B`; then\n/// `C`.\n///\n/// Takes time.\n///\n/// 1: 2.\nfn f() {}";
-    let due =
+    let expected =
         "/// A.\n///\n/// Takes time.\n///\n/// 1: 2.\n///\n/// # Errors\n///\n/// `B`; then\n/// `C`.\nfn f() {}";
-    assert_eq!(erased(source), due);
-    assert_eq!(erased(due), due);
+    assert_eq!(erased(source), expected);
+    assert_eq!(erased(expected), expected);
 }
 
 #[test]
@@ -43,8 +44,8 @@ fn an_example_is_documentation() {
         let erased = trees_of(source).and_then(|(trees, _)| erase(&trees, &names));
         erased.map_or_else(|fault| fault.to_string(), |erased| erased.text)
     };
-    let due = "/// A.\n///\n/// # Examples\n///\n/// ```\n/// g();\n/// ```\npub fn g() {}";
-    assert_eq!(erased("/// A.\npub fn g() {}"), due);
+    let expected = "/// A.\n///\n/// # Examples\n///\n/// ```\n/// g();\n/// ```\npub fn g() {}";
+    assert_eq!(erased("/// A.\npub fn g() {}"), expected);
     let example = "    /// A.\n    ///\n    /// # Examples\n    ///\n    /// ```\n    /// f();\n    ///\n    /// # g();\n    /// ```\n";
     let source = "impl<T> S<T> {\n    /// A.\n    pub fn f() {}\n}";
     assert_eq!(erased(source), format!("impl<T> S<T> {{\n{example}    pub fn f() {{}}\n}}"));
@@ -62,7 +63,7 @@ fn an_example_is_documentation() {
 fn a_condition_is_told_in_words() {
     let broken = "Otherwise this call or a later one panics or returns unspecified values.";
     let source = |docs: &str, item: &str| format!("/// A.\n{docs}{item}\n    requires {{ x < 2 }}\n{{}}");
-    let due = |docs: &str, words: &str, item: &str| {
+    let expected = |docs: &str, words: &str, item: &str| {
         let clauses = contract("/// requires x < 2\n");
         format!("/// A.{docs}\n///\n/// # Conditions\n///\n/// {words}\n///\n{clauses}{item}\n{{}}")
     };
@@ -71,11 +72,11 @@ fn a_condition_is_told_in_words() {
     for item in ["fn f(x: u8)", "pub fn f(x: u8)"] {
         assert_eq!(
             erased(&source(told, item)),
-            due("\n/// B. C D.\n///\n/// E.", &words, item).replacen("/// A.\n/// B.", "/// A. B.", 1)
+            expected("\n/// B. C D.\n///\n/// E.", &words, item).replacen("/// A.\n/// B.", "/// A. B.", 1)
         );
     }
     let alone = "///\n/// The caller ensures that `x` is less than 2.\n";
-    assert_eq!(erased(&source(alone, "fn f(x: u8)")), due("", &words, "fn f(x: u8)"));
+    assert_eq!(erased(&source(alone, "fn f(x: u8)")), expected("", &words, "fn f(x: u8)"));
     let seen = erased("/// A. A contract sees\n/// the list. B.\nstruct S { a: u8 }");
     assert_eq!(seen, "/// A. B.\nstruct S { a: u8 }");
     let told = erased("/// A. No clause says b.\n///\n/// C. (A proof that needs d\n/// does e.) F.\nfn f();");

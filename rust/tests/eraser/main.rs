@@ -122,8 +122,8 @@ fn each_form_becomes_plain_rust() {
         ("n.cast_signed() + m.cast_unsigned()", "(n as isize) + (m as usize)"),
         ("let c = 'a'; let s = \"ghost { requires\"; // ghost", "let c = 'a'; let s = \"ghost { requires\"; // ghost"),
     ];
-    for (source, due) in ROWS {
-        assert_eq!(line(source), *due, "{source}");
+    for (source, expected) in ROWS {
+        assert_eq!(line(source), *expected, "{source}");
     }
 }
 
@@ -135,10 +135,10 @@ fn a_module_that_only_a_proof_calls_is_left_out() {
         ("nd_owned", "pub use nd_lent::{A, Whole};", "pub use nd_lent::{A, Whole};"),
         ("nd_owned", "mod whole; use whole::Whole;", "mod whole use whole::Whole;"),
     ];
-    for (own, source, due) in ROWS {
+    for (own, source, expected) in ROWS {
         let names = Names { own, ..NAMES };
         let text = trees_of(source).and_then(|(trees, _)| erase(&trees, &names)).expect("known forms").text;
-        assert_eq!(text.split_whitespace().collect::<Vec<_>>().join(" "), *due, "{source}");
+        assert_eq!(text.split_whitespace().collect::<Vec<_>>().join(" "), *expected, "{source}");
     }
 }
 
@@ -172,8 +172,8 @@ fn what_the_package_adds_is_made_of_a_source() {
             "fn index(&self, at: usize) -> &T { &self.items[at] }",
         ),
     ];
-    for (source, due) in ROWS {
-        assert_eq!(line(source), *due, "{source}");
+    for (source, expected) in ROWS {
+        assert_eq!(line(source), *expected, "{source}");
     }
 }
 
@@ -208,9 +208,9 @@ fn a_bound_of_the_list_is_added() {
             "",
         ),
     ];
-    for (source, due) in ROWS {
-        let due = if due.is_empty() { source } else { due };
-        assert_eq!(line(source), *due, "{source}");
+    for (source, expected) in ROWS {
+        let expected = if expected.is_empty() { source } else { expected };
+        assert_eq!(line(source), *expected, "{source}");
     }
 }
 
@@ -242,10 +242,10 @@ fn a_derived_error_is_written_out() {
     let source = "use thiserror::Error; #[derive(Debug, Drop, Error)] pub enum E { #[error(\"line {line}\")] At { line: usize }, #[error(transparent)] Of(A), }";
     let head = "fn fmt(&self, f: &mut ::core::fmt::Formatter<'_>) -> ::core::fmt::Result";
     let arms = "Self::At{ line } => ::core::write!(f, \"line {line}\"), Self::Of(value) => ::core::fmt::Display::fmt(value, f),";
-    let due = format!(
+    let expected = format!(
         "#[derive(Debug)] pub enum E {{ At {{ line: usize }}, Of(A), }} impl ::core::fmt::Display for E {{ {head} {{ match self {{ {arms} }} }} }} impl ::core::error::Error for E {{}}"
     );
-    assert_eq!(line(source), due);
+    assert_eq!(line(source), expected);
 }
 
 #[test]
@@ -327,8 +327,8 @@ fn what_means_something_else_is_an_error_with_its_line() {
         ("/* ghost */ fn f() {}", "1: `/*` begins a comment that isn't known"),
         ("#[derive(Error)] pub enum E {\n#[error(\"{b}\")] A { a: u8 } }", "2: `\"{b}\"` names no field: b"),
     ];
-    for (source, due) in ROWS {
-        assert_eq!(erased(source), *due, "{source}");
+    for (source, expected) in ROWS {
+        assert_eq!(erased(source), *expected, "{source}");
     }
 }
 
@@ -379,8 +379,8 @@ fn a_file_is_a_module() {
     let root = format!("{}//! The docs.\n\n#![allow(a)]\n\n\n\npub mod a;\n{string}", made("lib.rt"));
     let a = format!("{}\n\n{import}\nmod b;\nuse super::c;\nfn f(x: Vec<u8>) {{}}\n", made("a.rt"));
     let b = format!("{}\n\nfn g() {{}}\n", made("a/b.rt"));
-    let due = [("mod.rs", root), ("a.rs", a), ("a/b.rs", b)];
-    assert_eq!(files, due.map(|(place, text)| (place.into(), text)));
+    let expected = [("mod.rs", root), ("a.rs", a), ("a/b.rs", b)];
+    assert_eq!(files, expected.map(|(place, text)| (place.into(), text)));
     fs::remove_dir_all(folder).expect("a folder");
 }
 
@@ -404,8 +404,8 @@ fn a_fault_names_the_file() {
     let folder = file_of("fault", "mod a;\n");
     fs::write(folder.join("a.rt"), "\nfn f() { dyn {} }\n").expect("a file");
     let fault = module_of(&folder.join("lib.rt"), &folder, &NAMES, false).expect_err("no form");
-    let due = format!("{}:2: `dyn` is no form that can be erased", folder.join("a.rt").display());
-    assert_eq!(fault.to_string(), due);
+    let expected = format!("{}:2: `dyn` is no form that can be erased", folder.join("a.rt").display());
+    assert_eq!(fault.to_string(), expected);
     fs::remove_dir_all(folder).expect("a folder");
 }
 
@@ -421,10 +421,10 @@ fn code_is_found_by_tokens() {
         ("S { ghost a: { b ≡ c }, E }", "1: S { E }"),
         ("/// Docs.\nlet s = \"ghost //\nuse a;\"; E", "2: let s = \"ghost // use a;\", 3: ; E"),
     ];
-    for (source, due) in ROWS {
+    for (source, expected) in ROWS {
         let lines = code::lines_of(source).expect("tokens");
         let lines: Vec<String> = lines.iter().map(|line| format!("{}: {}", line.number, line.text)).collect();
-        assert_eq!(lines.join(", "), *due, "{source}");
+        assert_eq!(lines.join(", "), *expected, "{source}");
     }
 }
 
@@ -464,7 +464,7 @@ fn what_is_not_known_is_an_error_with_its_line() {
         ("}", "1: `}` closes nothing"),
         ("let s = \"a", "1: `\"` begins a token that never ends"),
     ];
-    for (source, due) in ROWS {
-        assert_eq!(erased(source), *due, "{source}");
+    for (source, expected) in ROWS {
+        assert_eq!(erased(source), *expected, "{source}");
     }
 }

@@ -31,12 +31,12 @@ fn unsafe_stays_where_it_is_told_why_it_is_sound() {
         ("unsafe impl Clone for Cells<'_, u8> {}", NO_REASON),
         ("unsafe fn get() {}", NO_FORM),
     ];
-    for (source, due) in rows {
+    for (source, expected) in rows {
         let left = line_of("nd_lent", source);
-        assert!(left.ends_with(due), "{source}: {left}");
-        assert_eq!(left.contains("// SAFETY: "), ![NO_FORM, NO_REASON].contains(&due), "{source}: {left}");
+        assert!(left.ends_with(expected), "{source}: {left}");
+        assert_eq!(left.contains("// SAFETY: "), ![NO_FORM, NO_REASON].contains(&expected), "{source}: {left}");
         if !source.contains("SAFETY") {
-            assert_eq!(line_of("upper", source), if due == NO_FORM { NO_FORM } else { NO_REASON }, "{source}");
+            assert_eq!(line_of("upper", source), if expected == NO_FORM { NO_FORM } else { NO_REASON }, "{source}");
         }
     }
     assert_eq!(line_of("upper", "fn get() { // SAFETY: no\nunsafe { h() } }"), NO_REASON.replace('1', "2"));
@@ -45,8 +45,8 @@ fn unsafe_stays_where_it_is_told_why_it_is_sound() {
 #[test]
 fn what_keeps_it_sound_is_seen_by_its_own_module_alone() {
     let source = "pub struct S { pub(crate) cells: u8, pub view: u8 } pub(crate) fn f() {}";
-    let due = "pub struct S { pub(in crate::nd_lent) cells: u8, pub view: u8 } pub(in crate::nd_lent) fn f() {}";
-    assert_eq!(line_of("nd_lent", source), due);
+    let expected = "pub struct S { pub(in crate::nd_lent) cells: u8, pub view: u8 } pub(in crate::nd_lent) fn f() {}";
+    assert_eq!(line_of("nd_lent", source), expected);
     assert_eq!(line_of("upper", source), source);
 }
 
@@ -63,15 +63,15 @@ fn a_condition_that_keeps_it_sound_is_checked_where_others_see_the_call() {
     let checked = line_of("nd_lent", &format!("impl<T> PartMut<T> {{ {call} }}"));
     assert!(checked.contains("{assert!(crate::parts::has_own_items(&view, items.len()), \"two indices"), "{checked}");
     assert!(checked.contains("This call panics where two indices have one item"), "{checked}");
-    let due = "2: `{` begins a call that others see, whose condition `CHECKED` of rust/eraser/names.rs lacks";
-    assert_eq!(line_of("nd_lent", &format!("impl<T> Other<T> {{ {call} }}")), due);
+    let expected = "2: `{` begins a call that others see, whose condition `CHECKED` of rust/eraser/names.rs lacks";
+    assert_eq!(line_of("nd_lent", &format!("impl<T> Other<T> {{ {call} }}")), expected);
     let private = line_of("nd_lent", &format!("impl<T> Other<T> {{ {} }}", call.replace("pub ", "")));
     assert!(private.contains("Otherwise the behaviour is undefined.") && !private.contains("assert!"), "{private}");
     assert!(line_of("upper", &format!("impl<T> PartMut<T> {{ {call} }}")).contains("unspecified values."));
     let of_closure = call.replace("IsOwned n", "CallableOnEachMut F.FnMut items f");
     assert!(!line_of("nd_lent", &format!("impl<T> Other<T> {{ {of_closure} }}")).contains("CHECKED"));
     let of_both = call.replace("IsOwned n", "CallableOnEachMut F.FnMut items f × IsOwned n");
-    assert_eq!(line_of("nd_lent", &format!("impl<T> Other<T> {{ {of_both} }}")), due);
+    assert_eq!(line_of("nd_lent", &format!("impl<T> Other<T> {{ {of_both} }}")), expected);
 }
 
 /// The files of Rust in a folder and in those in it, each with its place under the folder.

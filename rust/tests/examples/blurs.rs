@@ -25,8 +25,8 @@ const BY_HAND: &[(Layout, &[u8])] = &[
 
 #[test]
 fn blurs_have_the_means_that_are_computed_by_hand() {
-    for (layout, due) in BY_HAND {
-        assert_eq!(blur(&picture(layout, &pixels(layout.2))).unwrap(), *due, "{layout:?}");
+    for (layout, expected) in BY_HAND {
+        assert_eq!(blur(&picture(layout, &pixels(layout.2))).unwrap(), *expected, "{layout:?}");
     }
 }
 
@@ -55,9 +55,9 @@ fn blurs_have_the_means_of_pixels_that_are_found_by_their_places() {
         let pixels = pixels(len);
         let picture = picture(layout, &pixels);
         let (rows, columns) = (shape[0] - 2, shape[1] - 2);
-        let due: Vec<u8> = (0..rows * columns)
+        let expected: Vec<u8> = (0..rows * columns)
             .map(|number| mean_at(&pixels, strides, picture.view().start(), number / columns, number % columns))
             .collect();
-        assert_eq!(blur(&picture).unwrap(), due, "{layout:?}");
+        assert_eq!(blur(&picture).unwrap(), expected, "{layout:?}");
     }
 }

@@ -25,9 +25,9 @@ const ROWS: &[Row] = &[
 
 #[test]
 fn strides_in_bytes_make_a_view_of_elements() {
-    for &(start, elem_size, len, shape, byte_strides, due) in ROWS {
+    for &(start, elem_size, len, shape, byte_strides, expected) in ROWS {
         let made = from_bytes(start, IxDyn(shape), strides(byte_strides), elem_size, len, OwnedMutable);
         let places = made.map(|view| view.places(Order::RowMajor).unwrap());
-        assert_eq!(places.map_err(|error| error.kind()), due.map(Places::list), "{shape:?} {byte_strides:?}");
+        assert_eq!(places.map_err(|error| error.kind()), expected.map(Places::list), "{shape:?} {byte_strides:?}");
     }
 }

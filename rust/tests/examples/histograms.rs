@@ -7,7 +7,7 @@ use ndarray_layout::{ArrayView, Ix2, IxDyn, Strided};
 
 #[test]
 fn each_value_is_counted() {
-    for (layout, due) in [
+    for (layout, expected) in [
         ((&[2, 2][..], &[3, 1][..], 6), vec![0, 1, 3, 4]),
         ((&[2, 3], &[0, 1], 3), vec![0, 1, 2, 0, 1, 2]),
         ((&[2, 0], &[1, 1], 1), vec![]),
@@ -16,7 +16,7 @@ fn each_value_is_counted() {
         let items = pixels(layout.2);
         let counts = histogram(&view_over(layout, &items));
         for value in 0..=255 {
-            let count = due.iter().filter(|pixel| **pixel == value).count();
+            let count = expected.iter().filter(|pixel| **pixel == value).count();
             assert_eq!(counts[usize::from(value)], count, "{value} of {:?}", layout.0);
         }
     }
@@ -29,7 +29,7 @@ fn view_over<'a>((shape, by, len): Layout, items: &'a [u8]) -> ArrayView<'a, u8,
 #[test]
 fn a_transpose_has_the_sum_of_the_picture() {
     let items = pixels(10_000);
-    for (layout, due) in [
+    for (layout, expected) in [
         ((&[2, 3][..], &[3, 1][..], 6), 15),
         ((&[2, 3], &[0, 1], 3), 6),
         ((&[2, 3, 2], &[3, 1, 6], 12), 66),
@@ -37,7 +37,7 @@ fn a_transpose_has_the_sum_of_the_picture() {
         ((&[2, 0], &[1, 1], 1), 0),
         ((SIX_AXES, SIX_BACK, 10_000), items.iter().map(|pixel| u64::from(*pixel)).sum()),
     ] {
-        assert_eq!(transpose_sum(view_over(layout, &items)), Some(due), "{:?}", layout.0);
+        assert_eq!(transpose_sum(view_over(layout, &items)), Some(expected), "{:?}", layout.0);
     }
 }
 

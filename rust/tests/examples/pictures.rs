@@ -24,10 +24,10 @@ const ALTERNATE: &[(usize, usize, Places)] =
 
 #[test]
 fn every_other_row_comes_from_the_last_one_up() {
-    for &(rows, columns, due) in ALTERNATE {
+    for &(rows, columns, expected) in ALTERNATE {
         let pixels = pixels(rows * columns);
         let alternate = alternate_rows(&picture_of(&pixels, rows, columns)).unwrap();
-        assert_eq!(pixels_of(&alternate).unwrap(), due.pixels());
+        assert_eq!(pixels_of(&alternate).unwrap(), expected.pixels());
     }
 }
 
@@ -36,8 +36,8 @@ const BRIGHT: &[(usize, usize, usize, u8, usize)] = &[(2, 3, 7, 4, 2), (2, 3, 7,
 
 #[test]
 fn bright_pixels_are_counted() {
-    for &(rows, columns, len, least, due) in BRIGHT {
-        assert_eq!(count_bright(&picture_of(&pixels(len), rows, columns), least), Ok(due));
+    for &(rows, columns, len, least, expected) in BRIGHT {
+        assert_eq!(count_bright(&picture_of(&pixels(len), rows, columns), least), Ok(expected));
     }
 }
 
@@ -46,11 +46,11 @@ const DARK: &[(usize, usize, usize, u8, usize)] = &[(2, 3, 7, 4, 4), (2, 0, 7, 4
 
 #[test]
 fn dark_pixels_are_counted_where_they_are_lent_and_where_they_are_owned() {
-    for &(rows, columns, len, bound, due) in DARK {
+    for &(rows, columns, len, bound, expected) in DARK {
         let pixels = pixels(len);
-        assert_eq!(count_dark(&picture_of(&pixels, rows, columns), bound), due);
+        assert_eq!(count_dark(&picture_of(&pixels, rows, columns), bound), expected);
         let owned = OwnedArray::from_shape_vec((rows, columns).into(), pixels).unwrap();
-        assert_eq!(count_dark_pixels(&owned, bound), due);
+        assert_eq!(count_dark_pixels(&owned, bound), expected);
     }
 }
 
@@ -69,10 +69,10 @@ const BANDS: &[Band] = &[
 
 #[test]
 fn a_band_has_whole_rows() {
-    for ([rows, columns], range, due) in BANDS {
+    for ([rows, columns], range, expected) in BANDS {
         let pixels = pixels(rows * columns);
         let left = band(&picture_of(&pixels, *rows, *columns), range.clone()).map(shape_and_pixels);
-        assert_eq!(left, due.map(|(shape, places)| (Dim(shape), places.pixels())), "{range:?}");
+        assert_eq!(left, expected.map(|(shape, places)| (Dim(shape), places.pixels())), "{range:?}");
     }
 }
 
@@ -97,10 +97,10 @@ const TRANSPOSED: &[Part] = &[
 type TakesPart = for<'a> fn(&ArrayView<'a, u8, Ix2>, Range<usize>, Range<usize>) -> Option<ArrayView<'a, u8, Ix2>>;
 
 fn assert_parts(table: &[Part], take: TakesPart) {
-    for ([height, width], rows, columns, due) in table {
+    for ([height, width], rows, columns, expected) in table {
         let pixels = pixels(height * width);
         let part = take(&picture_of(&pixels, *height, *width), rows.clone(), columns.clone()).map(shape_and_pixels);
-        assert_eq!(part, due.map(|(shape, places)| (Dim(shape), places.pixels())), "{rows:?} {columns:?}");
+        assert_eq!(part, expected.map(|(shape, places)| (Dim(shape), places.pixels())), "{rows:?} {columns:?}");
     }
 }
 
@@ -120,7 +120,7 @@ const ACROSS: &[(usize, usize, Option<u8>)] = &[(2, 1, Some(5)), (0, 1, Some(3))
 #[test]
 fn a_pixel_across_stands_in_a_column() {
     let pixels = pixels(6);
-    for &(row, column, due) in ACROSS {
-        assert_eq!(pixel_across(picture_of(&pixels, 2, 3), row, column), due);
+    for &(row, column, expected) in ACROSS {
+        assert_eq!(pixel_across(picture_of(&pixels, 2, 3), row, column), expected);
     }
 }

@@ -28,20 +28,20 @@ fn picture_of<'a>(items: &'a [u8], shape: &[usize], by: &[isize]) -> ArrayView<'
 
 #[test]
 fn the_extremes_of_a_picture_are_those_of_its_pixels() {
-    for (items, shape, by, due) in pictures() {
+    for (items, shape, by, expected) in pictures() {
         let picture = picture_of(&items, &shape, &by);
-        assert_eq!(brightest(&picture), due.iter().copied().max(), "{shape:?}");
-        assert_eq!(darkest(&picture), due.iter().copied().min(), "{shape:?}");
+        assert_eq!(brightest(&picture), expected.iter().copied().max(), "{shape:?}");
+        assert_eq!(darkest(&picture), expected.iter().copied().min(), "{shape:?}");
     }
 }
 
 #[test]
 fn bounds_are_compared_with_each_pixel_of_the_picture_and_no_other() {
-    for (items, shape, by, due) in pictures() {
+    for (items, shape, by, expected) in pictures() {
         let picture = picture_of(&items, &shape, &by);
         for bound in 0..=255 {
-            assert_eq!(is_darker(&picture, bound), due.iter().all(|pixel| *pixel < bound), "{shape:?}, {bound}");
-            assert_eq!(is_brighter(&picture, bound), due.iter().any(|pixel| *pixel > bound), "{shape:?}, {bound}");
+            assert_eq!(is_darker(&picture, bound), expected.iter().all(|pixel| *pixel < bound), "{shape:?}, {bound}");
+            assert_eq!(is_brighter(&picture, bound), expected.iter().any(|pixel| *pixel > bound), "{shape:?}, {bound}");
         }
     }
 }
@@ -51,12 +51,12 @@ fn a_sum_is_that_of_the_pixels_in_the_crop() {
     let items = pixels(10_000);
     let view = Strided::new(Ix2(100, 100), Ix2(100, 1), 1, 10_000, ReadOnly).unwrap();
     let picture = ArrayView::over(view, &items).unwrap();
-    let due = |rows: std::ops::Range<usize>, columns: std::ops::Range<usize>| {
+    let expected = |rows: std::ops::Range<usize>, columns: std::ops::Range<usize>| {
         rows.flat_map(|row| columns.clone().map(move |column| row * 100 + column))
             .map(|place| u64::from(items[place]))
             .sum()
     };
-    assert_eq!(sum_of_crop(&picture, &Ix2(3, 5), &Ix2(90, 71)), Some(due(3..90, 5..71)));
+    assert_eq!(sum_of_crop(&picture, &Ix2(3, 5), &Ix2(90, 71)), Some(expected(3..90, 5..71)));
     assert_eq!(sum_of_crop(&picture, &Ix2(3, 5), &Ix2(3, 71)), Some(0));
     assert_eq!(sum_of_crop(&picture, &Ix2(3, 5), &Ix2(101, 71)), None);
 }

@@ -54,14 +54,14 @@ fn printed(words: &str, text: &str) -> Result<String, Box<dyn std::error::Error>
 
 #[test]
 fn edits_make_these_pictures() {
-    for (words, text, due) in PICTURES {
-        assert_eq!(printed(words, text).unwrap(), *due);
+    for (words, text, expected) in PICTURES {
+        assert_eq!(printed(words, text).unwrap(), *expected);
     }
 }
 
 #[test]
 fn errors_print_these_messages() {
-    for (words, text, due) in MESSAGES {
-        assert_eq!(printed(words, text).unwrap_err().to_string(), *due);
+    for (words, text, expected) in MESSAGES {
+        assert_eq!(printed(words, text).unwrap_err().to_string(), *expected);
     }
 }

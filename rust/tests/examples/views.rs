@@ -15,8 +15,8 @@ const PIXELS: &[(Layout, &[usize], Option<u8>)] = &[
 
 #[test]
 fn a_pixel_is_found_by_its_index() {
-    for &(layout, index, due) in PIXELS {
-        assert_eq!(pixel(&pixels(layout.2), &view_of(layout), &IxDyn(index)), due);
+    for &(layout, index, expected) in PIXELS {
+        assert_eq!(pixel(&pixels(layout.2), &view_of(layout), &IxDyn(index)), expected);
     }
 }
 
@@ -33,8 +33,8 @@ const SEEN: &[(Layout, Places)] = &[
 
 #[test]
 fn pixels_are_copied_row_after_row() {
-    for &(layout, due) in SEEN {
-        assert_eq!(seen(&view_of(layout), &pixels(layout.2)), due.pixels());
+    for &(layout, expected) in SEEN {
+        assert_eq!(seen(&view_of(layout), &pixels(layout.2)), expected.pixels());
     }
 }
 
@@ -54,15 +54,15 @@ const COMMON: &[Common] = &[
 
 #[test]
 fn two_views_are_read_in_their_common_shape() {
-    for &(layout, (shape, strides), due) in COMMON {
+    for &(layout, (shape, strides), expected) in COMMON {
         let pixels = pixels(layout.2);
         let both = on_common_shape(&view_of(layout), &view_of((shape, strides, layout.2)));
         let seen = both.map(|(one, other)| {
             assert_eq!(one.dim(), other.dim());
             (one.dim().slice().to_vec(), seen(&one, &pixels), seen(&other, &pixels))
         });
-        let due = due.map(|(shape, one, other)| (shape.to_vec(), one.pixels(), other.pixels()));
-        assert_eq!(seen.map_err(kind), due);
+        let expected = expected.map(|(shape, one, other)| (shape.to_vec(), one.pixels(), other.pixels()));
+        assert_eq!(seen.map_err(kind), expected);
     }
 }
 
@@ -77,11 +77,11 @@ const ALONG: &[Along] = &[
 
 #[test]
 fn another_shape_has_strides_or_takes_a_copy() {
-    for &(layout, other, due) in ALONG {
+    for &(layout, other, expected) in ALONG {
         let view = view_of(layout);
         let same = along_shape(&view, &IxDyn(other)).unwrap();
         let parts = same.map(|same| (same.start(), same.dim().clone(), same.strides().clone()));
-        assert_eq!(parts, due.map(|due| (view.start(), IxDyn(other), strides(due))));
+        assert_eq!(parts, expected.map(|expected| (view.start(), IxDyn(other), strides(expected))));
     }
 }
 
@@ -90,7 +90,7 @@ const FIVE_AXES: Layout = (&[10, 10, 2, 10, 10], &[2000, 200, 100, 10, 1], 20_00
 
 #[test]
 fn parts_of_a_view_are_apart_or_share_an_index() {
-    for (layout, first, second, due) in [
+    for (layout, first, second, expected) in [
         (TWO_ROWS, s![0, ..].to_vec(), s![1, ..].to_vec(), Ok(Some((Listed(&[0, 1, 2]), Listed(&[3, 4, 5]))))),
         (TWO_ROWS, s![.., 0].to_vec(), s![0, ..].to_vec(), Ok(None)),
         (TWO_ROWS, s![..].to_vec(), s![2, ..].to_vec(), Err(IncompatibleShape)),
@@ -102,16 +102,16 @@ fn parts_of_a_view_are_apart_or_share_an_index() {
         ),
     ] {
         let apart = separate_places(&view_of(layout), &first, &second).map_err(kind);
-        assert_eq!(apart, due.map(|both| both.map(|(one, other)| (one.list(), other.list()))));
+        assert_eq!(apart, expected.map(|both| both.map(|(one, other)| (one.list(), other.list()))));
     }
 }
 
 /// The shape of a view and its places, or an error.
 type Made = Result<(&'static [usize], Places), ErrorKind>;
 
-fn assert_made<D: Lengths>(made: Result<Strided<D>, LayoutError>, due: &Made) {
+fn assert_made<D: Lengths>(made: Result<Strided<D>, LayoutError>, expected: &Made) {
     let made = made.map_err(kind).map(|view| (view.dim().slice().to_vec(), view.places(Order::RowMajor).unwrap()));
-    assert_eq!(made, due.map(|(shape, places)| (shape.to_vec(), places.list())));
+    assert_eq!(made, expected.map(|(shape, places)| (shape.to_vec(), places.list())));
 }
 
 const GRIDS: &[(usize, usize, usize, Made)] = &[
@@ -124,8 +124,8 @@ const GRIDS: &[(usize, usize, usize, Made)] = &[
 
 #[test]
 fn a_list_is_read_as_a_grid() {
-    for (rows, columns, len, due) in GRIDS {
-        assert_made(grid(&pixels(*len), *rows, *columns), due);
+    for (rows, columns, len, expected) in GRIDS {
+        assert_made(grid(&pixels(*len), *rows, *columns), expected);
     }
 }
 
@@ -138,8 +138,8 @@ const SHAPES: &[(&[usize], usize, Made)] = &[
 
 #[test]
 fn a_list_is_read_in_any_shape() {
-    for (shape, len, due) in SHAPES {
-        assert_made(in_shape(&pixels(*len), IxDyn(shape)), due);
+    for (shape, len, expected) in SHAPES {
+        assert_made(in_shape(&pixels(*len), IxDyn(shape)), expected);
     }
 }
 
@@ -154,8 +154,8 @@ const IN_ROWS: &[(Layout, usize, usize, Made)] = &[
 
 #[test]
 fn a_view_is_read_in_rows() {
-    for (layout, rows, columns, due) in IN_ROWS {
-        assert_made(in_rows(&view_of(*layout), *rows, *columns), due);
+    for (layout, rows, columns, expected) in IN_ROWS {
+        assert_made(in_rows(&view_of(*layout), *rows, *columns), expected);
     }
 }
 

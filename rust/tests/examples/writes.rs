@@ -86,13 +86,13 @@ const FLIPPED: &[Flipped] = &[
 
 #[test]
 fn a_picture_is_turned_upside_down_and_spare_pixels_stay() {
-    for &([rows, columns], [by_row, by_column], len, due) in FLIPPED {
+    for &([rows, columns], [by_row, by_column], len, expected) in FLIPPED {
         let strides = Ix2(unsigned(by_row), unsigned(by_column));
         let view = || Strided::new(Ix2(rows, columns), strides, 1, len, OwnedMutable).unwrap();
         let before = pixels(len);
         let mut flipped = before.clone();
         assert_eq!(flip(view(), &mut flipped), Ok(()));
-        assert_eq!(flipped, due.pixels(), "{rows} {columns}");
+        assert_eq!(flipped, expected.pixels(), "{rows} {columns}");
         let mut mirrored = ArrayView::over(view(), &before).unwrap();
         mirrored.invert_axis(Axis(0)).unwrap();
         let now = ArrayView::over(view(), &flipped).unwrap();

@@ -50,10 +50,10 @@ fn lists_are_set_swapped_and_mapped() {
     assert!(rows.as_view_mut().unwrap().swap(&Ix2(0, 1), &Ix2(1, 1)));
     rows.map_in_place(&s![0, 1..], Vec::clear).unwrap();
     assert_eq!(rows.len(), 6);
-    let due = [&[0][..], &[], &[], &[3], &[60], &[5]];
-    assert_eq!(items(&rows.as_view().unwrap()), due);
+    let expected = [&[0][..], &[], &[], &[3], &[60], &[5]];
+    assert_eq!(items(&rows.as_view().unwrap()), expected);
     let stored = rows.into_stored();
-    assert_eq!((&stored[..6], &stored[6..]), (&due.map(Vec::from)[..], &[vec![6]][..]));
+    assert_eq!((&stored[..6], &stored[6..]), (&expected.map(Vec::from)[..], &[vec![6]][..]));
 }
 
 #[test]

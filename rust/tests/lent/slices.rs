@@ -65,8 +65,8 @@ fn ten_blocks_of_six_axes_are_filled() {
     for (mut part, number) in array.multi_slice_mut(&slices).unwrap().into_iter().zip((0..10).rev()) {
         part.fill(number);
     }
-    let due: Vec<u8> = (0..10).flat_map(|number| [number; 1000]).collect();
-    assert_eq!(numbers[..], due);
+    let expected: Vec<u8> = (0..10).flat_map(|number| [number; 1000]).collect();
+    assert_eq!(numbers[..], expected);
 }
 
 #[test]

@@ -1,8 +1,8 @@
 //! Parts of random arrays along an axis, from both ends, and what their layouts say, beside the list of their places.
 
+use crate::iterated_at_random::{Check, WRITTEN, stepped, whole};
 use crate::model::{Picked, Plain, index_of};
 use crate::numbers::Numbers;
-use crate::run_over::{Check, WRITTEN, stepped, whole};
 use crate::threads::arrays;
 use crate::{NUMBERS, kind, rows_mut};
 use ndarray_layout::{
@@ -52,14 +52,14 @@ fn taken<I>(numbers: &mut Numbers, mut left: I, count: usize) -> Vec<(usize, I::
 where
     I: DoubleEndedIterator + ExactSizeIterator,
 {
-    let (mut due, mut taken) = (0..count, Vec::new());
-    while !due.is_empty() {
-        assert_eq!((left.len(), left.size_hint()), (due.len(), due.size_hint()));
+    let (mut expected, mut taken) = (0..count, Vec::new());
+    while !expected.is_empty() {
+        assert_eq!((left.len(), left.size_hint()), (expected.len(), expected.size_hint()));
         let skipped = numbers.below(3);
         let (number, come) = match numbers.below(6) {
-            0..3 => (due.next(), left.next()),
-            3 | 4 => (due.next_back(), left.next_back()),
-            _ => (due.nth(skipped), left.nth(skipped)),
+            0..3 => (expected.next(), left.next()),
+            3 | 4 => (expected.next_back(), left.next_back()),
+            _ => (expected.nth(skipped), left.nth(skipped)),
         };
         assert_eq!(number.is_some(), come.is_some());
         taken.extend(number.zip(come));
@@ -75,9 +75,9 @@ fn fill_each<D: Lengths>(
     picked: &Picked,
     groups: &[usize],
 ) -> Vec<usize> {
-    let mut due = picked.places.clone();
+    let mut expected = picked.places.clone();
     for (number, _) in &taken {
-        let of_group = due.iter_mut().zip(groups).filter(|(_, group)| *group == number);
+        let of_group = expected.iter_mut().zip(groups).filter(|(_, group)| *group == number);
         of_group.for_each(|(item, _)| *item = WRITTEN + number);
     }
     if numbers.once_in(16) {
@@ -89,7 +89,7 @@ fn fill_each<D: Lengths>(
     } else {
         taken.into_iter().rev().for_each(|(number, mut part)| part.fill(WRITTEN + number));
     }
-    due
+    expected
 }
 
 /// Asserts that the part at each coordinate of an axis comes, with its items.
@@ -155,8 +155,8 @@ fn coordinate_is_lent<D: RemoveAxis>(
     is_picked(&mut one, &picked.at(axis, at));
     one.fill(WRITTEN);
     part.map_in_place(|item| *item += 1);
-    let due = picked.places.iter().zip(picked.groups(axis, 1));
-    due.map(|(place, group)| if group == at { WRITTEN + 1 } else { place + 1 }).collect()
+    let expected = picked.places.iter().zip(picked.groups(axis, 1));
+    expected.map(|(place, group)| if group == at { WRITTEN + 1 } else { place + 1 }).collect()
 }
 
 #[test]

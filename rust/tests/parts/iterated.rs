@@ -5,12 +5,12 @@ use ndarray_layout::{ArrayViewMut, Ix0, Ix1, Ix2, LayoutError, Lengths, PartMut,
 use std::collections::VecDeque;
 use std::fmt::Debug;
 
-/// Asserts that a row has the items that are due at one end, and that there is none where no item is due.
-fn comes_as_row<T: PartialEq + Debug>(row: Option<PartMut<'_, T, Ix1>>, due: &mut VecDeque<T>, at_front: bool) {
+/// Asserts that a row has the items that are expected at one end, and that there is none where no item is expected.
+fn comes_as_row<T: PartialEq + Debug>(row: Option<PartMut<'_, T, Ix1>>, expected: &mut VecDeque<T>, at_front: bool) {
     let come: Vec<&mut T> = row.into_iter().flatten().collect();
-    assert_eq!(come.is_empty(), due.is_empty());
-    let after = due.split_off(if at_front { come.len() } else { due.len() - come.len() });
-    let next = if at_front { std::mem::replace(due, after) } else { after };
+    assert_eq!(come.is_empty(), expected.is_empty());
+    let after = expected.split_off(if at_front { come.len() } else { expected.len() - come.len() });
+    let next = if at_front { std::mem::replace(expected, after) } else { after };
     assert!(come.iter().map(|item| &**item).eq(&next), "{come:?} {next:?}");
 }
 
@@ -21,27 +21,27 @@ pub fn iterates<T: PartialEq + Debug, E: Lengths>(
     item: impl Fn(usize) -> T,
     seed: usize,
 ) {
-    let mut due: VecDeque<T> = picked.places.iter().map(|place| item(*place)).collect();
+    let mut expected: VecDeque<T> = picked.places.iter().map(|place| item(*place)).collect();
     let (mut items, mut seed) = (part.into_iter(), seed);
     loop {
-        assert_eq!((items.len(), items.size_hint()), (due.len(), (due.len(), Some(due.len()))));
+        assert_eq!((items.len(), items.size_hint()), (expected.len(), (expected.len(), Some(expected.len()))));
         if seed % 11 == 3 {
             let at_front = seed % 2 == 0;
             let row = if at_front { items.next_row() } else { items.next_row_back() };
-            comes_as_row(row, &mut due, at_front);
+            comes_as_row(row, &mut expected, at_front);
             seed = (seed * 75 + 74) % 65_537;
             continue;
         }
         let (come, next) = match seed % 7 {
-            0..3 => (items.next(), due.pop_front()),
-            3 | 4 => (items.next_back(), due.pop_back()),
+            0..3 => (items.next(), expected.pop_front()),
+            3 | 4 => (items.next_back(), expected.pop_back()),
             5 => {
                 let skipped = seed / 7 % 9;
-                due.drain(..skipped.min(due.len()));
-                (items.nth(skipped), due.pop_front())
+                expected.drain(..skipped.min(expected.len()));
+                (items.nth(skipped), expected.pop_front())
             }
             _ if seed % 5 == 0 => break,
-            _ => (items.next(), due.pop_front()),
+            _ => (items.next(), expected.pop_front()),
         };
         assert_eq!(come.as_deref(), next.as_ref(), "{picked:?}");
         if come.is_none() {
@@ -51,10 +51,10 @@ pub fn iterates<T: PartialEq + Debug, E: Lengths>(
         seed = (seed * 75 + 74) % 65_537;
     }
     let left = items.fold(0, |number, come| {
-        assert_eq!(Some(&*come), due.get(number), "{picked:?}");
+        assert_eq!(Some(&*come), expected.get(number), "{picked:?}");
         number + 1
     });
-    assert_eq!(left, due.len());
+    assert_eq!(left, expected.len());
 }
 
 #[test]

@@ -3,8 +3,8 @@
 use crate::{NUMBERS, kind, lists, picture, rows_mut};
 use ndarray_layout::ErrorKind::{OutOfBounds, Unsupported};
 use ndarray_layout::{
-    ArrayViewMut, Axis, CanIndexCheckMode, Ix0, Ix1, Ix2, Ix3, IxDyn, LayoutError, LentPart, OwnedArray, PartMut,
-    SliceInfoElem, Strided, s,
+    ArrayViewMut, Axis, CanIndexCheckMode, Ix0, Ix1, Ix2, Ix3, IxDyn, LayoutError, OwnedArray, PartMut, SliceInfoElem,
+    Strided, s,
 };
 use std::thread;
 
@@ -28,7 +28,7 @@ fn slices_of_mixed_kinds_are_lent_together() -> Result<(), LayoutError> {
     let mut rows = rows_mut(&mut numbers);
     let (item, line, mut tile, corner) =
         rows.multi_sliced_mut((s![0, 0], s![0, 1..], s![1.., ..2], s![1..;-1, 2..]))?;
-    let (mut item, mut line): (LentPart<u8, Ix0>, PartMut<u8, Ix1>) = (item, line);
+    let (mut item, mut line): (PartMut<u8, Ix0>, PartMut<u8, Ix1>) = (item, line);
     item[()] = 50;
     line[1] = 52;
     tile[(0, 1)] = 54;

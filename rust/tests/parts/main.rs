@@ -14,7 +14,7 @@ mod own_items;
 mod pairs;
 mod random;
 mod refused;
-mod run_over;
+mod iterated_at_random;
 mod sliced;
 mod steps;
 mod threads;

@@ -1,9 +1,9 @@
 //! Parts of random arrays that take the items of others, swap their own or tell their indices, beside the list of their places.
 
+use crate::iterated_at_random::{WRITTEN, whole};
 use crate::model::{Picked, Plain, index_of};
 use crate::numbers::Numbers;
 use crate::random::{array, dimension};
-use crate::run_over::{WRITTEN, whole};
 use crate::threads::arrays;
 use crate::{NUMBERS, rows_mut};
 use ndarray_layout::{
@@ -46,14 +46,14 @@ fn indices<D: Lengths>(numbers: &mut Numbers, shape: &[usize]) -> [(Option<usize
 
 /// Asserts that a swap is that of the model.
 fn swaps<D: Lengths>(numbers: &mut Numbers, part: PartMut<'_, usize, D>, picked: &Picked) -> Vec<usize> {
-    let (mut part, mut due) = (part, picked.places.clone());
-    for _ in 0..if due.is_empty() { 0 } else { 3 } {
+    let (mut part, mut expected) = (part, picked.places.clone());
+    for _ in 0..if expected.is_empty() { 0 } else { 3 } {
         let [(one, index), (two, other)] = indices::<D>(numbers, &picked.shape);
         let both = one.zip(two);
-        both.into_iter().for_each(|(one, two)| due.swap(one, two));
+        both.into_iter().for_each(|(one, two)| expected.swap(one, two));
         assert_eq!(part.swap(&index, &other), both.is_some(), "{picked:?}");
     }
-    due
+    expected
 }
 
 /// Asserts that each item comes with its index.
@@ -119,7 +119,7 @@ fn lists_are_taken_and_swapped() -> Result<(), LayoutError> {
     part.view_mut().reversed_axes().indexed_iter_mut().for_each(|((row, _), list)| list.push(row as u8));
     let rows = ArrayView::from_shape([1, 2].into(), &others)?.broadcast(&Ix2(2, 2))?;
     part.sliced_mut(s![.., ..2])?.zip_mut_with(&rows, |list, other| list.extend(&other[1..]))?;
-    let due: [&[u8]; 7] = [&[0, 0, 7], &[3, 1, 8, 8], &[7, 7, 2], &[1, 0, 7], &[4, 1, 8, 8], &[8, 8, 8, 2], &[6]];
-    assert_eq!(lists, due);
+    let expected: [&[u8]; 7] = [&[0, 0, 7], &[3, 1, 8, 8], &[7, 7, 2], &[1, 0, 7], &[4, 1, 8, 8], &[8, 8, 8, 2], &[6]];
+    assert_eq!(lists, expected);
     Ok(())
 }

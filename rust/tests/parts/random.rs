@@ -130,7 +130,7 @@ fn splits<T: PartialEq + Debug, E: Lengths>(
 fn compare<T, D, S>(
     plain: &Plain,
     slices: &[S],
-    due: &Result<Vec<Picked>, ErrorKind>,
+    expected: &Result<Vec<Picked>, ErrorKind>,
     item: impl Fn(usize) -> T,
     seed: usize,
 ) where
@@ -140,13 +140,13 @@ fn compare<T, D, S>(
 {
     let mut items: Vec<T> = (0..plain.len).map(&item).collect();
     let mut array: ArrayViewMut<'_, T, D> = array(plain, &mut items);
-    let due = match due {
-        Ok(due) => due,
+    let expected = match expected {
+        Ok(expected) => expected,
         Err(error) => return assert_eq!(kind(array.multi_sliced_mut(slices)), Some(*error)),
     };
-    for (number, picked) in due.iter().enumerate() {
+    for (number, picked) in expected.iter().enumerate() {
         let lend = |array: &mut ArrayViewMut<'_, T, D>| array.multi_sliced_mut(slices).expect("parts").len();
-        assert_eq!(lend(&mut array), due.len());
+        assert_eq!(lend(&mut array), expected.len());
         let mut parts = array.multi_sliced_mut(slices).expect("parts");
         has_items(&parts[number], picked, &item);
         iterates(parts.swap_remove(number), picked, &item, seed + number);
@@ -162,7 +162,7 @@ fn compare<T, D, S>(
     for (number, mut part) in array.multi_sliced_mut(slices).expect("parts").into_iter().enumerate() {
         part.map_in_place(|written| *written = item(100 + number));
     }
-    for (number, picked) in due.iter().enumerate() {
+    for (number, picked) in expected.iter().enumerate() {
         assert!(picked.places.iter().all(|place| items[*place] == item(100 + number)));
     }
 }
@@ -175,12 +175,12 @@ fn typed<D: Lengths>(
 }
 
 /// Compares a call at a type for just as many axes.
-fn compare_typed(plain: &Plain, slices: &[Vec<SliceInfoElem>], due: &Result<Vec<Picked>, ErrorKind>, seed: usize) {
+fn compare_typed(plain: &Plain, slices: &[Vec<SliceInfoElem>], expected: &Result<Vec<Picked>, ErrorKind>, seed: usize) {
     let list = |place: usize| vec![place; place % 2 + 1];
     match plain.shape.len() {
-        1 => compare::<_, Ix1, _>(plain, &typed(slices).expect("slices of one axis"), due, list, seed),
-        2 => compare::<_, Ix2, _>(plain, &typed(slices).expect("slices of two axes"), due, list, seed),
-        3 => compare::<_, Ix3, _>(plain, &typed(slices).expect("slices of three axes"), due, list, seed),
+        1 => compare::<_, Ix1, _>(plain, &typed(slices).expect("slices of one axis"), expected, list, seed),
+        2 => compare::<_, Ix2, _>(plain, &typed(slices).expect("slices of two axes"), expected, list, seed),
+        3 => compare::<_, Ix3, _>(plain, &typed(slices).expect("slices of three axes"), expected, list, seed),
         _ => {}
     }
 }
@@ -192,16 +192,16 @@ fn parts_of_random_slices_are_the_models() {
     for _ in 0..CALLS {
         let plain = Plain::any(&mut numbers);
         let slices = slices(&mut numbers, &plain.shape);
-        let due = model(&plain, &slices);
-        match due {
+        let expected = model(&plain, &slices);
+        match expected {
             Ok(_) => lent += 1,
             Err(ErrorKind::Unsupported) => shared += 1,
             Err(_) => past += 1,
         }
         let seed = numbers.below(1000);
         let elems: Vec<&[SliceInfoElem]> = slices.iter().map(Vec::as_slice).collect();
-        compare::<u8, IxDyn, _>(&plain, &elems, &due, |place| place as u8, seed);
-        compare_typed(&plain, &slices, &due, seed);
+        compare::<u8, IxDyn, _>(&plain, &elems, &expected, |place| place as u8, seed);
+        compare_typed(&plain, &slices, &expected, seed);
     }
     println!("{lent} lists of slices lent, {shared} share an item, {past} are past the shape");
     assert!(lent > CALLS / 2 && shared > 100 && past > 100);

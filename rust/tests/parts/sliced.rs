@@ -16,11 +16,11 @@ fn writes<D: Lengths>(mut part: PartMut<'_, Vec<u8>, D>, picked: &Picked, items:
 }
 
 /// Asserts that slices of a part are lent at once as the model says, or refused and no item changed.
-fn compare_all(plain: &Plain, slices: &[&[SliceInfoElem]], due: &Result<Vec<Picked>, ErrorKind>) {
+fn compare_all(plain: &Plain, slices: &[&[SliceInfoElem]], expected: &Result<Vec<Picked>, ErrorKind>) {
     let mut items: Vec<Vec<u8>> = (0..plain.len).map(|place| vec![place as u8]).collect();
     let old = items.clone();
     let mut part = array::<_, IxDyn>(plain, &mut items).into_part();
-    match due {
+    match expected {
         Ok(picked) => {
             assert_eq!(part.multi_sliced_mut(slices).expect("parts").len(), picked.len());
             let parts = part.multi_sliced_mut(slices).expect("parts").into_iter().zip(picked);
@@ -42,15 +42,15 @@ fn compare_one(plain: &Plain, slice: &[SliceInfoElem], for_good: bool) {
     let old = items.clone();
     let mut part = array::<_, IxDyn>(plain, &mut items).into_part();
     let lent = if for_good { part.view_mut().sliced_move(slice) } else { part.sliced_mut(slice) };
-    let mut due = old.clone();
+    let mut expected = old.clone();
     match plain.picked(slice) {
         Some(picked) => {
             writes(lent.expect("a slice"), &picked, &old, 9);
-            picked.places.iter().for_each(|place| due[*place] = vec![9; 2]);
+            picked.places.iter().for_each(|place| expected[*place] = vec![9; 2]);
         }
         None => assert_eq!(kind(lent), Some(ErrorKind::OutOfBounds)),
     }
-    assert_eq!(items, due);
+    assert_eq!(items, expected);
 }
 
 #[test]

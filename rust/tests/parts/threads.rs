@@ -88,22 +88,22 @@ where
 {
     let mut items: Vec<usize> = (0..plain.len).collect();
     let picked = slices(numbers, &plain.shape);
-    let Ok(due) = model(plain, &picked) else {
+    let Ok(expected) = model(plain, &picked) else {
         return 0;
     };
     let whole = array::<_, D>(plain, &mut items).into_part();
     let lent =
         whole.multi_slice_mut(&picked.iter().map(Vec::as_slice).collect::<Vec<&[SliceInfoElem]>>()).expect("parts");
-    let stepped = lent.into_iter().zip(due).map(|(part, picked)| step(numbers, part, picked)).collect();
+    let stepped = lent.into_iter().zip(expected).map(|(part, picked)| step(numbers, part, picked)).collect();
     let pieces = cut(numbers, stepped, 9);
-    let due: Vec<Vec<usize>> = pieces.iter().map(|(_, picked)| picked.places.clone()).collect();
+    let expected: Vec<Vec<usize>> = pieces.iter().map(|(_, picked)| picked.places.clone()).collect();
     write_in_threads(pieces, 1 + numbers.below(3));
     let mut left: Vec<usize> = (0..plain.len).collect();
-    for (number, places) in due.iter().enumerate() {
+    for (number, places) in expected.iter().enumerate() {
         places.iter().for_each(|place| left[*place] = 1_000_000 + number);
     }
     assert_eq!(items, left, "{plain:?}");
-    due.iter().map(Vec::len).sum()
+    expected.iter().map(Vec::len).sum()
 }
 
 /// Cuts a whole array, without slices, and has the pieces written.
@@ -113,10 +113,10 @@ where
 {
     let mut items: Vec<usize> = (0..plain.len).collect();
     let pieces = cut(numbers, vec![(array::<_, D>(plain, &mut items).into_part(), plain.whole())], 8);
-    let due: Vec<Vec<usize>> = pieces.iter().map(|(_, picked)| picked.places.clone()).collect();
+    let expected: Vec<Vec<usize>> = pieces.iter().map(|(_, picked)| picked.places.clone()).collect();
     write_in_threads(pieces, 1);
     let mut left: Vec<usize> = (0..plain.len).collect();
-    for (number, places) in due.iter().enumerate() {
+    for (number, places) in expected.iter().enumerate() {
         places.iter().for_each(|place| left[*place] = 1_000_000 + number);
     }
     assert_eq!(items, left, "{plain:?}");

@@ -40,12 +40,13 @@ fn answer(call: &Call) -> Option<String> {
 /// one makes just those that its row has.
 fn differences(row: &Row) -> Vec<String> {
     let failing = row.failing.len();
-    let of_allocation = |(number, due): (usize, &Vec<String>)| {
+    let of_allocation = |(number, expected): (usize, &Vec<String>)| {
         let call = Call::read(&row.call, number);
         let told = answer(&call).unwrap_or_else(|| "no such call".to_owned());
         let made = call.made();
-        let is_due = due.contains(&told) && if number < failing { made > number } else { made == failing };
-        (!is_due).then(|| format!("{}, allocation {number} fails: {told} after {made}, not {due:?}", row.call))
+        let is_expected = expected.contains(&told) && if number < failing { made > number } else { made == failing };
+        (!is_expected)
+            .then(|| format!("{}, allocation {number} fails: {told} after {made}, not {expected:?}", row.call))
     };
     row.failing.iter().chain([&row.answer]).enumerate().filter_map(of_allocation).collect()
 }

@@ -12,11 +12,11 @@ use std::str::{FromStr, SplitWhitespace};
 pub fn assert_rows(table: &str, answer: impl Fn(&str, &mut Words) -> String) {
     assert!(!table.is_empty());
     for line in table.lines() {
-        let (asked, due) = line.split_once(" => ").expect(line);
+        let (asked, expected) = line.split_once(" => ").expect(line);
         let (call, given) = asked.split_once(' ').expect(line);
         for given in given.split(" / ") {
             let mut words = Words::of(given);
-            assert_eq!(answer(call, &mut words), due, "{call} {given}");
+            assert_eq!(answer(call, &mut words), expected, "{call} {given}");
             assert!(words.is_end(), "{call} {given}");
         }
     }

@@ -52,9 +52,9 @@ pub fn compare_both<A: Debug, T: PartialEq + Debug>(
     let mut counts = BTreeMap::<i32, usize>::new();
     for _ in 0..CALLS {
         let arguments = arguments(&mut numbers);
-        let due = proved(&arguments);
-        assert_eq!(erased(&arguments), due, "the package, and the proved library: {call} of {arguments:?}");
-        *counts.entry(due.0).or_default() += 1;
+        let expected = proved(&arguments);
+        assert_eq!(erased(&arguments), expected, "the package, and the proved library: {call} of {arguments:?}");
+        *counts.entry(expected.0).or_default() += 1;
     }
     println!("{call}: {counts:?}");
     assert!(counts.keys().eq(statuses), "{call}: of the statuses {statuses:?} came {counts:?}");
@@ -67,12 +67,12 @@ pub fn choice(numbers: &mut Numbers) -> i32 {
     if numbers.once_in(30) { numbers.pick(&[-1, 2, 3, i32::MIN, i32::MAX]) } else { numbers.pick(&[0, 1]) }
 }
 
-/// A list to be written of the count that is due, seldom of one more or less.
-pub fn room(numbers: &mut Numbers, due: usize) -> Vec<usize> {
+/// A list to be written of the count that is expected, seldom of one more or less.
+pub fn room(numbers: &mut Numbers, expected: usize) -> Vec<usize> {
     let count = match numbers.below(40) {
-        0 => due + 1,
-        1 => due.saturating_sub(1),
-        _ => due,
+        0 => expected + 1,
+        1 => expected.saturating_sub(1),
+        _ => expected,
     };
     vec![UNWRITTEN; count]
 }

@@ -34,7 +34,7 @@ mod erased {
     pub use crate::ndarray_layout_c::reasons::Reason;
     pub use crate::ndarray_layout_c::{
         axis_reasons::*, block_reasons::*, blocks::*, broadcast_reasons::*, diagonals::*, index_reasons::*, indices::*,
-        intersections::*, joining::*, layout_reasons::*, layouts::*, permute_reasons::*, reshape_reasons::*, rows::*,
+        intersections::*, joined_layouts::*, layout_reasons::*, layouts::*, permute_reasons::*, reshape_reasons::*, rows::*,
         shapes::*, slice_reasons::*, slices::*, splits::*, stretches::*, texts::*, version::*,
     };
 }

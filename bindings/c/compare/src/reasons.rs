@@ -89,10 +89,10 @@ fn compare_reasons<A: Debug>(
     let mut counts = BTreeMap::<i32, usize>::new();
     for _ in 0..100_000 {
         let arguments = arguments(&mut numbers);
-        let due = model(&arguments).map_or((BAD_ARGUMENT, NOT_TOLD), |told| (OK, told));
-        assert_eq!(proved(&arguments), due, "the proved library, and the model: {call} of {arguments:?}");
-        assert_eq!(erased(&arguments), due, "the package, and the model: {call} of {arguments:?}");
-        *counts.entry(due.1.1).or_default() += 1;
+        let expected = model(&arguments).map_or((BAD_ARGUMENT, NOT_TOLD), |told| (OK, told));
+        assert_eq!(proved(&arguments), expected, "the proved library, and the model: {call} of {arguments:?}");
+        assert_eq!(erased(&arguments), expected, "the package, and the model: {call} of {arguments:?}");
+        *counts.entry(expected.1.1).or_default() += 1;
     }
     println!("{call}: {counts:?}");
     assert!(counts.keys().eq(rules), "{call}: of the rules {rules:?} came {counts:?}");

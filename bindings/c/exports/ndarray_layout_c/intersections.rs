@@ -29,45 +29,45 @@ fn add_up_to(counts: &[usize], len: usize) -> bool {
     left == 0
 }
 
-/// A list in few parts one after another, of these counts, with empty ones after them.
+/// A list in few slices one after another, of these counts, with empty ones after them.
 ///
 /// <details><summary>Contract (proved)</summary>
 ///
 /// ```text
 /// requires few: length counts.now ≤ 4
 /// requires counts: total counts.now ≡ length elems.now
-/// ensures map (λ part. part.now) (take (length counts.now) result) ≡ parts counts.now elems.now
+/// ensures map (λ slice. slice.now) (take (length counts.now) result) ≡ cut_by counts.now elems.now
 /// ```
 /// [How to read it](ndarray_layout::contracts)
 /// </details>
-fn few_parts<'a>(elems: &'a [SliceInfoElem], counts: &[usize]) -> [&'a [SliceInfoElem]; FEW] {
-    let (mut parts, mut left) = ([&elems[..0]; FEW], elems);
-    for place in 0..counts.len() {
-        let (part, rest) = left.split_at(counts[place]);
-        parts[place] = part;
+fn few_slices<'a>(elems: &'a [SliceInfoElem], counts: &[usize]) -> [&'a [SliceInfoElem]; FEW] {
+    let (mut slices, mut left) = ([&elems[..0]; FEW], elems);
+    for position in 0..counts.len() {
+        let (slice, rest) = left.split_at(counts[position]);
+        slices[position] = slice;
         left = rest;
     }
-    parts
+    slices
 }
 
-/// A list in parts one after another, of these counts.
+/// A list in slices one after another, of these counts.
 ///
 /// <details><summary>Contract (proved)</summary>
 ///
 /// ```text
 /// requires total counts.now ≡ length elems.now
-/// ensures IfOk result (λ found. map (λ part. part.now) found.items ≡ parts counts.now elems.now)
+/// ensures IfOk result (λ found. map (λ slice. slice.now) found.items ≡ cut_by counts.now elems.now)
 /// ```
 /// [How to read it](ndarray_layout::contracts)
 /// </details>
-fn many_parts<'a>(elems: &'a [SliceInfoElem], counts: &[usize]) -> Result<Vec<&'a [SliceInfoElem]>, AllocError> {
-    let (mut parts, mut left) = (Vec::fallible_with_capacity(counts.len())?, elems);
+fn many_slices<'a>(elems: &'a [SliceInfoElem], counts: &[usize]) -> Result<Vec<&'a [SliceInfoElem]>, AllocError> {
+    let (mut slices, mut left) = (Vec::fallible_with_capacity(counts.len())?, elems);
     for count in counts {
-        let (part, rest) = left.split_at(*count);
-        parts.fallible_push(part)?;
+        let (slice, rest) = left.split_at(*count);
+        slices.fallible_push(slice)?;
         left = rest;
     }
-    Ok(parts)
+    Ok(slices)
 }
 
 /// Two of many slices of a view that intersect, of which all elements are given one after another and how many each has.
@@ -78,11 +78,11 @@ fn many_parts<'a>(elems: &'a [SliceInfoElem], counts: &[usize]) -> Result<Vec<&'
 ///
 /// ```text
 /// requires total counts.now ≡ length elems.now
-/// ensures fits: OnOk result (slices_fault fit view.now.shape (parts counts.now elems.now) ≡ None)
+/// ensures fits: OnOk result (slices_fault fit view.now.shape (cut_by counts.now elems.now) ≡ None)
 /// ensures fault: (kind : ErrorKind) → shape_fault result ≡ Some kind →
-///     slices_fault fit view.now.shape (parts counts.now elems.now) ≡ Some kind
+///     slices_fault fit view.now.shape (cut_by counts.now elems.now) ≡ Some kind
 /// ensures memory: length counts.now ≤ 4 → shape_fault result ≡ None → IsOk result
-/// ensures intersection: IfOk result (λ found. IsIntersection fit view.now.shape (parts counts.now elems.now) found)
+/// ensures intersection: IfOk result (λ found. IsIntersection fit view.now.shape (cut_by counts.now elems.now) found)
 /// ```
 /// [How to read it](ndarray_layout::contracts)
 /// </details>
@@ -93,11 +93,11 @@ fn intersection(
     fit: Fit,
 ) -> Result<Option<(usize, usize)>, LayoutError> {
     if counts.len() <= FEW {
-        let parts = few_parts(elems, counts);
-        return Ok(view.first_intersection(&parts[..counts.len()], fit)?);
+        let slices = few_slices(elems, counts);
+        return Ok(view.first_intersection(&slices[..counts.len()], fit)?);
     }
-    let parts = many_parts(elems, counts)?;
-    Ok(view.first_intersection_sorted(parts.as_slice(), fit)?)
+    let slices = many_slices(elems, counts)?;
+    Ok(view.first_intersection_sorted(slices.as_slice(), fit)?)
 }
 
 /// Two of many slices of a shape that intersect.

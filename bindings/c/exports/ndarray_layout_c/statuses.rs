@@ -6,7 +6,7 @@ use ::ndarray_layout::ErrorKind;
 /// Success.
 pub(crate) const OK: i32 = 0;
 
-/// A number without a meaning, or a list of another count than is due.
+/// A number without a meaning, or a list of the wrong length.
 pub(crate) const BAD_ARGUMENT: i32 = 7;
 
 /// The status of `OutOfBounds`.

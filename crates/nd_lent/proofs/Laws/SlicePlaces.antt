@@ -9,7 +9,7 @@ use Rattle.ndarray_layout.specs.declared.Order.TheVariants.{RowMajor}
 use Rattle.ndarray_layout.specs.declared.SliceInfoElem.{SliceInfoElem}
 use Rattle.ndarray_layout.specs.DistinctPlaces.{HasDistinctPlaces}
 use Rattle.ndarray_layout.specs.Indices.{indices_in, is_index}
-use Rattle.ndarray_layout.specs.Intersections.{AreApart, slices_fault}
+use Rattle.ndarray_layout.specs.IntersectingPair.{AreApart, slices_fault}
 use Rattle.ndarray_layout.specs.SliceFault.{argument_fault}
 use Rattle.ndarray_layout.specs.SlicedView.{slice_of}
 use Rattle.ndarray_layout.specs.View.{View, IsView, place_at, view_places}

@@ -126,7 +126,7 @@ impl<'a, T, D: Lengths> ArrayView<'a, T, D> {
         ensures count { length result ≡ size self.now.view.shape }
         ensures in_order { EveryRun
             (YieldsFirstBy (λ (item : Bor T). Some item.now) (λ (left : List (Option T)). left))
-            (λ run. ItemsMapTo run (λ (item : Bor T). Some item.now) run.from) }
+            (λ turns. ItemsMapTo turns (λ (item : Bor T). Some item.now) turns.from) }
     {
         Iter::new(self.stored(), self.view().iter_places(Order::RowMajor))
     }

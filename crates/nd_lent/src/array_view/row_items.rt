@@ -141,7 +141,7 @@ impl<'a, T> IntoIterator for LentRow<'a, T> {
 
     ghost into_iter_gives = { λ row left. (left ≡ row_items row)
         × EveryRun (YieldsFirstBy (λ (item : Bor T). Some item.now) (λ (items : List (Option T)). items))
-        (λ run. ItemsMapTo run (λ (item : Bor T). Some item.now) run.from) };
+        (λ turns. ItemsMapTo turns (λ (item : Bor T). Some item.now) turns.from) };
 
     #[inline]
     fn into_iter(self) -> RowItems<'a, T> {

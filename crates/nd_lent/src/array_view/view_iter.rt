@@ -135,7 +135,7 @@ impl<'a, T, D: Lengths> IntoIterator for ArrayView<'a, T, D> {
     ghost into_iter_gives = { λ array left.
         (left ≡ map (item_at_place array.items) (view_places RowMajor array.view))
         × EveryRun (YieldsFirstBy (λ (item : Bor T). Some item.now) (λ (items : List (Option T)). items))
-        (λ run. ItemsMapTo run (λ (item : Bor T). Some item.now) run.from) };
+        (λ turns. ItemsMapTo turns (λ (item : Bor T). Some item.now) turns.from) };
 
     #[inline]
     fn into_iter(self) -> ViewIter<'a, T, D> {

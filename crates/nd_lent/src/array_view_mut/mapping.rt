@@ -8,16 +8,16 @@ ghost use Rattle.std.specs.Result.{result_err};
 ghost use Rattle.ndarray_layout.specs.declared.ErrorKind.TheVariants.{IncompatibleShape};
 ghost use Rattle.nd_lent.specs.HasItems.{HasItemsOf, KeepsSpare};
 ghost use Rattle.nd_lent.specs.AnyOrder.{InAnyOrder};
-ghost use Rattle.nd_lent.specs.AnyOrder.{RunsInSomeOrder};
-ghost use Rattle.nd_lent.specs.Mapped.{ActsAsAtMut, CallableOnEachMut, RunsOver, gives, row_major_items};
+ghost use Rattle.nd_lent.specs.AnyOrder.{CallsMakeArrayInSomeOrder};
+ghost use Rattle.nd_lent.specs.Mapped.{ActsAsAtMut, CallableOnEachMut, CallsMake, gives, row_major_items};
 ghost use Rattle.nd_lent.specs.Items.{item_at, item_at_place};
 ghost use Rattle.ndarray_layout.specs.declared.Order.TheVariants.{RowMajor};
 ghost use Rattle.ndarray_layout.specs.Bounds.{IsInBounds};
 ghost use Rattle.ndarray_layout.specs.Rows.{row_places, rows_places};
 ghost use Rattle.ndarray_layout.specs.View.{IsView, view_places};
 ghost use Rattle.nd_lent.specs.LentRow.{HasRow, places_of, row_items, rows_items};
-ghost use Rattle.nd_lent.specs.Written.{HasRun};
-ghost use Rattle.nd_lent.specs.private.RunTo.{HasRunTo};
+ghost use Rattle.nd_lent.specs.Written.{Maps};
+ghost use Rattle.nd_lent.specs.private.MapsTo.{MapsTo};
 
 use crate::array_view::{ArrayView, LentRow, LentRows, is_contiguous, place_in_row};
 use crate::array_view_mut::ArrayViewMut;
@@ -28,7 +28,7 @@ use ndarray_layout::{ErrorKind, Lengths, Order, Row, Rows, ShapeError, Strided, 
 #[inline(always)]
 fn map_slice<T, F: FnMut(&mut T)>(items: &mut [T], mut f: F) -> F
     requires { CallableOnEachMut F.FnMut (map Some items.old) f }
-    ensures { HasRunTo (λ p x y q. CalledAtMut F.FnMut p x tt q y) f
+    ensures { MapsTo (λ p x y q. CalledAtMut F.FnMut p x tt q y) f
         (row_places 0 (pos 1) (length items.old)) (map Some items.old) items.old items.new result }
 {
     for item in items.iter_mut() {
@@ -43,7 +43,7 @@ fn map_places<T, F: FnMut(&mut T)>(stored: &mut [T], row: Row, mut f: F) -> F
     requires row { HasRow (length stored.old) row }
     requires distinct { AllPairs (λ one other. one ≢ other) (places_of row) }
     requires callable { CallableOnEachMut F.FnMut (map (item_at_place stored.old) (places_of row)) f }
-    ensures { HasRunTo (λ p x y q. CalledAtMut F.FnMut p x tt q y) f (places_of row)
+    ensures { MapsTo (λ p x y q. CalledAtMut F.FnMut p x tt q y) f (places_of row)
         (map (item_at_place stored.old) (places_of row)) stored.old stored.new result }
 {
     for coordinate in 0..row.len {
@@ -59,7 +59,7 @@ fn map_row<T, F: FnMut(&mut T)>(stored: &mut [T], row: Row, f: F) -> F
     requires row { HasRow (length stored.old) row }
     requires distinct { AllPairs (λ one other. one ≢ other) (places_of row) }
     requires callable { CallableOnEachMut F.FnMut (map (item_at_place stored.old) (places_of row)) f }
-    ensures { HasRunTo (λ p x y q. CalledAtMut F.FnMut p x tt q y) f (places_of row)
+    ensures { MapsTo (λ p x y q. CalledAtMut F.FnMut p x tt q y) f (places_of row)
         (map (item_at_place stored.old) (places_of row)) stored.old stored.new result }
 {
     if !is_contiguous(row) {
@@ -76,7 +76,7 @@ fn map_rows<T, F: FnMut(&mut T)>(stored: &mut [T], rows: Rows<'_>, mut f: F)
     requires rows { All (HasRow (length stored.old)) rows }
     requires distinct { AllPairs (λ one other. one ≢ other) (rows_places rows) }
     requires callable { CallableOnEachMut F.FnMut (map (item_at_place stored.old) (rows_places rows)) f }
-    ensures { HasRun (λ p x y q. CalledAtMut F.FnMut p x tt q y) f (rows_places rows.entry)
+    ensures { Maps (λ p x y q. CalledAtMut F.FnMut p x tt q y) f (rows_places rows.entry)
         (map (item_at_place stored.old) (rows_places rows.entry)) stored.old stored.new }
 {
     for row in rows {
@@ -89,7 +89,7 @@ fn map_rows<T, F: FnMut(&mut T)>(stored: &mut [T], rows: Rows<'_>, mut f: F)
 fn write_slice<T, U: Drop, F: FnMut(&T) -> U>(to: &mut [U], items: &[T], mut f: F) -> F
     requires count { length items.now ≡ length to.old }
     requires callable { CallableOnAllAt gives F.FnMut (map Some items.now) f }
-    ensures { HasRunTo (λ p x y q. CalledAt F.FnMut p x y q) f
+    ensures { MapsTo (λ p x y q. CalledAt F.FnMut p x y q) f
         (row_places 0 (pos 1) (length to.old)) (map Some items.now) to.old to.new result }
 {
     // (with one count for both no item needs a check of its bounds)
@@ -112,7 +112,7 @@ fn write_places<T, U: Drop, F: FnMut(&T) -> U>(
     requires distinct { AllPairs (λ one other. one ≢ other) (places_of row) }
     requires count { row.len ≡ source.now.row.len }
     requires callable { CallableOnAllAt gives F.FnMut (row_items source.now) f }
-    ensures { HasRunTo (λ p x y q. CalledAt F.FnMut p x y q) f (places_of row)
+    ensures { MapsTo (λ p x y q. CalledAt F.FnMut p x y q) f (places_of row)
         (row_items source.now) stored.old stored.new result }
 {
     for coordinate in 0..row.len {
@@ -134,7 +134,7 @@ fn write_row<T, U: Drop, F: FnMut(&T) -> U>(
     requires distinct { AllPairs (λ one other. one ≢ other) (places_of row) }
     requires count { row.len ≡ source.now.row.len }
     requires callable { CallableOnAllAt gives F.FnMut (row_items source.now) f }
-    ensures { HasRunTo (λ p x y q. CalledAt F.FnMut p x y q) f (places_of row)
+    ensures { MapsTo (λ p x y q. CalledAt F.FnMut p x y q) f (places_of row)
         (row_items source.now) stored.old stored.new result }
 {
     match source.as_slice() {
@@ -159,7 +159,7 @@ fn write_rows<T, U: Drop, F: FnMut(&T) -> U>(
     requires count { AllZip (λ row source. row.len ≡ source.row.len) rows sources }
     requires distinct { AllPairs (λ one other. one ≢ other) (rows_places rows) }
     requires callable { CallableOnAllAt gives F.FnMut (rows_items sources) f }
-    ensures { HasRun (λ p x y q. CalledAt F.FnMut p x y q) f (rows_places rows.entry)
+    ensures { Maps (λ p x y q. CalledAt F.FnMut p x y q) f (rows_places rows.entry)
         (rows_items sources.entry) stored.old stored.new }
 {
     let mut sources = sources;
@@ -177,7 +177,7 @@ fn map_view<T, D: Lengths, F: FnMut(&mut T)>(stored: &mut [T], view: &Strided<D>
     requires distinct { AllPairs (λ one other. one ≢ other) (view_places RowMajor view.now) }
     requires callable { CallableOnEachMut F.FnMut
         (map (item_at_place stored.old) (view_places RowMajor view.now)) f }
-    ensures { HasRun (λ p x y q. CalledAtMut F.FnMut p x tt q y) f (view_places RowMajor view.now)
+    ensures { Maps (λ p x y q. CalledAtMut F.FnMut p x tt q y) f (view_places RowMajor view.now)
         (map (item_at_place stored.old) (view_places RowMajor view.now)) stored.old stored.new }
 {
     map_rows(stored, view.joined_rows(Order::RowMajor), f);
@@ -201,7 +201,7 @@ fn write_view<'a, T, U: Drop, D: Lengths, F: FnMut(&T) -> U>(
     requires items { All (IsInBounds (length items.now)) (view_places RowMajor source.now) }
     requires callable { CallableOnAllAt gives F.FnMut
         (map (item_at_place items.now) (view_places RowMajor source.now)) f }
-    ensures { HasRun (λ p x y q. CalledAt F.FnMut p x y q) f (view_places RowMajor view.now)
+    ensures { Maps (λ p x y q. CalledAt F.FnMut p x y q) f (view_places RowMajor view.now)
         (map (item_at_place items.now) (view_places RowMajor source.now)) stored.old stored.new }
 {
     let (rows, sources) = view.joined_rows_with(source, Order::RowMajor);
@@ -219,7 +219,7 @@ impl<'a, T: Drop, D: Lengths> ArrayViewMut<'a, T, D> {
     /// `|item| *item = item.wrapping_mul(2)` at `a`: 14 16 9. ndarray's `map_inplace`.
     pub fn map_in_place<F: FnMut(&mut T)>(&mut self, f: F)
         requires { CallableOnEachMut F.FnMut (row_major_items (array_of self.old)) f }
-        ensures ran { RunsOver (λ p x y q. CalledAtMut F.FnMut p x tt q y) f
+        ensures ran { CallsMake (λ p x y q. CalledAtMut F.FnMut p x tt q y) f
             (row_major_items (array_of self.old)) (row_major_items (array_of self.new)) }
         ensures mapped { (h : T → T) → ActsAsAtMut F.FnMut f h → HasItemsOf
             (λ index. option_map h (item_at (array_of self.old) index))
@@ -242,7 +242,7 @@ impl<'a, T: Drop, D: Lengths> ArrayViewMut<'a, T, D> {
     pub fn map_in_place_nearest<F: FnMut(&mut T)>(&mut self, f: F)
         requires { InAnyOrder (λ items. CallableOnEachMut F.FnMut items f)
             (row_major_items (array_of self.old)) }
-        ensures ran { RunsInSomeOrder (λ p x y q. CalledAtMut F.FnMut p x tt q y) f
+        ensures ran { CallsMakeArrayInSomeOrder (λ p x y q. CalledAtMut F.FnMut p x tt q y) f
             (array_of self.old) (array_of self.new) }
         ensures mapped { (h : T → T) → ActsAsAtMut F.FnMut f h → HasItemsOf
             (λ index. option_map h (item_at (array_of self.old) index))
@@ -284,7 +284,7 @@ impl<T, D: Lengths> ArrayView<'_, T, D> {
         ensures fits { IsOk result ↔ (self.now.view.shape ≡ (array_of to.old).view.shape) }
         ensures fault { OnErr result (result_err result ≡ Some IncompatibleShape) }
         ensures unchanged { OnErr result (array_of to.new ≡ array_of to.old) }
-        ensures ran { OnOk result (RunsOver (λ p x y q. CalledAt F.FnMut p x y q) f
+        ensures ran { OnOk result (CallsMake (λ p x y q. CalledAt F.FnMut p x y q) f
             (row_major_items self.now) (row_major_items (array_of to.new))) }
         ensures mapped { OnOk result ((h : T → U) → ActsAsAt F.FnMut f h → HasItemsOf
             (λ index. option_map h (item_at self.now index)) (array_of to.old) (array_of to.new)) }
@@ -324,7 +324,7 @@ impl<T, D: Lengths> ArrayView<'_, T, D> {
         ensures fits { IsOk result ↔ (self.now.view.shape ≡ (array_of to.old).view.shape) }
         ensures fault { OnErr result (result_err result ≡ Some IncompatibleShape) }
         ensures unchanged { OnErr result (array_of to.new ≡ array_of to.old) }
-        ensures ran { OnOk result (RunsInSomeOrder (λ p x y q. CalledAt F.FnMut p x y q) f
+        ensures ran { OnOk result (CallsMakeArrayInSomeOrder (λ p x y q. CalledAt F.FnMut p x y q) f
             self.now (array_of to.new)) }
         ensures mapped { OnOk result ((h : T → U) → ActsAsAt F.FnMut f h → HasItemsOf
             (λ index. option_map h (item_at self.now index)) (array_of to.old) (array_of to.new)) }

@@ -40,7 +40,11 @@ fn reach<D: Lengths>(view: &Strided<D>) -> Result<(usize, usize), ShapeError>
 }
 
 /// A view over the `len` items that are left where so many before them are left out. Errors: none.
-fn moved<D: Lengths>(view: Strided<D>, by: usize, len: usize) -> Result<Strided<D>, ShapeError>
+fn without_first_items<D: Lengths>(
+    view: Strided<D>,
+    by: usize,
+    len: usize,
+) -> Result<Strided<D>, ShapeError>
     requires some { is_empty view.shape ≡ false }
     requires low { by + low_span view.shape view.strides ≤ view.start }
     requires within { LiesWithin (by + len) view }
@@ -113,7 +117,7 @@ impl<D: Lengths> SplitViews<D> {
         let (first_low, first_high) = reach(&first)?;
         let (second_low, second_high) = reach(&second)?;
         if first_high < second_low {
-            let second = moved(second, second_low, count - second_low)?;
+            let second = without_first_items(second, second_low, count - second_low)?;
             return Ok(SplitViews {
                 first,
                 second,
@@ -122,7 +126,7 @@ impl<D: Lengths> SplitViews<D> {
             });
         }
         if second_high < first_low {
-            let first = moved(first, first_low, count - first_low)?;
+            let first = without_first_items(first, first_low, count - first_low)?;
             return Ok(SplitViews {
                 first,
                 second,

@@ -6,15 +6,15 @@ ghost use Rattle.ndarray_layout.specs.declared.Order.TheVariants.{RowMajor};
 ghost use Rattle.ndarray_layout.specs.Bounds.{IsInBounds};
 ghost use Rattle.ndarray_layout.specs.Rows.{row_places, rows_places};
 ghost use Rattle.ndarray_layout.specs.View.{view_places};
-ghost use Rattle.nd_lent.specs.AnyOrder.{InAnyOrder, RunsOverInSomeOrder};
+ghost use Rattle.nd_lent.specs.AnyOrder.{InAnyOrder, CallsMakeInSomeOrder};
 ghost use Rattle.nd_lent.specs.HasItems.{HasItemsOf, KeepsSpare};
 ghost use Rattle.nd_lent.specs.Items.{item_at, item_at_place};
-ghost use Rattle.nd_lent.specs.Mapped.{ActsAsAtMut, CallableOnEachMut, RunsOver, row_major_items};
+ghost use Rattle.nd_lent.specs.Mapped.{ActsAsAtMut, CallableOnEachMut, CallsMake, row_major_items};
 ghost use Rattle.nd_lent.specs.Part.{IsPart};
 ghost use Rattle.nd_lent.specs.Rights.{right_of};
-ghost use Rattle.nd_lent.specs.Written.{HasRun};
+ghost use Rattle.nd_lent.specs.Written.{Maps};
 ghost use Rattle.nd_lent.specs.private.OwnedRows.{OwnsEachRow, OwnsRow};
-ghost use Rattle.nd_lent.specs.private.RunTo.{HasRunAt, HasRunTo};
+ghost use Rattle.nd_lent.specs.private.MapsTo.{MapsAt, MapsTo};
 
 use crate::cells::Cells;
 use crate::part::PartMut;
@@ -38,7 +38,7 @@ fn map_places<T, F: FnMut(&mut T)>(cells: &mut Cells<'_, T>, row: Row, mut f: F)
     requires row { OwnsRow cells.old.marks row }
     requires callable { CallableOnEachMut F.FnMut
         (map (item_at_place cells.old.items) (row_places row.start row.stride row.len)) f }
-    ensures ran { HasRunTo (λ p x y q. CalledAtMut F.FnMut p x tt q y) f (row_places row.start row.stride row.len)
+    ensures ran { MapsTo (λ p x y q. CalledAtMut F.FnMut p x tt q y) f (row_places row.start row.stride row.len)
         (map (item_at_place cells.old.items) (row_places row.start row.stride row.len)) cells.old.items cells.new.items result }
     ensures same_right { right_of cells.new ≡ right_of cells.old }
 {
@@ -55,7 +55,7 @@ fn map_row<T, F: FnMut(&mut T)>(cells: &mut Cells<'_, T>, row: Row, f: F) -> F
     requires row { OwnsRow cells.old.marks row }
     requires callable { CallableOnEachMut F.FnMut
         (map (item_at_place cells.old.items) (row_places row.start row.stride row.len)) f }
-    ensures ran { HasRunTo (λ p x y q. CalledAtMut F.FnMut p x tt q y) f (row_places row.start row.stride row.len)
+    ensures ran { MapsTo (λ p x y q. CalledAtMut F.FnMut p x tt q y) f (row_places row.start row.stride row.len)
         (map (item_at_place cells.old.items) (row_places row.start row.stride row.len)) cells.old.items cells.new.items result }
     ensures same_right { right_of cells.new ≡ right_of cells.old }
 {
@@ -76,7 +76,7 @@ fn map_row<T, F: FnMut(&mut T)>(cells: &mut Cells<'_, T>, row: Row, f: F) -> F
 fn map_rows<T, F: FnMut(&mut T)>(cells: &mut Cells<'_, T>, rows: Rows<'_>, mut f: F)
     requires rows { OwnsEachRow cells.old.marks rows }
     requires callable { CallableOnEachMut F.FnMut (map (item_at_place cells.old.items) (rows_places rows)) f }
-    ensures ran { HasRun (λ p x y q. CalledAtMut F.FnMut p x tt q y) f (rows_places rows.entry)
+    ensures ran { Maps (λ p x y q. CalledAtMut F.FnMut p x tt q y) f (rows_places rows.entry)
         (map (item_at_place cells.old.items) (rows_places rows.entry)) cells.old.items cells.new.items }
     ensures same_right { right_of cells.new ≡ right_of cells.old }
 {
@@ -95,7 +95,7 @@ fn map_view<T, D: Lengths, F: FnMut(&mut T)>(
 )
     requires part { IsPart cells.old.marks view.now }
     requires callable { CallableOnEachMut F.FnMut (map (item_at_place cells.old.items) (view_places order view.now)) f }
-    ensures ran { HasRun (λ p x y q. CalledAtMut F.FnMut p x tt q y) f (view_places order view.now)
+    ensures ran { Maps (λ p x y q. CalledAtMut F.FnMut p x tt q y) f (view_places order view.now)
         (map (item_at_place cells.old.items) (view_places order view.now)) cells.old.items cells.new.items }
     ensures same_right { right_of cells.new ≡ right_of cells.old }
 {
@@ -114,7 +114,7 @@ pub(crate) fn map_nearest<T, D: Lengths, F: FnMut(&mut T)>(
     requires part { IsPart cells.old.marks view.now }
     requires callable { InAnyOrder (λ items. CallableOnEachMut F.FnMut items f)
         (map (item_at_place cells.old.items) (view_places RowMajor view.now)) }
-    ensures ran { HasRunAt (λ p x y q. CalledAtMut F.FnMut p x tt q y) f (view_places RowMajor view.now)
+    ensures ran { MapsAt (λ p x y q. CalledAtMut F.FnMut p x tt q y) f (view_places RowMajor view.now)
         cells.old.items cells.new.items }
     ensures same_right { right_of cells.new ≡ right_of cells.old }
 {
@@ -134,7 +134,7 @@ impl<'a, T: Drop, D: Lengths> PartMut<'a, T, D> {
     /// `|item| *item *= 2` at `[2]`, `[-1]` from 1 over 7 8 9: 14 16 9. ndarray's `map_inplace`.
     pub fn map_in_place<F: FnMut(&mut T)>(&mut self, f: F)
         requires { CallableOnEachMut F.FnMut (row_major_items (array_of self.old)) f }
-        ensures ran { RunsOver (λ p x y q. CalledAtMut F.FnMut p x tt q y) f
+        ensures ran { CallsMake (λ p x y q. CalledAtMut F.FnMut p x tt q y) f
             (row_major_items (array_of self.old)) (row_major_items (array_of self.new)) }
         ensures mapped { (h : T → T) → ActsAsAtMut F.FnMut f h → HasItemsOf
             (λ index. option_map h (item_at (array_of self.old) index))
@@ -159,7 +159,7 @@ impl<'a, T: Drop, D: Lengths> PartMut<'a, T, D> {
     pub fn map_in_place_nearest<F: FnMut(&mut T)>(&mut self, alloc: Global, f: F)
         requires { InAnyOrder (λ items. CallableOnEachMut F.FnMut items f)
             (row_major_items (array_of self.old)) }
-        ensures ran { RunsOverInSomeOrder (λ p x y q. CalledAtMut F.FnMut p x tt q y) f
+        ensures ran { CallsMakeInSomeOrder (λ p x y q. CalledAtMut F.FnMut p x tt q y) f
             (row_major_items (array_of self.old)) (row_major_items (array_of self.new)) }
         ensures mapped { (h : T → T) → ActsAsAtMut F.FnMut f h → HasItemsOf
             (λ index. option_map h (item_at (array_of self.old) index))

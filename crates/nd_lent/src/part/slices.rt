@@ -1,7 +1,7 @@
 //! The parts that slices pick, lent at once.
 ghost use Rattle.std.specs.Prelude.{◌≡◌, IfOk, IsOk, None, [], map};
 ghost use Rattle.ndarray_layout.specs.declared.Fit.TheVariants.{Strict};
-ghost use Rattle.ndarray_layout.specs.Intersections.{slices_fault};
+ghost use Rattle.ndarray_layout.specs.IntersectingPair.{slices_fault};
 ghost use Rattle.ndarray_layout.specs.ShapeFault.{shape_fault};
 ghost use Rattle.nd_lent.specs.Part.{IsPart};
 ghost use Rattle.nd_lent.specs.Slices.{AreApartInPlace, IsFaultOfSlices, slice_array};

@@ -6,7 +6,7 @@ use Rattle.std.proofs.lemmas.List.{get_or-map, length-map}
 use Rattle.ndarray_layout.specs.declared.ErrorKind.{ErrorKind}
 use Rattle.ndarray_layout.specs.declared.Fit.TheVariants.{Strict}
 use Rattle.ndarray_layout.specs.Intersect.{Intersect}
-use Rattle.ndarray_layout.specs.Intersections.{AreApart}
+use Rattle.ndarray_layout.specs.IntersectingPair.{AreApart}
 use Rattle.ndarray_layout.specs.SliceFault.{argument_fault}
 use Rattle.nd_owned.specs.MultiSet.{IsFaultOfWrites, IsIntersectionFault, Write, counts_fault, slices_fault, slices_of}
 use Rattle.nd_lent.proofs.Laws.Faults.{both_none, slices_fit}

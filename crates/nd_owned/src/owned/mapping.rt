@@ -7,7 +7,7 @@ ghost use Rattle.ndarray_layout.specs.Memory.{NeedsNoMemory};
 ghost use Rattle.ndarray_layout.specs.ShapeFault.{shape_fault};
 ghost use Rattle.ndarray_layout.specs.SliceFault.{argument_fault, out_count};
 ghost use Rattle.nd_lent.specs.HasItems.{HasItemsOf, KeepsSpare};
-ghost use Rattle.nd_lent.specs.Mapped.{ActsAsAtMut, CallableOnEachMut, RunsOver, part_of, row_major_items};
+ghost use Rattle.nd_lent.specs.Mapped.{ActsAsAtMut, CallableOnEachMut, CallsMake, part_of, row_major_items};
 ghost use Rattle.nd_lent.specs.Items.{IsOwned, item_at};
 
 use crate::owned::OwnedArray;
@@ -20,7 +20,7 @@ fn map_view<T: Drop, D: Lengths, F: FnMut(&mut T)>(stored: &mut [T], view: Strid
     requires owned { IsOwned (length stored.old) view }
     requires callable { CallableOnEachMut F.FnMut
         (row_major_items (record { items = stored.old; view = view })) f }
-    ensures ran { RunsOver (λ p x y q. CalledAtMut F.FnMut p x tt q y) f
+    ensures ran { CallsMake (λ p x y q. CalledAtMut F.FnMut p x tt q y) f
         (row_major_items (record { items = stored.old; view = view }))
         (row_major_items (record { items = stored.new; view = view })) }
     ensures mapped { (h : T → T) → ActsAsAtMut F.FnMut f h → HasItemsOf
@@ -60,7 +60,7 @@ impl<T: Drop, D: Lengths> OwnedArray<T, D> {
         ensures unchanged { OnErr result (self.new ≡ self.old) }
         ensures view { self.new.view ≡ self.old.view }
         ensures count { length self.new.items ≡ length self.old.items }
-        ensures ran { OnOk result (RunsOver (λ p x y q. CalledAtMut F.FnMut p x tt q y) f
+        ensures ran { OnOk result (CallsMake (λ p x y q. CalledAtMut F.FnMut p x tt q y) f
             (row_major_items (part_of (S.list slices.now) self.old))
             (row_major_items (part_of (S.list slices.now) self.new))) }
         ensures mapped { OnOk result ((h : T → T) → ActsAsAtMut F.FnMut f h → HasItemsOf

@@ -101,14 +101,14 @@ fn broadcast_axes<E: Lengths>(
     ensures fault { shape_fault result ≡ broadcast_fault (E.list shape.now) view_shape.now }
     ensures memory { broadcast_fault (E.list shape.now) view_shape.now ≡ None →
         NeedsNoMemory E.NDIM (length (E.list shape.now)) → IsOk result }
-    ensures shape { IfOk result (λ (dim, kept). E.list dim ≡ E.list shape.now) }
-    ensures strides { IfOk result (λ (dim, kept). all_signed (E.list kept) ≡
+    ensures shape { IfOk result (λ (dim, new_strides). E.list dim ≡ E.list shape.now) }
+    ensures strides { IfOk result (λ (dim, new_strides). all_signed (E.list new_strides) ≡
         broadcast_strides (E.list shape.now) view_shape.now (all_signed strides.now)) }
 {
     check_broadcast(view_shape, shape)?;
-    let kept = stretched(alloc, shape, view_shape, strides)?;
+    let new_strides = stretched(alloc, shape, view_shape, strides)?;
     let dim = shape.duplicate(alloc)?;
-    Ok((dim, kept))
+    Ok((dim, new_strides))
 }
 
 impl<D: Lengths> Strided<D> {

@@ -4,7 +4,7 @@ ghost use Rattle.std.specs.Prelude.{◌≡◌, ◌<◌, ◌↔◌, IsTrue, IfOk,
 ghost use Rattle.std.specs.Result.{result_err};
 ghost use Rattle.nd_slice.specs.SliceFault.{argument_fault};
 ghost use Rattle.nd_slice.specs.Intersect.{Intersect};
-ghost use Rattle.nd_slice.specs.Intersections.{IsIntersection, slices_fault};
+ghost use Rattle.nd_slice.specs.IntersectingPair.{IsIntersection, slices_fault};
 ghost use Rattle.ndarray_layout.specs.DistinctPlaces.{HasDistinctPlaces};
 ghost use Rattle.ndarray_layout.specs.SharePlace.{SharePlace};
 ghost use Rattle.ndarray_layout.specs.SlicedView.{slice_of};

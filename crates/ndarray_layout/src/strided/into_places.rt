@@ -22,7 +22,7 @@ impl<D: Lengths> Strided<D> {
     pub fn into_places(self, order: Order) -> IntoPlaces<D>
         ensures items { result ≡ view_places order self }
         ensures in_order { EveryRun (YieldsFirstBy pos (λ left. left))
-            (λ run. ItemsMapTo run pos run.from) }
+            (λ turns. ItemsMapTo turns pos turns.from) }
     {
         PlacesOf::new(self.into_joined_rows(order))
     }

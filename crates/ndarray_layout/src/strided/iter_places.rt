@@ -26,7 +26,7 @@ impl<D: Lengths> Strided<D> {
     pub fn iter_places(&self, order: Order) -> Places<'_>
         ensures items { result ≡ view_places order self.now }
         ensures in_order { EveryRun (YieldsFirstBy pos (λ left. left))
-            (λ run. ItemsMapTo run pos run.from) }
+            (λ turns. ItemsMapTo turns pos turns.from) }
         ensures is_view { IsView self.now }
     {
         let rows = Rows::of_places(order, self.start, self.dim.slice(), self.strides.slice());

@@ -68,10 +68,10 @@ fn slice_axis(
     requires len_fits { len < 2 ^ 63 }
     requires span_fits { reach len (signed_reading stride) ≤ limit }
     ensures fault { result_err result ≡ slice_fault fit len slice }
-    ensures count { IfOk result (λ (count, kept, offset). count ≡ length (picks fit len slice)) }
-    ensures stride { IfOk result (λ (count, kept, offset). signed_reading kept ≡
+    ensures count { IfOk result (λ (count, new_stride, offset). count ≡ length (picks fit len slice)) }
+    ensures stride { IfOk result (λ (count, new_stride, offset). signed_reading new_stride ≡
         picked_stride (length (picks fit len slice)) (signed_reading stride) slice.step) }
-    ensures offset { IfOk result (λ (count, kept, offset).
+    ensures offset { IfOk result (λ (count, new_stride, offset).
         offset ≡ first_offset (picks fit len slice) (signed_reading stride)) }
 {
     let picks = resolve_slice(len, slice, fit)?;
@@ -170,11 +170,11 @@ fn sliced_axes<E: Lengths>(
     ensures fault { shape_fault result ≡ view_slice_fault fit E.NDIM shape.now elems.now }
     ensures memory { view_slice_fault fit E.NDIM shape.now elems.now ≡ None →
         NeedsNoMemory E.NDIM (out_count elems.now) → IsOk result }
-    ensures shape { IfOk result (λ (dim, kept, offset).
+    ensures shape { IfOk result (λ (dim, new_strides, offset).
         E.list dim ≡ sliced_shape fit elems.now shape.now) }
-    ensures strides { IfOk result (λ (dim, kept, offset). all_signed (E.list kept) ≡
+    ensures strides { IfOk result (λ (dim, new_strides, offset). all_signed (E.list new_strides) ≡
         sliced_strides fit elems.now shape.now (all_signed strides.now)) }
-    ensures offset { IfOk result (λ (dim, kept, offset).
+    ensures offset { IfOk result (λ (dim, new_strides, offset).
         offset ≡ sliced_offset fit elems.now shape.now (all_signed strides.now)) }
 {
     if !has_counts(E::NDIM, shape, elems) {
@@ -183,16 +183,16 @@ fn sliced_axes<E: Lengths>(
     let ndim = out_ndim_of(elems);
     check_before_memory(E::NDIM, ndim, elems, shape, fit)?;
     let mut dim = E::zeros(alloc, ndim)?;
-    let mut kept = E::zeros(alloc, ndim)?;
+    let mut new_strides = E::zeros(alloc, ndim)?;
     let offset = write_axes(
         elems,
         shape,
         strides,
         dim.slice_mut(),
-        kept.slice_mut(),
+        new_strides.slice_mut(),
         fit,
     )?;
-    Ok((dim, kept, offset))
+    Ok((dim, new_strides, offset))
 }
 
 impl<D: Lengths> Strided<D> {

@@ -15,7 +15,7 @@ use Rattle.ndarray_layout.specs.SliceText.{start_text, end_text, step_text}
 use Rattle.ndarray_layout.specs.declared.SliceInfoElem.{SliceInfoElem}
 use Rattle.ndarray_layout.specs.declared.SliceInfoElem.TheVariants as elem
 use Rattle.ndl_session.specs.text.Bytes.{comma, dot, semicolon}
-use Rattle.ndl_session.specs.text.Lines.{parts}
+use Rattle.ndl_session.specs.text.Lines.{cut_at}
 use Rattle.ndl_session.specs.text.Numbers.{IsIsize, signed_number_of}
 use Rattle.ndl_session.specs.script.Elements.{IsElement, start_of, end_of, element_of, range_of, slice_of_bounds}
 use Rattle.ndl_session.proofs.Laws.PrintedNumbers.{signed_number_of-signed_decimal, spells_other}
@@ -73,14 +73,14 @@ module _ (start : ℤ) (end : Option ℤ) (s : IsIsize start) (e : IfSome end Is
   no_dot_before : Lacks dot (start_text start)
   no_dot_before = lacks IsSignOrDigit dot no_dot _ (start_bytes start s)
 
-  bounds_parts : parts dot (bounds_text start end) ≡ start_text start ∷ [] ∷ end_text end ∷ []
+  bounds_parts : cut_at dot (bounds_text start end) ≡ start_text start ∷ [] ∷ end_text end ∷ []
   bounds_parts =
-      ap (parts dot) two_dots_between
+      ap (cut_at dot) two_dots_between
       ∙ part_at dot (start_text start) (dot ∷ end_text end) no_dot_before
       ∙ ap (λ (cut : List (List ℕ)). start_text start ∷ [] ∷ cut) (one_part dot (end_text end)
       (lacks IsSignOrDigit dot no_dot _ (end_bytes end e)))
 
-  slice_of-bounds_text : (step : ℤ) → slice_of_bounds step (parts dot (bounds_text start end)) ≡ Some (elem.Slice start end step)
+  slice_of-bounds_text : (step : ℤ) → slice_of_bounds step (cut_at dot (bounds_text start end)) ≡ Some (elem.Slice start end step)
   slice_of-bounds_text step = rw (bounds_parts, start_of-start_text start s, end_of-end_text end e) refl
 
   bounds_no_semicolon : Lacks semicolon (bounds_text start end)

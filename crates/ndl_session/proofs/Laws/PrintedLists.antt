@@ -8,7 +8,7 @@ use Rattle.std.proofs.lemmas.List.Elements.{All-head, All-map, All-tail, All-wea
 use Rattle.std.proofs.lemmas.Slice.Eq.{bytes_eq-Decides}
 use Rattle.ndarray_layout.specs.ElementText.{elem_text}
 use Rattle.ndl_session.specs.text.Bytes.{comma, space}
-use Rattle.ndl_session.specs.text.Lines.{parts}
+use Rattle.ndl_session.specs.text.Lines.{cut_at}
 use Rattle.ndl_session.specs.text.Numbers.{IsIsize, IsUsize, number_of, signed_number_of}
 use Rattle.ndl_session.specs.text.Printing.{listed}
 use Rattle.ndl_session.specs.script.Elements.{IsElement, element_of}
@@ -62,7 +62,7 @@ module _ {A : Type 0} {item_of : List ℕ → Option A} {text_of : A → List �
       let cut = listed_parts comma (text_of x) (map text_of xs) apart in
       let other = spells_other item_of (text_of x) (codes "-") x (items.read x (All-head Can x xs all)) items.no_minus in
       let listed_other = λ (e : listed (codes ",") (map text_of (x ∷ xs)) ≡ codes "-").
-      other (ap (λ (texts : List (List ℕ)). get_or texts 0 []) (sym cut ∙ ap (parts comma) e)) in
+      other (ap (λ (texts : List (List ℕ)). get_or texts 0 []) (sym cut ∙ ap (cut_at comma) e)) in
       rw (false_from_ne_true _ (λ t. listed_other ((bytes_eq-Decides _ _).0 t)), cut) (read_each-texts (x ∷ xs) all)
 
 pub lengths_items : AreItems number_of decimal IsUsize

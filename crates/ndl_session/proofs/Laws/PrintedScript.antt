@@ -14,7 +14,7 @@ use Rattle.ndarray_layout.specs.declared.Order.{Order}
 use Rattle.ndarray_layout.specs.declared.Order.TheVariants.{RowMajor, ColumnMajor}
 use Rattle.ndarray_layout.specs.Step.{StepValue, SliceBy, CollapseTo, MergeInto, ReshapeTo, BroadcastTo}
 use Rattle.ndl_session.specs.text.Bytes.{line_feed, space}
-use Rattle.ndl_session.specs.text.Lines.{lines_from, lines_of, parts, words_of}
+use Rattle.ndl_session.specs.text.Lines.{lines_from, lines_of, cut_at, words_of}
 use Rattle.ndl_session.specs.text.Printing.{listed}
 use Rattle.ndl_session.specs.script.DataLine.{DataLayoutValue, IsLayout, layout_of, layout_words, mode_of, mode_text}
 use Rattle.ndl_session.specs.script.Elements.{elements_of, elements_text}
@@ -151,7 +151,7 @@ lines_of-lines (words ∷ lines) all =
     let rest = flat_map line_text lines in
     let bytes = line_bytes words (All-head IsLine words lines all) in
     let whole : line_text words ++ rest ≡ line ++ line_feed ∷ rest = append_assoc line (codes "\n") rest in
-    let cut : parts line_feed (line_text words ++ rest) ≡ line ∷ parts line_feed rest = ap (parts line_feed) whole
+    let cut : cut_at line_feed (line_text words ++ rest) ≡ line ∷ cut_at line_feed rest = ap (cut_at line_feed) whole
     ∙ part_at line_feed line rest (lacks (IsAfter 31) line_feed (λ b r e. omega (arith, r)) line bytes) in
     ended_line (line_text words ++ rest) line rest cut
     ∙ rw (kept_line line bytes, lines_of-lines lines (All-tail IsLine words lines all)) refl

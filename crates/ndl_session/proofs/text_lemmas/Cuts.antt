@@ -6,7 +6,7 @@ use Rattle.std.proofs.lemmas.List.{append-nil}
 use Rattle.std.proofs.lemmas.List.Elements.{All-append, All-cons, All-head, All-nil, All-tail, All-weaker}
 use Rattle.std.proofs.lemmas.List.Splits.{slice_split_at, slice_split_none}
 use Rattle.std.proofs.lemmas.List.Sums.{AllPass-from_list_all}
-use Rattle.ndl_session.specs.text.Lines.{parts}
+use Rattle.ndl_session.specs.text.Lines.{cut_at}
 use Rattle.ndl_session.specs.text.Printing.{listed}
 
 abbrev pub Lacks : ℕ → List ℕ → Type 0
@@ -16,16 +16,16 @@ pub lacks : (P : ℕ → Type 0) (separator : ℕ) → ((b : ℕ) → P b → b 
 lacks P separator other text all = All-weaker P (λ b. eqb b separator ≡ false) (λ b p. ne_eqb b separator (other b p)) text all
 
 pub part_at : (separator : ℕ) (text rest : List ℕ) → Lacks separator text
-    → parts separator (text ++ separator ∷ rest) ≡ text ∷ parts separator rest
+    → cut_at separator (text ++ separator ∷ rest) ≡ text ∷ cut_at separator rest
 part_at separator text rest none = slice_split_at (λ b. eqb b separator) text separator rest none (eq-eqb separator separator refl)
 
-pub one_part : (separator : ℕ) (text : List ℕ) → Lacks separator text → parts separator text ≡ text ∷ []
+pub one_part : (separator : ℕ) (text : List ℕ) → Lacks separator text → cut_at separator text ≡ text ∷ []
 one_part separator text none = slice_split_none (λ b. eqb b separator) text none
 
 -- what stands in a list is what it is cut into
 pub listed_parts : (separator : ℕ) (text : List ℕ) (texts : List (List ℕ)) → All (Lacks separator) (text ∷ texts)
-    → parts separator (listed (separator ∷ []) (text ∷ texts)) ≡ text ∷ texts
-listed_parts separator text [] none = ap (parts separator) (append-nil text)
+    → cut_at separator (listed (separator ∷ []) (text ∷ texts)) ≡ text ∷ texts
+listed_parts separator text [] none = ap (cut_at separator) (append-nil text)
     ∙ one_part separator text (All-head (Lacks separator) text [] none)
 listed_parts separator text (another ∷ texts) none =
     part_at separator text _ (All-head (Lacks separator) text (another ∷ texts) none)

@@ -6,7 +6,7 @@ use Rattle.std.specs.Option.{unwrap_or}
 use Rattle.std.specs.Str.Lines.{strip_carriage_return, lines_of_parts}
 use Rattle.std.proofs.Math.Bool.{and-true}
 use Rattle.ndl_session.specs.text.Bytes.{line_feed}
-use Rattle.ndl_session.specs.text.Lines.{after_line, after_lines, lines_of, lines_from, words_of, parts}
+use Rattle.ndl_session.specs.text.Lines.{after_line, after_lines, lines_of, lines_from, words_of, cut_at}
 use Rattle.ndl_session.proofs.text_lemmas.Parts.{some_part}
 
 -- the text has a line feed
@@ -15,11 +15,11 @@ first_part : (line : List ℕ) (cut : List (List ℕ)) → cut ≢ []
 first_part line [] some = absurd (some refl)
 first_part line (part ∷ more) some = refl
 
-pub ended_line : (text line rest : List ℕ) → parts line_feed text ≡ line ∷ parts line_feed rest
+pub ended_line : (text line rest : List ℕ) → cut_at line_feed text ≡ line ∷ cut_at line_feed rest
     → lines_of text ≡ strip_carriage_return line ∷ lines_of rest
-ended_line text line rest cut = rw cut (first_part line (parts line_feed rest) (some_part line_feed rest))
+ended_line text line rest cut = rw cut (first_part line (cut_at line_feed rest) (some_part line_feed rest))
 
--- the last byte, as a part of the text and by its index
+-- the last byte, as a piece of the text and by its index
 last_byte : (line : List ℕ) (at : ℕ) → at + 1 ≡ length line → pointwise nat_eq (drop at line) (13 ∷ []) ≡ eqb (get_or line at 0) 13
 last_byte line at e =
     let past : length line ≤ suc at = omega arith in

@@ -10,7 +10,7 @@ use Rattle.std.proofs.lemmas.List.Elements.{All-cons, All-nil, All-weaker}
 use Rattle.std.proofs.lemmas.Option.{cond_some, option_and_then_some}
 use Rattle.std.proofs.lemmas.Str.Parse.{tells_all_ascii_digits}
 use Rattle.ndl_session.specs.text.Bytes.{comma, dot, semicolon}
-use Rattle.ndl_session.specs.text.Lines.{parts}
+use Rattle.ndl_session.specs.text.Lines.{cut_at}
 use Rattle.ndl_session.specs.text.Numbers.{IsIsize, isize_of, number_of, signed_number_of}
 use Rattle.ndl_session.proofs.text_lemmas.Cuts.{IsAfter, lacks, one_part}
 use Rattle.ndl_session.proofs.text_lemmas.Digits.{isize_fits}
@@ -62,7 +62,7 @@ signed_number_bytes (b ∷ bs) z some = elim (cases_eq b 45) [
 ]
 
 pub number_part : (separator : ℕ) → ((byte : ℕ) → IsSignOrDigit byte → byte ≢ separator) → (text : List ℕ) (z : ℤ)
-    → signed_number_of text ≡ Some z → parts separator text ≡ text ∷ []
+    → signed_number_of text ≡ Some z → cut_at separator text ≡ text ∷ []
 number_part separator other text z some =
     one_part separator text (lacks IsSignOrDigit separator other text (signed_number_bytes text z some))
 

@@ -8,7 +8,7 @@ use Rattle.ndarray_layout.specs.declared.SliceInfoElem.TheVariants as elem
 use Rattle.ndarray_layout.specs.ElementText.{elem_text}
 use Rattle.ndl_session.specs.text.Bytes.{dot, semicolon}
 use Rattle.ndl_session.specs.script.Reading.{◌>>=◌}
-use Rattle.ndl_session.specs.text.Lines.{parts}
+use Rattle.ndl_session.specs.text.Lines.{cut_at}
 use Rattle.ndl_session.specs.text.Numbers.{IsIsize, signed_number_of}
 use Rattle.ndl_session.specs.text.Printing.{listed}
 use Rattle.ndl_session.specs.script.Lists.{list_of}
@@ -23,7 +23,7 @@ abbrev pub end_of : List ℕ → Option (Option ℤ)
 end_of [] = Some None
 end_of (byte ∷ text) = option_map Some (signed_number_of (byte ∷ text))
 
--- the slice by a step and by the parts of a range between its dots: two bounds, and nothing between the two dots
+-- the slice by a step and by the pieces of a range between its dots: two bounds, and nothing between the two dots
 abbrev pub slice_of_bounds : ℤ → List (List ℕ) → Option SliceInfoElem
 slice_of_bounds step (start ∷ [] ∷ end ∷ []) = do
   start ← start_of start
@@ -31,17 +31,17 @@ slice_of_bounds step (start ∷ [] ∷ end ∷ []) = do
   Some (elem.Slice start end step)
 slice_of_bounds step _ = None
 
--- the slice by the parts of a text between its semicolons: a range, and a step, which is 1 where it is missing
-abbrev pub slice_of_parts : List (List ℕ) → Option SliceInfoElem
-slice_of_parts (range ∷ []) = slice_of_bounds (pos 1) (parts dot range)
-slice_of_parts (range ∷ step ∷ []) = do
+-- the slice by the pieces of a text between its semicolons: a range, and a step, which is 1 where it is missing
+abbrev pub slice_of_pieces : List (List ℕ) → Option SliceInfoElem
+slice_of_pieces (range ∷ []) = slice_of_bounds (pos 1) (cut_at dot range)
+slice_of_pieces (range ∷ step ∷ []) = do
   step ← signed_number_of step
-  slice_of_bounds step (parts dot range)
-slice_of_parts _ = None
+  slice_of_bounds step (cut_at dot range)
+slice_of_pieces _ = None
 
 -- the slice by a text: a range, and after a semicolon a step, which may be missing
 abbrev pub range_of : List ℕ → Option SliceInfoElem
-range_of text = slice_of_parts (parts semicolon text)
+range_of text = slice_of_pieces (cut_at semicolon text)
 
 -- one element of a slice argument: a new axis by its name, an index by its number, or the slice by a range
 abbrev pub element_of : List ℕ → Option SliceInfoElem
@@ -73,7 +73,7 @@ no_end = refl
 three_bounds : slice_of_bounds (pos 1) (codes "1" ∷ [] ∷ codes "3" ∷ codes "5" ∷ []) ≡ None
 three_bounds = refl
 
-step_of_two : slice_of_parts (codes "1..3" ∷ codes "2" ∷ []) ≡ Some (elem.Slice (pos 1) (Some (pos 3)) (pos 2))
+step_of_two : slice_of_pieces (codes "1..3" ∷ codes "2" ∷ []) ≡ Some (elem.Slice (pos 1) (Some (pos 3)) (pos 2))
 step_of_two = refl
 
 range_of_all : range_of (codes "..") ≡ Some (elem.Slice (pos 0) None (pos 1))

@@ -5,14 +5,14 @@ use Rattle.std.specs.Option.{option_map}
 use Rattle.std.specs.Str.{bytes_eq}
 use Rattle.ndarray_layout.specs.Signed.{unsigned}
 use Rattle.ndl_session.specs.text.Bytes.{comma}
-use Rattle.ndl_session.specs.text.Lines.{parts}
+use Rattle.ndl_session.specs.text.Lines.{cut_at}
 use Rattle.ndl_session.specs.text.Numbers.{number_of, signed_number_of}
 use Rattle.ndl_session.specs.text.Printing.{listed}
 use Rattle.ndl_session.specs.script.Reading.{read_each}
 
 -- the items that a word lists, separated by commas; `-` is the empty list
 abbrev pub list_of : {A : Type 0} → (List ℕ → Option A) → List ℕ → Option (List A)
-list_of item_of word = if bytes_eq word (codes "-") then Some [] else read_each item_of (parts comma word)
+list_of item_of word = if bytes_eq word (codes "-") then Some [] else read_each item_of (cut_at comma word)
 
 -- the lengths that a word lists
 abbrev pub lengths_of : List ℕ → Option (List ℕ)

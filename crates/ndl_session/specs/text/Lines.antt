@@ -1,4 +1,4 @@
--- The lines of an input and what stands after them, the words of a line, and the parts of a text between separators.
+-- The lines of an input and what stands after them, the words of a line, and the pieces of a text between separators.
 use Rattle.std.specs.Prelude.{◌≡◌, ℕ, zero, suc, ◌==◌, nat_lt, List, [], ◌∷◌, length, map, codes, refl}
 use Rattle.std.specs.List.{after_first, slice_split, filter, enumerate_from}
 use Rattle.std.specs.Str.Lines.{lines}
@@ -17,13 +17,13 @@ abbrev pub after_lines : ℕ → List ℕ → List ℕ
 after_lines zero text = text
 after_lines (suc count) text = after_lines count (after_line text)
 
--- the parts of a text between the bytes that are the separator: one part more than there are such bytes
-abbrev pub parts : ℕ → List ℕ → List (List ℕ)
-parts separator text = slice_split (λ b. b == separator) text
+-- the pieces of a text between the bytes that are the separator: one piece more than there are such bytes
+abbrev pub cut_at : ℕ → List ℕ → List (List ℕ)
+cut_at separator text = slice_split (λ b. b == separator) text
 
--- the words of a line: its parts between spaces, but for the empty ones
+-- the words of a line: its pieces between spaces, but for the empty ones
 abbrev pub words_of : List ℕ → List (List ℕ)
-words_of line = filter (λ word. nat_lt 0 (length word)) (parts space line)
+words_of line = filter (λ word. nat_lt 0 (length word)) (cut_at space line)
 
 -- a line by its number and its words
 abbrev pub NumberedLine : Type 0
@@ -52,10 +52,10 @@ after_an_unended_line = refl
 after_two_of_three : after_lines 2 (codes "a\n\n c") ≡ codes " c"
 after_two_of_three = refl
 
-three_parts : parts 44 (codes "a,,b") ≡ codes "a" ∷ [] ∷ codes "b" ∷ []
+three_parts : cut_at 44 (codes "a,,b") ≡ codes "a" ∷ [] ∷ codes "b" ∷ []
 three_parts = refl
 
-one_part : parts 44 [] ≡ [] ∷ []
+one_part : cut_at 44 [] ≡ [] ∷ []
 one_part = refl
 
 two_words : words_of (codes "  ab  c ") ≡ codes "ab" ∷ codes "c" ∷ []

@@ -1,7 +1,7 @@
 //! Elements of a slice argument as words spell them.
 ghost use Rattle.std.specs.Prelude.{◌≡◌};
 ghost use Rattle.ndl_session.specs.text.Bytes.{dot};
-ghost use Rattle.ndl_session.specs.text.Lines.{parts};
+ghost use Rattle.ndl_session.specs.text.Lines.{cut_at};
 ghost use Rattle.ndl_session.specs.script.Elements.{element_of, end_of, range_of, slice_of_bounds, start_of};
 
 use crate::script::lists::Item;
@@ -31,7 +31,7 @@ fn end(text: &[u8]) -> Option<Option<isize>>
 
 /// The slice by a range and a step; `None` where the text is no range.
 fn slice(range: &[u8], step: isize) -> Option<SliceInfoElem>
-    ensures { result ≡ slice_of_bounds step (parts dot range.now) }
+    ensures { result ≡ slice_of_bounds step (cut_at dot range.now) }
 {
     let (start_text, rest) = split_once(range, b'.')?;
     let end_text = rest.strip_prefix(b".")?;

@@ -4,7 +4,7 @@ ghost use Rattle.std.specs.Option.{option_map};
 ghost use Rattle.ndarray_layout.specs.Dim.{lengths};
 ghost use Rattle.ndl_session.specs.script.Lists.{list_of, stride_of};
 ghost use Rattle.ndl_session.specs.text.Bytes.{comma};
-ghost use Rattle.ndl_session.specs.text.Lines.{parts};
+ghost use Rattle.ndl_session.specs.text.Lines.{cut_at};
 ghost use Rattle.ndl_session.specs.text.Numbers.{number_of};
 ghost use Rattle.ndl_session.specs.script.Reading.{read_each};
 
@@ -52,7 +52,7 @@ impl Item for isize {
 /// Errors: out of memory.
 fn items<T: Item>(alloc: Global, word: &[u8]) -> Result<Option<Vec<T::Kept>>, AllocError>
     ensures { IfOk result (λ found. option_map (λ v. v.items) found
-        ≡ read_each T.item_of (parts comma word.now)) }
+        ≡ read_each T.item_of (cut_at comma word.now)) }
 {
     let mut items = Vec::new(alloc);
     let mut rest = word;

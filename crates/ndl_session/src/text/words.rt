@@ -1,7 +1,7 @@
-//! The words of a line, and the parts of a text.
+//! The words of a line, and the pieces of a text.
 ghost use Rattle.std.specs.Prelude.{◌≡◌, ◌<◌, ◌==◌, [], ◌∷◌, map, length, IfOk, IfSome, MatchOption};
 ghost use Rattle.std.specs.List.{after_first, position};
-ghost use Rattle.ndl_session.specs.text.Lines.{parts, words_of};
+ghost use Rattle.ndl_session.specs.text.Lines.{cut_at, words_of};
 
 use std::alloc::{AllocError, Global};
 
@@ -23,10 +23,10 @@ fn position_of(text: &[u8], byte: u8) -> Option<usize>
     text.iter().position(|b| *b == byte)
 }
 
-/// The parts of a text before and after the first separator; `None` without one.
+/// The pieces of a text before and after the first separator; `None` without one.
 pub(crate) fn split_once(text: &[u8], separator: u8) -> Option<(&[u8], &[u8])>
-    ensures parts { MatchOption result (parts separator text.now ≡ text.now ∷ [])
-        (λ found. parts separator text.now ≡ found.0.now ∷ parts separator found.1.now) }
+    ensures split { MatchOption result (cut_at separator text.now ≡ text.now ∷ [])
+        (λ found. cut_at separator text.now ≡ found.0.now ∷ cut_at separator found.1.now) }
     ensures rest { MatchOption result (after_first (λ b. b == separator) text.now ≡ [])
         (λ found. found.1.now ≡ after_first (λ b. b == separator) text.now) }
     ensures shorter { IfSome result (λ found. length found.1.now < length text.now) }

@@ -43,7 +43,7 @@ fn end(text: &[u8]) -> Option<Option<isize>> {
 /// <details><summary>Contract (proved)</summary>
 ///
 /// ```text
-/// ensures result ≡ slice_of_bounds step (parts dot range.now)
+/// ensures result ≡ slice_of_bounds step (cut_at dot range.now)
 /// ```
 /// [How to read it](ndarray_layout::contracts)
 /// </details>

@@ -49,7 +49,7 @@ impl Item for isize {
 /// <details><summary>Contract (proved)</summary>
 ///
 /// ```text
-/// ensures IfOk result (λ found. option_map (λ v. v.items) found ≡ read_each T.item_of (parts comma word.now))
+/// ensures IfOk result (λ found. option_map (λ v. v.items) found ≡ read_each T.item_of (cut_at comma word.now))
 /// ```
 /// [How to read it](ndarray_layout::contracts)
 /// </details>

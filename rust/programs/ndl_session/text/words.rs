@@ -1,5 +1,5 @@
 // Made by `rust/erase` of `crates/ndl_session/src/text/words.rt`: edit that.
-//! The words of a line, and the parts of a text.
+//! The words of a line, and the pieces of a text.
 
 use ::ndarray_layout::memory::AllocError;
 use ::ndarray_layout::memory::prelude::{FallibleIterator, Vec};
@@ -32,13 +32,13 @@ fn position_of(text: &[u8], byte: u8) -> Option<usize> {
     text.iter().position(|b| *b == byte)
 }
 
-/// The parts of a text before and after the first separator; `None` without one.
+/// The pieces of a text before and after the first separator; `None` without one.
 ///
 /// <details><summary>Contract (proved)</summary>
 ///
 /// ```text
-/// ensures parts: MatchOption result (parts separator text.now ≡ text.now ∷ [])
-///     (λ found. parts separator text.now ≡ found.0.now ∷ parts separator found.1.now)
+/// ensures split: MatchOption result (cut_at separator text.now ≡ text.now ∷ [])
+///     (λ found. cut_at separator text.now ≡ found.0.now ∷ cut_at separator found.1.now)
 /// ensures rest: MatchOption result (after_first (λ b. b == separator) text.now ≡ [])
 ///     (λ found. found.1.now ≡ after_first (λ b. b == separator) text.now)
 /// ensures shorter: IfSome result (λ found. length found.1.now < length text.now)

@@ -13,7 +13,7 @@ use crate::ndarray_layout::{ErrorKind, Lengths, Order, Row, Rows, ShapeError, St
 ///
 /// ```text
 /// requires CallableOnEachMut F.FnMut (map Some items.old) f
-/// ensures HasRunTo (λ p x y q. CalledAtMut F.FnMut p x tt q y) f
+/// ensures MapsTo (λ p x y q. CalledAtMut F.FnMut p x tt q y) f
 ///     (row_places 0 (pos 1) (length items.old)) (map Some items.old) items.old items.new result
 /// ```
 /// [How to read it](crate::contracts)
@@ -34,7 +34,7 @@ fn map_slice<T, F: FnMut(&mut T)>(items: &mut [T], mut f: F) -> F {
 /// requires row: HasRow (length stored.old) row
 /// requires distinct: AllPairs (λ one other. one ≢ other) (places_of row)
 /// requires callable: CallableOnEachMut F.FnMut (map (item_at_place stored.old) (places_of row)) f
-/// ensures HasRunTo (λ p x y q. CalledAtMut F.FnMut p x tt q y) f (places_of row)
+/// ensures MapsTo (λ p x y q. CalledAtMut F.FnMut p x tt q y) f (places_of row)
 ///     (map (item_at_place stored.old) (places_of row)) stored.old stored.new result
 /// ```
 /// [How to read it](crate::contracts)
@@ -56,7 +56,7 @@ fn map_places<T, F: FnMut(&mut T)>(stored: &mut [T], row: Row, mut f: F) -> F {
 /// requires row: HasRow (length stored.old) row
 /// requires distinct: AllPairs (λ one other. one ≢ other) (places_of row)
 /// requires callable: CallableOnEachMut F.FnMut (map (item_at_place stored.old) (places_of row)) f
-/// ensures HasRunTo (λ p x y q. CalledAtMut F.FnMut p x tt q y) f (places_of row)
+/// ensures MapsTo (λ p x y q. CalledAtMut F.FnMut p x tt q y) f (places_of row)
 ///     (map (item_at_place stored.old) (places_of row)) stored.old stored.new result
 /// ```
 /// [How to read it](crate::contracts)
@@ -79,7 +79,7 @@ fn map_row<T, F: FnMut(&mut T)>(stored: &mut [T], row: Row, f: F) -> F {
 /// requires rows: All (HasRow (length stored.old)) rows
 /// requires distinct: AllPairs (λ one other. one ≢ other) (rows_places rows)
 /// requires callable: CallableOnEachMut F.FnMut (map (item_at_place stored.old) (rows_places rows)) f
-/// ensures HasRun (λ p x y q. CalledAtMut F.FnMut p x tt q y) f (rows_places rows.entry)
+/// ensures Maps (λ p x y q. CalledAtMut F.FnMut p x tt q y) f (rows_places rows.entry)
 ///     (map (item_at_place stored.old) (rows_places rows.entry)) stored.old stored.new
 /// ```
 /// [How to read it](crate::contracts)
@@ -98,7 +98,7 @@ fn map_rows<T, F: FnMut(&mut T)>(stored: &mut [T], rows: Rows<'_>, mut f: F) {
 /// ```text
 /// requires count: length items.now ≡ length to.old
 /// requires callable: CallableOnAllAt gives F.FnMut (map Some items.now) f
-/// ensures HasRunTo (λ p x y q. CalledAt F.FnMut p x y q) f
+/// ensures MapsTo (λ p x y q. CalledAt F.FnMut p x y q) f
 ///     (row_places 0 (pos 1) (length to.old)) (map Some items.now) to.old to.new result
 /// ```
 /// [How to read it](crate::contracts)
@@ -122,7 +122,7 @@ fn write_slice<T, U: Sized, F: FnMut(&T) -> U>(to: &mut [U], items: &[T], mut f:
 /// requires distinct: AllPairs (λ one other. one ≢ other) (places_of row)
 /// requires count: row.len ≡ source.now.row.len
 /// requires callable: CallableOnAllAt gives F.FnMut (row_items source.now) f
-/// ensures HasRunTo (λ p x y q. CalledAt F.FnMut p x y q) f (places_of row)
+/// ensures MapsTo (λ p x y q. CalledAt F.FnMut p x y q) f (places_of row)
 ///     (row_items source.now) stored.old stored.new result
 /// ```
 /// [How to read it](crate::contracts)
@@ -145,7 +145,7 @@ fn write_places<T, U: Sized, F: FnMut(&T) -> U>(stored: &mut [U], row: Row, sour
 /// requires distinct: AllPairs (λ one other. one ≢ other) (places_of row)
 /// requires count: row.len ≡ source.now.row.len
 /// requires callable: CallableOnAllAt gives F.FnMut (row_items source.now) f
-/// ensures HasRunTo (λ p x y q. CalledAt F.FnMut p x y q) f (places_of row)
+/// ensures MapsTo (λ p x y q. CalledAt F.FnMut p x y q) f (places_of row)
 ///     (row_items source.now) stored.old stored.new result
 /// ```
 /// [How to read it](crate::contracts)
@@ -171,7 +171,7 @@ fn write_row<T, U: Sized, F: FnMut(&T) -> U>(stored: &mut [U], row: Row, source:
 /// requires count: AllZip (λ row source. row.len ≡ source.row.len) rows sources
 /// requires distinct: AllPairs (λ one other. one ≢ other) (rows_places rows)
 /// requires callable: CallableOnAllAt gives F.FnMut (rows_items sources) f
-/// ensures HasRun (λ p x y q. CalledAt F.FnMut p x y q) f (rows_places rows.entry)
+/// ensures Maps (λ p x y q. CalledAt F.FnMut p x y q) f (rows_places rows.entry)
 ///     (rows_items sources.entry) stored.old stored.new
 /// ```
 /// [How to read it](crate::contracts)
@@ -194,7 +194,7 @@ fn write_rows<T, U: Sized, F: FnMut(&T) -> U>(stored: &mut [U], rows: Rows<'_>, 
 /// requires within: All (IsInBounds (length stored.old)) (view_places RowMajor view.now)
 /// requires distinct: AllPairs (λ one other. one ≢ other) (view_places RowMajor view.now)
 /// requires callable: CallableOnEachMut F.FnMut (map (item_at_place stored.old) (view_places RowMajor view.now)) f
-/// ensures HasRun (λ p x y q. CalledAtMut F.FnMut p x tt q y) f (view_places RowMajor view.now)
+/// ensures Maps (λ p x y q. CalledAtMut F.FnMut p x tt q y) f (view_places RowMajor view.now)
 ///     (map (item_at_place stored.old) (view_places RowMajor view.now)) stored.old stored.new
 /// ```
 /// [How to read it](crate::contracts)
@@ -217,7 +217,7 @@ fn map_view<T, D: Lengths, F: FnMut(&mut T)>(stored: &mut [T], view: &Strided<D>
 /// requires distinct: AllPairs (λ one other. one ≢ other) (view_places RowMajor view.now)
 /// requires items: All (IsInBounds (length items.now)) (view_places RowMajor source.now)
 /// requires callable: CallableOnAllAt gives F.FnMut (map (item_at_place items.now) (view_places RowMajor source.now)) f
-/// ensures HasRun (λ p x y q. CalledAt F.FnMut p x y q) f (view_places RowMajor view.now)
+/// ensures Maps (λ p x y q. CalledAt F.FnMut p x y q) f (view_places RowMajor view.now)
 ///     (map (item_at_place items.now) (view_places RowMajor source.now)) stored.old stored.new
 /// ```
 /// [How to read it](crate::contracts)
@@ -265,7 +265,7 @@ impl<'a, T: Sized, D: Lengths> ArrayViewMut<'a, T, D> {
     ///
     /// ```text
     /// requires CallableOnEachMut F.FnMut (row_major_items (array_of self.old)) f
-    /// ensures ran: RunsOver (λ p x y q. CalledAtMut F.FnMut p x tt q y) f
+    /// ensures ran: CallsMake (λ p x y q. CalledAtMut F.FnMut p x tt q y) f
     ///     (row_major_items (array_of self.old)) (row_major_items (array_of self.new))
     /// ensures mapped: (h : T → T) → ActsAsAtMut F.FnMut f h → HasItemsOf
     ///     (λ index. option_map h (item_at (array_of self.old) index))
@@ -317,7 +317,7 @@ impl<'a, T: Sized, D: Lengths> ArrayViewMut<'a, T, D> {
     ///
     /// ```text
     /// requires InAnyOrder (λ items. CallableOnEachMut F.FnMut items f) (row_major_items (array_of self.old))
-    /// ensures ran: RunsInSomeOrder (λ p x y q. CalledAtMut F.FnMut p x tt q y) f
+    /// ensures ran: CallsMakeArrayInSomeOrder (λ p x y q. CalledAtMut F.FnMut p x tt q y) f
     ///     (array_of self.old) (array_of self.new)
     /// ensures mapped: (h : T → T) → ActsAsAtMut F.FnMut f h → HasItemsOf
     ///     (λ index. option_map h (item_at (array_of self.old) index))
@@ -380,7 +380,7 @@ impl<T, D: Lengths> ArrayView<'_, T, D> {
     /// ensures fits: IsOk result ↔ (self.now.view.shape ≡ (array_of to.old).view.shape)
     /// ensures fault: OnErr result (result_err result ≡ Some IncompatibleShape)
     /// ensures unchanged: OnErr result (array_of to.new ≡ array_of to.old)
-    /// ensures ran: OnOk result (RunsOver (λ p x y q. CalledAt F.FnMut p x y q) f
+    /// ensures ran: OnOk result (CallsMake (λ p x y q. CalledAt F.FnMut p x y q) f
     ///     (row_major_items self.now) (row_major_items (array_of to.new)))
     /// ensures mapped: OnOk result ((h : T → U) → ActsAsAt F.FnMut f h → HasItemsOf
     ///     (λ index. option_map h (item_at self.now index)) (array_of to.old) (array_of to.new))
@@ -451,7 +451,8 @@ impl<T, D: Lengths> ArrayView<'_, T, D> {
     /// ensures fits: IsOk result ↔ (self.now.view.shape ≡ (array_of to.old).view.shape)
     /// ensures fault: OnErr result (result_err result ≡ Some IncompatibleShape)
     /// ensures unchanged: OnErr result (array_of to.new ≡ array_of to.old)
-    /// ensures ran: OnOk result (RunsInSomeOrder (λ p x y q. CalledAt F.FnMut p x y q) f self.now (array_of to.new))
+    /// ensures ran: OnOk result (CallsMakeArrayInSomeOrder (λ p x y q. CalledAt F.FnMut p x y q) f
+    ///     self.now (array_of to.new))
     /// ensures mapped: OnOk result ((h : T → U) → ActsAsAt F.FnMut f h → HasItemsOf
     ///     (λ index. option_map h (item_at self.now index)) (array_of to.old) (array_of to.new))
     /// ensures view: (array_of to.new).view ≡ (array_of to.old).view

@@ -52,7 +52,7 @@ fn reach<D: Lengths>(view: &Strided<D>) -> Result<(usize, usize), ShapeError> {
 /// [How to read it](crate::contracts)
 /// </details>
 #[inline]
-fn moved<D: Lengths>(view: Strided<D>, by: usize, len: usize) -> Result<Strided<D>, ShapeError> {
+fn without_first_items<D: Lengths>(view: Strided<D>, by: usize, len: usize) -> Result<Strided<D>, ShapeError> {
     let start = view.start() - by;
     view.moved_to(start, 1, len, CanIndexCheckMode::ReadOnly)
 }
@@ -128,11 +128,11 @@ impl<D: Lengths> SplitViews<D> {
         let (first_low, first_high) = reach(&first)?;
         let (second_low, second_high) = reach(&second)?;
         if first_high < second_low {
-            let second = moved(second, second_low, count - second_low)?;
+            let second = without_first_items(second, second_low, count - second_low)?;
             return Ok(SplitViews { first, second, cut: second_low, first_is_lower: true });
         }
         if second_high < first_low {
-            let first = moved(first, first_low, count - first_low)?;
+            let first = without_first_items(first, first_low, count - first_low)?;
             return Ok(SplitViews { first, second, cut: first_low, first_is_lower: false });
         }
         Err(LayoutError::Shape(from_kind(ErrorKind::IncompatibleLayout)))

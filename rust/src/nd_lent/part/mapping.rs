@@ -35,7 +35,7 @@ fn place_in_row(row: Row, coordinate: usize) -> usize {
 /// requires row: OwnsRow cells.old.marks row
 /// requires callable: CallableOnEachMut F.FnMut
 ///     (map (item_at_place cells.old.items) (row_places row.start row.stride row.len)) f
-/// ensures ran: HasRunTo (λ p x y q. CalledAtMut F.FnMut p x tt q y) f (row_places row.start row.stride row.len)
+/// ensures ran: MapsTo (λ p x y q. CalledAtMut F.FnMut p x tt q y) f (row_places row.start row.stride row.len)
 ///     (map (item_at_place cells.old.items) (row_places row.start row.stride row.len)) cells.old.items cells.new.items result
 /// ```
 /// [How to read it](crate::contracts)
@@ -57,7 +57,7 @@ fn map_places<T, F: FnMut(&mut T)>(cells: &mut Cells<'_, T>, row: Row, mut f: F)
 /// requires row: OwnsRow cells.old.marks row
 /// requires callable: CallableOnEachMut F.FnMut
 ///     (map (item_at_place cells.old.items) (row_places row.start row.stride row.len)) f
-/// ensures ran: HasRunTo (λ p x y q. CalledAtMut F.FnMut p x tt q y) f (row_places row.start row.stride row.len)
+/// ensures ran: MapsTo (λ p x y q. CalledAtMut F.FnMut p x tt q y) f (row_places row.start row.stride row.len)
 ///     (map (item_at_place cells.old.items) (row_places row.start row.stride row.len)) cells.old.items cells.new.items result
 /// ```
 /// [How to read it](crate::contracts)
@@ -79,7 +79,7 @@ fn map_row<T, F: FnMut(&mut T)>(cells: &mut Cells<'_, T>, row: Row, f: F) -> F {
 /// ```text
 /// requires rows: OwnsEachRow cells.old.marks rows
 /// requires callable: CallableOnEachMut F.FnMut (map (item_at_place cells.old.items) (rows_places rows)) f
-/// ensures ran: HasRun (λ p x y q. CalledAtMut F.FnMut p x tt q y) f (rows_places rows.entry)
+/// ensures ran: Maps (λ p x y q. CalledAtMut F.FnMut p x tt q y) f (rows_places rows.entry)
 ///     (map (item_at_place cells.old.items) (rows_places rows.entry)) cells.old.items cells.new.items
 /// ```
 /// [How to read it](crate::contracts)
@@ -98,7 +98,7 @@ fn map_rows<T, F: FnMut(&mut T)>(cells: &mut Cells<'_, T>, rows: Rows<'_>, mut f
 /// ```text
 /// requires part: IsPart cells.old.marks view.now
 /// requires callable: CallableOnEachMut F.FnMut (map (item_at_place cells.old.items) (view_places order view.now)) f
-/// ensures ran: HasRun (λ p x y q. CalledAtMut F.FnMut p x tt q y) f (view_places order view.now)
+/// ensures ran: Maps (λ p x y q. CalledAtMut F.FnMut p x tt q y) f (view_places order view.now)
 ///     (map (item_at_place cells.old.items) (view_places order view.now)) cells.old.items cells.new.items
 /// ```
 /// [How to read it](crate::contracts)
@@ -117,7 +117,7 @@ fn map_view<T, D: Lengths, F: FnMut(&mut T)>(cells: &mut Cells<'_, T>, view: &St
 /// requires part: IsPart cells.old.marks view.now
 /// requires callable: InAnyOrder (λ items. CallableOnEachMut F.FnMut items f)
 ///     (map (item_at_place cells.old.items) (view_places RowMajor view.now))
-/// ensures ran: HasRunAt (λ p x y q. CalledAtMut F.FnMut p x tt q y) f (view_places RowMajor view.now)
+/// ensures ran: MapsAt (λ p x y q. CalledAtMut F.FnMut p x tt q y) f (view_places RowMajor view.now)
 ///     cells.old.items cells.new.items
 /// ```
 /// [How to read it](crate::contracts)
@@ -166,7 +166,7 @@ impl<'a, T: Sized, D: Lengths> PartMut<'a, T, D> {
     ///
     /// ```text
     /// requires CallableOnEachMut F.FnMut (row_major_items (array_of self.old)) f
-    /// ensures ran: RunsOver (λ p x y q. CalledAtMut F.FnMut p x tt q y) f
+    /// ensures ran: CallsMake (λ p x y q. CalledAtMut F.FnMut p x tt q y) f
     ///     (row_major_items (array_of self.old)) (row_major_items (array_of self.new))
     /// ensures mapped: (h : T → T) → ActsAsAtMut F.FnMut f h → HasItemsOf
     ///     (λ index. option_map h (item_at (array_of self.old) index))
@@ -213,7 +213,7 @@ impl<'a, T: Sized, D: Lengths> PartMut<'a, T, D> {
     ///
     /// ```text
     /// requires InAnyOrder (λ items. CallableOnEachMut F.FnMut items f) (row_major_items (array_of self.old))
-    /// ensures ran: RunsOverInSomeOrder (λ p x y q. CalledAtMut F.FnMut p x tt q y) f
+    /// ensures ran: CallsMakeInSomeOrder (λ p x y q. CalledAtMut F.FnMut p x tt q y) f
     ///     (row_major_items (array_of self.old)) (row_major_items (array_of self.new))
     /// ensures mapped: (h : T → T) → ActsAsAtMut F.FnMut f h → HasItemsOf
     ///     (λ index. option_map h (item_at (array_of self.old) index))

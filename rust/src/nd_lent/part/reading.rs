@@ -104,7 +104,7 @@ impl<'a, T: Sized, D: Lengths> PartMut<'a, T, D> {
     /// ensures count: length result ≡ size (array_of self.now).view.shape
     /// ensures in_order: EveryRun
     ///     (YieldsFirstBy (λ (item : Bor T). Some item.now) (λ (left : List (Option T)). left))
-    ///     (λ run. ItemsMapTo run (λ (item : Bor T). Some item.now) run.from)
+    ///     (λ turns. ItemsMapTo turns (λ (item : Bor T). Some item.now) turns.from)
     /// ```
     /// [How to read it](crate::contracts)
     /// </details>

@@ -12,7 +12,7 @@ use crate::ndarray_layout::{Fit, IxDyn, LayoutError, Lengths, SliceElems, Stride
 /// ```text
 /// requires owned: IsOwned (length stored.old) view
 /// requires callable: CallableOnEachMut F.FnMut (row_major_items (record { items = stored.old; view = view })) f
-/// ensures ran: RunsOver (λ p x y q. CalledAtMut F.FnMut p x tt q y) f
+/// ensures ran: CallsMake (λ p x y q. CalledAtMut F.FnMut p x tt q y) f
 ///     (row_major_items (record { items = stored.old; view = view }))
 ///     (row_major_items (record { items = stored.new; view = view }))
 /// ensures mapped: (h : T → T) → ActsAsAtMut F.FnMut f h → HasItemsOf
@@ -71,7 +71,7 @@ impl<T: Sized, D: Lengths> OwnedArray<T, D> {
     /// ensures unchanged: OnErr result (self.new ≡ self.old)
     /// ensures view: self.new.view ≡ self.old.view
     /// ensures count: length self.new.items ≡ length self.old.items
-    /// ensures ran: OnOk result (RunsOver (λ p x y q. CalledAtMut F.FnMut p x tt q y) f
+    /// ensures ran: OnOk result (CallsMake (λ p x y q. CalledAtMut F.FnMut p x tt q y) f
     ///     (row_major_items (part_of (S.list slices.now) self.old))
     ///     (row_major_items (part_of (S.list slices.now) self.new)))
     /// ensures mapped: OnOk result ((h : T → T) → ActsAsAtMut F.FnMut f h → HasItemsOf

@@ -197,9 +197,9 @@ fn write_strides(blocks: Blocks, shape: &[usize], strides: &[usize], block: &[us
 /// ensures fault: shape_fault result ≡ blocks_fault E.NDIM shape.now
 ///     (block_counts blocks shape.now (D.list block.now)) (D.list block.now)
 /// ensures memory: shape_fault result ≡ None → NeedsNoMemory E.NDIM (length shape.now + length shape.now) → IsOk result
-/// ensures shape: IfOk result (λ (dim, kept). E.list dim ≡
+/// ensures shape: IfOk result (λ (dim, new_strides). E.list dim ≡
 ///     block_counts blocks shape.now (D.list block.now) ++ D.list block.now)
-/// ensures strides: IfOk result (λ (dim, kept). all_signed (E.list kept) ≡
+/// ensures strides: IfOk result (λ (dim, new_strides). all_signed (E.list new_strides) ≡
 ///     strides_of_blocks
 ///     (block_counts blocks shape.now (D.list block.now) ++ D.list block.now)
 ///     (block_strides blocks shape.now (D.list block.now) (all_signed strides.now)
@@ -217,10 +217,10 @@ pub(crate) fn block_axes<D: Lengths, E: Lengths>(
     check_blocks(blocks, E::NDIM, shape, block)?;
     let ndim = 2 * shape.len();
     let mut dim = E::zeros(ndim)?;
-    let mut kept = E::zeros(ndim)?;
+    let mut new_strides = E::zeros(ndim)?;
     write_lengths(blocks, shape, block.slice(), dim.slice_mut());
     if !dim.slice().contains(&0) {
-        write_strides(blocks, shape, strides, block.slice(), kept.slice_mut());
+        write_strides(blocks, shape, strides, block.slice(), new_strides.slice_mut());
     }
-    Ok((dim, kept))
+    Ok((dim, new_strides))
 }

@@ -39,7 +39,7 @@ impl<D: Lengths> Strided<D> {
     ///
     /// ```text
     /// ensures items: result ≡ view_places order self.now
-    /// ensures in_order: EveryRun (YieldsFirstBy pos (λ left. left)) (λ run. ItemsMapTo run pos run.from)
+    /// ensures in_order: EveryRun (YieldsFirstBy pos (λ left. left)) (λ turns. ItemsMapTo turns pos turns.from)
     /// ensures is_view: IsView self.now
     /// ```
     /// [How to read it](crate::contracts)

@@ -64,10 +64,10 @@ fn needs_memory(fixed: Option<usize>, ndim: usize) -> bool {
 /// requires len_fits: len < 2 ^ 63
 /// requires span_fits: reach len (signed_reading stride) ≤ limit
 /// ensures fault: result_err result ≡ slice_fault fit len slice
-/// ensures count: IfOk result (λ (count, kept, offset). count ≡ length (picks fit len slice))
-/// ensures stride: IfOk result (λ (count, kept, offset). signed_reading kept ≡
+/// ensures count: IfOk result (λ (count, new_stride, offset). count ≡ length (picks fit len slice))
+/// ensures stride: IfOk result (λ (count, new_stride, offset). signed_reading new_stride ≡
 ///     picked_stride (length (picks fit len slice)) (signed_reading stride) slice.step)
-/// ensures offset: IfOk result (λ (count, kept, offset).
+/// ensures offset: IfOk result (λ (count, new_stride, offset).
 ///     offset ≡ first_offset (picks fit len slice) (signed_reading stride))
 /// ```
 /// [How to read it](crate::contracts)
@@ -180,10 +180,10 @@ fn check_before_memory(
 /// ensures fault: shape_fault result ≡ view_slice_fault fit E.NDIM shape.now elems.now
 /// ensures memory: view_slice_fault fit E.NDIM shape.now elems.now ≡ None →
 ///     NeedsNoMemory E.NDIM (out_count elems.now) → IsOk result
-/// ensures shape: IfOk result (λ (dim, kept, offset). E.list dim ≡ sliced_shape fit elems.now shape.now)
-/// ensures strides: IfOk result (λ (dim, kept, offset). all_signed (E.list kept) ≡
+/// ensures shape: IfOk result (λ (dim, new_strides, offset). E.list dim ≡ sliced_shape fit elems.now shape.now)
+/// ensures strides: IfOk result (λ (dim, new_strides, offset). all_signed (E.list new_strides) ≡
 ///     sliced_strides fit elems.now shape.now (all_signed strides.now))
-/// ensures offset: IfOk result (λ (dim, kept, offset).
+/// ensures offset: IfOk result (λ (dim, new_strides, offset).
 ///     offset ≡ sliced_offset fit elems.now shape.now (all_signed strides.now))
 /// ```
 /// [How to read it](crate::contracts)
@@ -201,9 +201,9 @@ fn sliced_axes<E: Lengths>(
     let ndim = out_ndim_of(elems);
     check_before_memory(E::NDIM, ndim, elems, shape, fit)?;
     let mut dim = E::zeros(ndim)?;
-    let mut kept = E::zeros(ndim)?;
-    let offset = write_axes(elems, shape, strides, dim.slice_mut(), kept.slice_mut(), fit)?;
-    Ok((dim, kept, offset))
+    let mut new_strides = E::zeros(ndim)?;
+    let offset = write_axes(elems, shape, strides, dim.slice_mut(), new_strides.slice_mut(), fit)?;
+    Ok((dim, new_strides, offset))
 }
 
 impl<D: Lengths> Strided<D> {

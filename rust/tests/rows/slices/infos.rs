@@ -23,11 +23,11 @@ fn counts<T: SliceElems, Din: FixedCount, Dout: FixedCount>(
 }
 
 /// Asserts the counts, or the fault, of the elements in an array, a slice and a vector between two types.
-fn assert_counts<Din: FixedCount, Dout: FixedCount>(due: Result<(usize, usize), ShapeError>) {
+fn assert_counts<Din: FixedCount, Dout: FixedCount>(expected: Result<(usize, usize), ShapeError>) {
     let elems = row_of_a_matrix();
-    assert_eq!(counts(SliceInfo::<[SliceInfoElem; 2], Din, Dout>::try_from(elems)), due);
-    assert_eq!(counts(SliceInfo::<&[SliceInfoElem], Din, Dout>::try_from(&elems[..])), due);
-    assert_eq!(counts(SliceInfo::<Vec<SliceInfoElem>, Din, Dout>::try_from(elems.to_vec())), due);
+    assert_eq!(counts(SliceInfo::<[SliceInfoElem; 2], Din, Dout>::try_from(elems)), expected);
+    assert_eq!(counts(SliceInfo::<&[SliceInfoElem], Din, Dout>::try_from(&elems[..])), expected);
+    assert_eq!(counts(SliceInfo::<Vec<SliceInfoElem>, Din, Dout>::try_from(elems.to_vec())), expected);
 }
 
 #[test]

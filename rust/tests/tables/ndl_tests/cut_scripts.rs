@@ -199,7 +199,7 @@ fn last_line(front: &str) -> (usize, &str) {
     (left.split("\n").count(), line)
 }
 
-/// Whether a front of a script has the answer that is due: that of the row for its last line, or `unreadable`.
+/// Whether a front of a script has the answer that is expected: that of the row for its last line, or `unreadable`.
 fn front_holds(front: &str, rows: &str) -> Option<bool> {
     let (number, line) = last_line(front);
     let line = ::ndarray_layout::fallible_format!("{number}: {line}").ok()?;

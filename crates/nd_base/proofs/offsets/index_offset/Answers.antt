@@ -16,16 +16,16 @@ next c =
     let split = sum_from_step coordinate_offset c.args.index.now c.args.strides.now c.loop-axis.axis (omega arith) (omega arith) in
     record { far = omega (arith, split); low = c.loop-axis.invariant.low; high = c.loop-axis.invariant.high }
 
-pub moved-offset-requires : goal.moved-offset-requires
-moved-offset-requires c =
-    let sum = added (next (goal.at.moved-offset-requires c).In-loop-axis) in
+pub offset_along-offset-requires : goal.offset_along-offset-requires
+offset_along-offset-requires c =
+    let sum = added (next (goal.at.offset_along-offset-requires c).In-loop-axis) in
     record { small = c.requires.small c.loop-axis.axis 0 (omega arith); part = sum.part; whole = sum.whole }
 
 pub loop-axis-preserved : goal.loop-axis-preserved
 loop-axis-preserved c =
     let sum = added (next (goal.at.loop-axis-preserved c).In-loop-axis) in
     let step = offset_from_step c.args.strides.now c.args.index.now c.loop-axis.axis (omega arith) (omega arith) in
-    rw (c.moved-offset.ensures, to_z-of_z w64 _ sum.whole) (record {
+    rw (c.offset_along-offset.ensures, to_z-of_z w64 _ sum.whole) (record {
       sum = omega (arith, ints, step, c.loop-axis.invariant.sum);
       low = sum.low;
       high = sum.high;

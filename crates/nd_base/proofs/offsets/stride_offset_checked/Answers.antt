@@ -33,9 +33,9 @@ next c =
     (signed (get_or c.args.strides.now c.loop-axis.axis 0)) c.if-index-axis.false in
     record { far = omega (arith, split, own); low = c.loop-axis.invariant.low; high = c.loop-axis.invariant.high }
 
-pub moved-offset-requires : goal.moved-offset-requires
-moved-offset-requires c =
-    let sum = added (next (goal.at.moved-offset-requires c).Else-index-axis) in
+pub offset_along-offset-requires : goal.offset_along-offset-requires
+offset_along-offset-requires c =
+    let sum = added (next (goal.at.offset_along-offset-requires c).Else-index-axis) in
     record {
       small = omega (arith, length_le_nonzero_size c.args.dim.now c.loop-axis.axis, c.requires.size_fits, c.if-index-axis.false);
       part = sum.part;
@@ -48,7 +48,7 @@ loop-axis-preserved c =
     let sum = added (next at) in
     let step = offset_from_step c.args.strides.now c.args.index.now c.loop-axis.axis
     (omega (arith, c.if-dim-index.false)) (omega arith) in
-    rw (c.moved-offset.ensures, to_z-of_z w64 _ sum.whole) (record {
+    rw (c.offset_along-offset.ensures, to_z-of_z w64 _ sum.whole) (record {
       in_bounds = below_more _ _ c.loop-axis.invariant.in_bounds c.if-index-axis.false;
       sum = omega (arith, ints, step, c.loop-axis.invariant.sum);
       low = sum.low;

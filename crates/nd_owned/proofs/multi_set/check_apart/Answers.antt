@@ -3,7 +3,7 @@ use Rattle.std.proofs.Common.{◌≡◌, ◌<◌, ◌^◌, None, Some, map, sym,
 use Rattle.std.proofs.lemmas.Simd.{map-map}
 use Rattle.std.specs.List.{All}
 use Rattle.ndarray_layout.specs.declared.Fit.TheVariants.{Strict}
-use Rattle.ndarray_layout.specs.Intersections.{IsIntersection, slices_fault}
+use Rattle.ndarray_layout.specs.IntersectingPair.{IsIntersection, slices_fault}
 use Rattle.ndarray_layout.proofs.Laws.View.{lens_fit}
 use Rattle.nd_owned.specs.MultiSet.{write_of}
 use Rattle.nd_owned.proofs.multi_set.check_apart.Goals as goal

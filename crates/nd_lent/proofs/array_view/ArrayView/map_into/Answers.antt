@@ -9,9 +9,9 @@ use Rattle.ndarray_layout.specs.View.{place_at, view_places}
 use Rattle.ndarray_layout.proofs.Laws.DistinctPlaces.{AllPairs-view_places}
 use Rattle.ndarray_layout.proofs.Laws.View.{places_lie_within}
 use Rattle.nd_lent.specs.Lender.{array_of}
-use Rattle.nd_lent.specs.Mapped.{RunsOver, gives}
+use Rattle.nd_lent.specs.Mapped.{CallsMake, gives}
 use Rattle.nd_lent.specs.Items.{item_at, item_at_place}
-use Rattle.nd_lent.proofs.Runs.{changed, mapped, ran_over, spare}
+use Rattle.nd_lent.proofs.ArrayMaps.{changed, mapped, ran_over, spare}
 use Rattle.nd_lent.proofs.Laws.IndexItems.{items_in}
 use Rattle.nd_lent.proofs.array_view.ArrayView.map_into.Given.{Over}
 use Rattle.nd_lent.proofs.array_view.ArrayView.map_into.Goals as goal
@@ -58,7 +58,7 @@ returns-clause-ran g c =
     let at = (goal.at.returns-clause-ran g c).After-view in
     let to = array_of c.args.to.now in
     let indices = indices_in RowMajor to.view.shape in
-    subst (λ shape. RunsOver (λ p x y q. CalledAt g.F.FnMut p x y q) c.args.f (map (item_at c.args.self.now) (indices_in RowMajor shape))
+    subst (λ shape. CallsMake (λ p x y q. CalledAt g.F.FnMut p x y q) c.args.f (map (item_at c.args.self.now) (indices_in RowMajor shape))
     (map (item_at (changed to c.write_view.new.stored)) indices)) (same_shape g at)
     (ran_over to c.write_view.new.stored indices (IsPermutation-refl indices) refl
     (λ p x y q. CalledAt g.F.FnMut p x y q) c.args.self.now (same_shape g at) (given_at g at) c.write_view.ensures)

@@ -13,11 +13,11 @@ use Rattle.ndarray_layout.specs.Size.{size}
 use Rattle.ndarray_layout.specs.View.{View, place_at, view_places}
 use Rattle.ndarray_layout.proofs.Laws.View.{length-view_places, places_lie_within}
 use Rattle.nd_lent.specs.Lender.{array_of}
-use Rattle.nd_lent.specs.Mapped.{RunsOver}
+use Rattle.nd_lent.specs.Mapped.{CallsMake}
 use Rattle.nd_lent.specs.Items.{item_at, item_at_place}
 use Rattle.nd_lent.proofs.Laws.Faults.{on_ok}
 use Rattle.nd_lent.proofs.Moved.{AreAlike, alike_moved, first_moved, second_moved}
-use Rattle.nd_lent.proofs.Runs.{mapped, runs_in_some_order, spare}
+use Rattle.nd_lent.proofs.ArrayMaps.{mapped, made_in_some_order, spare}
 use Rattle.nd_lent.proofs.Sets.{distinct_of_owned}
 use Rattle.nd_lent.proofs.Laws.IndexItems.{items_in}
 use Rattle.nd_lent.proofs.array_view.ArrayView.map_into_nearest.Given.{Over}
@@ -97,7 +97,7 @@ returns-in-None-clause-ran g c =
     on_ok c.map_into.result (λ ran. record {
       indices = indices;
       each_once = IsPermutation-refl indices;
-      ran = subst (λ shape. RunsOver (λ p x y q. CalledAt g.F.FnMut p x y q) c.args.f (map (item_at array) (indices_in RowMajor shape))
+      ran = subst (λ shape. CallsMake (λ p x y q. CalledAt g.F.FnMut p x y q) c.args.f (map (item_at array) (indices_in RowMajor shape))
           (map (item_at to) indices)) same ran;
     }) c.map_into.ensures.ran
 
@@ -105,7 +105,7 @@ pub returns-clause-ran : goal.returns-clause-ran
 returns-clause-ran g c =
     let at = (goal.at.returns-clause-ran g c).After-stored in
     let all = both g at in
-    runs_in_some_order (array_of c.args.to.now) c.write_view.new.stored all.indices all.once all.first
+    made_in_some_order (array_of c.args.to.now) c.write_view.new.stored all.indices all.once all.first
     (λ p x y q. CalledAt g.F.FnMut p x y q) c.args.self.now (same_shape g at) (given g at) c.write_view.ensures
 
 pub returns-clause-mapped : goal.returns-clause-mapped

@@ -8,7 +8,7 @@ use Rattle.ndarray_layout.proofs.Laws.DistinctPlaces.{AllPairs-view_places}
 use Rattle.ndarray_layout.proofs.Laws.View.{places_lie_within}
 use Rattle.nd_lent.specs.Lender.{array_of}
 use Rattle.nd_lent.specs.Mapped.{CallableOnEachMut}
-use Rattle.nd_lent.proofs.Runs.{mapped, ran_over, spare}
+use Rattle.nd_lent.proofs.ArrayMaps.{mapped, ran_over, spare}
 use Rattle.nd_lent.proofs.Laws.IndexItems.{items_in}
 use Rattle.nd_lent.proofs.array_view_mut.ArrayViewMut.map_in_place.Goals as goal
 

@@ -9,10 +9,10 @@ use Rattle.ndarray_layout.specs.Indices.{indices_in}
 use Rattle.ndarray_layout.specs.View.{View, view_places}
 use Rattle.ndarray_layout.proofs.Laws.View.{places_lie_within}
 use Rattle.nd_lent.specs.Lender.{array_of}
-use Rattle.nd_lent.specs.Mapped.{RunsOver, row_major_items}
+use Rattle.nd_lent.specs.Mapped.{CallsMake, row_major_items}
 use Rattle.nd_lent.specs.Items.{item_at, item_at_place}
 use Rattle.nd_lent.proofs.Moved.{all_moved}
-use Rattle.nd_lent.proofs.Runs.{mapped, runs_in_some_order, spare}
+use Rattle.nd_lent.proofs.ArrayMaps.{mapped, made_in_some_order, spare}
 use Rattle.nd_lent.proofs.Sets.{distinct_of_owned}
 use Rattle.nd_lent.proofs.Laws.IndexItems.{items_in}
 use Rattle.nd_lent.proofs.array_view_mut.ArrayViewMut.map_in_place_nearest.Goals as goal
@@ -45,7 +45,7 @@ pub returns-in-Some-clause-ran : goal.returns-in-Some-clause-ran
 returns-in-Some-clause-ran g c =
     let array = array_of c.args.self.now in
     let all = all_moved array.view (view_places RowMajor c.in-Some.nearest) c.in-Some.ensures in
-    runs_in_some_order array c.map_view.new.stored all.indices all.once all.are (λ p x y q. CalledAtMut g.F.FnMut p x tt q y) array refl
+    made_in_some_order array c.map_view.new.stored all.indices all.once all.are (λ p x y q. CalledAtMut g.F.FnMut p x tt q y) array refl
     (ap (map (item_at_place array.items)) all.are) c.map_view.ensures
 
 pub returns-in-Some-clause-mapped : goal.returns-in-Some-clause-mapped
@@ -71,6 +71,6 @@ returns-in-None-clause-ran g c =
       indices = indices;
       each_once = subst (λ (view : View). IsPermutation indices (indices_in RowMajor view.shape)) (sym c.map_in_place.ensures.view)
           (IsPermutation-refl indices);
-      ran = subst (λ (view : View). RunsOver (λ p x y q. CalledAtMut g.F.FnMut p x tt q y) c.args.f (map (item_at array) indices)
+      ran = subst (λ (view : View). CallsMake (λ p x y q. CalledAtMut g.F.FnMut p x tt q y) c.args.f (map (item_at array) indices)
           (map (item_at new) (indices_in RowMajor view.shape))) c.map_in_place.ensures.view c.map_in_place.ensures.ran;
     }

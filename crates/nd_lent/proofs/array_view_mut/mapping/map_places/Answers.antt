@@ -8,7 +8,7 @@ use Rattle.ndarray_layout.proofs.Laws.Rows.{get_or-row_places, length-row_places
 use Rattle.nd_lent.specs.LentRow.{places_of}
 use Rattle.nd_lent.specs.Items.{item_at_place}
 use Rattle.nd_lent.specs.Mapped.{TakesAtMut}
-use Rattle.nd_lent.proofs.RowRuns.{IsNext, all_run, begins, next_in_place, one_more, takes_next}
+use Rattle.nd_lent.proofs.RowMaps.{IsNext, all_run, begins, next_in_place, one_more, takes_next}
 use Rattle.nd_lent.proofs.RowsLent.{place_of_coordinate}
 use Rattle.nd_lent.proofs.array_view_mut.mapping.map_places.Given.{Over}
 use Rattle.nd_lent.proofs.array_view_mut.mapping.map_places.Goals as goal

@@ -1,6 +1,6 @@
 -- The calls at the coordinates below this one are made.
 use Rattle.nd_lent.specs.LentRow.{places_of}
-use Rattle.nd_lent.proofs.RowRuns.{HasMappedSoFar}
+use Rattle.nd_lent.proofs.RowMaps.{HasMappedSoFar}
 use Rattle.nd_lent.proofs.array_view_mut.mapping.map_places.Given as goal
 
 abbrev pub invariant-loop-coordinate : goal.invariant-loop-coordinate

@@ -3,8 +3,8 @@ use Rattle.std.proofs.Common.{◌≡◌, ◌+◌, ◌≤◌, ◌++◌, length, s
 use Rattle.std.specs.Fn.{CalledAtMut}
 use Rattle.nd_lent.specs.LentRow.{is_contiguous, places_of}
 use Rattle.nd_lent.specs.Mapped.{CallableOnEachMut}
-use Rattle.nd_lent.specs.private.RunTo.{HasRunTo}
-use Rattle.nd_lent.proofs.RowRuns.{IsCut, given_of_slice, run_of_slice}
+use Rattle.nd_lent.specs.private.MapsTo.{MapsTo}
+use Rattle.nd_lent.proofs.RowMaps.{IsCut, given_of_slice, mapped_slice}
 use Rattle.nd_lent.proofs.RowsLent.{end_within}
 use Rattle.nd_lent.proofs.array_view_mut.mapping.map_row.Given.{Over}
 use Rattle.nd_lent.proofs.array_view_mut.mapping.map_row.Goals as goal
@@ -44,7 +44,7 @@ returns g c =
     let at = goal.at.returns g c in
     let is = contiguous g at.Else-not-is_contiguous in
     let parts = cut g at.After-split_at_mut-these in
-    subst (λ given. HasRunTo (λ p x y q. CalledAtMut g.F.FnMut p x tt q y) c.args.f (places_of c.args.row) given c.args.stored.now
+    subst (λ given. MapsTo (λ p x y q. CalledAtMut g.F.FnMut p x tt q y) c.args.f (places_of c.args.row) given c.args.stored.now
     (c.split_at_mut-before.result.0.now ++ (c.map_slice.new.items ++ c.split_at_mut-these.result.1.now)) c.map_slice.result)
     (sym (given_of_slice c.args.row is c.requires.row parts))
-    (run_of_slice c.args.row is c.requires.row parts c.map_slice.auto.items c.map_slice.ensures)
+    (mapped_slice c.args.row is c.requires.row parts c.map_slice.auto.items c.map_slice.ensures)

@@ -8,8 +8,8 @@ use Rattle.ndarray_layout.specs.Rows.{rows_places}
 use Rattle.nd_lent.specs.LentRow.{HasRow, places_of}
 use Rattle.nd_lent.specs.Mapped.{CallableOnEachMut}
 use Rattle.nd_lent.specs.Items.{item_at_place}
-use Rattle.nd_lent.specs.private.RunTo.{HasRunTo}
-use Rattle.nd_lent.proofs.RowRuns.{both_run, callable_after, callable_in_part, no_run, others_stay}
+use Rattle.nd_lent.specs.private.MapsTo.{MapsTo}
+use Rattle.nd_lent.proofs.RowMaps.{both_run, callable_after, callable_in_part, no_run, others_stay}
 use Rattle.nd_lent.proofs.Sets.{Distinct}
 use Rattle.nd_lent.proofs.Laws.Lists.{pairs_first, pairs_second}
 use Rattle.nd_lent.proofs.array_view_mut.mapping.map_rows.Given.{Over}
@@ -26,7 +26,7 @@ loop-row-init g c =
       rows = subst (All (HasRow (length stored))) (sym same) c.requires.rows;
       distinct = subst (λ rows. Distinct (rows_places rows)) (sym same) c.requires.distinct;
       run = λ new last run.
-          subst (λ rows. HasRunTo (λ p x y q. CalledAtMut g.F.FnMut p x tt q y) c.args.f (rows_places rows)
+          subst (λ rows. MapsTo (λ p x y q. CalledAtMut g.F.FnMut p x tt q y) c.args.f (rows_places rows)
           (map (item_at_place stored) (rows_places rows)) stored new last) same run;
     }
 
@@ -85,13 +85,13 @@ loop-row-preserved g c =
       rows = All-tail (HasRow (length c.args.stored.now)) c.in-Some.row c.next.new.self (has_rows g at);
       distinct = pairs_second (λ one other. one ≢ other) these others (distinct g at);
       run = λ new last more.
-          let rest = subst (λ items. HasRunTo (λ p x y q. CalledAtMut g.F.FnMut p x tt q y) c.map_row-f.result others items mid new last)
+          let rest = subst (λ items. MapsTo (λ p x y q. CalledAtMut g.F.FnMut p x tt q y) c.map_row-f.result others items mid new last)
           stay more in
           let both = both_run (length-map these (item_at_place old)) (distinct g at) run rest in
           c.loop-row.invariant.run new last
-          (subst (λ items. HasRunTo (λ p x y q. CalledAtMut g.F.FnMut p x tt q y) c.loop-row.f (rows_places c.loop-row.row-iterator) items
+          (subst (λ items. MapsTo (λ p x y q. CalledAtMut g.F.FnMut p x tt q y) c.loop-row.f (rows_places c.loop-row.row-iterator) items
           old new last) (sym (items g at))
-          (subst (λ zs. HasRunTo (λ p x y q. CalledAtMut g.F.FnMut p x tt q y) c.loop-row.f zs
+          (subst (λ zs. MapsTo (λ p x y q. CalledAtMut g.F.FnMut p x tt q y) c.loop-row.f zs
           (map (item_at_place old) these ++ map (item_at_place old) others) old new last) (sym (places g at)) both));
     }
 
@@ -100,6 +100,6 @@ returns g c =
     let stored = c.loop-row.stored in
     let none = c.in-None.ensures.steps.0 in
     let run = c.loop-row.invariant.run stored c.loop-row.f
-    (subst (λ rows. HasRunTo (λ p x y q. CalledAtMut g.F.FnMut p x tt q y) c.loop-row.f (rows_places rows)
+    (subst (λ rows. MapsTo (λ p x y q. CalledAtMut g.F.FnMut p x tt q y) c.loop-row.f (rows_places rows)
     (map (item_at_place stored) (rows_places rows)) stored stored c.loop-row.f) (sym none) no_run) in
     record { ran = record { last = c.loop-row.f; calls = run.calls }; others = run.others }

@@ -6,7 +6,7 @@ use Rattle.ndarray_layout.specs.Rows.{rows_places}
 use Rattle.nd_lent.specs.LentRow.{HasRow}
 use Rattle.nd_lent.specs.Mapped.{CallableOnEachMut}
 use Rattle.nd_lent.specs.Items.{item_at_place}
-use Rattle.nd_lent.specs.private.RunTo.{HasRunTo}
+use Rattle.nd_lent.specs.private.MapsTo.{MapsTo}
 use Rattle.nd_lent.proofs.Sets.{Distinct}
 use Rattle.nd_lent.proofs.array_view_mut.mapping.map_rows.Given as goal
 
@@ -16,8 +16,8 @@ invariant-loop-row g l = record {
   rows : All (HasRow (length l.fn.stored)) l.row-iterator;
   distinct : Distinct (rows_places l.row-iterator);
   run : (new : List g.row.T.Denot) (last : g.row.F.Denot)
-      → HasRunTo (λ p x y q. CalledAtMut g.F.FnMut p x tt q y) l.f (rows_places l.row-iterator)
+      → MapsTo (λ p x y q. CalledAtMut g.F.FnMut p x tt q y) l.f (rows_places l.row-iterator)
       (map (item_at_place l.stored) (rows_places l.row-iterator)) l.stored new last
-      → HasRunTo (λ p x y q. CalledAtMut g.F.FnMut p x tt q y) l.fn.f (rows_places l.fn.rows)
+      → MapsTo (λ p x y q. CalledAtMut g.F.FnMut p x tt q y) l.fn.f (rows_places l.fn.rows)
       (map (item_at_place l.fn.stored) (rows_places l.fn.rows)) l.fn.stored new last;
 }

@@ -7,9 +7,9 @@ use Rattle.ndarray_layout.specs.Rows.{row_places}
 use Rattle.ndarray_layout.proofs.Laws.Rows.{length-row_places}
 use Rattle.nd_lent.specs.Items.{item_at_place}
 use Rattle.nd_lent.specs.Mapped.{CallableOnEachMut, TakesAtMut}
-use Rattle.nd_lent.specs.private.RunTo.{HasRunTo}
-use Rattle.nd_lent.proofs.RowRuns.{IsNext, all_neighbours, all_run, begins, neighbour, neighbours_distinct, next_in_place, one_more}
-use Rattle.nd_lent.proofs.RowRuns.{takes_next}
+use Rattle.nd_lent.specs.private.MapsTo.{MapsTo}
+use Rattle.nd_lent.proofs.RowMaps.{IsNext, all_neighbours, all_run, begins, neighbour, neighbours_distinct, next_in_place, one_more}
+use Rattle.nd_lent.proofs.RowMaps.{takes_next}
 use Rattle.nd_lent.proofs.array_view_mut.mapping.map_slice.Given.{Over}
 use Rattle.nd_lent.proofs.array_view_mut.mapping.map_slice.Goals as goal
 use Rattle.nd_lent.proofs.array_view_mut.mapping.map_slice.Goals.{After-item-item}
@@ -59,6 +59,6 @@ returns g c =
     let items = c.args.items.now in
     let len = length items in
     let places = row_places 0 (pos 1) len in
-    subst (λ given. HasRunTo (call g) c.args.f places given items c.loop-item.items c.loop-item.f) (all_neighbours items)
+    subst (λ given. MapsTo (call g) c.args.f places given items c.loop-item.items c.loop-item.f) (all_neighbours items)
     (all_run (call g) (TakesAtMut g.F.FnMut) c.args.f places (map (item_at_place items) places) items
     (length-map places (item_at_place items)) (omega (arith, length-row_places 0 (pos 1) len)) c.loop-item.invariant)

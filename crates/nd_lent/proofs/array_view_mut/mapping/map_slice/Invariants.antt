@@ -1,7 +1,7 @@
 -- The calls at the items below the index are made.
 use Rattle.std.proofs.Common.{pos, length}
 use Rattle.ndarray_layout.specs.Rows.{row_places}
-use Rattle.nd_lent.proofs.RowRuns.{HasMappedSoFar}
+use Rattle.nd_lent.proofs.RowMaps.{HasMappedSoFar}
 use Rattle.nd_lent.proofs.array_view_mut.mapping.map_slice.Given as goal
 
 abbrev pub invariant-loop-item : goal.invariant-loop-item

@@ -4,7 +4,7 @@ use Rattle.std.specs.Fn.{CalledAtMut}
 use Rattle.std.specs.List.{AllPairs}
 use Rattle.ndarray_layout.specs.declared.Order.TheVariants.{RowMajor}
 use Rattle.nd_lent.specs.Mapped.{CallableOnEachMut}
-use Rattle.nd_lent.specs.Written.{HasRun}
+use Rattle.nd_lent.specs.Written.{Maps}
 use Rattle.nd_lent.specs.Items.{item_at_place}
 use Rattle.nd_lent.proofs.Permuted.{permuted}
 use Rattle.nd_lent.proofs.RowsLent.{rows_within}
@@ -27,6 +27,6 @@ map_rows-requires-clause-callable g c =
 
 pub returns : goal.returns
 returns g c =
-    subst (λ places. HasRun (λ p x y q. CalledAtMut g.F.FnMut p x tt q y) c.args.f places
+    subst (λ places. Maps (λ p x y q. CalledAtMut g.F.FnMut p x tt q y) c.args.f places
     (map (item_at_place c.args.stored.now) places) c.args.stored.now c.map_rows.new.stored)
     c.joined_rows.ensures.places c.map_rows.ensures

@@ -4,7 +4,7 @@ use Rattle.std.specs.Fn.{CalledAt, TakesAt}
 use Rattle.ndarray_layout.specs.Bounds.{IsInBounds}
 use Rattle.ndarray_layout.proofs.Laws.Rows.{get_or-row_places, length-row_places}
 use Rattle.nd_lent.specs.LentRow.{places_of, row_items}
-use Rattle.nd_lent.proofs.RowRuns.{all_run, IsNext, one_more, same_long, takes_next}
+use Rattle.nd_lent.proofs.RowMaps.{all_run, IsNext, one_more, same_long, takes_next}
 use Rattle.nd_lent.proofs.RowsLent.{place_of_coordinate}
 use Rattle.nd_lent.proofs.array_view_mut.mapping.write_places.Given.{Over}
 use Rattle.nd_lent.proofs.array_view_mut.mapping.write_places.Goals as goal

@@ -3,8 +3,8 @@ use Rattle.std.proofs.Common.{◌≡◌, ◌+◌, ◌≤◌, ◌++◌, Some, len
 use Rattle.std.specs.Fn.{CalledAt}
 use Rattle.std.proofs.lemmas.List.{length-map}
 use Rattle.nd_lent.specs.LentRow.{is_contiguous, places_of}
-use Rattle.nd_lent.specs.private.RunTo.{HasRunTo}
-use Rattle.nd_lent.proofs.RowRuns.{IsCut, run_of_slice}
+use Rattle.nd_lent.specs.private.MapsTo.{MapsTo}
+use Rattle.nd_lent.proofs.RowMaps.{IsCut, mapped_slice}
 use Rattle.nd_lent.proofs.RowsLent.{count_of_items, end_within}
 use Rattle.nd_lent.proofs.array_view_mut.mapping.write_row.Given.{Over}
 use Rattle.nd_lent.proofs.array_view_mut.mapping.write_row.Goals as goal
@@ -44,8 +44,8 @@ write_slice-requires-clause-count g c =
 pub returns-in-Some : goal.returns-in-Some
 returns-in-Some g c =
     let at = goal.at.returns-in-Some g c in
-    subst (λ given. HasRunTo (λ p x y q. CalledAt g.F.FnMut p x y q) c.args.f (places_of c.args.row) given c.args.stored.now
+    subst (λ given. MapsTo (λ p x y q. CalledAt g.F.FnMut p x y q) c.args.f (places_of c.args.row) given c.args.stored.now
     (c.split_at_mut-before.result.0.now ++ (c.write_slice.new.to ++ c.split_at_mut-these.result.1.now)) c.write_slice.result)
     c.in-Some.ensures.items
-    (run_of_slice c.args.row (contiguous g at.Then-is_contiguous) c.requires.row (cut g at.After-split_at_mut-these) c.write_slice.auto.to
+    (mapped_slice c.args.row (contiguous g at.Then-is_contiguous) c.requires.row (cut g at.After-split_at_mut-these) c.write_slice.auto.to
     c.write_slice.ensures)

@@ -10,8 +10,8 @@ use Rattle.ndarray_layout.specs.Rows.{rows_places}
 use Rattle.nd_lent.specs.LentRow.{HasRow, RowValue, places_of, row_items, rows_items}
 use Rattle.nd_lent.specs.Items.{item_at_place}
 use Rattle.nd_lent.specs.Mapped.{gives}
-use Rattle.nd_lent.specs.private.RunTo.{HasRunTo}
-use Rattle.nd_lent.proofs.RowRuns.{both_run, callable_after, callable_in_part, no_run, same_long}
+use Rattle.nd_lent.specs.private.MapsTo.{MapsTo}
+use Rattle.nd_lent.proofs.RowMaps.{both_run, callable_after, callable_in_part, no_run, same_long}
 use Rattle.nd_lent.proofs.Sets.{Distinct}
 use Rattle.nd_lent.proofs.Laws.Lists.{pairs_first, pairs_second}
 use Rattle.nd_lent.proofs.array_view_mut.mapping.write_rows.Given.{Over}
@@ -28,7 +28,7 @@ loop-row-init g c =
       count = subst (λ rows. AllZip (λ row source. row.len ≡ source.row.len) rows c.args.sources) (sym same) c.requires.count;
       distinct = subst (λ rows. Distinct (rows_places rows)) (sym same) c.requires.distinct;
       run = λ new last run.
-          subst (λ rows. HasRunTo (λ p x y q. CalledAt g.F.FnMut p x y q) c.args.f (rows_places rows) (rows_items c.args.sources) stored new
+          subst (λ rows. MapsTo (λ p x y q. CalledAt g.F.FnMut p x y q) c.args.f (rows_places rows) (rows_items c.args.sources) stored new
           last) same run;
     }
 
@@ -95,9 +95,9 @@ loop-row-preserved-in-Some-next g c =
       count = (counts g at).1;
       distinct = pairs_second (λ one other. one ≢ other) these others (distinct g at);
       run = λ new last rest. c.loop-row.invariant.run new last
-          (subst (λ items. HasRunTo (λ p x y q. CalledAt g.F.FnMut p x y q) c.loop-row.f (rows_places c.loop-row.row-iterator) items old new
+          (subst (λ items. MapsTo (λ p x y q. CalledAt g.F.FnMut p x y q) c.loop-row.f (rows_places c.loop-row.row-iterator) items old new
           last) (sym (items g at))
-          (subst (λ zs. HasRunTo (λ p x y q. CalledAt g.F.FnMut p x y q) c.loop-row.f zs (given ++ more) old new last) (sym (places g at))
+          (subst (λ zs. MapsTo (λ p x y q. CalledAt g.F.FnMut p x y q) c.loop-row.f zs (given ++ more) old new last) (sym (places g at))
           (both_run count (distinct g at) run rest)));
     }
 
@@ -113,8 +113,8 @@ returns g c =
     let no_source = none_left c.loop-row.sources
     (subst (λ rows. AllZip (λ row source. row.len ≡ source.row.len) rows c.loop-row.sources) none c.loop-row.invariant.count) in
     let run = c.loop-row.invariant.run stored c.loop-row.f
-    (subst (λ rows. HasRunTo (λ p x y q. CalledAt g.F.FnMut p x y q) c.loop-row.f (rows_places rows) (rows_items c.loop-row.sources) stored
+    (subst (λ rows. MapsTo (λ p x y q. CalledAt g.F.FnMut p x y q) c.loop-row.f (rows_places rows) (rows_items c.loop-row.sources) stored
     stored c.loop-row.f) (sym none)
-    (subst (λ sources. HasRunTo (λ p x y q. CalledAt g.F.FnMut p x y q) c.loop-row.f [] (rows_items sources) stored stored c.loop-row.f)
+    (subst (λ sources. MapsTo (λ p x y q. CalledAt g.F.FnMut p x y q) c.loop-row.f [] (rows_items sources) stored stored c.loop-row.f)
     (sym no_source) no_run)) in
     record { ran = record { last = c.loop-row.f; calls = run.calls }; others = run.others }

@@ -6,7 +6,7 @@ use Rattle.std.specs.List.{All, AllZip}
 use Rattle.ndarray_layout.specs.Rows.{rows_places}
 use Rattle.nd_lent.specs.LentRow.{HasRow, rows_items}
 use Rattle.nd_lent.specs.Mapped.{gives}
-use Rattle.nd_lent.specs.private.RunTo.{HasRunTo}
+use Rattle.nd_lent.specs.private.MapsTo.{MapsTo}
 use Rattle.nd_lent.proofs.Sets.{Distinct}
 use Rattle.nd_lent.proofs.array_view_mut.mapping.write_rows.Given as goal
 
@@ -17,6 +17,6 @@ invariant-loop-row g l = record {
   count : AllZip (λ row source. row.len ≡ source.row.len) l.row-iterator l.sources;
   distinct : Distinct (rows_places l.row-iterator);
   run : (new : List g.row.U.Denot) (last : g.row.F.Denot)
-      → HasRunTo (λ p x y q. CalledAt g.F.FnMut p x y q) l.f (rows_places l.row-iterator) (rows_items l.sources) l.stored new last
-      → HasRunTo (λ p x y q. CalledAt g.F.FnMut p x y q) l.fn.f (rows_places l.fn.rows) (rows_items l.fn.sources) l.fn.stored new last;
+      → MapsTo (λ p x y q. CalledAt g.F.FnMut p x y q) l.f (rows_places l.row-iterator) (rows_items l.sources) l.stored new last
+      → MapsTo (λ p x y q. CalledAt g.F.FnMut p x y q) l.fn.f (rows_places l.fn.rows) (rows_items l.fn.sources) l.fn.stored new last;
 }

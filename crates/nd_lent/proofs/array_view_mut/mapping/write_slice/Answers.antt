@@ -4,7 +4,7 @@ use Rattle.std.specs.Fn.{CalledAt, TakesAt}
 use Rattle.std.proofs.lemmas.List.{get_or-map, length-map, take_all}
 use Rattle.ndarray_layout.specs.Rows.{row_places}
 use Rattle.ndarray_layout.proofs.Laws.Rows.{length-row_places}
-use Rattle.nd_lent.proofs.RowRuns.{IsNext, all_run, neighbour, neighbours_distinct, one_more, takes_next}
+use Rattle.nd_lent.proofs.RowMaps.{IsNext, all_run, neighbour, neighbours_distinct, one_more, takes_next}
 use Rattle.nd_lent.proofs.array_view_mut.mapping.write_slice.Given.{Over}
 use Rattle.nd_lent.proofs.array_view_mut.mapping.write_slice.Goals as goal
 use Rattle.nd_lent.proofs.array_view_mut.mapping.write_slice.Goals.{After-index-beside-index}

@@ -7,7 +7,7 @@ use Rattle.ndarray_layout.specs.declared.Order.TheVariants.{RowMajor}
 use Rattle.ndarray_layout.specs.View.{view_places}
 use Rattle.nd_lent.specs.LentRow.{rows_items}
 use Rattle.nd_lent.specs.Mapped.{gives}
-use Rattle.nd_lent.specs.Written.{HasRun}
+use Rattle.nd_lent.specs.Written.{Maps}
 use Rattle.nd_lent.specs.Items.{item_at_place}
 use Rattle.nd_lent.proofs.Permuted.{permuted}
 use Rattle.nd_lent.proofs.RowsLent.{All-as_long, items_of_rows, rows_beside, rows_within}
@@ -52,7 +52,7 @@ write_rows-requires-clause-callable g c =
 pub returns : goal.returns
 returns g c =
     let at = goal.at.returns g c in
-    subst (λ items. HasRun (λ p x y q. CalledAt g.F.FnMut p x y q) c.args.f (view_places RowMajor c.args.view.now) items
+    subst (λ items. Maps (λ p x y q. CalledAt g.F.FnMut p x y q) c.args.f (view_places RowMajor c.args.view.now) items
     c.args.stored.now c.write_rows.new.stored) (given g at.After-new)
-    (subst (λ places. HasRun (λ p x y q. CalledAt g.F.FnMut p x y q) c.args.f places (rows_items c.new.result)
+    (subst (λ places. Maps (λ p x y q. CalledAt g.F.FnMut p x y q) c.args.f places (rows_items c.new.result)
     c.args.stored.now c.write_rows.new.stored) c.joined_rows_with-rows.ensures.first c.write_rows.ensures)

@@ -4,7 +4,7 @@ use Rattle.std.specs.Option.{option_map}
 use Rattle.std.proofs.lemmas.Option.{none-some}
 use Rattle.nd_lent.specs.Lent.{array_of}
 use Rattle.nd_lent.proofs.Laws.WrittenCount.{same_count}
-use Rattle.nd_lent.proofs.PartRuns.{mapped, overwritten}
+use Rattle.nd_lent.proofs.PartMaps.{mapped, overwritten}
 use Rattle.nd_lent.proofs.part.PartMut.fill.Goals as goal
 
 pub returns-clause-filled : goal.returns-clause-filled

@@ -3,7 +3,7 @@ use Rattle.std.proofs.Common.{sym, subst}
 use Rattle.ndarray_layout.specs.declared.Order.TheVariants.{RowMajor}
 use Rattle.nd_lent.specs.Lent.{array_of}
 use Rattle.nd_lent.specs.Mapped.{CallableOnEachMut}
-use Rattle.nd_lent.proofs.PartRuns.{in_order, mapped, ran_over, spare}
+use Rattle.nd_lent.proofs.PartMaps.{in_order, mapped, ran_over, spare}
 use Rattle.nd_lent.proofs.Laws.IndexItems.{items_in}
 use Rattle.nd_lent.proofs.part.PartMut.map_in_place.Goals as goal
 

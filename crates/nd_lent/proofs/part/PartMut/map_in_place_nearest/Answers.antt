@@ -4,7 +4,7 @@ use Rattle.ndarray_layout.specs.declared.Order.TheVariants.{RowMajor}
 use Rattle.nd_lent.specs.AnyOrder.{InAnyOrder}
 use Rattle.nd_lent.specs.Lent.{array_of}
 use Rattle.nd_lent.specs.Mapped.{CallableOnEachMut}
-use Rattle.nd_lent.proofs.PartRuns.{mapped, some_order, spare}
+use Rattle.nd_lent.proofs.PartMaps.{mapped, some_order, spare}
 use Rattle.nd_lent.proofs.Laws.IndexItems.{items_in}
 use Rattle.nd_lent.proofs.part.PartMut.map_in_place_nearest.Goals as goal
 

@@ -9,7 +9,7 @@ use Rattle.nd_lent.specs.Mapped.{TakesAtMut}
 use Rattle.nd_lent.specs.Part.{has_mark}
 use Rattle.nd_lent.proofs.RowsOwned.{place_of_row}
 use Rattle.nd_lent.proofs.SwappedCells.{got}
-use Rattle.nd_lent.proofs.Laws.RunsTo.{IsNext, all_run, begins, next_in_place, one_more, takes_next}
+use Rattle.nd_lent.proofs.Laws.MapsTo.{IsNext, all_run, begins, next_in_place, one_more, takes_next}
 use Rattle.nd_lent.proofs.part.mapping.map_places.Given.{Over}
 use Rattle.nd_lent.proofs.part.mapping.map_places.Goals as goal
 use Rattle.nd_lent.proofs.part.mapping.map_places.Goals.{After-item_mut, After-place_in_row-place}

@@ -2,7 +2,7 @@
 use Rattle.std.proofs.Common.{◌≡◌, length}
 use Rattle.ndarray_layout.specs.Rows.{row_places}
 use Rattle.nd_lent.specs.Rights.{right_of}
-use Rattle.nd_lent.proofs.Laws.RunsTo.{HasMappedSoFar}
+use Rattle.nd_lent.proofs.Laws.MapsTo.{HasMappedSoFar}
 use Rattle.nd_lent.proofs.part.mapping.map_places.Given as goal
 
 abbrev pub invariant-loop-coordinate : goal.invariant-loop-coordinate

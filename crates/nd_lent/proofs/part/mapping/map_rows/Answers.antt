@@ -6,9 +6,9 @@ use Rattle.ndarray_layout.specs.Rows.{row_places, rows_places}
 use Rattle.nd_lent.specs.Items.{item_at_place}
 use Rattle.nd_lent.specs.Mapped.{CallableOnEachMut}
 use Rattle.nd_lent.specs.private.OwnedRows.{OwnsEachRow, OwnsRow}
-use Rattle.nd_lent.specs.private.RunTo.{HasRunTo}
+use Rattle.nd_lent.specs.private.MapsTo.{MapsTo}
 use Rattle.nd_lent.proofs.RowsOwned.{owns_first, owns_others}
-use Rattle.nd_lent.proofs.Laws.RunsTo.{Distinct, both_run, callable_after, callable_in_part, no_run, others_stay}
+use Rattle.nd_lent.proofs.Laws.MapsTo.{Distinct, both_run, callable_after, callable_in_part, no_run, others_stay}
 use Rattle.nd_lent.proofs.part.mapping.map_rows.Given.{Over}
 use Rattle.nd_lent.proofs.part.mapping.map_rows.Goals as goal
 use Rattle.nd_lent.proofs.part.mapping.map_rows.Goals.{In-Some}
@@ -23,7 +23,7 @@ loop-row-init g c =
       rows = subst (OwnsEachRow cells.marks) (sym same) c.requires.rows;
       same_right = refl;
       run = λ new last run.
-          subst (λ rows. HasRunTo (λ p x y q. CalledAtMut g.F.FnMut p x tt q y) c.args.f (rows_places rows)
+          subst (λ rows. MapsTo (λ p x y q. CalledAtMut g.F.FnMut p x tt q y) c.args.f (rows_places rows)
           (map (item_at_place cells.items) (rows_places rows)) cells.items new last) same run;
     }
 
@@ -82,13 +82,13 @@ loop-row-preserved g c =
       rows = owns_others (rows g at);
       same_right = c.map_row-f.ensures.same_right ∙ c.loop-row.invariant.same_right;
       run = λ new last more.
-          let rest = subst (λ items. HasRunTo (λ p x y q. CalledAtMut g.F.FnMut p x tt q y) c.map_row-f.result others items mid new last)
+          let rest = subst (λ items. MapsTo (λ p x y q. CalledAtMut g.F.FnMut p x tt q y) c.map_row-f.result others items mid new last)
           stay more in
           let both = both_run (length-map these (item_at_place old)) (distinct g at) run rest in
           c.loop-row.invariant.run new last
-          (subst (λ items. HasRunTo (λ p x y q. CalledAtMut g.F.FnMut p x tt q y) c.loop-row.f (rows_places c.loop-row.row-iterator) items
+          (subst (λ items. MapsTo (λ p x y q. CalledAtMut g.F.FnMut p x tt q y) c.loop-row.f (rows_places c.loop-row.row-iterator) items
           old new last) (sym (items g at))
-          (subst (λ zs. HasRunTo (λ p x y q. CalledAtMut g.F.FnMut p x tt q y) c.loop-row.f zs
+          (subst (λ zs. MapsTo (λ p x y q. CalledAtMut g.F.FnMut p x tt q y) c.loop-row.f zs
           (map (item_at_place old) these ++ map (item_at_place old) others) old new last) (sym (places g at)) both));
     }
 
@@ -97,7 +97,7 @@ returns-clause-ran g c =
     let items = c.loop-row.cells.items in
     let none = c.in-None.ensures.steps.0 in
     let run = c.loop-row.invariant.run items c.loop-row.f
-    (subst (λ rows. HasRunTo (λ p x y q. CalledAtMut g.F.FnMut p x tt q y) c.loop-row.f (rows_places rows)
+    (subst (λ rows. MapsTo (λ p x y q. CalledAtMut g.F.FnMut p x tt q y) c.loop-row.f (rows_places rows)
     (map (item_at_place items) (rows_places rows)) items items c.loop-row.f) (sym none) no_run) in
     record { ran = record { last = c.loop-row.f; calls = run.calls }; others = run.others }
 

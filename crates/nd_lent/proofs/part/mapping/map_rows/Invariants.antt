@@ -6,7 +6,7 @@ use Rattle.nd_lent.specs.Items.{item_at_place}
 use Rattle.nd_lent.specs.Mapped.{CallableOnEachMut}
 use Rattle.nd_lent.specs.Rights.{right_of}
 use Rattle.nd_lent.specs.private.OwnedRows.{OwnsEachRow}
-use Rattle.nd_lent.specs.private.RunTo.{HasRunTo}
+use Rattle.nd_lent.specs.private.MapsTo.{MapsTo}
 use Rattle.nd_lent.proofs.part.mapping.map_rows.Given as goal
 
 abbrev pub invariant-loop-row : goal.invariant-loop-row
@@ -15,8 +15,8 @@ invariant-loop-row g l = record {
   rows : OwnsEachRow l.fn.cells.marks l.row-iterator;
   same_right : right_of l.cells ≡ right_of l.fn.cells;
   run : (new : List g.row.T.Denot) (last : g.row.F.Denot)
-      → HasRunTo (λ p x y q. CalledAtMut g.F.FnMut p x tt q y) l.f (rows_places l.row-iterator)
+      → MapsTo (λ p x y q. CalledAtMut g.F.FnMut p x tt q y) l.f (rows_places l.row-iterator)
       (map (item_at_place l.cells.items) (rows_places l.row-iterator)) l.cells.items new last
-      → HasRunTo (λ p x y q. CalledAtMut g.F.FnMut p x tt q y) l.fn.f (rows_places l.fn.rows)
+      → MapsTo (λ p x y q. CalledAtMut g.F.FnMut p x tt q y) l.fn.f (rows_places l.fn.rows)
       (map (item_at_place l.fn.cells.items) (rows_places l.fn.rows)) l.fn.cells.items new last;
 }

@@ -3,7 +3,7 @@ use Rattle.std.proofs.Common.{map, sym, subst}
 use Rattle.std.specs.Fn.{CalledAtMut}
 use Rattle.nd_lent.specs.Items.{item_at_place}
 use Rattle.nd_lent.specs.Mapped.{CallableOnEachMut}
-use Rattle.nd_lent.specs.Written.{HasRun}
+use Rattle.nd_lent.specs.Written.{Maps}
 use Rattle.nd_lent.proofs.RowsOwned.{rows_of_part}
 use Rattle.nd_lent.proofs.part.mapping.map_view.Goals as goal
 
@@ -19,5 +19,5 @@ map_rows-requires-clause-callable g c =
 pub returns-clause-ran : goal.returns-clause-ran
 returns-clause-ran g c =
     let items = c.args.cells.now.items in
-    subst (λ places. HasRun (λ p x y q. CalledAtMut g.F.FnMut p x tt q y) c.args.f places (map (item_at_place items) places) items
+    subst (λ places. Maps (λ p x y q. CalledAtMut g.F.FnMut p x tt q y) c.args.f places (map (item_at_place items) places) items
     c.map_rows.new.cells.items) c.joined_rows.ensures.places c.map_rows.ensures.ran

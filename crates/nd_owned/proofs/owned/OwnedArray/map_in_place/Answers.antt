@@ -9,7 +9,7 @@ use Rattle.std.specs.Option.{option_map}
 use Rattle.ndarray_layout.specs.declared.Fit.TheVariants.{Strict}
 use Rattle.ndarray_layout.specs.SliceFault.{argument_fault}
 use Rattle.nd_lent.specs.HasItems.{HasItemsOf, KeepsSpare}
-use Rattle.nd_lent.specs.Mapped.{CallableOnEachMut, RunsOver, part_of, row_major_items}
+use Rattle.nd_lent.specs.Mapped.{CallableOnEachMut, CallsMake, part_of, row_major_items}
 use Rattle.nd_lent.specs.Items.{item_at}
 use Rattle.nd_lent.proofs.Laws.OwnedViews.{owned_descendant}
 use Rattle.nd_lent.specs.Items.{ArrayValue}
@@ -49,7 +49,7 @@ returns-clause-ran g c =
     let now : take items.len (stored ++ drop (length stored) items.items) ≡ stored =
     take_at stored (drop (length stored) items.items) items.len (c.map_view.auto.stored ∙ c.as_mut_slice.ensures.len) in
     let slice = g.S.SliceElems.list c.args.slices.now in
-    at_part (λ old new. RunsOver (λ p x y q. CalledAtMut g.F.FnMut p x tt q y) c.args.f (row_major_items old) (row_major_items new))
+    at_part (λ old new. CallsMake (λ p x y q. CalledAtMut g.F.FnMut p x tt q y) c.args.f (row_major_items old) (row_major_items new))
     slice c.self.view_is c.in_ok-part.ensures.sliced now (rw (c.as_mut_slice.ensures.value) at c.map_view.ensures.ran)
 
 pub returns-clause-mapped : goal.returns-clause-mapped

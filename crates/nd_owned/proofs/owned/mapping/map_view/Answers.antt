@@ -4,7 +4,7 @@ use Rattle.ndarray_layout.specs.View.{View}
 use Rattle.std.specs.Fn.{CalledAtMut}
 use Rattle.std.specs.Option.{option_map}
 use Rattle.nd_lent.specs.HasItems.{HasItemsOf}
-use Rattle.nd_lent.specs.Mapped.{RunsOver, row_major_items}
+use Rattle.nd_lent.specs.Mapped.{CallsMake, row_major_items}
 use Rattle.nd_lent.specs.Items.{item_at}
 use Rattle.nd_lent.specs.Items.{ArrayValue}
 use Rattle.nd_owned.proofs.owned.mapping.map_view.Goals as goal
@@ -21,7 +21,7 @@ at_lent P {old} {new} {items} {left} {view} given by now same holds =
 
 pub returns-clause-ran : goal.returns-clause-ran
 returns-clause-ran g c =
-    at_lent (λ old new. RunsOver (λ p x y q. CalledAtMut g.F.FnMut p x tt q y) c.args.f (row_major_items old) (row_major_items new))
+    at_lent (λ old new. CallsMake (λ p x y q. CalledAtMut g.F.FnMut p x tt q y) c.args.f (row_major_items old) (row_major_items new))
     c.new-array.ensures.stored c.new-array.ensures.view (search rules) c.map_in_place.ensures.view c.map_in_place.ensures.ran
 
 pub returns-clause-mapped : goal.returns-clause-mapped

@@ -40,9 +40,9 @@ empty : (g : Over) (c : Joined-not-contains g) → c.contains.result ≡ is_empt
 empty g c =
     let new = c.write_lengths.new.new_shape in
     let made : new ≡ lengths g c = rw (c.slice.ensures.list) at c.write_lengths.ensures in
-    let kept = g.met.E.Lengths.list_of_with_list c.in_ok-dim.dim new
+    let new_strides = g.met.E.Lengths.list_of_with_list c.in_ok-dim.dim new
     (c.write_lengths.auto.new_shape ∙ ap length c.slice_mut.ensures.list) in
-    c.contains.ensures.value ∙ ap is_empty (c.slice-2.ensures.list ∙ kept ∙ made)
+    c.contains.ensures.value ∙ ap is_empty (c.slice-2.ensures.list ∙ new_strides ∙ made)
 
 zeros_read : (n : ℕ) → all_signed (replicate n 0) ≡ replicate n (pos 0)
 zeros_read zero = refl
@@ -57,14 +57,15 @@ returns-clause-strides g c =
       | then-not-contains w ↦
           let new = w.write_strides.new.new_strides in
           let some : is_empty (lengths g c) ≡ false = sym (empty g c) ∙ w.if-not-contains.true in
-          let kept = g.met.E.Lengths.list_of_with_list c.in_ok-kept.kept new
+          let new_strides = g.met.E.Lengths.list_of_with_list c.in_ok-new_strides.new_strides new
           (w.write_strides.auto.new_strides ∙ ap length w.slice_mut-then-not-contains.ensures.list) in
           let made : all_signed new ≡ along = rw (w.slice-then-not-contains.ensures.list) at w.write_strides.ensures in
-          ap (λ d. all_signed (g.E.Lengths.list d)) w.kept-is ∙ ap all_signed kept ∙ made ∙ sym (ap (λ none. cond none zeros along) some)
+          ap (λ d. all_signed (g.E.Lengths.list d)) w.new_strides-is
+          ∙ ap all_signed new_strides ∙ made ∙ sym (ap (λ none. cond none zeros along) some)
       | else-not-contains w ↦
           let none : is_empty (lengths g c) ≡ true = sym (empty g c) ∙ w.if-not-contains.false in
-          ap (λ d. all_signed (g.E.Lengths.list d)) w.kept-is
-          ∙ ap all_signed c.in_ok-kept.ensures.list
+          ap (λ d. all_signed (g.E.Lengths.list d)) w.new_strides-is
+          ∙ ap all_signed c.in_ok-new_strides.ensures.list
           ∙ zeros_read (2 * length c.args.shape.now)
           ∙ ap (λ n. replicate n (pos 0)) (sym (count g c))
           ∙ sym (ap (λ none. cond none zeros along) none)

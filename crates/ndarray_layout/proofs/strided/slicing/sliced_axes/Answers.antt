@@ -40,11 +40,11 @@ returns-in_err-dim-clause-fault g c =
     same ∙ sym ((failed c.args.fit c.args.shape.now c.NDIM.ensures c.has_counts.ensures c.if-not-has_counts.false)
     ∙ no_fault c.out_ndim_of-ndim.result c.NDIM-2.ensures c.in_ok-check_before_memory.ensures.passed c.in_err-dim.ensures.memory)
 
-pub returns-in_err-kept-clause-fault : goal.returns-in_err-kept-clause-fault
-returns-in_err-kept-clause-fault g c =
-    let same : shape_fault c.from_residual-in_err-kept.result ≡ None = search rules in
+pub returns-in_err-new_strides-clause-fault : goal.returns-in_err-new_strides-clause-fault
+returns-in_err-new_strides-clause-fault g c =
+    let same : shape_fault c.from_residual-in_err-new_strides.result ≡ None = search rules in
     same ∙ sym ((failed c.args.fit c.args.shape.now c.NDIM.ensures c.has_counts.ensures c.if-not-has_counts.false)
-    ∙ no_fault c.out_ndim_of-ndim.result c.NDIM-2.ensures c.in_ok-check_before_memory.ensures.passed c.in_err-kept.ensures.memory)
+    ∙ no_fault c.out_ndim_of-ndim.result c.NDIM-2.ensures c.in_ok-check_before_memory.ensures.passed c.in_err-new_strides.ensures.memory)
 
 pub returns-in_err-offset-clause-fault : goal.returns-in_err-offset-clause-fault
 returns-in_err-offset-clause-fault g c =
@@ -62,12 +62,12 @@ pub write_axes-requires-clause-shape_room : goal.write_axes-requires-clause-shap
 write_axes-requires-clause-shape_room g c = room c.slice_mut.ensures.list c.in_ok-dim.ensures.list c.out_ndim_of-ndim.ensures
 
 pub write_axes-requires-clause-strides_room : goal.write_axes-requires-clause-strides_room
-write_axes-requires-clause-strides_room g c = room c.slice_mut-2.ensures.list c.in_ok-kept.ensures.list c.out_ndim_of-ndim.ensures
+write_axes-requires-clause-strides_room g c = room c.slice_mut-2.ensures.list c.in_ok-new_strides.ensures.list c.out_ndim_of-ndim.ensures
 
 pub returns-clause-shape : goal.returns-clause-shape
 returns-clause-shape g c = g.met.E.Lengths.list_of_with_list c.in_ok-dim.dim c.write_axes.new.new_shape (c.write_axes.auto.new_shape
     ∙ ap length c.slice_mut.ensures.list) ∙ c.in_ok-offset.ensures.shape
 
 pub returns-clause-strides : goal.returns-clause-strides
-returns-clause-strides g c = ap all_signed (g.met.E.Lengths.list_of_with_list c.in_ok-kept.kept c.write_axes.new.new_strides
+returns-clause-strides g c = ap all_signed (g.met.E.Lengths.list_of_with_list c.in_ok-new_strides.new_strides c.write_axes.new.new_strides
     (c.write_axes.auto.new_strides ∙ ap length c.slice_mut-2.ensures.list)) ∙ c.in_ok-offset.ensures.strides

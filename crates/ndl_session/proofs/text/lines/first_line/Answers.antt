@@ -7,5 +7,5 @@ pub returns-in-Some-clause-lines : goal.returns-in-Some-clause-lines
 returns-in-Some-clause-lines c =
     let line = ap (λ (x : Bor (List ℕ)). x.now) c.unwrap_or.ensures
     ∙ stripped c.in-Some.line c.strip_suffix.result _ c.strip_suffix.ensures.cases in
-    ended_line c.args.text.now c.in-Some.line.now c.in-Some.rest.now c.in-Some.ensures.parts
+    ended_line c.args.text.now c.in-Some.line.now c.in-Some.rest.now c.in-Some.ensures.split
     ∙ ap (λ (x : List ℕ). x ∷ lines_of c.in-Some.rest.now) (sym line)
