@@ -302,17 +302,21 @@ ND_INLINE ND_USED ND_WRAPS size_t nd_cursor_at4(nd_cursor4 at, size_t i, size_t 
 /* ---- Elements of slices ---------------------------------------------------------------------------------------------- */
 
 /*
- * For lists of elements: `const nd_slice_elem crop[2] = {ND_RANGE(1, 5), ND_ALL};`. Bounds below 0 count from the end. In C89
- * their arguments are constants.
+ * For lists of elements: `const nd_slice_elem crop[2] = {ND_RANGE(1, 5), ND_ALL};`. Bounds below 0 count from the end; an unsigned
+ * number past the limit counts from the start, and so lies past every axis. In C89 their arguments are constants. A bound may be
+ * evaluated more than once.
  */
 #define ND_ALL {ND_SLICE, 0, 0, 0, 1}
 #define ND_RANGE(start, end) ND_RANGE_BY(start, end, 1)
-#define ND_RANGE_BY(start, end, step) {ND_SLICE, 1, ND_CAST(ptrdiff_t, start), ND_CAST(ptrdiff_t, end), ND_CAST(ptrdiff_t, step)}
+#define ND_RANGE_BY(start, end, step) {ND_SLICE, 1, ND_BOUND(start), ND_BOUND(end), ND_CAST(ptrdiff_t, step)}
 /* from a coordinate to the end of the axis; from 0 by -1: the axis in the opposite order */
 #define ND_FROM(start) ND_FROM_BY(start, 1)
-#define ND_FROM_BY(start, step) {ND_SLICE, 0, ND_CAST(ptrdiff_t, start), 0, ND_CAST(ptrdiff_t, step)}
+#define ND_FROM_BY(start, step) {ND_SLICE, 0, ND_BOUND(start), 0, ND_CAST(ptrdiff_t, step)}
+/* (of this header alone) A number as a bound: the limit where it is greater. */
+#define ND_BOUND(number) \
+    ((number) > 0 && ND_CAST(ptrdiff_t, number) < 0 ? ND_CAST(ptrdiff_t, ND_CAST(size_t, -1) / 2) : ND_CAST(ptrdiff_t, number))
 /* the kinds of these names are numbers, and these macros have parentheses */
-#define ND_INDEX(index) {ND_INDEX, 0, ND_CAST(ptrdiff_t, index), 0, 0}
+#define ND_INDEX(index) {ND_INDEX, 0, ND_BOUND(index), 0, 0}
 #define ND_NEW_AXIS() {ND_NEW_AXIS, 0, 0, 0, 0}
 
 /* ---- Calls for one view ---------------------------------------------------------------------------------------------- */

@@ -303,12 +303,17 @@ static int is_elem(nd_slice_elem elem, int32_t kind, int32_t has_end, ptrdiff_t 
 static void test_elems(void) {
     const nd_slice_elem elems[] = {ND_ALL,      ND_RANGE(1, -2),   ND_RANGE_BY(1, 9, -3), ND_FROM(4),
                                    ND_INDEX(5), ND_FROM_BY(0, -1), ND_NEW_AXIS()};
+    const nd_slice_elem past[] = {ND_RANGE(2u, (size_t)-1), ND_FROM_BY((size_t)-3, -1), ND_INDEX((size_t)-1 / 2 + 1),
+                                  ND_RANGE_BY((size_t)-1 / 2, -1, 2)};
+    const ptrdiff_t limit = (ptrdiff_t)((size_t)-1 / 2);
     const int32_t kinds[] = {ND_SLICE, ND_INDEX, ND_NEW_AXIS}; /* (which are numbers still) */
     CHECK(kinds[0] == 0 && kinds[1] == 1 && kinds[2] == 2);
     CHECK(is_elem(elems[0], ND_SLICE, 0, 0, 0, 1) && is_elem(elems[1], ND_SLICE, 1, 1, -2, 1));
     CHECK(is_elem(elems[2], ND_SLICE, 1, 1, 9, -3) && is_elem(elems[3], ND_SLICE, 0, 4, 0, 1));
     CHECK(is_elem(elems[4], ND_INDEX, 0, 5, 0, 0) && is_elem(elems[5], ND_SLICE, 0, 0, 0, -1));
     CHECK(elems[6].kind == ND_NEW_AXIS);
+    CHECK(is_elem(past[0], ND_SLICE, 1, 2, limit, 1) && is_elem(past[1], ND_SLICE, 0, limit, 0, -1));
+    CHECK(is_elem(past[2], ND_INDEX, 0, limit, 0, 0) && is_elem(past[3], ND_SLICE, 1, limit, -1, 2));
 }
 
 /* The calls for one view or layout, beside those of the library, over layouts of which some are edited. */
