@@ -34,8 +34,8 @@ mod erased {
     pub use crate::ndarray_layout_c::reasons::Reason;
     pub use crate::ndarray_layout_c::{
         axis_reasons::*, block_reasons::*, blocks::*, broadcast_reasons::*, diagonals::*, index_reasons::*, indices::*,
-        intersections::*, joined_layouts::*, layout_reasons::*, layouts::*, permute_reasons::*, reshape_reasons::*, rows::*,
-        shapes::*, slice_reasons::*, slices::*, splits::*, stretches::*, texts::*, version::*,
+        intersections::*, joined_layouts::*, layout_reasons::*, layouts::*, permute_reasons::*, reshape_reasons::*,
+        rows::*, shapes::*, slice_reasons::*, slices::*, splits::*, status_texts::*, stretches::*, version::*,
     };
 }
 
