@@ -206,6 +206,7 @@ pub const LEFT_OUT: &[(&str, &str, &[&str])] = &[
     ("nd_lent", "rest", &["Rest", "Taken"]),
     ("nd_lent", "whole", &["Whole"]),
     ("example_callers", "planes", &["paint_plane", "paint_planes"]),
+    ("example_callers", "tiles", &["paint_tiles"]),
     ("example_callers", "wholes", &["fill_all", "set_first", "set_halves", "set_two", "swap_in_row"]),
 ];
 
