@@ -24,8 +24,8 @@ abbrev pub pair_found : ℤ → List ℕ → Option (ℕ × ℕ)
 pair_found answer pair = if int_eq answer (pos 1) then Some (slice_index pair 0, slice_index pair 1) else None
 
 -- examples
-three_parts : parts {A = ℕ} (2 ∷ 0 ∷ 1 ∷ []) (5 ∷ 6 ∷ 7 ∷ []) ≡ (5 ∷ 6 ∷ []) ∷ [] ∷ (7 ∷ []) ∷ []
-three_parts = refl
+three_slices : cut_by {A = ℕ} (2 ∷ 0 ∷ 1 ∷ []) (5 ∷ 6 ∷ 7 ∷ []) ≡ (5 ∷ 6 ∷ []) ∷ [] ∷ (7 ∷ []) ∷ []
+three_slices = refl
 
 three_counts : total (2 ∷ 0 ∷ 1 ∷ []) ≡ 3
 three_counts = refl
