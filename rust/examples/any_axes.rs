@@ -24,10 +24,10 @@ fn main() -> Result<(), Box<dyn std::error::Error>> {
         println!("axis {axis}: {sums:?}");
     }
     let halves: Vec<usize> = lens.iter().map(|len| len / 2).collect();
-    let upper = array.borrowed().crop(&IxDyn(&halves), &shape).ok_or("a half is at most the length")?;
+    let upper = array.view().crop(&IxDyn(&halves), &shape).ok_or("a half is at most the length")?;
     println!("the upper half of each axis:\n{upper:?}");
 
-    if let Ok(cube) = array.view().clone().into_dimensionality::<Ix3>() {
+    if let Ok(cube) = array.strided().clone().into_dimensionality::<Ix3>() {
         println!("(0, 0, 0) lies at {:?}", cube.place(&(0, 0, 0)));
     }
     println!("the last item lies at {:?}", find(&array, count.saturating_sub(1))?);

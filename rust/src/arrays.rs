@@ -9,6 +9,7 @@ mod axes_mut;
 mod axis_chunks;
 mod axis_iter;
 mod copying;
+mod cuts;
 mod dimensionality;
 mod folding;
 mod from;
@@ -19,7 +20,6 @@ mod iter_mut;
 mod line;
 mod owned;
 mod pairs;
-mod pieces;
 mod reading;
 mod rows;
 mod shapes;
@@ -28,6 +28,7 @@ mod writing;
 pub(crate) use crate::parts::{skip, skip_back};
 pub use axis_chunks::{AxisChunksIter, AxisChunksIterMut};
 pub use axis_iter::{AxisIter, AxisIterMut};
+pub(crate) use cuts::{check_axis, check_chunks};
 pub(crate) use folding::{
     fold_items, fold_iter, fold_lent, fold_one_by_one, fold_part_items, fold_places, fold_row_items, fold_view_iter,
     rfold_lent, rfold_row_items, rfold_view_iter,
@@ -38,4 +39,3 @@ pub(crate) use indexing::no_such_index;
 pub use iter_mut::IterMut;
 pub(crate) use line::{fold_row, rfold_row};
 pub(crate) use pairs::same_items;
-pub use rows::RowsMut;

@@ -114,7 +114,7 @@ struct MustUse;
 
 pub use crate::arrays::{
     AxisChunksIter, AxisChunksIterMut, AxisIter, AxisIterMut, Indexed, IndexedIter, IndexedIterMut, IterMut,
-    PartIndexedIterMut, RowsMut,
+    PartIndexedIterMut,
 };
 pub use crate::convenience::*;
 #[doc(inline)]
@@ -125,4 +125,4 @@ pub use crate::nd_owned::{
     Unsigned, ViewIter,
 };
 pub use crate::ndarray_layout::*;
-pub use crate::parts::{MultiSliceArg, PartAxisChunksIterMut, PartAxisIterMut, PartIterMut};
+pub use crate::parts::{MultiSliceArg, PartIterMut};

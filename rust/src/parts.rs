@@ -2,7 +2,6 @@
 //! proved, by their calls alone.
 
 mod axes_mut;
-mod axis_iter;
 mod dimensionality;
 mod elems;
 mod iter;
@@ -19,7 +18,6 @@ use crate::nd_base::{LayoutError, Lengths};
 use crate::nd_lent::{PartMut, PartRows};
 use crate::nd_shape::NdIndex;
 use crate::{ArrayViewMut, OwnedArray};
-pub use axis_iter::{PartAxisChunksIterMut, PartAxisIterMut};
 use core::fmt;
 use core::ops::{Index, IndexMut};
 pub use iter::PartIterMut;
@@ -108,7 +106,7 @@ impl<T, D: Lengths, I: NdIndex<D>> IndexMut<I> for PartMut<'_, T, D> {
     #[inline]
     #[track_caller]
     fn index_mut(&mut self, index: I) -> &mut T {
-        if self.view().place(&index).is_none() {
+        if self.strided().place(&index).is_none() {
             // (of a copy: a loop keeps the part in registers where no other call is told where it lies)
             no_such_index(index, &self.dim().duplicate().expect(OUT_OF_MEMORY));
         }
@@ -171,8 +169,7 @@ impl<T, D: Lengths> ArrayViewMut<'_, T, D> {
     /// }
     /// ```
     pub fn multi_sliced_mut<M: MultiSliceArg<D>>(&mut self, slices: M) -> Result<M::Parts<'_, T>, LayoutError> {
-        let (view, items) = self.parts_mut();
-        slices.lend(PartMut::new(view.duplicate()?, items))
+        slices.lend(self.try_part()?)
     }
 }
 
@@ -191,8 +188,7 @@ impl<T, D: Lengths> OwnedArray<T, D> {
     /// # }
     /// ```
     pub fn multi_sliced_mut<M: MultiSliceArg<D>>(&mut self, slices: M) -> Result<M::Parts<'_, T>, LayoutError> {
-        let (view, items) = self.parts_mut();
-        slices.lend(PartMut::new(view.duplicate()?, items))
+        slices.lend(self.try_part()?)
     }
 }
 
@@ -221,7 +217,7 @@ impl<T, D: Lengths> PartMut<'_, T, D> {
 /// Who may have a part, and for how long. A thread may be lent one whose items it may be lent:
 ///
 /// ```
-/// use ndarray_layout::{Ix1, Ix2, PartAxisChunksIterMut, PartAxisIterMut, PartItems, PartMut, PartRows};
+/// use ndarray_layout::{AxisChunksIterMut, AxisIterMut, Ix1, Ix2, PartItems, PartMut, PartRows};
 /// use std::cell::Cell;
 ///
 /// fn is_send<T: Send>() {}
@@ -231,8 +227,8 @@ impl<T, D: Lengths> PartMut<'_, T, D> {
 /// is_sync::<PartMut<'_, String, Ix1>>();
 /// is_send::<PartItems<'_, Cell<u8>, Ix2>>();
 /// is_send::<PartRows<'_, Cell<u8>, Ix2>>();
-/// is_send::<PartAxisIterMut<'_, Cell<u8>, Ix2>>();
-/// is_send::<PartAxisChunksIterMut<'_, Cell<u8>, Ix2>>();
+/// is_send::<AxisIterMut<'_, Cell<u8>, Ix2>>();
+/// is_send::<AxisChunksIterMut<'_, Cell<u8>, Ix2>>();
 /// ```
 ///
 /// but not one whose items it may not, whether it is given the part or sees it:

@@ -50,7 +50,7 @@ pub fn blur(alloc: Global, picture: &ArrayView<'_, u8, Ix2>) -> Result<Vec<u8>, 
     ensures memory { (slice_index picture.now.view.shape 0 - 2)
         * (slice_index picture.now.view.shape 1 - 2) ≡ 0 → IsOk result }
 {
-    let (rows, columns) = picture.view().dim().into_pattern();
+    let (rows, columns) = picture.strided().dim().into_pattern();
     let (rows, columns) = (rows.saturating_sub(2), columns.saturating_sub(2));
     let mut means = Vec::with_capacity(alloc, rows * columns)?;
     for (row, column) in all_indices(alloc, (rows, columns))? {

@@ -23,7 +23,7 @@ pub fn count_bright(
     ensures memory { IsOk result }
 {
     let mut count = 0;
-    for index in all_indices(alloc, picture.view().dim().into_pattern())? {
+    for index in all_indices(alloc, picture.strided().dim().into_pattern())? {
         if picture.get(&index).is_some_and(|pixel| *pixel >= least) {
             count += 1;
         }

@@ -17,7 +17,7 @@ fn swap_rows(alloc: Global, picture: &mut ArrayViewMut<'_, u8, Ix2>) -> Result<(
         (array_of picture.old) (array_of picture.new)) }
     ensures same_reference { picture.new.items.ghost_name ≡ picture.old.items.ghost_name }
 {
-    let (rows, columns) = picture.view().dim().into_pattern();
+    let (rows, columns) = picture.strided().dim().into_pattern();
     for (row, column) in all_indices(alloc, (rows / 2, columns))? {
         let _ = picture.swap(&(row, column), &(rows - 1 - row, column));
     }

@@ -87,7 +87,7 @@ pub fn paint_owned(
 ) -> Result<(), AllocError>
     ensures { OnOk result (HasItemsOf (λ index. Some pixel) picture.old picture.new) }
 {
-    let view = picture.view().duplicate(alloc)?;
+    let view = picture.strided().duplicate(alloc)?;
     paint_view(view, picture.stored_mut(), pixel);
     Ok(())
 }

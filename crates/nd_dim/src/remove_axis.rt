@@ -7,13 +7,16 @@ use nd_base::{Axis, Ix1, Ix2, Ix3, Ix4, Ix5, Ix6, IxDyn};
 use std::alloc::{AllocError, Global};
 
 /// Writes the lengths without that of the axis `axis`.
+#[inline(always)]
 pub(crate) fn remove_axis_into(lens: &[usize], axis: usize, smaller: &mut [usize])
     requires within { axis < length lens.now }
     requires one_less { length smaller.old + 1 ≡ length lens.now }
     ensures { smaller.new ≡ remove lens.now axis }
 {
-    smaller[..axis].copy_from_slice(&lens[..axis]);
-    smaller[axis..].copy_from_slice(&lens[axis + 1..]);
+    // (where the type fixes the count of axes, a load and a store for each; two copies of a length that isn't known are two calls)
+    for at in 0..smaller.len() {
+        smaller[at] = lens[at + usize::from(at >= axis)];
+    }
 }
 
 /// A dimension type that can have an axis to remove: all but that of no axes. ndarray's

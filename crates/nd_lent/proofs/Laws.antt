@@ -27,6 +27,7 @@ pub mod RowLens
 pub mod MapsTo
 pub mod SlicePlaces
 pub mod StepItems
+pub mod StretchItems
 pub mod SwappedItems
 pub mod TwoParts
 pub mod Written

@@ -1,23 +1,18 @@
--- A part whose places follow one another: each has a mark, and the items there are a slice.
-use Rattle.std.proofs.Common.{◌≡◌, ℕ, zero, suc, ◌+◌, ◌-◌, ◌<◌, ◌≤◌, ℤ, pos, negsuc, Bool, true, false, List, [], ◌∷◌, length, map, take}
-use Rattle.std.proofs.Common.{drop}
-use Rattle.std.proofs.Common.{eqb, get_or, refl, sym, ap, subst, ◌∙◌, arith, inl, inr, Some}
-use Rattle.std.specs.List.{range_with_len}
+-- A part whose places follow one another: each has a mark.
+use Rattle.std.proofs.Common.{◌≡◌, ℕ, zero, suc, ◌+◌, ◌-◌, ◌<◌, ◌≤◌, ℤ, pos, negsuc, Bool, true, false, List, [], ◌∷◌, length}
+use Rattle.std.proofs.Common.{eqb, get_or, refl, sym, ap, subst, ◌∙◌, arith}
 use Rattle.std.specs.Prelude.{IsTrue}
-use Rattle.std.proofs.lemmas.Bool.{cases_eq, cond-false, false≢true, ne_eqb}
-use Rattle.std.proofs.lemmas.Simd.{map-map}
+use Rattle.std.proofs.lemmas.Bool.{cond-false, false≢true, ne_eqb}
 use Rattle.ndarray_layout.specs.declared.Order.TheVariants.{RowMajor}
 use Rattle.ndarray_layout.specs.Bounds.{IsInBounds}
 use Rattle.ndarray_layout.specs.FlatIndex.{index_of_flat_in}
 use Rattle.ndarray_layout.specs.Size.{size}
 use Rattle.ndarray_layout.specs.Stretch.{IsStretch, stretch_start}
-use Rattle.ndarray_layout.specs.View.{View, LiesWithin, place_at, view_places}
+use Rattle.ndarray_layout.specs.View.{View, LiesWithin, place_at}
 use Rattle.ndarray_layout.proofs.Laws.FlatIndex.{flat_index_in-index_of_flat_in, is_index-index_of_flat_in}
 use Rattle.ndarray_layout.proofs.Laws.Stretch.{place_in_stretch, stretch_in_bounds}
 use Rattle.nd_lent.specs.Cells.{are_within, span_of}
-use Rattle.nd_lent.specs.Items.{item_at_place}
 use Rattle.nd_lent.specs.Part.{has_mark, IsPart}
-use Rattle.nd_lent.proofs.Laws.Neighbours.{got_between}
 
 -- a place that has a mark is one of those that may have one
 pub mark_in_bounds : (marks : List Bool) (place : ℕ) → get_or marks place false ≡ true → place < length marks
@@ -70,25 +65,3 @@ module _ (marks : List Bool) (view : View) (part : IsPart marks view) (stretch :
             subst (λ (place : ℕ). get_or marks place false ≡ true) here (marked k below))),
         omega (arith, fits),
       )
-
-  -- where there is no index the numbers may begin anywhere
-  places : view_places RowMajor view ≡ map pos (range_with_len (stretch_start view) (size view.shape))
-  places = elim (cases_eq (size view.shape) 0) [
-    | inl none ↦ stretch ∙ subst (λ (n : ℕ). map pos (range_with_len view.start n) ≡ map pos (range_with_len (stretch_start view) n))
-        (sym none) refl
-    | inr some ↦
-        let first : stretch_start view ≡ view.start =
-        cond-false {A = ℕ} (eqb (size view.shape) 0) 0 view.start (ne_eqb (size view.shape) 0 some) in
-        stretch ∙ ap (λ (at : ℕ). map pos (range_with_len at (size view.shape))) (sym first)
-  ]
-
-  pub items_of_part : {X : Type 0} (items : List X) (start end : ℕ) → start ≡ stretch_start view
-      → end ≡ stretch_start view + size view.shape → start + (end - start) ≤ length items
-      → map Some (take (end - start) (drop start items)) ≡ map (item_at_place items) (view_places RowMajor view)
-  items_of_part items start end from to below =
-      let many : end - start ≡ size view.shape = omega arith in
-      ap (λ (at : ℕ). map Some (take (end - start) (drop at items))) from
-      ∙ ap (λ (n : ℕ). map Some (take n (drop (stretch_start view) items))) many
-      ∙ sym (ap (map (item_at_place items)) places
-      ∙ map-map (item_at_place items) pos (range_with_len (stretch_start view) (size view.shape))
-      ∙ got_between items (stretch_start view) (size view.shape) (omega arith))

@@ -1,11 +1,14 @@
 //! Items that are kept elsewhere, lent as an array.
 ghost use Rattle.std.specs.Option.{IsSome};
-ghost use Rattle.std.specs.Prelude.{◌≡◌, ◌↔◌, IsTrue, IfOk, IsOk, length, option_copied};
+ghost use Rattle.std.specs.Prelude.{◌≡◌, ◌↔◌, IsTrue, IfOk, IfSome, IsOk, Some, length, map, option_copied};
+ghost use Rattle.ndarray_layout.specs.declared.Order.TheVariants.{RowMajor};
 ghost use Rattle.ndarray_layout.specs.Indices.{is_index};
 ghost use Rattle.ndarray_layout.specs.Memory.{NeedsNoMemory};
 ghost use Rattle.ndarray_layout.specs.Size.{size};
+ghost use Rattle.ndarray_layout.specs.Stretch.{IsStretch};
+ghost use Rattle.ndarray_layout.specs.View.{view_places};
 ghost use Rattle.nd_lent.specs.ArrayView.{HasItems};
-ghost use Rattle.nd_lent.specs.Items.{item_at};
+ghost use Rattle.nd_lent.specs.Items.{item_at, item_at_place};
 
 mod comparing;
 mod extremes;
@@ -24,7 +27,7 @@ mod view_iter;
 
 pub use into_rows::IntoRows;
 pub use iterating::Iter;
-use ndarray_layout::{Lengths, NdIndex, Strided};
+use ndarray_layout::{Lengths, NdIndex, Order, Strided};
 pub(crate) use rest_of_items::RestOfItems;
 pub use row_items::RowItems;
 pub(crate) use rows::{is_contiguous, place_in_row};
@@ -60,9 +63,9 @@ impl<'a, T, D: Lengths> Model for ArrayView<'a, T, D> {
 impl<'a, T, D: Lengths> ArrayView<'a, T, D> {
     /// The view: the shape, the strides and the place of the first index. Each place of it has an item.
     ///
-    /// `a.view()` is `[2]`, `[-1]` from 1. The project's own.
+    /// `a.strided()` is `[2]`, `[-1]` from 1. The project's own.
     #[inline]
-    pub fn view(&self) -> &Strided<D>
+    pub fn strided(&self) -> &Strided<D>
         ensures view { result.now ≡ self.now.view }
         ensures has_items { HasItems (length self.now.items) self.now.view }
     {
@@ -102,6 +105,22 @@ impl<'a, T, D: Lengths> ArrayView<'a, T, D> {
         ensures has_items { HasItems (length self.now.items) self.now.view }
     {
         self.items
+    }
+
+    /// The items as a slice, where their places follow one another in row-major order; else `None`.
+    ///
+    /// Takes no memory, and time in proportion to the count of axes.
+    ///
+    /// `[2]`, `[1]` from 1 over 7 8 9: 8 9; `a.as_slice()` is `None`. ndarray's `as_slice` and `to_slice`.
+    #[inline]
+    pub fn as_slice(&self) -> Option<&'a [T]>
+        ensures found { IsSome result ↔ IsStretch RowMajor self.now.view }
+        ensures items { IfSome result (λ slice. map Some slice.now ≡
+            map (item_at_place self.now.items) (view_places RowMajor self.now.view)) }
+    {
+        let places = self.view.stretch(Order::RowMajor)?;
+        let items = self.items;
+        Some(&items[places.start..places.end])
     }
 
     /// The item of an index; `None` where it is no index of the shape.

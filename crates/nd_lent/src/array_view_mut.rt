@@ -1,10 +1,13 @@
 //! Items that are kept elsewhere, lent as an array to be written.
 ghost use Rattle.std.specs.Option.{IsSome};
-ghost use Rattle.std.specs.Prelude.{◌≡◌, ◌↔◌, ◌&&◌, IsTrue, IfErr, IfOk, IsOk, Some, length, option_copied};
+ghost use Rattle.std.specs.Prelude.{◌≡◌, ◌↔◌, ◌&&◌, IsTrue, IfErr, IfOk, IfSome, IsOk, Some, length, map, option_copied};
+ghost use Rattle.ndarray_layout.specs.declared.Order.TheVariants.{RowMajor};
 ghost use Rattle.ndarray_layout.specs.Indices.{is_index};
 ghost use Rattle.ndarray_layout.specs.Memory.{NeedsNoMemory};
 ghost use Rattle.ndarray_layout.specs.Size.{size};
-ghost use Rattle.nd_lent.specs.Items.{IsOwned, IsOwned-prop};
+ghost use Rattle.ndarray_layout.specs.Stretch.{IsStretch};
+ghost use Rattle.ndarray_layout.specs.View.{view_places};
+ghost use Rattle.nd_lent.specs.Items.{IsOwned, IsOwned-prop, item_at_place};
 
 mod axes;
 mod making;
@@ -15,7 +18,7 @@ mod steps;
 mod writing;
 
 use crate::array_view::ArrayView;
-use ndarray_layout::{Lengths, NdIndex, Strided};
+use ndarray_layout::{Lengths, NdIndex, Order, Strided};
 pub use splitting::SplitViews;
 use std::alloc::{AllocError, Global};
 use std::mem::replace;
@@ -47,9 +50,9 @@ impl<'a, T: Drop, D: Lengths> ArrayViewMut<'a, T, D> {
     /// The view: the shape, the strides and the place of the first index. Each place of it has an item, and no two indices
     /// alias.
     ///
-    /// `a.view()` is `[2]`, `[-1]` from 1. The project's own.
+    /// `a.strided()` is `[2]`, `[-1]` from 1. The project's own.
     #[inline]
-    pub fn view(&self) -> &Strided<D>
+    pub fn strided(&self) -> &Strided<D>
         ensures view { result.now ≡ (array_of self.now).view }
         ensures owned { IsOwned (length (array_of self.now).items) (array_of self.now).view }
     {
@@ -89,6 +92,23 @@ impl<'a, T: Drop, D: Lengths> ArrayViewMut<'a, T, D> {
         ensures owned { IsOwned (length (array_of self.now).items) (array_of self.now).view }
     {
         &*self.items
+    }
+
+    /// The items as a slice, to be read, where their places follow one another in row-major order; else `None`.
+    ///
+    /// Takes no memory, and time in proportion to the count of axes.
+    ///
+    /// `[2]`, `[1]` from 1 over 7 8 9: 8 9; `a.as_slice()` is `None`. ndarray's `as_slice`.
+    #[inline]
+    pub fn as_slice(&self) -> Option<&[T]>
+        ensures found { IsSome result ↔ IsStretch RowMajor (array_of self.now).view }
+        ensures items { IfSome result (λ slice. map Some slice.now ≡
+            map (item_at_place (array_of self.now).items)
+            (view_places RowMajor (array_of self.now).view)) }
+    {
+        let places = self.view.stretch(Order::RowMajor)?;
+        let items = self.stored();
+        Some(&items[places.start..places.end])
     }
 
     /// The item of an index; `None` where it is no index of the shape.
@@ -180,7 +200,7 @@ impl<'a, T: Drop, D: Lengths> ArrayViewMut<'a, T, D> {
     /// Out of memory; never where the type fixes the count of axes or there are at most 4.
     ///
     /// ndarray's `view`.
-    pub fn as_view(&self, alloc: Global) -> Result<ArrayView<'_, T, D>, AllocError>
+    pub fn try_view(&self, alloc: Global) -> Result<ArrayView<'_, T, D>, AllocError>
         ensures array { IfOk result (λ a. a ≡ array_of self.now) }
         ensures memory { NeedsNoMemory D.NDIM (length (array_of self.now).view.shape) →
             IsOk result }

@@ -74,7 +74,7 @@ impl<'a, T: Drop, D: Lengths> PartMut<'a, T, D> {
     }
 
     /// The view, by which each index of the part has its place among all items. The project's own.
-    pub fn view(&self) -> &Strided<D>
+    pub fn strided(&self) -> &Strided<D>
         ensures { result.now ≡ (array_of self.now).view }
     {
         &self.view

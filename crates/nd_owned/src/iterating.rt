@@ -74,7 +74,7 @@ impl<T: Copy, D: Lengths> OwnedArray<T, D> {
         ensures owned { IsOwned (length self.now.items) self.now.view }
     {
         Items {
-            lent: Iter::new(self.stored(), self.view().iter_places(Order::RowMajor)),
+            lent: Iter::new(self.stored(), self.strided().iter_places(Order::RowMajor)),
         }
     }
 }

@@ -2,7 +2,7 @@
 ghost use Rattle.std.specs.Borrow.{Array, Lends, sem};
 ghost use Rattle.std.specs.List.{All};
 ghost use Rattle.std.specs.Option.{IsSome};
-ghost use Rattle.std.specs.Prelude.{◌≡◌, ◌↔◌, ◌∷◌, [], IsTrue, Some, None, IfOk, IsOk, OnErr, OnOk, length, map, slice_get};
+ghost use Rattle.std.specs.Prelude.{◌≡◌, ◌↔◌, ◌∷◌, [], IsTrue, Some, None, IfOk, IfSome, IsOk, OnErr, OnOk, length, map, slice_get};
 ghost use Rattle.ndarray_layout.specs.declared.Fit.TheVariants.{Strict};
 ghost use Rattle.ndarray_layout.specs.declared.Order.TheVariants.{RowMajor};
 ghost use Rattle.ndarray_layout.specs.SliceFault.{argument_fault};
@@ -11,6 +11,7 @@ ghost use Rattle.ndarray_layout.specs.Memory.{NeedsNoMemory};
 ghost use Rattle.ndarray_layout.specs.ShapeFault.{shape_fault};
 ghost use Rattle.ndarray_layout.specs.Size.{size};
 ghost use Rattle.ndarray_layout.specs.SlicedView.{slice_of};
+ghost use Rattle.ndarray_layout.specs.Stretch.{IsStretch};
 ghost use Rattle.ndarray_layout.specs.View.{view_places};
 ghost use Rattle.nd_owned.specs.Owned.{IsOfNone, with_items};
 ghost use Rattle.nd_lent.specs.Items.{IsOwned, item_at, item_at_place, with_item};
@@ -23,7 +24,7 @@ mod mapping;
 use crate::multi_set::{check_apart, check_counts, picked_by_write, picked_views, write_all};
 use crate::picked_view::PickedView;
 use nd_lent::{ArrayView, ArrayViewMut};
-use ndarray_layout::{LayoutError, Lengths, NdIndex, SliceElems, SliceInfoElem, Strided};
+use ndarray_layout::{LayoutError, Lengths, NdIndex, Order, SliceElems, SliceInfoElem, Strided};
 use std::alloc::{AllocError, Global};
 use std::marker::Model;
 
@@ -56,9 +57,9 @@ impl<T: Drop, D: Lengths> OwnedArray<T, D> {
     /// The view: the shape, the strides and the place of the first index. Each place of it has an item, and no two indices
     /// alias.
     ///
-    /// `a.view()` is `[2]`, `[-1]` from 1. ndarray's `view` lends the items as well.
+    /// `a.strided()` is `[2]`, `[-1]` from 1. The project's own.
     #[inline]
-    pub fn view(&self) -> &Strided<D>
+    pub fn strided(&self) -> &Strided<D>
         ensures view { result.now ≡ self.now.view }
         ensures owned { IsOwned (length self.now.items) self.now.view }
     {
@@ -98,6 +99,22 @@ impl<T: Drop, D: Lengths> OwnedArray<T, D> {
         ensures owned { IsOwned (length self.now.items) self.now.view }
     {
         self.items.as_slice()
+    }
+
+    /// The items as a slice, to be read, where their places follow one another in row-major order; else `None`.
+    ///
+    /// Takes no memory, and time in proportion to the count of axes.
+    ///
+    /// `[2]` of 7 8 9: 7 8; `a.as_slice()` is `None`. ndarray's `as_slice`.
+    #[inline]
+    pub fn as_slice(&self) -> Option<&[T]>
+        ensures found { IsSome result ↔ IsStretch RowMajor self.now.view }
+        ensures items { IfSome result (λ slice. map Some slice.now ≡
+            map (item_at_place self.now.items) (view_places RowMajor self.now.view)) }
+    {
+        let places = self.view.stretch(Order::RowMajor)?;
+        let items = self.stored();
+        Some(&items[places.start..places.end])
     }
 
     /// All items as they are stored, spare ones too, to be written. Their count and the view are unchanged.
@@ -164,7 +181,7 @@ impl<T: Drop, D: Lengths> OwnedArray<T, D> {
     /// Out of memory; never where the type fixes the count of axes or there are at most 4.
     ///
     /// `(0)` of it is 8, as of `a`. ndarray's `view`.
-    pub fn as_view(&self, alloc: Global) -> Result<ArrayView<'_, T, D>, AllocError>
+    pub fn try_view(&self, alloc: Global) -> Result<ArrayView<'_, T, D>, AllocError>
         ensures array { IfOk result (λ a. a ≡ self.now) }
         ensures memory { NeedsNoMemory D.NDIM (length self.now.view.shape) → IsOk result }
     {
@@ -182,7 +199,7 @@ impl<T: Drop, D: Lengths> OwnedArray<T, D> {
     /// duplicate and `stored_mut` to a function that makes the lent array of the two, by `ArrayViewMut::new`.
     ///
     /// 5 at (1) of that of `a` makes it 5 8 9. ndarray's `view_mut`.
-    pub fn as_view_mut(&mut self, alloc: Global) -> Result<ArrayViewMut<'_, T, D>, AllocError>
+    pub fn try_view_mut(&mut self, alloc: Global) -> Result<ArrayViewMut<'_, T, D>, AllocError>
         ensures array { IfOk result (λ a. array_of a ≡ self.old) }
         ensures memory { NeedsNoMemory D.NDIM (length self.old.view.shape) → IsOk result }
     {

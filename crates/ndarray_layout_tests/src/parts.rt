@@ -69,7 +69,7 @@ fn written<D: Lengths>(
     slices: &[Vec<SliceInfoElem>],
     placed: &[Placed],
 ) -> Result<bool, LayoutError> {
-    let lent = array.as_view_mut(alloc)?;
+    let lent = array.try_view_mut(alloc)?;
     Ok(are_placed(lent.multi_slice_mut(alloc, slices)?, placed))
 }
 
@@ -96,7 +96,7 @@ fn halves_written<D: Lengths>(
     (first, item): (&D, usize),
     (second, another): (&D, usize),
 ) -> Result<bool, LayoutError> {
-    let lent = array.as_view_mut(alloc)?;
+    let lent = array.try_view_mut(alloc)?;
     let (mut one, mut other) = lent.into_part().split_at(alloc, Axis(axis), coordinate)?;
     let is_set = one.set(first, item);
     Ok(other.set(second, another) && is_set)

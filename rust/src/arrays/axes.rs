@@ -1,7 +1,7 @@
 //! The arrays along an axis, and the rows and columns of a matrix.
 
-use super::AxisIter;
 use super::axis_iter::made_of_first_axis;
+use super::{AxisIter, check_axis};
 use crate::memory::FallibleVec;
 use crate::nd_base::{Axis, Ix1, Ix2, LayoutError, Lengths, new_ix1};
 use crate::nd_dim::product;
@@ -52,8 +52,9 @@ macro_rules! axes {
             /// assert_eq!(firsts, [&1, &2, &3]);
             /// # Ok::<(), LayoutError>(())
             /// ```
-            pub fn axis_iter(&self, axis: Axis) -> Result<AxisIter<$lent, T, D::Smaller>, LayoutError> {
-                AxisIter::new(self.stored(), self.view(), axis)
+            pub fn axis_iter(&self, axis: Axis) -> Result<AxisIter<$lent, T, D>, LayoutError> {
+                check_axis(self.shape(), axis)?;
+                Ok(AxisIter::new(ArrayView::new(self.strided().duplicate()?, self.stored()), axis))
             }
 
             /// An iterator over the arrays at the coordinates of the first axis. ndarray's `outer_iter`. Not proved.
@@ -72,7 +73,7 @@ macro_rules! axes {
             /// ```
             #[track_caller]
             #[must_use]
-            pub fn outer_iter(&self) -> AxisIter<$lent, T, D::Smaller> {
+            pub fn outer_iter(&self) -> AxisIter<$lent, T, D> {
                 made_of_first_axis(self.axis_iter(Axis(0)))
             }
         }
@@ -119,7 +120,7 @@ macro_rules! axes {
             /// ```
             #[inline]
             pub fn row(&self, index: usize) -> Result<ArrayView<$lent, T, Ix1>, LayoutError> {
-                self.borrowed().index_axis(Axis(0), index)
+                self.view().index_axis(Axis(0), index)
             }
 
             /// The column of a number. ndarray's `column`. Not proved.
@@ -138,7 +139,7 @@ macro_rules! axes {
             /// ```
             #[inline]
             pub fn column(&self, index: usize) -> Result<ArrayView<$lent, T, Ix1>, LayoutError> {
-                self.borrowed().index_axis(Axis(1), index)
+                self.view().index_axis(Axis(1), index)
             }
 
             /// An iterator over the columns. ndarray's `columns`. Not proved.
@@ -180,6 +181,6 @@ impl<T, D: RemoveAxis> OwnedArray<T, D> {
     /// # Ok::<(), LayoutError>(())
     /// ```
     pub fn index_axis(&self, axis: Axis, index: usize) -> Result<ArrayView<'_, T, D::Smaller>, LayoutError> {
-        Ok(ArrayView { items: self.stored(), view: self.view().index_axis(axis, index)? })
+        Ok(ArrayView { items: self.stored(), view: self.strided().index_axis(axis, index)? })
     }
 }

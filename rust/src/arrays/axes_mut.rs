@@ -1,7 +1,7 @@
 //! The arrays along an axis, and the rows and columns of a matrix, to be written.
 
-use super::AxisIterMut;
 use super::axes::line_of;
+use super::{AxisIterMut, check_axis};
 use crate::nd_base::{Axis, Ix1, Ix2, LayoutError};
 use crate::ndarray_layout::RemoveAxis;
 use crate::{ArrayViewMut, OwnedArray};
@@ -31,40 +31,39 @@ macro_rules! axes_mut {
                 axis: Axis,
                 index: usize,
             ) -> Result<ArrayViewMut<'_, T, D::Smaller>, LayoutError> {
-                let view = self.view().index_axis(axis, index)?;
+                let view = self.strided().index_axis(axis, index)?;
                 Ok(ArrayViewMut::new(view, self.stored_mut()))
             }
 
-            /// An iterator over the arrays at the coordinates of an axis, without the axis, each lent to be written. ndarray's
-            /// `axis_iter_mut`. Not proved.
+            /// An iterator over the arrays at the coordinates of an axis, without the axis, from both ends, each lent to be written,
+            /// whatever the strides are: several may be used at once, and in threads. ndarray's `axis_iter_mut`. Not proved.
             ///
             /// # Errors
             ///
-            /// `OutOfBounds` where there is no such axis; out of memory, never for at most 4 axes; `IncompatibleLayout` where the
-            /// places at two coordinates interleave, as those of the columns of a matrix do.
+            /// `OutOfBounds` where there is no such axis; then out of memory, never for at most 4 axes.
             ///
             /// ```
             /// use ndarray_layout::*;
             ///
             #[doc = $setup]
-            /// assert!(array.axis_iter_mut(Axis(1)).is_err());
-            /// for mut row in array.axis_iter_mut(Axis(0))?.rev() {
-            ///     row[0] = 0;
+            /// for (mut column, number) in array.axis_iter_mut(Axis(1))?.rev().zip(7..) {
+            ///     column.fill(number);
             /// }
             #[doc = $end]
-            /// assert_eq!(items, [0, 2, 3, 0, 5, 6]);
+            /// assert_eq!(items, [9, 8, 7, 9, 8, 7]);
             /// # Ok::<(), LayoutError>(())
             /// ```
-            pub fn axis_iter_mut(&mut self, axis: Axis) -> Result<AxisIterMut<'_, T, D::Smaller>, LayoutError> {
-                AxisIterMut::new(self.view_mut(), axis)
+            pub fn axis_iter_mut(&mut self, axis: Axis) -> Result<AxisIterMut<'_, T, D>, LayoutError> {
+                check_axis(self.shape(), axis)?;
+                Ok(AxisIterMut::new(self.try_part()?, axis))
             }
 
-            /// An iterator over the arrays at the coordinates of the first axis, each lent to be written. ndarray's
+            /// An iterator over the arrays at the coordinates of the first axis, each lent to be written: `axis_iter_mut`. ndarray's
             /// `outer_iter_mut`. Not proved.
             ///
             /// # Errors
             ///
-            /// `IncompatibleLayout` where the places at two coordinates interleave; out of memory, never for at most 4 axes.
+            /// Out of memory, never for at most 4 axes.
             ///
             /// # Panics
             ///
@@ -82,7 +81,7 @@ macro_rules! axes_mut {
             /// # Ok::<(), LayoutError>(())
             /// ```
             #[track_caller]
-            pub fn outer_iter_mut(&mut self) -> Result<AxisIterMut<'_, T, D::Smaller>, LayoutError> {
+            pub fn outer_iter_mut(&mut self) -> Result<AxisIterMut<'_, T, D>, LayoutError> {
                 assert!(self.ndim() > 0, "an array without axes has no outer arrays");
                 self.axis_iter_mut(Axis(0))
             }
@@ -107,7 +106,7 @@ macro_rules! axes_mut {
             /// ```
             #[inline]
             pub fn row_mut(&mut self, index: usize) -> Result<ArrayViewMut<'_, T, Ix1>, LayoutError> {
-                let view = line_of(self.view(), 0, index)?;
+                let view = line_of(self.strided(), 0, index)?;
                 Ok(ArrayViewMut::new(view, self.stored_mut()))
             }
 
@@ -130,7 +129,7 @@ macro_rules! axes_mut {
             /// ```
             #[inline]
             pub fn column_mut(&mut self, index: usize) -> Result<ArrayViewMut<'_, T, Ix1>, LayoutError> {
-                let view = line_of(self.view(), 1, index)?;
+                let view = line_of(self.strided(), 1, index)?;
                 Ok(ArrayViewMut::new(view, self.stored_mut()))
             }
         }

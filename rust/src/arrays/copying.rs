@@ -52,7 +52,7 @@ macro_rules! copies {
             /// # Ok::<(), LayoutError>(())
             /// ```
             pub fn map<U, F: FnMut(&T) -> U>(&self, f: F) -> Result<OwnedArray<U, D>, AllocError> {
-                array_of(self.view(), made(self.view(), self.stored(), f)?)
+                array_of(self.strided(), made(self.strided(), self.stored(), f)?)
             }
 
             /// Clones of the items in row-major order. ndarray's `to_vec`, for any count of axes. Not proved.
@@ -72,7 +72,7 @@ macro_rules! copies {
             where
                 T: Clone,
             {
-                made(self.view(), self.stored(), T::clone)
+                made(self.strided(), self.stored(), T::clone)
             }
 
             /// An array of clones of the items, in row-major order, without spare ones. ndarray's `to_owned`. Not proved.
@@ -93,7 +93,7 @@ macro_rules! copies {
             where
                 T: Clone,
             {
-                array_of(self.view(), self.to_vec()?)
+                array_of(self.strided(), self.to_vec()?)
             }
         }
     };

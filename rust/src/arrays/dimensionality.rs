@@ -24,7 +24,7 @@ macro_rules! conversions {
             #[must_use]
             pub fn into_dyn(self) -> $array<$($lent)* T, IxDyn> {
                 let $from = self;
-                let $view = $from.view().clone().into_dyn();
+                let $view = $from.strided().clone().into_dyn();
                 $made
             }
 
@@ -46,7 +46,7 @@ macro_rules! conversions {
             /// ```
             pub fn into_dimensionality<E: Lengths>(self) -> Result<$array<$($lent)* T, E>, LayoutError> {
                 let $from = self;
-                let $view = $from.view().clone().into_dimensionality()?;
+                let $view = $from.strided().clone().into_dimensionality()?;
                 Ok($made)
             }
         }

@@ -58,10 +58,10 @@ impl<T> From<Vec<T>> for OwnedArray<T, Ix1> {
     }
 }
 
-/// The array lent, as `borrowed`. Panics where an allocation fails, never for at most 4 axes. Not proved.
+/// The array lent, as `view`. Panics where an allocation fails, never for at most 4 axes. Not proved.
 impl<'a, T, D: Lengths> From<&'a OwnedArray<T, D>> for ArrayView<'a, T, D> {
     fn from(array: &'a OwnedArray<T, D>) -> Self {
-        array.borrowed()
+        array.view()
     }
 }
 

@@ -41,7 +41,7 @@ impl<T, D: Lengths, I: NdIndex<D>> IndexMut<I> for ArrayViewMut<'_, T, D> {
     #[inline]
     #[track_caller]
     fn index_mut(&mut self, index: I) -> &mut T {
-        match self.view().place(&index) {
+        match self.strided().place(&index) {
             Some(place) => &mut self.items[place],
             None => no_such_index(index, self.dim()),
         }

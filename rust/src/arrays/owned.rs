@@ -9,7 +9,7 @@ impl<T, D: Lengths> OwnedArray<T, D> {
     ///
     /// # Panics
     ///
-    /// As `borrowed`.
+    /// As `view`.
     ///
     /// ```
     /// use ndarray_layout::*;
@@ -20,7 +20,7 @@ impl<T, D: Lengths> OwnedArray<T, D> {
     /// ```
     #[must_use]
     pub fn rows(&self) -> IntoRows<'_, T, D> {
-        self.borrowed().into_rows()
+        self.view().into_rows()
     }
 }
 

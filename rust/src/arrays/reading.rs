@@ -1,7 +1,7 @@
 //! What may be read of an array of any number of axes.
 
-use super::{AxisChunksIter, IndexedIter, Odometer};
-use crate::nd_base::{Axis, ErrorKind, LayoutError, Lengths, Order, ShapeError, from_kind};
+use super::{AxisChunksIter, IndexedIter, Odometer, check_chunks};
+use crate::nd_base::{Axis, ErrorKind, LayoutError, Lengths, ShapeError, from_kind};
 use crate::nd_dim::{Dimension, product};
 use crate::nd_shape::offset_from_low_addr_ptr_to_logical_ptr;
 use crate::ndarray_layout::Strided;
@@ -52,8 +52,8 @@ pub(crate) fn first_place<D: Lengths>(view: &Strided<D>) -> Option<usize> {
 macro_rules! reads {
     ([$($head:tt)*] $lent:lifetime $setup:expr) => {
         $($head)* {
-            /// The array lent again: that of the items and the view as they are. ndarray's `view` and `reborrow`; `view` of this
-            /// type is the layout. Not proved.
+            /// The array lent again, to be read: that of the items and the view as they are. ndarray's `view` and `reborrow`.
+            /// Not proved.
             ///
             /// Takes no memory, or for more than 4 axes that of the shape and the strides.
             ///
@@ -65,31 +65,14 @@ macro_rules! reads {
             /// use ndarray_layout::*;
             ///
             #[doc = $setup]
-            /// assert_eq!(array.borrowed().reversed_axes().get(&(2, 1)), Some(&6));
+            /// assert_eq!(array.view().reversed_axes().get(&(2, 1)), Some(&6));
             /// # Ok::<(), LayoutError>(())
             /// ```
-            #[doc(alias = "view")]
             #[doc(alias = "reborrow")]
             #[inline]
             #[must_use]
-            pub fn borrowed(&self) -> ArrayView<$lent, T, D> {
-                ArrayView { items: self.stored(), view: self.view().clone() }
-            }
-
-            /// The items in row-major order, where they lie one after another so; else `None`. Spare items aren't among them.
-            /// ndarray's `as_slice` and `to_slice`. Not proved.
-            ///
-            /// ```
-            /// use ndarray_layout::*;
-            ///
-            #[doc = $setup]
-            /// assert_eq!((array.as_slice(), array.t().as_slice()), (Some(&[1, 2, 3, 4, 5, 6][..]), None));
-            /// # Ok::<(), LayoutError>(())
-            /// ```
-            #[inline]
-            #[must_use]
-            pub fn as_slice(&self) -> Option<&$lent [T]> {
-                self.stored().get(self.view().stretch(Order::RowMajor)?)
+            pub fn view(&self) -> ArrayView<$lent, T, D> {
+                ArrayView { items: self.stored(), view: self.strided().clone() }
             }
 
             /// The items as they are stored, where none that is no index's lies between them; else `None`. ndarray's
@@ -108,7 +91,7 @@ macro_rules! reads {
             where
                 D: Dimension,
             {
-                self.stored().get(block(self.view())?)
+                self.stored().get(block(self.strided())?)
             }
 
             /// The item of the first index; `None` without one. ndarray's `first`. Not proved.
@@ -123,7 +106,7 @@ macro_rules! reads {
             #[inline]
             #[must_use]
             pub fn first(&self) -> Option<&$lent T> {
-                self.stored().get(first_place(self.view())?)
+                self.stored().get(first_place(self.strided())?)
             }
 
             /// The item of the last index; `None` without one. ndarray's `last`. Not proved.
@@ -138,14 +121,14 @@ macro_rules! reads {
             #[inline]
             #[must_use]
             pub fn last(&self) -> Option<&$lent T> {
-                self.stored().get(last_place(self.view())?)
+                self.stored().get(last_place(self.strided())?)
             }
 
             /// The transpose, which reads the same items. ndarray's `t`. Not proved.
             ///
             /// # Panics
             ///
-            /// As `borrowed`.
+            /// As `view`.
             ///
             /// ```
             /// use ndarray_layout::*;
@@ -157,7 +140,7 @@ macro_rules! reads {
             #[inline]
             #[must_use]
             pub fn t(&self) -> ArrayView<$lent, T, D> {
-                self.borrowed().reversed_axes()
+                self.view().reversed_axes()
             }
 
             /// An iterator over the rows along an axis, in row-major order of the other coordinates. ndarray's `lanes`.
@@ -169,7 +152,7 @@ macro_rules! reads {
             ///
             /// # Panics
             ///
-            /// As `borrowed`.
+            /// As `view`.
             ///
             /// ```
             /// use ndarray_layout::*;
@@ -180,7 +163,7 @@ macro_rules! reads {
             /// # Ok::<(), LayoutError>(())
             /// ```
             pub fn lanes(&self, axis: Axis) -> Result<IntoRows<$lent, T, D>, ShapeError> {
-                let mut array = self.borrowed();
+                let mut array = self.view();
                 array.view = with_last(array.view, axis)?;
                 Ok(array.into_rows())
             }
@@ -194,7 +177,7 @@ macro_rules! reads {
             ///
             /// # Panics
             ///
-            /// As `borrowed`.
+            /// As `view`.
             ///
             /// ```
             /// use ndarray_layout::*;
@@ -205,14 +188,15 @@ macro_rules! reads {
             /// # Ok::<(), LayoutError>(())
             /// ```
             pub fn axis_chunks_iter(&self, axis: Axis, size: usize) -> Result<AxisChunksIter<$lent, T, D>, LayoutError> {
-                AxisChunksIter::new(self.stored(), self.view().clone(), axis, size)
+                check_chunks(self.shape(), axis, size)?;
+                Ok(AxisChunksIter::new(self.view(), axis, size))
             }
 
             /// An iterator over the items with their indices, in row-major order. ndarray's `indexed_iter`. Not proved.
             ///
             /// # Panics
             ///
-            /// As `borrowed`.
+            /// As `view`.
             ///
             /// ```
             /// use ndarray_layout::*;
@@ -225,7 +209,7 @@ macro_rules! reads {
             where
                 D: Dimension,
             {
-                IndexedIter::new(Odometer::new(self.view()), self.borrowed().into_iter())
+                IndexedIter::new(Odometer::new(self.strided()), self.view().into_iter())
             }
         }
     };
@@ -247,7 +231,7 @@ impl<'a, T, D: Lengths> IntoIterator for &ArrayView<'a, T, D> {
 
     #[inline]
     fn into_iter(self) -> ViewIter<'a, T, D> {
-        self.borrowed().into_iter()
+        self.view().into_iter()
     }
 }
 
@@ -259,6 +243,6 @@ impl<'a, T, D: Lengths> IntoIterator for &'a ArrayViewMut<'_, T, D> {
 
     #[inline]
     fn into_iter(self) -> ViewIter<'a, T, D> {
-        self.borrowed().into_iter()
+        self.view().into_iter()
     }
 }

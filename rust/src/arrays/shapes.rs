@@ -76,7 +76,7 @@ macro_rules! shapes {
             #[must_use]
             #[track_caller]
             pub fn stride_of(&self, axis: Axis) -> isize {
-                signed(self.view().strides().slice()[axis.index()])
+                signed(self.strided().strides().slice()[axis.index()])
             }
 
             /// Whether the items lie one after another in row-major order. ndarray's `is_standard_layout`. Not proved.
@@ -92,7 +92,7 @@ macro_rules! shapes {
             #[inline]
             #[must_use]
             pub fn is_standard_layout(&self) -> bool {
-                is_layout_c(self.dim(), self.view().strides())
+                is_layout_c(self.dim(), self.strided().strides())
             }
         }
 

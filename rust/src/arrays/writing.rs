@@ -1,9 +1,11 @@
 //! What may be written of an array of any number of axes.
 
 use super::reading::{block, first_place, last_place, with_last};
-use super::{AxisChunksIterMut, IndexedIterMut, IterMut, Odometer, RowsMut};
+use super::{AxisChunksIterMut, IndexedIterMut, IterMut, Odometer, check_chunks};
+use crate::memory::AllocError;
 use crate::nd_base::{Axis, LayoutError, Lengths, Order, ShapeError};
 use crate::nd_dim::Dimension;
+use crate::nd_lent::{PartMut, PartRows};
 use crate::nd_shape::NdIndex;
 use crate::ndarray_layout::Strided;
 use crate::{ArrayView, ArrayViewMut, IntoRows, OwnedArray, ViewIter};
@@ -36,7 +38,7 @@ macro_rules! writes {
             #[inline]
             #[must_use]
             pub fn view_mut(&mut self) -> ArrayViewMut<'_, T, D> {
-                let view = self.view().clone();
+                let view = self.strided().clone();
                 ArrayViewMut::new(view, self.stored_mut())
             }
 
@@ -56,7 +58,7 @@ macro_rules! writes {
             /// ```
             #[inline]
             pub fn get_mut<I: NdIndex<D>>(&mut self, index: &I) -> Option<&mut T> {
-                let place = self.view().place(index)?;
+                let place = self.strided().place(index)?;
                 self.stored_mut().get_mut(place)
             }
 
@@ -75,7 +77,7 @@ macro_rules! writes {
             #[inline]
             #[must_use]
             pub fn as_slice_mut(&mut self) -> Option<&mut [T]> {
-                let places = self.view().stretch(Order::RowMajor)?;
+                let places = self.strided().stretch(Order::RowMajor)?;
                 self.stored_mut().get_mut(places)
             }
 
@@ -97,7 +99,7 @@ macro_rules! writes {
             where
                 D: Dimension,
             {
-                let places = block(self.view())?;
+                let places = block(self.strided())?;
                 self.stored_mut().get_mut(places)
             }
 
@@ -115,7 +117,7 @@ macro_rules! writes {
             #[inline]
             #[must_use]
             pub fn first_mut(&mut self) -> Option<&mut T> {
-                let place = first_place(self.view())?;
+                let place = first_place(self.strided())?;
                 self.stored_mut().get_mut(place)
             }
 
@@ -133,7 +135,7 @@ macro_rules! writes {
             #[inline]
             #[must_use]
             pub fn last_mut(&mut self) -> Option<&mut T> {
-                let place = last_place(self.view())?;
+                let place = last_place(self.strided())?;
                 self.stored_mut().get_mut(place)
             }
 
@@ -181,62 +183,12 @@ macro_rules! writes {
             where
                 D: Dimension,
             {
-                IndexedIterMut::new(Odometer::new(self.view()), self.iter_mut())
+                IndexedIterMut::new(Odometer::new(self.strided()), self.iter_mut())
             }
 
-            /// An iterator over the rows along the last axis, in row-major order, each lent to be written. ndarray's `rows_mut`.
-            /// Not proved.
-            ///
-            /// Takes memory for each row where rows don't lie one above another in their order.
-            ///
-            /// # Errors
-            ///
-            /// `IncompatibleLayout` where the places of two rows interleave, as the columns of a matrix do; out of memory.
-            ///
-            /// ```
-            /// use ndarray_layout::*;
-            ///
-            #[doc = $setup]
-            /// for mut row in array.rows_mut()? {
-            ///     row.swap(&0, &2);
-            /// }
-            /// assert!(array.view_mut().reversed_axes().rows_mut().is_err());
-            #[doc = $end]
-            /// assert_eq!(items, [3, 2, 1, 6, 5, 4]);
-            /// # Ok::<(), LayoutError>(())
-            /// ```
-            pub fn rows_mut(&mut self) -> Result<RowsMut<'_, T, D>, LayoutError> {
-                RowsMut::new(self.view_mut())
-            }
-
-            /// An iterator over the rows along an axis, in row-major order of the other coordinates, each lent to be written.
-            /// ndarray's `lanes_mut`. Not proved.
-            ///
-            /// # Errors
-            ///
-            /// `OutOfBounds` where there is no such axis; then those of `rows_mut`.
-            ///
-            /// ```
-            /// use ndarray_layout::*;
-            ///
-            #[doc = $setup]
-            /// array.lanes_mut(Axis(1))?.for_each(|mut row| row.fill(7));
-            #[doc = $end]
-            /// assert_eq!(items, [7; 6]);
-            /// # Ok::<(), LayoutError>(())
-            /// ```
-            pub fn lanes_mut(&mut self, axis: Axis) -> Result<RowsMut<'_, T, D>, LayoutError> {
-                let view = with_last(self.view().clone(), axis)?;
-                RowsMut::new(ArrayViewMut::new(view, self.stored_mut()))
-            }
-
-            /// An iterator over chunks of so many coordinates of an axis, each lent to be written; the last may have fewer. A thread
-            /// of its own may write each. ndarray's `axis_chunks_iter_mut`. Not proved.
-            ///
-            /// # Errors
-            ///
-            /// `OutOfBounds` where there is no such axis; `Unsupported` for a size of 0; `IncompatibleLayout` where the places of two
-            /// chunks interleave, as those of some columns of a matrix do.
+            /// An iterator over the rows along the last axis, in row-major order, from both ends, each lent to be written, whatever
+            /// the strides are: several may be used at once, and in threads. It is `into_row_parts` of `into_part`, which are proved.
+            /// ndarray's `rows_mut`. Not proved.
             ///
             /// # Panics
             ///
@@ -246,11 +198,60 @@ macro_rules! writes {
             /// use ndarray_layout::*;
             ///
             #[doc = $setup]
-            /// for (mut rows, number) in array.axis_chunks_iter_mut(Axis(0), 1)?.zip(7..) {
-            ///     rows.fill(number);
+            /// for mut row in array.rows_mut() {
+            ///     row.swap(&0, &2);
             /// }
             #[doc = $end]
-            /// assert_eq!(items, [7, 7, 7, 8, 8, 8]);
+            /// assert_eq!(items, [3, 2, 1, 6, 5, 4]);
+            /// # Ok::<(), LayoutError>(())
+            /// ```
+            pub fn rows_mut(&mut self) -> PartRows<'_, T, D> {
+                self.view_mut().into_part().into_row_parts()
+            }
+
+            /// An iterator over the rows along an axis, in row-major order of the other coordinates, as `rows_mut`. ndarray's
+            /// `lanes_mut`. Not proved.
+            ///
+            /// # Errors
+            ///
+            /// `OutOfBounds` where there is no such axis.
+            ///
+            /// # Panics
+            ///
+            /// As `view_mut`.
+            ///
+            /// ```
+            /// use ndarray_layout::*;
+            ///
+            #[doc = $setup]
+            /// array.lanes_mut(Axis(0))?.zip(7..).for_each(|(mut column, number)| column.fill(number));
+            #[doc = $end]
+            /// assert_eq!(items, [7, 8, 9, 7, 8, 9]);
+            /// # Ok::<(), LayoutError>(())
+            /// ```
+            pub fn lanes_mut(&mut self, axis: Axis) -> Result<PartRows<'_, T, D>, ShapeError> {
+                let view = with_last(self.strided().clone(), axis)?;
+                Ok(PartMut::new(view, self.stored_mut()).into_row_parts())
+            }
+
+            /// An iterator over chunks of so many coordinates of an axis, from both ends, each lent to be written, whatever the
+            /// strides are; the last may have fewer. Several may be used at once, and in threads. ndarray's `axis_chunks_iter_mut`.
+            /// Not proved.
+            ///
+            /// # Errors
+            ///
+            /// `OutOfBounds` where there is no such axis; `Unsupported` for a size of 0; then out of memory, never for at most 4
+            /// axes.
+            ///
+            /// ```
+            /// use ndarray_layout::*;
+            ///
+            #[doc = $setup]
+            /// for (mut columns, number) in array.axis_chunks_iter_mut(Axis(1), 2)?.zip(7..) {
+            ///     columns.fill(number);
+            /// }
+            #[doc = $end]
+            /// assert_eq!(items, [7, 7, 8, 7, 7, 8]);
             /// # Ok::<(), LayoutError>(())
             /// ```
             pub fn axis_chunks_iter_mut(
@@ -258,7 +259,14 @@ macro_rules! writes {
                 axis: Axis,
                 size: usize,
             ) -> Result<AxisChunksIterMut<'_, T, D>, LayoutError> {
-                AxisChunksIterMut::new(self.view_mut(), axis, size)
+                check_chunks(self.shape(), axis, size)?;
+                Ok(AxisChunksIterMut::new(self.try_part()?, axis, size))
+            }
+
+            /// The part of all indices. Errors: out of memory, never for at most 4 axes.
+            pub(crate) fn try_part(&mut self) -> Result<PartMut<'_, T, D>, AllocError> {
+                let (view, items) = self.parts_mut();
+                Ok(PartMut::new(view.duplicate()?, items))
             }
 
             /// Calls a closure at each item and at that of another array of the same shape, in the order in which the items
@@ -287,7 +295,7 @@ macro_rules! writes {
                 F: FnMut(&mut T, &U),
             {
                 let (view, items) = self.parts_mut();
-                super::pairs::zip_mut((view, items), (other.view(), other.stored()), f)
+                super::pairs::zip_mut((view, items), (other.strided(), other.stored()), f)
             }
         }
     };
@@ -348,7 +356,7 @@ impl<'a, T, D: Lengths> ArrayViewMut<'a, T, D> {
     /// ```
     #[must_use]
     pub fn into_slice(self) -> Option<&'a mut [T]> {
-        let places = self.view().stretch(Order::RowMajor)?;
+        let places = self.strided().stretch(Order::RowMajor)?;
         self.items.get_mut(places)
     }
 
@@ -356,7 +364,7 @@ impl<'a, T, D: Lengths> ArrayViewMut<'a, T, D> {
     ///
     /// # Panics
     ///
-    /// As `borrowed`.
+    /// As `view`.
     ///
     /// ```
     /// use ndarray_layout::*;
@@ -368,14 +376,14 @@ impl<'a, T, D: Lengths> ArrayViewMut<'a, T, D> {
     /// ```
     #[must_use]
     pub fn iter(&self) -> ViewIter<'_, T, D> {
-        self.borrowed().into_iter()
+        self.view().into_iter()
     }
 
     /// An iterator over the rows along the last axis, in row-major order, to be read. ndarray's `rows`. Not proved.
     ///
     /// # Panics
     ///
-    /// As `borrowed`.
+    /// As `view`.
     ///
     /// ```
     /// use ndarray_layout::*;
@@ -387,7 +395,7 @@ impl<'a, T, D: Lengths> ArrayViewMut<'a, T, D> {
     /// ```
     #[must_use]
     pub fn rows(&self) -> IntoRows<'_, T, D> {
-        self.borrowed().into_rows()
+        self.view().into_rows()
     }
 }
 

@@ -84,7 +84,7 @@ impl<T, D: crate::Dimension> NdProducer for ArrayView<'_, T, D> {
     }
 
     fn layout(&self) -> Layout {
-        self.view().layout()
+        self.strided().layout()
     }
 }
 
@@ -97,7 +97,7 @@ impl<T, D: crate::Dimension> NdProducer for ArrayViewMut<'_, T, D> {
     }
 
     fn layout(&self) -> Layout {
-        self.view().layout()
+        self.strided().layout()
     }
 }
 
@@ -110,7 +110,7 @@ impl<T, D: crate::Dimension> NdProducer for OwnedArray<T, D> {
     }
 
     fn layout(&self) -> Layout {
-        self.view().layout()
+        self.strided().layout()
     }
 }
 

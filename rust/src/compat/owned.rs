@@ -51,7 +51,7 @@ pub trait ArrayExt<A, D: Dimension>: Sized {
     /// use ndarray_layout::compat::{Array2, ArrayExt, Ix2, ShapeBuilder};
     ///
     /// let array = Array2::<f64>::zeros((4, 5).f());
-    /// assert_eq!((array.view().strides(), array.stored().len()), (&Ix2(1, 4), 20));
+    /// assert_eq!((array.strided().strides(), array.stored().len()), (&Ix2(1, 4), 20));
     /// ```
     fn zeros<Sh: ShapeBuilder<Dim = D>>(shape: Sh) -> Self
     where
@@ -91,7 +91,7 @@ impl<A, D: crate::Dimension> ArrayExt<A, D> for OwnedArray<A, D> {
 
     #[track_caller]
     fn slice<I: SliceArg<D>>(&self, info: I) -> ArrayView<'_, A, I::OutDim> {
-        let view = fitting(of_shapes(self.view().slice(&info, Fit::Strict)));
+        let view = fitting(of_shapes(self.strided().slice(&info, Fit::Strict)));
         fitting(ArrayView::over(view, self.stored()))
     }
 }

@@ -54,7 +54,7 @@ impl<'a, T, D: Lengths> ArrayViewMut<'a, T, D> {
     /// ```
     #[inline]
     pub fn sliced<I: SliceArg<D>>(&self, slices: I) -> Result<ArrayView<'_, T, I::OutDim>, LayoutError> {
-        Ok(ArrayView::new(self.view().slice(&slices, Fit::Strict)?, self.stored()))
+        Ok(ArrayView::new(self.strided().slice(&slices, Fit::Strict)?, self.stored()))
     }
 
     /// The items that a slice argument leaves, to be written, after which this array may be used again: `Strided::sliced`, with
@@ -132,7 +132,7 @@ impl<T, D: Lengths> OwnedArray<T, D> {
     /// ```
     #[inline]
     pub fn sliced<I: SliceArg<D>>(&self, slices: I) -> Result<ArrayView<'_, T, I::OutDim>, LayoutError> {
-        Ok(ArrayView::new(self.view().slice(&slices, Fit::Strict)?, self.stored()))
+        Ok(ArrayView::new(self.strided().slice(&slices, Fit::Strict)?, self.stored()))
     }
 
     /// The items that a slice argument leaves, to be written: `Strided::sliced`, with its errors. Not proved.

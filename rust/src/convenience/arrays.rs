@@ -66,7 +66,7 @@ impl<T, D: Lengths> OwnedArray<T, D> {
 impl<T: Clone, D: Lengths> Clone for OwnedArray<T, D> {
     fn clone(&self) -> Self {
         let dim = self.dim().duplicate().expect(OUT_OF_MEMORY);
-        let strides = self.view().strides().duplicate().expect(OUT_OF_MEMORY);
+        let strides = self.strided().strides().duplicate().expect(OUT_OF_MEMORY);
         let mut items = Vec::fallible_with_capacity(self.stored().len()).expect(OUT_OF_MEMORY);
         items.extend_from_slice(self.stored());
         array_of(StrideShape { dim, strides: Strides::Custom(strides) }, items)
@@ -152,7 +152,7 @@ impl<T, D: Lengths, I: NdIndex<D>> Index<I> for OwnedArray<T, D> {
     #[inline]
     #[track_caller]
     fn index(&self, index: I) -> &T {
-        match self.view().place(&index) {
+        match self.strided().place(&index) {
             Some(place) => &self.stored()[place],
             None => no_such_index(index, self.dim()),
         }
@@ -168,7 +168,7 @@ impl<T, D: Lengths, I: NdIndex<D>> IndexMut<I> for OwnedArray<T, D> {
     #[inline]
     #[track_caller]
     fn index_mut(&mut self, index: I) -> &mut T {
-        match self.view().place(&index) {
+        match self.strided().place(&index) {
             Some(place) => &mut self.stored_mut()[place],
             None => no_such_index(index, self.dim()),
         }

@@ -36,7 +36,7 @@ macro_rules! compared {
         /// ```
         impl<$($lifetime,)* T: PartialEq<U>, U, D: Lengths> PartialEq<$other> for $one {
             fn eq(&self, other: &$other) -> bool {
-                same_items((self.view(), self.stored()), (other.view(), other.stored()))
+                same_items((self.strided(), self.stored()), (other.strided(), other.stored()))
             }
         }
     )*};
@@ -63,7 +63,7 @@ macro_rules! valued {
         /// Hashes the shape and the items, in row-major order, so that equal arrays have equal hashes. Not proved.
         impl<$($lifetime,)* T: Hash, D: Lengths> Hash for $array {
             fn hash<H: Hasher>(&self, state: &mut H) {
-                hash_of((self.view(), self.stored()), state);
+                hash_of((self.strided(), self.stored()), state);
             }
         }
     )*};

@@ -160,7 +160,7 @@ macro_rules! printed {
         /// ```
         impl<$($lifetime,)* T: fmt::Debug, D: Lengths> fmt::Debug for $array {
             fn fmt(&self, f: &mut fmt::Formatter<'_>) -> fmt::Result {
-                print_array(f, self.view(), self.stored())
+                print_array(f, self.strided(), self.stored())
             }
         }
     )*};

@@ -16,10 +16,12 @@ use crate::nd_dim::dimension::Dimension;
 /// ```
 /// [How to read it](crate::contracts)
 /// </details>
-#[inline]
+#[inline(always)]
 pub(crate) fn remove_axis_into(lens: &[usize], axis: usize, smaller: &mut [usize]) {
-    smaller[..axis].copy_from_slice(&lens[..axis]);
-    smaller[axis..].copy_from_slice(&lens[axis + 1..]);
+    // (where the type fixes the count of axes, a load and a store for each; two copies of a length that isn't known are two calls)
+    for at in 0..smaller.len() {
+        smaller[at] = lens[at + usize::from(at >= axis)];
+    }
 }
 
 /// A dimension type that can have an axis to remove: all but that of no axes. ndarray's

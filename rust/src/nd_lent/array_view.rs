@@ -17,7 +17,7 @@ mod totals;
 mod view_iter;
 
 use crate::memory::AllocError;
-use crate::ndarray_layout::{Lengths, NdIndex, Strided};
+use crate::ndarray_layout::{Lengths, NdIndex, Order, Strided};
 pub use into_rows::IntoRows;
 pub use iterating::Iter;
 pub(crate) use rest_of_items::RestOfItems;
@@ -40,7 +40,7 @@ pub struct ArrayView<'a, T, D: Lengths> {
 impl<'a, T, D: Lengths> ArrayView<'a, T, D> {
     /// The view: the shape, the strides and the place of the first index. Each place of it has an item.
     ///
-    /// `a.view()` is `[2]`, `[-1]` from 1. The project's own.
+    /// `a.strided()` is `[2]`, `[-1]` from 1. The project's own.
     ///
     /// # Examples
     ///
@@ -49,8 +49,8 @@ impl<'a, T, D: Lengths> ArrayView<'a, T, D> {
     ///
     /// # fn main() -> Result<(), LayoutError> {
     /// let a = ArrayView::from_shape(Ix1(2).strides(Ix1(unsigned(-1)))?, &[7, 8, 9])?;
-    /// assert_eq!(a.view().start(), 1);
-    /// assert_eq!((a.view().dim(), a.view().strides()), (&Ix1(2), &Ix1(unsigned(-1))));
+    /// assert_eq!(a.strided().start(), 1);
+    /// assert_eq!((a.strided().dim(), a.strided().strides()), (&Ix1(2), &Ix1(unsigned(-1))));
     /// # Ok(())
     /// # }
     /// ```
@@ -65,7 +65,7 @@ impl<'a, T, D: Lengths> ArrayView<'a, T, D> {
     /// </details>
     #[must_use]
     #[inline]
-    pub fn view(&self) -> &Strided<D> {
+    pub fn strided(&self) -> &Strided<D> {
         &self.view
     }
 
@@ -181,6 +181,43 @@ impl<'a, T, D: Lengths> ArrayView<'a, T, D> {
     #[inline]
     pub fn stored(&self) -> &'a [T] {
         self.items
+    }
+
+    /// The items as a slice, where their places follow one another in row-major order; else `None`.
+    ///
+    /// Takes no memory, and time in proportion to the count of axes.
+    ///
+    /// `[2]`, `[1]` from 1 over 7 8 9: 8 9; `a.as_slice()` is `None`. ndarray's `as_slice` and `to_slice`.
+    ///
+    /// # Examples
+    ///
+    /// ```
+    /// use ndarray_layout::{ArrayView, Ix2, LayoutError};
+    ///
+    /// # fn main() -> Result<(), LayoutError> {
+    /// let items = [1, 2, 3, 4, 5, 6];
+    /// let array = ArrayView::from_shape(Ix2(2, 3).into(), &items)?;
+    /// assert_eq!(array.as_slice(), Some(&items[..]));
+    /// assert_eq!(array.reversed_axes().as_slice(), None);
+    /// # Ok(())
+    /// # }
+    /// ```
+    ///
+    /// <details><summary>Contract (proved)</summary>
+    ///
+    /// ```text
+    /// ensures found: IsSome result ↔ IsStretch RowMajor self.now.view
+    /// ensures items: IfSome result (λ slice. map Some slice.now ≡
+    ///     map (item_at_place self.now.items) (view_places RowMajor self.now.view))
+    /// ```
+    /// [How to read it](crate::contracts)
+    /// </details>
+    #[must_use]
+    #[inline]
+    pub fn as_slice(&self) -> Option<&'a [T]> {
+        let places = self.view.stretch(Order::RowMajor)?;
+        let items = self.items;
+        Some(&items[places.start..places.end])
     }
 
     /// The item of an index; `None` where it is no index of the shape.

@@ -11,7 +11,7 @@ mod parts;
 
 use crate::memory::AllocError;
 use crate::nd_lent::array_view::ArrayView;
-use crate::ndarray_layout::{Lengths, NdIndex, Strided};
+use crate::ndarray_layout::{Lengths, NdIndex, Order, Strided};
 use core::mem::replace;
 pub use splitting::SplitViews;
 
@@ -28,7 +28,7 @@ impl<'a, T: Sized, D: Lengths> ArrayViewMut<'a, T, D> {
     /// The view: the shape, the strides and the place of the first index. Each place of it has an item, and no two indices
     /// alias.
     ///
-    /// `a.view()` is `[2]`, `[-1]` from 1. The project's own.
+    /// `a.strided()` is `[2]`, `[-1]` from 1. The project's own.
     ///
     /// # Examples
     ///
@@ -38,8 +38,8 @@ impl<'a, T: Sized, D: Lengths> ArrayViewMut<'a, T, D> {
     /// # fn main() -> Result<(), LayoutError> {
     /// let mut items = [7, 8, 9];
     /// let a = ArrayViewMut::from_shape(Ix1(2).strides(Ix1(unsigned(-1)))?, &mut items)?;
-    /// assert_eq!((a.view().dim(), a.view().start()), (&Ix1(2), 1));
-    /// assert_eq!(signed(a.view().strides()[0]), -1);
+    /// assert_eq!((a.strided().dim(), a.strided().start()), (&Ix1(2), 1));
+    /// assert_eq!(signed(a.strided().strides()[0]), -1);
     /// # Ok(())
     /// # }
     /// ```
@@ -54,7 +54,7 @@ impl<'a, T: Sized, D: Lengths> ArrayViewMut<'a, T, D> {
     /// </details>
     #[must_use]
     #[inline]
-    pub fn view(&self) -> &Strided<D> {
+    pub fn strided(&self) -> &Strided<D> {
         &self.view
     }
 
@@ -157,7 +157,7 @@ impl<'a, T: Sized, D: Lengths> ArrayViewMut<'a, T, D> {
     /// let mut items = [7, 8, 9];
     /// let a = ArrayViewMut::from_shape(Ix1(2).strides(Ix1(unsigned(-1)))?, &mut items)?;
     /// assert_eq!(a.stored(), [7, 8, 9]);
-    /// assert_eq!(a.as_view()?.to_vec()?, [8, 7]);
+    /// assert_eq!(a.try_view()?.to_vec()?, [8, 7]);
     /// # Ok(())
     /// # }
     /// ```
@@ -174,6 +174,44 @@ impl<'a, T: Sized, D: Lengths> ArrayViewMut<'a, T, D> {
     #[inline]
     pub fn stored(&self) -> &[T] {
         &*self.items
+    }
+
+    /// The items as a slice, to be read, where their places follow one another in row-major order; else `None`.
+    ///
+    /// Takes no memory, and time in proportion to the count of axes.
+    ///
+    /// `[2]`, `[1]` from 1 over 7 8 9: 8 9; `a.as_slice()` is `None`. ndarray's `as_slice`.
+    ///
+    /// # Examples
+    ///
+    /// ```
+    /// use ndarray_layout::{ArrayViewMut, Ix2, LayoutError};
+    ///
+    /// # fn main() -> Result<(), LayoutError> {
+    /// let mut items = [1, 2, 3, 4, 5, 6];
+    /// let array = ArrayViewMut::from_shape(Ix2(2, 3).into(), &mut items)?;
+    /// assert_eq!(array.as_slice(), Some(&[1, 2, 3, 4, 5, 6][..]));
+    /// assert_eq!(array.reversed_axes().as_slice(), None);
+    /// # Ok(())
+    /// # }
+    /// ```
+    ///
+    /// <details><summary>Contract (proved)</summary>
+    ///
+    /// ```text
+    /// ensures found: IsSome result ↔ IsStretch RowMajor (array_of self.now).view
+    /// ensures items: IfSome result (λ slice. map Some slice.now ≡
+    ///     map (item_at_place (array_of self.now).items)
+    ///     (view_places RowMajor (array_of self.now).view))
+    /// ```
+    /// [How to read it](crate::contracts)
+    /// </details>
+    #[must_use]
+    #[inline]
+    pub fn as_slice(&self) -> Option<&[T]> {
+        let places = self.view.stretch(Order::RowMajor)?;
+        let items = self.stored();
+        Some(&items[places.start..places.end])
     }
 
     /// The item of an index; `None` where it is no index of the shape.
@@ -350,9 +388,9 @@ impl<'a, T: Sized, D: Lengths> ArrayViewMut<'a, T, D> {
     /// # fn main() -> Result<(), LayoutError> {
     /// let mut items = [7, 8, 9];
     /// let mut a = ArrayViewMut::from_shape(Ix1(2).strides(Ix1(unsigned(-1)))?, &mut items)?;
-    /// assert_eq!(a.as_view()?.to_vec()?, [8, 7]);
+    /// assert_eq!(a.try_view()?.to_vec()?, [8, 7]);
     /// a.fill(5);
-    /// assert_eq!(a.as_view()?.to_vec()?, [5, 5]);
+    /// assert_eq!(a.try_view()?.to_vec()?, [5, 5]);
     /// # Ok(())
     /// # }
     /// ```
@@ -366,7 +404,7 @@ impl<'a, T: Sized, D: Lengths> ArrayViewMut<'a, T, D> {
     /// [How to read it](crate::contracts)
     /// </details>
     #[inline]
-    pub fn as_view(&self) -> Result<ArrayView<'_, T, D>, AllocError> {
+    pub fn try_view(&self) -> Result<ArrayView<'_, T, D>, AllocError> {
         let view = self.view.duplicate()?;
         Ok(ArrayView::new(view, self.stored()))
     }

@@ -76,7 +76,7 @@ impl<'a, T: Sized, D: Lengths> PartMut<'a, T, D> {
     /// # fn main() -> Result<(), LayoutError> {
     /// let mut items = [7, 8, 9, 10];
     /// let part = ArrayViewMut::from_shape(Ix2(2, 2).into(), &mut items)?.into_part().reversed_axes();
-    /// assert_eq!((part.view().start(), part.view().strides()), (0, &Ix2(1, 2)));
+    /// assert_eq!((part.strided().start(), part.strided().strides()), (0, &Ix2(1, 2)));
     /// # Ok(())
     /// # }
     /// ```
@@ -90,7 +90,7 @@ impl<'a, T: Sized, D: Lengths> PartMut<'a, T, D> {
     /// </details>
     #[inline]
     #[must_use]
-    pub fn view(&self) -> &Strided<D> {
+    pub fn strided(&self) -> &Strided<D> {
         &self.view
     }
 

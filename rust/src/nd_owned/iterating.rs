@@ -72,6 +72,6 @@ impl<T: Copy, D: Lengths> OwnedArray<T, D> {
     #[inline]
     #[must_use]
     pub fn iter(&self) -> Items<'_, T> {
-        Items { lent: Iter::new(self.stored(), self.view().iter_places(Order::RowMajor)) }
+        Items { lent: Iter::new(self.stored(), self.strided().iter_places(Order::RowMajor)) }
     }
 }

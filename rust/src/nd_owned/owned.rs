@@ -10,7 +10,7 @@ use crate::memory::AllocError;
 use crate::nd_lent::{ArrayView, ArrayViewMut};
 use crate::nd_owned::multi_set::{check_apart, check_counts, picked_by_write, picked_views, write_all};
 use crate::nd_owned::picked_view::PickedView;
-use crate::ndarray_layout::{LayoutError, Lengths, NdIndex, SliceElems, SliceInfoElem, Strided};
+use crate::ndarray_layout::{LayoutError, Lengths, NdIndex, Order, SliceElems, SliceInfoElem, Strided};
 
 /// An array that owns its items. Each index of its shape has an item, at its place in the list of the items, and no two
 /// indices alias. Items at no place of the layout are spare ones, and no call shows them but `stored`, `stored_mut` and
@@ -26,7 +26,7 @@ impl<T: Sized, D: Lengths> OwnedArray<T, D> {
     /// The view: the shape, the strides and the place of the first index. Each place of it has an item, and no two indices
     /// alias.
     ///
-    /// `a.view()` is `[2]`, `[-1]` from 1. ndarray's `view` lends the items as well.
+    /// `a.strided()` is `[2]`, `[-1]` from 1. The project's own.
     ///
     /// # Examples
     ///
@@ -35,8 +35,8 @@ impl<T: Sized, D: Lengths> OwnedArray<T, D> {
     ///
     /// # fn main() -> Result<(), LayoutError> {
     /// let a = OwnedArray::from_shape_vec(Ix1(2).strides(Ix1(unsigned(-1)))?, vec![7, 8, 9])?;
-    /// assert_eq!((a.view().dim(), a.view().start()), (&Ix1(2), 1));
-    /// assert_eq!(signed(a.view().strides()[0]), -1);
+    /// assert_eq!((a.strided().dim(), a.strided().start()), (&Ix1(2), 1));
+    /// assert_eq!(signed(a.strided().strides()[0]), -1);
     /// # Ok(())
     /// # }
     /// ```
@@ -51,7 +51,7 @@ impl<T: Sized, D: Lengths> OwnedArray<T, D> {
     /// </details>
     #[must_use]
     #[inline]
-    pub fn view(&self) -> &Strided<D> {
+    pub fn strided(&self) -> &Strided<D> {
         &self.view
     }
 
@@ -150,7 +150,7 @@ impl<T: Sized, D: Lengths> OwnedArray<T, D> {
     /// # fn main() -> Result<(), LayoutError> {
     /// let a = OwnedArray::from_shape_vec(Ix1(2).strides(Ix1(unsigned(-1)))?, vec![7, 8, 9])?;
     /// assert_eq!(a.stored(), [7, 8, 9]);
-    /// assert_eq!(a.as_view()?.to_vec()?, [8, 7]);
+    /// assert_eq!(a.try_view()?.to_vec()?, [8, 7]);
     /// # Ok(())
     /// # }
     /// ```
@@ -167,6 +167,43 @@ impl<T: Sized, D: Lengths> OwnedArray<T, D> {
     #[inline]
     pub fn stored(&self) -> &[T] {
         self.items.as_slice()
+    }
+
+    /// The items as a slice, to be read, where their places follow one another in row-major order; else `None`.
+    ///
+    /// Takes no memory, and time in proportion to the count of axes.
+    ///
+    /// `[2]` of 7 8 9: 7 8; `a.as_slice()` is `None`. ndarray's `as_slice`.
+    ///
+    /// # Examples
+    ///
+    /// ```
+    /// use ndarray_layout::{Ix2, LayoutError, OwnedArray, ShapeBuilder};
+    ///
+    /// # fn main() -> Result<(), LayoutError> {
+    /// let array = OwnedArray::from_shape_vec(Ix2(1, 2).into(), vec![7, 8, 9])?;
+    /// assert_eq!(array.as_slice(), Some(&[7, 8][..]));
+    /// let columns = OwnedArray::from_shape_vec(Ix2(2, 2).f()?.into(), vec![7, 8, 9, 10])?;
+    /// assert_eq!(columns.as_slice(), None);
+    /// # Ok(())
+    /// # }
+    /// ```
+    ///
+    /// <details><summary>Contract (proved)</summary>
+    ///
+    /// ```text
+    /// ensures found: IsSome result ↔ IsStretch RowMajor self.now.view
+    /// ensures items: IfSome result (λ slice. map Some slice.now ≡
+    ///     map (item_at_place self.now.items) (view_places RowMajor self.now.view))
+    /// ```
+    /// [How to read it](crate::contracts)
+    /// </details>
+    #[must_use]
+    #[inline]
+    pub fn as_slice(&self) -> Option<&[T]> {
+        let places = self.view.stretch(Order::RowMajor)?;
+        let items = self.items.as_slice();
+        Some(&items[places.start..places.end])
     }
 
     /// All items as they are stored, spare ones too, to be written. Their count and the view are unchanged.
@@ -319,7 +356,7 @@ impl<T: Sized, D: Lengths> OwnedArray<T, D> {
     ///
     /// # fn main() -> Result<(), LayoutError> {
     /// let a = OwnedArray::from_shape_vec(Ix1(2).strides(Ix1(unsigned(-1)))?, vec![7, 8, 9])?;
-    /// let view = a.as_view()?;
+    /// let view = a.try_view()?;
     /// assert_eq!((view.get(&0), view.get(&2)), (Some(&8), None));
     /// # Ok(())
     /// # }
@@ -334,7 +371,7 @@ impl<T: Sized, D: Lengths> OwnedArray<T, D> {
     /// [How to read it](crate::contracts)
     /// </details>
     #[inline]
-    pub fn as_view(&self) -> Result<ArrayView<'_, T, D>, AllocError> {
+    pub fn try_view(&self) -> Result<ArrayView<'_, T, D>, AllocError> {
         let view = self.view.duplicate()?;
         Ok(ArrayView::new(view, self.items.as_slice()))
     }
@@ -354,7 +391,7 @@ impl<T: Sized, D: Lengths> OwnedArray<T, D> {
     ///
     /// # fn main() -> Result<(), LayoutError> {
     /// let mut a = OwnedArray::from_shape_vec(Ix1(2).strides(Ix1(unsigned(-1)))?, vec![7, 8, 9])?;
-    /// assert!(a.as_view_mut()?.set(&1, 5));
+    /// assert!(a.try_view_mut()?.set(&1, 5));
     /// assert_eq!(a.stored(), [5, 8, 9]);
     /// # Ok(())
     /// # }
@@ -369,7 +406,7 @@ impl<T: Sized, D: Lengths> OwnedArray<T, D> {
     /// [How to read it](crate::contracts)
     /// </details>
     #[inline]
-    pub fn as_view_mut(&mut self) -> Result<ArrayViewMut<'_, T, D>, AllocError> {
+    pub fn try_view_mut(&mut self) -> Result<ArrayViewMut<'_, T, D>, AllocError> {
         let view = self.view.duplicate()?;
         Ok(ArrayViewMut::new(view, self.items.as_mut_slice()))
     }

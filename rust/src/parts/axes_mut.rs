@@ -1,6 +1,6 @@
 //! The parts along an axis of a part, and the rows and columns of a matrix.
 
-use super::axis_iter::{PartAxisChunksIterMut, PartAxisIterMut};
+use crate::arrays::{AxisChunksIterMut, AxisIterMut, check_axis, check_chunks};
 use crate::nd_base::{Axis, ErrorKind, Ix1, Ix2, LayoutError, Lengths, from_kind};
 use crate::nd_lent::PartMut;
 use crate::ndarray_layout::RemoveAxis;
@@ -51,8 +51,9 @@ impl<T, D: RemoveAxis> PartMut<'_, T, D> {
     /// assert_eq!(items, [1, 0, 0, 4, 5, 6]);
     /// # Ok::<(), LayoutError>(())
     /// ```
-    pub fn axis_iter_mut(&mut self, axis: Axis) -> Result<PartAxisIterMut<'_, T, D>, LayoutError> {
-        PartAxisIterMut::new(self, axis)
+    pub fn axis_iter_mut(&mut self, axis: Axis) -> Result<AxisIterMut<'_, T, D>, LayoutError> {
+        check_axis(self.shape(), axis)?;
+        Ok(AxisIterMut::new(self.reborrow()?, axis))
     }
 
     /// An iterator over the parts at the coordinates of the first axis, without it: `axis_iter_mut`. ndarray's `outer_iter_mut`.
@@ -78,7 +79,7 @@ impl<T, D: RemoveAxis> PartMut<'_, T, D> {
     /// # Ok::<(), LayoutError>(())
     /// ```
     #[track_caller]
-    pub fn outer_iter_mut(&mut self) -> Result<PartAxisIterMut<'_, T, D>, LayoutError> {
+    pub fn outer_iter_mut(&mut self) -> Result<AxisIterMut<'_, T, D>, LayoutError> {
         assert!(self.ndim() > 0, "an array without axes has no outer arrays");
         self.axis_iter_mut(Axis(0))
     }
@@ -108,8 +109,9 @@ impl<T, D: Lengths> PartMut<'_, T, D> {
         &mut self,
         axis: Axis,
         size: usize,
-    ) -> Result<PartAxisChunksIterMut<'_, T, D>, LayoutError> {
-        PartAxisChunksIterMut::new(self, axis, size)
+    ) -> Result<AxisChunksIterMut<'_, T, D>, LayoutError> {
+        check_chunks(self.shape(), axis, size)?;
+        Ok(AxisChunksIterMut::new(self.reborrow()?, axis, size))
     }
 }
 

@@ -68,7 +68,7 @@ impl<T, D: Lengths> PartMut<'_, T, D> {
     where
         D: Dimension,
     {
-        PartIndexedIterMut::new(Odometer::new(self.view()), self.iter_mut())
+        PartIndexedIterMut::new(Odometer::new(self.strided()), self.iter_mut())
     }
 }
 

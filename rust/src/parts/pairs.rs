@@ -47,7 +47,7 @@ impl<T, D: Lengths> PartMut<'_, T, D> {
         if !self.dim().equal(other.dim()) {
             return Err(from_kind(ErrorKind::IncompatibleShape));
         }
-        let others = other.borrowed().into_rows();
+        let others = other.view().into_rows();
         self.rows_mut().zip(others).for_each(|(row, others)| zip_row(row, others, &mut f));
         Ok(())
     }

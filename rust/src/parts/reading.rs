@@ -56,7 +56,7 @@ macro_rules! read {
             type Dim = D;
 
             fn read(&self) -> (&D, impl Iterator<Item = &T>) {
-                (self.view().dim(), Iter::new(self.stored(), self.view().iter_places(Order::RowMajor)))
+                (self.strided().dim(), Iter::new(self.stored(), self.strided().iter_places(Order::RowMajor)))
             }
         }
     )*};

@@ -1,10 +1,60 @@
-//! The rows of a part, each lent on its own.
+//! The rows of a part as slices, a part as one slice, and copies of its items.
 
 use crate::memory::{AllocError, FallibleVec};
 use crate::nd_base::Lengths;
 use crate::nd_lent::PartMut;
 use alloc::vec::Vec;
 use core::slice;
+
+impl<T, D: Lengths> PartMut<'_, T, D> {
+    /// The items in row-major order, to be written, where they lie one after another so; else `None`: `into_slice` of `view_mut`, which
+    /// is proved. ndarray's `as_slice_mut`. Not proved.
+    ///
+    /// # Panics
+    ///
+    /// As `view_mut`.
+    ///
+    /// ```
+    /// use ndarray_layout::*;
+    ///
+    /// let mut items = [1, 2, 3, 4];
+    /// let mut table = ArrayViewMut::from_shape(Ix2(2, 2).into(), &mut items)?;
+    /// for mut row in table.rows_mut() {
+    ///     row.as_slice_mut().expect("a row of neighbours").reverse();
+    /// }
+    /// assert!(table.lanes_mut(Axis(0))?.all(|mut column| column.as_slice_mut().is_none()));
+    /// assert_eq!(items, [2, 1, 4, 3]);
+    /// # Ok::<(), LayoutError>(())
+    /// ```
+    #[must_use]
+    pub fn as_slice_mut(&mut self) -> Option<&mut [T]> {
+        self.view_mut().into_slice().ok()
+    }
+
+    /// Clones of the items in row-major order. ndarray's `to_vec`, for any count of axes. Not proved.
+    ///
+    /// # Errors
+    ///
+    /// Out of memory.
+    ///
+    /// ```
+    /// use ndarray_layout::*;
+    ///
+    /// let mut items = [1, 2, 3, 4];
+    /// let mut table = ArrayViewMut::from_shape(Ix2(2, 2).into(), &mut items)?;
+    /// let columns: Vec<Vec<i32>> = table.lanes_mut(Axis(0))?.map(|column| column.to_vec()).collect::<Result<_, _>>()?;
+    /// assert_eq!(columns, [[1, 3], [2, 4]]);
+    /// # Ok::<(), LayoutError>(())
+    /// ```
+    pub fn to_vec(&self) -> Result<Vec<T>, AllocError>
+    where
+        T: Clone,
+    {
+        let mut items = Vec::fallible_with_capacity(self.len())?;
+        items.extend(self.iter().cloned());
+        Ok(items)
+    }
+}
 
 impl<'a, T, D: Lengths> PartMut<'a, T, D> {
     /// The rows as slices, each lent on its own, in row-major order, and the end of this value: where the items along the last axis

@@ -1,9 +1,9 @@
 //! Chunks of an array along an axis, to be read and to be written.
 
-use crate::layouts::{Layout, interleave, rounds};
+use crate::layouts::{Layout, rounds};
 use crate::{NUMBERS, kind, owned, rows, rows_mut, texts};
 use ndarray_layout::Axis;
-use ndarray_layout::ErrorKind::{IncompatibleLayout, OutOfBounds, Unsupported};
+use ndarray_layout::ErrorKind::{OutOfBounds, Unsupported};
 
 #[test]
 fn chunks_of_an_axis_are_read() {
@@ -23,15 +23,17 @@ fn chunks_of_an_axis_are_read() {
 fn chunks_of_an_axis_are_written() {
     let mut texts = texts();
     let mut array = rows_mut(&mut texts);
-    assert_eq!(kind(array.axis_chunks_iter_mut(Axis(1), 2)), Some(IncompatibleLayout));
     assert_eq!(kind(array.axis_chunks_iter_mut(Axis(1), 0)), Some(Unsupported));
-    array.axis_chunks_iter_mut(Axis(1), 3).unwrap().for_each(|mut chunk| chunk[(1, 2)].push('a'));
+    assert_eq!(kind(array.axis_chunks_iter_mut(Axis(2), 0)), Some(OutOfBounds));
+    for (mut chunk, letter) in array.axis_chunks_iter_mut(Axis(1), 2).unwrap().zip(["x", "a"]) {
+        chunk[(1, 0)].push_str(letter);
+    }
     array.invert_axis(Axis(0)).unwrap();
     for (mut chunk, letter) in array.axis_chunks_iter_mut(Axis(0), 1).unwrap().zip(["b", "c"]) {
         chunk.iter_mut().for_each(|text| text.push_str(letter));
     }
     assert_eq!(format!("{:?}", array.axis_chunks_iter_mut(Axis(0), 1).unwrap()), "AxisChunksIterMut { left: 2, .. }");
-    assert_eq!(texts, ["0c", "1c", "2c", "3b", "4b", "5ab", "6"]);
+    assert_eq!(texts, ["0c", "1c", "2c", "3xb", "4b", "5ab", "6"]);
 }
 
 /// The layouts of the chunks of a layout along an axis.
@@ -76,12 +78,7 @@ fn chunks_are_written_as_the_models() {
         let mut numbered: Vec<usize> = (0..layout.count).collect();
         let parts = chunks_of(&layout, axis, size);
         let mut array = layout.array_mut(&mut numbered);
-        let made = array.axis_chunks_iter_mut(Axis(axis), size);
-        let Ok(mut left) = made else {
-            assert!(interleave(&parts), "{layout:?} along {axis} by {size}");
-            return;
-        };
-        assert!(!interleave(&parts), "{layout:?} along {axis} by {size}");
+        let mut left = array.axis_chunks_iter_mut(Axis(axis), size).unwrap();
         let mut expected: Vec<Vec<usize>> = parts.iter().map(Layout::places).collect();
         while !expected.is_empty() {
             let (chunk, places) = match numbers.once_in(2) {
@@ -89,7 +86,7 @@ fn chunks_are_written_as_the_models() {
                 false => (left.next_back(), expected.pop().unwrap()),
             };
             let mut chunk = chunk.unwrap();
-            assert_eq!(chunk.to_vec().unwrap(), places, "{layout:?} along {axis} by {size}");
+            assert!(chunk.iter().eq(&places), "{layout:?} along {axis} by {size}");
             chunk.iter_mut().for_each(|item| *item += 1000);
         }
         assert!(left.next().is_none() && left.next_back().is_none());

@@ -46,9 +46,9 @@ fn folds_are_the_models() {
         let items: Vec<usize> = (0..layout.count).collect();
         let (array, expected) = (layout.array(&items), layout.places());
         assert!(gives(numbers, array.iter().copied(), &expected), "{layout:?}");
-        assert!(gives(numbers, array.view().iter_places(Order::RowMajor), &expected), "{layout:?}");
+        assert!(gives(numbers, array.strided().iter_places(Order::RowMajor), &expected), "{layout:?}");
         let turned = array.reversed_axes();
-        let by_columns: Vec<usize> = turned.borrowed().into_iter().copied().collect();
+        let by_columns: Vec<usize> = turned.view().into_iter().copied().collect();
         assert!(gives(numbers, turned.iter().copied(), &by_columns), "{layout:?}, turned");
     });
 }
@@ -59,8 +59,8 @@ fn folds_by_columns_are_the_lists() {
         let layout = Layout::random(numbers);
         let items: Vec<usize> = (0..layout.count).collect();
         let array = layout.array(&items);
-        let expected = array.view().places(Order::ColumnMajor).unwrap();
-        assert!(gives(numbers, array.view().iter_places(Order::ColumnMajor), &expected), "{layout:?}");
+        let expected = array.strided().places(Order::ColumnMajor).unwrap();
+        assert!(gives(numbers, array.strided().iter_places(Order::ColumnMajor), &expected), "{layout:?}");
     });
 }
 
@@ -72,7 +72,7 @@ fn copies_are_folded_as_the_models() {
         let strides = if numbers.once_in(2) { Strides::C } else { Strides::F };
         let shape = StrideShape { dim: ndarray_layout::IxDyn(&shape), strides };
         let array = OwnedArray::from_shape_vec(shape, items).unwrap_or_else(|_| panic!("as many items"));
-        let expected: Vec<usize> = array.view().iter_places(Order::RowMajor).collect();
+        let expected: Vec<usize> = array.strided().iter_places(Order::RowMajor).collect();
         assert!(gives(numbers, array.iter(), &expected));
     });
 }

@@ -123,17 +123,6 @@ impl Layout {
     }
 }
 
-/// Whether the places of two layouts interleave: one begins before the other ends, and the other before it does.
-pub fn interleave(parts: &[Layout]) -> bool {
-    let mut spans: Vec<(usize, usize)> = Vec::new();
-    for part in parts {
-        let places = part.places();
-        spans.extend(places.iter().min().copied().zip(places.iter().max().copied()));
-    }
-    spans.sort_unstable();
-    spans.windows(2).any(|pair| pair[0].1 >= pair[1].0)
-}
-
 /// A length: seldom 0, sometimes 1.
 fn length(numbers: &mut Numbers, longest: usize) -> usize {
     match numbers.below(20) {

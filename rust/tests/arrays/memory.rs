@@ -37,10 +37,14 @@ fn a_call_that_lends_rows_says_that_memory_ran_out() {
     let mut backwards = layout();
     (backwards.shape, backwards.strides, backwards.start) = (vec![5, 2], vec![-2, 1], 8);
     let mut array = backwards.array_mut(&mut numbers);
-    // where each row begins, and its items
-    assert_eq!(failures(|| array.rows_mut().map(|rows| rows.len())), 2);
+    assert_eq!(failures(|| array.axis_iter_mut(Axis(1)).map(|columns| columns.len())), 0);
+    assert_eq!(panics(|| array.rows_mut().len()), 0);
     let mut array = layout().array_mut(&mut numbers);
-    assert!(failing_at(usize::MAX, || array.lanes_mut(Axis(4)).is_err()).0);
+    // the lengths and the strides of five axes
+    assert_eq!(failures(|| array.axis_iter_mut(Axis(1)).map(|columns| columns.len())), 2);
+    assert_eq!(failures(|| array.axis_chunks_iter_mut(Axis(1), 1).map(|columns| columns.len())), 2);
+    assert_eq!(panics(|| array.rows_mut().len()), 2);
+    assert!(failing_at(usize::MAX, || array.lanes_mut(Axis(5)).is_err()).0);
 }
 
 /// How often a call panics for memory before none of its allocations fails.
@@ -55,9 +59,9 @@ fn an_iterator_panics_where_memory_runs_out() {
     let mut small = layout();
     (small.shape, small.strides) = (vec![2, 5], vec![1, 2]);
     let array = small.array(&numbers);
-    assert_eq!((panics(|| array.borrowed()), panics(|| (&array).into_iter().count())), (0, 0));
+    assert_eq!((panics(|| array.view()), panics(|| (&array).into_iter().count())), (0, 0));
     let five = layout().array(&numbers);
-    assert_eq!((panics(|| five.borrowed()), panics(|| (&five).into_iter().count())), (2, 2));
+    assert_eq!((panics(|| five.view()), panics(|| (&five).into_iter().count())), (2, 2));
     let mut array = small.array_mut(&mut numbers);
     // the items that don't lie side by side
     assert_eq!(panics(|| array.iter_mut().count()), 1);

@@ -14,12 +14,12 @@ fn an_array_is_lent_again_in_a_loop() -> Result<(), LayoutError> {
         array.view_mut().index_axis(Axis(1), column)?.fill(column as u8);
         array.index_axis_mut(Axis(1), column)?.iter_mut().for_each(|item| *item += 10);
     }
-    assert_eq!(array.borrowed().reversed_axes().to_vec()?, [10, 10, 11, 11, 12, 12]);
+    assert_eq!(array.view().reversed_axes().to_vec()?, [10, 10, 11, 11, 12, 12]);
     let mut array = owned(texts());
     for row in 0..2 {
         array.view_mut().index_axis(Axis(0), row)?.map_in_place(|text| text.push('a'));
     }
-    assert_eq!(array.borrowed().last().map(String::as_str), Some("5a"));
+    assert_eq!(array.view().last().map(String::as_str), Some("5a"));
     assert_eq!(array.into_stored().concat(), "0a1a2a3a4a5a6");
     Ok(())
 }
@@ -78,7 +78,7 @@ fn an_array_without_items_has_no_first_one() {
     assert!(array.first_mut().is_none() && array.last_mut().is_none());
     assert_eq!(array.as_slice_mut().map(|slice| slice.len()), Some(0));
     assert!(array.first().is_none() && array.last().is_none() && array.iter_mut().next().is_none());
-    assert_eq!(array.rows_mut().unwrap().len(), 0);
+    assert_eq!(array.rows_mut().len(), 0);
     assert_eq!(array.as_slice_memory_order(), Some(&[][..]));
 }
 

@@ -82,7 +82,7 @@ fn the_shape_of_an_array_is_told_and_its_indices() -> Result<(), LayoutError> {
     let mut items = [3, 1, 4, 1, 5, 9];
     let view = ArrayView::from_shape(Ix2(2, 3).into(), &items)?;
     assert_eq!((view.raw_dim(), indices_of(&view).into_iter().last()), (Ix2(2, 3), Some((1, 2))));
-    let turned: Strided<Ix2> = view.view().reversed_axes();
+    let turned: Strided<Ix2> = view.strided().reversed_axes();
     assert_eq!((turned.raw_dim(), letters(turned.layout())), (Ix2(3, 2), "Ff".to_string()));
     let view = ArrayViewMut::from_shape(IxDyn(&[3, 2]).into(), &mut items)?;
     assert_eq!((view.raw_dim(), letters(view.layout())), (IxDyn(&[3, 2]), "Cc".to_string()));

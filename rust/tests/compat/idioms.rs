@@ -22,7 +22,7 @@ fn arrays_and_views_are_made() -> Tested {
     let square: Array2<i32> = Array::from_exact_vec((2, 2).into(), vec![1, 2, 3, 4])?;
     assert_eq!(square[[1, 0]], 3);
     assert_eq!(Array2::<i32>::zeros((2, 3)).into_stored(), [0; 6]);
-    assert_eq!(Array2::<i32>::zeros((2, 3).f()).view().strides(), &Ix2(1, 2));
+    assert_eq!(Array2::<i32>::zeros((2, 3).f()).strided().strides(), &Ix2(1, 2));
     Ok(())
 }
 
@@ -52,15 +52,15 @@ fn parts_of_an_array() -> Tested {
     let (row, column) = (a.row(0)?, a.column(1)?);
     assert_eq!((row.to_vec()?, column.to_vec()?), (vec![8, 9, 9], vec![9, 4]));
     assert_eq!(a.index_axis(Axis(0), 1)?.to_vec()?, [8, 4, 5]);
-    assert_eq!(a.view_mut().len(), a.borrowed().len());
+    assert_eq!(a.view_mut().len(), a.view().len());
     Ok(())
 }
 
 #[test]
 fn axes_of_a_view() -> Tested {
     let a = two_rows();
-    let v = a.borrowed();
-    assert_eq!((a.t().dim(), a.borrowed().reversed_axes().dim()), (&Ix2(3, 2), &Ix2(3, 2)));
+    let v = a.view();
+    assert_eq!((a.t().dim(), a.view().reversed_axes().dim()), (&Ix2(3, 2), &Ix2(3, 2)));
     assert_eq!(v.permuted_axes(&[Axis(1), Axis(0)])?.to_vec()?, [0, 3, 1, 4, 2, 5]);
     assert_eq!(v.insert_axis(Axis(0))?.dim(), &Ix3(1, 2, 3));
     let (first, second) = v.split_at(Axis(0), 1)?;
@@ -69,7 +69,7 @@ fn axes_of_a_view() -> Tested {
     assert_eq!(v.broadcast(&Ix3(4, 2, 3))?.dim(), &Ix3(4, 2, 3));
     assert_eq!(v.diag().to_vec()?, [0, 4]);
     assert_eq!(v.into_dyn().into_dimensionality::<Ix2>()?.dim(), &Ix2(2, 3));
-    let (mut v, mut turned, mut one) = (a.borrowed(), a.borrowed(), a.borrowed());
+    let (mut v, mut turned, mut one) = (a.view(), a.view(), a.view());
     v.invert_axis(Axis(0))?;
     turned.swap_axes(Axis(0), Axis(1))?;
     one.collapse(Axis(0), 1)?;
@@ -84,10 +84,10 @@ fn iterators_over_an_array() -> Tested {
     assert_eq!(a.indexed_iter().last(), Some(((1, 2), &6)));
     assert_eq!((a.rows().count(), a.outer_iter().count(), a.axis_iter(Axis(1))?.count()), (2, 2, 3));
     assert_eq!((a.lanes(Axis(0))?.count(), a.axis_chunks_iter(Axis(1), 2)?.count()), (3, 2));
-    for mut row in a.rows_mut()? {
+    for mut row in a.rows_mut() {
         row[0] = 0;
     }
-    let v = a.borrowed();
+    let v = a.view();
     let windows: ArrayView4<'_, i32> = v.windows(&Ix2(2, 2))?;
     let chunks: ArrayView4<'_, i32> = v.exact_chunks(&Ix2(2, 2))?;
     assert_eq!((windows.dim(), chunks.dim()), (&Ix4(1, 2, 2, 2), &Ix4(1, 1, 2, 2)));
@@ -99,12 +99,12 @@ fn values_of_whole_arrays() -> Tested {
     let (mut a, b) = (two_rows(), two_rows());
     assert_eq!(a.map(|item| item * 2)?.into_stored(), [0, 2, 4, 6, 8, 10]);
     a.view_mut().map_in_place(|item| *item += 1);
-    a.zip_mut_with(&b.borrowed(), |item, other| *item += other)?;
-    assert_eq!(a.borrowed().fold(0, |sum, item| sum + item), 36);
+    a.zip_mut_with(&b.view(), |item, other| *item += other)?;
+    assert_eq!(a.view().fold(0, |sum, item| sum + item), 36);
     assert_eq!(a.map_axis(Axis(0), |lane| lane.iter().sum::<i32>())?.into_stored(), [8, 12, 16]);
     a.fill(7);
-    a.assign(&b.borrowed())?;
-    assert_eq!(a.borrowed().to_array()?.into_stored(), [0, 1, 2, 3, 4, 5]);
+    a.assign(&b.view())?;
+    assert_eq!(a.view().to_array()?.into_stored(), [0, 1, 2, 3, 4, 5]);
     Ok(())
 }
 

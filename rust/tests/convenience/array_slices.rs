@@ -61,7 +61,7 @@ fn any_count_of_axes_crops_as_a_fixed_one_does() -> Result<(), LayoutError> {
     }
     assert_eq!(view.into_dyn().crop(&IxDyn(&[0]), &IxDyn(&[1])), None);
     let array = counted(IxDyn(&[4, 6]))?;
-    let part = array.as_view()?.crop(&IxDyn(&[1, 2]), &IxDyn(&[3, 4])).expect("a part");
+    let part = array.try_view()?.crop(&IxDyn(&[1, 2]), &IxDyn(&[3, 4])).expect("a part");
     assert_eq!(part, OwnedArray::from_shape_vec(IxDyn(&[2, 2]).into(), vec![8, 9, 14, 15])?);
     let mut lists = [vec![1], vec![2], vec![3]];
     let lent = ArrayViewMut::from_shape(IxDyn(&[3]).into(), &mut lists)?;
@@ -74,12 +74,12 @@ fn any_count_of_axes_crops_as_a_fixed_one_does() -> Result<(), LayoutError> {
 
 #[test]
 fn views_change_between_types_for_as_many_axes() -> Result<(), LayoutError> {
-    let view = *counted(Ix2(2, 3))?.view();
+    let view = *counted(Ix2(2, 3))?.strided();
     let any = view.into_dyn();
     assert_eq!((any.start(), any.dim(), any.strides()), (0, &IxDyn(&[2, 3]), &IxDyn(&[3, 1])));
     assert_eq!(kind(any.clone().into_dimensionality::<Ix1>()), Some(IncompatibleShape));
     assert_eq!(any.into_dimensionality::<Ix2>()?, view);
-    let six = counted(IxDyn(&[1, 2, 1, 2, 1, 2]))?.view().clone();
+    let six = counted(IxDyn(&[1, 2, 1, 2, 1, 2]))?.strided().clone();
     let fixed = six.clone().into_dimensionality::<Ix6>()?;
     assert_eq!((fixed.into_dyn(), six.dim().ndim()), (six, 6));
     Ok(())

@@ -35,7 +35,7 @@ fn views_print_strides_with_their_signs() -> Result<(), LayoutError> {
     let columns = StrideShape { dim: Ix2(2, 2), strides: Strides::F };
     let array = ArrayViewMut::from_shape(columns, &mut numbers)?;
     assert_eq!(format!("{array:?}"), "[[1, 3],\n [2, 4]], shape=[2, 2], strides=[1, 2], layout=Ff (0xa), const ndim=2");
-    let rows: Vec<String> = array.as_view()?.rows().map(|row| format!("{row:?}")).collect();
+    let rows: Vec<String> = array.try_view()?.rows().map(|row| format!("{row:?}")).collect();
     assert_eq!(rows, ["[1, 3]", "[2, 4]"]);
     Ok(())
 }
@@ -82,10 +82,10 @@ fn rows_and_splits_print() -> Result<(), LayoutError> {
     let mut items = [1, 2, 3, 4];
     let array = ArrayView::from_shape(Ix2(2, 2).into(), &items)?;
     assert_eq!(
-        (format!("{:?}", array.view().rows(Order::C)), array.rows().len()),
+        (format!("{:?}", array.strided().rows(Order::C)), array.rows().len()),
         ("Rows { left: 2, .. }".to_owned(), 2)
     );
-    let view = *array.view();
+    let view = *array.strided();
     assert_eq!(format!("{:?}", PartMut::over(view, &mut items)?), "[[1, 2],\n [3, 4]], shape=[2, 2]");
     let row = "dim: [1, 2], strides: [2, 1] }";
     let expected = format!(

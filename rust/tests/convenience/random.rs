@@ -77,7 +77,7 @@ fn arrays_of_equal_items_are_equal_in_every_layout() {
         let view = ArrayView::over(view_of(&plain), &words).expect("room for the layout");
         let mut copy = vec![String::new(); places.len()];
         let copied: ArrayViewMut<'_, String, IxDyn> = ArrayViewMut::from_shape(shape(), &mut copy).expect("a copy");
-        let copy_places: Vec<usize> = copied.view().iter_places(ndarray_layout::Order::RowMajor).collect();
+        let copy_places: Vec<usize> = copied.strided().iter_places(ndarray_layout::Order::RowMajor).collect();
         copy_places.iter().zip(&places).for_each(|(own, place)| copy[*own] = words[*place].clone());
         let mut owned = OwnedArray::from_shape_vec(shape(), copy).expect("as many items");
         assert_eq!((&owned, hash_of(&owned)), (&owned.clone(), hash_of(&view)));

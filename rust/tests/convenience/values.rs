@@ -50,7 +50,7 @@ fn a_list_of_another_length_than_the_shape_is_refused() -> Result<(), Box<dyn Er
 fn a_list_of_coordinates_is_an_index() -> Result<(), LayoutError> {
     let mut table = OwnedArray::from_exact_vec(IxDyn(&[2, 2]).into(), vec![7, 8, 9, 10])?;
     let index = vec![1, 0];
-    assert_eq!((table.get(&index), table.view().place(&index), table[&index[..]]), (Some(9), Some(2), 9));
+    assert_eq!((table.get(&index), table.strided().place(&index), table[&index[..]]), (Some(9), Some(2), 9));
     assert!(table.set(&index, 5) && !table.set(&vec![0, 2], 5) && !table.set(&vec![0], 5));
     table[vec![0, 1]] = 6;
     assert_eq!(table.stored(), [7, 6, 5, 10]);
@@ -142,13 +142,13 @@ fn a_copy_of_an_array_has_its_layout() -> Result<(), LayoutError> {
     for shape in [&[][..], &[0], &[2, 0, 3], &[2, 3], &[2, 1, 2, 1, 2]] {
         let array = counted(IxDyn(shape))?;
         let copy = array.clone();
-        assert_eq!((copy.view(), copy.stored()), (array.view(), array.stored()));
+        assert_eq!((copy.strided(), copy.stored()), (array.strided(), array.stored()));
     }
     let [mut array, _] = equal_arrays()?;
     let copy = array.clone();
     array[0] = 1;
     assert_eq!((copy.stored(), array.stored()), (&[7, 8, 9][..], &[7, 1, 9][..]));
-    assert_eq!((copy.view().start(), signed(copy.view().strides()[0])), (1, -1));
+    assert_eq!((copy.strided().start(), signed(copy.strided().strides()[0])), (1, -1));
     Ok(())
 }
 

@@ -56,7 +56,7 @@ fn blurs_have_the_means_of_pixels_that_are_found_by_their_places() {
         let picture = picture(layout, &pixels);
         let (rows, columns) = (shape[0] - 2, shape[1] - 2);
         let expected: Vec<u8> = (0..rows * columns)
-            .map(|number| mean_at(&pixels, strides, picture.view().start(), number / columns, number % columns))
+            .map(|number| mean_at(&pixels, strides, picture.strided().start(), number / columns, number % columns))
             .collect();
         assert_eq!(blur(&picture).unwrap(), expected, "{layout:?}");
     }

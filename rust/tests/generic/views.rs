@@ -67,12 +67,12 @@ fn inner<'a, D: Dimension>(view: &ArrayView<'a, i32, D>) -> Option<ArrayView<'a,
 fn a_view_of_any_type_is_sliced_and_cropped() -> Result<(), LayoutError> {
     let mut items: Vec<i32> = (0..60).collect();
     let view = ArrayView::from_shape(Ix3(3, 4, 5).into(), &items)?;
-    assert_eq!(sizes(view.view(), s![1, .., ..;2])?, (12, 1));
+    assert_eq!(sizes(view.strided(), s![1, .., ..;2])?, (12, 1));
     assert_eq!(inner(&view).map(|inner| inner.iter().copied().collect()), Some(vec![26, 27, 28, 31, 32, 33]));
     let view = ArrayView::from_shape(IxDyn(&[3, 4, 5]).into(), &items)?;
-    assert_eq!(sizes(view.view(), s![1, .., ..;2])?, (12, 1));
+    assert_eq!(sizes(view.strided(), s![1, .., ..;2])?, (12, 1));
     assert_eq!(inner(&view).map(|inner| inner.iter().sum()), Some(26 + 27 + 28 + 31 + 32 + 33));
-    assert!(view.view().crop(&IxDyn(&[0, 0]), &IxDyn(&[1, 1])).is_none());
+    assert!(view.strided().crop(&IxDyn(&[0, 0]), &IxDyn(&[1, 1])).is_none());
     let view = ArrayViewMut::from_shape(IxDyn(&[3, 4, 5]).into(), &mut items)?;
     view.crop(&IxDyn(&[1, 1, 1]), &IxDyn(&[2, 2, 2])).expect("a part").fill(-1);
     assert_eq!(items.iter().position(|&item| item == -1), Some(26));

@@ -14,7 +14,7 @@ fn owned_lists() -> OwnedArray<Vec<u8>, Ix2> {
 #[test]
 fn what_is_written_where_numbers_are_lent_is_left() {
     let mut rows = owned_numbers();
-    let mut lent = rows.as_view_mut().unwrap();
+    let mut lent = rows.try_view_mut().unwrap();
     assert!(lent.set(&Ix2(0, 1), 9));
     assert_eq!(lent.len(), 6);
     assert_eq!(rows.stored(), [0, 9, 2, 3, 4, 5, 6]);
@@ -47,11 +47,11 @@ fn lists_are_set_swapped_and_mapped() {
     let mut rows = owned_lists();
     assert!(rows.set(&Ix2(0, 1), vec![60]));
     assert!(!rows.set(&Ix2(0, 3), vec![61]));
-    assert!(rows.as_view_mut().unwrap().swap(&Ix2(0, 1), &Ix2(1, 1)));
+    assert!(rows.try_view_mut().unwrap().swap(&Ix2(0, 1), &Ix2(1, 1)));
     rows.map_in_place(&s![0, 1..], Vec::clear).unwrap();
     assert_eq!(rows.len(), 6);
     let expected = [&[0][..], &[], &[], &[3], &[60], &[5]];
-    assert_eq!(items(&rows.as_view().unwrap()), expected);
+    assert_eq!(items(&rows.try_view().unwrap()), expected);
     let stored = rows.into_stored();
     assert_eq!((&stored[..6], &stored[6..]), (&expected.map(Vec::from)[..], &[vec![6]][..]));
 }

@@ -62,8 +62,8 @@ fn a_shape_by_its_strides_is_laid_over_items() {
 fn a_view_is_laid_over_items_that_it_lies_within() {
     let numbers = [7, 8, 9];
     let two = two_backwards(&numbers);
-    assert_eq!(items(&ArrayView::over(two.view().duplicate().unwrap(), &numbers[..2]).unwrap()), [8, 7]);
-    assert!(ArrayView::over(two.view().duplicate().unwrap(), &numbers[..1]).is_err());
+    assert_eq!(items(&ArrayView::over(two.strided().duplicate().unwrap(), &numbers[..2]).unwrap()), [8, 7]);
+    assert!(ArrayView::over(two.strided().duplicate().unwrap(), &numbers[..1]).is_err());
 }
 
 /// The item of an index that stands in brackets.

@@ -76,7 +76,7 @@ fn arrays_are_equal_where_shapes_and_items_are() -> Result<(), LayoutError> {
     assert!(!ArrayView::eq(&rows, &other) && !ArrayView::eq(&rows, &other.reversed_axes()));
     let (no_row, no_column) =
         (rows.slice::<Ix2, _>(&s![..0, ..], Fit::Strict)?, rows.slice::<Ix2, _>(&s![.., ..0], Fit::Strict)?);
-    assert!(ArrayView::eq(&no_row, &no_row.borrowed()) && !ArrayView::eq(&no_row, &no_column));
+    assert!(ArrayView::eq(&no_row, &no_row.view()) && !ArrayView::eq(&no_row, &no_column));
     let [one, another] = [lists(), lists()];
     let [one, another] = [ArrayView::from_shape(ROWS.into(), &one)?, ArrayView::from_shape(ROWS.into(), &another)?];
     assert!(ArrayView::eq(&one, &another));

@@ -42,7 +42,7 @@ fn a_view_is_lent_over_items_that_it_has_to_itself() {
 fn a_row_backwards_is_read_and_filled() {
     let mut numbers = NUMBERS;
     let mut row: ArrayViewMut<'_, u8, Ix1> = rows_mut(&mut numbers).slice(&s![0, ..;-1], Fit::Strict).unwrap();
-    assert_eq!(items(&row.as_view().unwrap()), [2, 1, 0]);
+    assert_eq!(items(&row.try_view().unwrap()), [2, 1, 0]);
     assert_eq!((row.len(), row.is_empty()), (3, false));
     row.fill(9);
     assert_eq!(numbers, [9, 9, 9, 3, 4, 5, 6]);
@@ -145,7 +145,7 @@ fn lists_are_replaced_swapped_and_mapped() {
     assert_eq!(rows.replace(&Ix2(2, 0), vec![51]), Err(vec![51]));
     assert!(rows.swap(&Ix2(0, 0), &Ix2(1, 2)));
     assert!(!rows.swap(&Ix2(0, 0), &Ix2(1, 3)));
-    assert_eq!(items(&rows.as_view().unwrap()), [5, 1, 2, 3, 4, 50].map(|number| vec![number]));
+    assert_eq!(items(&rows.try_view().unwrap()), [5, 1, 2, 3, 4, 50].map(|number| vec![number]));
     rows.diag().map_in_place(Vec::clear);
     assert_eq!(lists, [&[][..], &[1], &[2], &[3], &[], &[50], &[6]]);
 }

@@ -184,12 +184,12 @@ fn what_is_left_of_random_parts_comes_however_it_is_asked_for() {
 
 /// Asserts that each row comes once, as that of the view, while all others are in use.
 fn rows_come_once<D: Lengths>(numbers: &mut Numbers, part: PartMut<'_, usize, D>, picked: &Picked) -> Vec<usize> {
-    let expected: Vec<Row> = part.view().rows(Order::RowMajor).collect();
+    let expected: Vec<Row> = part.strided().rows(Order::RowMajor).collect();
     let places = rows_of(picked);
     assert_eq!(expected.len(), places.len());
     let mut rows = all_of(part.into_row_parts(), expected.len());
     for ((row, expected), places) in rows.iter().zip(expected).zip(places) {
-        let (view, len) = (row.view(), row.dim()[0]);
+        let (view, len) = (row.strided(), row.dim()[0]);
         assert_eq!(
             (view.start(), signed(view.strides()[0]), len),
             (expected.start, expected.stride, expected.len),
@@ -278,15 +278,15 @@ fn a_row_of_random_parts_is_kept_while_later_ones_are_written() {
 fn lends_again<D: Lengths>(numbers: &mut Numbers, part: PartMut<'_, usize, D>, picked: &Picked) -> Vec<usize> {
     let (mut part, count) = (part, picked.places.len());
     let indices: Vec<D> = (0..count).map(|number| dimension(index_of(&picked.shape, number).into_iter())).collect();
-    let view = part.view().duplicate().expect("memory for a view");
+    let view = part.strided().duplicate().expect("memory for a view");
     let mut again = part.reborrow().expect("memory for a view");
-    assert_eq!(again.view(), &view);
+    assert_eq!(again.strided(), &view);
     assert!(again.reborrow().is_ok_and(|third| third.into_items().map(|item| *item).eq(picked.places.iter().copied())));
     again.reborrow().expect("memory for a view").into_items().zip(WRITTEN..).for_each(|(item, number)| *item = number);
     assert!(indices.iter().zip(WRITTEN..).all(|(index, number)| again.get(index) == Some(&number)));
     let one = numbers.below(count + 1);
     indices.get(one).into_iter().for_each(|index| assert!(again.set(index, 2 * WRITTEN)));
-    assert_eq!(part.view(), &view);
+    assert_eq!(part.strided(), &view);
     let other = numbers.below(count + 1);
     indices.get(other).into_iter().for_each(|index| assert!(part.set(index, 3 * WRITTEN)));
     let mut written: Vec<usize> = (WRITTEN..).take(count).collect();
@@ -312,13 +312,13 @@ fn lists_are_written_as_items_and_in_rows() -> Result<(), LayoutError> {
     let mut lists = crate::lists();
     let mut turned = lists_of(&mut lists[..6], Ix2(2, 3))?.reversed_axes();
     for (mut row, number) in turned.rows_mut().zip(10..) {
-        assert_eq!((row.dim(), row.view().strides()), (&Ix1(2), &Ix1(3)));
+        assert_eq!((row.dim(), row.strided().strides()), (&Ix1(2), &Ix1(3)));
         row[1].push(number);
     }
     turned.reborrow()?.into_items().skip(1).step_by(2).for_each(|list| list[0] += 20);
     assert_eq!(format!("{:?}", turned.rows_mut()), "PartRows { left: 3, .. }");
     assert_eq!(format!("{:?}", turned.view_mut().into_items()), "PartItems { left: 6, .. }");
-    assert_eq!(format!("{:?}", turned.view().duplicate()?.into_places(Order::C)), "IntoPlaces { left: 6, .. }");
+    assert_eq!(format!("{:?}", turned.strided().duplicate()?.into_places(Order::C)), "IntoPlaces { left: 6, .. }");
     assert_eq!(lists, [&[0][..], &[1], &[2], &[23, 10], &[24, 11], &[25, 12], &[6]]);
     Ok(())
 }

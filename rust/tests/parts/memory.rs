@@ -104,20 +104,20 @@ fn what_lends_is_as_before_where_memory_ran_out() {
     part.invert_axis(Axis(4)).unwrap();
     let mut owned = OwnedArray::from_shape_vec(shape().into(), NUMBERS.to_vec()).unwrap();
     let all = s![.., .., .., .., ..];
-    let mut turned = owned.as_view_mut().unwrap();
+    let mut turned = owned.try_view_mut().unwrap();
     turned.invert_axis(Axis(4)).unwrap();
     for failing in 0..2 {
         assert!(failing_at(failing, || part.reborrow().is_err()).0);
-        assert_inverted(part.view());
+        assert_inverted(part.strided());
         let sliced: Result<PartMut<'_, u8, IxDyn>, _> = failing_at(failing, || part.slice_mut(&all, Fit::Strict)).0;
         assert!(matches!(sliced, Err(LayoutError::Memory(_))));
-        assert_inverted(part.view());
+        assert_inverted(part.strided());
         assert!(failing_at(failing, || turned.multi_sliced_mut([&all]).is_err()).0);
-        assert_inverted(turned.view());
+        assert_inverted(turned.strided());
     }
     for failing in 0..2 {
-        assert!(failing_at(failing, || owned.as_view_mut().is_err()).0);
-        assert_eq!((owned.view().start(), owned.view().strides().slice()), (0, &[6, 6, 6, 3, 1][..]));
+        assert!(failing_at(failing, || owned.try_view_mut().is_err()).0);
+        assert_eq!((owned.strided().start(), owned.strided().strides().slice()), (0, &[6, 6, 6, 3, 1][..]));
     }
     assert_eq!((&numbers, owned.stored()), (&NUMBERS, &NUMBERS[..]));
 }

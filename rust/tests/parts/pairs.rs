@@ -17,7 +17,7 @@ fn takes<D: Lengths>(numbers: &mut Numbers, part: PartMut<'_, usize, D>, picked:
     let mut others: Vec<usize> = (WRITTEN..).take(other.len).collect();
     let others: ArrayViewMut<'_, usize, D> = array(&other, &mut others);
     let mut met = Vec::new();
-    let zipped = part.zip_mut_with(&others.borrowed(), |item, other| {
+    let zipped = part.zip_mut_with(&others.view(), |item, other| {
         met.push((*item, *other));
         *item += *other;
     });
@@ -26,7 +26,7 @@ fn takes<D: Lengths>(numbers: &mut Numbers, part: PartMut<'_, usize, D>, picked:
     if numbers.once_in(2) {
         return met.iter().map(|(item, other)| item + other).collect();
     }
-    assert_eq!(part.assign(&others.borrowed()), Ok(()));
+    assert_eq!(part.assign(&others.view()), Ok(()));
     places.iter().map(|place| WRITTEN + place).collect()
 }
 

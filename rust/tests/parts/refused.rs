@@ -45,7 +45,7 @@ fn keeps(call: impl FnOnce(&mut [u8]) -> bool) -> bool {
 fn keeps_part(call: impl FnOnce(&mut PartMut<'_, u8, Ix2>) -> bool) {
     assert!(keeps(|items| {
         let mut part = turned(items).into_part();
-        call(&mut part) && is_turned(part.view())
+        call(&mut part) && is_turned(part.strided())
     }));
 }
 
@@ -53,14 +53,14 @@ fn keeps_part(call: impl FnOnce(&mut PartMut<'_, u8, Ix2>) -> bool) {
 fn keeps_array(call: impl FnOnce(&mut ArrayViewMut<'_, u8, Ix2>) -> bool) {
     assert!(keeps(|items| {
         let mut array = turned(items);
-        call(&mut array) && is_turned(array.view())
+        call(&mut array) && is_turned(array.strided())
     }));
 }
 
 /// The same of a call of an array that owns its items.
 fn keeps_owned(call: impl FnOnce(&mut OwnedArray<u8, Ix2>) -> bool) {
     let mut array = OwnedArray::from_shape_vec(Ix2(2, 3).into(), NUMBERS.to_vec()).expect("six items");
-    assert!(call(&mut array) && is_in_order(array.view()));
+    assert!(call(&mut array) && is_in_order(array.strided()));
     assert_eq!(array.stored(), NUMBERS);
 }
 
@@ -164,16 +164,16 @@ fn items_of_another_shape_change_none() {
 
 #[test]
 fn what_is_lent_leaves_the_view() {
-    keeps_part(|part| is_turned(part.reborrow().expect("memory").view()));
-    keeps_part(|part| is_turned(part.slice_mut(&s![.., ..], Fit::Strict).expect("a slice").view()));
-    keeps_part(|part| is_turned(part.sliced_mut(s![.., ..]).expect("a slice").view()));
+    keeps_part(|part| is_turned(part.reborrow().expect("memory").strided()));
+    keeps_part(|part| is_turned(part.slice_mut(&s![.., ..], Fit::Strict).expect("a slice").strided()));
+    keeps_part(|part| is_turned(part.sliced_mut(s![.., ..]).expect("a slice").strided()));
     keeps_part(|part| part.get_mut(&(1, 2)) == Some(&mut 2));
     keeps_array(|array| is_turned(array.parts_mut().0));
-    keeps_array(|array| is_turned(array.view_mut().view()));
-    keeps_array(|array| is_turned(array.sliced_mut(s![.., ..]).expect("a slice").view()));
+    keeps_array(|array| is_turned(array.view_mut().strided()));
+    keeps_array(|array| is_turned(array.sliced_mut(s![.., ..]).expect("a slice").strided()));
     keeps_array(|array| array.get_mut(&(1, 2)) == Some(&mut 2));
     keeps_owned(|array| is_in_order(array.parts_mut().0));
-    keeps_owned(|array| is_in_order(array.as_view_mut().expect("memory").view()));
-    keeps_owned(|array| is_in_order(array.sliced_mut(s![.., ..]).expect("a slice").view()));
+    keeps_owned(|array| is_in_order(array.try_view_mut().expect("memory").strided()));
+    keeps_owned(|array| is_in_order(array.sliced_mut(s![.., ..]).expect("a slice").strided()));
     keeps_owned(|array| array.stored_mut() == NUMBERS);
 }

@@ -24,7 +24,7 @@ fn array<D: Dimension>(shape: &[usize], order: Order) -> OwnedArray<usize, D> {
 
 /// The places that a slice of the array of a shape picks.
 fn places(shape: &[usize], order: Order, elems: &[SliceInfoElem]) -> Result<Vec<usize>, ErrorKind> {
-    let view: View = lists_of(array::<IxDyn>(shape, order).view());
+    let view: View = lists_of(array::<IxDyn>(shape, order).strided());
     let part = model::slice(&view, elems, Fit::Strict)?;
     let places = layouts::places(part.start as i128, &part.shape, &part.strides, Order::RowMajor);
     Ok(places.into_iter().map(|place| place as usize).collect())
@@ -87,7 +87,7 @@ fn written<D: Dimension>(shape: &[usize], order: Order, writes: &[Write]) -> Res
         assert_eq!(written.stored(), array::<D>(shape, order).stored(), "an error changed {shape:?}");
         return Err(error);
     }
-    assert_eq!(written.view().dim().slice(), shape);
+    assert_eq!(written.strided().dim().slice(), shape);
     Ok(written.into_stored())
 }
 

@@ -15,8 +15,8 @@ pub fn answer(call: &Call) -> Option<String> {
     let reversed = call.reversed();
     Some(match call.name {
         "OwnedArray::items" => call.told(|| array.items(&reversed)),
-        "OwnedArray::as_view" => call.told(|| array.as_view()),
-        "OwnedArray::as_view_mut" => call.told(|| array.as_view_mut()),
+        "OwnedArray::try_view" => call.told(|| array.try_view()),
+        "OwnedArray::try_view_mut" => call.told(|| array.try_view_mut()),
         "OwnedArray::map_in_place" => {
             let mapped = call.makes(|| array.map_in_place(&reversed, |item| *item += 50));
             left(mapped, array.stored())

@@ -51,7 +51,7 @@ fn written(call: &Call, array: ArrayViewMut<'_, usize, IxDyn>) -> Option<String>
         "ArrayViewMut::exact_chunks" => call.told(|| array.exact_chunks::<IxDyn>(&to)),
         "ArrayViewMut::index_axis" => call.told(|| array.index_axis(axis, index)),
         "ArrayViewMut::insert_axis" => call.told(|| array.insert_axis(axis)),
-        "ArrayViewMut::as_view" => call.told(|| array.as_view()),
+        "ArrayViewMut::try_view" => call.told(|| array.try_view()),
         _ => return None,
     })
 }

@@ -44,10 +44,10 @@ written! {
     StrideShape<IxDyn>: |shape| shape.dim.written();
     (IxDyn, Option<Order>): |shape| shape.0.written();
     Strided<IxDyn>: |view| format!("{} {} {}", view.dim().written(), view.strides().written(), view.start());
-    ArrayView<'_, usize, IxDyn>: |array| array.view().written();
-    ArrayViewMut<'_, usize, IxDyn>: |array| array.view().written();
+    ArrayView<'_, usize, IxDyn>: |array| array.strided().written();
+    ArrayViewMut<'_, usize, IxDyn>: |array| array.strided().written();
     SplitViews<IxDyn>: |parts| format!("{} and {} at {}", parts.first.written(), parts.second.written(), parts.cut);
-    PartMut<'_, usize, IxDyn>: |part| part.view().written();
+    PartMut<'_, usize, IxDyn>: |part| part.strided().written();
     Vec<PartMut<'_, usize, IxDyn>>: |parts| {
         parts.iter().map(|part| format!("{};", part.written())).collect::<Vec<_>>().join(" ")
     };

@@ -62,8 +62,8 @@ impl<T: PartialEq, D: Lengths> ArrayView<'_, T, D> {
             (map (item_at_place self.now.items) (view_places RowMajor self.now.view))
             (map (item_at_place other.now.items) (view_places RowMajor other.now.view)) }
     {
-        let nearest = nearest_views(self.view(), other.view());
-        let (rows, others) = nearest_rows_with(self.view(), other.view(), &nearest);
+        let nearest = nearest_views(self.strided(), other.strided());
+        let (rows, others) = nearest_rows_with(self.strided(), other.strided(), &nearest);
         have_equal_rows(
             LentRows::new(self.stored(), rows),
             LentRows::new(other.stored(), others),

@@ -98,7 +98,7 @@ impl<T, D: Lengths> ArrayView<'_, T, D> {
         ensures ran { InSomeOrder (λ items. FoldsItems lends F.FnMut items f init result)
             (map (item_at_place self.now.items) (view_places RowMajor self.now.view)) }
     {
-        let nearest = nearest_view(self.view());
+        let nearest = nearest_view(self.strided());
         fold_rows(self.rows_in(&nearest), init, f)
     }
 

@@ -128,6 +128,6 @@ impl<'a, T, D: Lengths> ArrayView<'a, T, D> {
             (YieldsFirstBy (λ (item : Bor T). Some item.now) (λ (left : List (Option T)). left))
             (λ turns. ItemsMapTo turns (λ (item : Bor T). Some item.now) turns.from) }
     {
-        Iter::new(self.stored(), self.view().iter_places(Order::RowMajor))
+        Iter::new(self.stored(), self.strided().iter_places(Order::RowMajor))
     }
 }

@@ -187,7 +187,7 @@ impl<'a, T, D: Lengths> ArrayView<'a, T, D> {
         ensures { rows_items result
             ≡ map (item_at_place self.now.items) (view_places RowMajor self.now.view) }
     {
-        LentRows::new(self.stored(), self.view().joined_rows(Order::RowMajor))
+        LentRows::new(self.stored(), self.strided().joined_rows(Order::RowMajor))
     }
 
     /// The items of all indices as the rows of the nearest view, or as `joined_rows` where there is none.
@@ -197,7 +197,7 @@ impl<'a, T, D: Lengths> ArrayView<'a, T, D> {
         ensures { IsPermutation (rows_items result)
             (map (item_at_place self.now.items) (view_places RowMajor self.now.view)) }
     {
-        LentRows::new(self.stored(), nearest_rows(self.view(), nearest))
+        LentRows::new(self.stored(), nearest_rows(self.strided(), nearest))
     }
 
     /// An iterator over the rows along the last axis, in row-major order, from both ends, which knows how many are left. Each is
@@ -213,6 +213,6 @@ impl<'a, T, D: Lengths> ArrayView<'a, T, D> {
         ensures in_order { YieldsInOrder
             (YieldsFirst (λ (left : List (RowValue T)). left)) (λ left. left) }
     {
-        LentRows::new(self.stored(), self.view().rows(Order::RowMajor))
+        LentRows::new(self.stored(), self.strided().rows(Order::RowMajor))
     }
 }

@@ -95,7 +95,7 @@ impl<T: Unsigned, D: Lengths> ArrayView<'_, T, D> {
         ensures sum { IfSome result (λ total. total ≡ sum_by (λ item. option_map_or T.number item 0)
             (map (item_at_place self.now.items) (view_places RowMajor self.now.view))) }
     {
-        let nearest = nearest_view(self.view());
+        let nearest = nearest_view(self.strided());
         sum_rows(self.rows_in(&nearest))
     }
 }

@@ -295,7 +295,7 @@ impl<T, D: Lengths> ArrayView<'_, T, D> {
         if !to.view.dim().equal(self.dim()) {
             return Err(from_kind(ErrorKind::IncompatibleShape));
         }
-        write_view(to.items, &to.view, self.stored(), self.view(), f);
+        write_view(to.items, &to.view, self.stored(), self.strided(), f);
         Ok(())
     }
 
@@ -335,7 +335,7 @@ impl<T, D: Lengths> ArrayView<'_, T, D> {
         if !to.view.dim().equal(self.dim()) {
             return Err(from_kind(ErrorKind::IncompatibleShape));
         }
-        match nearest_views(&to.view, self.view()) {
+        match nearest_views(&to.view, self.strided()) {
             Some((view, source)) => write_view(to.items, &view, self.stored(), &source, f),
             None => return self.map_into(to, f),
         }

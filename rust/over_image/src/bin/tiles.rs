@@ -29,7 +29,7 @@ fn main() -> Result<(), LayoutError> {
     println!("{} tiles", tiles.len());
     tiles.into_par_iter().for_each(flatten);
 
-    let bands: Vec<_> = view.rows_mut()?.collect();
+    let bands: Vec<_> = view.rows_mut().collect();
     bands.into_par_iter().enumerate().for_each(|(row, mut band)| {
         if row % TILE == 0 {
             band.fill(0);

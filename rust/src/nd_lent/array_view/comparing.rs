@@ -82,8 +82,8 @@ impl<T: PartialEq, D: Lengths> ArrayView<'_, T, D> {
     /// </details>
     #[inline]
     fn has_equal_items(&self, other: &ArrayView<'_, T, D>) -> bool {
-        let nearest = nearest_views(self.view(), other.view());
-        let (rows, others) = nearest_rows_with(self.view(), other.view(), &nearest);
+        let nearest = nearest_views(self.strided(), other.strided());
+        let (rows, others) = nearest_rows_with(self.strided(), other.strided(), &nearest);
         have_equal_rows(LentRows::new(self.stored(), rows), LentRows::new(other.stored(), others))
     }
 

@@ -164,7 +164,7 @@ impl<T, D: Lengths> ArrayView<'_, T, D> {
     /// </details>
     #[inline]
     pub fn fold_nearest<B, F: FnMut(B, &T) -> B>(&self, init: B, f: F) -> B {
-        let nearest = nearest_view(self.view());
+        let nearest = nearest_view(self.strided());
         fold_rows(self.rows_in(&nearest), init, f)
     }
 

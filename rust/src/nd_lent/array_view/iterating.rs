@@ -186,6 +186,6 @@ impl<'a, T, D: Lengths> ArrayView<'a, T, D> {
     #[inline]
     #[must_use]
     pub fn iter(&self) -> Iter<'_, T> {
-        Iter::new(self.stored(), self.view().iter_places(Order::RowMajor))
+        Iter::new(self.stored(), self.strided().iter_places(Order::RowMajor))
     }
 }

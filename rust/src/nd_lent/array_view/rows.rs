@@ -246,7 +246,7 @@ impl<'a, T, D: Lengths> ArrayView<'a, T, D> {
     /// </details>
     #[inline]
     pub(crate) fn joined_rows(&self) -> LentRows<'_, T> {
-        LentRows::new(self.stored(), self.view().joined_rows(Order::RowMajor))
+        LentRows::new(self.stored(), self.strided().joined_rows(Order::RowMajor))
     }
 
     /// The items of all indices as the rows of the nearest view, or as `joined_rows` where there is none.
@@ -263,7 +263,7 @@ impl<'a, T, D: Lengths> ArrayView<'a, T, D> {
     /// </details>
     #[inline]
     pub(crate) fn rows_in<'s>(&'s self, nearest: &'s Option<Strided<Ix6>>) -> LentRows<'s, T> {
-        LentRows::new(self.stored(), nearest_rows(self.view(), nearest))
+        LentRows::new(self.stored(), nearest_rows(self.strided(), nearest))
     }
 
     /// An iterator over the rows along the last axis, in row-major order, from both ends, which knows how many are left. Each is
@@ -301,6 +301,6 @@ impl<'a, T, D: Lengths> ArrayView<'a, T, D> {
     #[inline]
     #[must_use]
     pub fn rows(&self) -> LentRows<'_, T> {
-        LentRows::new(self.stored(), self.view().rows(Order::RowMajor))
+        LentRows::new(self.stored(), self.strided().rows(Order::RowMajor))
     }
 }

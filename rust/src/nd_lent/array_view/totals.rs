@@ -113,7 +113,7 @@ impl<T: Unsigned, D: Lengths> ArrayView<'_, T, D> {
     #[inline]
     #[must_use]
     pub fn sum(&self) -> Option<u64> {
-        let nearest = nearest_view(self.view());
+        let nearest = nearest_view(self.strided());
         sum_rows(self.rows_in(&nearest))
     }
 }

@@ -19,7 +19,7 @@ impl<'a, T: Sized, D: Lengths> ArrayViewMut<'a, T, D> {
     /// let mut items = [7, 8, 9];
     /// let mut array = ArrayViewMut::from_shape(Ix1(3).into(), &mut items)?;
     /// array.invert_axis(Axis(0))?;
-    /// assert_eq!(array.as_view()?.to_vec()?, [9, 8, 7]);
+    /// assert_eq!(array.try_view()?.to_vec()?, [9, 8, 7]);
     /// assert_eq!(array.invert_axis(Axis(1)), Err(from_kind(ErrorKind::OutOfBounds)));
     /// assert_eq!(items, [7, 8, 9]);
     /// # Ok(())
@@ -89,7 +89,7 @@ impl<'a, T: Sized, D: Lengths> ArrayViewMut<'a, T, D> {
     /// # fn main() -> Result<(), LayoutError> {
     /// let mut items = [5, 6, 7, 8];
     /// let mut diagonal = ArrayViewMut::from_shape(Ix2(2, 2).into(), &mut items)?.diag();
-    /// assert_eq!(diagonal.as_view()?.to_vec()?, [5, 8]);
+    /// assert_eq!(diagonal.try_view()?.to_vec()?, [5, 8]);
     /// diagonal.fill(0);
     /// assert_eq!(items, [0, 6, 7, 0]);
     /// # Ok(())
@@ -128,7 +128,7 @@ impl<'a, T: Sized, D: Lengths + Clone> ArrayViewMut<'a, T, D> {
     /// let mut items = [7, 8, 9];
     /// let array = ArrayViewMut::from_shape(Ix1(3).into(), &mut items)?;
     /// let part = array.crop(&Ix1(1), &Ix1(3)).expect("a part");
-    /// assert_eq!(part.as_view()?.to_vec()?, [8, 9]);
+    /// assert_eq!(part.try_view()?.to_vec()?, [8, 9]);
     /// let array = ArrayViewMut::from_shape(Ix1(3).into(), &mut items)?;
     /// assert_eq!(array.crop(&Ix1(1), &Ix1(4)), None);
     /// # Ok(())

@@ -19,7 +19,7 @@ impl<'a, T: Sized, D: Lengths> ArrayViewMut<'a, T, D> {
     /// let mut items = [7, 8, 9];
     /// let array = ArrayViewMut::from_shape(Ix1(3).into(), &mut items)?;
     /// let part: ArrayViewMut<'_, i32, Ix1> = array.slice(&s![1..], Fit::Strict)?;
-    /// assert_eq!(part.as_view()?.to_vec()?, [8, 9]);
+    /// assert_eq!(part.try_view()?.to_vec()?, [8, 9]);
     /// let past = part.slice::<Ix1, _>(&s![1..3], Fit::Strict);
     /// assert_eq!(past, Err(from_kind(ErrorKind::OutOfBounds).into()));
     /// # Ok(())
@@ -176,7 +176,7 @@ impl<'a, T: Sized, D: Lengths> ArrayViewMut<'a, T, D> {
     /// let array = ArrayViewMut::from_shape(Ix1(5).into(), &mut items)?;
     /// let chunks: ArrayViewMut<'_, i32, Ix2> = array.exact_chunks(&Ix1(2))?;
     /// assert_eq!(chunks.dim(), &Ix2(2, 2));
-    /// assert_eq!(chunks.as_view()?.to_vec()?, [5, 6, 7, 8]);
+    /// assert_eq!(chunks.try_view()?.to_vec()?, [5, 6, 7, 8]);
     /// # Ok(())
     /// # }
     /// ```

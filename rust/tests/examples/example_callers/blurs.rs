@@ -63,7 +63,7 @@ fn mean_at(picture: &ArrayView<'_, u8, Ix2>, row: usize, column: usize) -> u8 {
 /// [How to read it](ndarray_layout::contracts)
 /// </details>
 pub fn blur(picture: &ArrayView<'_, u8, Ix2>) -> Result<Vec<u8>, AllocError> {
-    let (rows, columns) = picture.view().dim().into_pattern();
+    let (rows, columns) = picture.strided().dim().into_pattern();
     let (rows, columns) = (rows.saturating_sub(2), columns.saturating_sub(2));
     let mut means = Vec::fallible_with_capacity(rows * columns)?;
     for (row, column) in all_indices((rows, columns))? {

@@ -19,7 +19,7 @@ use ::ndarray_layout::{Dimension, Ix2, all_indices};
 /// </details>
 pub fn count_bright(picture: &ArrayView<'_, u8, Ix2>, least: u8) -> Result<usize, AllocError> {
     let mut count = 0;
-    for index in all_indices(picture.view().dim().into_pattern())? {
+    for index in all_indices(picture.strided().dim().into_pattern())? {
         if picture.get(&index).is_some_and(|pixel| *pixel >= least) {
             count += 1;
         }

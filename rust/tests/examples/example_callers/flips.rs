@@ -18,7 +18,7 @@ use ::ndarray_layout::{Dimension, Ix2, Strided, all_indices};
 /// [How to read it](ndarray_layout::contracts)
 /// </details>
 fn swap_rows(picture: &mut ArrayViewMut<'_, u8, Ix2>) -> Result<(), AllocError> {
-    let (rows, columns) = picture.view().dim().into_pattern();
+    let (rows, columns) = picture.strided().dim().into_pattern();
     for (row, column) in all_indices((rows / 2, columns))? {
         let _ = picture.swap(&(row, column), &(rows - 1 - row, column));
     }

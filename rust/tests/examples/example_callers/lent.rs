@@ -88,7 +88,7 @@ pub fn paint_part(view: Strided<Ix2>, pixels: &mut [u8], starts: &Ix2, ends: &Ix
 /// [How to read it](ndarray_layout::contracts)
 /// </details>
 pub fn paint_owned(picture: &mut OwnedArray<u8, Ix2>, pixel: u8) -> Result<(), AllocError> {
-    let view = picture.view().duplicate()?;
+    let view = picture.strided().duplicate()?;
     paint_view(view, picture.stored_mut(), pixel);
     Ok(())
 }

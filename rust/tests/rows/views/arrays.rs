@@ -46,8 +46,8 @@ fn writes(words: &mut Words) -> Vec<(Vec<SliceInfoElem>, Vec<usize>)> {
 fn viewed<D: Lengths>(array: &OwnedArray<usize, D>) -> String {
     let count = array.len();
     assert_eq!(array.is_empty(), count == 0);
-    assert!(array.dim().equal(array.view().dim()));
-    format!("{} {count}", parts(array.view()))
+    assert!(array.dim().equal(array.strided().dim()));
+    format!("{} {count}", parts(array.strided()))
 }
 
 /// The view of two rows of three items with a spare one, and a write to that.

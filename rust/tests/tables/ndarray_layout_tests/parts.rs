@@ -70,7 +70,7 @@ fn written<D: Lengths>(
     slices: &[Vec<SliceInfoElem>],
     placed: &[Placed],
 ) -> Result<bool, LayoutError> {
-    let lent = array.as_view_mut()?;
+    let lent = array.try_view_mut()?;
     Ok(are_placed(lent.multi_slice_mut(slices)?, placed))
 }
 
@@ -92,7 +92,7 @@ fn halves_written<D: Lengths>(
     (first, item): (&D, usize),
     (second, another): (&D, usize),
 ) -> Result<bool, LayoutError> {
-    let lent = array.as_view_mut()?;
+    let lent = array.try_view_mut()?;
     let (mut one, mut other) = lent.into_part().split_at(Axis(axis), coordinate)?;
     let is_set = one.set(first, item);
     Ok(other.set(second, another) && is_set)

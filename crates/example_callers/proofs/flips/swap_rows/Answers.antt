@@ -16,7 +16,7 @@ loop-row-init c =
     let is : view.shape ≡ rows ∷ columns ∷ [] = search rules in
     let upper : c.into_iter-row-iterator.result ≡ indices_in RowMajor (rows / 2 ∷ columns ∷ []) = search rules in
     record {
-      flipped = none_flipped 0 view c.view.ensures.owned.is_view (omega (arith, ap length is)) c.args.picture.now.items.now
+      flipped = none_flipped 0 view c.strided.ensures.owned.is_view (omega (arith, ap length is)) c.args.picture.now.items.now
           c.into_iter-row-iterator.result
           (upper ∙ ap (λ (shape : List ℕ). indices_in RowMajor (set shape 0 (get_or shape 0 0 / 2))) (sym is));
       same_reference = refl;
@@ -51,7 +51,7 @@ loop-row-preserved c =
     let is : old.view.shape ≡ c.into_pattern-rows.result.0 ∷ c.into_pattern-rows.result.1 ∷ [] = search rules in
     let next : c.loop-row.row-iterator ≡ index ∷ c.next.new.self = search rules in
     record {
-      flipped = one_flipped (invert_source 0 old.view.shape) old now (array_of c.swap.new.self) index c.next.new.self c.view.ensures.owned
+      flipped = one_flipped (invert_source 0 old.view.shape) old now (array_of c.swap.new.self) index c.next.new.self c.strided.ensures.owned
           (subst (λ left. IsFlippedBut (invert_source 0 old.view.shape) left old now) next c.loop-row.invariant.flipped)
           (c.swap.ensures.swapped
           ∙ ap (λ (shape : List ℕ). with_swapped now index ((get_or shape 0 0 - 1 - row) ∷ c.in-Some.column ∷ [])) (sym is));

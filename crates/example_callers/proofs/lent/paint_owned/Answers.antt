@@ -15,7 +15,7 @@ returns c =
     subst (λ items. HasItemsOf (λ index. Some c.args.pixel) array (record { items = items; view = array.view })) (sym now)
     (subst (λ view. HasItemsOf (λ index. Some c.args.pixel) (record { items = array.items; view = view })
     (record { items = stored; view = view }))
-    (c.in_ok-view.ensures.view ∙ c.view.ensures.view)
+    (c.in_ok-view.ensures.view ∙ c.strided.ensures.view)
     (subst (λ items. HasItemsOf (λ index. Some c.args.pixel) (record { items = items; view = seen })
     (record { items = stored; view = seen }))
     c.stored_mut.ensures.items c.paint_view.ensures))

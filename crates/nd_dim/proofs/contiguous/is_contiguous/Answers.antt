@@ -1,7 +1,7 @@
 use Rattle.std.proofs.Common.{◌≡◌, ◌||◌, length, ◌==◌, if◌then◌else◌, sym, ap, ◌∙◌}
 use Rattle.std.proofs.lemmas.Bool.{or_left, cond-false, ne_eqb}
 use Rattle.nd_base.specs.Signed.{all_signed}
-use Rattle.nd_dim.specs.Contiguous.{has_default_strides, is_packed, is_lone_reversed}
+use Rattle.nd_dim.specs.Contiguous.{is_packed, is_lone_reversed}
 use Rattle.nd_dim.proofs.Packed.{default_test}
 use Rattle.nd_dim.proofs.contiguous.is_contiguous.Goals as goal
 

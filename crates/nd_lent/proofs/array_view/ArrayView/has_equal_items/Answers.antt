@@ -27,9 +27,9 @@ both g c =
     alike_moved c.args.self.now.view c.args.other.now.view c.requires (rows_places rows.result.0) (rows_places rows.result.1)
     (sym (as_many_places rows.result.0 rows.result.1 rows.ensures.alike))
     (subst (λ other. IsPermutation (zip (rows_places rows.result.0) (rows_places rows.result.1))
-    (pairs_of_places c.args.self.now.view other)) c.view-4.ensures.view
+    (pairs_of_places c.args.self.now.view other)) c.strided-4.ensures.view
     (subst (λ view. IsPermutation (zip (rows_places rows.result.0) (rows_places rows.result.1))
-    (pairs_of_places view c.view-4.result.now)) c.view-3.ensures.view rows.ensures.places))
+    (pairs_of_places view c.strided-4.result.now)) c.strided-3.ensures.view rows.ensures.places))
 
 pub new-requires : goal.new-requires
 new-requires g c =

@@ -13,7 +13,7 @@ new-requires g c =
     let has = c.stored.ensures.has_items in
     rw c.stored.ensures.items
     (rows_have_items RowMajor c.args.self.now.view rows.result
-    (permuted (rows.ensures.places ∙ ap (view_places RowMajor) c.view.ensures.view)) has.is_view has.within rows.ensures.some)
+    (permuted (rows.ensures.places ∙ ap (view_places RowMajor) c.strided.ensures.view)) has.is_view has.within rows.ensures.some)
 
 pub returns : goal.returns
 returns g c =
@@ -21,4 +21,4 @@ returns g c =
     rw c.stored.ensures.items at
     (ap rows_items c.new.ensures
     ∙ items_of_rows RowMajor c.stored.result.now c.args.self.now.view rows.result
-    (rows.ensures.places ∙ ap (view_places RowMajor) c.view.ensures.view))
+    (rows.ensures.places ∙ ap (view_places RowMajor) c.strided.ensures.view))

@@ -39,7 +39,7 @@ both g c =
     alike_moved c.args.to.now.view c.args.self.now.view (same_shape g c) places others
     (length-view_places RowMajor c.in-Some.source ∙ ap size (sym c.in-Some.ensures.shape)
     ∙ sym (length-view_places RowMajor c.in-Some.view))
-    (subst (λ other. IsPermutation (zip places others) (pairs_of_places c.args.to.now.view other)) c.view.ensures.view
+    (subst (λ other. IsPermutation (zip places others) (pairs_of_places c.args.to.now.view other)) c.strided.ensures.view
     c.in-Some.ensures.places)
 
 -- the items that are given

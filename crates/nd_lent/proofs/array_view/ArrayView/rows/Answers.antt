@@ -16,7 +16,7 @@ pub new-requires : goal.new-requires
 new-requires g c =
     let view = c.args.self.now.view in
     let has = c.stored.ensures.has_items in
-    rw (c.stored.ensures.items, c.rows.ensures.items, c.view.ensures.view)
+    rw (c.stored.ensures.items, c.rows.ensures.items, c.strided.ensures.view)
     (rows_have_items RowMajor view (view_rows RowMajor view) (permuted (rows_places-view_rows RowMajor has.is_view)) has.is_view has.within
     (some_in_each_row RowMajor view))
 
@@ -25,7 +25,7 @@ are : (g : Over) (c : After-new g) → c.new.result ≡ map (row_of c.args.self.
 are g c =
     c.new.ensures
     ∙ ap (λ items. map (row_of items) c.rows.result) c.stored.ensures.items
-    ∙ ap (map (row_of c.args.self.now.items)) (c.rows.ensures.items ∙ ap (view_rows RowMajor) c.view.ensures.view)
+    ∙ ap (map (row_of c.args.self.now.items)) (c.rows.ensures.items ∙ ap (view_rows RowMajor) c.strided.ensures.view)
 
 pub returns-clause-rows : goal.returns-clause-rows
 returns-clause-rows g c = are g (goal.at.returns-clause-rows g c).After-new

@@ -15,11 +15,11 @@ use Rattle.nd_lent.proofs.array_view.ArrayView.rows_in.Goals.{After-nearest_rows
 moved : (g : Over) (c : After-nearest_rows g)
     → IsPermutation (rows_places c.nearest_rows.result) (view_places RowMajor c.args.self.now.view)
 moved g c =
-    subst (λ view. IsPermutation (rows_places c.nearest_rows.result) (view_places RowMajor view)) c.view.ensures.view
+    subst (λ view. IsPermutation (rows_places c.nearest_rows.result) (view_places RowMajor view)) c.strided.ensures.view
     c.nearest_rows.ensures.places
 
 pub nearest_rows-requires : goal.nearest_rows-requires
-nearest_rows-requires g c = rw c.view.ensures.view c.requires
+nearest_rows-requires g c = rw c.strided.ensures.view c.requires
 
 pub new-requires : goal.new-requires
 new-requires g c =

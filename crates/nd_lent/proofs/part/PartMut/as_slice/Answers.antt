@@ -3,7 +3,8 @@ use Rattle.std.proofs.Common.{Some, map, refl, ap, ◌∙◌}
 use Rattle.ndarray_layout.specs.declared.Order.TheVariants.{RowMajor}
 use Rattle.ndarray_layout.specs.View.{view_places}
 use Rattle.nd_lent.specs.Items.{item_at_place}
-use Rattle.nd_lent.proofs.SliceOfPart.{span_is_part, items_of_part}
+use Rattle.nd_lent.proofs.SliceOfPart.{span_is_part}
+use Rattle.nd_lent.proofs.Laws.StretchItems.{items_of_stretch}
 use Rattle.nd_lent.proofs.part.PartMut.as_slice.Goals as goal
 
 pub slice-requires : goal.slice-requires
@@ -20,6 +21,6 @@ returns-clause-items g c =
     let found = c.in_ok-places.ensures in
     let taken = c.slice.ensures.all in
     ap (map Some) taken.0
-    ∙ items_of_part own.cells.marks own.view own.part (found.found.0 refl) c.shared.result.items c.in_ok-places.places.start
+    ∙ items_of_stretch own.view (found.found.0 refl) c.shared.result.items c.in_ok-places.places.start
     c.in_ok-places.places.end found.start found.end taken.1
     ∙ ap (λ items. map (item_at_place items) (view_places RowMajor own.view)) c.shared.ensures.all.0

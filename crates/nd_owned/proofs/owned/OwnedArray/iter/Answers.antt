@@ -11,13 +11,13 @@ use Rattle.nd_owned.proofs.owned.OwnedArray.iter.Goals as goal
 
 pub new-requires : goal.new-requires
 new-requires g c =
-    rw c.stored.ensures.items (are_in_bounds _ c.stored.ensures.owned.within (all_places c.iter_places.ensures.items c.view.ensures.view))
+    rw c.stored.ensures.items (are_in_bounds _ c.stored.ensures.owned.within (all_places c.iter_places.ensures.items c.strided.ensures.view))
 
 pub returns-clause-count : goal.returns-clause-count
 returns-clause-count g c =
     ap length c.new.ensures
     ∙ length-map c.iter_places.result (item_at_place c.stored.result.now)
-    ∙ ap length (all_places c.iter_places.ensures.items c.view.ensures.view)
+    ∙ ap length (all_places c.iter_places.ensures.items c.strided.ensures.view)
     ∙ length-view_places RowMajor c.args.self.now.view
 
 pub returns-clause-in_order : goal.returns-clause-in_order
