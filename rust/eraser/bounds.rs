@@ -65,7 +65,13 @@ pub const CLONED: &[(&[&str], &[Replaced])] = &[
     ),
     (&["ArrayView"], &[]),
     (&["ArrayViewMut"], &[]),
-    (&["PartMut"], &[(&["*", "stored", "=", "item"], "*stored = item.clone()")]),
+    (
+        &["PartMut"],
+        &[
+            (&["*", "stored", "=", "item"], "*stored = item.clone()"),
+            (&["*", "stored", "=", "*", "item"], "stored.clone_from(item)"),
+        ],
+    ),
 ];
 
 /// Impls of slice arguments, whose shape after is any list of lengths in the sources, and a dimension in the package.

@@ -278,7 +278,11 @@ pub const MEMORY: &[(&str, &[&str])] = &[
 pub const OF_PROOFS: &[&str] = &["cells.marks", "cells.name", "ghost_name", "names_of", "right_of", "𝓛"];
 
 /// How a condition begins that says of a closure alone where it may be called: no `unsafe` rests on that, as a closure may panic.
-pub const OF_CLOSURES: &[&str] = &["CallableOnEachMut ", "InAnyOrder (λ items. CallableOnEachMut "];
+pub const OF_CLOSURES: &[&str] = &[
+    "CallableOnEachMut ",
+    "InAnyOrder (λ items. CallableOnEachMut ",
+    "(array_of self.old).view.shape ≡ other.now.view.shape → CallableOnEachPair ",
+];
 
 /// A word of a condition that the docs of a source don't tell, and what is said of it.
 pub const CONDITIONS: &[(&str, &str)] = &[
@@ -293,6 +297,10 @@ pub const CONDITIONS: &[(&str, &str)] = &[
     (
         "CallableOnEachMut",
         "The function may be called with any item of the array, whatever it was called with before. Where it panics, so does this call, and the items before keep what it wrote.",
+    ),
+    (
+        "CallableOnEachPair",
+        "The function may be called with any item of the array and any of the other one, whatever it was called with before. Where it panics, so does this call, and the items before keep what it wrote.",
     ),
     (
         "CallableWhile",

@@ -7,7 +7,6 @@ mod elems;
 mod iter;
 mod multi_slice;
 mod own_items;
-mod pairs;
 mod reading;
 mod rows;
 mod skipping;

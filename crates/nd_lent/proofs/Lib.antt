@@ -8,6 +8,8 @@ pub mod ItemWritten
 pub mod Moved
 pub mod OwnPlaces
 pub mod OwnRows
+pub mod PairMaps
+pub mod PairRows
 pub mod PartMaps
 pub mod Permuted
 pub mod RowMaps

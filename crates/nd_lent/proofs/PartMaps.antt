@@ -42,7 +42,7 @@ zip_of_maps f g [] = refl
 zip_of_maps f g (x ∷ xs) = ap (λ pairs. (f x, g x) ∷ pairs) (zip_of_maps f g xs)
 
 -- a call is made at no item that is missing
-some_given : {F X Y : Type 0} (call : F → X → Y → F → Type 0) (given : List (Option X)) (made : List (Option Y)) (p last : F)
+pub some_given : {F X Y : Type 0} (call : F → X → Y → F → Type 0) (given : List (Option X)) (made : List (Option Y)) (p last : F)
     → length given ≡ length made → FoldsTo (Makes call) p (zip given made) last → Contains given None → ⊥
 some_given call [] made p last count calls (k, below, is) = absurd (omega (arith, below))
 some_given call (x ∷ given) [] p last count calls here = absurd (omega (arith, count))

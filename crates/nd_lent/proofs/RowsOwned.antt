@@ -9,7 +9,7 @@ use Rattle.ndarray_layout.specs.declared.Row.{Row}
 use Rattle.ndarray_layout.specs.Bounds.{IsInBounds}
 use Rattle.ndarray_layout.specs.Indices.{indices_in, is_index}
 use Rattle.ndarray_layout.specs.Rows.{row_places, rows_places}
-use Rattle.ndarray_layout.specs.View.{View, place_at, view_places}
+use Rattle.ndarray_layout.specs.View.{IsView, View, place_at, view_places}
 use Rattle.ndarray_layout.proofs.Laws.DistinctPlaces.{AllPairs-view_places}
 use Rattle.ndarray_layout.proofs.Laws.Indices.{All-indices_in}
 use Rattle.ndarray_layout.proofs.Laws.Rows.{All-first_row, get_or-row_places, length-row_places, places_fit}
@@ -65,13 +65,17 @@ own_in_order order marks view part =
       apart = AllPairs-view_places order view part.distinct;
     }
 
+pub rows_of_own : (order : Order) (marks : List Bool) (view : View) (rows : List Row) → IsView view
+    → AreOwn marks (view_places order view) → rows_places rows ≡ view_places order view → OwnsEachRow marks rows
+rows_of_own order marks view rows is own are = record {
+  short = short_rows order view rows (ap length are) is;
+  fit = subst (All (IsInBounds (2 ^ 63))) (sym are) (places_fit order is);
+  own = subst (AreOwn marks) (sym are) own;
+}
+
 pub rows_of_part : (order : Order) (marks : List Bool) (view : View) (rows : List Row) → IsPart marks view
     → rows_places rows ≡ view_places order view → OwnsEachRow marks rows
-rows_of_part order marks view rows part are = record {
-  short = short_rows order view rows (ap length are) part.is_view;
-  fit = subst (All (IsInBounds (2 ^ 63))) (sym are) (places_fit order part.is_view);
-  own = subst (AreOwn marks) (sym are) (own_in_order order marks view part);
-}
+rows_of_part order marks view rows part are = rows_of_own order marks view rows part.is_view (own_in_order order marks view part) are
 
 -- ---- a coordinate of a row, and its place
 pub record IsPlaceOfRow (marks : List Bool) (row : Row) (coordinate : ℕ) : Type 0 where

@@ -27,6 +27,7 @@ pub mod Slot
 pub mod SplitItems
 pub mod Written
 pub mod WrittenPart
+pub mod Zipped
 pub mod private
 pub use Rattle.ndarray_layout.specs.AcceptanceByStrides
 pub use Rattle.ndarray_layout.specs.Memory

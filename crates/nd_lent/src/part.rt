@@ -18,6 +18,7 @@ mod axes;
 mod items;
 mod making;
 mod mapping;
+mod pairs;
 mod reading;
 mod rows;
 mod slices;

@@ -9,6 +9,7 @@ mod writing;
 mod steps;
 mod axes;
 mod items;
+mod pairs;
 mod slices;
 
 use crate::nd_lent::cells::Cells;

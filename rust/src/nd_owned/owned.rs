@@ -202,7 +202,7 @@ impl<T: Sized, D: Lengths> OwnedArray<T, D> {
     #[inline]
     pub fn as_slice(&self) -> Option<&[T]> {
         let places = self.view.stretch(Order::RowMajor)?;
-        let items = self.items.as_slice();
+        let items = self.stored();
         Some(&items[places.start..places.end])
     }
 

@@ -7,7 +7,7 @@ use crate::random::{array, dimension};
 use crate::threads::arrays;
 use crate::{NUMBERS, rows_mut};
 use ndarray_layout::{
-    ArrayView, ArrayViewMut, Dimension, ErrorKind, Ix2, Ix3, IxDyn, LayoutError, Lengths, PartMut, from_kind, s,
+    ArrayView, ArrayViewMut, Dimension, ErrorKind, Ix1, Ix2, Ix3, IxDyn, LayoutError, Lengths, PartMut, from_kind, s,
 };
 
 /// Asserts that each item meets that of another array, in row-major order, and returns what is written.
@@ -121,5 +121,39 @@ fn lists_are_taken_and_swapped() -> Result<(), LayoutError> {
     part.sliced_mut(s![.., ..2])?.zip_mut_with(&rows, |list, other| list.extend(&other[1..]))?;
     let expected: [&[u8]; 7] = [&[0, 0, 7], &[3, 1, 8, 8], &[7, 7, 2], &[1, 0, 7], &[4, 1, 8, 8], &[8, 8, 8, 2], &[6]];
     assert_eq!(lists, expected);
+    Ok(())
+}
+
+#[test]
+fn columns_tiles_and_turned_parts_take_the_items_beside_them() -> Result<(), LayoutError> {
+    let mut numbers = NUMBERS;
+    let mut part = rows_mut(&mut numbers).into_part();
+    part.sliced_mut(s![.., 1])?.assign(&ArrayView::from_shape(Ix1(2).into(), &[20, 21])?)?;
+    assert_eq!(part.iter().copied().collect::<Vec<u8>>(), [0, 20, 2, 3, 21, 5]);
+    let row = ArrayView::from_shape(Ix1(2).into(), &[30, 31])?.broadcast(&Ix2(2, 2))?;
+    part.sliced_mut(s![.., 1..])?.assign(&row)?;
+    assert_eq!(part.iter().copied().collect::<Vec<u8>>(), [0, 30, 31, 3, 30, 31]);
+    let columns = ArrayView::from_shape(Ix2(3, 2).into(), &[10, 11, 12, 13, 14, 15])?;
+    part.view_mut().reversed_axes().assign(&columns)?;
+    assert_eq!(part.iter().copied().collect::<Vec<u8>>(), [10, 12, 14, 11, 13, 15]);
+    let mut met = Vec::new();
+    part.view_mut().reversed_axes().zip_mut_with(&columns, |item, other| {
+        met.push((*item, *other));
+        *item += other;
+    })?;
+    assert_eq!(met, [(10, 10), (11, 11), (12, 12), (13, 13), (14, 14), (15, 15)]);
+    assert_eq!(part.iter().copied().collect::<Vec<u8>>(), [20, 24, 28, 22, 26, 30]);
+    let rows = ArrayView::from_shape(Ix2(2, 3).into(), &[1, 2, 3, 4, 5, 6])?;
+    part.sliced_mut(s![..;-1, ..;-1])?.assign(&rows)?;
+    assert_eq!(numbers, [6, 5, 4, 3, 2, 1, 6]);
+    Ok(())
+}
+
+#[test]
+fn more_axes_than_are_sorted_take_the_items_beside_them() -> Result<(), LayoutError> {
+    let (mut items, others) = ([0; 128], std::array::from_fn::<u8, 128, _>(|place| place as u8));
+    let others = ArrayView::from_shape(IxDyn(&[2; 7]).into(), &others)?;
+    ArrayViewMut::from_shape(IxDyn(&[2; 7]).into(), &mut items)?.into_part().reversed_axes().assign(&others)?;
+    assert!(items.iter().zip(0_u8..).all(|(item, place)| *item == place.reverse_bits() >> 1));
     Ok(())
 }

@@ -81,6 +81,22 @@ impl<'a, T> LentRow<'a, T> {
         Some(&items[row.start..row.start + row.len])
     }
 
+    /// The row as all of a slice, where the items follow one another; else `None`.
+    #[inline(always)]
+    pub(crate) fn alone(&self) -> Option<LentRow<'a, T>>
+        ensures items { IfSome result (λ row. row_items row ≡ row_items self.now) }
+        ensures len { IfSome result (λ row. row.row.len ≡ self.now.row.len) }
+    {
+        let len = self.row.len;
+        let items = self.as_slice()?;
+        let row = Row {
+            start: 0,
+            stride: 1,
+            len,
+        };
+        Some(LentRow { items, row })
+    }
+
     /// The item of a coordinate. The caller ensures that it is one of the row.
     #[inline(always)]
     pub(crate) fn item(&self, coordinate: usize) -> &'a T

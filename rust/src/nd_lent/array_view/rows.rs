@@ -117,6 +117,24 @@ impl<'a, T> LentRow<'a, T> {
         Some(&items[row.start..row.start + row.len])
     }
 
+    /// The row as all of a slice, where the items follow one another; else `None`.
+    ///
+    /// <details><summary>Contract (proved)</summary>
+    ///
+    /// ```text
+    /// ensures items: IfSome result (λ row. row_items row ≡ row_items self.now)
+    /// ensures len: IfSome result (λ row. row.row.len ≡ self.now.row.len)
+    /// ```
+    /// [How to read it](crate::contracts)
+    /// </details>
+    #[inline(always)]
+    pub(crate) fn alone(&self) -> Option<LentRow<'a, T>> {
+        let len = self.row.len;
+        let items = self.as_slice()?;
+        let row = Row { start: 0, stride: 1, len };
+        Some(LentRow { items, row })
+    }
+
     /// The item of a coordinate.
     ///
     /// # Conditions

@@ -1,0 +1,150 @@
+-- What calls of a closure at the items of two arrays side by side leave at the indices of the first.
+use Rattle.std.proofs.Common.{◌≡◌, ℕ, ℤ, pos, true, Option, Some, None, List, [], ◌∷◌, length, map, refl, sym, ap, subst, ◌∙◌}
+use Rattle.std.specs.List.{All, Contains, zip}
+use Rattle.std.specs.List.Sorted.{IsPermutation}
+use Rattle.std.specs.Option.{option_map, option_zip}
+use Rattle.std.proofs.lemmas.List.{length-map}
+use Rattle.std.proofs.lemmas.List.Sorted.{Contains-permutation, IsPermutation-map, IsPermutation-refl}
+use Rattle.std.proofs.lemmas.Option.{none-some}
+use Rattle.std.proofs.lemmas.Simd.{map-map, zip2_of_maps}
+use Rattle.ndarray_layout.specs.declared.Order.TheVariants.{RowMajor}
+use Rattle.ndarray_layout.specs.Indices.{indices_in, is_index}
+use Rattle.ndarray_layout.specs.Nearest.{pairs_of_places}
+use Rattle.ndarray_layout.specs.View.{View, place_at, view_places}
+use Rattle.ndarray_layout.proofs.Laws.Lists.{Contains-map}
+use Rattle.nd_lent.specs.HasItems.{HasItemsOf, KeepsSpare}
+use Rattle.nd_lent.specs.Items.{ArrayValue, item_at, item_at_place}
+use Rattle.nd_lent.specs.Written.{Maps}
+use Rattle.nd_lent.specs.Zipped.{pairs_of}
+use Rattle.nd_lent.specs.private.Pairs.{ZipsAt, view_pairs}
+use Rattle.nd_lent.proofs.Laws.IndexItems.{items_at}
+use Rattle.nd_lent.proofs.Laws.MapsTo.{acted}
+use Rattle.nd_lent.proofs.Laws.WrittenCount.{same_count}
+use Rattle.nd_lent.proofs.PartMaps.{changed, some_given}
+use Rattle.nd_lent.proofs.Sets.{All-indices, Contains-indices, has_items, places_moved}
+
+-- ---- a pair
+first_there : {X Y : Type 0} (x : Option X) (y : Option Y) → (option_zip x y ≡ None → ⊥) → x ≡ None → ⊥
+first_there None y some none = some refl
+first_there (Some x) y some none = none-some x (sym none)
+
+second_there : {X Y : Type 0} (x : Option X) (y : Option Y) → (option_zip x y ≡ None → ⊥) → y ≡ None → ⊥
+second_there None y some none = some refl
+second_there (Some x) None some none = some refl
+second_there (Some x) (Some y) some none = none-some y (sym none)
+
+second_of : {X Y : Type 0} (x : Option X) (y : Option Y) → (option_zip x y ≡ None → ⊥)
+    → option_map (λ (pair : X × Y). pair.1) (option_zip x y) ≡ y
+second_of None y some = absurd (some refl)
+second_of (Some x) None some = refl
+second_of (Some x) (Some y) some = refl
+
+-- ---- the places of two views of one shape
+-- the pairs in another order are those of the places in that order
+pairs_of_maps : {X Y : Type 0} (f : ℤ → Option X) (g : ℤ → Option Y) (xs ys : List ℤ)
+    → pairs_of (map f xs) (map g ys) ≡ map (λ (both : ℤ × ℤ). option_zip (f both.0) (g both.1)) (zip xs ys)
+pairs_of_maps f g [] ys = refl
+pairs_of_maps f g (x ∷ xs) [] = refl
+pairs_of_maps f g (x ∷ xs) (y ∷ ys) = ap (λ pairs. option_zip (f x) (g y) ∷ pairs) (pairs_of_maps f g xs ys)
+
+module _ {T U : Type 0} (items : List T) (others : List U) where
+  pub pairs_moved : (view source nearest beside : View)
+      → IsPermutation (pairs_of_places nearest beside) (pairs_of_places view source)
+      → IsPermutation (view_pairs items nearest others beside) (view_pairs items view others source)
+  pairs_moved view source nearest beside moved =
+      let both : ℤ × ℤ → Option (T × U) = λ both. option_zip (item_at_place items both.0) (item_at_place others both.1) in
+      subst (λ all. IsPermutation all (view_pairs items view others source))
+      (sym (pairs_of_maps (item_at_place items) (item_at_place others) (view_places RowMajor nearest) (view_places RowMajor beside)))
+      (subst (IsPermutation (map both (pairs_of_places nearest beside)))
+      (sym (pairs_of_maps (item_at_place items) (item_at_place others) (view_places RowMajor view) (view_places RowMajor source)))
+      (IsPermutation-map both (pairs_of_places nearest beside) (pairs_of_places view source) moved))
+
+-- in row-major order
+pub zips_in_order : {F T U : Type 0} {call : F → T × U → T → F → Type 0} {f : F} {view source : View} {others : List U} {old new : List T}
+    → view.shape ≡ source.shape → Maps call f (view_places RowMajor view) (view_pairs old view others source) old new
+    → ZipsAt call f view others source old new
+zips_in_order {call = call} {f} {view} {source} {others} {old} {new} same run =
+    let indices = indices_in RowMajor view.shape in
+    record {
+      indices = indices;
+      each_once = IsPermutation-refl indices;
+      run = subst (λ shape. Maps call f (view_places RowMajor view) (pairs_of (map (item_at_place old) (view_places RowMajor view))
+          (map (item_at_place others) (map (place_at source) (indices_in RowMajor shape)))) old new) (sym same) run;
+    }
+
+-- where the other items and their view are lent
+pub zips_of_lent : {F T U : Type 0} {call : F → T × U → T → F → Type 0} {f : F} {view source shown : View} {others lent : List U}
+    {old new : List T} → lent ≡ others → shown ≡ source → ZipsAt call f view lent shown old new → ZipsAt call f view others source old new
+zips_of_lent {call = call} {f} {view} {shown = shown} {others = others} {old = old} {new = new} items is has =
+    subst (λ source. ZipsAt call f view others source old new) is (subst (λ items. ZipsAt call f view items shown old new) items has)
+
+-- ---- what they leave at the indices
+module _ {F T U : Type 0} (call : F → T × U → T → F → Type 0) {f : F} (old : ArrayValue T) (new : List T) (other : ArrayValue U)
+    (same : old.view.shape ≡ other.view.shape) (has : ZipsAt call f old.view other.items other.view old.items new) where
+  abbrev indices : List (List ℕ)
+  indices = has.indices
+
+  abbrev places : List ℤ
+  places = map (place_at old.view) indices
+
+  abbrev given : List (Option (T × U))
+  given = pairs_of (map (item_at_place old.items) places) (map (item_at_place other.items) (map (place_at other.view) indices))
+
+  abbrev pair_at : List ℕ → Option (T × U)
+  pair_at index = option_zip (item_at old index) (item_at other index)
+
+  here : All (λ index. is_index old.view.shape index ≡ true) indices
+  here = All-indices old.view.shape indices has.each_once
+
+  given_at : given ≡ map pair_at indices
+  given_at = zip2_of_maps option_zip (item_at old) (item_at other) indices (items_at old indices here)
+      (items_at other indices (subst (λ shape. All (λ index. is_index shape index ≡ true) indices) same here))
+
+  as_many : length given ≡ length (map (item_at_place new) places)
+  as_many =
+      ap length given_at
+      ∙ length-map indices pair_at
+      ∙ sym (length-map places (item_at_place new) ∙ length-map indices (place_at old.view))
+
+  pub spare : KeepsSpare old (changed old new)
+  spare place none = has.run.others place (λ there. none (Contains-permutation places (view_places RowMajor old.view) (pos place)
+      (places_moved old.view indices has.each_once) there))
+
+  pub zipped : (h : T × U → T) → ((x : T × U) (y : T) (f' : F) → call f x y f' → (f' ≡ f) × (y ≡ h x))
+      → HasItemsOf (λ index. option_map h (pair_at index)) old (changed old new)
+  zipped h acts =
+      let made = acted call h acts given (map (item_at_place new) places) f has.run.ran.last refl as_many has.run.ran.calls in
+      has_items (λ index. option_map h (pair_at index)) indices has.each_once refl (record {
+        written = made ∙ ap (map (option_map h)) given_at ∙ map-map (option_map h) pair_at indices;
+        others = has.run.others;
+      })
+
+  -- each index has an item in both
+  both_there : (index : List ℕ) → is_index old.view.shape index ≡ true → pair_at index ≡ None → ⊥
+  both_there index is missing =
+      some_given call given (map (item_at_place new) places) f has.run.ran.last as_many has.run.ran.calls
+      (subst (λ pairs. Contains pairs None) (sym given_at)
+      (subst (Contains (map pair_at indices)) missing
+      (Contains-map pair_at indices (Contains-indices old.view.shape indices has.each_once index is))))
+
+-- each item is overwritten by a copy of the other one
+module _ {F T : Type 0} (call : F → T × T → T → F → Type 0) {f : F} (old : ArrayValue T) (new : List T) (other : ArrayValue T)
+    (same : old.view.shape ≡ other.view.shape) (has : ZipsAt call f old.view other.items other.view old.items new)
+    (acts : (x : T × T) (y : T) (f' : F) → call f x y f' → (f' ≡ f) × (y ≡ x.1)) where
+  there : (index : List ℕ) → is_index old.view.shape index ≡ true → option_zip (item_at old index) (item_at other index) ≡ None → ⊥
+  there = both_there call old new other same has
+
+  pub copied : HasItemsOf (item_at other) old (changed old new)
+  copied =
+      let all = zipped call old new other same has (λ pair. pair.1) acts in
+      record {
+        view = refl;
+        items = λ index is. all.items index is ∙ second_of (item_at old index) (item_at other index) (there index is);
+        spare = all.spare;
+      }
+
+  -- and there are as many as before
+  pub copied_count : length new ≡ length old.items
+  copied_count = same_count old new copied
+      (λ index is. first_there (item_at old index) (item_at other index) (there index is))
+      (λ index is. second_there (item_at old index) (item_at other index) (there index is))
