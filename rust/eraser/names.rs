@@ -216,7 +216,6 @@ pub const OPENED: &[&str] = &[
     "ArrayViewMut",
     "Indices",
     "Items",
-    "Iter",
     "LentRow",
     "OwnedArray",
     "RestOfItems",
@@ -232,17 +231,18 @@ pub const COPIED: &[&str] = &["PlacesOf", "StridedRows"];
 /// trait, the iterator, and the macro of `rust/src/arrays` that adds them.
 pub const FOLDED: &[(&str, &str, &str)] = &[
     ("Iterator", "Items", "fold_items"),
-    ("Iterator", "Iter", "fold_iter"),
+    ("Iterator", "Iter", "fold_lent"),
+    ("DoubleEndedIterator", "Iter", "rfold_lent"),
     ("Iterator", "PlacesOf", "fold_places"),
     ("DoubleEndedIterator", "PlacesOf", "skip_back"),
     ("Iterator", "PartItems", "fold_part_items"),
     ("DoubleEndedIterator", "PartItems", "skip_back"),
     ("Iterator", "PartRows", "skip"),
     ("DoubleEndedIterator", "PartRows", "skip_back"),
-    ("Iterator", "RowItems", "fold_row_items"),
-    ("DoubleEndedIterator", "RowItems", "rfold_row_items"),
-    ("Iterator", "ViewIter", "fold_view_iter"),
-    ("DoubleEndedIterator", "ViewIter", "rfold_view_iter"),
+    ("Iterator", "RowItems", "fold_lent"),
+    ("DoubleEndedIterator", "RowItems", "rfold_lent"),
+    ("Iterator", "ViewIter", "fold_lent"),
+    ("DoubleEndedIterator", "ViewIter", "rfold_lent"),
 ];
 
 /// Structs whose `Debug` files of `rust/src` have, for what is derived prints strides without their signs.

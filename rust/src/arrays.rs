@@ -29,10 +29,7 @@ pub(crate) use crate::parts::{skip, skip_back};
 pub use axis_chunks::{AxisChunksIter, AxisChunksIterMut};
 pub use axis_iter::{AxisIter, AxisIterMut};
 pub(crate) use cuts::{check_axis, check_chunks};
-pub(crate) use folding::{
-    fold_items, fold_iter, fold_lent, fold_one_by_one, fold_part_items, fold_places, fold_row_items, fold_view_iter,
-    rfold_lent, rfold_row_items, rfold_view_iter,
-};
+pub(crate) use folding::{fold_items, fold_lent, fold_one_by_one, fold_part_items, fold_places, rfold_lent};
 pub(crate) use indexed::Odometer;
 pub use indexed::{Indexed, IndexedIter, IndexedIterMut, PartIndexedIterMut};
 pub(crate) use indexing::no_such_index;

@@ -1,3 +1,4 @@
+pub mod Backwards
 pub mod Between
 pub mod BothEnds
 pub mod Comparing
@@ -12,6 +13,7 @@ pub mod PairMaps
 pub mod PairRows
 pub mod PartMaps
 pub mod Permuted
+pub mod RestOfRow
 pub mod RowMaps
 pub mod RowsLent
 pub mod RowsOwned

@@ -1,6 +1,7 @@
 pub mod AnyOrder
 pub mod ArrayOfStep
 pub mod ArrayView
+pub mod Backwards
 pub mod Cells
 pub mod Equal
 pub mod Extremes

@@ -1,31 +1,8 @@
 //! What the iterators of the sources get beside their `next`: a fold that takes row after row, and an `nth` that leaves out rows.
 
-/// Of `Iter`.
-macro_rules! fold_iter {
-    () => {
-        /// What as many calls of `next` return last; rows are left out at once. Not proved.
-        fn nth(&mut self, n: usize) -> Option<&'a T> {
-            self.advance(n);
-            self.next()
-        }
-
-        /// What a loop over `next` returns; rows whose items follow one another are slices. Not proved.
-        #[inline]
-        fn fold<B, F: FnMut(B, &'a T) -> B>(self, init: B, mut f: F) -> B {
-            let Iter { stored, mut places } = self;
-            let mut total = init;
-            while let Some(row) = places.next_row() {
-                total = crate::arrays::fold_row(crate::LentRow { items: stored, row }.into_iter(), total, &mut f);
-            }
-            total
-        }
-    };
-}
-pub(crate) use fold_iter;
-
-/// Of `RowItems` and `ViewIter`.
+/// Of the iterators over items that are lent.
 macro_rules! fold_lent {
-    (|$left:ident, $total:ident, $f:ident| $folded:expr) => {
+    () => {
         /// What as many calls of `next` return last; rows are left out at once. Not proved.
         fn nth(&mut self, n: usize) -> Option<&'a T> {
             self.advance(n);
@@ -42,11 +19,14 @@ macro_rules! fold_lent {
             self.next_back()
         }
 
-        /// What a loop over `next` returns; rows whose items follow one another are slices. Not proved.
-        #[inline]
-        fn fold<B, F: FnMut(B, &'a T) -> B>(self, init: B, mut $f: F) -> B {
-            let ($left, $total) = (self, init);
-            $folded
+        /// What a loop over `next` returns; rows whose items lie side by side are slices. Not proved.
+        #[inline(always)]
+        fn fold<B, F: FnMut(B, &'a T) -> B>(self, init: B, mut f: F) -> B {
+            let (mut items, mut total) = (self, init);
+            while let Some(row) = items.next_row() {
+                total = crate::arrays::fold_row(row, total, &mut f);
+            }
+            total
         }
     };
 }
@@ -54,67 +34,25 @@ pub(crate) use fold_lent;
 
 /// Of the same, from the back.
 macro_rules! rfold_lent {
-    (|$left:ident, $total:ident, $f:ident| $folded:expr) => {
+    () => {
         /// What as many calls of `next_back` return last; rows are left out at once. Not proved.
         fn nth_back(&mut self, n: usize) -> Option<&'a T> {
             self.advance_back(n);
             self.next_back()
         }
 
-        /// What a loop over `next_back` returns; rows whose items follow one another are slices. Not proved.
+        /// What a loop over `next_back` returns; rows whose items lie side by side are slices. Not proved.
         #[inline]
-        fn rfold<B, F: FnMut(B, &'a T) -> B>(self, init: B, mut $f: F) -> B {
-            let ($left, $total) = (self, init);
-            $folded
+        fn rfold<B, F: FnMut(B, &'a T) -> B>(self, init: B, mut f: F) -> B {
+            let (mut items, mut total) = (self, init);
+            while let Some(row) = items.next_row_back() {
+                total = crate::arrays::rfold_row(row, total, &mut f);
+            }
+            total
         }
     };
 }
 pub(crate) use rfold_lent;
-
-/// Of `RowItems`.
-macro_rules! fold_row_items {
-    () => {
-        crate::arrays::fold_lent!(|left, total, f| crate::arrays::fold_row(left, total, &mut f));
-    };
-}
-pub(crate) use fold_row_items;
-
-/// Of `RowItems`, from the back.
-macro_rules! rfold_row_items {
-    () => {
-        crate::arrays::rfold_lent!(|left, total, f| crate::arrays::rfold_row(left, total, &mut f));
-    };
-}
-pub(crate) use rfold_row_items;
-
-/// Of `ViewIter`.
-macro_rules! fold_view_iter {
-    () => {
-        crate::arrays::fold_lent!(|left, total, f| {
-            let ViewIter { row, mut rest } = left;
-            let mut total = crate::arrays::fold_row(row, total, &mut f);
-            while let Some(row) = rest.next_row() {
-                total = crate::arrays::fold_row(row.into_iter(), total, &mut f);
-            }
-            total
-        });
-    };
-}
-pub(crate) use fold_view_iter;
-
-/// Of `ViewIter`, from the back.
-macro_rules! rfold_view_iter {
-    () => {
-        crate::arrays::rfold_lent!(|left, total, f| {
-            let (ViewIter { row, mut rest }, mut total) = (left, total);
-            while let Some(row) = rest.next_row_back() {
-                total = crate::arrays::rfold_row(row.into_iter(), total, &mut f);
-            }
-            crate::arrays::rfold_row(row, total, &mut f)
-        });
-    };
-}
-pub(crate) use rfold_view_iter;
 
 /// Of `Items`.
 macro_rules! fold_items {

@@ -3,7 +3,7 @@
 use crate::layouts::{Layout, rounds};
 use crate::numbers::Numbers;
 use crate::{NUMBERS, rows, texts};
-use ndarray_layout::{Order, OwnedArray, ShapeBuilder, StrideShape, Strides};
+use ndarray_layout::{ArrayView, Fit, Ix1, Order, OwnedArray, ShapeBuilder, StrideShape, Strides, s};
 
 #[test]
 fn sums_and_joins_are_those_of_the_items() {
@@ -16,6 +16,29 @@ fn sums_and_joins_are_those_of_the_items() {
     let mut found = Vec::new();
     owned.unwrap_or_else(|_| panic!("two rows")).iter().for_each(|item| found.push(item));
     assert_eq!(found, [0, 2, 4, 1, 3, 5]);
+}
+
+#[test]
+fn items_backwards_come_in_order() {
+    for count in [1, 7, 8, 9, 100] {
+        let items: Vec<usize> = (0..count).collect();
+        let array = ArrayView::from_shape(Ix1(count).into(), &items).unwrap();
+        let turned: ArrayView<'_, usize, Ix1> = array.slice(&s![..;-1], Fit::Strict).unwrap();
+        let onto = |list: Vec<usize>, item: &usize| [list, vec![*item]].concat();
+        let backwards: Vec<usize> = items.iter().rev().copied().collect();
+        assert_eq!(
+            (turned.fold(Vec::new(), onto), turned.iter().fold(Vec::new(), onto)),
+            (backwards.clone(), backwards.clone())
+        );
+        assert_eq!(
+            (turned.iter().rfold(Vec::new(), onto), turned.iter().copied().collect()),
+            (items.clone(), backwards.clone())
+        );
+        assert_eq!(
+            (turned.iter().copied().rev().collect(), turned.into_iter().fold(Vec::new(), onto)),
+            (items.clone(), backwards)
+        );
+    }
 }
 
 /// Whether an iterator gives the items of a list: some are taken or left out at its front, then the others are folded.
@@ -47,6 +70,8 @@ fn folds_are_the_models() {
         let (array, expected) = (layout.array(&items), layout.places());
         assert!(gives(numbers, array.iter().copied(), &expected), "{layout:?}");
         assert!(gives(numbers, array.strided().iter_places(Order::RowMajor), &expected), "{layout:?}");
+        assert_eq!(array.iter().copied().collect::<Vec<_>>(), expected, "{layout:?}");
+        assert!(array.iter().rev().copied().eq(expected.iter().rev().copied()), "{layout:?}");
         let turned = array.reversed_axes();
         let by_columns: Vec<usize> = turned.view().into_iter().copied().collect();
         assert!(gives(numbers, turned.iter().copied(), &by_columns), "{layout:?}, turned");
@@ -74,6 +99,7 @@ fn copies_are_folded_as_the_models() {
         let array = OwnedArray::from_shape_vec(shape, items).unwrap_or_else(|_| panic!("as many items"));
         let expected: Vec<usize> = array.strided().iter_places(Order::RowMajor).collect();
         assert!(gives(numbers, array.iter(), &expected));
+        assert_eq!(array.iter().collect::<Vec<_>>(), expected);
     });
 }
 

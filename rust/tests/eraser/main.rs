@@ -146,15 +146,15 @@ fn a_module_that_only_a_proof_calls_is_left_out() {
 fn what_the_package_adds_is_made_of_a_source() {
     const ROWS: &[(&str, &str)] = &[
         (
-            "pub struct Iter<'a, T> where T: Eq { /// A.\n a: &'a [T], b: Rest<'a, T>, pub c: u8, ghost d: { 1 }, }",
-            "pub struct Iter<'a, T> where T: Eq { /// A. pub(crate) a: &'a [T], pub(crate) b: Rest<'a, T>, pub c: u8, }",
+            "pub struct Items<'a, T> where T: Eq { /// A.\n a: &'a [T], b: Rest<'a, T>, pub c: u8, ghost d: { 1 }, }",
+            "pub struct Items<'a, T> where T: Eq { /// A. pub(crate) a: &'a [T], pub(crate) b: Rest<'a, T>, pub c: u8, }",
         ),
         ("struct LentRow { len: usize }", "pub(crate) struct LentRow { pub(crate) len: usize }"),
         ("pub(crate) struct LentRow {}", "pub(crate) struct LentRow {}"),
         ("struct Other { len: usize }", "struct Other { len: usize }"),
         (
             "impl<T> Iterator for Iter<'_, T> { fn next(&mut self) {} } fn f();",
-            "impl<T> Iterator for Iter<'_, T> { fn next(&mut self) {} crate::arrays::fold_iter!(); } fn f();",
+            "impl<T> Iterator for Iter<'_, T> { fn next(&mut self) {} crate::arrays::fold_lent!(); } fn f();",
         ),
         (
             "impl DoubleEndedIterator for PlacesOf<R> { fn next_back() {} }",

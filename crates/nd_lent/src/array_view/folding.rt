@@ -1,6 +1,6 @@
 //! A function that is called at each item of an array in turn, row by row.
 ghost use Rattle.std.specs.Iterator.{CallableInFold, CallableInForEach, CallsOnEach, FoldsItems};
-ghost use Rattle.std.specs.Prelude.{Some, map};
+ghost use Rattle.std.specs.Prelude.{Some, map, reverse};
 ghost use Rattle.ndarray_layout.specs.declared.Order.TheVariants.{RowMajor};
 ghost use Rattle.ndarray_layout.specs.View.{view_places};
 ghost use Rattle.nd_lent.specs.AnyOrder.{InAnyOrder};
@@ -27,6 +27,23 @@ fn fold_slice<T, B, F: FnMut(B, &T) -> B>(items: &[T], init: B, mut f: F) -> (B,
     (total, f)
 }
 
+/// How many items a row has at least that is folded as a slice from its end: one by one, those of fewer take less time.
+const LONG: usize = 8;
+
+/// Folds the items of a slice from the last one on, and hands back the function. It stays a call, so that a loop over rows is short.
+#[inline(never)]
+fn fold_backwards<T, B, F: FnMut(B, &T) -> B>(items: &[T], init: B, mut f: F) -> (B, F)
+    requires { CallableInFold lends F.FnMut (reverse (map Some items.now)) f init }
+    ensures { HasFolded F.FnMut (f, init) (reverse (map Some items.now)) (result.1, result.0) }
+{
+    let mut total = init;
+    for coordinate in 0..items.len() {
+        let item = &items[items.len() - 1 - coordinate];
+        total = f(total, item);
+    }
+    (total, f)
+}
+
 /// Folds the items of a row place by place, and hands back the function.
 #[inline(always)]
 fn fold_places<T, B, F: FnMut(B, &T) -> B>(row: &LentRow<'_, T>, init: B, mut f: F) -> (B, F)
@@ -41,6 +58,20 @@ fn fold_places<T, B, F: FnMut(B, &T) -> B>(row: &LentRow<'_, T>, init: B, mut f:
     (total, f)
 }
 
+/// Folds the items of a row that don't follow one another, and hands back the function.
+#[inline(always)]
+fn fold_turned<T, B, F: FnMut(B, &T) -> B>(row: &LentRow<'_, T>, init: B, f: F) -> (B, F)
+    requires { CallableInFold lends F.FnMut (row_items row.now) f init }
+    ensures { HasFolded F.FnMut (f, init) (row_items row.now) (result.1, result.0) }
+{
+    if row.len() >= LONG {
+        if let Some(items) = row.as_slice_backwards() {
+            return fold_backwards(items, init, f);
+        }
+    }
+    fold_places(row, init, f)
+}
+
 /// Folds the items of a row, and hands back the function.
 #[inline(always)]
 fn fold_row<T, B, F: FnMut(B, &T) -> B>(row: &LentRow<'_, T>, init: B, f: F) -> (B, F)
@@ -49,7 +80,7 @@ fn fold_row<T, B, F: FnMut(B, &T) -> B>(row: &LentRow<'_, T>, init: B, f: F) -> 
 {
     match row.as_slice() {
         Some(items) => fold_slice(items, init, f),
-        None => fold_places(row, init, f),
+        None => fold_turned(row, init, f),
     }
 }
 

@@ -4,14 +4,15 @@ ghost use Rattle.std.specs.Iterator.{UpTo, YieldsFirstBy, YieldsLastBy, item_cou
 ghost use Rattle.std.specs.Iterator.Runs.{EveryRun, ItemsMapTo};
 ghost use Rattle.std.specs.Iterator.SizeHint.{IsWithinCount};
 ghost use Rattle.std.specs.List.{All};
-ghost use Rattle.std.specs.Prelude.{◌≡◌, ◌-◌, IfSome, List, Option, Some, drop, length, map, take};
+ghost use Rattle.std.specs.Prelude.{◌≡◌, ◌-◌, ◌<◌, ◌++◌, [], IfSome, List, MatchOption, Option, Some, drop, length, map, take};
 ghost use Rattle.ndarray_layout.specs.declared.Order.TheVariants.{RowMajor};
 ghost use Rattle.ndarray_layout.specs.Bounds.{IsInBounds};
 ghost use Rattle.ndarray_layout.specs.Size.{size};
 ghost use Rattle.ndarray_layout.specs.View.{view_places};
 ghost use Rattle.nd_lent.specs.Items.{item_at_place};
+ghost use Rattle.nd_lent.specs.LentRow.{row_items};
 
-use crate::array_view::ArrayView;
+use crate::array_view::{ArrayView, LentRow};
 use ndarray_layout::{Lengths, Order, Places};
 use std::iter::FusedIterator;
 use std::marker::Model;
@@ -46,6 +47,34 @@ impl<'a, T> Iter<'a, T> {
         ensures { result ≡ map (item_at_place stored.now) places.entry }
     {
         Iter { stored, places }
+    }
+
+    /// The items that come next and lie evenly, at once: what is left of the row in progress, or else the next row; `None` after
+    /// the last item.
+    #[inline]
+    pub(crate) fn next_row(&mut self) -> Option<LentRow<'a, T>>
+        ensures { MatchOption result ((self.old ≡ []) × (self.new ≡ []))
+            (λ row. (0 < row.row.len) × (self.old ≡ row_items row ++ self.new)) }
+    {
+        let row = self.places.next_row()?;
+        Some(LentRow {
+            items: self.stored,
+            row,
+        })
+    }
+
+    /// The last items that lie evenly, at once: what is left of the row in progress at the back, or else the last row; `None` before
+    /// the first item.
+    #[inline]
+    pub(crate) fn next_row_back(&mut self) -> Option<LentRow<'a, T>>
+        ensures { MatchOption result ((self.old ≡ []) × (self.new ≡ []))
+            (λ row. (0 < row.row.len) × (self.old ≡ self.new ++ row_items row)) }
+    {
+        let row = self.places.next_row_back()?;
+        Some(LentRow {
+            items: self.stored,
+            row,
+        })
     }
 
     /// Leaves out so many items, or all where fewer are left: the next one is the one that comes after them.

@@ -3,10 +3,10 @@ ghost use Rattle.std.specs.Borrow.{Bor};
 ghost use Rattle.std.specs.Iterator.{UpTo, YieldsFirstBy, YieldsLastBy, item_count};
 ghost use Rattle.std.specs.Iterator.Runs.{EveryRun, ItemsMapTo};
 ghost use Rattle.std.specs.Iterator.SizeHint.{IsWithinCount};
-ghost use Rattle.std.specs.Prelude.{◌≡◌, ◌-◌, [], IfSome, List, Option, Some, drop, length, take};
+ghost use Rattle.std.specs.Prelude.{◌≡◌, ◌-◌, ◌<◌, [], IfSome, List, MatchOption, Option, Some, drop, length, take};
 ghost use Rattle.nd_lent.specs.LentRow.{row_items};
 
-use crate::array_view::LentRow;
+use crate::array_view::{LentRow, place_in_row};
 use ndarray_layout::Row;
 use std::iter::FusedIterator;
 use std::marker::Model;
@@ -50,6 +50,36 @@ impl<'a, T> RowItems<'a, T> {
             begun: 0,
             end: 0,
         }
+    }
+
+    /// The items that are left, as a row; `None` where none is.
+    #[inline]
+    pub(super) fn next_row(&mut self) -> Option<LentRow<'a, T>>
+        ensures { MatchOption result ((self.old ≡ []) × (self.new ≡ []))
+            (λ row. (0 < row.row.len) × (self.old ≡ row_items row) × (self.new ≡ [])) }
+    {
+        if self.begun == self.end {
+            return None;
+        }
+        let row = Row {
+            start: place_in_row(self.row, self.begun),
+            stride: self.row.stride,
+            len: self.end - self.begun,
+        };
+        self.begun = self.end;
+        Some(LentRow {
+            items: self.items,
+            row,
+        })
+    }
+
+    /// The same, from the back.
+    #[inline]
+    pub(super) fn next_row_back(&mut self) -> Option<LentRow<'a, T>>
+        ensures { MatchOption result ((self.old ≡ []) × (self.new ≡ []))
+            (λ row. (0 < row.row.len) × (self.old ≡ row_items row) × (self.new ≡ [])) }
+    {
+        self.next_row()
     }
 
     /// Leaves out so many items, or all where fewer are left: the next one is the one that comes after them.

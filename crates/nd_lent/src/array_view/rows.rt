@@ -4,11 +4,12 @@ ghost use Rattle.std.specs.Iterator.Runs.{YieldsInOrder};
 ghost use Rattle.std.specs.Iterator.SizeHint.{IsWithinCount};
 ghost use Rattle.std.specs.List.{All};
 ghost use Rattle.std.specs.List.Sorted.{IsPermutation};
-ghost use Rattle.std.specs.Prelude.{◌≡◌, ◌<◌, ◌^◌, ◌↔◌, ◌+ℤ◌, ◌*ℤ◌, pos, None, IfSome, IsSome, IsTrue, List, Some, length, map, option_copied, slice_index_or};
+ghost use Rattle.std.specs.Prelude.{◌≡◌, ◌<◌, ◌^◌, ◌↔◌, ◌+ℤ◌, ◌*ℤ◌, pos, None, IfSome, IsSome, IsTrue, List, Some, length, map, option_copied, reverse, slice_index_or};
 ghost use Rattle.ndarray_layout.specs.declared.Order.TheVariants.{RowMajor};
 ghost use Rattle.ndarray_layout.specs.Bounds.{IsInBounds};
 ghost use Rattle.ndarray_layout.specs.Rows.{view_rows};
 ghost use Rattle.ndarray_layout.specs.View.{view_places};
+ghost use Rattle.nd_lent.specs.Backwards.{is_backwards};
 ghost use Rattle.nd_lent.specs.LentRow.{HasRow, RowValue, is_contiguous, row_items, row_of, rows_items};
 ghost use Rattle.nd_lent.specs.Items.{item_at_place};
 
@@ -95,6 +96,22 @@ impl<'a, T> LentRow<'a, T> {
             len,
         };
         Some(LentRow { items, row })
+    }
+
+    /// The items as a slice, the last one first, where each lies just before the one that it follows: by the stride -1; else `None`.
+    ///
+    /// Of `[2]`, `[-1]` from 1 over 7 8 9: 7 8, of which 8 is the first item. The project's own.
+    #[inline]
+    pub(crate) fn as_slice_backwards(&self) -> Option<&'a [T]>
+        ensures found { IsSome result ↔ IsTrue (is_backwards self.now.row) }
+        ensures items { IfSome result (λ slice. reverse (map Some slice.now) ≡ row_items self.now) }
+    {
+        let (items, row) = (self.items, self.row);
+        if row.stride != -1 {
+            return None;
+        }
+        let end = row.start + 1;
+        Some(&items[end - row.len..end])
     }
 
     /// The item of a coordinate. The caller ensures that it is one of the row.

@@ -25,6 +25,29 @@ fn fold_slice<T, B, F: FnMut(B, &T) -> B>(items: &[T], init: B, mut f: F) -> (B,
     (total, f)
 }
 
+/// How many items a row has at least that is folded as a slice from its end: one by one, those of fewer take less time.
+const LONG: usize = 8;
+
+/// Folds the items of a slice from the last one on, and hands back the function. It stays a call, so that a loop over rows is short.
+///
+/// <details><summary>Contract (proved)</summary>
+///
+/// ```text
+/// requires CallableInFold lends F.FnMut (reverse (map Some items.now)) f init
+/// ensures HasFolded F.FnMut (f, init) (reverse (map Some items.now)) (result.1, result.0)
+/// ```
+/// [How to read it](crate::contracts)
+/// </details>
+#[inline(never)]
+fn fold_backwards<T, B, F: FnMut(B, &T) -> B>(items: &[T], init: B, mut f: F) -> (B, F) {
+    let mut total = init;
+    for coordinate in 0..items.len() {
+        let item = &items[items.len() - 1 - coordinate];
+        total = f(total, item);
+    }
+    (total, f)
+}
+
 /// Folds the items of a row place by place, and hands back the function.
 ///
 /// <details><summary>Contract (proved)</summary>
@@ -45,6 +68,26 @@ fn fold_places<T, B, F: FnMut(B, &T) -> B>(row: &LentRow<'_, T>, init: B, mut f:
     (total, f)
 }
 
+/// Folds the items of a row that don't follow one another, and hands back the function.
+///
+/// <details><summary>Contract (proved)</summary>
+///
+/// ```text
+/// requires CallableInFold lends F.FnMut (row_items row.now) f init
+/// ensures HasFolded F.FnMut (f, init) (row_items row.now) (result.1, result.0)
+/// ```
+/// [How to read it](crate::contracts)
+/// </details>
+#[inline(always)]
+fn fold_turned<T, B, F: FnMut(B, &T) -> B>(row: &LentRow<'_, T>, init: B, f: F) -> (B, F) {
+    if row.len() >= LONG {
+        if let Some(items) = row.as_slice_backwards() {
+            return fold_backwards(items, init, f);
+        }
+    }
+    fold_places(row, init, f)
+}
+
 /// Folds the items of a row, and hands back the function.
 ///
 /// <details><summary>Contract (proved)</summary>
@@ -59,7 +102,7 @@ fn fold_places<T, B, F: FnMut(B, &T) -> B>(row: &LentRow<'_, T>, init: B, mut f:
 fn fold_row<T, B, F: FnMut(B, &T) -> B>(row: &LentRow<'_, T>, init: B, f: F) -> (B, F) {
     match row.as_slice() {
         Some(items) => fold_slice(items, init, f),
-        None => fold_places(row, init, f),
+        None => fold_turned(row, init, f),
     }
 }
 

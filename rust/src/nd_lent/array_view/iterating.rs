@@ -2,14 +2,14 @@
 //! The items of an array one after another, each lent, without a list of them.
 
 use crate::memory::prelude::Vec;
-use crate::nd_lent::array_view::ArrayView;
+use crate::nd_lent::array_view::{ArrayView, LentRow};
 use crate::ndarray_layout::{Lengths, Order, Places};
 use core::iter::FusedIterator;
 
 /// The items of an array that are still to come, in row-major order of their indices, from both ends, each lent.
 pub struct Iter<'a, T> {
-    pub(crate) stored: &'a [T],
-    pub(crate) places: Places<'a>,
+    stored: &'a [T],
+    places: Places<'a>,
 }
 
 impl<'a, T> Iter<'a, T> {
@@ -48,6 +48,40 @@ impl<'a, T> Iter<'a, T> {
     #[must_use]
     pub fn new(stored: &'a [T], places: Places<'a>) -> Self {
         Iter { stored, places }
+    }
+
+    /// The items that come next and lie evenly, at once: what is left of the row in progress, or else the next row; `None` after
+    /// the last item.
+    ///
+    /// <details><summary>Contract (proved)</summary>
+    ///
+    /// ```text
+    /// ensures MatchOption result ((self.old ≡ []) × (self.new ≡ []))
+    ///     (λ row. (0 < row.row.len) × (self.old ≡ row_items row ++ self.new))
+    /// ```
+    /// [How to read it](crate::contracts)
+    /// </details>
+    #[inline]
+    pub(crate) fn next_row(&mut self) -> Option<LentRow<'a, T>> {
+        let row = self.places.next_row()?;
+        Some(LentRow { items: self.stored, row })
+    }
+
+    /// The last items that lie evenly, at once: what is left of the row in progress at the back, or else the last row; `None` before
+    /// the first item.
+    ///
+    /// <details><summary>Contract (proved)</summary>
+    ///
+    /// ```text
+    /// ensures MatchOption result ((self.old ≡ []) × (self.new ≡ []))
+    ///     (λ row. (0 < row.row.len) × (self.old ≡ self.new ++ row_items row))
+    /// ```
+    /// [How to read it](crate::contracts)
+    /// </details>
+    #[inline]
+    pub(crate) fn next_row_back(&mut self) -> Option<LentRow<'a, T>> {
+        let row = self.places.next_row_back()?;
+        Some(LentRow { items: self.stored, row })
     }
 
     /// Leaves out so many items, or all where fewer are left: the next one is the one that comes after them.
@@ -130,7 +164,7 @@ impl<'a, T> Iterator for Iter<'a, T> {
         self.places.size_hint()
     }
 
-    crate::arrays::fold_iter!();
+    crate::arrays::fold_lent!();
 }
 
 impl<'a, T> DoubleEndedIterator for Iter<'a, T> {
@@ -140,6 +174,8 @@ impl<'a, T> DoubleEndedIterator for Iter<'a, T> {
         let stored = self.stored;
         Some(&stored[place])
     }
+
+    crate::arrays::rfold_lent!();
 }
 
 impl<T> ExactSizeIterator for Iter<'_, T> {

@@ -1,7 +1,7 @@
 // Made by `rust/erase` of `crates/nd_lent/src/array_view/row_items.rt`: edit that.
 //! The items of a row one after another, lent for as long as the data is.
 
-use crate::nd_lent::array_view::LentRow;
+use crate::nd_lent::array_view::{LentRow, place_in_row};
 use crate::ndarray_layout::Row;
 use core::iter::FusedIterator;
 
@@ -29,6 +29,42 @@ impl<'a, T> RowItems<'a, T> {
     pub(super) fn none(items: &'a [T]) -> Self {
         let row = Row { start: 0, stride: 0, len: 0 };
         RowItems { items, row, begun: 0, end: 0 }
+    }
+
+    /// The items that are left, as a row; `None` where none is.
+    ///
+    /// <details><summary>Contract (proved)</summary>
+    ///
+    /// ```text
+    /// ensures MatchOption result ((self.old ≡ []) × (self.new ≡ []))
+    ///     (λ row. (0 < row.row.len) × (self.old ≡ row_items row) × (self.new ≡ []))
+    /// ```
+    /// [How to read it](crate::contracts)
+    /// </details>
+    #[inline]
+    pub(super) fn next_row(&mut self) -> Option<LentRow<'a, T>> {
+        if self.begun == self.end {
+            return None;
+        }
+        let row =
+            Row { start: place_in_row(self.row, self.begun), stride: self.row.stride, len: self.end - self.begun };
+        self.begun = self.end;
+        Some(LentRow { items: self.items, row })
+    }
+
+    /// The same, from the back.
+    ///
+    /// <details><summary>Contract (proved)</summary>
+    ///
+    /// ```text
+    /// ensures MatchOption result ((self.old ≡ []) × (self.new ≡ []))
+    ///     (λ row. (0 < row.row.len) × (self.old ≡ row_items row) × (self.new ≡ []))
+    /// ```
+    /// [How to read it](crate::contracts)
+    /// </details>
+    #[inline]
+    pub(super) fn next_row_back(&mut self) -> Option<LentRow<'a, T>> {
+        self.next_row()
     }
 
     /// Leaves out so many items, or all where fewer are left: the next one is the one that comes after them.
@@ -116,7 +152,7 @@ impl<'a, T> Iterator for RowItems<'a, T> {
         (left, Some(left))
     }
 
-    crate::arrays::fold_row_items!();
+    crate::arrays::fold_lent!();
 }
 
 impl<'a, T> DoubleEndedIterator for RowItems<'a, T> {
@@ -130,7 +166,7 @@ impl<'a, T> DoubleEndedIterator for RowItems<'a, T> {
         Some(row.item(self.end))
     }
 
-    crate::arrays::rfold_row_items!();
+    crate::arrays::rfold_lent!();
 }
 
 impl<T> ExactSizeIterator for RowItems<'_, T> {

@@ -135,6 +135,28 @@ impl<'a, T> LentRow<'a, T> {
         Some(LentRow { items, row })
     }
 
+    /// The items as a slice, the last one first, where each lies just before the one that it follows: by the stride -1; else `None`.
+    ///
+    /// Of `[2]`, `[-1]` from 1 over 7 8 9: 7 8, of which 8 is the first item. The project's own.
+    ///
+    /// <details><summary>Contract (proved)</summary>
+    ///
+    /// ```text
+    /// ensures found: IsSome result ↔ IsTrue (is_backwards self.now.row)
+    /// ensures items: IfSome result (λ slice. reverse (map Some slice.now) ≡ row_items self.now)
+    /// ```
+    /// [How to read it](crate::contracts)
+    /// </details>
+    #[inline]
+    pub(crate) fn as_slice_backwards(&self) -> Option<&'a [T]> {
+        let (items, row) = (self.items, self.row);
+        if row.stride != -1 {
+            return None;
+        }
+        let end = row.start + 1;
+        Some(&items[end - row.len..end])
+    }
+
     /// The item of a coordinate.
     ///
     /// # Conditions

@@ -1,7 +1,7 @@
 // Made by `rust/erase` of `crates/nd_lent/src/array_view/view_iter.rt`: edit that.
 //! The items of an array one after another, lent for as long as the data is: the iterator has the view.
 
-use crate::nd_lent::array_view::{ArrayView, RestOfItems, RowItems};
+use crate::nd_lent::array_view::{ArrayView, LentRow, RestOfItems, RowItems};
 use crate::ndarray_layout::Lengths;
 use core::iter::FusedIterator;
 
@@ -31,6 +31,44 @@ fn begin_row<'a, T, D: Lengths>(row: &mut RowItems<'a, T>, rest: &mut RestOfItem
 }
 
 impl<'a, T, D: Lengths> ViewIter<'a, T, D> {
+    /// The items that come next and lie evenly, at once: what is left of the row in progress, or else the next row; `None` after
+    /// the last item.
+    ///
+    /// <details><summary>Contract (proved)</summary>
+    ///
+    /// ```text
+    /// ensures MatchOption result ((self.old ≡ []) × (self.new ≡ []))
+    ///     (λ row. (0 < row.row.len) × (self.old ≡ row_items row ++ self.new))
+    /// ```
+    /// [How to read it](crate::contracts)
+    /// </details>
+    #[inline]
+    pub(super) fn next_row(&mut self) -> Option<LentRow<'a, T>> {
+        if let Some(row) = self.row.next_row() {
+            return Some(row);
+        }
+        self.rest.next_row()
+    }
+
+    /// The last items that lie evenly, at once: what is left of the row in progress at the back, or else the last row; `None` before
+    /// the first item.
+    ///
+    /// <details><summary>Contract (proved)</summary>
+    ///
+    /// ```text
+    /// ensures MatchOption result ((self.old ≡ []) × (self.new ≡ []))
+    ///     (λ row. (0 < row.row.len) × (self.old ≡ self.new ++ row_items row))
+    /// ```
+    /// [How to read it](crate::contracts)
+    /// </details>
+    #[inline]
+    pub(super) fn next_row_back(&mut self) -> Option<LentRow<'a, T>> {
+        if let Some(row) = self.rest.next_row_back() {
+            return Some(row);
+        }
+        self.row.next_row()
+    }
+
     /// Leaves out so many items, or all where fewer are left: the next one is the one that comes after them.
     ///
     /// Takes no memory, and no time for each item (`IntoPlaces::advance`).
@@ -117,7 +155,7 @@ impl<'a, T, D: Lengths> Iterator for ViewIter<'a, T, D> {
         (left, Some(left))
     }
 
-    crate::arrays::fold_view_iter!();
+    crate::arrays::fold_lent!();
 }
 
 impl<'a, T, D: Lengths> DoubleEndedIterator for ViewIter<'a, T, D> {
@@ -129,7 +167,7 @@ impl<'a, T, D: Lengths> DoubleEndedIterator for ViewIter<'a, T, D> {
         self.row.next_back()
     }
 
-    crate::arrays::rfold_view_iter!();
+    crate::arrays::rfold_lent!();
 }
 
 impl<'a, T, D: Lengths> ExactSizeIterator for ViewIter<'a, T, D> {
