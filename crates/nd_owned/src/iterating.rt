@@ -1,5 +1,5 @@
 //! The items of an array one after another, without a list of them.
-ghost use Rattle.std.specs.Iterator.{UpTo, YieldsFirstBy, item_count};
+ghost use Rattle.std.specs.Iterator.{UpTo, YieldsFirstBy, YieldsLastBy, item_count};
 ghost use Rattle.std.specs.Iterator.Runs.{EveryRun, ItemsMapTo};
 ghost use Rattle.std.specs.Iterator.SizeHint.{IsWithinCount};
 ghost use Rattle.std.specs.Prelude.{◌≡◌, IfSome, List, Option, Some, length, map};
@@ -47,6 +47,15 @@ impl<T: Copy> Iterator for Items<'_, T> {
         ensures exact { (result.0 ≡ length self.now) × (result.1 ≡ Some (length self.now)) }
     {
         self.lent.size_hint()
+    }
+}
+
+impl<T: Copy> DoubleEndedIterator for Items<'_, T> {
+    ghost next_back_gives = { YieldsLastBy Some (λ left. left) };
+
+    #[inline]
+    fn next_back(&mut self) -> Option<T> {
+        self.lent.next_back().copied()
     }
 }
 

@@ -67,6 +67,20 @@ macro_rules! fold_items {
         fn fold<B, F: FnMut(B, T) -> B>(self, init: B, mut f: F) -> B {
             self.lent.fold(init, |total, item| f(total, *item))
         }
+
+        /// What `collect` of std's iterators returns. The items are first listed row by row; of this list a `Vec` is made in no time.
+        /// Panics where an allocation fails. Not proved.
+        fn collect<B: FromIterator<T>>(self) -> B {
+            let mut list = alloc::vec::Vec::with_capacity(self.len());
+            let mut items = self.lent;
+            while let Some(row) = items.next_row() {
+                match row.as_slice() {
+                    Some(slice) => list.extend_from_slice(slice),
+                    None => list.extend((0..row.len()).map(|coordinate| *row.item(coordinate))),
+                }
+            }
+            list.into_iter().collect()
+        }
     };
 }
 pub(crate) use fold_items;

@@ -28,6 +28,13 @@ impl<T: Copy> Iterator for Items<'_, T> {
     crate::arrays::fold_items!();
 }
 
+impl<T: Copy> DoubleEndedIterator for Items<'_, T> {
+    #[inline]
+    fn next_back(&mut self) -> Option<T> {
+        self.lent.next_back().copied()
+    }
+}
+
 impl<T: Copy> ExactSizeIterator for Items<'_, T> {
     #[inline]
     fn len(&self) -> usize {

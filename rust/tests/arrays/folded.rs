@@ -100,6 +100,7 @@ fn copies_are_folded_as_the_models() {
         let expected: Vec<usize> = array.strided().iter_places(Order::RowMajor).collect();
         assert!(gives(numbers, array.iter(), &expected));
         assert_eq!(array.iter().collect::<Vec<_>>(), expected);
+        assert!(array.iter().rev().eq(expected.iter().rev().copied()));
     });
 }
 
