@@ -15,7 +15,7 @@ impl<T> Clone for RowItems<'_, T> {
 impl<T, D: Lengths> Clone for ViewIter<'_, T, D> {
     fn clone(&self) -> Self {
         let RestOfItems { items, ref places } = self.rest;
-        ViewIter { row: self.row.clone(), rest: RestOfItems { items, places: places.clone() } }
+        ViewIter { rest: RestOfItems { items, places: places.clone() } }
     }
 }
 

@@ -1,12 +1,12 @@
 //! The rest of the items of an array, whose rows come at once: the iterator has the view.
-ghost use Rattle.std.specs.Iterator.{YieldsLastBy};
+ghost use Rattle.std.specs.Iterator.{YieldsFirstBy, YieldsLastBy};
 ghost use Rattle.std.specs.Prelude.{◌≡◌, ◌-◌, ◌<◌, ◌++◌, [], MatchOption, Some, drop, length, map, take};
 ghost use Rattle.ndarray_layout.specs.declared.Order.TheVariants.{RowMajor};
 ghost use Rattle.ndarray_layout.specs.View.{view_places};
 ghost use Rattle.nd_lent.specs.Items.{item_at_place};
 ghost use Rattle.nd_lent.specs.LentRow.{row_items};
 
-use crate::array_view::{ArrayView, LentRow, RowItems};
+use crate::array_view::{ArrayView, LentRow};
 use ndarray_layout::{IntoPlaces, Lengths, Order};
 use std::marker::Model;
 
@@ -50,14 +50,6 @@ impl<'a, T, D: Lengths> RestOfItems<'a, T, D> {
         self.places.len()
     }
 
-    /// None of these items.
-    #[inline]
-    pub(super) fn none(&self) -> RowItems<'a, T>
-        ensures { result ≡ [] }
-    {
-        RowItems::none(self.items)
-    }
-
     /// Leaves out so many items, or all where fewer are left.
     pub(super) fn advance(&mut self, count: usize)
         ensures { self.new ≡ drop count self.old }
@@ -70,6 +62,16 @@ impl<'a, T, D: Lengths> RestOfItems<'a, T, D> {
         ensures { self.new ≡ take (length self.old - count) self.old }
     {
         self.places.advance_back(count);
+    }
+
+    /// The item that comes next.
+    #[inline(always)]
+    pub(super) fn next(&mut self) -> Option<&'a T>
+        ensures { YieldsFirstBy (λ item. Some item.now) (λ left. left) self.old result self.new }
+    {
+        let place = self.places.next()?;
+        let items = self.items;
+        Some(&items[place])
     }
 
     /// The last item.

@@ -35,23 +35,6 @@ impl<'a, T> Model for RowItems<'a, T> {
 }
 
 impl<'a, T> RowItems<'a, T> {
-    /// None of these items.
-    pub(super) fn none(items: &'a [T]) -> Self
-        ensures { result ≡ [] }
-    {
-        let row = Row {
-            start: 0,
-            stride: 0,
-            len: 0,
-        };
-        RowItems {
-            items,
-            row,
-            begun: 0,
-            end: 0,
-        }
-    }
-
     /// The items that are left, as a row; `None` where none is.
     #[inline]
     pub(super) fn next_row(&mut self) -> Option<LentRow<'a, T>>

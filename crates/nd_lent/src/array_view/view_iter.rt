@@ -3,13 +3,13 @@ ghost use Rattle.std.specs.Borrow.{Bor};
 ghost use Rattle.std.specs.Iterator.{UpTo, YieldsFirstBy, YieldsLastBy, item_count};
 ghost use Rattle.std.specs.Iterator.Runs.{EveryRun, ItemsMapTo};
 ghost use Rattle.std.specs.Iterator.SizeHint.{IsWithinCount};
-ghost use Rattle.std.specs.Prelude.{◌≡◌, ◌-◌, ◌<◌, ◌∷◌, ◌++◌, [], IfSome, List, MatchOption, Option, Some, drop, length, map, take};
+ghost use Rattle.std.specs.Prelude.{◌≡◌, ◌-◌, ◌<◌, ◌++◌, [], IfSome, List, MatchOption, Option, Some, drop, length, map, take};
 ghost use Rattle.ndarray_layout.specs.declared.Order.TheVariants.{RowMajor};
 ghost use Rattle.ndarray_layout.specs.View.{view_places};
 ghost use Rattle.nd_lent.specs.Items.{item_at_place};
 ghost use Rattle.nd_lent.specs.LentRow.{row_items};
 
-use crate::array_view::{ArrayView, LentRow, RestOfItems, RowItems};
+use crate::array_view::{ArrayView, LentRow, RestOfItems};
 use ndarray_layout::Lengths;
 use std::iter::FusedIterator;
 use std::marker::Model;
@@ -18,34 +18,15 @@ use std::marker::Model;
 /// the data is: a function that is handed an `ArrayView` may return this. A contract sees the list of them. ndarray's `Iter`.
 #[derive(Drop)]
 pub struct ViewIter<'a, T, D: Lengths> {
-    // What is left of the row that has begun at the front.
-    row: RowItems<'a, T>,
     rest: RestOfItems<'a, T, D>,
 }
 
 impl<'a, T, D: Lengths> Model for ViewIter<'a, T, D> {
-    ghost use Rattle.std.specs.Prelude.{◌≤◌, ◌++◌, List, Option, length};
-    ghost use Rattle.ndarray_layout.specs.Size.{limit};
+    ghost use Rattle.std.specs.Prelude.{List, Option};
 
     ghost Value = { List (Option T) };
 
-    ghost view = { λ left. left.row ++ left.rest };
-
-    ghost invariant = { λ left. length (left.row ++ left.rest) ≤ limit };
-}
-
-/// The first item of the row that comes next, which begins. It stays a call, so that a loop over items is short.
-#[inline(never)]
-fn begin_row<'a, T, D: Lengths>(
-    row: &mut RowItems<'a, T>,
-    rest: &mut RestOfItems<'a, T, D>,
-) -> Option<&'a T>
-    requires { row.old ≡ [] }
-    ensures { MatchOption result ((rest.old ≡ []) × (row.new ++ rest.new ≡ []))
-        (λ item. rest.old ≡ Some item.now ∷ row.new ++ rest.new) }
-{
-    *row = rest.next_row()?.into_iter();
-    row.next()
+    ghost view = { λ left. left.rest };
 }
 
 impl<'a, T, D: Lengths> ViewIter<'a, T, D> {
@@ -56,9 +37,6 @@ impl<'a, T, D: Lengths> ViewIter<'a, T, D> {
         ensures { MatchOption result ((self.old ≡ []) × (self.new ≡ []))
             (λ row. (0 < row.row.len) × (self.old ≡ row_items row ++ self.new)) }
     {
-        if let Some(row) = self.row.next_row() {
-            return Some(row);
-        }
         self.rest.next_row()
     }
 
@@ -69,10 +47,7 @@ impl<'a, T, D: Lengths> ViewIter<'a, T, D> {
         ensures { MatchOption result ((self.old ≡ []) × (self.new ≡ []))
             (λ row. (0 < row.row.len) × (self.old ≡ self.new ++ row_items row)) }
     {
-        if let Some(row) = self.rest.next_row_back() {
-            return Some(row);
-        }
-        self.row.next_row()
+        self.rest.next_row_back()
     }
 
     /// Leaves out so many items, or all where fewer are left: the next one is the one that comes after them.
@@ -83,9 +58,7 @@ impl<'a, T, D: Lengths> ViewIter<'a, T, D> {
     pub fn advance(&mut self, count: usize)
         ensures { self.new ≡ drop count self.old }
     {
-        let in_row = self.row.len();
-        self.row.advance(count);
-        self.rest.advance(count.saturating_sub(in_row));
+        self.rest.advance(count);
     }
 
     /// Leaves out so many items at the back, or all where fewer are left: the last one is the one that comes before them.
@@ -96,9 +69,7 @@ impl<'a, T, D: Lengths> ViewIter<'a, T, D> {
     pub fn advance_back(&mut self, count: usize)
         ensures { self.new ≡ take (length self.old - count) self.old }
     {
-        let in_rest = self.rest.len();
         self.rest.advance_back(count);
-        self.row.advance_back(count.saturating_sub(in_rest));
     }
 }
 
@@ -109,12 +80,9 @@ impl<'a, T, D: Lengths> Iterator for ViewIter<'a, T, D> {
 
     ghost remaining = { item_count (λ left. left) };
 
-    #[inline]
+    #[inline(always)]
     fn next(&mut self) -> Option<&'a T> {
-        if let Some(item) = self.row.next() {
-            return Some(item);
-        }
-        begin_row(&mut self.row, &mut self.rest)
+        self.rest.next()
     }
 
     #[inline]
@@ -133,17 +101,14 @@ impl<'a, T, D: Lengths> DoubleEndedIterator for ViewIter<'a, T, D> {
 
     #[inline]
     fn next_back(&mut self) -> Option<&'a T> {
-        if let Some(item) = self.rest.next_back() {
-            return Some(item);
-        }
-        self.row.next_back()
+        self.rest.next_back()
     }
 }
 
 impl<'a, T, D: Lengths> ExactSizeIterator for ViewIter<'a, T, D> {
     #[inline]
     fn len(&self) -> usize {
-        self.row.len() + self.rest.len()
+        self.rest.len()
     }
 }
 
@@ -166,10 +131,8 @@ impl<'a, T, D: Lengths> IntoIterator for ArrayView<'a, T, D> {
 
     #[inline]
     fn into_iter(self) -> ViewIter<'a, T, D> {
-        let rest = RestOfItems::new(self);
         ViewIter {
-            row: rest.none(),
-            rest,
+            rest: RestOfItems::new(self),
         }
     }
 }

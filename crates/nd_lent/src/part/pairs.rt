@@ -190,7 +190,8 @@ impl<'a, T: Drop, D: Lengths> PartMut<'a, T, D> {
         if !self.view.dim().equal(other.dim()) {
             return Err(from_kind(ErrorKind::IncompatibleShape));
         }
-        zip_view(&mut self.cells, &self.view, other.stored(), other.strided(), f);
+        let source = other.strided();
+        zip_view(&mut self.cells, &self.view, other.stored(), source, f);
         Ok(())
     }
 }

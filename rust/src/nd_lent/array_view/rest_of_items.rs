@@ -1,7 +1,7 @@
 // Made by `rust/erase` of `crates/nd_lent/src/array_view/rest_of_items.rt`: edit that.
 //! The rest of the items of an array, whose rows come at once: the iterator has the view.
 
-use crate::nd_lent::array_view::{ArrayView, LentRow, RowItems};
+use crate::nd_lent::array_view::{ArrayView, LentRow};
 use crate::ndarray_layout::{IntoPlaces, Lengths, Order};
 
 /// The items of an array that are still to come, in row-major order of their indices, row by row.
@@ -40,20 +40,6 @@ impl<'a, T, D: Lengths> RestOfItems<'a, T, D> {
         self.places.len()
     }
 
-    /// None of these items.
-    ///
-    /// <details><summary>Contract (proved)</summary>
-    ///
-    /// ```text
-    /// ensures result ≡ []
-    /// ```
-    /// [How to read it](crate::contracts)
-    /// </details>
-    #[inline]
-    pub(super) fn none(&self) -> RowItems<'a, T> {
-        RowItems::none(self.items)
-    }
-
     /// Leaves out so many items, or all where fewer are left.
     ///
     /// <details><summary>Contract (proved)</summary>
@@ -80,6 +66,22 @@ impl<'a, T, D: Lengths> RestOfItems<'a, T, D> {
     #[inline]
     pub(super) fn advance_back(&mut self, count: usize) {
         self.places.advance_back(count);
+    }
+
+    /// The item that comes next.
+    ///
+    /// <details><summary>Contract (proved)</summary>
+    ///
+    /// ```text
+    /// ensures YieldsFirstBy (λ item. Some item.now) (λ left. left) self.old result self.new
+    /// ```
+    /// [How to read it](crate::contracts)
+    /// </details>
+    #[inline(always)]
+    pub(super) fn next(&mut self) -> Option<&'a T> {
+        let place = self.places.next()?;
+        let items = self.items;
+        Some(&items[place])
     }
 
     /// The last item.

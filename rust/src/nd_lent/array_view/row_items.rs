@@ -16,21 +16,6 @@ pub struct RowItems<'a, T> {
 }
 
 impl<'a, T> RowItems<'a, T> {
-    /// None of these items.
-    ///
-    /// <details><summary>Contract (proved)</summary>
-    ///
-    /// ```text
-    /// ensures result ≡ []
-    /// ```
-    /// [How to read it](crate::contracts)
-    /// </details>
-    #[inline]
-    pub(super) fn none(items: &'a [T]) -> Self {
-        let row = Row { start: 0, stride: 0, len: 0 };
-        RowItems { items, row, begun: 0, end: 0 }
-    }
-
     /// The items that are left, as a row; `None` where none is.
     ///
     /// <details><summary>Contract (proved)</summary>

@@ -1,33 +1,14 @@
 // Made by `rust/erase` of `crates/nd_lent/src/array_view/view_iter.rt`: edit that.
 //! The items of an array one after another, lent for as long as the data is: the iterator has the view.
 
-use crate::nd_lent::array_view::{ArrayView, LentRow, RestOfItems, RowItems};
+use crate::nd_lent::array_view::{ArrayView, LentRow, RestOfItems};
 use crate::ndarray_layout::Lengths;
 use core::iter::FusedIterator;
 
 /// The items of an array that are still to come, in row-major order of their indices, from both ends, each lent for as
 /// long as the data is: a function that is handed an `ArrayView` may return this. ndarray's `Iter`.
 pub struct ViewIter<'a, T, D: Lengths> {
-    // What is left of the row that has begun at the front.
-    pub(crate) row: RowItems<'a, T>,
     pub(crate) rest: RestOfItems<'a, T, D>,
-}
-
-/// The first item of the row that comes next, which begins. It stays a call, so that a loop over items is short.
-///
-/// <details><summary>Contract (proved)</summary>
-///
-/// ```text
-/// requires row.old ≡ []
-/// ensures MatchOption result ((rest.old ≡ []) × (row.new ++ rest.new ≡ []))
-///     (λ item. rest.old ≡ Some item.now ∷ row.new ++ rest.new)
-/// ```
-/// [How to read it](crate::contracts)
-/// </details>
-#[inline(never)]
-fn begin_row<'a, T, D: Lengths>(row: &mut RowItems<'a, T>, rest: &mut RestOfItems<'a, T, D>) -> Option<&'a T> {
-    *row = rest.next_row()?.into_iter();
-    row.next()
 }
 
 impl<'a, T, D: Lengths> ViewIter<'a, T, D> {
@@ -44,9 +25,6 @@ impl<'a, T, D: Lengths> ViewIter<'a, T, D> {
     /// </details>
     #[inline]
     pub(super) fn next_row(&mut self) -> Option<LentRow<'a, T>> {
-        if let Some(row) = self.row.next_row() {
-            return Some(row);
-        }
         self.rest.next_row()
     }
 
@@ -63,10 +41,7 @@ impl<'a, T, D: Lengths> ViewIter<'a, T, D> {
     /// </details>
     #[inline]
     pub(super) fn next_row_back(&mut self) -> Option<LentRow<'a, T>> {
-        if let Some(row) = self.rest.next_row_back() {
-            return Some(row);
-        }
-        self.row.next_row()
+        self.rest.next_row_back()
     }
 
     /// Leaves out so many items, or all where fewer are left: the next one is the one that comes after them.
@@ -98,9 +73,7 @@ impl<'a, T, D: Lengths> ViewIter<'a, T, D> {
     /// </details>
     #[inline]
     pub fn advance(&mut self, count: usize) {
-        let in_row = self.row.len();
-        self.row.advance(count);
-        self.rest.advance(count.saturating_sub(in_row));
+        self.rest.advance(count);
     }
 
     /// Leaves out so many items at the back, or all where fewer are left: the last one is the one that comes before them.
@@ -132,21 +105,16 @@ impl<'a, T, D: Lengths> ViewIter<'a, T, D> {
     /// </details>
     #[inline]
     pub fn advance_back(&mut self, count: usize) {
-        let in_rest = self.rest.len();
         self.rest.advance_back(count);
-        self.row.advance_back(count.saturating_sub(in_rest));
     }
 }
 
 impl<'a, T, D: Lengths> Iterator for ViewIter<'a, T, D> {
     type Item = &'a T;
 
-    #[inline]
+    #[inline(always)]
     fn next(&mut self) -> Option<&'a T> {
-        if let Some(item) = self.row.next() {
-            return Some(item);
-        }
-        begin_row(&mut self.row, &mut self.rest)
+        self.rest.next()
     }
 
     #[inline]
@@ -161,10 +129,7 @@ impl<'a, T, D: Lengths> Iterator for ViewIter<'a, T, D> {
 impl<'a, T, D: Lengths> DoubleEndedIterator for ViewIter<'a, T, D> {
     #[inline]
     fn next_back(&mut self) -> Option<&'a T> {
-        if let Some(item) = self.rest.next_back() {
-            return Some(item);
-        }
-        self.row.next_back()
+        self.rest.next_back()
     }
 
     crate::arrays::rfold_lent!();
@@ -173,7 +138,7 @@ impl<'a, T, D: Lengths> DoubleEndedIterator for ViewIter<'a, T, D> {
 impl<'a, T, D: Lengths> ExactSizeIterator for ViewIter<'a, T, D> {
     #[inline]
     fn len(&self) -> usize {
-        self.row.len() + self.rest.len()
+        self.rest.len()
     }
 }
 
@@ -191,7 +156,6 @@ impl<'a, T, D: Lengths> IntoIterator for ArrayView<'a, T, D> {
 
     #[inline]
     fn into_iter(self) -> ViewIter<'a, T, D> {
-        let rest = RestOfItems::new(self);
-        ViewIter { row: rest.none(), rest }
+        ViewIter { rest: RestOfItems::new(self) }
     }
 }

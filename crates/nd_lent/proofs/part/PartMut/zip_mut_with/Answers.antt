@@ -15,7 +15,7 @@ use Rattle.nd_lent.proofs.PartMaps.{changed}
 use Rattle.nd_lent.proofs.Laws.IndexItems.{items_in}
 use Rattle.nd_lent.proofs.part.PartMut.zip_mut_with.Given.{Over}
 use Rattle.nd_lent.proofs.part.PartMut.zip_mut_with.Goals as goal
-use Rattle.nd_lent.proofs.part.PartMut.zip_mut_with.Goals.{After-strided}
+use Rattle.nd_lent.proofs.part.PartMut.zip_mut_with.Goals.{After-stored}
 
 pub zip_view-requires-clause-own : goal.zip_view-requires-clause-own
 zip_view-requires-clause-own g c = own_of_part c.args.self.now.cells.marks c.args.self.now.view c.args.self.now.part
@@ -23,22 +23,22 @@ zip_view-requires-clause-own g c = own_of_part c.args.self.now.cells.marks c.arg
 pub zip_view-requires-clause-items : goal.zip_view-requires-clause-items
 zip_view-requires-clause-items g c =
     let has = c.stored.ensures.has_items in
-    rw (c.stored.ensures.items, c.strided.ensures.view) (places_lie_within (length c.args.other.now.items) RowMajor c.args.other.now.view
+    rw (c.stored.ensures.items, c.strided-source.ensures.view) (places_lie_within (length c.args.other.now.items) RowMajor c.args.other.now.view
     has.within)
 
-same_shape : (g : Over) (c : After-strided g) → c.args.self.now.view.shape ≡ c.args.other.now.view.shape
+same_shape : (g : Over) (c : After-stored g) → c.args.self.now.view.shape ≡ c.args.other.now.view.shape
 same_shape g c = search rules
 
 -- the pairs that are given
-beside : (g : Over) (c : After-strided g)
-    → view_pairs c.args.self.now.cells.items c.args.self.now.view c.stored.result.now c.strided.result.now
+beside : (g : Over) (c : After-stored g)
+    → view_pairs c.args.self.now.cells.items c.args.self.now.view c.stored.result.now c.strided-source.result.now
     ≡ view_pairs c.args.self.now.cells.items c.args.self.now.view c.args.other.now.items c.args.other.now.view
 beside g c =
-    ap (λ items. view_pairs c.args.self.now.cells.items c.args.self.now.view items c.strided.result.now) c.stored.ensures.items
-    ∙ ap (view_pairs c.args.self.now.cells.items c.args.self.now.view c.args.other.now.items) c.strided.ensures.view
+    ap (λ items. view_pairs c.args.self.now.cells.items c.args.self.now.view items c.strided-source.result.now) c.stored.ensures.items
+    ∙ ap (view_pairs c.args.self.now.cells.items c.args.self.now.view c.args.other.now.items) c.strided-source.ensures.view
 
 -- in row-major order of the indices
-in_order : (g : Over) (c : After-strided g)
+in_order : (g : Over) (c : After-stored g)
     → view_pairs c.args.self.now.cells.items c.args.self.now.view c.args.other.now.items c.args.other.now.view
     ≡ row_major_pairs (array_of c.args.self.now) c.args.other.now
 in_order g c =
@@ -49,37 +49,37 @@ in_order g c =
 
 pub zip_view-requires-clause-callable : goal.zip_view-requires-clause-callable
 zip_view-requires-clause-callable g c =
-    let at = (goal.at.zip_view-requires-clause-callable g c).After-strided in
+    let at = (goal.at.zip_view-requires-clause-callable g c).After-stored in
     subst (λ pairs. CallableOnEachPair g.F.FnMut pairs c.args.f) (sym (beside g at ∙ in_order g at)) (c.requires (same_shape g at))
 
 pub returns-clause-ran : goal.returns-clause-ran
 returns-clause-ran g c =
-    let at = (goal.at.returns-clause-ran g c).After-strided in
+    let at = (goal.at.returns-clause-ran g c).After-stored in
     let call = CalledAtPair g.F.FnMut in
     let array = array_of c.args.self.now in
     let made = changed array c.zip_view.new.cells.items in
     subst (λ pairs. CallsMake call c.args.f pairs (row_major_items made)) (beside g at ∙ in_order g at)
-    (subst (CallsMake call c.args.f (view_pairs array.items array.view c.stored.result.now c.strided.result.now)) (items_in RowMajor made)
+    (subst (CallsMake call c.args.f (view_pairs array.items array.view c.stored.result.now c.strided-source.result.now)) (items_in RowMajor made)
     c.zip_view.ensures.ran.ran)
 
 pub returns-clause-zipped : goal.returns-clause-zipped
 returns-clause-zipped g c =
-    let same = same_shape g (goal.at.returns-clause-zipped g c).After-strided in
+    let same = same_shape g (goal.at.returns-clause-zipped g c).After-stored in
     let array = array_of c.args.self.now in
     let other = c.args.other.now in
     let new = c.zip_view.new.cells.items in
     let has : ZipsAt (CalledAtPair g.F.FnMut) c.args.f array.view other.items other.view array.items new =
     zips_in_order same (subst (λ pairs. Maps (CalledAtPair g.F.FnMut) c.args.f (view_places RowMajor array.view) pairs array.items new)
-    (beside g (goal.at.returns-clause-zipped g c).After-strided) c.zip_view.ensures.ran) in
+    (beside g (goal.at.returns-clause-zipped g c).After-stored) c.zip_view.ensures.ran) in
     λ h acts. zipped (CalledAtPair g.F.FnMut) array new other same has (λ pair. h pair.0 pair.1) (λ x y f' called. acts x.0 x.1 f' y called)
 
 pub returns-clause-spare : goal.returns-clause-spare
 returns-clause-spare g c =
-    let same = same_shape g (goal.at.returns-clause-spare g c).After-strided in
+    let same = same_shape g (goal.at.returns-clause-spare g c).After-stored in
     let array = array_of c.args.self.now in
     let other = c.args.other.now in
     let new = c.zip_view.new.cells.items in
     let has : ZipsAt (CalledAtPair g.F.FnMut) c.args.f array.view other.items other.view array.items new =
     zips_in_order same (subst (λ pairs. Maps (CalledAtPair g.F.FnMut) c.args.f (view_places RowMajor array.view) pairs array.items new)
-    (beside g (goal.at.returns-clause-spare g c).After-strided) c.zip_view.ensures.ran) in
+    (beside g (goal.at.returns-clause-spare g c).After-stored) c.zip_view.ensures.ran) in
     spare (CalledAtPair g.F.FnMut) array new other same has

@@ -1,5 +1,5 @@
--- No row has begun, so all items are left; what is left comes from its front on, in order.
-use Rattle.std.proofs.Common.{List, Option, Some, ap, length, ◌++◌, ◌∙◌}
+-- All items are left, and come from the front on, in order.
+use Rattle.std.proofs.Common.{List, Option, Some, ap, length}
 use Rattle.std.specs.Borrow.{Bor}
 use Rattle.std.specs.Iterator.{YieldsFirstBy}
 use Rattle.std.proofs.iter.runs.Sources.{from_front}
@@ -11,7 +11,7 @@ returns g c =
     let shown = λ (item : Bor g.row.T.Denot). Some item.now in
     record {
       into_iter_gives = (
-        ap (λ items. items ++ c.new-rest.result) c.none.ensures ∙ c.new-rest.ensures,
+        c.new.ensures,
         from_front (YieldsFirstBy shown left) shown left (λ s t h. ap length h.0) (λ s x t h. h),
       );
     }
