@@ -16,6 +16,7 @@ pub use Rattle.nd_lent.specs.Slices
 pub use Rattle.nd_lent.specs.SplitItems
 pub use Rattle.nd_lent.specs.Written
 pub use Rattle.nd_lent.specs.WrittenPart
+pub use Rattle.nd_lent.specs.Zipped
 pub use Rattle.ndarray_layout.specs.AcceptanceByStrides
 pub use Rattle.ndarray_layout.specs.Memory
 pub use Rattle.ndarray_layout.specs.ShapeBuilder

@@ -1,11 +1,11 @@
 //! Parts and counts of pictures.
 
 use crate::example_callers::{
-    alternate_rows, band, count_bright, count_dark, count_dark_pixels, crop, picture, pixel_across, pixels_of,
+    alternate_rows, band, count_bright, count_dark, count_dark_pixels, crop, lighten, picture, pixel_across, pixels_of,
     transposed_part,
 };
 use crate::{Hundreds, Listed, Places, pixels};
-use ndarray_layout::{ArrayView, Dim, Ix2, OwnedArray};
+use ndarray_layout::{ArrayView, ArrayViewMut, Dim, Ix2, OwnedArray, s};
 use std::ops::Range;
 
 /// The picture whose pixels lie row after row in a list.
@@ -123,4 +123,14 @@ fn a_pixel_across_stands_in_a_column() {
     for &(row, column, expected) in ACROSS {
         assert_eq!(pixel_across(picture_of(&pixels, 2, 3), row, column), expected);
     }
+}
+
+#[test]
+fn a_tile_is_lit_up_to_the_brightest_pixel() {
+    let mut pixels = [0, 100, 200, 250, 10, 20];
+    let mut picture = ArrayViewMut::from_shape(Ix2(2, 3).into(), &mut pixels).unwrap().into_part();
+    let light = ArrayView::from_shape(Ix2(2, 2).into(), &[60, 60, 5, 6]).unwrap();
+    assert!(lighten(&mut picture.sliced_mut(s![.., 1..]).unwrap(), &light));
+    assert!(!lighten(&mut picture, &light));
+    assert_eq!(pixels, [0, 160, 255, 250, 15, 26]);
 }
