@@ -17,6 +17,7 @@ IN_A_CRATE = re.compile(r"rt (check|doc|fmt|lemma|must-fail|plant|tidy|try|versi
 OTHERS = [
     (r"\./check|\.ci/run", "check", "checks/gate"),
     (r"checks/\w+(\.py)?|tools/definitions|git diff", "check", "{name}"),
+    (r"checks/methods", "checks/package", "{command}"),
     (r"rt ci", "checks/gate", '"rt", "ci"'),
     (r"rt new", "checks/first_steps", "type_steps FIRST_CRATE.md 'Over the layer'"),
     (r"rt lib", "bindings/c/build", "rt lib"),

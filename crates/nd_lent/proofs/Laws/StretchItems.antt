@@ -1,5 +1,6 @@
 -- A law of a view whose places follow one another: the items there are a slice.
-use Rattle.std.proofs.Common.{◌≡◌, ℕ, ◌+◌, ◌-◌, ◌≤◌, pos, List, length, map, take, drop, eqb, refl, sym, ap, subst, ◌∙◌, arith, inl, inr, Some}
+use Rattle.std.proofs.Common.{◌≡◌, ℕ, ◌+◌, ◌-◌, ◌≤◌, pos, List, length, map, take, drop, eqb}
+use Rattle.std.proofs.Common.{refl, sym, ap, subst, ◌∙◌, arith, inl, inr, Some}
 use Rattle.std.specs.List.{range_with_len}
 use Rattle.std.proofs.lemmas.Bool.{cases_eq, cond-false, ne_eqb}
 use Rattle.std.proofs.lemmas.Simd.{map-map}

@@ -33,7 +33,7 @@ fn place_in_row(row: Row, coordinate: usize) -> usize
 }
 
 /// Calls a closure at the item of each place of a row, one after another, and hands it back.
-#[inline(always)]
+// (not `inline(always)`: by a parameter of its own rustc knows that no write changes the pointer, and the loop reads it once)
 fn map_places<T, F: FnMut(&mut T)>(cells: &mut Cells<'_, T>, row: Row, mut f: F) -> F
     requires row { OwnsRow cells.old.marks row }
     requires callable { CallableOnEachMut F.FnMut

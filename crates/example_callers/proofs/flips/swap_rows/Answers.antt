@@ -51,7 +51,8 @@ loop-row-preserved c =
     let is : old.view.shape ≡ c.into_pattern-rows.result.0 ∷ c.into_pattern-rows.result.1 ∷ [] = search rules in
     let next : c.loop-row.row-iterator ≡ index ∷ c.next.new.self = search rules in
     record {
-      flipped = one_flipped (invert_source 0 old.view.shape) old now (array_of c.swap.new.self) index c.next.new.self c.strided.ensures.owned
+      flipped = one_flipped (invert_source 0 old.view.shape) old now (array_of c.swap.new.self) index c.next.new.self
+          c.strided.ensures.owned
           (subst (λ left. IsFlippedBut (invert_source 0 old.view.shape) left old now) next c.loop-row.invariant.flipped)
           (c.swap.ensures.swapped
           ∙ ap (λ (shape : List ℕ). with_swapped now index ((get_or shape 0 0 - 1 - row) ∷ c.in-Some.column ∷ [])) (sym is));

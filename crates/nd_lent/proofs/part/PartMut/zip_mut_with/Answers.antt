@@ -23,8 +23,8 @@ zip_view-requires-clause-own g c = own_of_part c.args.self.now.cells.marks c.arg
 pub zip_view-requires-clause-items : goal.zip_view-requires-clause-items
 zip_view-requires-clause-items g c =
     let has = c.stored.ensures.has_items in
-    rw (c.stored.ensures.items, c.strided-source.ensures.view) (places_lie_within (length c.args.other.now.items) RowMajor c.args.other.now.view
-    has.within)
+    rw (c.stored.ensures.items, c.strided-source.ensures.view)
+    (places_lie_within (length c.args.other.now.items) RowMajor c.args.other.now.view has.within)
 
 same_shape : (g : Over) (c : After-stored g) → c.args.self.now.view.shape ≡ c.args.other.now.view.shape
 same_shape g c = search rules
@@ -59,8 +59,8 @@ returns-clause-ran g c =
     let array = array_of c.args.self.now in
     let made = changed array c.zip_view.new.cells.items in
     subst (λ pairs. CallsMake call c.args.f pairs (row_major_items made)) (beside g at ∙ in_order g at)
-    (subst (CallsMake call c.args.f (view_pairs array.items array.view c.stored.result.now c.strided-source.result.now)) (items_in RowMajor made)
-    c.zip_view.ensures.ran.ran)
+    (subst (CallsMake call c.args.f (view_pairs array.items array.view c.stored.result.now c.strided-source.result.now))
+    (items_in RowMajor made) c.zip_view.ensures.ran.ran)
 
 pub returns-clause-zipped : goal.returns-clause-zipped
 returns-clause-zipped g c =

@@ -11,7 +11,8 @@ use Rattle.nd_owned.proofs.owned.OwnedArray.iter.Goals as goal
 
 pub new-requires : goal.new-requires
 new-requires g c =
-    rw c.stored.ensures.items (are_in_bounds _ c.stored.ensures.owned.within (all_places c.iter_places.ensures.items c.strided.ensures.view))
+    rw c.stored.ensures.items
+    (are_in_bounds _ c.stored.ensures.owned.within (all_places c.iter_places.ensures.items c.strided.ensures.view))
 
 pub returns-clause-count : goal.returns-clause-count
 returns-clause-count g c =
