@@ -52,17 +52,11 @@ impl<A: Cut> Cuts<A> {
         self.left.as_ref().map_or(0, |left| left.len_of(self.axis))
     }
 
-    /// The coordinates below one and the others; `None` where none is left.
-    #[inline]
-    fn cut(&mut self, coordinate: usize) -> Option<(A, A)> {
-        let axis = self.axis;
-        Some(self.left.take_if(|left| left.len_of(axis) > 0)?.cut(axis, coordinate))
-    }
-
     /// Cuts off so many of the first coordinates, or all that are left. `None` where none is.
     #[inline]
     pub(super) fn front(&mut self, count: usize) -> Option<A> {
-        let (taken, left) = self.cut(count.min(self.len()))?;
+        let (len, axis) = (self.len(), self.axis);
+        let (taken, left) = self.left.take_if(|_| len > 0)?.cut(axis, count.min(len));
         self.left = Some(left);
         Some(taken)
     }
@@ -70,7 +64,8 @@ impl<A: Cut> Cuts<A> {
     /// Cuts off so many of the last coordinates, or all that are left. `None` where none is.
     #[inline]
     pub(super) fn back(&mut self, count: usize) -> Option<A> {
-        let (left, taken) = self.cut(self.len().saturating_sub(count))?;
+        let (len, axis) = (self.len(), self.axis);
+        let (left, taken) = self.left.take_if(|_| len > 0)?.cut(axis, len.saturating_sub(count));
         self.left = Some(left);
         Some(taken)
     }
