@@ -106,7 +106,7 @@ pub(crate) struct Eraser<'a> {
 type Form<'a> = fn(&mut Eraser<'a>, &[Tree]) -> Result<Option<usize>, Fault>;
 
 impl<'a> Eraser<'a> {
-    const FORMS: [Form<'a>; 32] = [
+    const FORMS: [Form<'a>; 33] = [
         Self::doc,
         Self::clause,
         Self::ghost,
@@ -126,6 +126,7 @@ impl<'a> Eraser<'a> {
         Self::clone_method,
         Self::formatter,
         Self::opened,
+        Self::lending,
         Self::folded,
         Self::index_method,
         Self::import,

@@ -211,21 +211,13 @@ pub const LEFT_OUT: &[(&str, &str, &[&str])] = &[
 ];
 
 /// Structs that files of `rust/src` make and take apart: all of the package sees their fields.
-pub const OPENED: &[&str] = &[
-    "ArrayView",
-    "ArrayViewMut",
-    "Indices",
-    "Items",
-    "LentRow",
-    "OwnedArray",
-    "RestOfItems",
-    "RowItems",
-    "Strided",
-    "ViewIter",
-];
+pub const OPENED: &[&str] = &["ArrayView", "ArrayViewMut", "Indices", "Items", "LentRow", "OwnedArray", "Strided"];
 
 /// Iterators that the package copies, as it does the view that they have: they derive `Clone`.
 pub const COPIED: &[&str] = &["PlacesOf", "StridedRows"];
+
+/// Iterators over items that they lend, which the package copies, whether items are copied or not.
+pub const LENDING: &[&str] = &["RestOfItems", "RowItems", "ViewIter"];
 
 /// Iterators whose `fold` and `nth`, or `nth_back`, are more than calls of the `next` or `next_back` that is proved: the
 /// trait, the iterator, and the macro of `rust/src/arrays` that adds them.

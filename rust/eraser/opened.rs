@@ -1,9 +1,9 @@
-//! What the package's own files add to a source: they see fields, fold by rows, and say which index is none.
+//! What the package adds to a source: its own files see fields, iterators are copied and fold by rows, and it is said which index is none.
 
 use crate::docs::Contract;
 use crate::erase::Eraser;
-use crate::names::{FOLDED, OPENED};
-use crate::tokens::{Fault, Group, Kind, Nesting, Token, Tree, begins_with, text_of};
+use crate::names::{FOLDED, LENDING, OPENED};
+use crate::tokens::{Fault, Group, Kind, Nesting, Token, Tree, begins_with, length_of_generics, text_of};
 
 /// The body of an `index` that panics where there is no such item.
 const UNWRAPPED: &str = "self.get(&index).unwrap()";
@@ -25,6 +25,32 @@ impl Eraser<'_> {
         self.all(&trees[1..at])?;
         let fields = Group { open: body.open, trees: seen(&body.trees), close: body.close };
         self.all(&[Tree::Group(fields)])?;
+        Ok(Some(at + 1))
+    }
+
+    /// A struct of the list `LENDING` gets a `Clone` that asks nothing of the items which it lends, as one that is derived would.
+    pub(crate) fn lending(&mut self, trees: &[Tree]) -> Result<Option<usize>, Fault> {
+        let [word, name, ..] = trees else {
+            return Ok(None);
+        };
+        let name = name.first().text;
+        if !word.is("struct") || !self.names.is_packed() || !LENDING.contains(&name) {
+            return Ok(None);
+        }
+        let Some((at, body)) = body_of(trees) else {
+            return Ok(None);
+        };
+        self.put(word.first().lead, "struct");
+        self.all(&trees[1..=at])?;
+        let generics = &trees[2..2 + length_of_generics(&trees[2..])];
+        let (of, fields) = (names_in(generics), fields_of(&body.trees));
+        let copies: String = fields.iter().map(|field| format!("{field}: Clone::clone(&self.{field}), ")).collect();
+        self.out.push_str(&format!(
+            "\n\n/// A copy, of which neither moves the other. Panics where an allocation fails, never for at most 4 axes. Not proved.\n\
+             impl{} Clone for {name}<{}> {{\n    fn clone(&self) -> Self {{\n        {name} {{ {copies}}}\n    }}\n}}",
+            text_of(generics),
+            of.join(", "),
+        ));
         Ok(Some(at + 1))
     }
 
@@ -66,6 +92,22 @@ impl Eraser<'_> {
 /// The first body in braces, and where it stands.
 fn body_of<'t, 'a>(trees: &'t [Tree<'a>]) -> Option<(usize, &'t Group<'a>)> {
     trees.iter().enumerate().find_map(|(at, tree)| Some((at, tree.group("{")?)))
+}
+
+/// The parameters in `<..>`, without their bounds.
+fn names_in<'a>(generics: &[Tree<'a>]) -> Vec<&'a str> {
+    let (mut nesting, mut names) = (Nesting::default(), Vec::new());
+    for (at, tree) in generics.iter().enumerate() {
+        let is_begun = nesting.after(tree) == 1 && at > 0 && (at == 1 || generics[at - 1].is(","));
+        names.extend(is_begun.then(|| tree.first().text).filter(|text| *text != ">"));
+    }
+    names
+}
+
+/// The names of fields.
+fn fields_of<'a>(fields: &[Tree<'a>]) -> Vec<&'a str> {
+    let named = fields.windows(2).filter(|two| two[1].is(":") && two[0].word().is_some());
+    named.map(|two| two[0].first().text).collect()
 }
 
 /// Fields with `pub(crate)` before each that has a name and isn't `pub` yet.

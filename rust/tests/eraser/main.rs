@@ -153,6 +153,13 @@ fn what_the_package_adds_is_made_of_a_source() {
         ("pub(crate) struct LentRow {}", "pub(crate) struct LentRow {}"),
         ("struct Other { len: usize }", "struct Other { len: usize }"),
         (
+            "pub struct ViewIter<'a, T, D: A<B>> { // It.\n rest: Rest<'a, T, D>, to: usize, }",
+            "pub struct ViewIter<'a, T, D: A<B>> { // It. rest: Rest<'a, T, D>, to: usize, } \
+             /// A copy, of which neither moves the other. Panics where an allocation fails, never for at most 4 axes. Not proved. \
+             impl<'a, T, D: A<B>> Clone for ViewIter<'a, T, D> { fn clone(&self) -> Self { \
+             ViewIter { rest: Clone::clone(&self.rest), to: Clone::clone(&self.to), } } }",
+        ),
+        (
             "impl<T> Iterator for Iter<'_, T> { fn next(&mut self) {} } fn f();",
             "impl<T> Iterator for Iter<'_, T> { fn next(&mut self) {} crate::arrays::fold_lent!(); } fn f();",
         ),

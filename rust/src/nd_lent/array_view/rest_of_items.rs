@@ -6,8 +6,15 @@ use crate::ndarray_layout::{IntoPlaces, Lengths, Order};
 
 /// The items of an array that are still to come, in row-major order of their indices, row by row.
 pub(crate) struct RestOfItems<'a, T, D: Lengths> {
-    pub(crate) items: &'a [T],
-    pub(crate) places: IntoPlaces<D>,
+    items: &'a [T],
+    places: IntoPlaces<D>,
+}
+
+/// A copy, of which neither moves the other. Panics where an allocation fails, never for at most 4 axes. Not proved.
+impl<'a, T, D: Lengths> Clone for RestOfItems<'a, T, D> {
+    fn clone(&self) -> Self {
+        RestOfItems { items: Clone::clone(&self.items), places: Clone::clone(&self.places) }
+    }
 }
 
 impl<'a, T, D: Lengths> RestOfItems<'a, T, D> {

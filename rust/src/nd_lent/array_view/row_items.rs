@@ -8,11 +8,23 @@ use core::iter::FusedIterator;
 /// The items of a row that are still to come, from both ends, each lent for as long as the data is. ndarray's `Iter` of
 /// a row.
 pub struct RowItems<'a, T> {
-    pub(crate) items: &'a [T],
-    pub(crate) row: Row,
+    items: &'a [T],
+    row: Row,
     // The coordinate that comes next, and the one after the last that is left.
-    pub(crate) begun: usize,
-    pub(crate) end: usize,
+    begun: usize,
+    end: usize,
+}
+
+/// A copy, of which neither moves the other. Panics where an allocation fails, never for at most 4 axes. Not proved.
+impl<'a, T> Clone for RowItems<'a, T> {
+    fn clone(&self) -> Self {
+        RowItems {
+            items: Clone::clone(&self.items),
+            row: Clone::clone(&self.row),
+            begun: Clone::clone(&self.begun),
+            end: Clone::clone(&self.end),
+        }
+    }
 }
 
 impl<'a, T> RowItems<'a, T> {

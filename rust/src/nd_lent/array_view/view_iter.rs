@@ -8,7 +8,14 @@ use core::iter::FusedIterator;
 /// The items of an array that are still to come, in row-major order of their indices, from both ends, each lent for as
 /// long as the data is: a function that is handed an `ArrayView` may return this. ndarray's `Iter`.
 pub struct ViewIter<'a, T, D: Lengths> {
-    pub(crate) rest: RestOfItems<'a, T, D>,
+    rest: RestOfItems<'a, T, D>,
+}
+
+/// A copy, of which neither moves the other. Panics where an allocation fails, never for at most 4 axes. Not proved.
+impl<'a, T, D: Lengths> Clone for ViewIter<'a, T, D> {
+    fn clone(&self) -> Self {
+        ViewIter { rest: Clone::clone(&self.rest) }
+    }
 }
 
 impl<'a, T, D: Lengths> ViewIter<'a, T, D> {
