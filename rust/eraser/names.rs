@@ -211,7 +211,7 @@ pub const LEFT_OUT: &[(&str, &str, &[&str])] = &[
 ];
 
 /// Structs that files of `rust/src` make and take apart: all of the package sees their fields.
-pub const OPENED: &[&str] = &["ArrayView", "ArrayViewMut", "Indices", "Items", "LentRow", "OwnedArray", "Strided"];
+pub const OPENED: &[&str] = &["ArrayView", "ArrayViewMut", "Indices", "Items", "OwnedArray", "Strided"];
 
 /// Iterators that the package copies, as it does the view that they have: they derive `Clone`.
 pub const COPIED: &[&str] = &["PlacesOf", "StridedRows"];

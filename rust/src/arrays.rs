@@ -21,7 +21,6 @@ mod line;
 mod owned;
 mod pairs;
 mod reading;
-mod rows;
 mod shapes;
 mod writing;
 

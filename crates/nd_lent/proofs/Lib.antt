@@ -14,6 +14,7 @@ pub mod PairRows
 pub mod PartMaps
 pub mod Permuted
 pub mod RestOfRow
+pub mod RowArrays
 pub mod RowMaps
 pub mod RowsLent
 pub mod RowsOwned

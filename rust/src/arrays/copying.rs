@@ -6,14 +6,13 @@ use crate::nd_base::{LayoutError, Lengths, Order};
 use crate::nd_dim::product;
 use crate::nd_shape::{StrideShape, Strides};
 use crate::ndarray_layout::Strided;
-use crate::{ArrayView, ArrayViewMut, LentRow, OwnedArray};
+use crate::{ArrayView, ArrayViewMut, LentRows, OwnedArray};
 use alloc::vec::{self, Vec};
 
 /// What a closure makes of the items of a view, in row-major order. Errors: out of memory.
 fn made<T, U, D: Lengths>(view: &Strided<D>, items: &[T], mut f: impl FnMut(&T) -> U) -> Result<Vec<U>, AllocError> {
     let mut made = Vec::fallible_with_capacity(product(view.dim().slice()))?;
-    for row in view.joined_rows(Order::RowMajor) {
-        let row = LentRow { items, row };
+    for row in LentRows::new(items, view.joined_rows(Order::RowMajor)) {
         match row.as_slice() {
             Some(items) => made.extend(items.iter().map(&mut f)),
             None => made.extend((0..row.len()).map(|coordinate| f(row.item(coordinate)))),

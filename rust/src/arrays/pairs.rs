@@ -1,10 +1,11 @@
 //! Two views of one shape, whose rows are gone over side by side.
 
 use super::line::place_after;
-use crate::LentRow;
 use crate::nd_base::{ErrorKind, Lengths, ShapeError, from_kind};
+use crate::nd_lent::array_view::is_contiguous;
 use crate::nd_lent::nearest::{nearest_rows_with, nearest_views};
 use crate::ndarray_layout::{Row, Strided};
+use crate::{LentRow, LentRows};
 
 /// Calls a closure at the items of two views at each index, in the order in which those of the first lie. Errors: those of
 /// `zip_mut_with`.
@@ -18,8 +19,8 @@ pub(crate) fn zip_mut<T, U, D: Lengths>(
     }
     let nearest = nearest_views(view, other_view);
     let (rows, other_rows) = nearest_rows_with(view, other_view, &nearest);
-    for (row, other) in rows.zip(other_rows) {
-        zip_row((row, items), LentRow { items: others, row: other }, &mut f);
+    for (row, other) in rows.zip(LentRows::new(others, other_rows)) {
+        zip_row((row, items), other, &mut f);
     }
     Ok(())
 }
@@ -28,7 +29,7 @@ pub(crate) fn zip_mut<T, U, D: Lengths>(
 #[inline]
 fn zip_row<T, U>(one: (Row, &mut [T]), other: LentRow<'_, U>, f: &mut impl FnMut(&mut T, &U)) {
     let (row, items) = one;
-    if let (Some(_), Some(others)) = (LentRow { items: &*items, row }.as_slice(), other.as_slice()) {
+    if let (true, Some(others)) = (is_contiguous(row), other.as_slice()) {
         items[row.start..][..row.len].iter_mut().zip(others).for_each(|(item, other)| f(item, other));
         return;
     }
@@ -43,7 +44,8 @@ pub(crate) fn same_items<T: PartialEq<U>, U, D: Lengths>(one: (&Strided<D>, &[T]
     view.dim().equal(other_view.dim()) && {
         let nearest = nearest_views(view, other_view);
         let (rows, beside) = nearest_rows_with(view, other_view, &nearest);
-        rows.zip(beside).all(|(row, other)| same_row(LentRow { items, row }, LentRow { items: others, row: other }))
+        let (rows, beside) = (LentRows::new(items, rows), LentRows::new(others, beside));
+        rows.zip(beside).all(|(row, other)| same_row(row, other))
     }
 }
 

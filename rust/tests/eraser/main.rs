@@ -149,8 +149,8 @@ fn what_the_package_adds_is_made_of_a_source() {
             "pub struct Items<'a, T> where T: Eq { /// A.\n a: &'a [T], b: Rest<'a, T>, pub c: u8, ghost d: { 1 }, }",
             "pub struct Items<'a, T> where T: Eq { /// A. pub(crate) a: &'a [T], pub(crate) b: Rest<'a, T>, pub c: u8, }",
         ),
-        ("struct LentRow { len: usize }", "pub(crate) struct LentRow { pub(crate) len: usize }"),
-        ("pub(crate) struct LentRow {}", "pub(crate) struct LentRow {}"),
+        ("struct Strided { len: usize }", "pub(crate) struct Strided { pub(crate) len: usize }"),
+        ("pub(crate) struct Strided {}", "pub(crate) struct Strided {}"),
         ("struct Other { len: usize }", "struct Other { len: usize }"),
         (
             "pub struct ViewIter<'a, T, D: A<B>> { // It.\n rest: Rest<'a, T, D>, to: usize, }",

@@ -12,10 +12,11 @@ ghost use Rattle.ndarray_layout.specs.View.{view_places};
 ghost use Rattle.nd_lent.specs.Backwards.{is_backwards};
 ghost use Rattle.nd_lent.specs.LentRow.{HasRow, RowValue, is_contiguous, row_items, row_of, rows_items};
 ghost use Rattle.nd_lent.specs.Items.{item_at_place};
+ghost use Rattle.nd_lent.specs.RowsLeft.{row_array};
 
 use crate::array_view::ArrayView;
 use crate::nearest::nearest_rows;
-use ndarray_layout::{Ix6, Lengths, Order, Row, Rows, Strided};
+use ndarray_layout::{Ix1, Ix6, Lengths, Order, Row, Rows, Strided};
 use std::iter::FusedIterator;
 use std::marker::Model;
 
@@ -112,6 +113,22 @@ impl<'a, T> LentRow<'a, T> {
         }
         let end = row.start + 1;
         Some(&items[end - row.len..end])
+    }
+
+    /// The row as an array of one axis.
+    ///
+    /// Takes no memory.
+    ///
+    /// Of `[2,2]` over 5 6 7 8 the second row: `[2]` from 2, 7 8. ndarray's rows are such arrays.
+    #[inline]
+    pub fn into_array(self) -> ArrayView<'a, T, Ix1>
+        ensures { result ≡ row_array self.entry.items self.entry.row }
+    {
+        let LentRow { items, row } = self;
+        ArrayView {
+            items,
+            view: row.layout(),
+        }
     }
 
     /// The item of a coordinate. The caller ensures that it is one of the row.

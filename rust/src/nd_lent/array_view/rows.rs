@@ -4,7 +4,7 @@
 use crate::memory::prelude::Vec;
 use crate::nd_lent::array_view::ArrayView;
 use crate::nd_lent::nearest::nearest_rows;
-use crate::ndarray_layout::{Ix6, Lengths, Order, Row, Rows, Strided};
+use crate::ndarray_layout::{Ix1, Ix6, Lengths, Order, Row, Rows, Strided};
 use core::iter::FusedIterator;
 
 /// A row of an array: items that lie evenly among those that are lent. There is at least one. ndarray's one-dimensional
@@ -155,6 +155,39 @@ impl<'a, T> LentRow<'a, T> {
         }
         let end = row.start + 1;
         Some(&items[end - row.len..end])
+    }
+
+    /// The row as an array of one axis.
+    ///
+    /// Takes no memory.
+    ///
+    /// Of `[2,2]` over 5 6 7 8 the second row: `[2]` from 2, 7 8. ndarray's rows are such arrays.
+    ///
+    /// # Examples
+    ///
+    /// ```
+    /// use ndarray_layout::{ArrayView, Ix2, LayoutError};
+    ///
+    /// # fn main() -> Result<(), LayoutError> {
+    /// let rows = ArrayView::from_shape(Ix2(2, 3).into(), &[1, 2, 3, 4, 5, 6])?;
+    /// let last = rows.into_rows().last().map(|row| row.into_array()[1]);
+    /// assert_eq!(last, Some(5));
+    /// # Ok(())
+    /// # }
+    /// ```
+    ///
+    /// <details><summary>Contract (proved)</summary>
+    ///
+    /// ```text
+    /// ensures result ≡ row_array self.entry.items self.entry.row
+    /// ```
+    /// [How to read it](crate::contracts)
+    /// </details>
+    #[must_use]
+    #[inline]
+    pub fn into_array(self) -> ArrayView<'a, T, Ix1> {
+        let LentRow { items, row } = self;
+        ArrayView { items, view: row.layout() }
     }
 
     /// The item of a coordinate.
