@@ -68,8 +68,8 @@ macro_rules! fold_items {
             self.lent.fold(init, |total, item| f(total, *item))
         }
 
-        /// What `collect` of std's iterators returns. The items are first listed row by row; of this list a `Vec` is made in no time.
-        /// Panics where an allocation fails. Not proved.
+        /// What `collect` of std's iterators returns. The items are first listed row by row: this list becomes a `Vec` as it is, and any
+        /// other collection is made of it. Where there is no memory for it, this ends as `Vec::with_capacity` does. Not proved.
         fn collect<B: FromIterator<T>>(self) -> B {
             let mut list = alloc::vec::Vec::with_capacity(self.len());
             let mut items = self.lent;
