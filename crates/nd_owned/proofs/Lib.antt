@@ -1,3 +1,4 @@
+pub mod EvenRows
 pub mod Faults
 pub mod Placed
 pub mod RowPlaces

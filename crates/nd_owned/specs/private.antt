@@ -1,2 +1,3 @@
 pub mod PickedView
+pub mod EvenRows
 pub mod Written

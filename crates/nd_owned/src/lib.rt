@@ -2,6 +2,7 @@
 //! of its layout. What lends items is re-exported.
 #![tactic(auto)]
 
+mod even_rows;
 mod iterating;
 mod multi_set;
 mod owned;

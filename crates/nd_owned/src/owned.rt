@@ -21,10 +21,14 @@ ghost use Rattle.nd_owned.specs.private.Written.{HasWritten};
 mod making;
 mod mapping;
 
+use crate::even_rows::even_rows_of;
 use crate::multi_set::{check_apart, check_counts, picked_by_write, picked_views, write_all};
 use crate::picked_view::PickedView;
+use crate::rows::{read_rows, write_rows};
 use nd_lent::{ArrayView, ArrayViewMut};
-use ndarray_layout::{LayoutError, Lengths, NdIndex, Order, SliceElems, SliceInfoElem, Strided};
+use ndarray_layout::{
+    ErrorKind, LayoutError, Lengths, NdIndex, Order, SliceElems, SliceInfoElem, Strided, from_kind,
+};
 use std::alloc::{AllocError, Global};
 use std::marker::Model;
 
@@ -239,6 +243,9 @@ impl<T: Copy, D: Lengths> OwnedArray<T, D> {
             (view_places RowMajor (slice_of Strict (S.list slices.now) self.now.view))) }
         ensures memory { IsOfNone self.now.view.shape (S.list slices.now) → IsOk result }
     {
+        if let Some(rows) = even_rows_of(&self.view, slices.elems())? {
+            return Ok(read_rows(alloc, rows, self.items.as_slice())?);
+        }
         let part = PickedView::new(alloc, &self.view, slices)?;
         Ok(part.read(alloc, self.items.as_slice())?)
     }
@@ -304,6 +311,13 @@ impl<T: Copy, D: Lengths> OwnedArray<T, D> {
         ensures written { OnOk result (HasWritten (write_places self.old.view (write_of write.now))
             write.now.1.items self.old.items self.new.items) }
     {
+        if let Some(rows) = even_rows_of(&self.view, write.0.as_slice())? {
+            if rows.size() != write.1.len() {
+                return Err(LayoutError::Shape(from_kind(ErrorKind::IncompatibleShape)));
+            }
+            write_rows(self.items.as_mut_slice(), rows, write.1.as_slice());
+            return Ok(());
+        }
         let part = picked_by_write(alloc, &self.view, write)?;
         part.write(self.items.as_mut_slice(), write.1.as_slice());
         Ok(())

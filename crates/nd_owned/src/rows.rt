@@ -3,12 +3,16 @@ ghost use Rattle.std.specs.List.{All, AllPairs};
 ghost use Rattle.std.specs.Prelude.{◌≡◌, ◌≢◌, ◌+◌, ◌<◌, ◌≤◌, ◌^◌, pos, ◌+ℤ◌, Some, IfOk, IsOk, IsTrue, ◌++◌, length, map, vec_capacity, vec_len};
 ghost use Rattle.ndarray_layout.specs.declared.Order.TheVariants.{RowMajor};
 ghost use Rattle.ndarray_layout.specs.Bounds.{IsInBounds};
-ghost use Rattle.ndarray_layout.specs.Rows.{row_places};
+ghost use Rattle.ndarray_layout.specs.Rows.{row_places, rows_places};
+ghost use Rattle.ndarray_layout.specs.Signed.{signed as signed_reading};
 ghost use Rattle.ndarray_layout.specs.Size.{size};
 ghost use Rattle.ndarray_layout.specs.View.{LiesWithin, view_places};
 ghost use Rattle.nd_lent.specs.Items.{item_at_place};
+ghost use Rattle.nd_lent.specs.LentRow.{places_of};
+ghost use Rattle.nd_owned.specs.private.EvenRows.{even_rows};
 ghost use Rattle.nd_owned.specs.private.Written.{AreInBounds, HasWritten};
 
+use crate::even_rows::EvenRows;
 use ndarray_layout::{Lengths, Order, Places, Row, Strided};
 use std::alloc::{AllocError, Global};
 
@@ -53,6 +57,45 @@ pub(crate) fn write_view<T: Copy, D: Lengths>(stored: &mut [T], view: &Strided<D
     }
 }
 
+/// Copies of the items at the places of rows, one row after another.
+#[inline(always)]
+pub(crate) fn read_rows<T: Copy>(
+    alloc: Global,
+    rows: EvenRows,
+    stored: &[T],
+) -> Result<Vec<T>, AllocError>
+    requires { All (λ row. AreInBounds (length stored.now) (places_of row))
+        (even_rows rows.start rows.step rows.len rows.count (signed_reading rows.stride)) }
+    ensures items { IfOk result (λ v. map Some v.items ≡ map (item_at_place stored.now)
+        (rows_places (even_rows rows.start rows.step rows.len rows.count (signed_reading rows.stride)))) }
+    ensures memory { length (rows_places (even_rows rows.start rows.step rows.len rows.count (signed_reading rows.stride))) ≡ 0 → IsOk result }
+{
+    let mut items = Vec::with_capacity(alloc, rows.size())?;
+    for number in 0..rows.count {
+        items = push_row(items, stored, rows.row(number));
+    }
+    Ok(items)
+}
+
+/// Writes an item at each place of rows, one row after another.
+#[inline(always)]
+pub(crate) fn write_rows<T: Copy>(stored: &mut [T], rows: EvenRows, items: &[T])
+    requires in_bounds { All (λ row. AreInBounds (length stored.old) (places_of row))
+        (even_rows rows.start rows.step rows.len rows.count (signed_reading rows.stride)) }
+    requires count { length (rows_places (even_rows rows.start rows.step rows.len rows.count (signed_reading rows.stride))) ≡ length items.now }
+    ensures { AllPairs (λ one other. one ≢ other)
+        (rows_places (even_rows rows.start rows.step rows.len rows.count (signed_reading rows.stride))) →
+        HasWritten (rows_places (even_rows rows.start rows.step rows.len rows.count (signed_reading rows.stride)))
+        items.now stored.old stored.new }
+{
+    let mut left = items;
+    for number in 0..rows.count {
+        let (these, others) = left.split_at(rows.len);
+        write_row(stored, rows.row(number), these);
+        left = others;
+    }
+}
+
 /// Appends the items at places to a list with room for them.
 #[inline(always)]
 fn read_places<T: Copy>(mut items: Vec<T>, stored: &[T], places: Places<'_>) -> Vec<T>
@@ -84,10 +127,24 @@ fn place_after(row: Row, place: usize) -> usize
     (place as isize + row.stride) as usize
 }
 
-/// Appends the items at the places of a row to a list with room for them. The list is passed by value: through a
-/// reference its length would be written at each place. It stays a call, so that its loop keeps more in registers.
+/// Appends the items at the places of a row to a list with room for them. It stays a call, so that its loop keeps more in
+/// registers.
 #[inline(never)]
-fn read_row<T: Copy>(mut items: Vec<T>, stored: &[T], row: Row) -> Vec<T>
+fn read_row<T: Copy>(items: Vec<T>, stored: &[T], row: Row) -> Vec<T>
+    requires in_bounds { AreInBounds (length stored.now) (row_places row.start row.stride row.len) }
+    requires room { vec_len items + row.len ≤ vec_capacity items }
+    ensures items { map Some result.items ≡ map Some items.items
+        ++ map (item_at_place stored.now) (row_places row.start row.stride row.len) }
+    ensures len { vec_len result ≡ vec_len items + row.len }
+    ensures capacity { vec_capacity items ≤ vec_capacity result }
+{
+    push_row(items, stored, row)
+}
+
+/// Appends the items at the places of a row to a list with room for them. The list is passed by value: through a
+/// reference its length would be written at each place.
+#[inline(always)]
+fn push_row<T: Copy>(mut items: Vec<T>, stored: &[T], row: Row) -> Vec<T>
     requires in_bounds { AreInBounds (length stored.now) (row_places row.start row.stride row.len) }
     requires room { vec_len items + row.len ≤ vec_capacity items }
     ensures items { map Some result.items ≡ map Some items.items

@@ -17,6 +17,7 @@
 #![allow(clippy::len_without_is_empty, reason = "a sequence is never asked whether it is empty")]
 #![allow(clippy::should_implement_trait, reason = "the package has the trait beside what is proved")]
 
+mod even_rows;
 mod iterating;
 mod multi_set;
 mod owned;

@@ -8,9 +8,13 @@ mod mapping;
 
 use crate::memory::AllocError;
 use crate::nd_lent::{ArrayView, ArrayViewMut};
+use crate::nd_owned::even_rows::even_rows_of;
 use crate::nd_owned::multi_set::{check_apart, check_counts, picked_by_write, picked_views, write_all};
 use crate::nd_owned::picked_view::PickedView;
-use crate::ndarray_layout::{LayoutError, Lengths, NdIndex, Order, SliceElems, SliceInfoElem, Strided};
+use crate::nd_owned::rows::{read_rows, write_rows};
+use crate::ndarray_layout::{
+    ErrorKind, LayoutError, Lengths, NdIndex, Order, SliceElems, SliceInfoElem, Strided, from_kind,
+};
 
 /// An array that owns its items. Each index of its shape has an item, at its place in the list of the items, and no two
 /// indices alias. Items at no place of the layout are spare ones, and no call shows them but `stored`, `stored_mut` and
@@ -483,6 +487,9 @@ impl<T: Copy, D: Lengths> OwnedArray<T, D> {
     /// </details>
     #[inline]
     pub fn items<S: SliceElems>(&self, slices: &S) -> Result<Vec<T>, LayoutError> {
+        if let Some(rows) = even_rows_of(&self.view, slices.elems())? {
+            return Ok(read_rows(rows, self.items.as_slice())?);
+        }
         let part = PickedView::new(&self.view, slices)?;
         Ok(part.read(self.items.as_slice())?)
     }
@@ -565,6 +572,13 @@ impl<T: Copy, D: Lengths> OwnedArray<T, D> {
     /// </details>
     #[inline]
     fn set_one(&mut self, write: &(Vec<SliceInfoElem>, Vec<T>)) -> Result<(), LayoutError> {
+        if let Some(rows) = even_rows_of(&self.view, write.0.as_slice())? {
+            if rows.size() != write.1.len() {
+                return Err(LayoutError::Shape(from_kind(ErrorKind::IncompatibleShape)));
+            }
+            write_rows(self.items.as_mut_slice(), rows, write.1.as_slice());
+            return Ok(());
+        }
         let part = picked_by_write(&self.view, write)?;
         part.write(self.items.as_mut_slice(), write.1.as_slice());
         Ok(())

@@ -3,6 +3,7 @@
 
 use crate::memory::AllocError;
 use crate::memory::prelude::{FallibleVec, Vec};
+use crate::nd_owned::even_rows::EvenRows;
 use crate::ndarray_layout::{Lengths, Order, Places, Row, Strided};
 
 /// How many neighbours are worth the call of a copy.
@@ -51,6 +52,53 @@ pub(crate) fn write_view<T: Copy, D: Lengths>(stored: &mut [T], view: &Strided<D
     for row in view.joined_rows(Order::RowMajor) {
         let (these, others) = left.split_at(row.len);
         write_row(stored, row, these);
+        left = others;
+    }
+}
+
+/// Copies of the items at the places of rows, one row after another.
+///
+/// <details><summary>Contract (proved)</summary>
+///
+/// ```text
+/// requires All (λ row. AreInBounds (length stored.now) (places_of row))
+///     (even_rows rows.start rows.step rows.len rows.count (signed_reading rows.stride))
+/// ensures items: IfOk result (λ v. map Some v.items ≡ map (item_at_place stored.now)
+///     (rows_places (even_rows rows.start rows.step rows.len rows.count (signed_reading rows.stride))))
+/// ensures memory: length (rows_places (even_rows rows.start rows.step rows.len rows.count (signed_reading rows.stride))) ≡ 0 → IsOk result
+/// ```
+/// [How to read it](crate::contracts)
+/// </details>
+#[inline(always)]
+pub(crate) fn read_rows<T: Copy>(rows: EvenRows, stored: &[T]) -> Result<Vec<T>, AllocError> {
+    let mut items = Vec::fallible_with_capacity(rows.size())?;
+    for number in 0..rows.count {
+        items = push_row(items, stored, rows.row(number));
+    }
+    Ok(items)
+}
+
+/// Writes an item at each place of rows, one row after another.
+///
+/// <details><summary>Contract (proved)</summary>
+///
+/// ```text
+/// requires in_bounds: All (λ row. AreInBounds (length stored.old) (places_of row))
+///     (even_rows rows.start rows.step rows.len rows.count (signed_reading rows.stride))
+/// requires count: length (rows_places (even_rows rows.start rows.step rows.len rows.count (signed_reading rows.stride))) ≡ length items.now
+/// ensures AllPairs (λ one other. one ≢ other)
+///     (rows_places (even_rows rows.start rows.step rows.len rows.count (signed_reading rows.stride))) →
+///     HasWritten (rows_places (even_rows rows.start rows.step rows.len rows.count (signed_reading rows.stride)))
+///     items.now stored.old stored.new
+/// ```
+/// [How to read it](crate::contracts)
+/// </details>
+#[inline(always)]
+pub(crate) fn write_rows<T: Copy>(stored: &mut [T], rows: EvenRows, items: &[T]) {
+    let mut left = items;
+    for number in 0..rows.count {
+        let (these, others) = left.split_at(rows.len);
+        write_row(stored, rows.row(number), these);
         left = others;
     }
 }
@@ -104,8 +152,8 @@ fn place_after(row: Row, place: usize) -> usize {
     (place as isize + row.stride) as usize
 }
 
-/// Appends the items at the places of a row to a list with room for them. The list is passed by value: through a
-/// reference its length would be written at each place. It stays a call, so that its loop keeps more in registers.
+/// Appends the items at the places of a row to a list with room for them. It stays a call, so that its loop keeps more in
+/// registers.
 ///
 /// <details><summary>Contract (proved)</summary>
 ///
@@ -120,7 +168,27 @@ fn place_after(row: Row, place: usize) -> usize {
 /// [How to read it](crate::contracts)
 /// </details>
 #[inline(never)]
-fn read_row<T: Copy>(mut items: Vec<T>, stored: &[T], row: Row) -> Vec<T> {
+fn read_row<T: Copy>(items: Vec<T>, stored: &[T], row: Row) -> Vec<T> {
+    push_row(items, stored, row)
+}
+
+/// Appends the items at the places of a row to a list with room for them. The list is passed by value: through a
+/// reference its length would be written at each place.
+///
+/// <details><summary>Contract (proved)</summary>
+///
+/// ```text
+/// requires in_bounds: AreInBounds (length stored.now) (row_places row.start row.stride row.len)
+/// requires room: vec_len items + row.len ≤ vec_capacity items
+/// ensures items: map Some result.items ≡ map Some items.items
+///     ++ map (item_at_place stored.now) (row_places row.start row.stride row.len)
+/// ensures len: vec_len result ≡ vec_len items + row.len
+/// ensures capacity: vec_capacity items ≤ vec_capacity result
+/// ```
+/// [How to read it](crate::contracts)
+/// </details>
+#[inline(always)]
+fn push_row<T: Copy>(mut items: Vec<T>, stored: &[T], row: Row) -> Vec<T> {
     let start = row.start;
     let len = row.len;
     if len == 0 {

@@ -7,7 +7,7 @@ use Rattle.ndarray_layout.specs.Rows.{row_places}
 use Rattle.nd_lent.specs.Items.{item_at_place}
 use Rattle.nd_owned.proofs.RowPlaces.{at_coordinate, copied_within, next_there, read_more}
 use Rattle.nd_lent.proofs.Laws.RowItems.{begins, coordinate_in_bounds, read_neighbours, start_there}
-use Rattle.nd_owned.proofs.rows.read_row.Goals as goal
+use Rattle.nd_owned.proofs.rows.push_row.Goals as goal
 
 pub overflow_add-start : goal.overflow_add-start
 overflow_add-start g c =

@@ -2,7 +2,7 @@
 use Rattle.std.proofs.Common.{◌≡◌, ◌+◌, ◌<◌, ◌^◌, pos, ◌+ℤ◌, ◌*ℤ◌, Some, ◌++◌, map, vec_len, vec_capacity}
 use Rattle.ndarray_layout.specs.Rows.{row_places}
 use Rattle.nd_lent.specs.Items.{item_at_place}
-use Rattle.nd_owned.proofs.rows.read_row.Given as goal
+use Rattle.nd_owned.proofs.rows.push_row.Given as goal
 
 abbrev pub invariant-loop-coordinate : goal.invariant-loop-coordinate
 invariant-loop-coordinate g l = record {
