@@ -1,18 +1,25 @@
 -- Rows that lie a stride apart: those of a view of two axes, how many places they have, and the row of a number.
-use Rattle.std.proofs.Common.{◌≡◌, ℕ, zero, suc, ◌*◌, ◌+◌, ◌<◌, ◌≤◌, ℤ, pos, ◌+ℤ◌, ◌*ℤ◌, Bool, true, false, cond, Some, None, List, [], ◌∷◌, length, map}
-use Rattle.std.proofs.Common.{drop, nat_eq, refl, sym, ap, subst, ◌∙◌, arith, eqb-true}
+use Rattle.std.proofs.Common.{◌≡◌, ℕ, zero, suc, ◌*◌, ◌+◌, ◌<◌, ◌≤◌, ◌^◌, ℤ, pos, ◌+ℤ◌, ◌*ℤ◌, Bool, true, false, cond}
+use Rattle.std.proofs.Common.{Some, None, List, [], ◌∷◌, length, map, drop, nat_eq, refl, sym, ap, subst, ◌∙◌, arith, eqb-true}
 use Rattle.std.specs.List.{All}
 use Rattle.std.specs.Int.{w64}
 use Rattle.std.specs.Option.{option_map, option_or}
-use Rattle.std.specs.Prelude.{FitsSigned, slice_get}
-use Rattle.std.proofs.lemmas.List.{drop_all, length-append, length-map}
-use Rattle.std.proofs.lemmas.List.Elements.{All-map, All-weaker}
+use Rattle.std.specs.Prelude.{FitsSigned, nat_lt, slice_get}
+use Rattle.std.proofs.lemmas.List.{append-nil, drop_all, length-append, length-map}
+use Rattle.std.proofs.lemmas.List.Elements.{All-cons, All-nil}
+use Rattle.std.proofs.lemmas.Bool.{and_from, lt-ltb}
 use Rattle.std.proofs.lemmas.Int.{ints}
+use Rattle.std.proofs.Math.IntN.{zero-*ℤ}
 use Rattle.std.proofs.lemmas.Option.{slice_get-get_or, slice_get-map}
 use Rattle.ndarray_layout.specs.declared.Fit.TheVariants.{Strict}
 use Rattle.ndarray_layout.specs.declared.Slice.{Slice}
 use Rattle.ndarray_layout.specs.declared.SliceInfoElem.{SliceInfoElem}
-use Rattle.ndarray_layout.specs.AxisFault.{slice_fault}
+use Rattle.ndarray_layout.specs.declared.SliceInfoElem.TheVariants as elem
+use Rattle.ndarray_layout.specs.AxisFault.{index_fault, slice_fault}
+use Rattle.ndarray_layout.specs.SliceBounds.{meaning}
+use Rattle.ndarray_layout.proofs.Laws.AxisFault.{coordinate_below, index_fits_of_no_fault}
+use Rattle.ndarray_layout.proofs.Laws.Offset.{coordinate_bounds}
+use Rattle.ndarray_layout.proofs.Laws.Span.{reach_parts}
 use Rattle.ndarray_layout.specs.Picks.{picks}
 use Rattle.ndarray_layout.specs.SliceFault.{argument_fault}
 use Rattle.ndarray_layout.specs.SlicedAxis.{first_offset, picked_stride}
@@ -23,11 +30,9 @@ use Rattle.ndarray_layout.specs.declared.Row.{Row}
 use Rattle.ndarray_layout.specs.Rows.{row_at, row_places, rows_places, slower_view}
 use Rattle.ndarray_layout.specs.Signed.{magnitude, signed}
 use Rattle.ndarray_layout.specs.Size.{limit, size}
-use Rattle.ndarray_layout.specs.Indices.{indices_in, is_index}
-use Rattle.ndarray_layout.specs.View.{View, IsPlace, IsView, LiesWithin, place_at, view_places}
-use Rattle.ndarray_layout.proofs.Fastest.{IsView-others, ends_of_some}
-use Rattle.ndarray_layout.proofs.Laws.Indices.{All-indices_in}
-use Rattle.ndarray_layout.proofs.Laws.NonzeroSize.{length_le_nonzero_size, size_le_nonzero_size}
+use Rattle.ndarray_layout.specs.Indices.{is_index}
+use Rattle.ndarray_layout.specs.View.{View, IsPlace, IsView, LiesWithin, view_places}
+use Rattle.ndarray_layout.proofs.Laws.NonzeroSize.{length_le_nonzero_size, nonzero_size_of_other, size_le_nonzero_size}
 use Rattle.ndarray_layout.proofs.Laws.Rows.{get_or-row_places, left_from, length-row_places, places-row_view, rows_places-view_rows}
 use Rattle.ndarray_layout.proofs.Laws.SlicedView.{Descends-slice_of, sliced_start_within}
 use Rattle.ndarray_layout.proofs.Laws.View.{view_place}
@@ -125,20 +130,35 @@ module _ {start count len : ℕ} {stride step : ℤ}
   abbrev view : View
   view = record { start = start; shape = count ∷ len ∷ []; strides = stride ∷ step ∷ [] }
 
-  slower : IsView (record { start = start; shape = count ∷ []; strides = stride ∷ [] })
-  slower = IsView-others RowMajor (ends_of_some RowMajor (count ∷ len ∷ []) 1 (omega arith))
-      (ends_of_some RowMajor (stride ∷ step ∷ []) (pos 0) (omega arith)) v
+  slower : 0 < count → IsView (record { start = start; shape = count ∷ []; strides = stride ∷ [] })
+  slower some = record {
+    valid = record {
+      same_count = refl;
+      size_fits = omega (
+        arith,
+        nonzero_size_of_other count [] (λ e. omega arith),
+        length_le_nonzero_size (count ∷ len ∷ []) 0,
+        v.valid.size_fits,
+      );
+      span_fits = omega (arith, v.valid.span_fits);
+    };
+    low = omega (arith, v.low);
+    high = omega (arith, v.high);
+  }
 
-  starts_are : 0 < count → view_places RowMajor (record { start = start; shape = count ∷ []; strides = stride ∷ [] }) ≡ row_places start stride count
-  starts_are some = places-row_view (record { start = start; stride = stride; len = count }) some slower
+  starts_are : 0 < count
+      → view_places RowMajor (record { start = start; shape = count ∷ []; strides = stride ∷ [] }) ≡ row_places start stride count
+  starts_are some = places-row_view (record { start = start; stride = stride; len = count }) some (slower some)
 
-  -- each row begins at a place
-  pub starts_fit : 0 < count → All IsPlace (row_places start stride count)
-  starts_fit some = subst (All IsPlace) (starts_are some)
-      (All-map IsPlace (place_at (record { start = start; shape = count ∷ []; strides = stride ∷ [] })) (indices_in RowMajor (count ∷ []))
-      (All-weaker (λ index. is_index (count ∷ []) index ≡ true)
-      (λ index. IsPlace (place_at (record { start = start; shape = count ∷ []; strides = stride ∷ [] }) index))
-      (λ index here. view_place index slower here) (indices_in RowMajor (count ∷ [])) (All-indices_in RowMajor (count ∷ []))))
+  -- each row begins at a place, which is that of an index with the coordinate 0
+  pub starts_fit : 0 < len → All IsPlace (row_places start stride count)
+  starts_fit some k d below =
+      let less : k < count = omega (arith, length-row_places start stride count) in
+      let here = view_place (k ∷ 0 ∷ []) v (and_from (nat_lt k count) (is_index (len ∷ []) (0 ∷ []))
+      (lt-ltb k count less) (and_from (nat_lt 0 len) true (lt-ltb 0 len some) refl)) in
+      let there : IsPlace (pos start +ℤ (pos k *ℤ stride)) =
+      (omega (arith, ints, zero-*ℤ step, here.0), omega (arith, ints, zero-*ℤ step, here.1)) in
+      subst IsPlace (sym (get_or-row_places start stride count k d less)) there
 
   -- there are few places
   pub few_places : count * len ≤ limit
@@ -207,6 +227,73 @@ module _ (start : ℕ) (lens strides : ℕ × ℕ) (one other : Slice) (v : IsVi
 
       pub is_view : IsView (the_view begin count len across along)
       is_view = subst IsView (sym same_view) (Descends-slice_of Strict elems (view_of_two start lens strides) v none).is_view
+
+-- ---- what an index and a range pick of it: one row
+pub one_row : (start : ℕ) (step : ℤ) (len : ℕ) → rows_places (even_rows start step len 1 (pos 0)) ≡ row_places start step len
+one_row start step len =
+    append-nil (row_places (start + 0) step len)
+    ∙ ap (λ start. row_places start step len) (let same : start + 0 ≡ start = omega arith in same)
+
+pub one_start : {start : ℕ} → start ≤ limit → All IsPlace (row_places start (pos 0) 1)
+one_start {start} few =
+    let here : IsPlace (pos (start + 0)) = (omega (arith, ints), omega (arith, ints, few)) in
+    All-cons IsPlace (pos (start + 0)) [] here (All-nil IsPlace)
+
+abbrev pub row_alone : ℕ → ℕ → ℤ → View
+row_alone start len step = record { start = start; shape = len ∷ []; strides = step ∷ [] }
+
+pub few_in_row : {start len : ℕ} {step : ℤ} → IsView (row_alone start len step) → 1 * len ≤ limit
+few_in_row {len = len} v = omega (arith, length_le_nonzero_size (len ∷ []) 0, v.valid.size_fits)
+
+same_row_alone : {s r m j : ℕ} {b d : ℤ} → s ≡ r → m ≡ j → b ≡ d → row_alone s m b ≡ row_alone r j d
+same_row_alone {s} {r} {m} {j} {b} {d} e g k = ap (λ x. row_alone x m b) e ∙ ap (λ x. row_alone r x b) g ∙ ap (λ x. row_alone r j x) k
+
+module _ (start : ℕ) (lens strides : ℕ × ℕ) (index : ℤ) (range : Slice) (v : IsView (view_of_two start lens strides))
+    (at : None ≡ index_fault lens.0 index) where
+  pub coordinate_fits : {n : ℕ} → pos n ≡ meaning lens.0 index → (n < 2 ^ 63) × FitsSigned w64 (pos n *ℤ signed strides.0)
+  coordinate_fits {n} e =
+      let coordinate = coordinate_below lens.0 index (index_fits_of_no_fault lens.0 index (sym at)) in
+      let below : n < lens.0 = omega (arith, ints, coordinate.0, coordinate.1, e) in
+      let bounds = coordinate_bounds lens.0 (signed strides.0) n below in (
+        omega (arith, below, (lens_fit lens.0 lens.1 v.valid).0),
+        omega (arith, ints, bounds.0, bounds.1, reach_parts lens.0 (signed strides.0), v.valid.span_fits),
+      )
+
+  module _ (second : None ≡ slice_fault Strict lens.1 range) where
+    abbrev row_elems : List SliceInfoElem
+    row_elems = elem.Index index ∷ range_elem range ∷ []
+
+    no_fault : argument_fault Strict (lens.0 ∷ lens.1 ∷ []) row_elems ≡ None
+    no_fault = ap (λ fault. option_or fault (option_or (slice_fault Strict lens.1 range) None)) (sym at)
+        ∙ ap (λ fault. option_or fault None) (sym second)
+
+    module _ {down right : ℤ} (d : down ≡ meaning lens.0 index *ℤ signed strides.0)
+        (r : right ≡ first_offset (picks Strict lens.1 range) (signed strides.1)) where
+      same_begin : pos start +ℤ (down +ℤ right) ≡ sliced_start Strict row_elems (view_of_two start lens strides)
+      same_begin = omega (arith, ints, d, r)
+
+      pub row_begins_there : IsPlace (pos start +ℤ (down +ℤ right))
+      row_begins_there = subst IsPlace (sym same_begin) (sliced_start_within Strict row_elems (view_of_two start lens strides) v no_fault)
+
+      pub row_offset_fits : FitsSigned w64 (down +ℤ right)
+      row_offset_fits = omega (arith, ints, row_begins_there, v.high)
+
+      module _ {begin len : ℕ} {along : ℤ} (b : pos begin ≡ pos start +ℤ (down +ℤ right))
+          (l : len ≡ length (picks Strict lens.1 range))
+          (t : along ≡ picked_stride (length (picks Strict lens.1 range)) (signed strides.1) range.step) where
+        same_row_view : row_alone begin len along ≡ slice_of Strict row_elems (view_of_two start lens strides)
+        same_row_view = same_row_alone (ap magnitude (b ∙ same_begin)) l t
+
+        pub row_is_view : IsView (row_alone begin len along)
+        row_is_view = subst IsView (sym same_row_view)
+            (Descends-slice_of Strict row_elems (view_of_two start lens strides) v no_fault).is_view
+
+        pub row_places_are : 0 < len → rows_places (even_rows begin along len 1 (pos 0))
+            ≡ view_places RowMajor (slice_of Strict row_elems (view_of_two start lens strides))
+        row_places_are some =
+            one_row begin along len
+            ∙ sym (places-row_view (record { start = begin; stride = along; len = len }) some row_is_view)
+            ∙ ap (view_places RowMajor) same_row_view
 
 -- ---- rows that have the places of a slice lie where the view does
 pub slice_rows_in_bounds : {count : ℕ} (view : View) (elems : List SliceInfoElem) (rows : List Row) → IsView view → LiesWithin count view

@@ -1,6 +1,7 @@
 //! The items at the places of a view, read and written row by row.
 ghost use Rattle.std.specs.List.{All, AllPairs};
-ghost use Rattle.std.specs.Prelude.{◌≡◌, ◌≢◌, ◌+◌, ◌<◌, ◌≤◌, ◌^◌, pos, ◌+ℤ◌, Some, IfOk, IsOk, IsTrue, ◌++◌, length, map, vec_capacity, vec_len};
+ghost use Rattle.std.specs.Prelude.{◌≡◌, ◌≢◌, ◌+◌, ◌<◌, ◌≤◌, ◌^◌, pos, ◌+ℤ◌, Some, IfOk, IsOk, IsTrue, ◌++◌, length};
+ghost use Rattle.std.specs.Prelude.{map, vec_capacity, vec_len};
 ghost use Rattle.ndarray_layout.specs.declared.Order.TheVariants.{RowMajor};
 ghost use Rattle.ndarray_layout.specs.Bounds.{IsInBounds};
 ghost use Rattle.ndarray_layout.specs.Rows.{row_places, rows_places};
@@ -68,7 +69,8 @@ pub(crate) fn read_rows<T: Copy>(
         (even_rows rows.start rows.step rows.len rows.count (signed_reading rows.stride)) }
     ensures items { IfOk result (λ v. map Some v.items ≡ map (item_at_place stored.now)
         (rows_places (even_rows rows.start rows.step rows.len rows.count (signed_reading rows.stride)))) }
-    ensures memory { length (rows_places (even_rows rows.start rows.step rows.len rows.count (signed_reading rows.stride))) ≡ 0 → IsOk result }
+    ensures memory { length (rows_places (even_rows
+        rows.start rows.step rows.len rows.count (signed_reading rows.stride))) ≡ 0 → IsOk result }
 {
     let mut items = Vec::with_capacity(alloc, rows.size())?;
     for number in 0..rows.count {
@@ -82,7 +84,8 @@ pub(crate) fn read_rows<T: Copy>(
 pub(crate) fn write_rows<T: Copy>(stored: &mut [T], rows: EvenRows, items: &[T])
     requires in_bounds { All (λ row. AreInBounds (length stored.old) (places_of row))
         (even_rows rows.start rows.step rows.len rows.count (signed_reading rows.stride)) }
-    requires count { length (rows_places (even_rows rows.start rows.step rows.len rows.count (signed_reading rows.stride))) ≡ length items.now }
+    requires count { length (rows_places (even_rows
+        rows.start rows.step rows.len rows.count (signed_reading rows.stride))) ≡ length items.now }
     ensures { AllPairs (λ one other. one ≢ other)
         (rows_places (even_rows rows.start rows.step rows.len rows.count (signed_reading rows.stride))) →
         HasWritten (rows_places (even_rows rows.start rows.step rows.len rows.count (signed_reading rows.stride)))

@@ -2,7 +2,7 @@
 //! What a slice picks of a view of two axes, as rows that lie a stride apart: a few numbers, and no view.
 
 use crate::ndarray_layout::{
-    Fit, Lengths, Row, ShapeError, Slice, SliceInfoElem, Strided, do_slice, signed, stride_offset,
+    Fit, Lengths, Row, ShapeError, Slice, SliceInfoElem, Strided, coordinate_of, do_slice, signed, stride_offset,
 };
 
 /// Rows of places that lie evenly, all of one length and each a stride after the one before it.
@@ -70,8 +70,8 @@ fn place_at(start: usize, offset: isize) -> usize {
 }
 
 /// The rows that a range of rows and a range of columns pick of a view of two axes. `None` where they pick nothing, and where
-/// their places make a longer row, which takes less time: where the rows are one place long, or each goes on where the one before
-/// it ends.
+/// another way takes less time: where the rows are one place long, or each goes on where the one before it ends, so that their places
+/// make a longer row; and where many rows have few places.
 ///
 /// `lens` and `strides` are those of the view. Errors: that of the first range with one.
 ///
@@ -108,8 +108,49 @@ fn rows_of_ranges(
     if count > 1 && (len == 1 || along.wrapping_mul(len) == across) {
         return Ok(None);
     }
+    if len < 4 && count > 32 {
+        return Ok(None);
+    }
     let start = place_at(start, down + right);
     Ok(Some(EvenRows { start, step: signed(along), len, count, stride: across }))
+}
+
+/// The row that an index and a range of columns pick of a view of two axes; `None` where they pick nothing.
+///
+/// `lens` and `strides` are those of the view. Errors: that of the index, then that of the range.
+///
+/// <details><summary>Contract (proved)</summary>
+///
+/// ```text
+/// requires IsView (view_of_two start lens strides)
+/// ensures fault: OnErr result (result_err result ≡ argument_fault Strict (lens.0 ∷ lens.1 ∷ [])
+///     (SliceInfoElem.Index index ∷ range_elem range ∷ []))
+/// ensures fits: IfOk result (λ found. IfSome found (λ rows. argument_fault Strict (lens.0 ∷ lens.1 ∷ [])
+///     (SliceInfoElem.Index index ∷ range_elem range ∷ []) ≡ None))
+/// ensures places: IfOk result (λ found. IfSome found (λ rows.
+///     rows_places (even_rows rows.start rows.step rows.len rows.count (signed_reading rows.stride))
+///     ≡ view_places RowMajor (slice_of Strict (SliceInfoElem.Index index ∷ range_elem range ∷ [])
+///     (view_of_two start lens strides))))
+/// ```
+/// [How to read it](crate::contracts)
+/// </details>
+#[inline(always)]
+fn row_of_index(
+    start: usize,
+    lens: (usize, usize),
+    strides: (usize, usize),
+    index: isize,
+    range: Slice,
+) -> Result<Option<EvenRows>, ShapeError> {
+    let (mut len, mut along) = (lens.1, strides.1);
+    let coordinate = coordinate_of(lens.0, index)?;
+    let down = stride_offset(coordinate, strides.0);
+    let right = do_slice(&mut len, &mut along, range, Fit::Strict)?;
+    if len == 0 {
+        return Ok(None);
+    }
+    let start = place_at(start, down + right);
+    Ok(Some(EvenRows { start, step: signed(along), len, count: 1, stride: 0 }))
 }
 
 /// The range that an element of an argument is, if it is one.
@@ -129,21 +170,21 @@ fn range_of(elem: SliceInfoElem) -> Option<Slice> {
     }
 }
 
-/// The two ranges of an argument of two ranges; `None` for any other.
+/// The elements of an argument of two of which the second is a range; `None` for any other.
 ///
 /// <details><summary>Contract (proved)</summary>
 ///
 /// ```text
-/// ensures IfSome result (λ (one, other). elems.now ≡ range_elem one ∷ range_elem other ∷ [])
+/// ensures IfSome result (λ (one, range). elems.now ≡ one ∷ range_elem range ∷ [])
 /// ```
 /// [How to read it](crate::contracts)
 /// </details>
 #[inline(always)]
-fn both_ranges(elems: &[SliceInfoElem]) -> Option<(Slice, Slice)> {
+fn elem_and_range(elems: &[SliceInfoElem]) -> Option<(SliceInfoElem, Slice)> {
     let [one, other] = elems else {
         return None;
     };
-    Some((range_of(*one)?, range_of(*other)?))
+    Some((*one, range_of(*other)?))
 }
 
 /// The two numbers of a list of two; `None` for any other.
@@ -163,7 +204,8 @@ fn two_of(list: &[usize]) -> Option<(usize, usize)> {
     Some((*one, *other))
 }
 
-/// The rows that a slice picks of a view, where it is two ranges of a view of two axes (`rows_of_ranges`); `None` for any other.
+/// The rows that a slice picks of a view, where it is a range or an index and a range of a view of two axes (`rows_of_ranges`,
+/// `row_of_index`); `None` for any other.
 ///
 /// Errors: those of `check_slice` on the shape.
 ///
@@ -185,7 +227,7 @@ pub(crate) fn even_rows_of<D: Lengths>(
     elems: &[SliceInfoElem],
 ) -> Result<Option<EvenRows>, ShapeError> {
     let start = view.start();
-    let Some((one, other)) = both_ranges(elems) else {
+    let Some((one, range)) = elem_and_range(elems) else {
         return Ok(None);
     };
     let Some(lens) = two_of(view.dim().slice()) else {
@@ -194,5 +236,12 @@ pub(crate) fn even_rows_of<D: Lengths>(
     let Some(strides) = two_of(view.strides().slice()) else {
         return Ok(None);
     };
-    rows_of_ranges(start, lens, strides, one, other)
+    match one {
+        SliceInfoElem::Slice { start: from, end, step } => {
+            let first = Slice { start: from, end, step };
+            rows_of_ranges(start, lens, strides, first, range)
+        }
+        SliceInfoElem::Index(index) => row_of_index(start, lens, strides, index, range),
+        SliceInfoElem::NewAxis => Ok(None),
+    }
 }

@@ -65,7 +65,8 @@ pub(crate) fn write_view<T: Copy, D: Lengths>(stored: &mut [T], view: &Strided<D
 ///     (even_rows rows.start rows.step rows.len rows.count (signed_reading rows.stride))
 /// ensures items: IfOk result (λ v. map Some v.items ≡ map (item_at_place stored.now)
 ///     (rows_places (even_rows rows.start rows.step rows.len rows.count (signed_reading rows.stride))))
-/// ensures memory: length (rows_places (even_rows rows.start rows.step rows.len rows.count (signed_reading rows.stride))) ≡ 0 → IsOk result
+/// ensures memory: length (rows_places (even_rows
+///     rows.start rows.step rows.len rows.count (signed_reading rows.stride))) ≡ 0 → IsOk result
 /// ```
 /// [How to read it](crate::contracts)
 /// </details>
@@ -85,7 +86,8 @@ pub(crate) fn read_rows<T: Copy>(rows: EvenRows, stored: &[T]) -> Result<Vec<T>,
 /// ```text
 /// requires in_bounds: All (λ row. AreInBounds (length stored.old) (places_of row))
 ///     (even_rows rows.start rows.step rows.len rows.count (signed_reading rows.stride))
-/// requires count: length (rows_places (even_rows rows.start rows.step rows.len rows.count (signed_reading rows.stride))) ≡ length items.now
+/// requires count: length (rows_places (even_rows
+///     rows.start rows.step rows.len rows.count (signed_reading rows.stride))) ≡ length items.now
 /// ensures AllPairs (λ one other. one ≢ other)
 ///     (rows_places (even_rows rows.start rows.step rows.len rows.count (signed_reading rows.stride))) →
 ///     HasWritten (rows_places (even_rows rows.start rows.step rows.len rows.count (signed_reading rows.stride)))

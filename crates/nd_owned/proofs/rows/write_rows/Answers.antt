@@ -60,7 +60,14 @@ loop-number-preserved g c =
     c.write_row.ensures in
     record {
       in_bounds = All-tail (λ row. AreInBounds count (places_of row)) _ _ in_bounds;
-      count = omega (arith, length_left first, c.row.ensures.len, c.loop-number.invariant.count, ap length back, length-drop rows.len left);
+      count = omega (
+        arith,
+        length_left first,
+        c.row.ensures.len,
+        c.loop-number.invariant.count,
+        ap length back,
+        length-drop rows.len left,
+      );
       distinct = λ distinct. second_distinct cut (c.loop-number.invariant.distinct distinct);
       written = λ distinct new others.
           let apart = c.loop-number.invariant.distinct distinct in
