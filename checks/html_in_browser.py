@@ -11,7 +11,7 @@ from picture_in_browser import CONTRAST, FLAGS, browser  # noqa: E402
 
 RUSTDOC = "rust/api/"
 GROUNDS = {False: "rgb(255, 255, 255)", True: "rgb(13, 17, 23)"}  # of a light page, and of a dark one
-SECONDS = 120
+SECONDS = 600
 WIDTH = 900
 LOOK = """<!DOCTYPE html><meta charset="utf-8"><body><script>
 const numbers = colour => colour.match(/[0-9.]+/g).map(Number);

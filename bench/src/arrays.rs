@@ -11,6 +11,8 @@ mod by_package;
 mod parts;
 #[path = "arrays/pictures.rs"]
 mod pictures;
+#[path = "arrays/ready.rs"]
+mod ready;
 mod timing;
 
 extern crate ndarray_layout;
@@ -126,7 +128,7 @@ fn rows() -> Vec<Row> {
         by_package::fill_tiles,
     ));
     rows.push(lending(
-        "the same by multi_slice_mut, beside lists of rows",
+        "the same by multi_slice_move, beside lists of rows",
         tiles,
         by_hand::lend_tiles,
         by_package::fill_part_muts,
@@ -144,6 +146,7 @@ fn rows() -> Vec<Row> {
         by_package::fill_planes,
     ));
     rows.extend(parts::rows());
+    rows.extend(ready::rows());
     rows.extend(pictures::rows());
     rows
 }

@@ -13,7 +13,7 @@ extern crate ndarray_layout;
 use bench_by_rustc as _;
 
 use ndarray_layout::{
-    ArrayViewMut, Axis, CanIndexCheckMode, Dimension, Fit, Ix2, Ix3, IxDyn, LayoutError, Order, SliceInfoElem, Strided,
+    ArrayViewMut, Axis, CanIndexCheckMode, Dimension, Fit, Ix1, Ix2, Ix3, IxDyn, LayoutError, Order, SliceInfoElem, Strided,
     compat::ShapeBuilder, s, slices_intersect,
 };
 use std::hint::black_box;
@@ -107,8 +107,8 @@ impl Named {
 fn lend_rows(rows: usize, named: Named, passes: usize) -> usize {
     let (mut items, slices) = (vec![0u8; rows * 8], named.rows(rows));
     let mut lend = || {
-        let array = ArrayViewMut::from_shape(Ix2(rows, 8).into(), &mut items)?;
-        Ok::<_, LayoutError>(array.multi_slice_mut(&slices)?.len())
+        let array = ArrayViewMut::from_shape(Ix2(rows, 8), &mut items)?;
+        Ok::<_, LayoutError>(array.multi_slice_move::<_, Ix1>(&slices)?.len())
     };
     (0..passes).map(|_| lend().unwrap_or(usize::MAX)).sum()
 }
@@ -119,8 +119,8 @@ fn lend_planes(pixels: usize, passes: usize) -> usize {
     let all = SliceInfoElem::Slice { start: 0, end: None, step: 1 };
     let planes = [0, 1, 2].map(|plane| [all, all, SliceInfoElem::Index(plane)]);
     let mut lend = || {
-        let picture = ArrayViewMut::from_shape(Ix3(pixels.div_ceil(1000), pixels.min(1000), 3).into(), &mut items)?;
-        Ok::<_, LayoutError>(picture.multi_slice_mut(&planes)?.len())
+        let picture = ArrayViewMut::from_shape(Ix3(pixels.div_ceil(1000), pixels.min(1000), 3), &mut items)?;
+        Ok::<_, LayoutError>(picture.multi_slice_move::<_, Ix2>(&planes)?.len())
     };
     (0..passes).map(|_| lend().unwrap_or(usize::MAX)).sum()
 }
@@ -161,8 +161,8 @@ fn lend_row_parts(rows: usize, [first, step]: [isize; 2], passes: usize) -> usiz
     let mut items = vec![0u8; rows * 8];
     let slices: Vec<_> = (0..rows as isize).map(|row| s![first + row * step, ..]).collect();
     let mut lend = || {
-        let mut array = ArrayViewMut::from_shape(Ix2(rows, 8).into(), &mut items)?;
-        Ok::<_, LayoutError>(array.multi_sliced_mut(&slices[..])?.len())
+        let mut array = ArrayViewMut::from_shape(Ix2(rows, 8), &mut items)?;
+        Ok::<_, LayoutError>(array.multi_slice_mut(&slices[..])?.len())
     };
     (0..passes).map(|_| lend().unwrap_or(usize::MAX)).sum()
 }
@@ -171,8 +171,8 @@ fn lend_row_parts(rows: usize, [first, step]: [isize; 2], passes: usize) -> usiz
 fn lend_plane_parts(pixels: usize, passes: usize) -> usize {
     let mut items = vec![0u8; pixels * 3];
     let mut lend = || {
-        let mut picture = ArrayViewMut::from_shape(Ix3(pixels.div_ceil(1000), pixels.min(1000), 3).into(), &mut items)?;
-        Ok::<_, LayoutError>(picture.multi_sliced_mut([0, 1, 2].map(|plane| s![.., .., plane]))?.len())
+        let mut picture = ArrayViewMut::from_shape(Ix3(pixels.div_ceil(1000), pixels.min(1000), 3), &mut items)?;
+        Ok::<_, LayoutError>(picture.multi_slice_mut([0, 1, 2].map(|plane| s![.., .., plane]))?.len())
     };
     (0..passes).map(|_| lend().unwrap_or(usize::MAX)).sum()
 }
@@ -216,17 +216,17 @@ fn call_of(name: &str, size: usize) -> Box<dyn Fn(usize) -> usize> {
         }
         "multi_set in order" => Box::new(move |passes| ours::rows(size, 8, [0, 1], passes)),
         "multi_set against it" => Box::new(move |passes| ours::rows(size, 8, [size as isize - 1, -1], passes)),
-        "multi_slice_mut in order" => Box::new(move |passes| lend_rows(size, Named::InOrder, passes)),
-        "multi_slice_mut against it" => Box::new(move |passes| lend_rows(size, Named::AgainstIt, passes)),
-        "multi_slice_mut in no order" => Box::new(move |passes| lend_rows(size, Named::InNoOrder, passes)),
+        "multi_slice_move in order" => Box::new(move |passes| lend_rows(size, Named::InOrder, passes)),
+        "multi_slice_move against it" => Box::new(move |passes| lend_rows(size, Named::AgainstIt, passes)),
+        "multi_slice_move in no order" => Box::new(move |passes| lend_rows(size, Named::InNoOrder, passes)),
         "first_intersection in no order" => Box::new(move |passes| compare_rows(size, false, passes)),
         "first_intersection_sorted in no order" => Box::new(move |passes| compare_rows(size, true, passes)),
         "fill" => Box::new(move |passes| go_over_items(size, true, passes)),
         "iter().sum()" => Box::new(move |passes| go_over_items(size, false, passes)),
-        "multi_slice_mut of planes" => Box::new(move |passes| lend_planes(size, passes)),
-        "multi_sliced_mut in order" => Box::new(move |passes| lend_row_parts(size, [0, 1], passes)),
-        "multi_sliced_mut against it" => Box::new(move |passes| lend_row_parts(size, [size as isize - 1, -1], passes)),
-        "multi_sliced_mut of planes" => Box::new(move |passes| lend_plane_parts(size, passes)),
+        "multi_slice_move of planes" => Box::new(move |passes| lend_planes(size, passes)),
+        "multi_slice_mut in order" => Box::new(move |passes| lend_row_parts(size, [0, 1], passes)),
+        "multi_slice_mut against it" => Box::new(move |passes| lend_row_parts(size, [size as isize - 1, -1], passes)),
+        "multi_slice_mut of planes" => Box::new(move |passes| lend_plane_parts(size, passes)),
         _ => panic!("{name} is no call here"),
     }
 }

@@ -19,7 +19,7 @@ from ndarray_layout import Layout
 
 BROWSERS = ("chromium-headless-shell", "chromium", "chromium-browser", "google-chrome")
 FLAGS = ("--headless", "--no-sandbox", "--disable-gpu", "--dump-dom", "--virtual-time-budget=2000")
-SECONDS = 60
+SECONDS = 600
 CONTRAST = 4.5
 """What the Web Content Accessibility Guidelines ask of text."""
 

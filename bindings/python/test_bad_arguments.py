@@ -22,7 +22,8 @@ FAR = 10**5000
 """A number whose digits Python refuses to write."""
 
 AXES = 50_000
-SECONDS = 2
+SECONDS = 10
+"""What a refusal may take: 0.6 were measured on a shared machine, which may be several times slower."""
 
 
 class NoText:

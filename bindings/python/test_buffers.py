@@ -59,7 +59,7 @@ def run(program):
     """What a program prints: it may end by a fault of memory."""
     lines = f"from ndarray_layout import Layout\n{program}{READ}"
     found = {**os.environ, "PYTHONPATH": str(Path(nd.__file__).parent.parent)}
-    return subprocess.run([sys.executable, "-B", "-c", lines], stdout=subprocess.PIPE, text=True, env=found, timeout=60)
+    return subprocess.run([sys.executable, "-B", "-c", lines], stdout=subprocess.PIPE, text=True, env=found, timeout=600)
 
 
 @unittest.skipIf(np is None, SKIPPED)

@@ -437,7 +437,7 @@ class Times(unittest.TestCase):
             f"shape, keys = columns(20_000); nd.first_intersection({slices})",
             f"nd.Layout.over(2**40, {columns}[0]).first_intersection({columns}[1])".replace("*columns", "columns"),
         ):
-            self.assertLess(self.seconds_to_interrupt(call), 1, call)
+            self.assertLess(self.seconds_to_interrupt(call), 10, call)
 
     def seconds_to_interrupt(self, call):
         # (a shell lets what it runs in the background ignore Ctrl-C, and Python keeps to that)

@@ -20,7 +20,7 @@ from ndarray_layout._numbers import count_of, one_answer
 
 MAX, MIN = 2**63 - 1, -(2**63)
 ALL = Slice()
-SECONDS = 60
+SECONDS = 600
 
 
 def load_tests(loader, tests, pattern):

@@ -64,9 +64,8 @@ pub const CLONED: &[(&[&str], &[Replaced])] = &[
         ],
     ),
     (&["ArrayView"], &[]),
-    (&["ArrayViewMut"], &[]),
     (
-        &["PartMut"],
+        &["ArrayViewMut"],
         &[
             (&["*", "stored", "=", "item"], "*stored = item.clone()"),
             (&["*", "stored", "=", "*", "item"], "stored.clone_from(item)"),
@@ -76,6 +75,15 @@ pub const CLONED: &[(&[&str], &[Replaced])] = &[
 
 /// Impls of slice arguments, whose shape after is any list of lengths in the sources, and a dimension in the package.
 pub const OF_DIMENSIONS: &[&[&str]] = &[&["SliceArg", "<"]];
+
+/// Types whose calls take a `StrideShape` in the sources: in the package what converts to one, as ndarray's calls do.
+pub const OF_SHAPES: &[&str] = &["ArrayView", "ArrayViewMut", "OwnedArray"];
+
+/// The parameter of these calls, and how they hand it on.
+const SHAPES: &[Replaced] = &[
+    (&["shape", ":", "StrideShape", "<", "D", ">"], "shape: impl Into<StrideShape<D>>"),
+    (&["shape", ",", "1"], "shape.into(), 1"),
+];
 
 /// Bounds after others, or none.
 pub fn added_to(name: &str) -> String {
@@ -141,6 +149,9 @@ fn replaced_in(trees: &[Tree]) -> Vec<Replaced> {
     }
     if OF_DIMENSIONS.iter().any(|words| is_of(words)) {
         replaced.push((&[":", "Lengths"], ": crate::Dimension"));
+    }
+    if OF_SHAPES.iter().any(|name| is_of(&[name])) {
+        replaced.extend(SHAPES);
     }
     replaced
 }

@@ -7,7 +7,7 @@ use crate::docs::{Contract, indexes, is_called_for_its_result};
 use crate::errors;
 use crate::examples::Example;
 use crate::library::without_memory;
-use crate::names::{ATTRIBUTES, COPIED, DERIVES, LEFT_OUT, OPEN, PRINTED, REFUSED, SEALED, SOUND_BY_CONDITIONS};
+use crate::names::{ATTRIBUTES, DERIVED, DERIVES, LEFT_OUT, OPEN, PRINTED, REFUSED, SEALED, SOUND_BY_CONDITIONS};
 use crate::proofs;
 use crate::tokens::{Fault, Group, Kind, Token, Tree, begins_with, fault, length_of_generics, text_of};
 
@@ -69,6 +69,7 @@ pub fn erase(trees: &[Tree], names: &Names) -> Result<Erased, Fault> {
         bracket: "",
         takes_ranges: false,
         endless: String::new(),
+        whole: Default::default(),
         imported: Vec::new(),
     };
     eraser.all(trees)?;
@@ -98,6 +99,8 @@ pub(crate) struct Eraser<'a> {
     pub(crate) takes_ranges: bool,
     /// The parameter at hand that is a range with no end; empty where none is.
     pub(crate) endless: String,
+    /// The last `Whole`, and the items that it lends.
+    pub(crate) whole: (String, String),
     /// The modules of `std` that are imported.
     pub(crate) imported: Vec<String>,
 }
@@ -106,7 +109,7 @@ pub(crate) struct Eraser<'a> {
 type Form<'a> = fn(&mut Eraser<'a>, &[Tree]) -> Result<Option<usize>, Fault>;
 
 impl<'a> Eraser<'a> {
-    const FORMS: [Form<'a>; 33] = [
+    const FORMS: [Form<'a>; 34] = [
         Self::doc,
         Self::clause,
         Self::ghost,
@@ -130,6 +133,7 @@ impl<'a> Eraser<'a> {
         Self::folded,
         Self::index_method,
         Self::import,
+        Self::whole,
         Self::left_out,
         Self::module,
         Self::allocator,
@@ -238,7 +242,7 @@ impl<'a> Eraser<'a> {
         Ok(length)
     }
 
-    /// `mod NAME;` of the list `LEFT_OUT` goes, and `pub use PATH::ITEM;` of what that module has.
+    /// `mod NAME;` of the list `LEFT_OUT` goes, and of `pub use PATH::{ITEM, ..};` what that module has.
     fn left_out(&mut self, trees: &[Tree]) -> Result<Option<usize>, Fault> {
         let Some(end) = trees.iter().position(|tree| tree.is(";")).filter(|end| *end > 0) else {
             return Ok(None);
@@ -250,7 +254,16 @@ impl<'a> Eraser<'a> {
                 LEFT_OUT.iter().any(|(own, module, _)| *own == self.names.own && name.is(module))
             }
             _ if !begins_with(trees, &["pub", "use"]) => false,
-            Tree::Group(list) => list.trees.iter().all(|tree| tree.is(",") || is_item(tree)),
+            Tree::Group(list) => {
+                let kept = list.trees.split_inclusive(|tree| tree.is(",")).filter(|item| !is_item(&item[0]));
+                let kept: Vec<Tree> = kept.flatten().cloned().collect();
+                if !kept.is_empty() && kept.len() < list.trees.len() {
+                    let kept = [Tree::Group(Group { open: list.open, trees: kept, close: list.close })];
+                    self.all(&[&trees[..end - 1], &kept, &trees[end..=end]].concat())?;
+                    return Ok(Some(end + 1));
+                }
+                kept.is_empty()
+            }
             item => is_item(item),
         };
         Ok(is_left_out.then_some(end + 1))
@@ -518,12 +531,13 @@ fn derived<'a>(attribute: &Group<'a>) -> Vec<&'a str> {
     }
 }
 
-/// The names in a derive, without `Debug` for a struct of the list `PRINTED`, and with `Clone` for one of `COPIED`.
+/// The names in a derive, without `Debug` for a struct of the list `PRINTED`, and with those of the list `DERIVED`.
 fn in_package<'a>(names: Vec<&'a str>, item: &[Tree]) -> Vec<&'a str> {
     let name = match item {
-        [_, word, name, ..] if word.is("struct") => name.first().text,
+        [_, word, name, ..] if word.is("struct") || word.is("enum") => name.first().text,
         _ => "",
     };
     let kept = names.into_iter().filter(|derived| *derived != "Debug" || !PRINTED.contains(&name));
-    kept.chain(COPIED.contains(&name).then_some("Clone")).collect()
+    let added = DERIVED.iter().filter(|(of, _)| *of == name).flat_map(|(_, names)| *names);
+    kept.chain(added.copied()).collect()
 }

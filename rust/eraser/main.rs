@@ -18,6 +18,7 @@ mod paragraphs;
 mod proofs;
 mod tokens;
 mod unsafety;
+mod wholes;
 
 use erase::Names;
 use examples::examples_in;

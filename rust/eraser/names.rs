@@ -124,9 +124,19 @@ pub const SEALED: &[&str] = &[
     "Unsigned",
 ];
 
-/// Public traits that stay open: conversions, whose values are checked as any are, and traits that no caller can name.
-pub const OPEN: &[&str] =
-    &["AreLengths", "Convert", "IntoDimension", "IterOrder", "Numbers", "RowEnds", "ShapeArg", "ShapeBuilder"];
+/// Public traits that stay open: conversions, whose values are checked as any are, traits that no caller can name, and `EqualTo`, whose
+/// results are only handed back.
+pub const OPEN: &[&str] = &[
+    "AreLengths",
+    "Convert",
+    "EqualTo",
+    "IntoDimension",
+    "IterOrder",
+    "Numbers",
+    "RowEnds",
+    "ShapeArg",
+    "ShapeBuilder",
+];
 
 /// Words that may not be left: those of contracts, of the kit's memory and runtime, and those whose meaning differs.
 pub const REFUSED: &[&str] = &[
@@ -165,7 +175,7 @@ pub const UNSAFE: &[(&str, &str, &str)] = &[
     (
         "nd_lent",
         "Send",
-        "no other `Cells` has a mark that this one has (`array` of `new`, `all` of `take_part`), so it is sent as a `&mut [T]` of its elements would be.",
+        "no other `Cells` has a mark that this one has (`all` of `all_of` and of `take_part`), so it is sent as a `&mut [T]` of its elements would be.",
     ),
     ("nd_lent", "Sync", "what is shared only reads (`get`), as a `&[T]` of its elements would."),
     (
@@ -186,23 +196,43 @@ pub const UNSAFE: &[(&str, &str, &str)] = &[
 ];
 
 /// Modules whose conditions keep `unsafe` sound, each with its crate.
-pub const SOUND_BY_CONDITIONS: &[(&str, &str)] = &[("nd_lent", "cells"), ("nd_lent", "part")];
+pub const SOUND_BY_CONDITIONS: &[(&str, &str)] =
+    &[("nd_lent", "array_view"), ("nd_lent", "cells"), ("nd_lent", "array_view_mut")];
+
+/// Calls of these modules that are not public, which files of `rust/src` make. None has a condition.
+pub const SEEN: &[&str] = &["as_slice_backwards", "next_row"];
 
 /// Calls of these modules that others see, whose condition the package checks, since no proof of its callers does: the type, the call,
 /// what is asserted, what the panic says, and what the docs say of it.
-pub const CHECKED: &[(&str, &str, &str, &str, &str)] = &[(
-    "PartMut",
-    "new",
-    "crate::parts::has_own_items(&view, items.len())",
-    "two indices of the view share an item, or one is past the items",
-    "This call panics where two indices have one item, or one lies past the items. Where the rule of owned mode does not show that none have, it takes memory and time for a sort of the places.",
-)];
+pub const CHECKED: &[(&str, &str, &str, &str, &str)] = &[
+    (
+        "ArrayView",
+        "new",
+        "crate::arrays::has_items(&view, items.len())",
+        "an index of the view is past the items",
+        "This call panics where an index lies past the items; to see that takes time in proportion to the count of axes.",
+    ),
+    (
+        "Iter",
+        "new",
+        "crate::arrays::has_items(view, items.len())",
+        "an index of the view is past the items",
+        "This call panics where an index lies past the items; to see that takes time in proportion to the count of axes.",
+    ),
+    (
+        "ArrayViewMut",
+        "new",
+        "crate::arrays::has_own_items(&view, items.len())",
+        "two indices of the view share an item, or one is past the items",
+        "This call panics where two indices have one item, or one lies past the items. Where the rule of owned mode does not show that none have, it takes memory and time for a sort of the places.",
+    ),
+];
 
 /// Modules that only a proof calls, each with its crate and what it hands on: a condition on the right to all items, which no code can
-/// check, keeps `unsafe` sound there. Plain Rust needs none of it, for once the parts are gone the items are what they left. And
-/// `readers`, which nothing of the package calls yet.
+/// check, keeps `unsafe` sound there. Plain Rust needs none of it, for once the parts are gone the items are what they left. And `one_type`, whose
+/// impl `rust/src/arrays/equal_to.rs` has for two types.
 pub const LEFT_OUT: &[(&str, &str, &[&str])] = &[
-    ("nd_lent", "readers", &[]),
+    ("nd_lent", "one_type", &[]),
     ("nd_lent", "rest", &["Rest", "Taken"]),
     ("nd_lent", "whole", &["Whole"]),
     ("example_callers", "planes", &["paint_plane", "paint_planes"]),
@@ -211,13 +241,26 @@ pub const LEFT_OUT: &[(&str, &str, &[&str])] = &[
 ];
 
 /// Structs that files of `rust/src` make and take apart: all of the package sees their fields.
-pub const OPENED: &[&str] = &["ArrayView", "ArrayViewMut", "Indices", "Items", "OwnedArray", "Strided"];
+pub const OPENED: &[&str] = &["Indices", "Items", "OwnedArray", "Strided"];
 
-/// Iterators that the package copies, as it does the view that they have: they derive `Clone`.
-pub const COPIED: &[&str] = &["PlacesOf", "StridedRows"];
+/// Types of which the package derives more than their sources do, where no list has to be copied.
+pub const DERIVED: &[(&str, &[&str])] = &[
+    ("CanIndexCheckMode", &["Debug", "Eq"]),
+    ("Forward", &["Debug"]),
+    ("LayoutError", &["Clone", "PartialEq"]),
+    ("PlacesOf", &["Clone"]),
+    ("Reverse", &["Debug"]),
+    ("SplitViews", &["Debug"]),
+    ("Stopped", &["Clone"]),
+    ("Strided", &["Clone", "PartialEq", "Eq"]),
+    ("StridedRows", &["Clone"]),
+];
 
-/// Iterators over items that they lend, which the package copies, whether items are copied or not.
-pub const LENDING: &[&str] = &["RestOfItems", "RowItems", "ViewIter"];
+/// Iterators and rows over items that they lend, which the package copies, whether items are copied or not.
+pub const LENDING: &[&str] = &["LentRow", "Reader", "RestOfItems", "RowItems", "ViewIter"];
+
+/// Those of them that are a pointer and no more: they are `Copy` as well.
+pub const POINTERS: &[&str] = &["LentRow", "Reader"];
 
 /// Iterators whose `fold` and `nth`, or `nth_back`, are more than calls of the `next` or `next_back` that is proved: the
 /// trait, the iterator, and the macro of `rust/src/arrays` that adds them.
@@ -227,10 +270,10 @@ pub const FOLDED: &[(&str, &str, &str)] = &[
     ("DoubleEndedIterator", "Iter", "rfold_lent"),
     ("Iterator", "PlacesOf", "fold_places"),
     ("DoubleEndedIterator", "PlacesOf", "skip_back"),
-    ("Iterator", "PartItems", "fold_part_items"),
-    ("DoubleEndedIterator", "PartItems", "skip_back"),
-    ("Iterator", "PartRows", "skip"),
-    ("DoubleEndedIterator", "PartRows", "skip_back"),
+    ("Iterator", "IterMut", "fold_part_items"),
+    ("DoubleEndedIterator", "IterMut", "skip_back"),
+    ("Iterator", "LanesMut", "skip"),
+    ("DoubleEndedIterator", "LanesMut", "skip_back"),
     ("Iterator", "RowItems", "fold_lent"),
     ("DoubleEndedIterator", "RowItems", "rfold_lent"),
     ("Iterator", "ViewIter", "fold_lent"),
@@ -271,9 +314,19 @@ pub const OF_PROOFS: &[&str] = &["cells.marks", "cells.name", "ghost_name", "nam
 
 /// How a condition begins that says of a closure alone where it may be called: no `unsafe` rests on that, as a closure may panic.
 pub const OF_CLOSURES: &[&str] = &[
+    "CallableInFold ",
+    "CallableInForEach ",
+    "CallableOnAllAt ",
     "CallableOnEachMut ",
+    "CallableWhile ",
+    "InAnyOrder (λ items. CallableInFold ",
+    "InAnyOrder (λ items. CallableInForEach ",
     "InAnyOrder (λ items. CallableOnEachMut ",
     "(array_of self.old).view.shape ≡ other.now.view.shape → CallableOnEachPair ",
+    "(array_of self.old).view.shape ≡ other.now.view.shape → (array_of self.old).view.shape ≡ third.now.view.shape → CallableOnEachTriple ",
+    "(array_of self.old).view.shape ≡ other.now.view.shape → InAnyOrder (λ pairs. CallableOnEachPair ",
+    "self.now.view.shape ≡ (array_of to.old).view.shape → CallableOnAllAt ",
+    "self.now.view.shape ≡ (array_of to.old).view.shape → InAnyOrder (λ items. CallableOnAllAt ",
 ];
 
 /// A word of a condition that the docs of a source don't tell, and what is said of it.
@@ -295,13 +348,18 @@ pub const CONDITIONS: &[(&str, &str)] = &[
         "The function may be called with any item of the array and any of the other one, whatever it was called with before. Where it panics, so does this call, and the items before keep what it wrote.",
     ),
     (
+        "CallableOnEachTriple",
+        "The function may be called with any item of the array and any of the other two, whatever it was called with before. Where it panics, so does this call, and the items before keep what it wrote.",
+    ),
+    (
         "CallableWhile",
         "The function may be called with any item of the array, whatever it was called with before. Where it panics, so does this call.",
     ),
     (
         "CallableOnAllAt",
-        "The function may be called with any item of the array, whatever it was called with before. Where it panics, so does this call, and the items before keep what they were given.",
+        "The function may be called with any item of the array, whatever it was called with before. Where it panics, so does this call; items that it had written keep what they were given.",
     ),
+    ("HasItems", "The caller ensures that each index of the view has one of so many items."),
     (
         "IsOwned",
         "The caller ensures that each index of the view has an item to itself among so many. Otherwise this call or a later one panics or returns unspecified values.",

@@ -2,7 +2,7 @@
 
 use crate::docs::Contract;
 use crate::erase::Eraser;
-use crate::names::{FOLDED, LENDING, OPENED};
+use crate::names::{FOLDED, LENDING, OPENED, POINTERS};
 use crate::tokens::{Fault, Group, Kind, Nesting, Token, Tree, begins_with, length_of_generics, text_of};
 
 /// The body of an `index` that panics where there is no such item.
@@ -43,13 +43,19 @@ impl Eraser<'_> {
         self.put(word.first().lead, "struct");
         self.all(&trees[1..=at])?;
         let generics = &trees[2..2 + length_of_generics(&trees[2..])];
-        let (of, fields) = (names_in(generics), fields_of(&body.trees));
+        let (head, of) = (text_of(generics), names_in(generics).join(", "));
+        if POINTERS.contains(&name) {
+            self.out.push_str(&format!(
+                "\n\n/// Not proved.\nimpl{head} Clone for {name}<{of}> {{\n    fn clone(&self) -> Self {{\n        *self\n    }}\n}}\n\n\
+                 /// Not proved.\nimpl{head} Copy for {name}<{of}> {{}}",
+            ));
+            return Ok(Some(at + 1));
+        }
+        let fields = fields_of(&body.trees);
         let copies: String = fields.iter().map(|field| format!("{field}: Clone::clone(&self.{field}), ")).collect();
         self.out.push_str(&format!(
             "\n\n/// A copy, of which neither moves the other. Panics where an allocation fails, never for at most 4 axes. Not proved.\n\
-             impl{} Clone for {name}<{}> {{\n    fn clone(&self) -> Self {{\n        {name} {{ {copies}}}\n    }}\n}}",
-            text_of(generics),
-            of.join(", "),
+             impl{head} Clone for {name}<{of}> {{\n    fn clone(&self) -> Self {{\n        {name} {{ {copies}}}\n    }}\n}}",
         ));
         Ok(Some(at + 1))
     }

@@ -1,7 +1,7 @@
 //! What keeps the package sound: where `unsafe` stays, with the words that say why, and conditions that are checked.
 
 use crate::erase::Eraser;
-use crate::names::{CHECKED, UNSAFE};
+use crate::names::{CHECKED, SEEN, UNSAFE};
 use crate::paragraphs::Paragraphs;
 use crate::tokens::{Fault, Tree, fault, length_of_generics};
 
@@ -38,13 +38,16 @@ impl Eraser<'_> {
         Ok(Some(1))
     }
 
-    /// What all of a crate sees, in a module whose conditions keep `unsafe` sound, the crate's module sees alone: no other file of the package.
+    /// What all of a crate sees, in a module whose conditions keep `unsafe` sound, the crate's module sees alone: no other file of the package,
+    /// but for the calls of `SEEN`.
     pub(crate) fn own_crate(&mut self, trees: &[Tree]) -> Result<Option<usize>, Fault> {
         let [word, Tree::Group(seen), ..] = trees else {
             return Ok(None);
         };
         let is_of_crate = word.is("pub") && matches!(&seen.trees[..], [only] if only.is("crate"));
-        if !is_of_crate || !self.names.is_packed() || !self.names.is_sound_by_conditions() {
+        let is_seen =
+            matches!(trees[2..], [ref word, ref name, ..] if word.is("fn") && SEEN.contains(&name.first().text));
+        if !is_of_crate || is_seen || !self.names.is_packed() || !self.names.is_sound_by_conditions() {
             return Ok(None);
         }
         self.put(word.first().lead, &format!("pub(in crate::{})", self.names.own));

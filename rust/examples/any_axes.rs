@@ -17,7 +17,7 @@ fn main() -> Result<(), Box<dyn std::error::Error>> {
     }
     let shape = IxDyn(&lens);
     let count = shape.size_checked().ok_or("too many items")? as u64;
-    let array = OwnedArray::from_shape_vec(shape.clone().into(), (0..count).collect()).map_err(LayoutError::from)?;
+    let array = OwnedArray::from_shape_vec(shape.clone(), (0..count).collect()).map_err(LayoutError::from)?;
 
     for axis in 0..lens.len() {
         let sums: Vec<u64> = array.axis_iter(Axis(axis))?.map(|part| part.iter().sum()).collect();

@@ -39,7 +39,7 @@ fn main() -> Result<(), LayoutError> {
     assert_eq!(grid.view()?.to_vec()?, ['d', 'a', 'e', 'b', 'f', 'c']);
 
     grid.view_mut()?[(0, 1)] = 'A';
-    grid.view_mut()?.sliced_mut(s![1.., 0])?.fill('-');
+    grid.view_mut()?.slice_mut(s![1.., 0])?.fill('-');
     grid.turn()?;
     assert_eq!(grid.view()?.to_vec()?, ['-', '-', 'd', 'c', 'b', 'A']);
     assert!(Grid::new(2, 3, vec![0; 5]).is_err());

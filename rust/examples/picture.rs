@@ -1,7 +1,7 @@
 //! A picture whose rows are padded: cropped, flipped, turned, blurred and cut into tiles. Each step is an array over the same
 //! pixels; the blurred picture alone is new.
 
-use ndarray_layout::{ArrayView, CanIndexCheckMode, Ix2, LayoutError, Strided, s};
+use ndarray_layout::{ArrayView, Ix2, LayoutError, ShapeBuilder, s};
 
 /// The mean of nine pixels.
 fn mean(pixels: [&[u16]; 3]) -> u16 {
@@ -24,13 +24,12 @@ fn blurred(picture: &ArrayView<'_, u16, Ix2>) -> Option<Vec<u16>> {
 fn main() -> Result<(), LayoutError> {
     // 4 rows of 6 pixels, each of which takes the room of 8
     let pixels: Vec<u16> = (0..32).collect();
-    let layout = Strided::new(Ix2(4, 6), Ix2(8, 1), size_of::<u16>(), pixels.len(), CanIndexCheckMode::ReadOnly)?;
-    let picture = ArrayView::over(layout, &pixels)?;
+    let picture = ArrayView::from_shape((4, 6).strides((8, 1))?, &pixels)?;
 
-    let crop = picture.sliced(s![1..3, 2..5])?;
+    let crop = picture.slice(s![1..3, 2..5])?;
     assert_eq!(crop.to_vec()?, [10, 11, 12, 18, 19, 20]);
 
-    let flipped = crop.sliced(s![..;-1, ..])?;
+    let flipped = crop.slice(s![..;-1, ..])?;
     assert_eq!(flipped.to_vec()?, [18, 19, 20, 10, 11, 12]);
 
     // a quarter turn clockwise: rows flipped, then axes exchanged
@@ -41,7 +40,7 @@ fn main() -> Result<(), LayoutError> {
     assert_eq!(blurred(&turned), None);
 
     for (row, column) in [(0, 0), (0, 3), (2, 0), (2, 3)] {
-        println!("the tile at {row},{column}:\n{:?}", picture.sliced(s![row..row + 2, column..column + 3])?);
+        println!("the tile at {row},{column}:\n{}", picture.slice(s![row..row + 2, column..column + 3])?);
     }
     Ok(())
 }

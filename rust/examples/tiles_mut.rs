@@ -1,6 +1,6 @@
 //! A picture that is cut into tiles, which threads write at once, with no `unsafe`.
 
-use ndarray_layout::{ArrayViewMut, CanIndexCheckMode, Ix2, LayoutError, Strided, s};
+use ndarray_layout::{ArrayViewMut, LayoutError, ShapeBuilder, s};
 use std::thread;
 
 /// How many rows and columns a tile has; the last ones of a row or a column may have fewer.
@@ -14,17 +14,16 @@ fn ranges(len: usize) -> impl Iterator<Item = std::ops::Range<usize>> {
 fn main() -> Result<(), LayoutError> {
     // 4 rows of 7 pixels, each of which takes the room of 8
     let mut pixels = vec![0; 32];
-    let layout = Strided::new(Ix2(4, 7), Ix2(8, 1), 1, pixels.len(), CanIndexCheckMode::OwnedMutable)?;
-    let mut picture = ArrayViewMut::over(layout, &mut pixels)?;
+    let mut picture = ArrayViewMut::from_shape((4, 7).strides((8, 1))?, &mut pixels)?;
 
     let slices: Vec<_> = ranges(4).flat_map(|rows| ranges(7).map(move |columns| s![rows.clone(), columns])).collect();
     thread::scope(|scope| {
-        for (mut tile, number) in picture.multi_sliced_mut(slices)?.into_iter().zip(1..) {
+        for (mut tile, number) in picture.multi_slice_mut(slices)?.into_iter().zip(1..) {
             scope.spawn(move || tile.fill(number));
         }
         Ok::<(), LayoutError>(())
     })?;
-    println!("{picture:?}");
+    println!("{picture}");
     let expected = [
         1, 1, 1, 2, 2, 2, 3, 0, //
         1, 1, 1, 2, 2, 2, 3, 0, //

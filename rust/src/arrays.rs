@@ -4,34 +4,45 @@
 //! Each item is tested, beside a plain model on random layouts too, and says that it isn't proved. The sources have what is
 //! proved: the views, `fill`, `assign`, `map_in_place` and what lends parts to threads.
 
+/// Calls a macro for each type of arrays: with its name, the lifetime of its items if it has one, that of what it lends to be read, the call
+/// that lends it, and what makes `array` in examples, which is 1 2 3 over 4 5 6.
+macro_rules! of_each {
+    ($name:ident) => {
+        $name!(ArrayView ['a,] 'a duplicate "let array = ArrayView::from_shape((2, 3), &[1, 2, 3, 4, 5, 6])?;");
+        $name!(ArrayViewMut ['a,] '_ try_view
+            "let mut items = [1, 2, 3, 4, 5, 6];\nlet array = ArrayViewMut::from_shape((2, 3), &mut items)?;");
+        $name!(OwnedArray [] '_ try_view "let array = OwnedArray::from_shape_vec((2, 3), vec![1, 2, 3, 4, 5, 6])?;");
+    };
+}
+
 mod axes;
 mod axes_mut;
-mod axis_chunks;
 mod axis_iter;
 mod copying;
-mod cuts;
 mod dimensionality;
+mod equal_to;
 mod folding;
 mod from;
 mod indexed;
 mod indexing;
 mod iter;
-mod iter_mut;
+mod lending;
 mod line;
-mod owned;
-mod pairs;
+mod multi_slice;
+mod own_items;
 mod reading;
+mod row_slices;
 mod shapes;
+mod skipping;
 mod writing;
 
-pub(crate) use crate::parts::{skip, skip_back};
-pub use axis_chunks::{AxisChunksIter, AxisChunksIterMut};
-pub use axis_iter::{AxisIter, AxisIterMut};
-pub(crate) use cuts::{check_axis, check_chunks};
+pub(crate) use axis_iter::{check_axis, check_chunks};
 pub(crate) use folding::{fold_items, fold_lent, fold_one_by_one, fold_part_items, fold_places, rfold_lent};
 pub(crate) use indexed::Odometer;
-pub use indexed::{Indexed, IndexedIter, IndexedIterMut, PartIndexedIterMut};
+pub use indexed::{Indexed, IndexedIter, IndexedIterMut};
 pub(crate) use indexing::no_such_index;
-pub use iter_mut::IterMut;
 pub(crate) use line::{fold_row, rfold_row};
-pub(crate) use pairs::same_items;
+pub use multi_slice::MultiSliceArg;
+pub(crate) use own_items::{has_items, has_own_items};
+use reading::{in_memory_order, with_last};
+pub(crate) use skipping::{skip, skip_back};

@@ -32,7 +32,6 @@ mod arguments;
 mod arrays;
 mod checks;
 mod dimension;
-mod dimension_types;
 mod dimensions;
 mod equations;
 mod indices;
@@ -42,34 +41,73 @@ mod slice_arguments;
 mod slices;
 mod steps;
 
+/// For the dimensions of this module:
+///
+/// ```
+/// use ndarray_layout::compat::{DimAdd, Dimension, Ix1, Ix2};
+///
+/// /// The count of axes of an outer product, where it is fixed.
+/// fn count<A: Dimension + DimAdd<B>, B: Dimension>() -> Option<usize> {
+///     <A as DimAdd<B>>::Output::NDIM
+/// }
+///
+/// assert_eq!(count::<Ix1, Ix2>(), Some(3));
+/// ```
+#[doc(inline)]
+pub use crate::DimAdd;
+/// For the dimensions of this module:
+///
+/// ```
+/// use ndarray_layout::compat::{Dim, DimMax, Dimension, Ix2, ShapeError, co_broadcast};
+///
+/// fn common<A, B>(shape: &A, other: &B) -> Result<<A as DimMax<B>>::Output, ShapeError>
+/// where
+///     A: Dimension + DimMax<B>,
+///     B: Dimension,
+/// {
+///     co_broadcast(shape, other)
+/// }
+///
+/// assert_eq!(common(&Ix2(2, 1), &Dim(3)), Ok(Ix2(2, 3)));
+/// ```
+#[doc(inline)]
+pub use crate::DimMax;
+/// For the dimensions of this module:
+///
+/// ```
+/// use ndarray_layout::compat::{Axis, Dimension, DimensionExt, Ix2};
+///
+/// /// The shape with one coordinate of an axis.
+/// fn collapsed<D: Dimension>(mut shape: D, axis: Axis) -> D {
+///     shape.set_axis(axis, shape.axis(axis).min(1));
+///     shape
+/// }
+///
+/// assert_eq!(collapsed(Ix2(4, 5), Axis(0)), Ix2(1, 5));
+/// ```
+#[doc(inline)]
+pub use crate::DimensionExt;
+pub use crate::convenience::aliases::*;
 pub use crate::nd_base::Dim;
 pub use crate::{
-    ArrayView, ArrayView0, ArrayView1, ArrayView2, ArrayView3, ArrayView4, ArrayView5, ArrayView6, ArrayViewD,
-    ArrayViewMut, ArrayViewMut0, ArrayViewMut1, ArrayViewMut2, ArrayViewMut3, ArrayViewMut4, ArrayViewMut5,
-    ArrayViewMut6, ArrayViewMutD, Axes, Axis, AxisDescription, CanIndexCheckMode, ErrorKind, Indices, IndicesIter,
+    ArrayView, ArrayViewMut, Axes, Axis, AxisDescription, CanIndexCheckMode, ErrorKind, Indices, IndicesIter,
     IndicesIterF, Ix, Ix0, Ix1, Ix2, Ix3, Ix4, Ix5, Ix6, IxDyn, IxDynImpl, Ixs, Layout, NewAxis, Order, Shape,
     ShapeError, Slice, SliceInfo, SliceInfoElem, SliceNextDim, StrideShape, Strides, abs_index, arith_seq_intersect,
-    from_kind, s, stride_offset, stride_offset_checked,
+    array, from_kind, s, stride_offset, stride_offset_checked,
 };
-pub use arguments::{Dim, DimensionExt, IntoDimension, NdIndex, ShapeArg, ShapeBuilder, ShapeSize};
+pub use arguments::{Dim, IntoDimension, NdIndex, ShapeArg, ShapeBuilder, ShapeSize};
 pub use arrays::{NdProducer, array_layout, indices_of};
-pub use checks::{
-    can_index_slice, can_index_slice_not_custom, can_index_slice_with_strides, dim_stride_overlap, is_layout_c,
-    is_layout_f, max_abs_offset_check_overflow, offset_from_low_addr_ptr_to_logical_ptr, size_of_shape_checked,
-    strides_non_negative,
-};
+pub use checks::*;
 pub use dimension::{Dimension, RemoveAxis};
-pub use dimension_types::{DimAdd, DimMax};
 pub use equations::{extended_gcd, solve_linear_diophantine_eq};
 pub use indices::{indices, indices_iter_f};
-pub use owned::{Array, Array0, Array1, Array2, Array3, Array4, Array5, Array6, ArrayD, ArrayExt};
+pub use owned::*;
 pub use slice_arguments::SliceArg;
 pub use slices::{do_slice, slice_min_max, slices_intersect, to_abs_slice};
-pub use steps::{
-    axes_of, co_broadcast, do_collapse_axis, incompatible_shapes, merge_axes, move_min_stride_axis_to_last, reshape_dim,
-};
+pub use steps::*;
 
-use crate::{AllocError, LayoutError};
+use crate::LayoutError;
+use core::fmt::Display;
 
 /// A result without its error of memory.
 #[track_caller]
@@ -81,14 +119,8 @@ fn of_shapes<T>(result: Result<T, LayoutError>) -> Result<T, ShapeError> {
     }
 }
 
-/// A value that takes memory.
+/// What a call returns where its arguments fit and no allocation fails.
 #[track_caller]
-fn of_memory<T>(result: Result<T, AllocError>) -> T {
-    result.unwrap_or_else(|error| panic!("{error}"))
-}
-
-/// What a call returns where its arguments fit the shape.
-#[track_caller]
-fn fitting<T>(result: Result<T, ShapeError>) -> T {
+fn or_panic<T>(result: Result<T, impl Display>) -> T {
     result.unwrap_or_else(|error| panic!("{error}"))
 }

@@ -19,10 +19,10 @@
 //! |---|---|
 //! | the places of elements that you keep yourself | [`Strided`]: [`new`](Strided::new), [`place`](Strided::place), [`iter_places`](Strided::iter_places), [`rows`](Strided::rows) |
 //! | a list of yours as an array, to read | [`ArrayView`]: [`from_shape`](ArrayView::from_shape), [`get`](ArrayView::get), [`rows`](ArrayView::rows), [`fold`](ArrayView::fold) |
-//! | .. to write, by threads as well | [`ArrayViewMut`]: [`from_shape`](ArrayViewMut::from_shape), [`set`](ArrayViewMut::set), [`map_in_place`](ArrayViewMut::map_in_place), [`multi_slice_mut`](ArrayViewMut::multi_slice_mut) |
-//! | parts that are written at once, each by a thread | [`ArrayViewMut::multi_sliced_mut`], [`into_part`](ArrayViewMut::into_part), [`PartMut`]: [`split_at`](PartMut::split_at), [`axis_iter_mut`](PartMut::axis_iter_mut), [`rows_mut`](PartMut::rows_mut), [`get_mut`](PartMut::get_mut), [`fill`](PartMut::fill) |
+//! | .. to write, by threads as well | [`ArrayViewMut`]: [`from_shape`](ArrayViewMut::from_shape), [`set`](ArrayViewMut::set), [`map_in_place`](ArrayViewMut::map_in_place), [`multi_slice_move`](ArrayViewMut::multi_slice_move) |
+//! | parts that are written at once, each by a thread | [`ArrayViewMut`]: [`multi_slice_mut`](ArrayViewMut::multi_slice_mut), [`split_at`](ArrayViewMut::split_at), [`axis_iter_mut`](ArrayViewMut::axis_iter_mut), [`rows_mut`](ArrayViewMut::rows_mut), [`get_mut`](ArrayViewMut::get_mut), [`fill`](ArrayViewMut::fill) |
 //! | an array that owns its items | [`OwnedArray`]: [`from_shape_vec`](OwnedArray::from_shape_vec), [`get`](OwnedArray::get), [`multi_set`](OwnedArray::multi_set) |
-//! | a part of one of these | [`s!`] and `sliced`; [`SliceInfoElem`], [`Slice`] and `slice` for bounds that are known at run time; [`Fit`] |
+//! | a part of one of these | [`s!`] and `slice` (of a layout or an owner `sliced`); [`SliceInfoElem`], [`Slice`] and `slice_with` for bounds that are known at run time; [`Fit`] |
 //! | other axes, windows, another shape | the methods of [`Strided`], which [`ArrayView`] and [`ArrayViewMut`] have as well; [`run`] for several [`Step`]s |
 //! | a shape, an index or strides | [`Ix1`](fn@Ix1) to [`Ix6`](fn@Ix6), [`IxDyn`](fn@IxDyn), [`Dim`](fn@Dim); what these can do: [`Dimension`] |
 //! | whether a layout is accepted, and why not | [`accept`], [`CanIndexCheckMode`], [`ErrorKind`], [`LayoutError`] |
@@ -77,7 +77,6 @@ pub mod compat;
 mod convenience;
 pub mod memory;
 mod num_traits;
-mod parts;
 mod sealed;
 mod smallvec;
 
@@ -97,7 +96,7 @@ struct Readme;
 /// ```compile_fail
 /// #![deny(unused_must_use)]
 /// let mut items = [1, 2];
-/// let mut view = ndarray_layout::ArrayViewMut::from_shape(ndarray_layout::Ix1(2).into(), &mut items).unwrap();
+/// let mut view = ndarray_layout::ArrayViewMut::from_shape(ndarray_layout::Ix1(2), &mut items).unwrap();
 /// view.set(&2, 7);
 /// ```
 ///
@@ -106,23 +105,21 @@ struct Readme;
 /// ```
 /// #![deny(unused_must_use)]
 /// let mut items = [1, 2];
-/// let mut view = ndarray_layout::ArrayViewMut::from_shape(ndarray_layout::Ix1(2).into(), &mut items).unwrap();
+/// let mut view = ndarray_layout::ArrayViewMut::from_shape(ndarray_layout::Ix1(2), &mut items).unwrap();
 /// assert!(!view.set(&2, 7));
 /// ```
 #[cfg(doctest)]
 struct MustUse;
 
-pub use crate::arrays::{
-    AxisChunksIter, AxisChunksIterMut, AxisIter, AxisIterMut, Indexed, IndexedIter, IndexedIterMut, IterMut,
-    PartIndexedIterMut,
-};
+pub use crate::arrays::{Indexed, IndexedIter, IndexedIterMut, MultiSliceArg};
 pub use crate::convenience::*;
 #[doc(inline)]
 pub use crate::memory::AllocError;
-pub use crate::nd_lent::{PartItems, PartIter, PartRows};
+pub use crate::nd_lent::{
+    AxisChunksIter, AxisChunksIterMut, AxisIter, AxisIterMut, BlocksIter, IterMut, LanesMut, SliceParts, TilesMut,
+};
 pub use crate::nd_owned::{
-    ArrayView, ArrayViewMut, IntoRows, Items, Iter, LentRow, LentRows, OwnedArray, PartMut, RowItems, SplitViews,
-    Unsigned, ViewIter,
+    ArrayView, ArrayViewMut, EqualTo, IntoRows, Items, Iter, LentRow, LentRows, OwnedArray, ReadySlice, RowItems,
+    SplitViews, Unsigned, ViewIter,
 };
 pub use crate::ndarray_layout::*;
-pub use crate::parts::{MultiSliceArg, PartIterMut};

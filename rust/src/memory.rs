@@ -125,7 +125,7 @@ pub trait FallibleSlice<T> {
     fn fallible_to_vec(&self) -> Result<Vec<T>, AllocError>;
 }
 
-impl<T: Copy> FallibleSlice<T> for [T] {
+impl<T: Clone> FallibleSlice<T> for [T] {
     fn fallible_to_vec(&self) -> Result<Vec<T>, AllocError> {
         let mut items = Vec::fallible_with_capacity(self.len())?;
         items.extend_from_slice(self);

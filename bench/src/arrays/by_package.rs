@@ -109,7 +109,7 @@ fn tiles() -> impl Iterator<Item = [SliceInfoElem; 2]> {
 }
 
 fn picture(items: &mut [u8]) -> ArrayViewMut<'_, u8, Ix2> {
-    ArrayViewMut::from_shape(Ix2(PICTURE, PICTURE).into(), items).expect("a picture")
+    ArrayViewMut::from_shape(Ix2(PICTURE, PICTURE), items).expect("a picture")
 }
 
 #[inline(never)]
@@ -118,20 +118,20 @@ pub fn fill_tiles(items: &mut [u8]) {
     let slice = |row: usize, column: usize| s![row..row + TILE, column..column + TILE];
     let slices: Vec<_> = starts().flat_map(|row| starts().map(move |column| slice(row, column))).collect();
     let mut picture = picture(items);
-    let tiles = picture.multi_sliced_mut(slices).expect("tiles apart");
+    let tiles = picture.multi_slice_mut(slices).expect("tiles apart");
     tiles.into_iter().enumerate().for_each(|(number, mut tile)| tile.fill(number as u8));
 }
 
 #[inline(never)]
 pub fn fill_part_muts(items: &mut [u8]) {
     let slices: Vec<_> = tiles().collect();
-    let tiles = picture(items).into_part().multi_slice_mut(&slices).expect("tiles apart");
+    let tiles = picture(items).multi_slice_move::<_, Ix2>(&slices).expect("tiles apart");
     tiles.into_iter().enumerate().for_each(|(number, mut tile)| tile.fill(number as u8));
 }
 
 #[inline(never)]
 pub fn fill_planes(items: &mut [u8]) {
-    let mut picture = ArrayViewMut::from_shape(Ix3(PICTURE, PICTURE, 3).into(), items).expect("a picture");
-    let planes = picture.multi_sliced_mut([0, 1, 2].map(|colour| s![.., .., colour])).expect("planes apart");
+    let mut picture = ArrayViewMut::from_shape(Ix3(PICTURE, PICTURE, 3), items).expect("a picture");
+    let planes = picture.multi_slice_mut([0, 1, 2].map(|colour| s![.., .., colour])).expect("planes apart");
     planes.into_iter().zip(1..).for_each(|(mut plane, colour)| plane.fill(colour));
 }

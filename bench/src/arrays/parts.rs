@@ -2,7 +2,7 @@
 
 use super::timing::{Row, row};
 use super::{PICTURE, SIDE, TILE};
-use ndarray_layout::{ArrayViewMut, Fit, Ix2, Ix3, PartMut, SliceInfoElem, s};
+use ndarray_layout::{ArrayViewMut, Fit, Ix2, Ix3, SliceInfoElem, s};
 use std::hint::black_box;
 use std::thread;
 
@@ -37,8 +37,8 @@ fn planes_by_pointers(items: &mut [u8]) {
 
 #[inline(never)]
 fn planes_by_parts(items: &mut [u8]) {
-    let mut picture = ArrayViewMut::from_shape(Ix3(BIG, BIG, 3).into(), items).expect("a picture");
-    let planes = picture.multi_sliced_mut([0, 1, 2].map(|colour| s![.., .., colour])).expect("planes apart");
+    let mut picture = ArrayViewMut::from_shape(Ix3(BIG, BIG, 3), items).expect("a picture");
+    let planes = picture.multi_slice_mut([0, 1, 2].map(|colour| s![.., .., colour])).expect("planes apart");
     thread::scope(|scope| {
         for (mut plane, colour) in planes.into_iter().zip(1..) {
             scope.spawn(move || plane.fill(colour));
@@ -71,8 +71,8 @@ fn tiles() -> Vec<[SliceInfoElem; 2]> {
     starts().flat_map(|row| starts().map(move |column| slice(row, column))).collect()
 }
 
-fn picture(items: &mut [u8]) -> PartMut<'_, u8, Ix2> {
-    ArrayViewMut::from_shape(Ix2(PICTURE, PICTURE).into(), items).expect("a picture").into_part()
+fn picture(items: &mut [u8]) -> ArrayViewMut<'_, u8, Ix2> {
+    ArrayViewMut::from_shape(Ix2(PICTURE, PICTURE), items).expect("a picture")
 }
 
 #[inline(never)]
@@ -83,11 +83,11 @@ fn compare_tiles(items: &mut [u8], slices: &[[SliceInfoElem; 2]]) {
 
 #[inline(never)]
 fn lend_tiles(items: &mut [u8], slices: &[[SliceInfoElem; 2]]) {
-    black_box(picture(items).multi_slice_mut(slices).expect("tiles apart"));
+    black_box(picture(items).multi_slice_move::<_, Ix2>(slices).expect("tiles apart"));
 }
 
-fn table(items: &mut [u32]) -> PartMut<'_, u32, Ix2> {
-    ArrayViewMut::from_shape(Ix2(SIDE, SIDE).into(), items).expect("a table").into_part()
+fn table(items: &mut [u32]) -> ArrayViewMut<'_, u32, Ix2> {
+    ArrayViewMut::from_shape(Ix2(SIDE, SIDE), items).expect("a table")
 }
 
 /// Indices that lie here and there.
@@ -135,7 +135,7 @@ fn number_items(items: &mut [u32]) {
 
 pub fn rows() -> Vec<Row> {
     let planes = ("three planes of 2000x2000 by three threads, beside raw pointers", BIG * BIG * 3, BIG * BIG * 3);
-    let lent = ("100 tiles lent by multi_slice_mut, beside the comparison alone", 1, PICTURE * PICTURE);
+    let lent = ("100 tiles lent by multi_slice_move, beside the comparison alone", 1, PICTURE * PICTURE);
     let found = ("get_mut of a part, beside get", 10_000, SIDE * SIDE);
     let iterated = ("the items of a transposed part, beside a loop", SIDE * SIDE, SIDE * SIDE);
     let (slices, places) = (tiles(), indices());

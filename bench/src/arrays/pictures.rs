@@ -243,6 +243,14 @@ mod by_package {
     }
 
     #[inline(never)]
+    pub fn zip_mut_with_nearest(form: Form, items: &mut [u8], others: &[u8]) {
+        let add = |item: &mut u8, other: &u8| *item = item.wrapping_add(*other);
+        with_layout!(form, layout => {
+            array_mut(layout, items).zip_mut_with_nearest(&array(layout, others), add).expect("one shape");
+        });
+    }
+
+    #[inline(never)]
     pub fn equal(form: Form, items: &[u8], others: &[u8]) -> usize {
         with_layout!(form, layout => usize::from(array(layout, items) == array(layout, others)))
     }
@@ -326,12 +334,13 @@ pub fn rows() -> Vec<Row> {
         if form.is_forwards() {
             let maps: fn(_, &mut _, &_) = |form, items, _| by_package::map_in_place(form, items);
             rows.push(writing(named("map_in_place"), form, map, maps));
+            rows.push(writing(named("zip_mut_with"), form, by_hand::zip_mut_with, by_package::zip_mut_with));
         } else {
             let maps: fn(_, &mut _, &_) = |form, items, _| by_package::map_in_place_nearest(form, items);
             rows.push(writing(named("map_in_place_nearest"), form, map, maps));
             rows.push(reading(named("fold_nearest"), form, by_hand::sum, by_package::fold_nearest));
+            rows.push(writing(named("zip_mut_with_nearest"), form, by_hand::zip_mut_with, by_package::zip_mut_with_nearest));
         }
-        rows.push(writing(named("zip_mut_with"), form, by_hand::zip_mut_with, by_package::zip_mut_with));
         rows.push(reading(named("=="), form, by_hand::equal, by_package::equal));
         rows.push(reading(named("sum"), form, by_hand::sum, by_package::total));
         rows.push(reading(named("fold"), form, by_hand::sum, by_package::fold));

@@ -2,10 +2,11 @@
 ghost use Rattle.std.specs.Prelude.{◌≡◌, IsOk, OnOk, length};
 ghost use Rattle.ndarray_layout.specs.InvertedView.{invert_source};
 ghost use Rattle.nd_owned.specs.HasItems.{HasItemsOf};
-ghost use Rattle.nd_owned.specs.Lender.{array_of};
+ghost use Rattle.nd_owned.specs.Lent.{array_of};
+ghost use Rattle.nd_owned.specs.Rights.{right_of};
 ghost use Rattle.nd_owned.specs.Owned.{IsOwned, item_at};
 
-use nd_owned::ArrayViewMut;
+use nd_owned::{ArrayViewMut, Whole};
 use ndarray_layout::{Dimension, Ix2, Strided, all_indices};
 use std::alloc::{AllocError, Global};
 
@@ -15,7 +16,7 @@ fn swap_rows(alloc: Global, picture: &mut ArrayViewMut<'_, u8, Ix2>) -> Result<(
     ensures flipped { OnOk result (HasItemsOf
         (λ index. item_at (array_of picture.old) (invert_source 0 (array_of picture.old).view.shape index))
         (array_of picture.old) (array_of picture.new)) }
-    ensures same_reference { picture.new.items.ghost_name ≡ picture.old.items.ghost_name }
+    ensures same_right { right_of picture.new.cells ≡ right_of picture.old.cells }
 {
     let (rows, columns) = picture.strided().dim().into_pattern();
     for (row, column) in all_indices(alloc, (rows / 2, columns))? {
@@ -34,7 +35,9 @@ pub fn flip(alloc: Global, view: Strided<Ix2>, pixels: &mut [u8]) -> Result<(), 
         (record { items = pixels.old; view = view })
         (record { items = pixels.new; view = view })) }
 {
-    let mut picture = ArrayViewMut::new(view, pixels);
+    let mut whole = Whole::new(pixels);
+    let mut picture = whole.lend(view);
     swap_rows(alloc, &mut picture)?;
+    whole.end(picture);
     Ok(())
 }

@@ -9,12 +9,12 @@ ghost use Rattle.ndarray_layout.specs.Signed.{all_signed};
 ghost use Rattle.ndarray_layout.specs.Span.{low_span};
 ghost use Rattle.ndarray_layout.specs.View.{view_of};
 ghost use Rattle.nd_owned.specs.HasItems.{HasItemsOf};
-ghost use Rattle.nd_owned.specs.Lender.{array_of};
+ghost use Rattle.nd_owned.specs.Lent.{array_of};
 ghost use Rattle.nd_owned.specs.Mapped.{row_major_items};
 ghost use Rattle.nd_owned.specs.Owned.{IsOwned, item_at};
 ghost use Rattle.nd_owned.specs.WrittenPart.{HasWrittenPart};
 
-use nd_owned::{ArrayViewMut, OwnedArray};
+use nd_owned::{ArrayViewMut, OwnedArray, Whole};
 use ndarray_layout::{CanIndexCheckMode, Ix2, LayoutError, Lengths, StrideShape, Strided};
 use std::alloc::{AllocError, Global};
 
@@ -37,20 +37,21 @@ pub fn paint<D: Lengths>(
 {
     let mode = CanIndexCheckMode::OwnedMutable;
     let view = Strided::from_shape(alloc, shape, 1, pixels.len(), mode)?;
-    let mut picture = ArrayViewMut::new(view, pixels);
-    picture.fill(pixel);
+    paint_view(view, pixels, pixel);
     Ok(())
 }
 
 /// Paints each pixel of a view over pixels.
-fn paint_view(view: Strided<Ix2>, pixels: &mut [u8], pixel: u8)
+fn paint_view<D: Lengths>(view: Strided<D>, pixels: &mut [u8], pixel: u8)
     requires { IsOwned (length pixels.old) view }
     ensures { HasItemsOf (λ index. Some pixel)
         (record { items = pixels.old; view = view })
         (record { items = pixels.new; view = view }) }
 {
-    let mut picture = ArrayViewMut::new(view, pixels);
+    let mut whole = Whole::new(pixels);
+    let mut picture = whole.lend(view);
     picture.fill(pixel);
+    whole.end(picture);
 }
 
 /// Paints a part of a picture, whose pixels lie in a list by a view, and returns whether it did: it doesn't where the part isn't one

@@ -6,7 +6,7 @@ ghost use Rattle.nd_owned.specs.HasItems.{HasItemsOf};
 ghost use Rattle.nd_owned.specs.Owned.{IsOwned, item_at};
 ghost use Rattle.nd_owned.specs.WrittenPart.{HasWrittenPart};
 
-use nd_owned::{ArrayView, ArrayViewMut};
+use nd_owned::{ArrayView, Whole};
 use ndarray_layout::{Ix2, Strided};
 
 /// Writes the pixels of a picture at the indices of a view over others, and returns whether the shapes are the same; else the others are
@@ -19,8 +19,11 @@ fn assign_view(view: Strided<Ix2>, pixels: &mut [u8], picture: &ArrayView<'_, u8
         (record { items = pixels.new; view = view }) }
     ensures unchanged { result ≡ false → pixels.new ≡ pixels.old }
 {
-    let mut array = ArrayViewMut::new(view, pixels);
-    array.assign(picture).is_ok()
+    let mut whole = Whole::new(pixels);
+    let mut array = whole.lend(view);
+    let assigned = array.assign(picture);
+    whole.end(array);
+    assigned.is_ok()
 }
 
 /// Writes a picture into a part of another one, whose pixels lie in a list by a view, and returns whether it did: it doesn't where the

@@ -6,25 +6,24 @@ ghost use Rattle.nd_lent.specs.Items.{IsOwned};
 ghost use Rattle.nd_lent.specs.Lent.{array_of};
 ghost use Rattle.nd_lent.specs.Rights.{right_of};
 
-use nd_lent::{PartMut, Whole};
+use nd_lent::{ArrayViewMut, Whole};
 use ndarray_layout::{Axis, Ix2, Ix3, LayoutError, Strided};
 use std::alloc::Global;
 
 /// The axis of a picture's planes, after its rows and columns.
 const PLANES: Axis = Axis(2);
 
-/// Paints each pixel of a part; the picture's other pixels are unchanged. Two axes need no memory.
-pub fn paint_plane(alloc: Global, part: &mut PartMut<'_, u8, Ix2>, pixel: u8)
+/// Paints each pixel of a part; the picture's other pixels are unchanged. Takes no memory.
+pub fn paint_plane(part: &mut ArrayViewMut<'_, u8, Ix2>, pixel: u8)
     ensures painted { HasItemsOf (λ index. Some pixel) (array_of part.old) (array_of part.new) }
     ensures count { length (array_of part.new).items ≡ length (array_of part.old).items }
     ensures same_right { right_of part.new.cells ≡ right_of part.old.cells }
 {
-    part.fill(alloc, pixel);
+    part.fill(pixel);
 }
 
 /// Paints three parts of a picture, each in a colour of its own, where no two share a pixel.
 fn paint_three(
-    alloc: Global,
     red: (Strided<Ix2>, u8),
     green: (Strided<Ix2>, u8),
     blue: (Strided<Ix2>, u8),
@@ -49,9 +48,9 @@ fn paint_three(
     let (mut red_part, red_taken) = rest.take(red.0);
     let (mut green_part, green_taken) = rest.take(green.0);
     let (mut blue_part, blue_taken) = rest.take(blue.0);
-    paint_plane(alloc, &mut red_part, red.1);
-    paint_plane(alloc, &mut green_part, green.1);
-    paint_plane(alloc, &mut blue_part, blue.1);
+    paint_plane(&mut red_part, red.1);
+    paint_plane(&mut green_part, green.1);
+    paint_plane(&mut blue_part, blue.1);
     rest.put_back(blue_part, blue_taken);
     rest.put_back(green_part, green_taken);
     rest.put_back(red_part, red_taken);
@@ -78,7 +77,6 @@ pub fn paint_planes(
     let green = view.index_axis(alloc, PLANES, 1)?;
     let blue = view.index_axis(alloc, PLANES, 2)?;
     paint_three(
-        alloc,
         (red, colour[0]),
         (green, colour[1]),
         (blue, colour[2]),

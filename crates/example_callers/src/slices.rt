@@ -29,7 +29,7 @@ pub fn alternate_rows<'a>(
         item_at picture.now ((slice_index picture.now.view.shape 0 - 1 - 2 * i) ∷ j ∷ [])) }
 {
     let part: [SliceInfoElem; 2] = [Slice::new(0, None, -2).into(), (..).into()];
-    let rows = picture.slice(alloc, &part, Fit::Strict)?;
+    let rows = picture.slice_with(alloc, &part, Fit::Strict)?;
     Ok(rows)
 }
 

@@ -32,7 +32,7 @@ pub fn paint_tiles(
     let mut rest = whole.rest();
     for tile in tiles {
         let (mut part, taken) = rest.take(tile.0.duplicate(alloc)?);
-        part.fill(alloc, tile.1);
+        part.fill(tile.1);
         rest.put_back(part, taken);
     }
     whole.close(rest);

@@ -25,14 +25,14 @@ pub fn set_first(view: Strided<Ix2>, pixels: &mut [u8], pixel: u8)
 
 /// Writes a pixel at each index of a picture, whose pixels lie in a list by a view, by a part of it. The list's other pixels are
 /// unchanged. The caller ensures that each index has a pixel to itself.
-pub fn fill_all(alloc: Global, view: Strided<Ix2>, pixels: &mut [u8], pixel: u8)
+pub fn fill_all(view: Strided<Ix2>, pixels: &mut [u8], pixel: u8)
     requires { IsOwned (length pixels.old) view }
     ensures { HasItemsOf (λ index. Some pixel)
         (record { items = pixels.old; view = view }) (record { items = pixels.new; view = view }) }
 {
     let mut whole = Whole::new(pixels);
     let mut part = whole.lend(view);
-    part.fill(alloc, pixel);
+    part.fill(pixel);
     whole.end(part);
 }
 

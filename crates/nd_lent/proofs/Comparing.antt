@@ -1,7 +1,6 @@
 -- Lists of items that are compared one after another, or part by part.
 use Rattle.std.proofs.Common.{◌≡◌, ℕ, ◌+◌, Bool, true, false, Option, Some, None, List, [], ◌∷◌, ◌++◌, length, map, drop}
 use Rattle.std.proofs.Common.{Decides, sym, refl, ap, subst, ◌∙◌, arith}
-use Rattle.std.specs.Cmp.Derive.Mapped.{pointwise-map}
 use Rattle.std.specs.Cmp.Lexicographic.{pointwise}
 use Rattle.std.specs.List.{All}
 use Rattle.std.specs.List.Sorted.{IsPermutation}
@@ -20,13 +19,16 @@ use Rattle.nd_lent.proofs.Sets.{All-indices, AreIndices}
 use Rattle.nd_lent.proofs.Laws.IndexItems.{items_at}
 
 -- as slices
-pub slices_compared : {T : Type 0} (eq : T → T → Bool) (xs ys : List T)
+pub slices_compared : {T U : Type 0} (eq : T → U → Bool) (xs : List T) (ys : List U)
     → pointwise (both_equal eq) (map Some xs) (map Some ys) ≡ pointwise eq xs ys
-slices_compared eq xs ys = pointwise-map Some (both_equal eq) xs ys
+slices_compared eq [] [] = refl
+slices_compared eq [] (y ∷ ys) = refl
+slices_compared eq (x ∷ xs) [] = refl
+slices_compared eq (x ∷ xs) (y ∷ ys) = ap (λ rest. eq x y && rest) (slices_compared eq xs ys)
 
-module _ {T : Type 0} (eq : T → T → Bool) where
+module _ {T U : Type 0} (eq : T → U → Bool) where
   -- at an item, and after it
-  pub compared_at : {items others : List (Option T)} {i : ℕ} {x y : T} → IsItemAt items i x → IsItemAt others i y
+  pub compared_at : {items : List (Option T)} {others : List (Option U)} {i : ℕ} {x : T} {y : U} → IsItemAt items i x → IsItemAt others i y
       → pointwise (both_equal eq) (drop i items) (drop i others)
       ≡ (eq x y && pointwise (both_equal eq) (drop (i + 1) items) (drop (i + 1) others))
   compared_at {items} {others} {i} {x} {y} here there =
@@ -36,7 +38,7 @@ module _ {T : Type 0} (eq : T → T → Bool) where
       (drop_more others i None there.below ∙ ap (λ y. y ∷ drop (i + 1) others) there.is)
 
   -- of a part, and of what comes after it
-  pub compared_parts : (items more given others : List (Option T)) → length items ≡ length given
+  pub compared_parts : (items more : List (Option T)) (given others : List (Option U)) → length items ≡ length given
       → pointwise (both_equal eq) (items ++ more) (given ++ others)
       ≡ (pointwise (both_equal eq) items given && pointwise (both_equal eq) more others)
   compared_parts [] more [] others count = refl
@@ -52,7 +54,7 @@ module _ {T : Type 0} (eq : T → T → Bool) where
       by false = refl
 
 -- ---- at each index, in an order
-module _ {T : Type 0} (eq : T → T → Bool) (f h : List ℕ → Option T) where
+module _ {T U : Type 0} (eq : T → U → Bool) (f : List ℕ → Option T) (h : List ℕ → Option U) where
   abbrev AreEqual : List ℕ → Type 0
   AreEqual index = both_equal eq (f index) (h index) ≡ true
 
@@ -73,8 +75,8 @@ module _ {T : Type 0} (eq : T → T → Bool) (f h : List ℕ → Option T) wher
       )
 
 -- two arrays of one shape are equal in any order of the indices where they are in row-major order
-module _ {T : Type 0} (eq : T → T → Bool) (one other : ArrayValue T) (same : one.view.shape ≡ other.view.shape) where
-  abbrev items_of : List (List ℕ) → ArrayValue T → List (Option T)
+module _ {T U : Type 0} (eq : T → U → Bool) (one : ArrayValue T) (other : ArrayValue U) (same : one.view.shape ≡ other.view.shape) where
+  abbrev items_of : {X : Type 0} → List (List ℕ) → ArrayValue X → List (Option X)
   items_of indices array = map (item_at_place array.items) (map (place_at array.view) indices)
 
   by_index : (indices : List (List ℕ)) → All (λ index. is_index one.view.shape index ≡ true) indices

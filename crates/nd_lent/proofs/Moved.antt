@@ -29,7 +29,8 @@ pub record AreAlike (view other : View) (places others : List ℤ) : Type 0 wher
   pub first : places ≡ map (place_at view) indices
   pub second : others ≡ map (place_at other) indices
 
-zip_of_maps : {X Y Z : Type 0} (f : X → Y) (g : X → Z) (xs : List X) → zip (map f xs) (map g xs) ≡ map (λ x. (f x, g x)) xs
+-- pairs of what two functions make of each item
+pub zip_of_maps : {X Y Z : Type 0} (f : X → Y) (g : X → Z) (xs : List X) → zip (map f xs) (map g xs) ≡ map (λ x. (f x, g x)) xs
 zip_of_maps f g [] = refl
 zip_of_maps f g (x ∷ xs) = ap (λ rest. (f x, g x) ∷ rest) (zip_of_maps f g xs)
 

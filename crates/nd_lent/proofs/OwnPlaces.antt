@@ -3,11 +3,13 @@ use Rattle.std.proofs.Common.{◌≡◌, ◌≢◌, ℕ, zero, suc, ◌+◌, ◌
 use Rattle.std.proofs.Common.{◌&&◌, not, length, get_or, take, drop, map, refl, sym, ap, subst, ◌∙◌, arith}
 use Rattle.std.specs.Borrow.{MutBor}
 use Rattle.std.specs.List.{All, Contains, IsItemAtMut}
+use Rattle.std.specs.List.Sorted.{IsPermutation}
 use Rattle.std.specs.Prelude.{IsTrue, MatchOption}
 use Rattle.std.proofs.lemmas.Bool.{false≢true}
 use Rattle.std.proofs.lemmas.List.Elements.{All-append, All-head, All-map, All-tail, All-weaker}
 use Rattle.std.proofs.lemmas.List.{get_or-append-add, get_or-drop, get_or-take, length-append, length-drop, length-take}
 use Rattle.std.proofs.lemmas.List.{map-append, take-append-drop}
+use Rattle.std.proofs.lemmas.List.Sorted.{All-permutation, IsPermutation-sym}
 use Rattle.std.proofs.lemmas.Option.{slice_get_read}
 use Rattle.ndarray_layout.specs.declared.Order.TheVariants.{RowMajor}
 use Rattle.ndarray_layout.specs.Indices.{is_index, indices_in}
@@ -20,6 +22,7 @@ use Rattle.nd_lent.specs.Own.{AreOwn}
 use Rattle.nd_lent.specs.Part.{has_mark, IsPart}
 use Rattle.nd_lent.proofs.Laws.Lists.{all_first, other_default, pairs_append, pairs_first, pairs_head, pairs_second, pairs_tail}
 use Rattle.nd_lent.proofs.Laws.Lists.{parts_apart}
+use Rattle.nd_lent.proofs.Permuted.{distinct_permuted}
 use Rattle.nd_lent.proofs.SliceOfPart.{mark_in_bounds, span_within}
 
 -- ---- marks without that of one place
@@ -59,6 +62,15 @@ own_of_part marks view part =
           (All-weaker (λ index. is_index view.shape index ≡ true) (λ index. has_mark marks (place_at view index) ≡ true) part.marked
           indices (All-indices_in RowMajor view.shape));
       apart = AllPairs-view_places RowMajor view part.distinct;
+    }
+
+-- they are in any order
+pub own_moved : {marks : List Bool} (all places : List ℤ) → IsPermutation places all → AreOwn marks all → AreOwn marks places
+own_moved {marks} all places moved own =
+    let back = IsPermutation-sym places all moved in
+    record {
+      marked = All-permutation (λ place. has_mark marks place ≡ true) all places back own.marked;
+      apart = distinct_permuted all places back own.apart;
     }
 
 -- ---- of some of them

@@ -19,6 +19,7 @@ use Rattle.nd_lent.specs.Items.{ArrayValue, item_at_place, items_of}
 use Rattle.nd_lent.specs.Own.{AreOwn}
 use Rattle.nd_lent.specs.RowsLeft.{row_array}
 use Rattle.nd_lent.specs.Part.{has_mark, AreMarked, IsPart, marks_of}
+use Rattle.nd_lent.specs.Read.{HaveMarks}
 use Rattle.nd_lent.proofs.Between.{last_between}
 use Rattle.nd_lent.proofs.OwnPlaces.{own_first, own_second, own_swapped}
 use Rattle.nd_lent.proofs.Laws.Lists.{all_first, other_default, pairs_first, pairs_second, parts_apart}
@@ -44,16 +45,20 @@ at_of row (i ∷ []) h =
     }
 at_of row (i ∷ j ∷ index) h = absurd (false≢true (and_parts (nat_lt i row.len) false h).1)
 
+-- where each place of a row has a mark, each of its indices has one there
+pub marked_row : (marks : List Bool) (row : Row) → HaveMarks marks (row_places row.start row.stride row.len)
+    → AreMarked marks (row_view row)
+marked_row marks row have index is =
+    let a = at_of row index is in
+    subst (λ place. has_mark marks place ≡ true) (sym (a.at (pos 0)))
+    (have a.coordinate (pos 0) (omega (arith, a.below, length-row_places row.start row.stride row.len)))
+
 module _ (marks : List Bool) (row : Row) (rest : List ℤ) (own : AreOwn marks (row_places row.start row.stride row.len ++ rest)) where
   abbrev here : List ℤ
   here = row_places row.start row.stride row.len
 
   row_marked : AreMarked marks (row_view row)
-  row_marked index is =
-      let a = at_of row index is in
-      subst (λ place. has_mark marks place ≡ true) (sym (a.at (pos 0)))
-      (all_first (λ place. has_mark marks place ≡ true) here rest own.marked a.coordinate (pos 0)
-      (omega (arith, a.below, length-row_places row.start row.stride row.len)))
+  row_marked = marked_row marks row (all_first (λ place. has_mark marks place ≡ true) here rest own.marked)
 
   -- no two of its coordinates have one place
   apart : AllPairs (λ one other. one ≢ other) here
@@ -154,7 +159,7 @@ module _ (marks : List Bool) (rows : List Row) (number : ℕ) {row : View} (own 
 
 -- ---- the last row, which is found by its number too
 -- the places of rows and of one after them
-places_and : (rows : List Row) (row : Row)
+pub places_and : (rows : List Row) (row : Row)
     → rows_places (rows ++ row ∷ []) ≡ rows_places rows ++ row_places row.start row.stride row.len
 places_and rows row =
     let places = row_places row.start row.stride row.len in

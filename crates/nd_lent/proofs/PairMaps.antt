@@ -1,6 +1,6 @@
 -- What calls of a closure at the items of two arrays side by side leave at the indices of the first.
 use Rattle.std.proofs.Common.{◌≡◌, ℕ, ℤ, pos, true, Option, Some, None, List, [], ◌∷◌, length, map, refl, sym, ap, subst, ◌∙◌}
-use Rattle.std.specs.List.{All, Contains, zip}
+use Rattle.std.specs.List.{All, Contains, FoldsTo, zip}
 use Rattle.std.specs.List.Sorted.{IsPermutation}
 use Rattle.std.specs.Option.{option_map, option_zip}
 use Rattle.std.proofs.lemmas.List.{length-map}
@@ -12,14 +12,17 @@ use Rattle.ndarray_layout.specs.Indices.{indices_in, is_index}
 use Rattle.ndarray_layout.specs.Nearest.{pairs_of_places}
 use Rattle.ndarray_layout.specs.View.{View, place_at, view_places}
 use Rattle.ndarray_layout.proofs.Laws.Lists.{Contains-map}
+use Rattle.nd_lent.specs.AnyOrder.{CallsMakeInSomeOrder}
 use Rattle.nd_lent.specs.HasItems.{HasItemsOf, KeepsSpare}
 use Rattle.nd_lent.specs.Items.{ArrayValue, item_at, item_at_place}
+use Rattle.nd_lent.specs.Mapped.{Makes, row_major_items}
 use Rattle.nd_lent.specs.Written.{Maps}
-use Rattle.nd_lent.specs.Zipped.{pairs_of}
+use Rattle.nd_lent.specs.Zipped.{pairs_of, row_major_pairs}
 use Rattle.nd_lent.specs.private.Pairs.{ZipsAt, view_pairs}
-use Rattle.nd_lent.proofs.Laws.IndexItems.{items_at}
+use Rattle.nd_lent.proofs.Laws.IndexItems.{items_at, items_in}
 use Rattle.nd_lent.proofs.Laws.MapsTo.{acted}
 use Rattle.nd_lent.proofs.Laws.WrittenCount.{same_count}
+use Rattle.nd_lent.proofs.Moved.{zip_of_maps}
 use Rattle.nd_lent.proofs.PartMaps.{changed, some_given}
 use Rattle.nd_lent.proofs.Sets.{All-indices, Contains-indices, has_items, places_moved}
 
@@ -58,6 +61,25 @@ module _ {T U : Type 0} (items : List T) (others : List U) where
       (subst (IsPermutation (map both (pairs_of_places nearest beside)))
       (sym (pairs_of_maps (item_at_place items) (item_at_place others) (view_places RowMajor view) (view_places RowMajor source)))
       (IsPermutation-map both (pairs_of_places nearest beside) (pairs_of_places view source) moved))
+
+-- where the other items and their view are lent
+pub pairs_of_lent : {T U : Type 0} (items : List T) (view : View) {others lent : List U} {source shown : View} → lent ≡ others
+    → shown ≡ source → view_pairs items view lent shown ≡ view_pairs items view others source
+pairs_of_lent items view {others} {shown = shown} same is =
+    ap (λ lent. view_pairs items view lent shown) same ∙ ap (view_pairs items view others) is
+
+pub maps_of_lent : {F T U : Type 0} {call : F → T × U → T → F → Type 0} {f : F} (view : View) {source shown : View} {others lent : List U}
+    {old new : List T} → lent ≡ others → shown ≡ source → Maps call f (view_places RowMajor view) (view_pairs old view lent shown) old new
+    → Maps call f (view_places RowMajor view) (view_pairs old view others source) old new
+maps_of_lent {call = call} {f} view {old = old} {new} same is =
+    subst (λ pairs. Maps call f (view_places RowMajor view) pairs old new) (pairs_of_lent old view same is)
+
+-- those of two arrays are those of their indices
+pub pairs_in_order : {T U : Type 0} (array : ArrayValue T) (other : ArrayValue U)
+    → view_pairs array.items array.view other.items other.view ≡ row_major_pairs array other
+pairs_in_order array other =
+    ap (λ items. pairs_of items (map (item_at_place other.items) (view_places RowMajor other.view))) (items_in RowMajor array)
+    ∙ ap (pairs_of (row_major_items array)) (items_in RowMajor other)
 
 -- in row-major order
 pub zips_in_order : {F T U : Type 0} {call : F → T × U → T → F → Type 0} {f : F} {view source : View} {others : List U} {old new : List T}
@@ -118,6 +140,27 @@ module _ {F T U : Type 0} (call : F → T × U → T → F → Type 0) {f : F} (
         written = made ∙ ap (map (option_map h)) given_at ∙ map-map (option_map h) pair_at indices;
         others = has.run.others;
       })
+
+  -- the calls are made at the pairs of all indices, in some order
+  pub some_order : CallsMakeInSomeOrder call f (row_major_pairs old other) (row_major_items (changed old new))
+  some_order =
+      let all = indices_in RowMajor old.view.shape in
+      let both : List ℕ → Option (T × U) × Option T = λ index. (pair_at index, item_at (changed old new) index) in
+      let pairs : zip (row_major_pairs old other) (row_major_items (changed old new)) ≡ map both all =
+      ap (λ pairs. zip pairs (row_major_items (changed old new)))
+      (zip2_of_maps option_zip (item_at old) (item_at other) all refl
+      (ap (λ shape. map (item_at other) (indices_in RowMajor shape)) (sym same)))
+      ∙ zip_of_maps pair_at (item_at (changed old new)) all in
+      let ran : zip given (map (item_at_place new) places) ≡ map both indices =
+      ap (λ pairs. zip pairs (map (item_at_place new) places)) given_at
+      ∙ ap (zip (map pair_at indices)) (items_at (changed old new) indices here)
+      ∙ zip_of_maps pair_at (item_at (changed old new)) indices in
+      record {
+        pairs = map both indices;
+        each_once = subst (IsPermutation (map both indices)) (sym pairs) (IsPermutation-map both indices all has.each_once);
+        last = has.run.ran.last;
+        calls = subst (λ pairs. FoldsTo (Makes call) f pairs has.run.ran.last) ran has.run.ran.calls;
+      }
 
   -- each index has an item in both
   both_there : (index : List ℕ) → is_index old.view.shape index ≡ true → pair_at index ≡ None → ⊥

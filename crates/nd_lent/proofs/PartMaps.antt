@@ -1,45 +1,30 @@
 -- What calls of a closure at the places of a view leave at its indices, where each place has a call, in some order.
-use Rattle.std.proofs.Common.{◌≡◌, ℕ, zero, suc, ℤ, pos, true, Option, Some, None, List, [], ◌∷◌, length, get_or, map, refl, sym, ap}
+use Rattle.std.proofs.Common.{◌≡◌, ℕ, zero, suc, ℤ, true, Option, Some, None, List, [], ◌∷◌, length, map, refl, sym, ap}
 use Rattle.std.proofs.Common.{subst, ◌∙◌, arith}
 use Rattle.std.specs.Borrow.{MutBor}
 use Rattle.std.specs.Fn.{CalledAtMut, Mut}
 use Rattle.std.specs.List.{Contains, FoldsTo}
-use Rattle.std.specs.List.Sorted.{IsPermutation}
 use Rattle.std.specs.Option.{option_map}
 use Rattle.std.specs.Prelude.{zip}
-use Rattle.std.proofs.lemmas.List.{get_or-map, length-map}
-use Rattle.std.proofs.lemmas.List.Sorted.{Contains-permutation, IsPermutation-map, IsPermutation-refl, IsPermutation-sym}
+use Rattle.std.proofs.lemmas.List.{length-map}
+use Rattle.std.proofs.lemmas.List.Sorted.{Contains-permutation, IsPermutation-refl, IsPermutation-sym}
 use Rattle.std.proofs.lemmas.Option.{none-some}
-use Rattle.std.proofs.lemmas.Simd.{map-map}
 use Rattle.ndarray_layout.specs.declared.Order.TheVariants.{RowMajor}
 use Rattle.ndarray_layout.specs.Indices.{indices_in, is_index}
 use Rattle.ndarray_layout.specs.View.{place_at, view_places}
 use Rattle.ndarray_layout.proofs.Laws.Indices.{Contains-indices_in}
 use Rattle.ndarray_layout.proofs.Laws.Lists.{Contains-map}
-use Rattle.nd_lent.specs.AnyOrder.{CallsMakeInSomeOrder}
+use Rattle.nd_lent.specs.AnyOrder.{CallsMakeArrayInSomeOrder}
 use Rattle.nd_lent.specs.HasItems.{HasItemsOf, KeepsSpare}
 use Rattle.nd_lent.specs.Items.{ArrayValue, item_at, item_at_place}
 use Rattle.nd_lent.specs.Mapped.{ActsAsAtMut, Makes, CallsMake, row_major_items}
 use Rattle.nd_lent.specs.Written.{Maps}
 use Rattle.nd_lent.specs.private.MapsTo.{MapsAt}
+use Rattle.nd_lent.proofs.ArrayMaps.{made_in_some_order, mapped as all_mapped, spare as all_spare}
+use Rattle.nd_lent.proofs.Moved.{AreMoved, all_moved}
 use Rattle.nd_lent.proofs.Laws.FlatItems.{item_of_index}
 use Rattle.nd_lent.proofs.Laws.IndexItems.{items_in}
-use Rattle.nd_lent.proofs.Laws.MapsTo.{acted}
-
--- ---- lists
--- what two functions make of a list is the same at each of its items
-same_at : {X Y : Type 0} (f g : X → Y) (xs : List X) {x : X} → map f xs ≡ map g xs → Contains xs x → f x ≡ g x
-same_at f g xs {x} same (k, below, is) =
-    ap f (sym is)
-    ∙ sym (get_or-map f xs k x (f x) below)
-    ∙ ap (λ ys. get_or ys k (f x)) same
-    ∙ get_or-map g xs k x (f x) below
-    ∙ ap g is
-
--- pairs of what two functions make of each item
-zip_of_maps : {X Y Z : Type 0} (f : X → Y) (g : X → Z) (xs : List X) → zip (map f xs) (map g xs) ≡ map (λ x. (f x, g x)) xs
-zip_of_maps f g [] = refl
-zip_of_maps f g (x ∷ xs) = ap (λ pairs. (f x, g x) ∷ pairs) (zip_of_maps f g xs)
+pub use Rattle.nd_lent.proofs.ArrayMaps.{changed}
 
 -- a call is made at no item that is missing
 pub some_given : {F X Y : Type 0} (call : F → X → Y → F → Type 0) (given : List (Option X)) (made : List (Option Y)) (p last : F)
@@ -53,9 +38,6 @@ some_given call (Some x ∷ given) (Some y ∷ made) p last count (next, called,
     some_given call given made next last (omega (arith, count)) more (k, omega (arith, below), is)
 
 -- ---- the items of a view
-abbrev pub changed : {T : Type 0} → ArrayValue T → List T → ArrayValue T
-changed old new = record { items = new; view = old.view }
-
 module _ {F T : Type 0} (g : Mut F (MutBor T × Unit {0}) (Unit {0} × (MutBor T × Unit {0}))) (old : ArrayValue T) (new : List T) where
   abbrev call : F → T → T → F → Type 0
   call = λ p x y q. CalledAtMut g p x tt q y
@@ -92,39 +74,24 @@ module _ {F T : Type 0} (g : Mut F (MutBor T × Unit {0}) (Unit {0} × (MutBor T
           Contains-permutation all places (place_at old.view index) (IsPermutation-sym places all has.each_once)
           (Contains-map (place_at old.view) (indices_in RowMajor old.view.shape) (Contains-indices_in RowMajor old.view.shape index here))
 
-      pub some_order : CallsMakeInSomeOrder call f (row_major_items old) (row_major_items (changed old new))
-      some_order =
-          let both : ℤ → Option T × Option T = λ z. (item_at_place old.items z, item_at_place new z) in
-          let pairs : map both all ≡ zip (row_major_items old) (row_major_items (changed old new)) =
-          sym (zip_of_maps (item_at_place old.items) (item_at_place new) all)
-          ∙ ap (λ items. zip items (map (item_at_place new) all)) (items_in RowMajor old)
-          ∙ ap (zip (row_major_items old)) (items_in RowMajor (changed old new)) in
-          record {
-            pairs = map both places;
-            each_once = subst (IsPermutation (map both places)) pairs (IsPermutation-map both places all has.each_once);
-            last = has.run.ran.last;
-            calls = subst (λ pairs. FoldsTo (Makes call) f pairs has.run.ran.last)
-                (zip_of_maps (item_at_place old.items) (item_at_place new) places) has.run.ran.calls;
-          }
+      -- the indices that the calls are made at
+      all_places : AreMoved old.view places
+      all_places = all_moved old.view places has.each_once
+
+      these : given ≡ map (item_at_place old.items) (map (place_at old.view) all_places.indices)
+      these = ap (map (item_at_place old.items)) all_places.are
+
+      pub some_order : CallsMakeArrayInSomeOrder call f old (changed old new)
+      some_order = made_in_some_order old new all_places.indices all_places.once all_places.are call old refl these has.run
 
       pub spare : KeepsSpare old (changed old new)
-      spare place none = has.run.others place (λ here. none (Contains-permutation places all (pos place) has.each_once here))
+      spare = all_spare old new all_places.indices all_places.once all_places.are call old refl these has.run
 
       pub mapped : (h : T → T) → ActsAsAtMut g f h
           → HasItemsOf (λ index. option_map h (item_at old index)) old (changed old new)
       mapped h acts =
-          let all_made : made ≡ map (option_map h) given =
-          acted call h (λ x y f' called. acts x tt f' y called) given made f has.run.ran.last refl as_many has.run.ran.calls in
-          let same : made ≡ map (λ z. option_map h (item_at_place old.items z)) places =
-          all_made ∙ map-map (option_map h) (item_at_place old.items) places in
-          record {
-            view = refl;
-            items = λ index here.
-                item_of_index (changed old new) index here
-                ∙ same_at (item_at_place new) (λ z. option_map h (item_at_place old.items z)) places same (listed index here)
-                ∙ ap (option_map h) (sym (item_of_index old index here));
-            spare = spare;
-          }
+          all_mapped old new all_places.indices all_places.once all_places.are call old refl these has.run h
+          (λ x y f' called. acts x tt f' y called)
 
       -- each index has an item
       there : (index : List ℕ) → is_index old.view.shape index ≡ true → item_at old index ≡ None → ⊥

@@ -41,7 +41,7 @@ module _ {T : Type 0} (items : List T) (row : Row) (begun end there : ℕ) (orde
   abbrev left : Row
   left = record { start = there; stride = row.stride; len = end - begun }
 
-  of_left : (P : ℤ → Type 0) → All P (row_places row.start row.stride row.len) → All P (row_places there row.stride (end - begun))
+  pub of_left : (P : ℤ → Type 0) → All P (row_places row.start row.stride row.len) → All P (row_places there row.stride (end - begun))
   of_left P all = subst (All P) (places_left row.start there row.stride row.len begun end ordered within at)
       (All-take P (end - begun) (drop begun (row_places row.start row.stride row.len))
       (All-drop P begun (row_places row.start row.stride row.len) all))

@@ -85,7 +85,8 @@ rows_beside items (row ∷ rows) [] same = absurd (omega (arith, ap length same)
 rows_beside items (row ∷ rows) (other ∷ others) same =
     (ap (λ lens. get_or lens 0 0) same, rows_beside items rows others (ap (drop 1) same))
 
-pub rows_alike : {T : Type 0} (own items : List T) (rows others : List Row) → map (λ row. row.len) rows ≡ map (λ row. row.len) others
+pub rows_alike : {T U : Type 0} (own : List T) (items : List U) (rows others : List Row)
+    → map (λ row. row.len) rows ≡ map (λ row. row.len) others
     → AllZip (λ row other. row.row.len ≡ other.row.len) (map (row_of own) rows) (map (row_of items) others)
 rows_alike own items [] [] same = tt
 rows_alike own items [] (other ∷ others) same = absurd (omega (arith, ap length same))

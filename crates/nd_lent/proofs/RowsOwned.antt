@@ -3,18 +3,15 @@ use Rattle.std.proofs.Common.{◌≡◌, ◌≢◌, ℕ, ◌+◌, ◌<◌, ◌^�
 use Rattle.std.proofs.Common.{sym, ap, subst, arith}
 use Rattle.std.specs.List.{All}
 use Rattle.std.proofs.lemmas.List.{get_or-append-add, length-append}
-use Rattle.std.proofs.lemmas.List.Elements.{All-head, All-map, All-tail, All-weaker}
+use Rattle.std.proofs.lemmas.List.Elements.{All-head, All-tail}
 use Rattle.ndarray_layout.specs.declared.Order.{Order}
 use Rattle.ndarray_layout.specs.declared.Row.{Row}
 use Rattle.ndarray_layout.specs.Bounds.{IsInBounds}
-use Rattle.ndarray_layout.specs.Indices.{indices_in, is_index}
 use Rattle.ndarray_layout.specs.Rows.{row_places, rows_places}
-use Rattle.ndarray_layout.specs.View.{IsView, View, place_at, view_places}
-use Rattle.ndarray_layout.proofs.Laws.DistinctPlaces.{AllPairs-view_places}
-use Rattle.ndarray_layout.proofs.Laws.Indices.{All-indices_in}
+use Rattle.ndarray_layout.specs.View.{IsView, View, view_places}
 use Rattle.ndarray_layout.proofs.Laws.Rows.{All-first_row, get_or-row_places, length-row_places, places_fit}
 use Rattle.nd_lent.specs.Own.{AreOwn}
-use Rattle.nd_lent.specs.Part.{IsPart, has_mark}
+use Rattle.nd_lent.specs.Part.{has_mark}
 use Rattle.nd_lent.specs.private.OwnedRows.{OwnsEachRow, OwnsRow}
 use Rattle.nd_lent.proofs.Laws.Lists.{all_first, pairs_first, pairs_second}
 use Rattle.nd_lent.proofs.Laws.RowItems.{begins, coordinate_in_bounds}
@@ -54,17 +51,7 @@ module _ {marks : List Bool} {row : Row} {rows : List Row} (owns : OwnsEachRow m
     own = second_own (row_places row.start row.stride row.len) (rows_places rows) owns.own;
   }
 
--- ---- the places of a part, in any order
-own_in_order : (order : Order) (marks : List Bool) (view : View) → IsPart marks view → AreOwn marks (view_places order view)
-own_in_order order marks view part =
-    let indices = indices_in order view.shape in
-    record {
-      marked = All-map (λ place. has_mark marks place ≡ true) (place_at view) indices
-          (All-weaker (λ index. is_index view.shape index ≡ true) (λ index. has_mark marks (place_at view index) ≡ true) part.marked
-          indices (All-indices_in order view.shape));
-      apart = AllPairs-view_places order view part.distinct;
-    }
-
+-- ---- the places of a view, in an order
 pub rows_of_own : (order : Order) (marks : List Bool) (view : View) (rows : List Row) → IsView view
     → AreOwn marks (view_places order view) → rows_places rows ≡ view_places order view → OwnsEachRow marks rows
 rows_of_own order marks view rows is own are = record {
@@ -72,10 +59,6 @@ rows_of_own order marks view rows is own are = record {
   fit = subst (All (IsInBounds (2 ^ 63))) (sym are) (places_fit order is);
   own = subst (AreOwn marks) (sym are) own;
 }
-
-pub rows_of_part : (order : Order) (marks : List Bool) (view : View) (rows : List Row) → IsPart marks view
-    → rows_places rows ≡ view_places order view → OwnsEachRow marks rows
-rows_of_part order marks view rows part are = rows_of_own order marks view rows part.is_view (own_in_order order marks view part) are
 
 -- ---- a coordinate of a row, and its place
 pub record IsPlaceOfRow (marks : List Bool) (row : Row) (coordinate : ℕ) : Type 0 where

@@ -1,4 +1,4 @@
--- A part whose places follow one another: each has a mark.
+-- A view whose places follow one another, where each has a mark.
 use Rattle.std.proofs.Common.{◌≡◌, ℕ, zero, suc, ◌+◌, ◌-◌, ◌<◌, ◌≤◌, ℤ, pos, negsuc, Bool, true, false, List, [], ◌∷◌, length}
 use Rattle.std.proofs.Common.{eqb, get_or, refl, sym, ap, subst, ◌∙◌, arith}
 use Rattle.std.specs.Prelude.{IsTrue}
@@ -12,7 +12,7 @@ use Rattle.ndarray_layout.specs.View.{View, LiesWithin, place_at}
 use Rattle.ndarray_layout.proofs.Laws.FlatIndex.{flat_index_in-index_of_flat_in, is_index-index_of_flat_in}
 use Rattle.ndarray_layout.proofs.Laws.Stretch.{place_in_stretch, stretch_in_bounds}
 use Rattle.nd_lent.specs.Cells.{are_within, span_of}
-use Rattle.nd_lent.specs.Part.{has_mark, IsPart}
+use Rattle.nd_lent.specs.Part.{has_mark, AreMarked}
 
 -- a place that has a mark is one of those that may have one
 pub mark_in_bounds : (marks : List Bool) (place : ℕ) → get_or marks place false ≡ true → place < length marks
@@ -36,9 +36,9 @@ span_within zero (suc len) (true ∷ marks) h = span_within zero len marks (λ k
 span_within zero (suc len) (false ∷ marks) h =
     absurd (false≢true (h 0 0 (let less : 0 < suc len = omega arith in less) (let first : zero + 0 ≡ 0 = omega arith in first)))
 
-module _ (marks : List Bool) (view : View) (part : IsPart marks view) (stretch : IsStretch RowMajor view) where
+module _ (marks : List Bool) (view : View) (part : AreMarked marks view) (stretch : IsStretch RowMajor view) where
   within : LiesWithin (length marks) view
-  within index here = marked_in_bounds marks (place_at view index) (part.marked index here)
+  within index here = marked_in_bounds marks (place_at view index) (part index here)
 
   fits : stretch_start view + size view.shape ≤ length marks
   fits = stretch_in_bounds RowMajor view (length marks) stretch within
@@ -53,11 +53,11 @@ module _ (marks : List Bool) (view : View) (part : IsPart marks view) (stretch :
       let first : stretch_start view ≡ view.start =
       cond-false {A = ℕ} (eqb (size view.shape) 0) 0 view.start (ne_eqb (size view.shape) 0 some) in
       subst (λ (at : ℕ). get_or marks (at + k) false ≡ true) (sym first)
-      (subst (λ (at : ℤ). has_mark marks at ≡ true) place (part.marked index here))
+      (subst (λ (at : ℤ). has_mark marks at ≡ true) place (part index here))
 
-  pub span_is_part : (start end : ℕ) → start ≡ stretch_start view → end ≡ stretch_start view + size view.shape
+  pub span_marked : (start end : ℕ) → start ≡ stretch_start view → end ≡ stretch_start view + size view.shape
       → IsTrue (are_within (span_of start (end - start) marks) marks) × (start + (end - start) ≤ length marks)
-  span_is_part start end from to =
+  span_marked start end from to =
       let many : size view.shape ≡ end - start = omega arith in (
         subst (λ (n : ℕ). are_within (span_of start n marks) marks ≡ true) many
             (span_within start (size view.shape) marks

@@ -1,26 +1,51 @@
 -- Slices of a part that share no place: each is a part of what the ones before it leave.
-use Rattle.std.proofs.Common.{◌≡◌, ℕ, Bool, None, List, [], ◌∷◌, ◌++◌, length, get_or, map, append_assoc}
-use Rattle.std.proofs.Common.{sym, subst, ap, ◌∙◌}
-use Rattle.std.specs.List.{All}
+use Rattle.std.proofs.Common.{◌≡◌, ℕ, Bool, Option, Some, None, List, [], ◌∷◌, ◌++◌, length, get_or, map, append_assoc}
+use Rattle.std.proofs.Common.{sym, subst, ap, arith, ◌∙◌}
+use Rattle.std.specs.List.{All, AllPairs}
+use Rattle.std.specs.Prelude.{MatchOption}
 use Rattle.std.proofs.lemmas.List.{map-append}
 use Rattle.std.proofs.lemmas.List.Elements.{All-head, All-tail}
+use Rattle.ndarray_layout.specs.declared.ErrorKind.{ErrorKind}
 use Rattle.ndarray_layout.specs.declared.Fit.TheVariants.{Strict}
 use Rattle.ndarray_layout.specs.declared.SliceInfoElem.{SliceInfoElem}
 use Rattle.ndarray_layout.specs.Descends.{Descends}
 use Rattle.ndarray_layout.specs.DistinctPlaces.{HasDistinctPlaces}
-use Rattle.ndarray_layout.specs.IntersectingPair.{slices_fault}
+use Rattle.ndarray_layout.specs.IntersectingPair.{AreApart, slices_fault}
 use Rattle.ndarray_layout.specs.SharePlace.{SharePlace}
 use Rattle.ndarray_layout.specs.SlicedView.{slice_of}
 use Rattle.ndarray_layout.specs.SlicesSharePlace.{SlicesSharePlace}
-use Rattle.ndarray_layout.specs.View.{View}
+use Rattle.ndarray_layout.specs.View.{View, IsView}
+use Rattle.ndarray_layout.proofs.Laws.SharePlace.{intersect_of_shared_place}
 use Rattle.ndarray_layout.proofs.Laws.SlicedView.{Descends-slice_of}
 use Rattle.nd_lent.specs.Items.{ArrayValue}
 use Rattle.nd_lent.proofs.Laws.Faults.{slices_fit}
 use Rattle.nd_lent.proofs.Laws.Lists.{pairs_head, pairs_tail}
 use Rattle.nd_lent.specs.Cells.{without}
 use Rattle.nd_lent.specs.Part.{AreMarked, IsPart, marks_of}
-use Rattle.nd_lent.specs.Slices.{AreApartInPlace}
+use Rattle.nd_lent.specs.Slices.{AreApartInPlace, IsFaultOfSlices, IsSharingFault, view_slices_fault}
 use Rattle.nd_lent.proofs.Laws.Marks.{marked_step, part_of_others, part_of_own}
+
+-- the error of slices is that of the first one with an error
+pub fault_of_first : (count : Option ℕ) (shape : List ℕ) (slices : List (List SliceInfoElem)) {kind : ErrorKind}
+    (fault : Option ErrorKind) → view_slices_fault Strict count shape slices ≡ Some kind → fault ≡ Some kind
+    → IsFaultOfSlices count shape slices fault
+fault_of_first count shape slices fault first same =
+    subst (λ f. MatchOption f (IsSharingFault shape slices fault) (λ kind. fault ≡ Some kind)) (sym first) same
+
+-- of those without one it is that of two that share an index
+pub fault_of_sharing : (count : Option ℕ) (shape : List ℕ) (slices : List (List SliceInfoElem)) (fault : Option ErrorKind)
+    → view_slices_fault Strict count shape slices ≡ None → IsSharingFault shape slices fault → IsFaultOfSlices count shape slices fault
+fault_of_sharing count shape slices fault none sharing =
+    subst (λ f. MatchOption f (IsSharingFault shape slices fault) (λ kind. fault ≡ Some kind)) (sym none) sharing
+
+-- slices that share no index share no place
+pub apart_in_place : {view : View} (slices : List (List SliceInfoElem)) → IsView view → HasDistinctPlaces view
+    → slices_fault Strict view.shape slices ≡ None → AllPairs (AreApart Strict view.shape) slices → AreApartInPlace view slices
+apart_in_place {view} slices v distinct none apart = λ i j d earlier below shared.
+    let fit = slices_fit view.shape slices none in
+    apart i j d earlier below
+    (intersect_of_shared_place Strict (get_or slices i d) (get_or slices j d) v (fit i d (omega (arith, earlier, below))) (fit j d below)
+    distinct shared)
 
 -- each place of the slices that are left has a mark, and no two of these share one
 pub record AreLeft (marks : List Bool) (view : View) (slices : List (List SliceInfoElem)) : Type 0 where

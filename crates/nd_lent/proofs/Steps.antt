@@ -6,7 +6,8 @@ use Rattle.ndarray_layout.specs.View.{View}
 use Rattle.nd_lent.specs.ArrayOfStep.{IsArrayOfStep, ShowsItemsOf}
 use Rattle.nd_lent.specs.Items.{ArrayValue, item_at_place}
 
-shown : {T : Type 0} (items : List T) {source : List ℕ → List ℕ} {old new : View} → Descends source old new
+-- each index of the view shows the item of its source
+pub shown : {T : Type 0} (items : List T) {source : List ℕ → List ℕ} {old new : View} → Descends source old new
     → ShowsItemsOf source (record { items = items; view = old }) (record { items = items; view = new })
 shown items kept = record {
   items = refl;

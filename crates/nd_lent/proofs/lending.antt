@@ -1,6 +1,5 @@
 pub mod CellLends
 pub mod Crosses
-pub mod Handed
 pub mod Held
 pub mod HeldReader
 pub mod HeldSlot

@@ -6,13 +6,13 @@ use Rattle.ndarray_layout.specs.View.{view_places}
 use Rattle.nd_lent.specs.Items.{ArrayValue, item_at_place}
 
 -- there are two items, and they are equal
-abbrev pub both_equal : {T : Type 0} → (T → T → Bool) → Option T → Option T → Bool
+abbrev pub both_equal : {T U : Type 0} → (T → U → Bool) → Option T → Option U → Bool
 both_equal eq (Some x) (Some y) = eq x y
 both_equal eq (Some x) None = false
 both_equal eq None other = false
 
 -- the shapes are equal, and so is each item to that at the same index
-abbrev pub are_equal : {T : Type 0} → (T → T → Bool) → ArrayValue T → ArrayValue T → Bool
+abbrev pub are_equal : {T U : Type 0} → (T → U → Bool) → ArrayValue T → ArrayValue U → Bool
 are_equal eq one other = pointwise nat_eq one.view.shape other.view.shape
     && pointwise (both_equal eq) (map (item_at_place one.items) (view_places RowMajor one.view))
     (map (item_at_place other.items) (view_places RowMajor other.view))

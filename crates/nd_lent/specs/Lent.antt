@@ -1,7 +1,7 @@
 -- What a contract sees of a part.
 use Rattle.nd_lent.specs.Items.{ArrayValue}
-use Rattle.nd_lent.specs.declared.part.PartMut.{PartMut}
+use Rattle.nd_lent.specs.declared.array_view_mut.ArrayViewMut.{ArrayViewMut}
 
 -- all items as they were when the parts were made, but those of the part as they stand, and the view
-abbrev pub array_of : {T D : Type 0} {lens count eq text at : _} → PartMut T D lens count eq text at → ArrayValue T
+abbrev pub array_of : {T D : Type 0} {lens count eq text at : _} → ArrayViewMut T D lens count eq text at → ArrayValue T
 array_of part = record { items = part.cells.items; view = part.view }

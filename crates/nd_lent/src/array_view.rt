@@ -9,8 +9,13 @@ ghost use Rattle.ndarray_layout.specs.Stretch.{IsStretch};
 ghost use Rattle.ndarray_layout.specs.View.{view_places};
 ghost use Rattle.nd_lent.specs.ArrayView.{HasItems};
 ghost use Rattle.nd_lent.specs.Items.{item_at, item_at_place};
+ghost use Rattle.nd_lent.specs.Read.{IsRead};
 
+mod axis_chunks;
+mod axis_iter;
+mod blocks_iter;
 mod comparing;
+mod copying;
 mod extremes;
 mod folding;
 mod into_rows;
@@ -25,6 +30,11 @@ mod summing;
 mod totals;
 mod view_iter;
 
+use crate::cells::Reader;
+pub use axis_chunks::AxisChunksIter;
+pub use axis_iter::AxisIter;
+pub use blocks_iter::BlocksIter;
+pub use comparing::EqualTo;
 pub use into_rows::IntoRows;
 pub use iterating::Iter;
 use ndarray_layout::{Lengths, NdIndex, Order, Strided};
@@ -38,26 +48,26 @@ pub use totals::Unsigned;
 pub use view_iter::ViewIter;
 
 /// Items of any type that are kept elsewhere and lent, with a view that has a place among them for each index. Two indices
-/// may have one item, as after a broadcast. Items at no place of the view are spare ones, and no call shows them but
-/// `stored`. ndarray's `ArrayView`.
+/// may have one item, as after a broadcast. Items at no place of the view are spare ones, and no call reads them.
+/// ndarray's `ArrayView`.
 ///
 /// In the examples `a` is `[2]` with the stride `[-1]` over 7 8 9: (0) is 8, (1) is 7, and 9 is spare.
 #[derive(Drop)]
 pub struct ArrayView<'a, T, D: Lengths> {
-    items: &'a [T],
+    reader: Reader<'a, T>,
     view: Strided<D>,
 }
 
 impl<'a, T, D: Lengths> Model for ArrayView<'a, T, D> {
     ghost use Rattle.std.specs.Prelude.{length};
     ghost use Rattle.nd_lent.specs.Items.{ArrayValue};
-    ghost use Rattle.nd_lent.specs.ArrayView.{HasItems};
+    ghost use Rattle.nd_lent.specs.Read.{IsRead};
 
     ghost Value = { ArrayValue T };
 
-    ghost view = { λ a. record { items = a.items.now; view = a.view } };
+    ghost view = { λ a. record { items = a.reader.items; view = a.view } };
 
-    ghost invariant = { λ a. HasItems (length a.items.now) a.view };
+    ghost invariant = { λ a. IsRead a.reader.marks (length a.reader.items) a.view };
 }
 
 impl<'a, T, D: Lengths> ArrayView<'a, T, D> {
@@ -96,15 +106,13 @@ impl<'a, T, D: Lengths> ArrayView<'a, T, D> {
         self.view.is_empty()
     }
 
-    /// All items as they are stored, spare ones too.
-    ///
-    /// `a.stored()` is 7 8 9. ndarray's `as_slice_memory_order`, where no item is spare.
+    /// The items, to be read by their places: each index of the view has one.
     #[inline]
-    pub fn stored(&self) -> &'a [T]
-        ensures items { result.now ≡ self.now.items }
-        ensures has_items { HasItems (length self.now.items) self.now.view }
+    pub(crate) fn reader(&self) -> Reader<'_, T>
+        ensures items { result.items ≡ self.now.items }
+        ensures read { IsRead result.marks (length result.items) self.now.view }
     {
-        self.items
+        self.reader.lent()
     }
 
     /// The items as a slice, where their places follow one another in row-major order; else `None`.
@@ -119,8 +127,7 @@ impl<'a, T, D: Lengths> ArrayView<'a, T, D> {
             map (item_at_place self.now.items) (view_places RowMajor self.now.view)) }
     {
         let places = self.view.stretch(Order::RowMajor)?;
-        let items = self.items;
-        Some(&items[places.start..places.end])
+        Some(self.reader.slice(places.start, places.end - places.start))
     }
 
     /// The item of an index; `None` where it is no index of the shape.
@@ -133,8 +140,7 @@ impl<'a, T, D: Lengths> ArrayView<'a, T, D> {
         ensures item { option_copied result ≡ item_at self.now (I.index_list index.now) }
     {
         let place = self.view.place(index)?;
-        let items = self.items;
-        Some(&items[place])
+        Some(self.reader.get(place))
     }
 
     /// An array that lends the same items, with a shape and strides of its own.
@@ -150,7 +156,7 @@ impl<'a, T, D: Lengths> ArrayView<'a, T, D> {
     {
         let view = self.view.duplicate(alloc)?;
         Ok(ArrayView {
-            items: self.items,
+            reader: self.reader.copied(),
             view,
         })
     }

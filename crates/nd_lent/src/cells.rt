@@ -4,8 +4,7 @@ ghost use Rattle.std.specs.Prelude.{get_or, slice_get, take, drop, replicate};
 ghost use Rattle.std.specs.Borrow.{sem};
 ghost use base.Fml.{GName};
 ghost use denote.Array.{Array};
-ghost use denote.Follow.{follows, follows_both};
-ghost use Rattle.nd_lent.specs.Items.{IsOwned};
+ghost use denote.Follow.{follows_both};
 ghost use Rattle.nd_lent.specs.Part.{IsPart};
 ghost use Rattle.nd_lent.specs.Cells.{are_within, chosen_of, holds_cells, shows_cells, span_of, without, written_at};
 ghost use Rattle.nd_lent.specs.Reader.{reads_cells};
@@ -16,7 +15,7 @@ mod swapping;
 mod taken;
 mod whole;
 
-use crate::part::PartMut;
+use crate::array_view_mut::ArrayViewMut;
 use ndarray_layout::{Lengths, Strided};
 pub use rest::Rest;
 use std::marker::{Model, PhantomData, Send, Sync};
@@ -50,6 +49,19 @@ unsafe impl<T: Sync> Sync for Cells<'_, T> {}
 impl<'a, T> Cells<'a, T> {
     ghost use Rattle.nd_lent.specs.LendingCells.{LendsCell};
 
+    /// The right to all elements of a slice, under the name of its reference.
+    ///
+    /// Of 7 8 9: each of them. The project's own.
+    pub(crate) fn all_of(items: &'a mut [T]) -> Self
+        ensures all { (result.name ≡ items.entry.ghost_name) × (result.items ≡ items.old)
+            × (result.marks ≡ replicate (length items.old) true) }
+    {
+        Cells {
+            first: items.as_mut_ptr(),
+            mark: PhantomData,
+        }
+    }
+
     /// The element at a place, counted in elements from the first of the slice, to be read. The caller ensures that it has a mark.
     ///
     /// Of 7 8 9, place 1 is 8. The project's own.
@@ -64,7 +76,8 @@ impl<'a, T> Cells<'a, T> {
     ///
     /// Of 7 8 9 with the first and third marked: 7 and 9. The project's own.
     pub(crate) fn shared(&self) -> Reader<'_, T>
-        ensures all { (result.items ≡ self.now.items) × (result.marks ≡ self.now.marks) }
+        ensures all { (result.items ≡ self.now.items) × (result.marks ≡ self.now.marks)
+            × (length self.now.items ≡ length self.now.marks) }
     {
         Reader {
             first: self.first,
@@ -170,28 +183,8 @@ impl<'s, T> Reader<'s, T> {
     }
 }
 
-impl<'a, T, D: Lengths> PartMut<'a, T, D> {
+impl<'a, T, D: Lengths> ArrayViewMut<'a, T, D> {
     ghost use Rattle.nd_lent.specs.LendsItem.{LendsItem, LendsItems};
-    ghost use Rattle.nd_lent.specs.Lent.{array_of};
-
-    /// The part of all indices of a view. The caller ensures that each index has an item to itself, as `Strided::from_shape`, `new` and
-    /// `from_parts` check it in owned mode; `over` checks it. Once the part and all that is made of it are gone, the items are what they
-    /// hold. Takes no memory.
-    ///
-    /// `[2]`, `[-1]` from 1 over 7 8 9: (0) is 8, (1) is 7, and 9 is no part of it. The project's own.
-    pub fn new(view: Strided<D>, items: &'a mut [T]) -> Self
-        requires { IsOwned (length items.old) view }
-        ensures* writes_back { sem 𝓛 (follows (Array T.row 0) (Array T.row 0) items.entry.ghost_name result.cells.name (λ ws. ws)) }
-        ensures array { ((array_of result).items ≡ items.old) × ((array_of result).view ≡ view) }
-    {
-        PartMut {
-            cells: Cells {
-                first: items.as_mut_ptr(),
-                mark: PhantomData,
-            },
-            view,
-        }
-    }
 
     /// The element at a place, counted in elements from the first of the slice. The caller ensures that it has a mark.
     ///
@@ -208,12 +201,12 @@ impl<'a, T, D: Lengths> PartMut<'a, T, D> {
     /// mark.
     ///
     /// `[2]` from 1 of 7 8 9: 8 and 9. The project's own.
-    pub(crate) fn borrowed<E: Lengths>(&mut self, view: Strided<E>) -> PartMut<'_, T, E>
+    pub(crate) fn borrowed<E: Lengths>(&mut self, view: Strided<E>) -> ArrayViewMut<'_, T, E>
         requires { IsPart self.old.cells.marks view }
         ensures* writes_back { sem 𝓛 (LendsItems T.row D.row self.entry result.cells.name) }
         ensures all { (result.cells.items ≡ self.old.cells.items) × (result.cells.marks ≡ self.old.cells.marks) × (result.view ≡ view) }
     {
-        PartMut {
+        ArrayViewMut {
             cells: Cells {
                 first: self.cells.first,
                 mark: PhantomData,

@@ -1,7 +1,7 @@
 //! The item of an index that the caller shows to be one of the shape.
 ghost use Rattle.std.specs.Prelude.{◌≡◌, Some, IsTrue};
 ghost use Rattle.ndarray_layout.specs.Indices.{is_index};
-ghost use Rattle.nd_lent.specs.Lender.{array_of};
+ghost use Rattle.nd_lent.specs.Lent.{array_of};
 ghost use Rattle.nd_lent.specs.Items.{item_at};
 
 use crate::array_view::ArrayView;

@@ -6,9 +6,14 @@ mod array_view_mut;
 mod cells;
 mod indexing;
 pub(crate) mod nearest;
-mod part;
+mod split_views;
 
-pub use array_view::{ArrayView, IntoRows, Iter, LentRow, LentRows, RowItems, Unsigned, ViewIter};
-pub use array_view_mut::{ArrayViewMut, SplitViews};
+pub use array_view::{
+    ArrayView, AxisChunksIter, AxisIter, BlocksIter, EqualTo, IntoRows, Iter, LentRow, LentRows,
+    RowItems, Unsigned, ViewIter,
+};
+pub use array_view_mut::{
+    ArrayViewMut, AxisChunksIterMut, AxisIterMut, IterMut, LanesMut, SliceParts, TilesMut,
+};
 pub use cells::{Rest, Taken, Whole};
-pub use part::{PartItems, PartIter, PartMut, PartRows};
+pub use split_views::SplitViews;

@@ -1,7 +1,10 @@
 pub mod EvenRows
 pub mod Faults
+pub mod Moved
+pub mod MovedRows
 pub mod Placed
 pub mod RowPlaces
 pub mod Slices
+pub mod Tiles
 pub mod ViewRows
 pub mod Laws

@@ -1,3 +1,4 @@
+pub mod Moved
 pub mod MultiSet
 pub mod Owned
 pub mod private
@@ -7,11 +8,12 @@ pub use Rattle.nd_lent.specs.HasItems
 pub use Rattle.nd_lent.specs.Equal
 pub use Rattle.nd_lent.specs.Extremes
 pub use Rattle.nd_lent.specs.Items
-pub use Rattle.nd_lent.specs.Lender
 pub use Rattle.nd_lent.specs.Lending
 pub use Rattle.nd_lent.specs.Lent
 pub use Rattle.nd_lent.specs.LentRow
 pub use Rattle.nd_lent.specs.Mapped
+pub use Rattle.nd_lent.specs.Part
+pub use Rattle.nd_lent.specs.Rights
 pub use Rattle.nd_lent.specs.Slices
 pub use Rattle.nd_lent.specs.SplitItems
 pub use Rattle.nd_lent.specs.Written

@@ -1,3 +1,4 @@
 pub mod PickedView
 pub mod EvenRows
+pub mod MovedRows
 pub mod Written

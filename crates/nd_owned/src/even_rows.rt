@@ -62,7 +62,7 @@ impl EvenRows {
 
 /// The place at an offset from another one.
 #[inline(always)]
-fn place_at(start: usize, offset: isize) -> usize
+pub(crate) fn place_at(start: usize, offset: isize) -> usize
     requires first { start ≤ limit }
     requires there { IsPlace (pos start +ℤ offset) }
     ensures { pos result ≡ pos start +ℤ offset }

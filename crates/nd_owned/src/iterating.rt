@@ -10,7 +10,7 @@ ghost use Rattle.nd_lent.specs.Items.{IsOwned, item_at_place};
 
 use crate::owned::OwnedArray;
 use nd_lent::Iter;
-use ndarray_layout::{Lengths, Order};
+use ndarray_layout::Lengths;
 use std::iter::FusedIterator;
 use std::marker::Model;
 
@@ -83,7 +83,7 @@ impl<T: Copy, D: Lengths> OwnedArray<T, D> {
         ensures owned { IsOwned (length self.now.items) self.now.view }
     {
         Items {
-            lent: Iter::new(self.stored(), self.strided().iter_places(Order::RowMajor)),
+            lent: Iter::new(self.strided(), self.stored()),
         }
     }
 }

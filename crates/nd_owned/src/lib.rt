@@ -7,11 +7,14 @@ mod iterating;
 mod multi_set;
 mod owned;
 mod picked_view;
+mod ready;
 mod rows;
 
 pub use iterating::Items;
 pub use nd_lent::{
-    ArrayView, ArrayViewMut, IntoRows, Iter, LentRow, LentRows, PartItems, PartIter, PartMut,
-    PartRows, RowItems, SplitViews, Unsigned, ViewIter,
+    ArrayView, ArrayViewMut, AxisChunksIter, AxisChunksIterMut, AxisIter, AxisIterMut, BlocksIter,
+    EqualTo, IntoRows, Iter, IterMut, LanesMut, LentRow, LentRows, Rest, RowItems, SliceParts,
+    SplitViews, Taken, TilesMut, Unsigned, ViewIter, Whole,
 };
 pub use owned::OwnedArray;
+pub use ready::ReadySlice;

@@ -20,6 +20,7 @@ ghost use Rattle.nd_owned.specs.private.Written.{HasWritten};
 
 mod making;
 mod mapping;
+mod tiles;
 
 use crate::even_rows::even_rows_of;
 use crate::multi_set::{check_apart, check_counts, picked_by_write, picked_views, write_all};
@@ -56,7 +57,7 @@ impl<T, D: Lengths> Model for OwnedArray<T, D> {
 
 impl<T: Drop, D: Lengths> OwnedArray<T, D> {
     ghost use Rattle.nd_owned.specs.contracts.owned.OwnedArray.{the_row};
-    ghost use Rattle.nd_lent.specs.Lender.{array_of};
+    ghost use Rattle.nd_lent.specs.Lent.{array_of};
 
     /// The view: the shape, the strides and the place of the first index. Each place of it has an item, and no two indices
     /// alias.
@@ -199,8 +200,8 @@ impl<T: Drop, D: Lengths> OwnedArray<T, D> {
     ///
     /// Out of memory; never where the type fixes the count of axes or there are at most 4.
     ///
-    /// No clause says what the array is once the result is gone. A proof that needs it duplicates `view` first, and passes the
-    /// duplicate and `stored_mut` to a function that makes the lent array of the two, by `ArrayViewMut::new`.
+    /// No clause says what the array is once the result is gone. A proof that needs it duplicates the view of `strided` first, and
+    /// passes the duplicate and `stored_mut` to a function over a slice, which lends it by `Whole`.
     ///
     /// 5 at (1) of that of `a` makes it 5 8 9. ndarray's `view_mut`.
     pub fn try_view_mut(&mut self, alloc: Global) -> Result<ArrayViewMut<'_, T, D>, AllocError>

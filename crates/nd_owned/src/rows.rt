@@ -11,9 +11,10 @@ ghost use Rattle.ndarray_layout.specs.View.{LiesWithin, view_places};
 ghost use Rattle.nd_lent.specs.Items.{item_at_place};
 ghost use Rattle.nd_lent.specs.LentRow.{places_of};
 ghost use Rattle.nd_owned.specs.private.EvenRows.{even_rows};
+ghost use Rattle.nd_owned.specs.private.MovedRows.{CanMove, moved_row, moved_rows};
 ghost use Rattle.nd_owned.specs.private.Written.{AreInBounds, HasWritten};
 
-use crate::even_rows::EvenRows;
+use crate::even_rows::{EvenRows, place_at};
 use ndarray_layout::{Lengths, Order, Places, Row, Strided};
 use std::alloc::{AllocError, Global};
 
@@ -99,6 +100,59 @@ pub(crate) fn write_rows<T: Copy>(stored: &mut [T], rows: EvenRows, items: &[T])
     }
 }
 
+/// Copies of the items at the places of rows that lie at an offset from these, one row after another. The rows have `count` places.
+#[inline(always)]
+pub(crate) fn read_moved_rows<T: Copy>(
+    alloc: Global,
+    rows: &[Row],
+    offset: isize,
+    count: usize,
+    stored: &[T],
+) -> Result<Vec<T>, AllocError>
+    requires starts { All (CanMove offset) rows.now }
+    requires in_bounds { All (λ row. AreInBounds (length stored.now) (places_of row)) (moved_rows offset rows.now) }
+    requires count { count ≡ length (rows_places (moved_rows offset rows.now)) }
+    ensures items { IfOk result (λ v. map Some v.items
+        ≡ map (item_at_place stored.now) (rows_places (moved_rows offset rows.now))) }
+    ensures memory { count ≡ 0 → IsOk result }
+{
+    let mut items = Vec::with_capacity(alloc, count)?;
+    for row in rows {
+        items = push_row(items, stored, row_at_offset(*row, offset));
+    }
+    Ok(items)
+}
+
+/// Writes an item at each place of rows that lie at an offset from these, one row after another.
+#[inline(always)]
+pub(crate) fn write_moved_rows<T: Copy>(stored: &mut [T], rows: &[Row], offset: isize, items: &[T])
+    requires starts { All (CanMove offset) rows.now }
+    requires in_bounds { All (λ row. AreInBounds (length stored.old) (places_of row)) (moved_rows offset rows.now) }
+    requires count { length (rows_places (moved_rows offset rows.now)) ≡ length items.now }
+    ensures { AllPairs (λ one other. one ≢ other) (rows_places (moved_rows offset rows.now)) →
+        HasWritten (rows_places (moved_rows offset rows.now)) items.now stored.old stored.new }
+{
+    let mut left = items;
+    for row in rows {
+        let moved = row_at_offset(*row, offset);
+        let (these, others) = left.split_at(moved.len);
+        write_row(stored, moved, these);
+        left = others;
+    }
+}
+
+/// The row at an offset from another one.
+#[inline(always)]
+fn row_at_offset(row: Row, offset: isize) -> Row
+    requires { CanMove offset row }
+    ensures { result ≡ moved_row offset row }
+{
+    Row {
+        start: place_at(row.start, offset),
+        ..row
+    }
+}
+
 /// Appends the items at places to a list with room for them.
 #[inline(always)]
 fn read_places<T: Copy>(mut items: Vec<T>, stored: &[T], places: Places<'_>) -> Vec<T>
@@ -127,7 +181,7 @@ fn place_after(row: Row, place: usize) -> usize
     requires in_bounds { IsInBounds (2 ^ 63) (pos place +ℤ row.stride) }
     ensures { pos result ≡ pos place +ℤ row.stride }
 {
-    (place as isize + row.stride) as usize
+    place_at(place, row.stride)
 }
 
 /// Appends the items at the places of a row to a list with room for them. It stays a call, so that its loop keeps more in

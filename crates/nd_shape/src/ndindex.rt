@@ -218,6 +218,18 @@ impl NdIndex<IxDyn> for &[usize] {
     }
 }
 
+impl NdIndex<IxDyn> for Vec<usize> {
+    ghost index_list = { λ index. index.items };
+
+    fn index_checked(&self, dim: &IxDyn, strides: &IxDyn) -> Option<isize> {
+        stride_offset_checked(dim.slice(), strides.slice(), self.as_slice())
+    }
+
+    fn index_unchecked(&self, strides: &IxDyn) -> isize {
+        index_offset(self.as_slice(), strides.slice())
+    }
+}
+
 impl NdIndex<IxDyn> for &IxDyn {
     ghost index_list = { λ index. lengths index.now };
 

@@ -1,6 +1,7 @@
 -- What an index and the bounds of a slice mean on an axis.
-use Rattle.std.specs.Prelude.{◌≡◌, ℕ, zero, min, ℤ, pos, negsuc, ◌+ℤ◌, Bool, true, false, nat_le, nat_lt, Option, Some, None, refl}
+use Rattle.std.specs.Prelude.{◌≡◌, ℕ, zero, min, ℤ, pos, negsuc, ◌+ℤ◌, ◌-◌, Bool, true, false, nat_le, nat_lt, Option, Some, None, refl}
 use Rattle.std.specs.Option.{option_map_or}
+use Rattle.nd_base.specs.Size.{limit}
 use Rattle.nd_slice.specs.declared.fit.Fit.{Fit}
 use Rattle.nd_slice.specs.declared.fit.Fit.TheVariants.{Strict, Clamp}
 use Rattle.nd_slice.specs.declared.slice.Slice.{Slice}
@@ -47,6 +48,15 @@ abbrev pub end_after : ℤ → Option ℤ
 end_after (negsuc zero) = None
 end_after last = Some (last +ℤ pos 1)
 
+-- a bound that is counted from the first coordinate: at most the greatest isize, as is each length
+abbrev pub usize_bound : ℕ → ℤ
+usize_bound number = pos (min number limit)
+
+-- the last coordinate of a range that includes it: below the greatest isize, as each coordinate is
+abbrev pub last_bound : ℤ → ℤ
+last_bound (pos last) = pos (min last (limit - 1))
+last_bound (negsuc last) = negsuc last
+
 -- examples
 last_coordinate : meaning 4 (negsuc 0) ≡ pos 3
 last_coordinate = refl
@@ -86,3 +96,15 @@ last_but_one = refl
 
 counted_from_the_front : end_after (pos 4) ≡ Some (pos 5)
 counted_from_the_front = refl
+
+small_bound : usize_bound 4 ≡ pos 4
+small_bound = refl
+
+past_the_greatest : usize_bound 18446744073709551615 ≡ pos limit
+past_the_greatest = refl
+
+greatest_last : last_bound (pos limit) ≡ pos 9223372036854775806
+greatest_last = refl
+
+last_from_the_end : last_bound (negsuc 0) ≡ negsuc 0
+last_from_the_end = refl

@@ -3,8 +3,10 @@ ghost use Rattle.std.specs.Prelude.{◌≡◌};
 ghost use Rattle.nd_base.specs.Lengths.{IsCount};
 ghost use Rattle.nd_slice.specs.SliceFault.{in_count, out_count};
 
+use crate::elem::SliceInfoElem;
 use crate::elems::SliceElems;
 use crate::info::SliceInfo;
+use crate::slice_errors::{in_ndim_of, out_ndim_of};
 use nd_base::{Dim, FixedCount, IxDyn, Lengths};
 
 /// A slice argument for shapes of the type `D`. ndarray's `SliceArg`.
@@ -59,5 +61,20 @@ impl<T: SliceElems, Din: FixedCount, Dout: Lengths> SliceArg<IxDyn> for SliceInf
     #[inline]
     fn out_ndim(&self) -> usize {
         SliceInfo::out_ndim(self)
+    }
+}
+
+/// Bare elements, for any number of axes.
+impl SliceArg<IxDyn> for &[SliceInfoElem] {
+    type OutDim = IxDyn;
+
+    #[inline]
+    fn in_ndim(&self) -> usize {
+        in_ndim_of(*self)
+    }
+
+    #[inline]
+    fn out_ndim(&self) -> usize {
+        out_ndim_of(*self)
     }
 }

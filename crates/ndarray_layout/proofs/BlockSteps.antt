@@ -35,7 +35,7 @@ is_index-joined (len ∷ front) back (i ∷ index) inner here there =
     let parts = and_parts (nat_lt i len) (is_index front index) here in
     and_from (nat_lt i len) (is_index (front ++ back) (index ++ inner)) parts.0 (is_index-joined front back index inner parts.1 there)
 
-offset_of-append : (front back : List ℤ) (index : List ℕ) → length front ≤ length index
+pub offset_of-append : (front back : List ℤ) (index : List ℕ) → length front ≤ length index
     → offset_of (front ++ back) index ≡ offset_of front (take (length front) index) +ℤ offset_of back (drop (length front) index)
 offset_of-append [] back index long = omega (arith, ints)
 offset_of-append (stride ∷ front) back [] long = absurd (omega arith)

@@ -1,13 +1,14 @@
 -- How many blocks there are along each axis and the strides from one to the next, axis by axis, as a loop writes them.
 use borrow.Rule.Slice.PartMut.{put_mid}
 use Rattle.std.proofs.Common.{◌≡◌, ℕ, zero, suc, ◌+◌, ◌-◌, ◌*◌, ◌<◌, ◌≤◌, ℤ, pos, Bool, true, false, not, cond, eqb, Option, Some, None}
-use Rattle.std.proofs.Common.{List, [], ◌∷◌, ◌++◌, length, get_or, take, drop, refl, sym, ap, ◌∙◌, arith, drop_of_length-le, mul_assoc}
+use Rattle.std.proofs.Common.{List, [], ◌∷◌, ◌++◌, length, get_or, take, drop, replicate, refl, sym, ap, ◌∙◌, arith, drop_of_length-le}
+use Rattle.std.proofs.Common.{mul_assoc}
 use Rattle.std.specs.Prelude.{◌&&◌, ◌==◌, nat_lt}
 use Rattle.std.proofs.lemmas.List.{append-nil, ext_get_or, get_or-take, length-drop, length-take-le}
 use Rattle.nd_base.specs.declared.error.ErrorKind.{ErrorKind}
 use Rattle.nd_base.specs.declared.error.ErrorKind.TheVariants.{IncompatibleShape, Overflow, Unsupported}
 use Rattle.nd_base.specs.Elementwise.{elementwise}
-use Rattle.nd_base.proofs.Laws.Definitions.{is_empty, limit, nonzero_size}
+use Rattle.nd_base.proofs.Laws.Definitions.{all_signed, is_empty, limit, nonzero_size}
 use Rattle.ndarray_layout.specs.declared.strided.blocks.Blocks.{Blocks}
 use Rattle.ndarray_layout.specs.declared.strided.blocks.Blocks.TheVariants.{Windows, Chunks}
 use Rattle.ndarray_layout.specs.BlocksView.{blocks_fault, strides_along}
@@ -73,6 +74,11 @@ pub two_parts : {A : Type 0} (n : ℕ) (new back : List A) → put_mid n (length
 two_parts n new back =
     ap (λ rest. take n new ++ (back ++ rest)) (drop_of_length-le (drop n new) (omega (arith, length-drop n new)))
     ∙ ap (λ xs. take n new ++ xs) (append-nil back)
+
+-- strides of zeros
+pub zeros_read : (n : ℕ) → all_signed (replicate n 0) ≡ replicate n (pos 0)
+zeros_read zero = refl
+zeros_read (suc n) = ap (λ strides. pos 0 ∷ strides) (zeros_read n)
 
 -- ---- how many indices there are
 pub nonzero_size-append : (xs ys : List ℕ) → nonzero_size (xs ++ ys) ≡ nonzero_size xs * nonzero_size ys

@@ -1,5 +1,6 @@
 pub mod AcceptanceFrom
 pub mod ArgumentFits
+pub mod BlockStarts
 pub mod BlocksView
 pub mod BroadcastView
 pub mod ChunksView

@@ -2,6 +2,7 @@ pub mod AcceptedRule
 pub mod AlikeRows
 pub mod AxisByAxis
 pub mod BlockSteps
+pub mod BlocksLeft
 pub mod BlocksWritten
 pub mod BothEnds
 pub mod Broadcasts

@@ -5,6 +5,7 @@ use Rattle.std.specs.Option.{option_map_or}
 use Rattle.nd_base.specs.declared.error.ErrorKind.{ErrorKind}
 use Rattle.nd_base.specs.declared.error.ErrorKind.TheVariants.{IncompatibleShape, Overflow, Unsupported}
 use Rattle.nd_base.specs.Elementwise.{products, sums}
+use Rattle.nd_base.specs.Signed.{magnitude}
 use Rattle.nd_base.specs.Size.{is_empty, limit, nonzero_size}
 use Rattle.ndarray_layout.specs.View.{View}
 
@@ -27,6 +28,14 @@ blocks_of counts along block view = record {
   shape = counts ++ block;
   strides = strides_of_blocks (counts ++ block) (along ++ view.strides);
 }
+
+-- the view of the first index of each block: its indices are the numbers of the blocks. Without a block all strides are 0
+abbrev pub block_starts : List ℕ → List ℤ → View → View
+block_starts counts along view = record { start = view.start; shape = counts; strides = strides_of_blocks counts along }
+
+-- the block that begins at a place
+abbrev pub block_at : List ℕ → View → ℤ → View
+block_at block view place = record { start = magnitude place; shape = block; strides = view.strides }
 
 -- which index of the view an index in a block stands for, where the blocks lie at these steps: the number of the block times the step,
 -- and the index in it
@@ -51,6 +60,14 @@ pairs_of_four = refl
 no_block : blocks_of (0 ∷ []) (pos 1 ∷ []) (9 ∷ []) (record { start = 5; shape = 4 ∷ []; strides = pos 1 ∷ [] })
     ≡ record { start = 5; shape = 0 ∷ 9 ∷ []; strides = pos 0 ∷ pos 0 ∷ [] }
 no_block = refl
+
+starts_of_pairs : block_starts (3 ∷ []) (pos 1 ∷ []) (record { start = 5; shape = 4 ∷ []; strides = pos 1 ∷ [] })
+    ≡ record { start = 5; shape = 3 ∷ []; strides = pos 1 ∷ [] }
+starts_of_pairs = refl
+
+last_pair : block_at (2 ∷ []) (record { start = 5; shape = 4 ∷ []; strides = pos 1 ∷ [] }) (pos 7)
+    ≡ record { start = 7; shape = 2 ∷ []; strides = pos 1 ∷ [] }
+last_pair = refl
 
 second_of_third_pair : block_source (2 ∷ []) (2 ∷ 1 ∷ []) ≡ 5 ∷ []
 second_of_third_pair = refl

@@ -29,6 +29,7 @@ pub mod SplitView
 pub mod Step
 pub mod StepRule
 pub mod Stretch
+pub mod TypedView
 pub mod View
 pub mod WindowsView
 pub mod private

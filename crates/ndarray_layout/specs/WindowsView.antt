@@ -1,10 +1,11 @@
 -- What the windows of a view are: all blocks of one shape, each a step of 1 after the one before.
-use Rattle.std.specs.Prelude.{◌≡◌, ℕ, ◌+◌, ◌-◌, pos, negsuc, Option, Some, None, List, [], ◌∷◌, take, drop, refl}
+use Rattle.std.specs.Prelude.{◌≡◌, ℕ, ◌+◌, ◌-◌, pos, negsuc, Option, Some, None, List, [], ◌∷◌, map, take, drop, refl}
 use Rattle.nd_base.specs.declared.error.ErrorKind.{ErrorKind}
 use Rattle.nd_base.specs.declared.error.ErrorKind.TheVariants.{IncompatibleShape, Overflow, Unsupported}
+use Rattle.nd_base.specs.declared.order.Order.TheVariants.{RowMajor}
 use Rattle.nd_base.specs.Elementwise.{elementwise, sums}
-use Rattle.ndarray_layout.specs.BlocksView.{blocks_fault, blocks_of}
-use Rattle.ndarray_layout.specs.View.{View}
+use Rattle.ndarray_layout.specs.BlocksView.{block_at, block_starts, blocks_fault, blocks_of}
+use Rattle.ndarray_layout.specs.View.{View, view_places}
 
 -- how many windows of a length an axis has: none where the window is longer
 abbrev pub window_count : ℕ → ℕ → ℕ
@@ -17,6 +18,14 @@ window_counts shape window = elementwise window_count shape window
 -- the view of all windows of a shape: first the index of the window, then the index in it, both along the strides of the view
 abbrev pub windows_of : List ℕ → View → View
 windows_of window view = blocks_of (window_counts view.shape window) view.strides window view
+
+-- the view of the first index of each window, along the strides of the view
+abbrev pub window_starts_of : List ℕ → View → View
+window_starts_of window view = block_starts (window_counts view.shape window) view.strides view
+
+-- the windows, one from the place of each window's first index, in row-major order of these
+abbrev pub window_views : List ℕ → View → List View
+window_views window view = map (block_at window view) (view_places RowMajor (window_starts_of window view))
 
 -- which index of a view of so many axes an index in a window stands for: the index of the window and the index in it, added
 abbrev pub window_source : ℕ → List ℕ → List ℕ
@@ -35,9 +44,17 @@ squares_of_a_flipped_picture : windows_of (2 ∷ 2 ∷ []) (record { start = 12;
     ≡ record { start = 12; shape = 3 ∷ 2 ∷ 2 ∷ 2 ∷ []; strides = negsuc 3 ∷ pos 1 ∷ negsuc 3 ∷ pos 1 ∷ [] }
 squares_of_a_flipped_picture = refl
 
+starts_of_squares : window_starts_of (2 ∷ 2 ∷ []) (record { start = 12; shape = 4 ∷ 3 ∷ []; strides = negsuc 3 ∷ pos 1 ∷ [] })
+    ≡ record { start = 12; shape = 3 ∷ 2 ∷ []; strides = negsuc 3 ∷ pos 1 ∷ [] }
+starts_of_squares = refl
+
 whole : windows_of (4 ∷ []) (record { start = 0; shape = 4 ∷ []; strides = pos 1 ∷ [] })
     ≡ record { start = 0; shape = 1 ∷ 4 ∷ []; strides = pos 1 ∷ pos 1 ∷ [] }
 whole = refl
+
+each_pair_of_three : window_views (2 ∷ []) (record { start = 5; shape = 3 ∷ []; strides = negsuc 0 ∷ [] })
+    ≡ record { start = 5; shape = 2 ∷ []; strides = negsuc 0 ∷ [] } ∷ record { start = 4; shape = 2 ∷ []; strides = negsuc 0 ∷ [] } ∷ []
+each_pair_of_three = refl
 
 longer_than_the_axis : windows_of (2 ∷ 5 ∷ []) (record { start = 0; shape = 4 ∷ 3 ∷ []; strides = pos 3 ∷ pos 1 ∷ [] })
     ≡ record { start = 0; shape = 3 ∷ 0 ∷ 2 ∷ 5 ∷ []; strides = pos 0 ∷ pos 0 ∷ pos 0 ∷ pos 0 ∷ [] }

@@ -1,5 +1,6 @@
 //! Views of data: a shape and strides that were accepted, with the place of the first index.
 mod alike_rows;
+mod block_views;
 mod blocks;
 mod broadcasting;
 mod chunks;
@@ -29,8 +30,10 @@ mod rows;
 mod slicing;
 mod splitting;
 mod stretch;
+mod typing;
 mod windows;
 
+pub use block_views::BlockViews;
 pub use into_places::IntoPlaces;
 pub use into_rows::StridedRows;
 pub use iter_places::Places;

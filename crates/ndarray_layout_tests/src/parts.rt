@@ -1,5 +1,5 @@
 //! Parts of an array that are lent at once and written, as rows tell it.
-use nd_owned::{OwnedArray, PartMut};
+use nd_owned::{ArrayViewMut, OwnedArray};
 use ndarray_layout::{Axis, IxDyn, LayoutError, Lengths, SliceInfoElem};
 use std::alloc::Global;
 use test_tables::{Reading, Words, layout_fault_name};
@@ -22,7 +22,7 @@ fn picks(alloc: Global, words: &mut Words<'_>) -> Option<(Vec<Vec<SliceInfoElem>
 }
 
 /// Whether a part has an item, as it is read item by item.
-fn holds(part: &PartMut<'_, usize, IxDyn>, item: usize) -> bool {
+fn holds(part: &ArrayViewMut<'_, usize, IxDyn>, item: usize) -> bool {
     for other in part.iter() {
         if *other == item {
             return true;
@@ -32,7 +32,7 @@ fn holds(part: &PartMut<'_, usize, IxDyn>, item: usize) -> bool {
 }
 
 /// Whether the slice of a part has all of its items, or none is there, as of two items or more that don't follow one another.
-fn has_slice_of_all(part: &PartMut<'_, usize, IxDyn>) -> bool {
+fn has_slice_of_all(part: &ArrayViewMut<'_, usize, IxDyn>) -> bool {
     match part.as_slice() {
         Some(items) => items.len() == part.len(),
         None => part.len() > 1,
@@ -40,7 +40,7 @@ fn has_slice_of_all(part: &PartMut<'_, usize, IxDyn>) -> bool {
 }
 
 /// Whether this is an index of a part, whose item is replaced, and read then.
-fn is_placed(part: &mut PartMut<'_, usize, IxDyn>, placed: &Placed) -> bool {
+fn is_placed(part: &mut ArrayViewMut<'_, usize, IxDyn>, placed: &Placed) -> bool {
     let (index, item) = placed;
     let is_set = part.set(index, *item);
     match part.get(index) {
@@ -50,7 +50,7 @@ fn is_placed(part: &mut PartMut<'_, usize, IxDyn>, placed: &Placed) -> bool {
 }
 
 /// Whether each part has the index that is given for it, whose item is then replaced.
-fn are_placed(parts: Vec<PartMut<'_, usize, IxDyn>>, placed: &[Placed]) -> bool {
+fn are_placed(parts: Vec<ArrayViewMut<'_, usize, IxDyn>>, placed: &[Placed]) -> bool {
     let (mut placed, mut all) = (placed.iter(), true);
     for part in parts {
         let mut part = part;
@@ -70,7 +70,7 @@ fn written<D: Lengths>(
     placed: &[Placed],
 ) -> Result<bool, LayoutError> {
     let lent = array.try_view_mut(alloc)?;
-    Ok(are_placed(lent.multi_slice_mut(alloc, slices)?, placed))
+    Ok(are_placed(lent.multi_slice_move(alloc, slices)?, placed))
 }
 
 /// Whether the parts that slices pick are written so, or fail so, and these items are left.
@@ -97,7 +97,7 @@ fn halves_written<D: Lengths>(
     (second, another): (&D, usize),
 ) -> Result<bool, LayoutError> {
     let lent = array.try_view_mut(alloc)?;
-    let (mut one, mut other) = lent.into_part().split_at(alloc, Axis(axis), coordinate)?;
+    let (mut one, mut other) = lent.split_at(alloc, Axis(axis), coordinate)?;
     let is_set = one.set(first, item);
     Ok(other.set(second, another) && is_set)
 }

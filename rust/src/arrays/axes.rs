@@ -1,24 +1,14 @@
 //! The arrays along an axis, and the rows and columns of a matrix.
 
 use super::axis_iter::made_of_first_axis;
-use super::{AxisIter, check_axis};
+use super::check_axis;
 use crate::memory::FallibleVec;
-use crate::nd_base::{Axis, Ix1, Ix2, LayoutError, Lengths, new_ix1};
+use crate::nd_base::{Axis, Ix1, Ix2, LayoutError, Lengths};
 use crate::nd_dim::product;
 use crate::nd_shape::{StrideShape, Strides};
-use crate::ndarray_layout::{RemoveAxis, Strided};
-use crate::{ArrayView, ArrayViewMut, IntoRows, OwnedArray};
+use crate::ndarray_layout::RemoveAxis;
+use crate::{ArrayView, ArrayViewMut, AxisIter, IntoRows, OwnedArray};
 use alloc::vec::Vec;
-
-/// The row or the column of a matrix: the view at a coordinate of an axis. Errors: those of `Strided::index_axis`.
-pub(crate) fn line_of(view: &Strided<Ix2>, axis: usize, index: usize) -> Result<Strided<Ix1>, LayoutError> {
-    view.index_axis(Axis(axis), index)
-}
-
-/// An array of one axis that has no items.
-fn without_items<'a, T>() -> ArrayView<'a, T, Ix1> {
-    ArrayView { items: &[], view: Strided { start: 0, dim: new_ix1(0), strides: new_ix1(0) } }
-}
 
 /// The array of a shape of what a closure makes of rows, one for each index. Errors: those of `ArrayView::map_axis`.
 fn mapped_rows<'a, T, U, D: Lengths, S: Lengths>(
@@ -30,14 +20,14 @@ fn mapped_rows<'a, T, U, D: Lengths, S: Lengths>(
     let mut items = Vec::fallible_with_capacity(size)?;
     items.extend(rows.map(|row| f(row.into_array())));
     // rows without items aren't among them
-    items.extend((count..size).map(|_| f(without_items())));
+    items.extend((count..size).map(|_| f(ArrayView::from(&[][..]))));
     Ok(OwnedArray::from_shape_vec(StrideShape { dim, strides: Strides::C }, items)?)
 }
 
-/// The reads of one of the types of arrays along an axis: as `reads!`, with the type of the dimension.
+/// The reads of one of the types of arrays along an axis, by `of_each!`.
 macro_rules! axes {
-    ([$($axis_head:tt)*] [$($matrix_head:tt)*] $lent:lifetime $setup:expr) => {
-        $($axis_head)* {
+    ($array:ident [$($of:tt)*] $lent:lifetime $again:ident $setup:expr) => {
+        impl<$($of)* T, D: RemoveAxis> $array<$($of)* T, D> {
             /// An iterator over the arrays at the coordinates of an axis, without the axis. ndarray's `axis_iter`. Not proved.
             ///
             /// # Errors
@@ -54,7 +44,7 @@ macro_rules! axes {
             /// ```
             pub fn axis_iter(&self, axis: Axis) -> Result<AxisIter<$lent, T, D>, LayoutError> {
                 check_axis(self.shape(), axis)?;
-                Ok(AxisIter::new(ArrayView::new(self.strided().duplicate()?, self.stored()), axis))
+                Ok(self.$again()?.into_axis_iter(axis)?)
             }
 
             /// An iterator over the arrays at the coordinates of the first axis. ndarray's `outer_iter`. Not proved.
@@ -76,9 +66,7 @@ macro_rules! axes {
             pub fn outer_iter(&self) -> AxisIter<$lent, T, D> {
                 made_of_first_axis(self.axis_iter(Axis(0)))
             }
-        }
 
-        $($axis_head)* {
             /// What a closure makes of each row along an axis, as a new array without the axis, in row-major order. ndarray's
             /// `map_axis`. Not proved.
             ///
@@ -103,7 +91,7 @@ macro_rules! axes {
             }
         }
 
-        $($matrix_head)* {
+        impl<$($of)* T> $array<$($of)* T, Ix2> {
             /// The row of a number. ndarray's `row`. Not proved.
             ///
             /// # Errors
@@ -159,12 +147,7 @@ macro_rules! axes {
     };
 }
 
-axes!([impl<'a, T, D: RemoveAxis> ArrayView<'a, T, D>] [impl<'a, T> ArrayView<'a, T, Ix2>] 'a
-    "let array = ArrayView::from_shape(Ix2(2, 3).into(), &[1, 2, 3, 4, 5, 6])?;");
-axes!([impl<T, D: RemoveAxis> ArrayViewMut<'_, T, D>] [impl<T> ArrayViewMut<'_, T, Ix2>] '_
-    "let mut items = [1, 2, 3, 4, 5, 6];\nlet array = ArrayViewMut::from_shape(Ix2(2, 3).into(), &mut items)?;");
-axes!([impl<T, D: RemoveAxis> OwnedArray<T, D>] [impl<T> OwnedArray<T, Ix2>] '_
-    "let array = OwnedArray::from_shape_vec(Ix2(2, 3).into(), vec![1, 2, 3, 4, 5, 6])?;");
+of_each!(axes);
 
 impl<T, D: RemoveAxis> OwnedArray<T, D> {
     /// The items at one coordinate of an axis, without the axis, to be read. ndarray's `index_axis`. Not proved.
@@ -176,11 +159,11 @@ impl<T, D: RemoveAxis> OwnedArray<T, D> {
     /// ```
     /// use ndarray_layout::*;
     ///
-    /// let array = OwnedArray::from_shape_vec(Ix2(2, 3).into(), vec![1, 2, 3, 4, 5, 6])?;
+    /// let array = OwnedArray::from_shape_vec(Ix2(2, 3), vec![1, 2, 3, 4, 5, 6])?;
     /// assert_eq!(array.index_axis(Axis(1), 2)?.last(), Some(&6));
     /// # Ok::<(), LayoutError>(())
     /// ```
     pub fn index_axis(&self, axis: Axis, index: usize) -> Result<ArrayView<'_, T, D::Smaller>, LayoutError> {
-        Ok(ArrayView { items: self.stored(), view: self.strided().index_axis(axis, index)? })
+        Ok(ArrayView::new(self.strided().index_axis(axis, index)?, self.stored()))
     }
 }

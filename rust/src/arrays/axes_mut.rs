@@ -1,14 +1,13 @@
 //! The arrays along an axis, and the rows and columns of a matrix, to be written.
 
-use super::axes::line_of;
-use super::{AxisIterMut, check_axis};
-use crate::nd_base::{Axis, Ix1, Ix2, LayoutError};
+use super::check_axis;
+use crate::nd_base::{Axis, ErrorKind, Ix1, Ix2, LayoutError, from_kind};
 use crate::ndarray_layout::RemoveAxis;
-use crate::{ArrayViewMut, OwnedArray};
+use crate::{ArrayViewMut, AxisIterMut, LanesMut, OwnedArray};
 
 /// The writes of one of the types of arrays along an axis: as `writes!`, with the type of the dimension.
 macro_rules! axes_mut {
-    ([$($axis_head:tt)*] [$($matrix_head:tt)*] $setup:expr, $end:expr) => {
+    ([$($axis_head:tt)*] [$($matrix_head:tt)*] $view:ident $setup:expr, $end:expr) => {
         $($axis_head)* {
             /// The items at one coordinate of an axis, without the axis, lent to be written for as long as this array isn't used.
             /// ndarray's `index_axis_mut`. Not proved.
@@ -31,8 +30,11 @@ macro_rules! axes_mut {
                 axis: Axis,
                 index: usize,
             ) -> Result<ArrayViewMut<'_, T, D::Smaller>, LayoutError> {
-                let view = self.strided().index_axis(axis, index)?;
-                Ok(ArrayViewMut::new(view, self.stored_mut()))
+                // (before the array is lent, for which memory may run out)
+                if self.shape().get(axis.index()).is_none_or(|len| index >= *len) {
+                    return Err(LayoutError::Shape(from_kind(ErrorKind::OutOfBounds)));
+                }
+                self.$view()?.index_axis(axis, index)
             }
 
             /// An iterator over the arrays at the coordinates of an axis, without the axis, from both ends, each lent to be written,
@@ -55,7 +57,7 @@ macro_rules! axes_mut {
             /// ```
             pub fn axis_iter_mut(&mut self, axis: Axis) -> Result<AxisIterMut<'_, T, D>, LayoutError> {
                 check_axis(self.shape(), axis)?;
-                Ok(AxisIterMut::new(self.try_part()?, axis))
+                Ok(self.$view()?.into_axis_parts(axis)?)
             }
 
             /// An iterator over the arrays at the coordinates of the first axis, each lent to be written: `axis_iter_mut`. ndarray's
@@ -106,8 +108,7 @@ macro_rules! axes_mut {
             /// ```
             #[inline]
             pub fn row_mut(&mut self, index: usize) -> Result<ArrayViewMut<'_, T, Ix1>, LayoutError> {
-                let view = line_of(self.strided(), 0, index)?;
-                Ok(ArrayViewMut::new(view, self.stored_mut()))
+                self.index_axis_mut(Axis(0), index)
             }
 
             /// The column of a number, lent to be written for as long as this array isn't used. ndarray's `column_mut`.
@@ -129,15 +130,29 @@ macro_rules! axes_mut {
             /// ```
             #[inline]
             pub fn column_mut(&mut self, index: usize) -> Result<ArrayViewMut<'_, T, Ix1>, LayoutError> {
-                let view = line_of(self.strided(), 1, index)?;
-                Ok(ArrayViewMut::new(view, self.stored_mut()))
+                self.index_axis_mut(Axis(1), index)
+            }
+
+            /// An iterator over the columns, each lent to be written. ndarray's `columns_mut`. Not proved.
+            ///
+            /// ```
+            /// use ndarray_layout::*;
+            ///
+            #[doc = $setup]
+            /// array.columns_mut().zip(7..).for_each(|(mut column, number)| column.fill(number));
+            #[doc = $end]
+            /// assert_eq!(items, [7, 8, 9, 7, 8, 9]);
+            /// # Ok::<(), LayoutError>(())
+            /// ```
+            pub fn columns_mut(&mut self) -> LanesMut<'_, T, Ix2> {
+                self.view_mut().reversed_axes().into_rows()
             }
         }
     };
 }
 
-axes_mut!([impl<T, D: RemoveAxis> ArrayViewMut<'_, T, D>] [impl<T> ArrayViewMut<'_, T, Ix2>]
-    "let mut items = [1, 2, 3, 4, 5, 6];\nlet mut array = ArrayViewMut::from_shape(Ix2(2, 3).into(), &mut items)?;", "");
-axes_mut!([impl<T, D: RemoveAxis> OwnedArray<T, D>] [impl<T> OwnedArray<T, Ix2>]
-    "let mut array = OwnedArray::from_shape_vec(Ix2(2, 3).into(), vec![1, 2, 3, 4, 5, 6])?;",
+axes_mut!([impl<T, D: RemoveAxis> ArrayViewMut<'_, T, D>] [impl<T> ArrayViewMut<'_, T, Ix2>] reborrow
+    "let mut items = [1, 2, 3, 4, 5, 6];\nlet mut array = ArrayViewMut::from_shape(Ix2(2, 3), &mut items)?;", "");
+axes_mut!([impl<T, D: RemoveAxis> OwnedArray<T, D>] [impl<T> OwnedArray<T, Ix2>] try_view_mut
+    "let mut array = OwnedArray::from_shape_vec(Ix2(2, 3), vec![1, 2, 3, 4, 5, 6])?;",
     "let items = array.into_stored();");

@@ -1,40 +1,29 @@
 //! New lists and arrays that are made of the items of an array.
 
 use crate::convenience::OUT_OF_MEMORY;
-use crate::memory::{AllocError, FallibleVec};
+use crate::memory::{AllocError, FallibleSlice, FallibleVec};
 use crate::nd_base::{LayoutError, Lengths, Order};
 use crate::nd_dim::product;
 use crate::nd_shape::{StrideShape, Strides};
 use crate::ndarray_layout::Strided;
-use crate::{ArrayView, ArrayViewMut, LentRows, OwnedArray};
+use crate::{ArrayView, ArrayViewMut, OwnedArray};
 use alloc::vec::{self, Vec};
 
-/// What a closure makes of the items of a view, in row-major order. Errors: out of memory.
-fn made<T, U, D: Lengths>(view: &Strided<D>, items: &[T], mut f: impl FnMut(&T) -> U) -> Result<Vec<U>, AllocError> {
-    let mut made = Vec::fallible_with_capacity(product(view.dim().slice()))?;
-    for row in LentRows::new(items, view.joined_rows(Order::RowMajor)) {
-        match row.as_slice() {
-            Some(items) => made.extend(items.iter().map(&mut f)),
-            None => made.extend((0..row.len()).map(|coordinate| f(row.item(coordinate)))),
-        }
-    }
-    Ok(made)
-}
-
-/// The row-major array of a view's shape over a list of as many items. Errors: out of memory.
-fn array_of<T, D: Lengths>(view: &Strided<D>, items: Vec<T>) -> Result<OwnedArray<T, D>, AllocError> {
-    let shape = StrideShape { dim: view.dim().duplicate()?, strides: Strides::C };
+/// The row-major array of a shape over a list of as many items. Errors: out of memory.
+fn array_of<T, D: Lengths>(dim: &D, items: Vec<T>) -> Result<OwnedArray<T, D>, AllocError> {
+    let shape = StrideShape { dim: dim.duplicate()?, strides: Strides::C };
     match OwnedArray::from_shape_vec(shape, items) {
         Ok(array) => Ok(array),
         Err((LayoutError::Memory(error), _)) => Err(error),
-        Err((LayoutError::Shape(fault), _)) => unreachable!("the shape of a view is accepted: {fault}"),
+        Err((LayoutError::Shape(fault), _)) => unreachable!("the shape of an array is accepted: {fault}"),
     }
 }
 
-/// The copies of one of the types of arrays: the head of the impl, and what makes `array` in examples, which is 1 2 3 over 4 5 6.
+/// The copies of one of the types of arrays: the head of the impl, the array lent, and what makes `array` in examples, which is 1 2 3 over
+/// 4 5 6.
 macro_rules! copies {
-    ([$($head:tt)*] $setup:expr) => {
-        $($head)* {
+    ($array:ident [$($of:tt)*] $self:ident => $lent:expr, $setup:expr) => {
+        impl<$($of)* T, D: Lengths> $array<$($of)* T, D> {
             /// What a closure makes of each item, in row-major order, as a new array in that order. ndarray's `map`, whose result
             /// may have another order of its axes in memory. Not proved.
             ///
@@ -50,10 +39,12 @@ macro_rules! copies {
             /// assert_eq!((texts.shape(), texts.stored().concat()), (&[3, 2][..], "142536".to_string()));
             /// # Ok::<(), LayoutError>(())
             /// ```
-            pub fn map<U, F: FnMut(&T) -> U>(&self, f: F) -> Result<OwnedArray<U, D>, AllocError> {
-                array_of(self.strided(), made(self.strided(), self.stored(), f)?)
+            pub fn map<U, F: FnMut(&T) -> U>(&$self, f: F) -> Result<OwnedArray<U, D>, AllocError> {
+                array_of($self.dim(), $lent.map_to_vec(f)?)
             }
+        }
 
+        impl<$($of)* T: Clone, D: Lengths> $array<$($of)* T, D> {
             /// Clones of the items in row-major order. ndarray's `to_vec`, for any count of axes. Not proved.
             ///
             /// # Errors
@@ -67,14 +58,14 @@ macro_rules! copies {
             /// assert_eq!(array.t().to_vec()?, [1, 4, 2, 5, 3, 6]);
             /// # Ok::<(), LayoutError>(())
             /// ```
-            pub fn to_vec(&self) -> Result<Vec<T>, AllocError>
-            where
-                T: Clone,
-            {
-                made(self.strided(), self.stored(), T::clone)
+            pub fn to_vec(&$self) -> Result<Vec<T>, AllocError> {
+                match $self.as_slice() {
+                    Some(items) => items.fallible_to_vec(),
+                    None => $lent.map_to_vec(T::clone),
+                }
             }
 
-            /// An array of clones of the items, in row-major order, without spare ones. ndarray's `to_owned`. Not proved.
+            /// An array of clones of the items, in row-major order, without spare ones: `to_owned`, which panics instead. Not proved.
             ///
             /// # Errors
             ///
@@ -87,23 +78,38 @@ macro_rules! copies {
             /// assert_eq!(array.t().to_array()?.into_stored(), [1, 4, 2, 5, 3, 6]);
             /// # Ok::<(), LayoutError>(())
             /// ```
-            #[doc(alias = "to_owned")]
-            pub fn to_array(&self) -> Result<OwnedArray<T, D>, AllocError>
-            where
-                T: Clone,
-            {
-                array_of(self.strided(), self.to_vec()?)
+            pub fn to_array(&$self) -> Result<OwnedArray<T, D>, AllocError> {
+                array_of($self.dim(), $self.to_vec()?)
+            }
+
+            /// An array of clones of the items, in row-major order, without spare ones. ndarray's `to_owned`, whose result may have
+            /// another order of its axes in memory. Not proved.
+            ///
+            /// # Panics
+            ///
+            /// Where an allocation fails: `to_array` returns an error instead.
+            ///
+            /// ```
+            /// use ndarray_layout::*;
+            ///
+            #[doc = $setup]
+            /// assert_eq!(array.t().to_owned().into_stored(), [1, 4, 2, 5, 3, 6]);
+            /// # Ok::<(), LayoutError>(())
+            /// ```
+            #[must_use]
+            pub fn to_owned(&$self) -> OwnedArray<T, D> {
+                $self.to_array().expect(OUT_OF_MEMORY)
             }
         }
     };
 }
 
-copies!([impl<T, D: Lengths> ArrayView<'_, T, D>]
-    "let array = ArrayView::from_shape(Ix2(2, 3).into(), &[1, 2, 3, 4, 5, 6])?;");
-copies!([impl<T, D: Lengths> ArrayViewMut<'_, T, D>]
-    "let mut items = [1, 2, 3, 4, 5, 6];\nlet array = ArrayViewMut::from_shape(Ix2(2, 3).into(), &mut items)?;");
-copies!([impl<T, D: Lengths> OwnedArray<T, D>]
-    "let array = OwnedArray::from_shape_vec(Ix2(2, 3).into(), vec![1, 2, 3, 4, 5, 6])?;");
+copies!(ArrayView ['a,] self => self,
+    "let array = ArrayView::from_shape(Ix2(2, 3), &[1, 2, 3, 4, 5, 6])?;");
+copies!(ArrayViewMut ['a,] self => &self.try_view()?,
+    "let mut items = [1, 2, 3, 4, 5, 6];\nlet array = ArrayViewMut::from_shape(Ix2(2, 3), &mut items)?;");
+copies!(OwnedArray [] self => &self.try_view()?,
+    "let array = OwnedArray::from_shape_vec(Ix2(2, 3), vec![1, 2, 3, 4, 5, 6])?;");
 
 /// The items of a view in row-major order, out of the list of those that are stored. Errors: out of memory.
 fn picked<T, D: Lengths>(view: &Strided<D>, items: Vec<T>) -> Result<Vec<T>, AllocError> {
@@ -127,7 +133,7 @@ fn picked<T, D: Lengths>(view: &Strided<D>, items: Vec<T>) -> Result<Vec<T>, All
 /// use ndarray_layout::*;
 ///
 /// let texts = ["a", "b", "c", "d"].map(String::from).to_vec();
-/// let array = OwnedArray::from_shape_vec(Ix2(2, 2).f()?.into(), texts)?;
+/// let array = OwnedArray::from_shape_vec(Ix2(2, 2).f()?, texts)?;
 /// assert_eq!(array.into_iter().collect::<Vec<String>>().concat(), "acbd");
 /// # Ok::<(), LayoutError>(())
 /// ```

@@ -3,11 +3,7 @@
 /// Of the iterators over items that are lent.
 macro_rules! fold_lent {
     () => {
-        /// What as many calls of `next` return last; rows are left out at once. Not proved.
-        fn nth(&mut self, n: usize) -> Option<&'a T> {
-            self.advance(n);
-            self.next()
-        }
+        crate::arrays::skip!();
 
         #[inline]
         fn count(self) -> usize {
@@ -35,11 +31,7 @@ pub(crate) use fold_lent;
 /// Of the same, from the back.
 macro_rules! rfold_lent {
     () => {
-        /// What as many calls of `next_back` return last; rows are left out at once. Not proved.
-        fn nth_back(&mut self, n: usize) -> Option<&'a T> {
-            self.advance_back(n);
-            self.next_back()
-        }
+        crate::arrays::skip_back!();
 
         /// What a loop over `next_back` returns; rows whose items lie side by side are slices. Not proved.
         #[inline]
@@ -76,7 +68,7 @@ macro_rules! fold_items {
             while let Some(row) = items.next_row() {
                 match row.as_slice() {
                     Some(slice) => list.extend_from_slice(slice),
-                    None => list.extend((0..row.len()).map(|coordinate| *row.item(coordinate))),
+                    None => list.extend((0..row.len()).map(|coordinate| *row.get(coordinate).unwrap())),
                 }
             }
             list.into_iter().collect()
@@ -95,7 +87,7 @@ pub(crate) fn fold_one_by_one<I: Iterator, B>(items: I, init: B, f: &mut impl Fn
     total
 }
 
-/// Of `PartItems`.
+/// Of `IterMut`.
 macro_rules! fold_part_items {
     () => {
         crate::arrays::skip!();

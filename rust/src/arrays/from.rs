@@ -1,73 +1,161 @@
-//! Arrays of lists, and of arrays that own their items.
+//! Arrays of lists, of arrays that own their items, and of what a closure makes of each index.
 
-use crate::nd_base::{Ix1, LayoutError, Lengths, new_ix1};
-use crate::{ArrayView, ArrayViewMut, OwnedArray};
+use crate::convenience::OUT_OF_MEMORY;
+use crate::memory::FallibleVec;
+use crate::nd_base::{Ix1, Ix2, LayoutError, Lengths};
+use crate::{ArrayView, ArrayViewMut, Dimension, OwnedArray, Shape, ShapeBuilder};
+use crate::{all_indices, indices_iter_f, size_of_shape_checked};
 use alloc::vec::Vec;
 
-/// A made array. Panics where the list was too long.
+/// A made array. Panics where it isn't.
 #[track_caller]
 fn fitting<A>(made: Result<A, LayoutError>) -> A {
-    made.unwrap_or_else(|fault| panic!("a list of more items than an isize counts: {fault}"))
+    made.unwrap_or_else(|fault| panic!("the array is not made: {fault}"))
 }
 
-/// The array of one axis of a list. ndarray's `aview1`, and `From` of a list. Panics for more items than an `isize` counts, which only
-/// those without a size may be. Not proved.
-///
-/// ```
-/// use ndarray_layout::*;
-///
-/// let array = ArrayView::from(&[7, 8, 9][..]);
-/// assert_eq!((array.dim(), array[1]), (&Ix1(3), 8));
-/// ```
-impl<'a, T> From<&'a [T]> for ArrayView<'a, T, Ix1> {
+/// Conversions: the parameters of each, what is taken, the array, and how it is made.
+macro_rules! conversions {
+    ($($(#[$doc:meta])* [$($generics:tt)*] $taken:ty => $array:ty, $value:ident: $made:expr;)*) => {$(
+        $(#[$doc])*
+        ///
+        /// Not proved.
+        impl<$($generics)*> From<$taken> for $array {
+            #[track_caller]
+            fn from($value: $taken) -> Self {
+                $made
+            }
+        }
+    )*};
+}
+
+conversions! {
+    /// The array of one axis of a list. ndarray's `aview1`, and `From` of a list. Panics for more items than an `isize` counts, which only
+    /// those without a size may be.
+    ///
+    /// ```
+    /// use ndarray_layout::*;
+    ///
+    /// let array = ArrayView::from(&[7, 8, 9]);
+    /// assert_eq!((array.dim(), array[1]), (&Ix1(3), 8));
+    /// assert_eq!(ArrayView::from(&vec![7, 8, 9]), ArrayView::from(&[7, 8, 9][..]));
+    /// ```
+    ['a, T] &'a [T] => ArrayView<'a, T, Ix1>, items: fitting(ArrayView::from_shape(items.len(), items));
+    /// The array of one axis of an array of Rust. Panics as that of a list.
+    ['a, T, const N: usize] &'a [T; N] => ArrayView<'a, T, Ix1>, items: ArrayView::from(&items[..]);
+    /// The array of one axis of a vector. Panics as that of a list.
+    ['a, T] &'a Vec<T> => ArrayView<'a, T, Ix1>, items: ArrayView::from(&items[..]);
+    /// The array of one axis of a list, to be written. ndarray's `From` of a list. Panics for more items than an `isize` counts, which
+    /// only those without a size may be.
+    ///
+    /// ```
+    /// use ndarray_layout::*;
+    ///
+    /// let mut items = [7, 8, 9];
+    /// ArrayViewMut::from(&mut items)[1] = 5;
+    /// assert_eq!(items, [7, 5, 9]);
+    /// ```
+    ['a, T] &'a mut [T] => ArrayViewMut<'a, T, Ix1>, items: fitting(ArrayViewMut::from_shape(items.len(), items));
+    /// The array of one axis of an array of Rust, to be written. Panics as that of a list.
+    ['a, T, const N: usize] &'a mut [T; N] => ArrayViewMut<'a, T, Ix1>, items: ArrayViewMut::from(&mut items[..]);
+    /// The array of one axis of a vector, to be written. Panics as that of a list.
+    ['a, T] &'a mut Vec<T> => ArrayViewMut<'a, T, Ix1>, items: ArrayViewMut::from(&mut items[..]);
+    /// The array of one axis that owns the items of a list. ndarray's `From` of a list. Panics for more items than an `isize` counts,
+    /// which only those without a size may be.
+    ///
+    /// ```
+    /// use ndarray_layout::*;
+    ///
+    /// assert_eq!(OwnedArray::from(vec![7, 8, 9])[1], 8);
+    /// ```
+    [T] Vec<T> => OwnedArray<T, Ix1>, items: fitting(OwnedArray::from_exact_vec(items.len(), items));
+    /// The array of two axes that owns the items of rows. ndarray's `From` of a list of arrays. Panics where the size passes `isize`, which
+    /// it does only for items without a size.
+    ///
+    /// ```
+    /// use ndarray_layout::*;
+    ///
+    /// assert_eq!(OwnedArray::from(vec![[1, 2, 3], [4, 5, 6]])[(1, 0)], 4);
+    /// ```
+    [T, const N: usize] Vec<[T; N]> => OwnedArray<T, Ix2>,
+        rows: fitting(OwnedArray::from_exact_vec((rows.len(), N), rows.into_flattened()));
+    /// The array lent, as `view`. Panics where an allocation fails, never for at most 4 axes.
+    ['a, T, D: Lengths] &'a OwnedArray<T, D> => ArrayView<'a, T, D>, array: array.view();
+    /// The array lent to be written, as `view_mut`. Panics where an allocation fails, never for at most 4 axes.
+    ['a, T, D: Lengths] &'a mut OwnedArray<T, D> => ArrayViewMut<'a, T, D>, array: array.view_mut();
+}
+
+impl<T> OwnedArray<T, Ix1> {
+    /// The array of one axis that owns the items of a list: `From` of the list. ndarray's `from_vec`. Not proved.
+    ///
+    /// # Panics
+    ///
+    /// For more items than an `isize` counts, which only those without a size may be.
+    ///
+    /// ```
+    /// use ndarray_layout::*;
+    ///
+    /// assert_eq!(OwnedArray::from_vec(vec![7, 8, 9])[1], 8);
+    /// ```
+    #[must_use]
     #[track_caller]
-    fn from(items: &'a [T]) -> Self {
-        fitting(ArrayView::from_shape(new_ix1(items.len()).into(), items))
+    pub fn from_vec(items: Vec<T>) -> Self {
+        Self::from(items)
     }
 }
 
-/// The array of one axis of a list, to be written. ndarray's `From` of a list. Panics for more items than an `isize` counts, which
-/// only those without a size may be. Not proved.
-///
-/// ```
-/// use ndarray_layout::*;
-///
-/// let mut items = [7, 8, 9];
-/// ArrayViewMut::from(&mut items[..])[1] = 5;
-/// assert_eq!(items, [7, 5, 9]);
-/// ```
-impl<'a, T> From<&'a mut [T]> for ArrayViewMut<'a, T, Ix1> {
+/// A shape, how many indices it has, and a list with room for as many items.
+#[track_caller]
+fn room<T, D: Dimension>(shape: impl ShapeBuilder<Dim = D>) -> (Shape<D>, usize, Vec<T>) {
+    let shape = shape.into_shape_with_order().expect(OUT_OF_MEMORY);
+    let count = size_of_shape_checked(shape.raw_dim()).unwrap_or_else(|fault| panic!("{fault}"));
+    (shape, count, Vec::fallible_with_capacity(count).expect(OUT_OF_MEMORY))
+}
+
+impl<T, D: Dimension> OwnedArray<T, D> {
+    /// The array of a shape with a copy of an item at each index; the item itself is one of them. ndarray's `from_elem`. Not proved.
+    ///
+    /// # Panics
+    ///
+    /// Where the size passes `isize`, and where an allocation fails: `from_exact_vec` returns an error instead.
+    ///
+    /// ```
+    /// use ndarray_layout::*;
+    ///
+    /// assert_eq!(OwnedArray::from_elem((2, 3), 7).into_stored(), [7; 6]);
+    /// ```
+    #[must_use]
     #[track_caller]
-    fn from(items: &'a mut [T]) -> Self {
-        fitting(ArrayViewMut::from_shape(new_ix1(items.len()).into(), items))
+    pub fn from_elem(shape: impl ShapeBuilder<Dim = D>, item: T) -> Self
+    where
+        T: Clone,
+    {
+        let (shape, count, mut items) = room(shape);
+        items.resize(count, item);
+        fitting(OwnedArray::from_exact_vec(shape, items))
     }
-}
 
-/// The array of one axis that owns the items of a list. ndarray's `From` of a list. Panics for more items than an `isize` counts,
-/// which only those without a size may be. Not proved.
-///
-/// ```
-/// use ndarray_layout::*;
-///
-/// assert_eq!(OwnedArray::from(vec![7, 8, 9])[1], 8);
-/// ```
-impl<T> From<Vec<T>> for OwnedArray<T, Ix1> {
+    /// The array of a shape of what a closure makes of each index, which is called in the order in which the items lie. ndarray's
+    /// `from_shape_fn`. Not proved.
+    ///
+    /// # Panics
+    ///
+    /// Where the size passes `isize`, and where an allocation fails.
+    ///
+    /// ```
+    /// use ndarray_layout::*;
+    ///
+    /// let table = OwnedArray::from_shape_fn((2, 3), |(row, column)| 10 * row + column);
+    /// assert_eq!(table.into_stored(), [0, 1, 2, 10, 11, 12]);
+    /// ```
+    #[must_use]
     #[track_caller]
-    fn from(items: Vec<T>) -> Self {
-        fitting(OwnedArray::from_shape_vec(new_ix1(items.len()).into(), items).map_err(LayoutError::from))
-    }
-}
-
-/// The array lent, as `view`. Panics where an allocation fails, never for at most 4 axes. Not proved.
-impl<'a, T, D: Lengths> From<&'a OwnedArray<T, D>> for ArrayView<'a, T, D> {
-    fn from(array: &'a OwnedArray<T, D>) -> Self {
-        array.view()
-    }
-}
-
-/// The array lent to be written, as `view_mut`. Panics where an allocation fails, never for at most 4 axes. Not proved.
-impl<'a, T, D: Lengths> From<&'a mut OwnedArray<T, D>> for ArrayViewMut<'a, T, D> {
-    fn from(array: &'a mut OwnedArray<T, D>) -> Self {
-        array.view_mut()
+    pub fn from_shape_fn<F: FnMut(D::Pattern) -> T>(shape: impl ShapeBuilder<Dim = D>, f: F) -> Self {
+        let (shape, _, mut items) = room(shape);
+        let dim = shape.raw_dim().clone();
+        match shape.is_c() {
+            true => items.extend(all_indices(dim).expect(OUT_OF_MEMORY).into_iter().map(f)),
+            false => items.extend(indices_iter_f(dim).expect(OUT_OF_MEMORY).map(f)),
+        }
+        fitting(OwnedArray::from_exact_vec(shape, items))
     }
 }

@@ -1,11 +1,10 @@
 //! The items of an array with their indices.
 
-use super::IterMut;
 use crate::ViewIter;
 use crate::convenience::OUT_OF_MEMORY;
 use crate::convenience::printed;
-use crate::nd_dim::Dimension;
-use crate::nd_lent::PartItems;
+use crate::nd_dim::{Dimension, advance_row_major};
+use crate::nd_lent::IterMut;
 use crate::ndarray_layout::Strided;
 use core::iter::FusedIterator;
 
@@ -23,17 +22,11 @@ impl<D: Dimension> Odometer<D> {
         Odometer { dim, index }
     }
 
-    /// The next index. After the last one the first one comes again.
+    /// The next index. After the last one the first one comes again; there is one, since an item goes with it.
     #[inline]
     fn next(&mut self) -> D::Pattern {
         let index = self.index.duplicate().expect(OUT_OF_MEMORY);
-        for axis in (0..self.dim.ndim()).rev() {
-            self.index[axis] += 1;
-            if self.index[axis] < self.dim[axis] {
-                break;
-            }
-            self.index[axis] = 0;
-        }
+        let _ = advance_row_major(self.dim.slice(), self.index.slice_mut());
         index.into_pattern()
     }
 }
@@ -87,7 +80,7 @@ printed! { [D: Dimension, I: ExactSizeIterator] Indexed<D, I>; }
 /// ```
 /// use ndarray_layout::*;
 ///
-/// let rows = ArrayView::from_shape(Ix2(2, 2).into(), &["a", "b", "c", "d"])?;
+/// let rows = ArrayView::from_shape(Ix2(2, 2), &["a", "b", "c", "d"])?;
 /// let found = rows.indexed_iter().find(|(_, item)| **item == "c");
 /// assert_eq!(found, Some(((1, 0), &"c")));
 /// # Ok::<(), LayoutError>(())
@@ -101,7 +94,7 @@ pub type IndexedIter<'a, T, D> = Indexed<D, ViewIter<'a, T, D>>;
 /// use ndarray_layout::*;
 ///
 /// let mut items = [0; 6];
-/// let mut rows = ArrayViewMut::from_shape(Ix2(2, 3).into(), &mut items)?;
+/// let mut rows = ArrayViewMut::from_shape(Ix2(2, 3), &mut items)?;
 /// for ((row, column), item) in rows.indexed_iter_mut() {
 ///     *item = 10 * row + column;
 /// }
@@ -109,19 +102,3 @@ pub type IndexedIter<'a, T, D> = Indexed<D, ViewIter<'a, T, D>>;
 /// # Ok::<(), LayoutError>(())
 /// ```
 pub type IndexedIterMut<'a, T, D> = Indexed<D, IterMut<'a, T, D>>;
-
-/// The items of a part that are still to come, each with its index and lent to be written, in row-major order, whatever the strides
-/// are. ndarray's `IndexedIterMut`. Not proved.
-///
-/// ```
-/// use ndarray_layout::*;
-///
-/// let mut items = [0; 6];
-/// let mut turned = ArrayViewMut::from_shape(Ix2(2, 3).into(), &mut items)?.into_part().reversed_axes();
-/// for ((row, column), item) in turned.indexed_iter_mut() {
-///     *item = 10 * row + column;
-/// }
-/// assert_eq!(items, [0, 10, 20, 1, 11, 21]);
-/// # Ok::<(), LayoutError>(())
-/// ```
-pub type PartIndexedIterMut<'a, T, D> = Indexed<D, PartItems<'a, T, D>>;

@@ -1,6 +1,7 @@
 //! Items by an index in brackets, and what a wrong one is told.
 
 use crate::ArrayViewMut;
+use crate::convenience::OUT_OF_MEMORY;
 use crate::nd_base::Lengths;
 use crate::nd_shape::NdIndex;
 use core::fmt;
@@ -24,7 +25,7 @@ pub(crate) fn no_such_index<I: fmt::Debug, D: Lengths>(index: I, dim: &D) -> ! {
 /// use ndarray_layout::*;
 ///
 /// let mut items = [1, 2, 3, 4, 5, 6];
-/// let mut rows = ArrayViewMut::from_shape(Ix2(2, 3).into(), &mut items)?;
+/// let mut rows = ArrayViewMut::from_shape(Ix2(2, 3), &mut items)?;
 /// rows[(1, 0)] += 30;
 /// assert_eq!(items, [1, 2, 3, 34, 5, 6]);
 /// # Ok::<(), LayoutError>(())
@@ -34,16 +35,20 @@ pub(crate) fn no_such_index<I: fmt::Debug, D: Lengths>(index: I, dim: &D) -> ! {
 /// use ndarray_layout::*;
 ///
 /// let mut items = [1, 2, 3, 4, 5, 6];
-/// let mut rows = ArrayViewMut::from_shape(Ix2(2, 3).into(), &mut items).unwrap();
+/// let mut rows = ArrayViewMut::from_shape(Ix2(2, 3), &mut items).unwrap();
 /// rows[(2, 0)] = 7; // index (2, 0) is out of bounds of the shape [2, 3]
 /// ```
 impl<T, D: Lengths, I: NdIndex<D>> IndexMut<I> for ArrayViewMut<'_, T, D> {
     #[inline]
     #[track_caller]
     fn index_mut(&mut self, index: I) -> &mut T {
-        match self.strided().place(&index) {
-            Some(place) => &mut self.items[place],
-            None => no_such_index(index, self.dim()),
+        if self.strided().place(&index).is_none() {
+            // (of a copy: a loop keeps the part in registers where no other call is told where it lies)
+            no_such_index(index, &self.dim().duplicate().expect(OUT_OF_MEMORY));
+        }
+        match self.get_mut(&index) {
+            Some(item) => item,
+            None => unreachable!("an index of the shape"),
         }
     }
 }

@@ -3,12 +3,6 @@
 use super::fold_one_by_one;
 use crate::LentRow;
 
-/// The place that is so many steps farther.
-#[inline]
-pub(crate) fn place_after(place: usize, steps: usize, step: isize) -> usize {
-    place.wrapping_add_signed((steps as isize).wrapping_mul(step))
-}
-
 /// Folds the items of a row.
 #[inline(always)]
 pub(crate) fn fold_row<'a, T, B>(row: LentRow<'a, T>, init: B, f: &mut impl FnMut(B, &'a T) -> B) -> B {

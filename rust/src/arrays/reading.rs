@@ -1,57 +1,47 @@
 //! What may be read of an array of any number of axes.
 
-use super::{AxisChunksIter, IndexedIter, Odometer, check_chunks};
-use crate::nd_base::{Axis, ErrorKind, LayoutError, Lengths, ShapeError, from_kind};
-use crate::nd_dim::{Dimension, product};
-use crate::nd_shape::offset_from_low_addr_ptr_to_logical_ptr;
-use crate::ndarray_layout::Strided;
-use crate::{ArrayView, ArrayViewMut, IntoRows, OwnedArray, ViewIter};
-use core::ops::Range;
+use super::{IndexedIter, Odometer, check_chunks};
+use crate::convenience::OUT_OF_MEMORY;
+use crate::nd_base::{Axis, LayoutError, Lengths, ShapeError};
+use crate::nd_dim::Dimension;
+use crate::{ArrayView, ArrayViewMut, AxisChunksIter, IntoRows, OwnedArray};
 
-/// The places of a view from the lowest one on, where they follow one another in some order.
-pub(crate) fn block<D: Dimension>(view: &Strided<D>) -> Option<Range<usize>> {
-    let (dim, strides) = (view.dim(), view.strides());
-    let size = product(dim.slice());
-    if size == 0 {
-        return Some(0..0);
-    }
-    if !D::is_contiguous(dim, strides) {
-        return None;
-    }
-    let low = view.start() - offset_from_low_addr_ptr_to_logical_ptr(dim, strides);
-    Some(low..low + size)
+/// The view or the array with one of its axes after all others.
+macro_rules! with_last {
+    ($array:expr, $axis:expr) => {{
+        let (mut array, axis) = ($array, $axis);
+        array.swap_axes(axis, axis)?;
+        for after in axis.index() + 1..array.ndim() {
+            array.swap_axes(Axis(after - 1), Axis(after))?;
+        }
+        array
+    }};
 }
+pub(super) use with_last;
 
-/// The view with one of its axes after all others.
-pub(crate) fn with_last<D: Lengths>(mut view: Strided<D>, axis: Axis) -> Result<Strided<D>, ShapeError> {
-    if axis.index() >= view.dim().ndim() {
-        return Err(from_kind(ErrorKind::OutOfBounds));
-    }
-    view.dim.slice_mut()[axis.index()..].rotate_left(1);
-    view.strides.slice_mut()[axis.index()..].rotate_left(1);
-    Ok(view)
+/// The array with its axes turned and sorted, so that none has a stride below 0 or below that of the next one.
+macro_rules! in_memory_order {
+    ($array:expr) => {{
+        let mut array = $array;
+        for end in (0..array.ndim()).rev() {
+            if array.stride_of(Axis(end)) < 0 {
+                let _is_axis = array.invert_axis(Axis(end));
+            }
+            for axis in end + 1..array.ndim() {
+                if array.stride_of(Axis(axis - 1)) < array.stride_of(Axis(axis)) {
+                    let _are_axes = array.swap_axes(Axis(axis - 1), Axis(axis));
+                }
+            }
+        }
+        array
+    }};
 }
+pub(super) use in_memory_order;
 
-/// The place of the last index of a view.
-pub(crate) fn last_place<D: Lengths>(view: &Strided<D>) -> Option<usize> {
-    let axes = view.dim().slice().iter().zip(view.strides().slice());
-    let mut place = view.start();
-    for (len, stride) in axes {
-        place = place.wrapping_add(len.checked_sub(1)?.wrapping_mul(*stride));
-    }
-    Some(place)
-}
-
-/// The place of the first index of a view.
-pub(crate) fn first_place<D: Lengths>(view: &Strided<D>) -> Option<usize> {
-    (!view.dim().slice().contains(&0)).then_some(view.start())
-}
-
-/// The reads of one of the types of arrays: the head of the impl, how long items are lent, and what makes `array` in examples,
-/// which is 1 2 3 over 4 5 6.
+/// The reads of one of the types of arrays, by `of_each!`.
 macro_rules! reads {
-    ([$($head:tt)*] $lent:lifetime $setup:expr) => {
-        $($head)* {
+    ($array:ident [$($of:tt)*] $lent:lifetime $again:ident $setup:expr) => {
+        impl<$($of)* T, D: Lengths> $array<$($of)* T, D> {
             /// The array lent again, to be read: that of the items and the view as they are. ndarray's `view` and `reborrow`.
             /// Not proved.
             ///
@@ -72,11 +62,15 @@ macro_rules! reads {
             #[inline]
             #[must_use]
             pub fn view(&self) -> ArrayView<$lent, T, D> {
-                ArrayView { items: self.stored(), view: self.strided().clone() }
+                self.$again().expect(OUT_OF_MEMORY)
             }
 
             /// The items as they are stored, where none that is no index's lies between them; else `None`. ndarray's
             /// `as_slice_memory_order`. Not proved.
+            ///
+            /// # Panics
+            ///
+            /// As `view`.
             ///
             /// ```
             /// use ndarray_layout::*;
@@ -91,10 +85,14 @@ macro_rules! reads {
             where
                 D: Dimension,
             {
-                self.stored().get(block(self.strided())?)
+                in_memory_order!(self.view()).as_slice()
             }
 
             /// The item of the first index; `None` without one. ndarray's `first`. Not proved.
+            ///
+            /// # Panics
+            ///
+            /// As `view`.
             ///
             /// ```
             /// use ndarray_layout::*;
@@ -106,10 +104,14 @@ macro_rules! reads {
             #[inline]
             #[must_use]
             pub fn first(&self) -> Option<&$lent T> {
-                self.stored().get(first_place(self.strided())?)
+                self.view().into_iter().next()
             }
 
             /// The item of the last index; `None` without one. ndarray's `last`. Not proved.
+            ///
+            /// # Panics
+            ///
+            /// As `view`.
             ///
             /// ```
             /// use ndarray_layout::*;
@@ -121,7 +123,7 @@ macro_rules! reads {
             #[inline]
             #[must_use]
             pub fn last(&self) -> Option<&$lent T> {
-                self.stored().get(last_place(self.strided())?)
+                self.view().into_iter().next_back()
             }
 
             /// The transpose, which reads the same items. ndarray's `t`. Not proved.
@@ -163,9 +165,7 @@ macro_rules! reads {
             /// # Ok::<(), LayoutError>(())
             /// ```
             pub fn lanes(&self, axis: Axis) -> Result<IntoRows<$lent, T, D>, ShapeError> {
-                let mut array = self.view();
-                array.view = with_last(array.view, axis)?;
-                Ok(array.into_rows())
+                Ok(with_last!(self.view(), axis).into_rows())
             }
 
             /// An iterator over chunks of so many coordinates of an axis; the last may have fewer. ndarray's `axis_chunks_iter`.
@@ -189,7 +189,7 @@ macro_rules! reads {
             /// ```
             pub fn axis_chunks_iter(&self, axis: Axis, size: usize) -> Result<AxisChunksIter<$lent, T, D>, LayoutError> {
                 check_chunks(self.shape(), axis, size)?;
-                Ok(AxisChunksIter::new(self.view(), axis, size))
+                Ok(self.view().into_axis_chunks(axis, size)?)
             }
 
             /// An iterator over the items with their indices, in row-major order. ndarray's `indexed_iter`. Not proved.
@@ -215,34 +215,23 @@ macro_rules! reads {
     };
 }
 
-reads!([impl<'a, T, D: Lengths> ArrayView<'a, T, D>] 'a
-    "let array = ArrayView::from_shape(Ix2(2, 3).into(), &[1, 2, 3, 4, 5, 6])?;");
-reads!([impl<T, D: Lengths> ArrayViewMut<'_, T, D>] '_
-    "let mut items = [1, 2, 3, 4, 5, 6];\nlet array = ArrayViewMut::from_shape(Ix2(2, 3).into(), &mut items)?;");
-reads!([impl<T, D: Lengths> OwnedArray<T, D>] '_
-    "let array = OwnedArray::from_shape_vec(Ix2(2, 3).into(), vec![1, 2, 3, 4, 5, 6])?;");
+of_each!(reads);
 
-/// Iterates over the items in row-major order, lent for as long as the data is. Panics where an allocation fails, never for at
-/// most 4 axes. Not proved.
-impl<'a, T, D: Lengths> IntoIterator for &ArrayView<'a, T, D> {
-    type Item = &'a T;
-
-    type IntoIter = ViewIter<'a, T, D>;
-
+impl<'a, T, D: Lengths> ArrayView<'a, T, D> {
+    /// `as_slice`, whose result lives as long as the items. ndarray's `to_slice`. Not proved.
+    ///
+    /// ```
+    /// use ndarray_layout::*;
+    ///
+    /// fn second_row(items: &[u8]) -> Option<&[u8]> {
+    ///     ArrayView::from_shape((2, 3), items).ok()?.row(1).ok()?.to_slice()
+    /// }
+    ///
+    /// assert_eq!(second_row(&[1, 2, 3, 4, 5, 6]), Some(&[4, 5, 6][..]));
+    /// ```
     #[inline]
-    fn into_iter(self) -> ViewIter<'a, T, D> {
-        self.view().into_iter()
-    }
-}
-
-/// Iterates over the items in row-major order. Panics where an allocation fails, never for at most 4 axes. Not proved.
-impl<'a, T, D: Lengths> IntoIterator for &'a ArrayViewMut<'_, T, D> {
-    type Item = &'a T;
-
-    type IntoIter = ViewIter<'a, T, D>;
-
-    #[inline]
-    fn into_iter(self) -> ViewIter<'a, T, D> {
-        self.view().into_iter()
+    #[must_use]
+    pub fn to_slice(&self) -> Option<&'a [T]> {
+        self.as_slice()
     }
 }

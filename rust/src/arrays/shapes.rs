@@ -2,13 +2,12 @@
 
 use crate::nd_base::{Axis, Ix2, Lengths, signed};
 use crate::nd_shape::is_layout_c;
-use crate::{ArrayView, ArrayViewMut, OwnedArray, PartMut};
+use crate::{ArrayView, ArrayViewMut, OwnedArray};
 
-/// What the layout of one of the types of arrays says: the heads of the impls, for any count of axes and for a matrix, and what
-/// makes `array` in examples, which is 1 2 3 over 4 5 6.
+/// What the layout of one of the types of arrays says, by `of_each!`.
 macro_rules! shapes {
-    ([$($head:tt)*] [$($matrix_head:tt)*] $setup:expr) => {
-        $($head)* {
+    ($array:ident [$($of:tt)*] $lent:lifetime $again:ident $setup:expr) => {
+        impl<$($of)* T, D: Lengths> $array<$($of)* T, D> {
             /// How many axes there are. ndarray's `ndim`. Not proved.
             ///
             /// ```
@@ -85,7 +84,7 @@ macro_rules! shapes {
             /// use ndarray_layout::*;
             ///
             #[doc = $setup]
-            /// let turned = ArrayView::from_shape(Ix2(2, 3).f()?.into(), &[1, 2, 3, 4, 5, 6])?;
+            /// let turned = ArrayView::from_shape(Ix2(2, 3).f()?, &[1, 2, 3, 4, 5, 6])?;
             /// assert!(array.is_standard_layout() && !turned.is_standard_layout());
             /// # Ok::<(), LayoutError>(())
             /// ```
@@ -96,7 +95,7 @@ macro_rules! shapes {
             }
         }
 
-        $($matrix_head)* {
+        impl<$($of)* T> $array<$($of)* T, Ix2> {
             /// How many rows there are: the length of the first axis. ndarray's `nrows`. Not proved.
             ///
             /// ```
@@ -145,11 +144,4 @@ macro_rules! shapes {
     };
 }
 
-shapes!([impl<T, D: Lengths> ArrayView<'_, T, D>] [impl<T> ArrayView<'_, T, Ix2>]
-    "let array = ArrayView::from_shape(Ix2(2, 3).into(), &[1, 2, 3, 4, 5, 6])?;");
-shapes!([impl<T, D: Lengths> ArrayViewMut<'_, T, D>] [impl<T> ArrayViewMut<'_, T, Ix2>]
-    "let mut items = [1, 2, 3, 4, 5, 6];\nlet array = ArrayViewMut::from_shape(Ix2(2, 3).into(), &mut items)?;");
-shapes!([impl<T, D: Lengths> OwnedArray<T, D>] [impl<T> OwnedArray<T, Ix2>]
-    "let array = OwnedArray::from_shape_vec(Ix2(2, 3).into(), vec![1, 2, 3, 4, 5, 6])?;");
-shapes!([impl<T, D: Lengths> PartMut<'_, T, D>] [impl<T> PartMut<'_, T, Ix2>]
-    "let mut items = [1, 2, 3, 4, 5, 6];\nlet array = ArrayViewMut::from_shape(Ix2(2, 3).into(), &mut items)?.into_part();");
+of_each!(shapes);

@@ -1,7 +1,7 @@
 //! What callers give for shapes and indices, by the signatures of ndarray.
 
-use super::{Dimension, of_memory};
-use crate::{Axis, Ix, Order, Shape, StrideShape, Strides};
+use super::{Dimension, or_panic};
+use crate::{Ix, Order, Shape, StrideShape, Strides};
 use core::fmt::Debug;
 
 /// What stands for a list of lengths and converts to a dimension. ndarray's `IntoDimension`. Not proved.
@@ -30,7 +30,7 @@ impl<T: crate::IntoDimension<Dim: crate::Dimension>> IntoDimension for T {
 
     #[inline]
     fn into_dimension(self) -> T::Dim {
-        of_memory(crate::IntoDimension::into_dimension(self))
+        or_panic(crate::IntoDimension::into_dimension(self))
     }
 }
 
@@ -57,61 +57,6 @@ impl<T: crate::IntoDimension<Dim: crate::Dimension>> IntoDimension for T {
 #[must_use]
 pub fn Dim<T: IntoDimension>(lens: T) -> T::Dim {
     lens.into_dimension()
-}
-
-/// The length of an axis by the axis. ndarray's `DimensionExt`. Not proved.
-///
-/// ```
-/// use ndarray_layout::compat::{Axis, DimensionExt, Ix2};
-///
-/// let mut shape = Ix2(4, 5);
-/// shape.set_axis(Axis(0), 6);
-/// assert_eq!((shape.axis(Axis(0)), shape.axis(Axis(1))), (6, 5));
-/// ```
-pub trait DimensionExt {
-    /// The length of an axis. ndarray's `axis`.
-    ///
-    /// # Panics
-    ///
-    /// Where there is no such axis.
-    fn axis(&self, axis: Axis) -> Ix;
-
-    /// Replaces the length of an axis. ndarray's `set_axis`.
-    ///
-    /// # Panics
-    ///
-    /// Where there is no such axis.
-    fn set_axis(&mut self, axis: Axis, value: Ix);
-}
-
-/// Not proved.
-impl<D: Dimension> DimensionExt for D {
-    #[inline]
-    #[track_caller]
-    fn axis(&self, axis: Axis) -> Ix {
-        self.slice().axis(axis)
-    }
-
-    #[inline]
-    #[track_caller]
-    fn set_axis(&mut self, axis: Axis, value: Ix) {
-        self.slice_mut().set_axis(axis, value);
-    }
-}
-
-/// Not proved.
-impl DimensionExt for [Ix] {
-    #[inline]
-    #[track_caller]
-    fn axis(&self, axis: Axis) -> Ix {
-        crate::axis_of(self, axis)
-    }
-
-    #[inline]
-    #[track_caller]
-    fn set_axis(&mut self, axis: Axis, value: Ix) {
-        crate::set_axis_of(self, axis, value);
-    }
 }
 
 /// What can index an array. ndarray's `NdIndex`. Not proved.
@@ -148,7 +93,7 @@ impl<E: crate::Dimension, I: crate::NdIndex<E>> NdIndex<E> for I {
 }
 
 /// A shape with an order, and what one is built from. ndarray's `ShapeBuilder`. Not proved.
-pub trait ShapeBuilder {
+pub trait ShapeBuilder: Sized {
     /// The dimension type of the shape.
     type Dim: Dimension;
 
@@ -167,7 +112,10 @@ pub trait ShapeBuilder {
     /// let shape = (4, 5).into_shape_with_order();
     /// assert!(shape.is_c() && *shape.raw_dim() == Ix2(4, 5));
     /// ```
-    fn into_shape_with_order(self) -> Shape<Self::Dim>;
+    #[inline]
+    fn into_shape_with_order(self) -> Shape<Self::Dim> {
+        self.set_f(false)
+    }
 
     /// The shape in column-major order. ndarray's `f`.
     ///
@@ -180,7 +128,10 @@ pub trait ShapeBuilder {
     ///
     /// assert!(!(4, 5).f().is_c());
     /// ```
-    fn f(self) -> Shape<Self::Dim>;
+    #[inline]
+    fn f(self) -> Shape<Self::Dim> {
+        self.set_f(true)
+    }
 
     /// The shape in column-major order, or in row-major order. ndarray's `set_f`.
     ///
@@ -217,16 +168,6 @@ impl<T: IntoDimension> ShapeBuilder for T {
     type Strides = T;
 
     #[inline]
-    fn into_shape_with_order(self) -> Shape<T::Dim> {
-        self.set_f(false)
-    }
-
-    #[inline]
-    fn f(self) -> Shape<T::Dim> {
-        self.set_f(true)
-    }
-
-    #[inline]
     fn set_f(self, is_f: bool) -> Shape<T::Dim> {
         self.into_dimension().in_order(is_f)
     }
@@ -246,11 +187,6 @@ impl<D: Dimension> ShapeBuilder for Shape<D> {
     #[inline]
     fn into_shape_with_order(self) -> Shape<D> {
         self
-    }
-
-    #[inline]
-    fn f(self) -> Shape<D> {
-        self.set_f(true)
     }
 
     #[inline]

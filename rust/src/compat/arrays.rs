@@ -15,20 +15,10 @@ use crate::{ArrayView, ArrayViewMut, Indices, Layout, OwnedArray, Strided};
 /// let rows_apart = array_layout(&Ix2(4, 5), &Ix2(10, 1));
 /// assert!(rows_apart.is(Layout::CPREFER) && !rows_apart.is(Layout::CORDER));
 /// ```
+#[inline]
 #[must_use]
 pub fn array_layout<D: Dimension>(dim: &D, strides: &D) -> Layout {
-    let (lens, steps) = (dim.slice(), strides.slice());
-    let is_next = |axis: usize| lens[axis] > 1 && steps[axis] == 1;
-    let has_one_axis = lens.iter().filter(|&&len| len > 1).count() <= 1;
-    match lens.len() {
-        _ if super::is_layout_c(dim, strides) && has_one_axis => Layout::one_dimensional(),
-        _ if super::is_layout_c(dim, strides) => Layout::c(),
-        0 | 1 => Layout::none(),
-        _ if super::is_layout_f(dim, strides) => Layout::f(),
-        _ if is_next(0) => Layout::fpref(),
-        count if is_next(count - 1) => Layout::cpref(),
-        _ => Layout::none(),
-    }
+    crate::convenience::layout_of(dim.proved(), strides.proved())
 }
 
 /// What has a shape, and orders in which it can be iterated over. ndarray's `NdProducer`, without its pointers.
@@ -46,7 +36,7 @@ pub trait NdProducer {
     /// ```
     /// use ndarray_layout::compat::{ArrayView, Ix2, NdProducer, ShapeBuilder};
     ///
-    /// let view = ArrayView::from_shape((2, 3).f().into(), &[0, 1, 2, 3, 4, 5]).unwrap();
+    /// let view = ArrayView::from_shape((2, 3).f(), &[0, 1, 2, 3, 4, 5]).unwrap();
     /// assert_eq!(view.raw_dim(), Ix2(2, 3));
     /// ```
     fn raw_dim(&self) -> Self::Dim;
@@ -56,7 +46,7 @@ pub trait NdProducer {
     /// ```
     /// use ndarray_layout::compat::{ArrayView, Layout, NdProducer, ShapeBuilder};
     ///
-    /// let view = ArrayView::from_shape((2, 3).f().into(), &[0, 1, 2, 3, 4, 5]).unwrap();
+    /// let view = ArrayView::from_shape((2, 3).f(), &[0, 1, 2, 3, 4, 5]).unwrap();
     /// assert!(view.layout().is(Layout::FORDER) && !view.layout().is(Layout::CORDER));
     /// ```
     fn layout(&self) -> Layout;
@@ -75,44 +65,25 @@ impl<D: crate::Dimension> NdProducer for Strided<D> {
     }
 }
 
-/// Not proved.
-impl<T, D: crate::Dimension> NdProducer for ArrayView<'_, T, D> {
-    type Dim = D;
+/// What each type of arrays says by its view.
+macro_rules! producers {
+    ($($array:ty),*) => {$(
+        /// Not proved.
+        impl<T, D: crate::Dimension> NdProducer for $array {
+            type Dim = D;
 
-    fn raw_dim(&self) -> D {
-        self.dim().clone()
-    }
+            fn raw_dim(&self) -> D {
+                self.strided().raw_dim()
+            }
 
-    fn layout(&self) -> Layout {
-        self.strided().layout()
-    }
+            fn layout(&self) -> Layout {
+                self.strided().layout()
+            }
+        }
+    )*};
 }
 
-/// Not proved.
-impl<T, D: crate::Dimension> NdProducer for ArrayViewMut<'_, T, D> {
-    type Dim = D;
-
-    fn raw_dim(&self) -> D {
-        self.dim().clone()
-    }
-
-    fn layout(&self) -> Layout {
-        self.strided().layout()
-    }
-}
-
-/// Not proved.
-impl<T, D: crate::Dimension> NdProducer for OwnedArray<T, D> {
-    type Dim = D;
-
-    fn raw_dim(&self) -> D {
-        self.dim().clone()
-    }
-
-    fn layout(&self) -> Layout {
-        self.strided().layout()
-    }
-}
+producers!(ArrayView<'_, T, D>, ArrayViewMut<'_, T, D>, OwnedArray<T, D>);
 
 /// All indices of an array, to be iterated over in row-major order. ndarray's `indices_of`. Not proved.
 ///
@@ -123,7 +94,7 @@ impl<T, D: crate::Dimension> NdProducer for OwnedArray<T, D> {
 /// ```
 /// use ndarray_layout::compat::{ArrayView, Ix2, indices_of};
 ///
-/// let view = ArrayView::from_shape(Ix2(2, 3).into(), &[5, 1, 3, 5, 1, 3]).unwrap();
+/// let view = ArrayView::from_shape(Ix2(2, 3), &[5, 1, 3, 5, 1, 3]).unwrap();
 /// assert_eq!(indices_of(&view).into_iter().find(|index| view.get(index) == Some(&3)), Some((0, 2)));
 /// ```
 #[inline]

@@ -1,8 +1,8 @@
 //! What a shape and an index can do, whatever their type, by the signatures of ndarray.
 
-use super::{DimAdd, DimMax, IntoDimension, NdIndex};
+use super::{DimAdd, DimMax, IntoDimension, NdIndex, or_panic};
 use crate::sealed::Sealed;
-use crate::{ArrayView1, ArrayViewMut1, Axis, Ix, Ix0, Ix1, IxDyn, Shape};
+use crate::{ArrayView, ArrayView1, ArrayViewMut, ArrayViewMut1, Axis, Ix, Ix0, Ix1, IxDyn, Lengths, Shape};
 use core::fmt::Debug;
 use core::ops::{Add, AddAssign, IndexMut, Mul, MulAssign, Sub, SubAssign};
 
@@ -55,6 +55,7 @@ pub trait Dimension:
     + DimAdd<Ix0, Output = Self>
     + DimAdd<Ix1, Output = <Self as Dimension>::Larger>
     + DimAdd<IxDyn, Output = IxDyn>
+    + crate::DimensionExt
     + Sealed
 {
     /// The count of axes, or `None` where values of the type may differ in it. ndarray's `NDIM`.
@@ -105,7 +106,10 @@ pub trait Dimension:
     /// let (rows, columns) = Ix2(4, 5).into_pattern();
     /// assert_eq!((rows, columns), (4, 5));
     /// ```
-    fn into_pattern(self) -> Self::Pattern;
+    #[inline]
+    fn into_pattern(self) -> Self::Pattern {
+        crate::Dimension::into_pattern(self.into_proved())
+    }
 
     /// The product of all lengths. ndarray's `size`.
     ///
@@ -148,7 +152,10 @@ pub trait Dimension:
     /// shape.slice_mut().reverse();
     /// assert_eq!(shape, Ix2(5, 4));
     /// ```
-    fn slice_mut(&mut self) -> &mut [Ix];
+    #[inline]
+    fn slice_mut(&mut self) -> &mut [Ix] {
+        Lengths::slice_mut(self.proved_mut())
+    }
 
     /// The lengths as a view. ndarray's `as_array_view`.
     ///
@@ -157,7 +164,9 @@ pub trait Dimension:
     ///
     /// assert_eq!(Ix3(4, 5, 6).as_array_view().iter().sum::<usize>(), 15);
     /// ```
-    fn as_array_view(&self) -> ArrayView1<'_, Ix>;
+    fn as_array_view(&self) -> ArrayView1<'_, Ix> {
+        ArrayView::from(self.slice())
+    }
 
     /// The lengths as a view, to be written. ndarray's `as_array_view_mut`.
     ///
@@ -168,7 +177,9 @@ pub trait Dimension:
     /// shape.as_array_view_mut().fill(2);
     /// assert_eq!(shape, Ix3(2, 2, 2));
     /// ```
-    fn as_array_view_mut(&mut self) -> ArrayViewMut1<'_, Ix>;
+    fn as_array_view_mut(&mut self) -> ArrayViewMut1<'_, Ix> {
+        ArrayViewMut::from(self.slice_mut())
+    }
 
     /// Whether both have the same lengths. ndarray's `equal`.
     ///
@@ -216,7 +227,12 @@ pub trait Dimension:
     ///
     /// assert_eq!(Ix2::zeros(2), Ix2(0, 0));
     /// ```
-    fn zeros(ndim: usize) -> Self;
+    #[inline]
+    #[track_caller]
+    fn zeros(ndim: usize) -> Self {
+        assert!(Self::NDIM.is_none_or(|count| count == ndim), "the type has another count of axes");
+        Self::of_proved(or_panic(Lengths::zeros(ndim)))
+    }
 
     /// The first index, of zeros, where no length is 0. ndarray's `first_index`.
     ///
@@ -259,7 +275,10 @@ pub trait Dimension:
     ///
     /// assert!(Ix2(1, 5).strides_equivalent(&Ix2(5, 1), &Ix2(9, 1)));
     /// ```
-    fn strides_equivalent<D: Dimension>(&self, strides: &Self, others: &D) -> bool;
+    #[inline]
+    fn strides_equivalent<D: Dimension>(&self, strides: &Self, others: &D) -> bool {
+        crate::Dimension::strides_equivalent(self.proved(), strides.proved(), others.proved())
+    }
 
     /// The offset of an index from the first one. ndarray's `stride_offset`.
     ///
@@ -272,7 +291,10 @@ pub trait Dimension:
     ///
     /// assert_eq!(Ix2::stride_offset(&Ix2(1, 2), &Ix2(5, 1)), 7);
     /// ```
-    fn stride_offset(index: &Self, strides: &Self) -> isize;
+    #[inline]
+    fn stride_offset(index: &Self, strides: &Self) -> isize {
+        crate::Dimension::stride_offset(index.proved(), strides.proved())
+    }
 
     /// The offset of an index from the first one, where it is one. ndarray's `stride_offset_checked`.
     ///
@@ -306,7 +328,12 @@ pub trait Dimension:
     /// shape.set_last_elem(6);
     /// assert_eq!(shape, Ix2(4, 6));
     /// ```
-    fn set_last_elem(&mut self, len: usize);
+    #[inline]
+    #[track_caller]
+    fn set_last_elem(&mut self, len: usize) {
+        assert!(self.ndim() > 0, "there is no axis");
+        crate::Dimension::set_last_elem(self.proved_mut(), len);
+    }
 
     /// Whether a layout has no gaps between its elements. ndarray's `is_contiguous`.
     ///
@@ -315,7 +342,10 @@ pub trait Dimension:
     ///
     /// assert!(Ix2::is_contiguous(&Ix2(2, 3), &Ix2(1, 2)) && !Ix2::is_contiguous(&Ix2(2, 3), &Ix2(4, 1)));
     /// ```
-    fn is_contiguous(dim: &Self, strides: &Self) -> bool;
+    #[inline]
+    fn is_contiguous(dim: &Self, strides: &Self) -> bool {
+        crate::Dimension::is_contiguous(dim.proved(), strides.proved())
+    }
 
     /// The axes by rising magnitude of their strides. ndarray's `_fastest_varying_stride_order`.
     ///
@@ -341,7 +371,12 @@ pub trait Dimension:
     ///
     /// assert_eq!(Ix2(4, 5).min_stride_axis(&Ix2(1, 4)), Axis(0));
     /// ```
-    fn min_stride_axis(&self, strides: &Self) -> Axis;
+    #[inline]
+    #[track_caller]
+    fn min_stride_axis(&self, strides: &Self) -> Axis {
+        assert!(self.ndim() > 0, "there is no axis");
+        crate::Dimension::min_stride_axis(self.proved(), strides.proved())
+    }
 
     /// The axis with the stride of greatest magnitude. ndarray's `max_stride_axis`.
     ///
@@ -354,7 +389,12 @@ pub trait Dimension:
     ///
     /// assert_eq!(Ix2(4, 5).max_stride_axis(&Ix2(1, 4)), Axis(1));
     /// ```
-    fn max_stride_axis(&self, strides: &Self) -> Axis;
+    #[inline]
+    #[track_caller]
+    fn max_stride_axis(&self, strides: &Self) -> Axis {
+        assert!(self.ndim() > 0, "there is no axis");
+        crate::Dimension::max_stride_axis(self.proved(), strides.proved())
+    }
 
     /// The same list, as a dimension of any number of axes. ndarray's `into_dyn`.
     ///
@@ -367,7 +407,10 @@ pub trait Dimension:
     ///
     /// assert_eq!(Ix2(4, 5).into_dyn(), IxDyn(&[4, 5]));
     /// ```
-    fn into_dyn(self) -> IxDyn;
+    #[inline]
+    fn into_dyn(self) -> IxDyn {
+        or_panic(crate::Dimension::into_dyn(self.into_proved()))
+    }
 
     /// The same list, where the type has its count of axes. ndarray's `from_dimension`.
     ///
@@ -381,7 +424,10 @@ pub trait Dimension:
     /// let shape = IxDyn(&[4, 5]);
     /// assert_eq!((Ix2::from_dimension(&shape), Ix1::from_dimension(&shape)), (Some(Ix2(4, 5)), None));
     /// ```
-    fn from_dimension<D: Dimension>(dim: &D) -> Option<Self>;
+    #[inline]
+    fn from_dimension<D: Dimension>(dim: &D) -> Option<Self> {
+        or_panic(crate::Dimension::from_dimension(dim.proved())).map(Self::of_proved)
+    }
 
     /// The list with an axis of length 1 more. ndarray's `insert_axis`.
     ///

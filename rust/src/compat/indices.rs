@@ -1,6 +1,6 @@
 //! The indices of shapes, by the signatures of ndarray.
 
-use super::{Dimension, IntoDimension, of_memory};
+use super::{Dimension, IntoDimension, or_panic};
 use crate::{Indices, IndicesIterF};
 
 /// All indices of a shape, to be iterated over in row-major order. ndarray's `indices`. Not proved.
@@ -24,7 +24,7 @@ use crate::{Indices, IndicesIterF};
 #[must_use]
 #[track_caller]
 pub fn indices<E: IntoDimension>(shape: E) -> Indices<<E::Dim as Dimension>::Proved> {
-    of_memory(crate::all_indices(shape.into_dimension().into_proved()))
+    or_panic(crate::all_indices(shape.into_dimension().into_proved()))
 }
 
 /// An iterator over all indices of a shape, in column-major order. ndarray's `indices_iter_f`. Not proved.
@@ -42,5 +42,5 @@ pub fn indices<E: IntoDimension>(shape: E) -> Indices<<E::Dim as Dimension>::Pro
 #[must_use]
 #[track_caller]
 pub fn indices_iter_f<E: IntoDimension>(shape: E) -> IndicesIterF<<E::Dim as Dimension>::Proved> {
-    of_memory(crate::indices_iter_f(shape.into_dimension().into_proved()))
+    or_panic(crate::indices_iter_f(shape.into_dimension().into_proved()))
 }

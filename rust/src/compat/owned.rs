@@ -1,9 +1,7 @@
 //! Arrays that own their items: ndarray's names, and the calls of its arrays that ask the layer for a layout.
 
-use super::{Dimension, ShapeBuilder, fitting, of_memory, of_shapes};
-use crate::memory::FallibleVec;
+use super::{Dimension, ShapeBuilder, or_panic};
 use crate::{ArrayView, Fit, Ix0, Ix1, Ix2, Ix3, Ix4, Ix5, Ix6, IxDyn, OwnedArray, SliceArg};
-use alloc::vec::Vec;
 
 /// An array that owns its items. ndarray's `Array`. Not proved.
 ///
@@ -38,6 +36,30 @@ pub type Array6<A> = Array<A, Ix6>;
 
 /// An array of any number of axes. ndarray's `ArrayD`. Not proved.
 pub type ArrayD<A> = Array<A, IxDyn>;
+
+/// The array of one axis of copies of items. ndarray's `arr1`. Not proved.
+///
+/// ```
+/// use ndarray_layout::compat::{arr1, array};
+///
+/// assert_eq!(arr1(&[1, 2, 3]), array![1, 2, 3]);
+/// ```
+#[must_use]
+pub fn arr1<A: Clone>(items: &[A]) -> Array1<A> {
+    Array::from(items.to_vec())
+}
+
+/// The array of two axes of copies of rows. ndarray's `arr2`. Not proved.
+///
+/// ```
+/// use ndarray_layout::compat::{arr2, array};
+///
+/// assert_eq!(arr2(&[[1, 2], [3, 4]]), array![[1, 2], [3, 4]]);
+/// ```
+#[must_use]
+pub fn arr2<A: Clone, const N: usize>(rows: &[[A; N]]) -> Array2<A> {
+    Array2::from(rows.to_vec())
+}
 
 /// Calls of ndarray's arrays that ask the layer for a layout. Not proved.
 pub trait ArrayExt<A, D: Dimension>: Sized {
@@ -81,17 +103,12 @@ impl<A, D: crate::Dimension> ArrayExt<A, D> for OwnedArray<A, D> {
     where
         A: Clone + Default,
     {
-        let shape = shape.into_shape_with_order();
-        let count = fitting(crate::size_of_shape_checked(shape.raw_dim()));
-        let mut items = of_memory(Vec::fallible_with_capacity(count));
-        items.resize(count, A::default());
-        let array = OwnedArray::from_shape_vec(shape.into(), items);
-        fitting(of_shapes(array.map_err(|(fault, _items)| fault)))
+        OwnedArray::from_elem(shape.into_shape_with_order(), A::default())
     }
 
     #[track_caller]
     fn slice<I: SliceArg<D>>(&self, info: I) -> ArrayView<'_, A, I::OutDim> {
-        let view = fitting(of_shapes(self.strided().slice(&info, Fit::Strict)));
-        fitting(ArrayView::over(view, self.stored()))
+        let view = or_panic(self.strided().slice(&info, Fit::Strict));
+        or_panic(ArrayView::over(view, self.stored()))
     }
 }

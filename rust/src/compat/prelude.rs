@@ -12,5 +12,6 @@ pub use super::{
     Array, Array0, Array1, Array2, Array3, Array4, Array5, Array6, ArrayD, ArrayExt, ArrayView, ArrayView0, ArrayView1,
     ArrayView2, ArrayView3, ArrayView4, ArrayView5, ArrayView6, ArrayViewD, ArrayViewMut, ArrayViewMut0, ArrayViewMut1,
     ArrayViewMut2, ArrayViewMut3, ArrayViewMut4, ArrayViewMut5, ArrayViewMut6, ArrayViewMutD, Axis, Dim, Dimension,
-    Ix0, Ix1, Ix2, Ix3, Ix4, Ix5, Ix6, IxDyn, NewAxis, ShapeBuilder, ShapeError, ShapeSize, s,
+    Ix0, Ix1, Ix2, Ix3, Ix4, Ix5, Ix6, IxDyn, NdProducer, NewAxis, ShapeBuilder, ShapeError, ShapeSize, arr1, arr2,
+    array, s,
 };

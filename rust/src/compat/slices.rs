@@ -1,6 +1,6 @@
 //! Slices of axes and of shapes, by the signatures of ndarray.
 
-use super::{Dimension, SliceArg, fitting};
+use super::{Dimension, SliceArg, or_panic};
 use crate::{Fit, Slice};
 
 /// The start, the end and the step of a slice of an axis, with both bounds counted from 0. ndarray's `to_abs_slice`.
@@ -19,7 +19,7 @@ use crate::{Fit, Slice};
 #[must_use]
 #[track_caller]
 pub fn to_abs_slice(axis_len: usize, slice: Slice) -> (usize, usize, isize) {
-    fitting(crate::to_abs_slice(axis_len, slice, Fit::Strict))
+    or_panic(crate::to_abs_slice(axis_len, slice, Fit::Strict))
 }
 
 /// Slices an axis in place, and returns how far its first coordinate moves. ndarray's `do_slice`. Not proved.
@@ -39,7 +39,7 @@ pub fn to_abs_slice(axis_len: usize, slice: Slice) -> (usize, usize, isize) {
 #[must_use]
 #[track_caller]
 pub fn do_slice(dim: &mut usize, stride: &mut usize, slice: Slice) -> isize {
-    fitting(crate::do_slice(dim, stride, slice, Fit::Strict))
+    or_panic(crate::do_slice(dim, stride, slice, Fit::Strict))
 }
 
 /// The least and the greatest coordinate that a slice picks; `None` where it picks none. ndarray's `slice_min_max`.
@@ -79,5 +79,5 @@ pub fn slice_min_max(axis_len: usize, slice: Slice) -> Option<(usize, usize)> {
 #[must_use]
 #[track_caller]
 pub fn slices_intersect<D: Dimension>(dim: &D, indices1: impl SliceArg<D>, indices2: impl SliceArg<D>) -> bool {
-    fitting(crate::slices_intersect(dim.proved(), &indices1.as_ref(), &indices2.as_ref(), Fit::Strict))
+    or_panic(crate::slices_intersect(dim.proved(), &indices1.as_ref(), &indices2.as_ref(), Fit::Strict))
 }

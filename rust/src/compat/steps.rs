@@ -1,6 +1,6 @@
 //! Calls on the axes of one layout or of two, by the signatures of ndarray.
 
-use super::{Dimension, DimensionExt, of_shapes};
+use super::{Dimension, of_shapes};
 use crate::{Axes, Axis, Order, ShapeError};
 
 /// The axes of a layout, one by one. ndarray's `axes_of`. Not proved.

@@ -18,7 +18,7 @@ pub type ArrayView1<'a, T> = ArrayView<'a, T, Ix1>;
 /// }
 ///
 /// # fn main() -> Result<(), LayoutError> {
-/// assert_eq!(trace(&ArrayView::from_shape(Ix2(2, 3).into(), &[1, 2, 3, 4, 5, 6])?), 1 + 5);
+/// assert_eq!(trace(&ArrayView::from_shape(Ix2(2, 3), &[1, 2, 3, 4, 5, 6])?), 1 + 5);
 /// # Ok(())
 /// # }
 /// ```
@@ -56,7 +56,7 @@ pub type ArrayViewMut1<'a, T> = ArrayViewMut<'a, T, Ix1>;
 ///
 /// # fn main() -> Result<(), LayoutError> {
 /// let mut items = [1, 2, 3, 4];
-/// assert!(clear_first(ArrayViewMut::from_shape(Ix2(2, 2).into(), &mut items)?));
+/// assert!(clear_first(ArrayViewMut::from_shape(Ix2(2, 2), &mut items)?));
 /// assert_eq!(items, [0, 2, 3, 4]);
 /// # Ok(())
 /// # }

@@ -2,7 +2,7 @@
 
 use crate::nd_base::{LayoutError, Lengths};
 use crate::nd_slice::{Fit, SliceArg};
-use crate::{ArrayView, ArrayViewMut, OwnedArray, PartMut};
+use crate::{ArrayView, ArrayViewMut, OwnedArray};
 
 impl<'a, T, D: Lengths> ArrayView<'a, T, D> {
     /// The items that a slice argument leaves, as an array of the type that the argument says: `Strided::sliced`, with its
@@ -14,8 +14,8 @@ impl<'a, T, D: Lengths> ArrayView<'a, T, D> {
     /// use ndarray_layout::{ArrayView, Ix1, Ix2, LayoutError, s};
     ///
     /// # fn main() -> Result<(), LayoutError> {
-    /// let table = ArrayView::from_shape(Ix2(2, 3).into(), &[0, 1, 2, 3, 4, 5])?;
-    /// let row: ArrayView<'_, _, Ix1> = table.sliced(s![1, ..;-1])?;
+    /// let table = ArrayView::from_shape(Ix2(2, 3), &[0, 1, 2, 3, 4, 5])?;
+    /// let row: ArrayView<'_, _, Ix1> = table.slice(s![1, ..;-1])?;
     /// assert_eq!((row[0], row[1], row[2]), (5, 4, 3));
     /// # Ok(())
     /// # }
@@ -27,12 +27,12 @@ impl<'a, T, D: Lengths> ArrayView<'a, T, D> {
     /// use ndarray_layout::{ArrayView, Ix2, LayoutError, s};
     ///
     /// fn len(table: &ArrayView<'_, u8, Ix2>) -> Result<usize, LayoutError> {
-    ///     Ok(table.sliced(s![1])?.len())
+    ///     Ok(table.slice(s![1])?.len())
     /// }
     /// ```
     #[inline]
-    pub fn sliced<I: SliceArg<D>>(&self, slices: I) -> Result<ArrayView<'a, T, I::OutDim>, LayoutError> {
-        self.slice(&slices, Fit::Strict)
+    pub fn slice<I: SliceArg<D>>(&self, slices: I) -> Result<ArrayView<'a, T, I::OutDim>, LayoutError> {
+        self.slice_with(&slices, Fit::Strict)
     }
 }
 
@@ -47,14 +47,14 @@ impl<'a, T, D: Lengths> ArrayViewMut<'a, T, D> {
     ///
     /// # fn main() -> Result<(), LayoutError> {
     /// let mut items = [0, 1, 2, 3, 4, 5];
-    /// let table = ArrayViewMut::from_shape(Ix2(2, 3).into(), &mut items)?;
-    /// assert_eq!(table.sliced(s![.., 1..])?[(1, 0)], 4);
+    /// let table = ArrayViewMut::from_shape(Ix2(2, 3), &mut items)?;
+    /// assert_eq!(table.slice(s![.., 1..])?[(1, 0)], 4);
     /// # Ok(())
     /// # }
     /// ```
     #[inline]
-    pub fn sliced<I: SliceArg<D>>(&self, slices: I) -> Result<ArrayView<'_, T, I::OutDim>, LayoutError> {
-        Ok(ArrayView::new(self.strided().slice(&slices, Fit::Strict)?, self.stored()))
+    pub fn slice<I: SliceArg<D>>(&self, slices: I) -> Result<ArrayView<'_, T, I::OutDim>, LayoutError> {
+        self.try_view()?.slice_with(&slices, Fit::Strict)
     }
 
     /// The items that a slice argument leaves, to be written, after which this array may be used again: `Strided::sliced`, with
@@ -67,9 +67,9 @@ impl<'a, T, D: Lengths> ArrayViewMut<'a, T, D> {
     ///
     /// # fn main() -> Result<(), LayoutError> {
     /// let mut items = [0, 1, 2, 3, 4, 5];
-    /// let mut table = ArrayViewMut::from_shape(Ix2(2, 3).into(), &mut items)?;
-    /// table.sliced_mut(s![.., 1..;2])?.fill(9);
-    /// table.sliced_mut(s![1, ..])?.fill(7);
+    /// let mut table = ArrayViewMut::from_shape(Ix2(2, 3), &mut items)?;
+    /// table.slice_mut(s![.., 1..;2])?.fill(9);
+    /// table.slice_mut(s![1, ..])?.fill(7);
     /// assert_eq!(items, [0, 9, 2, 7, 7, 7]);
     /// # Ok(())
     /// # }
@@ -81,14 +81,13 @@ impl<'a, T, D: Lengths> ArrayViewMut<'a, T, D> {
     /// use ndarray_layout::{ArrayViewMut, Ix2, LayoutError, s};
     ///
     /// fn clear(table: &mut ArrayViewMut<'_, u8, Ix2>) -> Result<(), LayoutError> {
-    ///     table.sliced_mut(s![.., .., 0])?.fill(0);
+    ///     table.slice_mut(s![.., .., 0])?.fill(0);
     ///     Ok(())
     /// }
     /// ```
     #[inline]
-    pub fn sliced_mut<I: SliceArg<D>>(&mut self, slices: I) -> Result<ArrayViewMut<'_, T, I::OutDim>, LayoutError> {
-        let (view, items) = self.parts_mut();
-        Ok(ArrayViewMut::new(view.slice(&slices, Fit::Strict)?, items))
+    pub fn slice_mut<I: SliceArg<D>>(&mut self, slices: I) -> Result<ArrayViewMut<'_, T, I::OutDim>, LayoutError> {
+        self.slice_mut_with(&slices, Fit::Strict)
     }
 
     /// The items that a slice argument leaves, to be written for as long as those of this array, which it ends:
@@ -100,19 +99,19 @@ impl<'a, T, D: Lengths> ArrayViewMut<'a, T, D> {
     /// use ndarray_layout::{ArrayViewMut, Ix1, Ix2, LayoutError, s};
     ///
     /// fn last_row<'a>(table: ArrayViewMut<'a, u8, Ix2>) -> Result<ArrayViewMut<'a, u8, Ix1>, LayoutError> {
-    ///     table.sliced_move(s![-1, ..])
+    ///     table.slice_move(s![-1, ..])
     /// }
     ///
     /// # fn main() -> Result<(), LayoutError> {
     /// let mut items = [0, 1, 2, 3];
-    /// last_row(ArrayViewMut::from_shape(Ix2(2, 2).into(), &mut items)?)?.fill(9);
+    /// last_row(ArrayViewMut::from_shape(Ix2(2, 2), &mut items)?)?.fill(9);
     /// assert_eq!(items, [0, 1, 9, 9]);
     /// # Ok(())
     /// # }
     /// ```
     #[inline]
-    pub fn sliced_move<I: SliceArg<D>>(self, slices: I) -> Result<ArrayViewMut<'a, T, I::OutDim>, LayoutError> {
-        self.slice(&slices, Fit::Strict)
+    pub fn slice_move<I: SliceArg<D>>(self, slices: I) -> Result<ArrayViewMut<'a, T, I::OutDim>, LayoutError> {
+        self.slice_move_with(&slices, Fit::Strict)
     }
 }
 
@@ -125,14 +124,14 @@ impl<T, D: Lengths> OwnedArray<T, D> {
     /// use ndarray_layout::{Ix2, LayoutError, OwnedArray, s};
     ///
     /// # fn main() -> Result<(), LayoutError> {
-    /// let table = OwnedArray::from_shape_vec(Ix2(2, 3).into(), vec![0, 1, 2, 3, 4, 5])?;
+    /// let table = OwnedArray::from_shape_vec(Ix2(2, 3), vec![0, 1, 2, 3, 4, 5])?;
     /// assert_eq!(table.sliced(s![.., 1..])?[(1, 0)], 4);
     /// # Ok(())
     /// # }
     /// ```
     #[inline]
     pub fn sliced<I: SliceArg<D>>(&self, slices: I) -> Result<ArrayView<'_, T, I::OutDim>, LayoutError> {
-        Ok(ArrayView::new(self.strided().slice(&slices, Fit::Strict)?, self.stored()))
+        self.try_view()?.slice_with(&slices, Fit::Strict)
     }
 
     /// The items that a slice argument leaves, to be written: `Strided::sliced`, with its errors. Not proved.
@@ -143,63 +142,14 @@ impl<T, D: Lengths> OwnedArray<T, D> {
     /// use ndarray_layout::{Ix2, LayoutError, OwnedArray, s};
     ///
     /// # fn main() -> Result<(), LayoutError> {
-    /// let mut table = OwnedArray::from_shape_vec(Ix2(2, 3).into(), vec![0, 1, 2, 3, 4, 5])?;
-    /// table.sliced_mut(s![.., 1..;2])?.fill(9);
+    /// let mut table = OwnedArray::from_shape_vec(Ix2(2, 3), vec![0, 1, 2, 3, 4, 5])?;
+    /// table.slice_mut(s![.., 1..;2])?.fill(9);
     /// assert_eq!(table.stored(), [0, 9, 2, 3, 9, 5]);
     /// # Ok(())
     /// # }
     /// ```
     #[inline]
-    pub fn sliced_mut<I: SliceArg<D>>(&mut self, slices: I) -> Result<ArrayViewMut<'_, T, I::OutDim>, LayoutError> {
-        let (view, items) = self.parts_mut();
-        Ok(ArrayViewMut::new(view.slice(&slices, Fit::Strict)?, items))
-    }
-}
-
-impl<'a, T, D: Lengths> PartMut<'a, T, D> {
-    /// The items that a slice argument leaves, to be written, after which this part may be used again: `Strided::sliced`, with its
-    /// errors. Not proved.
-    ///
-    /// ndarray's `slice_mut`, which panics.
-    ///
-    /// ```
-    /// use ndarray_layout::{ArrayViewMut, Ix2, LayoutError, s};
-    ///
-    /// # fn main() -> Result<(), LayoutError> {
-    /// let mut items = [0, 1, 2, 3, 4, 5];
-    /// let mut part = ArrayViewMut::from_shape(Ix2(2, 3).into(), &mut items)?.into_part();
-    /// part.sliced_mut(s![.., 1..;2])?.fill(9);
-    /// part.sliced_mut(s![1, ..])?[0] = 7;
-    /// assert_eq!(items, [0, 9, 2, 7, 9, 5]);
-    /// # Ok(())
-    /// # }
-    /// ```
-    #[inline]
-    pub fn sliced_mut<I: SliceArg<D>>(&mut self, slices: I) -> Result<PartMut<'_, T, I::OutDim>, LayoutError> {
-        self.slice_mut(&slices, Fit::Strict)
-    }
-
-    /// The items that a slice argument leaves, to be written for as long as those of this part, which it ends: `Strided::sliced`,
-    /// with its errors. Not proved.
-    ///
-    /// ndarray's `slice_move`, which panics.
-    ///
-    /// ```
-    /// use ndarray_layout::{ArrayViewMut, Ix1, Ix2, LayoutError, PartMut, s};
-    ///
-    /// fn last_column<'a>(part: PartMut<'a, u8, Ix2>) -> Result<PartMut<'a, u8, Ix1>, LayoutError> {
-    ///     part.sliced_move(s![.., -1])
-    /// }
-    ///
-    /// # fn main() -> Result<(), LayoutError> {
-    /// let mut items = [0, 1, 2, 3];
-    /// last_column(ArrayViewMut::from_shape(Ix2(2, 2).into(), &mut items)?.into_part())?.fill(9);
-    /// assert_eq!(items, [0, 9, 2, 9]);
-    /// # Ok(())
-    /// # }
-    /// ```
-    #[inline]
-    pub fn sliced_move<I: SliceArg<D>>(self, slices: I) -> Result<PartMut<'a, T, I::OutDim>, LayoutError> {
-        self.slice(&slices, Fit::Strict)
+    pub fn slice_mut<I: SliceArg<D>>(&mut self, slices: I) -> Result<ArrayViewMut<'_, T, I::OutDim>, LayoutError> {
+        self.try_view_mut()?.slice_move_with(&slices, Fit::Strict)
     }
 }

@@ -2,20 +2,17 @@
 
 use super::OUT_OF_MEMORY;
 use crate::arrays::no_such_index;
-use crate::memory::FallibleVec;
+use crate::memory::{FallibleSlice, FallibleVec};
 use crate::nd_base::{Dim, ErrorKind, LayoutError, Lengths, from_kind};
 use crate::nd_dim::product;
 use crate::nd_shape::{NdIndex, StrideShape, Strides};
-use crate::{ArrayView, Items, LentRow, OwnedArray};
+use crate::{ArrayView, Items, OwnedArray};
 use alloc::vec::Vec;
 use core::ops::{Index, IndexMut};
 
 /// The array of a layout that is known to fit the items.
 fn array_of<T, D: Lengths>(shape: StrideShape<D>, items: Vec<T>) -> OwnedArray<T, D> {
-    match OwnedArray::from_shape_vec(shape, items) {
-        Ok(array) => array,
-        Err((fault, _)) => panic!("the array is not made: {fault}"),
-    }
+    OwnedArray::from_shape_vec(shape, items).unwrap_or_else(|(fault, _)| panic!("the array is not made: {fault}"))
 }
 
 impl<T, D: Lengths> OwnedArray<T, D> {
@@ -32,20 +29,36 @@ impl<T, D: Lengths> OwnedArray<T, D> {
     /// use std::error::Error;
     ///
     /// fn table(items: Vec<u8>) -> Result<OwnedArray<u8, Ix2>, Box<dyn Error>> {
-    ///     Ok(OwnedArray::from_exact_vec(Ix2(2, 2).into(), items)?)
+    ///     Ok(OwnedArray::from_exact_vec(Ix2(2, 2), items)?)
     /// }
     ///
     /// assert_eq!(table(vec![7, 8, 9, 10]).unwrap()[(1, 0)], 9);
     /// assert!(table(vec![7; 3]).is_err() && table(vec![7; 5]).is_err());
     /// ```
-    pub fn from_exact_vec(shape: StrideShape<D>, items: Vec<T>) -> Result<Self, LayoutError> {
-        let (count, may_be_more) = (items.len(), shape.strides.is_custom());
+    pub fn from_exact_vec(shape: impl Into<StrideShape<D>>, items: Vec<T>) -> Result<Self, LayoutError> {
+        let (shape, count) = (shape.into(), items.len());
+        let may_be_more = shape.strides.is_custom();
         let array = Self::from_shape_vec(shape, items)?;
-        match array.len() == count || may_be_more {
-            true => Ok(array),
-            false => Err(LayoutError::Shape(from_kind(ErrorKind::IncompatibleShape))),
-        }
+        let is_exact = may_be_more || array.len() == count;
+        is_exact.then_some(array).ok_or(LayoutError::Shape(from_kind(ErrorKind::IncompatibleShape)))
     }
+}
+
+/// The array of one or two axes of items between brackets. ndarray's `array!`, of which `vec!` has to be in scope. Not proved.
+///
+/// ```
+/// use ndarray_layout::{LayoutError, array};
+///
+/// # fn main() -> Result<(), LayoutError> {
+/// let table = array![[1, 2, 3], [4, 5, 6]];
+/// assert_eq!((table.nrows(), table[(1, 0)], array![7, 8].len()), (2, 4, 2));
+/// # Ok(())
+/// # }
+/// ```
+#[macro_export]
+macro_rules! array {
+    ($([$($item:expr),* $(,)?]),+ $(,)?) => { $crate::OwnedArray::<_, $crate::Ix2>::from(vec![$([$($item),*]),+]) };
+    ($($item:expr),* $(,)?) => { $crate::OwnedArray::<_, $crate::Ix1>::from(vec![$($item),*]) };
 }
 
 /// A copy with the same layout and items, spare ones too. Not proved.
@@ -58,18 +71,15 @@ impl<T, D: Lengths> OwnedArray<T, D> {
 /// use ndarray_layout::{Ix1, LayoutError, OwnedArray};
 ///
 /// # fn main() -> Result<(), LayoutError> {
-/// let words = OwnedArray::from_shape_vec(Ix1(2).into(), vec!["a".to_string(), "b".to_string()])?;
+/// let words = OwnedArray::from_shape_vec(Ix1(2), vec!["a".to_string(), "b".to_string()])?;
 /// assert_eq!(words.clone(), words);
 /// # Ok(())
 /// # }
 /// ```
 impl<T: Clone, D: Lengths> Clone for OwnedArray<T, D> {
     fn clone(&self) -> Self {
-        let dim = self.dim().duplicate().expect(OUT_OF_MEMORY);
-        let strides = self.strided().strides().duplicate().expect(OUT_OF_MEMORY);
-        let mut items = Vec::fallible_with_capacity(self.stored().len()).expect(OUT_OF_MEMORY);
-        items.extend_from_slice(self.stored());
-        array_of(StrideShape { dim, strides: Strides::Custom(strides) }, items)
+        let (dim, strides) = (self.dim().clone(), Strides::Custom(self.strided().strides().clone()));
+        array_of(StrideShape { dim, strides }, self.stored().fallible_to_vec().expect(OUT_OF_MEMORY))
     }
 }
 
@@ -105,7 +115,7 @@ impl<T: Default, D: Lengths + Default> Default for OwnedArray<T, D> {
 /// use ndarray_layout::{ArrayView, Ix2, LayoutError};
 ///
 /// # fn main() -> Result<(), LayoutError> {
-/// let square = ArrayView::from_shape(Ix2(2, 2).into(), &[1, 2, 3, 4])?;
+/// let square = ArrayView::from_shape(Ix2(2, 2), &[1, 2, 3, 4])?;
 /// let turned = square.reversed_axes(); // `square` is copied
 /// assert_eq!((square[(0, 1)], turned[(0, 1)]), (2, 3));
 /// # Ok(())
@@ -119,16 +129,6 @@ impl<T, D: Lengths> Clone for ArrayView<'_, T, D> {
 
 /// Not proved.
 impl<T, const N: usize> Copy for ArrayView<'_, T, Dim<[usize; N]>> {}
-
-/// Not proved.
-impl<T> Clone for LentRow<'_, T> {
-    fn clone(&self) -> Self {
-        *self
-    }
-}
-
-/// Not proved.
-impl<T> Copy for LentRow<'_, T> {}
 
 /// Iterates over copies of the items of all indices, in row-major order. Not proved.
 impl<'a, T: Copy, D: Lengths> IntoIterator for &'a OwnedArray<T, D> {

@@ -1,76 +1,56 @@
 //! Arrays as values that are compared and hashed: by their shapes and items, whatever their layouts are.
 
-use crate::arrays::same_items;
-use crate::nd_base::{Lengths, Order};
-use crate::ndarray_layout::Strided;
+use crate::nd_base::Lengths;
 use crate::{ArrayView, ArrayViewMut, OwnedArray};
 use core::hash::{Hash, Hasher};
 
-/// A view, and the items at its places.
-type Read<'a, T, D> = (&'a Strided<D>, &'a [T]);
-
-/// Hashes the shape and the items, in row-major order.
-fn hash_of<T: Hash, D: Lengths, H: Hasher>((view, items): Read<'_, T, D>, state: &mut H) {
-    view.dim().slice().hash(state);
-    view.iter_places(Order::RowMajor).for_each(|place| items[place].hash(state));
-}
-
-/// Equality of each pair of types.
+/// Equality of each type with others.
 macro_rules! compared {
-    ($($one:ty, $other:ty: $($lifetime:lifetime),*;)*) => {$(
+    ($([$one:ty] $($other:ty),*;)*) => {$($(
         /// Whether both have one shape and, at each index, equal items. Layouts and spare items don't count. Rows whose items
-        /// lie side by side are compared as slices. Not proved.
+        /// lie side by side are compared as slices. Not proved, but for `ArrayView::eq`, which it calls.
         ///
         /// ```
         /// use ndarray_layout::{ArrayView, ArrayViewMut, Ix1, LayoutError, OwnedArray};
         ///
         /// # fn main() -> Result<(), LayoutError> {
         /// let (numbers, mut others) = ([1, 2], [1, 2]);
-        /// let view = ArrayView::from_shape(Ix1(2).into(), &numbers)?;
-        /// let mut view_mut = ArrayViewMut::from_shape(Ix1(2).into(), &mut others)?;
+        /// let view = ArrayView::from_shape(Ix1(2), &numbers)?;
+        /// let mut view_mut = ArrayViewMut::from_shape(Ix1(2), &mut others)?;
         /// assert_eq!(view, view_mut);
         /// view_mut.fill(3);
-        /// assert_ne!(OwnedArray::from_shape_vec(Ix1(2).into(), vec![1, 2])?, view_mut);
+        /// assert_ne!(OwnedArray::from_shape_vec(Ix1(2), vec![1, 2])?, view_mut);
         /// # Ok(())
         /// # }
         /// ```
-        impl<$($lifetime,)* T: PartialEq<U>, U, D: Lengths> PartialEq<$other> for $one {
+        impl<T: PartialEq<U>, U, D: Lengths> PartialEq<$other> for $one {
             fn eq(&self, other: &$other) -> bool {
-                same_items((self.strided(), self.stored()), (other.strided(), other.stored()))
+                ArrayView::eq(&self.view(), &other.view())
             }
         }
-    )*};
+    )*)*};
 }
 
 compared! {
-    ArrayView<'a, T, D>, ArrayView<'b, U, D>: 'a, 'b;
-    ArrayView<'a, T, D>, ArrayViewMut<'b, U, D>: 'a, 'b;
-    ArrayView<'a, T, D>, OwnedArray<U, D>: 'a;
-    ArrayViewMut<'a, T, D>, ArrayView<'b, U, D>: 'a, 'b;
-    ArrayViewMut<'a, T, D>, ArrayViewMut<'b, U, D>: 'a, 'b;
-    ArrayViewMut<'a, T, D>, OwnedArray<U, D>: 'a;
-    OwnedArray<T, D>, ArrayView<'a, U, D>: 'a;
-    OwnedArray<T, D>, ArrayViewMut<'a, U, D>: 'a;
-    OwnedArray<T, D>, OwnedArray<U, D>:;
+    [ArrayView<'_, T, D>] ArrayView<'_, U, D>, ArrayViewMut<'_, U, D>, OwnedArray<U, D>;
+    [ArrayViewMut<'_, T, D>] ArrayView<'_, U, D>, ArrayViewMut<'_, U, D>, OwnedArray<U, D>;
+    [OwnedArray<T, D>] ArrayView<'_, U, D>, ArrayViewMut<'_, U, D>, OwnedArray<U, D>;
 }
 
 /// What each type has whose items have it.
 macro_rules! valued {
-    ($($array:ty: $($lifetime:lifetime),*;)*) => {$(
+    ($($array:ty),*) => {$(
         /// Not proved.
-        impl<$($lifetime,)* T: Eq, D: Lengths> Eq for $array {}
+        impl<T: Eq, D: Lengths> Eq for $array {}
 
         /// Hashes the shape and the items, in row-major order, so that equal arrays have equal hashes. Not proved.
-        impl<$($lifetime,)* T: Hash, D: Lengths> Hash for $array {
+        impl<T: Hash, D: Lengths> Hash for $array {
             fn hash<H: Hasher>(&self, state: &mut H) {
-                hash_of((self.strided(), self.stored()), state);
+                self.dim().slice().hash(state);
+                self.view().into_iter().for_each(|item| item.hash(state));
             }
         }
     )*};
 }
 
-valued! {
-    ArrayView<'a, T, D>: 'a;
-    ArrayViewMut<'a, T, D>: 'a;
-    OwnedArray<T, D>:;
-}
+valued!(ArrayView<'_, T, D>, ArrayViewMut<'_, T, D>, OwnedArray<T, D>);

@@ -12,7 +12,7 @@ use crate::nd_dim::Dimension;
 /// let shape: <Ix2 as DimAdd<Ix3>>::Output = Ix5(1, 2, 3, 4, 5);
 /// # let _ = shape;
 /// ```
-pub trait DimAdd<D: Dimension> {
+pub trait DimAdd<D> {
     /// The type with as many axes as both have together.
     type Output: Dimension;
 }
@@ -28,7 +28,7 @@ pub trait DimAdd<D: Dimension> {
 /// # Ok(())
 /// # }
 /// ```
-pub trait DimMax<D: Dimension> {
+pub trait DimMax<D> {
     /// The type with as many axes as the one of both that has more.
     type Output: Dimension;
 }
@@ -48,82 +48,35 @@ impl<D: Dimension> DimAdd<D> for IxDyn {
     type Output = IxDyn;
 }
 
-/// What a trait makes of one type with others.
-macro_rules! outputs {
-    ($trait:ident: $($left:ty, $($right:ty)+ => $output:ty;)*) => {$($(
+/// Each type with the one that has an axis more.
+macro_rules! sums {
+    ($($less:ident $more:ident),*) => {$(
         /// Not proved.
-        impl $trait<$right> for $left {
-            type Output = $output;
+        impl<D: Dimension> DimAdd<D> for $more {
+            type Output = <<$less as DimAdd<D>>::Output as Dimension>::Larger;
         }
-    )+)*};
+    )*};
 }
 
-outputs! {
-    DimAdd:
-    Ix1, Ix0 => Ix1;
-    Ix1, Ix1 => Ix2;
-    Ix1, Ix2 => Ix3;
-    Ix1, Ix3 => Ix4;
-    Ix1, Ix4 => Ix5;
-    Ix1, Ix5 => Ix6;
-    Ix1, Ix6 IxDyn => IxDyn;
-    Ix2, Ix0 => Ix2;
-    Ix2, Ix1 => Ix3;
-    Ix2, Ix2 => Ix4;
-    Ix2, Ix3 => Ix5;
-    Ix2, Ix4 => Ix6;
-    Ix2, Ix5 Ix6 IxDyn => IxDyn;
-    Ix3, Ix0 => Ix3;
-    Ix3, Ix1 => Ix4;
-    Ix3, Ix2 => Ix5;
-    Ix3, Ix3 => Ix6;
-    Ix3, Ix4 Ix5 Ix6 IxDyn => IxDyn;
-    Ix4, Ix0 => Ix4;
-    Ix4, Ix1 => Ix5;
-    Ix4, Ix2 => Ix6;
-    Ix4, Ix3 Ix4 Ix5 Ix6 IxDyn => IxDyn;
-    Ix5, Ix0 => Ix5;
-    Ix5, Ix1 => Ix6;
-    Ix5, Ix2 Ix3 Ix4 Ix5 Ix6 IxDyn => IxDyn;
-    Ix6, Ix0 => Ix6;
-    Ix6, Ix1 Ix2 Ix3 Ix4 Ix5 Ix6 IxDyn => IxDyn;
+sums!(Ix0 Ix1, Ix1 Ix2, Ix2 Ix3, Ix3 Ix4, Ix4 Ix5, Ix5 Ix6);
+
+/// The types by their counts of axes, each with those after it.
+macro_rules! greater {
+    ($least:ident $($greater:ident)*) => {
+        $(
+            /// Not proved.
+            impl DimMax<$greater> for $least {
+                type Output = $greater;
+            }
+
+            /// Not proved.
+            impl DimMax<$least> for $greater {
+                type Output = $greater;
+            }
+        )*
+        greater!($($greater)*);
+    };
+    () => {};
 }
 
-outputs! {
-    DimMax:
-    Ix0, Ix1 => Ix1;
-    Ix0, Ix2 => Ix2;
-    Ix0, Ix3 => Ix3;
-    Ix0, Ix4 => Ix4;
-    Ix0, Ix5 => Ix5;
-    Ix0, Ix6 => Ix6;
-    Ix0, IxDyn => IxDyn;
-    Ix1, Ix0 => Ix1;
-    Ix1, Ix2 => Ix2;
-    Ix1, Ix3 => Ix3;
-    Ix1, Ix4 => Ix4;
-    Ix1, Ix5 => Ix5;
-    Ix1, Ix6 => Ix6;
-    Ix1, IxDyn => IxDyn;
-    Ix2, Ix0 Ix1 => Ix2;
-    Ix2, Ix3 => Ix3;
-    Ix2, Ix4 => Ix4;
-    Ix2, Ix5 => Ix5;
-    Ix2, Ix6 => Ix6;
-    Ix2, IxDyn => IxDyn;
-    Ix3, Ix0 Ix1 Ix2 => Ix3;
-    Ix3, Ix4 => Ix4;
-    Ix3, Ix5 => Ix5;
-    Ix3, Ix6 => Ix6;
-    Ix3, IxDyn => IxDyn;
-    Ix4, Ix0 Ix1 Ix2 Ix3 => Ix4;
-    Ix4, Ix5 => Ix5;
-    Ix4, Ix6 => Ix6;
-    Ix4, IxDyn => IxDyn;
-    Ix5, Ix0 Ix1 Ix2 Ix3 Ix4 => Ix5;
-    Ix5, Ix6 => Ix6;
-    Ix5, IxDyn => IxDyn;
-    Ix6, Ix0 Ix1 Ix2 Ix3 Ix4 Ix5 => Ix6;
-    Ix6, IxDyn => IxDyn;
-    IxDyn, Ix0 Ix1 Ix2 Ix3 Ix4 Ix5 Ix6 => IxDyn;
-}
+greater!(Ix0 Ix1 Ix2 Ix3 Ix4 Ix5 Ix6 IxDyn);

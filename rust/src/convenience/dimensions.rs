@@ -1,10 +1,7 @@
 //! Dimensions by the names of their types, and from all that lengths are written as.
 
 use super::OUT_OF_MEMORY;
-use crate::nd_base::{
-    Axis, Dim, Ix0, Ix1, Ix2, Ix3, Ix4, Ix5, Ix6, IxDyn, IxDynImpl, Lengths, axis_of, new_ix0, new_ix1, new_ix2,
-    new_ix3, new_ix4, new_ix5, new_ix6, set_axis_of,
-};
+use crate::nd_base::{Axis, Dim, IxDyn, IxDynImpl, Lengths, axis_of, set_axis_of};
 use crate::nd_dim::{IntoDimension, new_dim};
 use alloc::vec::Vec;
 use core::ops::{
@@ -16,104 +13,6 @@ pub type Ix = usize;
 
 /// A stride, with its sign. ndarray's `Ixs`. Not proved.
 pub type Ixs = isize;
-
-/// The shape or the index of no axes. ndarray's `Ix0()`. Not proved.
-///
-/// ```
-/// use ndarray_layout::{Dimension, Ix0};
-///
-/// assert_eq!(Ix0().size(), 1);
-/// ```
-#[allow(non_snake_case)]
-#[inline]
-#[must_use]
-pub const fn Ix0() -> Ix0 {
-    new_ix0()
-}
-
-/// A shape or an index of one axis. ndarray's `Ix1(..)`. Not proved.
-///
-/// ```
-/// use ndarray_layout::Ix1;
-///
-/// assert_eq!(Ix1(4)[0], 4);
-/// ```
-#[allow(non_snake_case)]
-#[inline]
-#[must_use]
-pub const fn Ix1(i0: Ix) -> Ix1 {
-    new_ix1(i0)
-}
-
-/// A shape or an index of two axes. ndarray's `Ix2(..)`. Not proved.
-///
-/// ```
-/// use ndarray_layout::{Dimension, Ix2};
-///
-/// assert_eq!(Ix2(3, 5).size(), 15);
-/// ```
-#[allow(non_snake_case)]
-#[inline]
-#[must_use]
-pub const fn Ix2(i0: Ix, i1: Ix) -> Ix2 {
-    new_ix2(i0, i1)
-}
-
-/// A shape or an index of three axes. ndarray's `Ix3(..)`. Not proved.
-///
-/// ```
-/// use ndarray_layout::{Ix3, default_strides};
-///
-/// assert_eq!(default_strides(&Ix3(2, 3, 4)), Ok(Ix3(12, 4, 1)));
-/// ```
-#[allow(non_snake_case)]
-#[inline]
-#[must_use]
-pub const fn Ix3(i0: Ix, i1: Ix, i2: Ix) -> Ix3 {
-    new_ix3(i0, i1, i2)
-}
-
-/// A shape or an index of four axes. ndarray's `Ix4(..)`. Not proved.
-///
-/// ```
-/// use ndarray_layout::{Ix4, Lengths};
-///
-/// assert_eq!(Ix4(2, 3, 4, 5).slice(), [2, 3, 4, 5]);
-/// ```
-#[allow(non_snake_case)]
-#[inline]
-#[must_use]
-pub const fn Ix4(i0: Ix, i1: Ix, i2: Ix, i3: Ix) -> Ix4 {
-    new_ix4(i0, i1, i2, i3)
-}
-
-/// A shape or an index of five axes. ndarray's `Ix5(..)`. Not proved.
-///
-/// ```
-/// use ndarray_layout::{Ix5, Lengths};
-///
-/// assert_eq!(Ix5(2, 3, 4, 5, 6).slice(), [2, 3, 4, 5, 6]);
-/// ```
-#[allow(non_snake_case)]
-#[inline]
-#[must_use]
-pub const fn Ix5(i0: Ix, i1: Ix, i2: Ix, i3: Ix, i4: Ix) -> Ix5 {
-    new_ix5(i0, i1, i2, i3, i4)
-}
-
-/// A shape or an index of six axes. ndarray's `Ix6(..)`. Not proved.
-///
-/// ```
-/// use ndarray_layout::{Ix6, Lengths};
-///
-/// assert_eq!(Ix6(2, 3, 4, 5, 6, 7).slice(), [2, 3, 4, 5, 6, 7]);
-/// ```
-#[allow(non_snake_case)]
-#[inline]
-#[must_use]
-pub const fn Ix6(i0: Ix, i1: Ix, i2: Ix, i3: Ix, i4: Ix, i5: Ix) -> Ix6 {
-    new_ix6(i0, i1, i2, i3, i4, i5)
-}
 
 /// A shape or an index of any number of axes. ndarray's `IxDyn(..)`. Not proved.
 ///
@@ -127,6 +26,19 @@ pub const fn Ix6(i0: Ix, i1: Ix, i2: Ix, i3: Ix, i4: Ix, i5: Ix) -> Ix6 {
 /// use ndarray_layout::{Dimension, IxDyn};
 ///
 /// assert_eq!(IxDyn(&[5, 6, 3, 4]).size(), 360);
+/// ```
+///
+/// A list of coordinates is an index too: `get(&index)` takes a vector, where a slice needs `get(&&index[..])`.
+///
+/// ```
+/// use ndarray_layout::{IxDyn, LayoutError, OwnedArray};
+///
+/// # fn main() -> Result<(), LayoutError> {
+/// let table = OwnedArray::from_shape_vec(IxDyn(&[2, 2]), vec![7, 8, 9, 10])?;
+/// let index: Vec<usize> = "1 0".split(' ').filter_map(|word| word.parse().ok()).collect();
+/// assert_eq!((table.get(&index), table[&index[..]]), (Some(9), 9));
+/// # Ok(())
+/// # }
 /// ```
 #[allow(non_snake_case)]
 #[inline]

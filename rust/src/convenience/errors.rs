@@ -20,27 +20,6 @@ impl fmt::Display for LayoutError {
 /// Not proved.
 impl Error for LayoutError {}
 
-/// Not proved.
-impl Clone for LayoutError {
-    fn clone(&self) -> Self {
-        match self {
-            LayoutError::Shape(error) => LayoutError::Shape(error.clone()),
-            LayoutError::Memory(error) => LayoutError::Memory(*error),
-        }
-    }
-}
-
-/// Not proved.
-impl PartialEq for LayoutError {
-    fn eq(&self, other: &Self) -> bool {
-        match (self, other) {
-            (LayoutError::Shape(one), LayoutError::Shape(other)) => one == other,
-            (LayoutError::Memory(one), LayoutError::Memory(other)) => one == other,
-            _ => false,
-        }
-    }
-}
-
 /// Prints the number of the step that was not taken, and why. Not proved.
 impl fmt::Display for Stopped {
     fn fmt(&self, f: &mut fmt::Formatter<'_>) -> fmt::Result {

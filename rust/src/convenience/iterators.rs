@@ -5,7 +5,7 @@ use crate::nd_base::{IxDyn, Lengths, new_ixdyn};
 use crate::nd_dim::Dimension;
 use crate::nd_shape::{IndexCursor, IndexCursorF, IndicesIter, IndicesIterF};
 use crate::ndarray_layout::{IntoPlaces, Places, Rows};
-use crate::{IntoRows, Items, Iter, LentRows, PartItems, PartIter, PartRows, RowItems, ViewIter};
+use crate::{IntoRows, Items, Iter, IterMut, LanesMut, LentRows, RowItems, ViewIter};
 use core::iter::FusedIterator;
 
 /// What prints how many items are left: its generics, and its type.
@@ -31,9 +31,8 @@ printed! {
     [T, D: Lengths] ViewIter<'_, T, D>;
     [T, D: Lengths] IntoRows<'_, T, D>;
     [T] RowItems<'_, T>;
-    [T, D: Lengths] PartItems<'_, T, D>;
-    [T] PartIter<'_, T>;
-    [T, D: Lengths] PartRows<'_, T, D>;
+    [T, D: Lengths] IterMut<'_, T, D>;
+    [T, D: Lengths] LanesMut<'_, T, D>;
     [D: Dimension] IndicesIter<D>;
     [D: Dimension] IndicesIterF<D>;
 }

@@ -14,6 +14,6 @@
 #[doc(no_inline)]
 pub use crate::{
     ArrayView, ArrayViewMut, Axis, CanIndexCheckMode, Dim, Dimension, Fit, Ix0, Ix1, Ix2, Ix3, Ix4, Ix5, Ix6, IxDyn,
-    LayoutError, Lengths, NewAxis, Order, OwnedArray, PartMut, ShapeBuilder, ShapeError, Slice, SliceInfoElem, Strided,
+    LayoutError, Lengths, NewAxis, Order, OwnedArray, ShapeBuilder, ShapeError, Slice, SliceInfoElem, Strided, array,
     s,
 };

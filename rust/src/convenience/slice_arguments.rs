@@ -72,7 +72,6 @@ macro_rules! s {
 /// The range before `;` in `s!`, with its step multiplied by the one after. Not proved.
 #[doc(hidden)]
 #[inline]
-#[must_use]
 #[track_caller]
 pub fn stepped<S>(slice: S, step: impl TryInto<isize>) -> Slice
 where
@@ -155,7 +154,6 @@ impl<const N: usize> SliceBuilder<N> {
     /// No element. Not proved.
     #[allow(clippy::new_without_default)]
     #[inline]
-    #[must_use]
     pub fn new() -> Self {
         SliceBuilder { elems: [SliceInfoElem::NewAxis; N], count: 0, dims: PhantomData }
     }
@@ -164,7 +162,6 @@ impl<const N: usize> SliceBuilder<N> {
 impl<const N: usize, Din, Dout> SliceBuilder<N, Din, Dout> {
     /// One element more, of `N` in all. Not proved.
     #[inline]
-    #[must_use]
     pub fn and<S>(
         mut self,
         slice: S,
@@ -180,7 +177,6 @@ impl<const N: usize, Din, Dout> SliceBuilder<N, Din, Dout> {
 
     /// The slice argument of all elements. Not proved.
     #[inline]
-    #[must_use]
     pub fn info(self) -> SliceInfo<[SliceInfoElem; N], Din, Dout>
     where
         Din: FixedCount,
@@ -215,19 +211,6 @@ impl SliceElems for [SliceInfoElem] {
 
 /// Bare elements, for any number of axes. Not proved.
 impl SliceArg<IxDyn> for [SliceInfoElem] {
-    type OutDim = IxDyn;
-
-    fn in_ndim(&self) -> usize {
-        in_ndim_of(self)
-    }
-
-    fn out_ndim(&self) -> usize {
-        out_ndim_of(self)
-    }
-}
-
-/// Bare elements, for any number of axes. Not proved.
-impl SliceArg<IxDyn> for &[SliceInfoElem] {
     type OutDim = IxDyn;
 
     fn in_ndim(&self) -> usize {

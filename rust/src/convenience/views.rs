@@ -1,18 +1,34 @@
-//! Views, their parts and the steps between them as values that are copied, compared and printed.
+//! Views and the steps between them as values that are copied, printed and given another type.
 
 use super::OUT_OF_MEMORY;
 use super::printing::Signed;
 use crate::memory::FallibleSlice;
-use crate::nd_base::{Dim, Lengths};
-use crate::nd_dim::{Forward, Reverse};
-use crate::nd_shape::{CanIndexCheckMode, ShapeBuilder, StrideShape};
-use crate::ndarray_layout::{Step, Stopped, Strided};
+use crate::nd_base::{Dim, IxDyn, Lengths};
+use crate::nd_shape::{ShapeBuilder, StrideShape};
+use crate::ndarray_layout::{Step, Strided};
 use core::fmt;
 
-/// A copy, with a shape and strides of its own. Panics where an allocation fails, never for at most 4 axes. Not proved.
-impl<D: Lengths> Clone for Strided<D> {
-    fn clone(&self) -> Self {
-        self.duplicate().expect(OUT_OF_MEMORY)
+impl<D: Lengths> Strided<D> {
+    /// The same view, of the type for any number of axes. ndarray's `into_dyn`. Not proved.
+    ///
+    /// Takes time in proportion to the count of axes.
+    ///
+    /// # Panics
+    ///
+    /// Where an allocation fails, never for at most 4 axes.
+    ///
+    /// ```
+    /// use ndarray_layout::{CanIndexCheckMode, Ix2, IxDyn, LayoutError, Strided, signed, unsigned};
+    ///
+    /// # fn main() -> Result<(), LayoutError> {
+    /// let view = Strided::new(Ix2(2, 3), Ix2(unsigned(-3), 1), 1, 6, CanIndexCheckMode::ReadOnly)?.into_dyn();
+    /// assert_eq!((view.start(), view.dim(), signed(view.strides()[0])), (3, &IxDyn(&[2, 3]), -3));
+    /// # Ok(())
+    /// # }
+    /// ```
+    #[must_use]
+    pub fn into_dyn(self) -> Strided<IxDyn> {
+        self.into_dimensionality().expect(OUT_OF_MEMORY)
     }
 }
 
@@ -49,16 +65,6 @@ impl<D: Lengths> fmt::Debug for Strided<D> {
     }
 }
 
-/// Whether both have the same shape, strides and place of the first index. Not proved.
-impl<D: Lengths> PartialEq for Strided<D> {
-    fn eq(&self, other: &Self) -> bool {
-        self.start() == other.start() && self.dim().equal(other.dim()) && self.strides().equal(other.strides())
-    }
-}
-
-/// Not proved.
-impl<D: Lengths> Eq for Strided<D> {}
-
 /// A copy. Panics where an allocation fails. Not proved.
 impl Clone for Step {
     fn clone(&self) -> Self {
@@ -72,44 +78,10 @@ impl Clone for Step {
     }
 }
 
-/// A copy. Panics where an allocation fails, never for at most 4 axes. Not proved.
-impl Clone for Stopped {
-    fn clone(&self) -> Self {
-        Stopped { at: self.at, fault: self.fault.clone(), view: self.view.clone() }
-    }
-}
-
 /// The shape that is built, with the strides of its order. Panics where an allocation fails, never for at most 4 axes.
 /// Not proved.
 impl<D: Lengths, T: ShapeBuilder<Dim = D>> From<T> for StrideShape<D> {
     fn from(builder: T) -> Self {
         StrideShape::from_builder(builder).expect(OUT_OF_MEMORY)
-    }
-}
-
-/// Not proved.
-impl fmt::Debug for CanIndexCheckMode {
-    fn fmt(&self, f: &mut fmt::Formatter<'_>) -> fmt::Result {
-        f.write_str(match self {
-            CanIndexCheckMode::OwnedMutable => "OwnedMutable",
-            CanIndexCheckMode::ReadOnly => "ReadOnly",
-        })
-    }
-}
-
-/// Not proved.
-impl Eq for CanIndexCheckMode {}
-
-/// Not proved.
-impl<D: fmt::Debug> fmt::Debug for Forward<D> {
-    fn fmt(&self, f: &mut fmt::Formatter<'_>) -> fmt::Result {
-        f.debug_tuple("Forward").field(&self.0).finish()
-    }
-}
-
-/// Not proved.
-impl<D: fmt::Debug> fmt::Debug for Reverse<D> {
-    fn fmt(&self, f: &mut fmt::Formatter<'_>) -> fmt::Result {
-        f.debug_tuple("Reverse").field(&self.0).finish()
     }
 }

@@ -40,6 +40,14 @@ pub type IxDyn = Dim<IxDynImpl>;
 
 /// The shape or the index of no axes. ndarray's `Ix0()`.
 ///
+/// # Examples
+///
+/// ```
+/// use ndarray_layout::{Dimension, Ix0};
+///
+/// assert_eq!(Ix0().size(), 1);
+/// ```
+///
 /// <details><summary>Contract (proved)</summary>
 ///
 /// ```text
@@ -54,6 +62,14 @@ pub const fn new_ix0() -> Ix0 {
 }
 
 /// A shape or an index of one axis. ndarray's `Ix1(..)`.
+///
+/// # Examples
+///
+/// ```
+/// use ndarray_layout::Ix1;
+///
+/// assert_eq!(Ix1(4)[0], 4);
+/// ```
 ///
 /// <details><summary>Contract (proved)</summary>
 ///
@@ -70,6 +86,14 @@ pub const fn new_ix1(i0: usize) -> Ix1 {
 
 /// A shape or an index of two axes. ndarray's `Ix2(..)`.
 ///
+/// # Examples
+///
+/// ```
+/// use ndarray_layout::{Dimension, Ix2};
+///
+/// assert_eq!(Ix2(3, 5).size(), 15);
+/// ```
+///
 /// <details><summary>Contract (proved)</summary>
 ///
 /// ```text
@@ -84,6 +108,14 @@ pub const fn new_ix2(i0: usize, i1: usize) -> Ix2 {
 }
 
 /// A shape or an index of three axes. ndarray's `Ix3(..)`.
+///
+/// # Examples
+///
+/// ```
+/// use ndarray_layout::{Ix3, default_strides};
+///
+/// assert_eq!(default_strides(&Ix3(2, 3, 4)), Ok(Ix3(12, 4, 1)));
+/// ```
 ///
 /// <details><summary>Contract (proved)</summary>
 ///
@@ -100,6 +132,14 @@ pub const fn new_ix3(i0: usize, i1: usize, i2: usize) -> Ix3 {
 
 /// A shape or an index of four axes. ndarray's `Ix4(..)`.
 ///
+/// # Examples
+///
+/// ```
+/// use ndarray_layout::{Ix4, Lengths};
+///
+/// assert_eq!(Ix4(2, 3, 4, 5).slice(), [2, 3, 4, 5]);
+/// ```
+///
 /// <details><summary>Contract (proved)</summary>
 ///
 /// ```text
@@ -115,6 +155,14 @@ pub const fn new_ix4(i0: usize, i1: usize, i2: usize, i3: usize) -> Ix4 {
 
 /// A shape or an index of five axes. ndarray's `Ix5(..)`.
 ///
+/// # Examples
+///
+/// ```
+/// use ndarray_layout::{Ix5, Lengths};
+///
+/// assert_eq!(Ix5(2, 3, 4, 5, 6).slice(), [2, 3, 4, 5, 6]);
+/// ```
+///
 /// <details><summary>Contract (proved)</summary>
 ///
 /// ```text
@@ -129,6 +177,14 @@ pub const fn new_ix5(i0: usize, i1: usize, i2: usize, i3: usize, i4: usize) -> I
 }
 
 /// A shape or an index of six axes. ndarray's `Ix6(..)`.
+///
+/// # Examples
+///
+/// ```
+/// use ndarray_layout::{Ix6, Lengths};
+///
+/// assert_eq!(Ix6(2, 3, 4, 5, 6, 7).slice(), [2, 3, 4, 5, 6, 7]);
+/// ```
 ///
 /// <details><summary>Contract (proved)</summary>
 ///

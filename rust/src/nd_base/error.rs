@@ -115,7 +115,7 @@ impl fmt::Debug for ShapeError {
 impl Error for ShapeError {}
 
 /// An error of a shape or a layout, or of memory. The project's own.
-#[derive(Debug)]
+#[derive(Debug, Clone, PartialEq)]
 pub enum LayoutError {
     /// An error of a shape or a layout.
     Shape(ShapeError),

@@ -6,9 +6,11 @@ use core::ops::Index;
 use core::ops::IndexMut;
 
 /// The numbers of a dimension or a slice, that of the first axis first. ndarray's `Forward`.
+#[derive(Debug)]
 pub struct Forward<D>(pub D);
 
 /// The numbers of a dimension or a slice, that of the last axis first. ndarray's `Reverse`.
+#[derive(Debug)]
 pub struct Reverse<D>(pub D);
 
 /// A list of numbers that are read by their position. ndarray's `Sequence`.

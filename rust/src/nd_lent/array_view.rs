@@ -6,7 +6,11 @@ mod iterating;
 mod rows;
 mod folding;
 mod steps;
+mod axis_chunks;
+mod axis_iter;
+mod blocks_iter;
 mod comparing;
+mod copying;
 mod extremes;
 mod into_rows;
 mod rest_of_items;
@@ -17,24 +21,29 @@ mod totals;
 mod view_iter;
 
 use crate::memory::AllocError;
+use crate::nd_lent::cells::Reader;
 use crate::ndarray_layout::{Lengths, NdIndex, Order, Strided};
+pub use axis_chunks::AxisChunksIter;
+pub use axis_iter::AxisIter;
+pub use blocks_iter::BlocksIter;
+pub use comparing::EqualTo;
 pub use into_rows::IntoRows;
 pub use iterating::Iter;
-pub(crate) use rest_of_items::RestOfItems;
+pub(in crate::nd_lent) use rest_of_items::RestOfItems;
 pub use row_items::RowItems;
 pub use rows::{LentRow, LentRows};
-pub(crate) use rows::{is_contiguous, place_in_row};
+pub(in crate::nd_lent) use rows::{is_contiguous, place_in_row};
 pub use totals::Unsigned;
 pub use view_iter::ViewIter;
 
 /// Items of any type that are kept elsewhere and lent, with a view that has a place among them for each index. Two indices
-/// may have one item, as after a broadcast. Items at no place of the view are spare ones, and no call shows them but
-/// `stored`. ndarray's `ArrayView`.
+/// may have one item, as after a broadcast. Items at no place of the view are spare ones, and no call reads them.
+/// ndarray's `ArrayView`.
 ///
 /// In the examples `a` is `[2]` with the stride `[-1]` over 7 8 9: (0) is 8, (1) is 7, and 9 is spare.
 pub struct ArrayView<'a, T, D: Lengths> {
-    pub(crate) items: &'a [T],
-    pub(crate) view: Strided<D>,
+    reader: Reader<'a, T>,
+    view: Strided<D>,
 }
 
 impl<'a, T, D: Lengths> ArrayView<'a, T, D> {
@@ -107,7 +116,7 @@ impl<'a, T, D: Lengths> ArrayView<'a, T, D> {
     ///
     /// # fn main() -> Result<(), LayoutError> {
     /// let a = ArrayView::from_shape(Ix1(2).strides(Ix1(unsigned(-1)))?, &[7, 8, 9])?;
-    /// assert_eq!((a.len(), a.stored().len()), (2, 3));
+    /// assert_eq!(a.len(), 2);
     /// # Ok(())
     /// # }
     /// ```
@@ -133,8 +142,8 @@ impl<'a, T, D: Lengths> ArrayView<'a, T, D> {
     /// use ndarray_layout::{ArrayView, Ix2, LayoutError};
     ///
     /// # fn main() -> Result<(), LayoutError> {
-    /// assert!(!ArrayView::from_shape(Ix2(1, 3).into(), &[7, 8, 9])?.is_empty());
-    /// assert!(ArrayView::from_shape(Ix2(0, 3).into(), &[7, 8, 9])?.is_empty());
+    /// assert!(!ArrayView::from_shape(Ix2(1, 3), &[7, 8, 9])?.is_empty());
+    /// assert!(ArrayView::from_shape(Ix2(0, 3), &[7, 8, 9])?.is_empty());
     /// # Ok(())
     /// # }
     /// ```
@@ -152,35 +161,19 @@ impl<'a, T, D: Lengths> ArrayView<'a, T, D> {
         self.view.is_empty()
     }
 
-    /// All items as they are stored, spare ones too.
-    ///
-    /// `a.stored()` is 7 8 9. ndarray's `as_slice_memory_order`, where no item is spare.
-    ///
-    /// # Examples
-    ///
-    /// ```
-    /// use ndarray_layout::{ArrayView, Ix1, LayoutError, ShapeBuilder, unsigned};
-    ///
-    /// # fn main() -> Result<(), LayoutError> {
-    /// let a = ArrayView::from_shape(Ix1(2).strides(Ix1(unsigned(-1)))?, &[7, 8, 9])?;
-    /// assert_eq!(a.stored(), [7, 8, 9]);
-    /// assert_eq!(a.to_vec()?, [8, 7]);
-    /// # Ok(())
-    /// # }
-    /// ```
+    /// The items, to be read by their places: each index of the view has one.
     ///
     /// <details><summary>Contract (proved)</summary>
     ///
     /// ```text
-    /// ensures items: result.now ≡ self.now.items
-    /// ensures has_items: HasItems (length self.now.items) self.now.view
+    /// ensures items: result.items ≡ self.now.items
+    /// ensures read: IsRead result.marks (length result.items) self.now.view
     /// ```
     /// [How to read it](crate::contracts)
     /// </details>
-    #[must_use]
     #[inline]
-    pub fn stored(&self) -> &'a [T] {
-        self.items
+    pub(in crate::nd_lent) fn reader(&self) -> Reader<'_, T> {
+        self.reader.lent()
     }
 
     /// The items as a slice, where their places follow one another in row-major order; else `None`.
@@ -196,7 +189,7 @@ impl<'a, T, D: Lengths> ArrayView<'a, T, D> {
     ///
     /// # fn main() -> Result<(), LayoutError> {
     /// let items = [1, 2, 3, 4, 5, 6];
-    /// let array = ArrayView::from_shape(Ix2(2, 3).into(), &items)?;
+    /// let array = ArrayView::from_shape(Ix2(2, 3), &items)?;
     /// assert_eq!(array.as_slice(), Some(&items[..]));
     /// assert_eq!(array.reversed_axes().as_slice(), None);
     /// # Ok(())
@@ -216,8 +209,7 @@ impl<'a, T, D: Lengths> ArrayView<'a, T, D> {
     #[inline]
     pub fn as_slice(&self) -> Option<&'a [T]> {
         let places = self.view.stretch(Order::RowMajor)?;
-        let items = self.items;
-        Some(&items[places.start..places.end])
+        Some(self.reader.slice(places.start, places.end - places.start))
     }
 
     /// The item of an index; `None` where it is no index of the shape.
@@ -249,8 +241,7 @@ impl<'a, T, D: Lengths> ArrayView<'a, T, D> {
     #[inline]
     pub fn get<I: NdIndex<D>>(&self, index: &I) -> Option<&'a T> {
         let place = self.view.place(index)?;
-        let items = self.items;
-        Some(&items[place])
+        Some(self.reader.get(place))
     }
 
     /// An array that lends the same items, with a shape and strides of its own.
@@ -286,6 +277,6 @@ impl<'a, T, D: Lengths> ArrayView<'a, T, D> {
     #[inline]
     pub fn duplicate(&self) -> Result<Self, AllocError> {
         let view = self.view.duplicate()?;
-        Ok(ArrayView { items: self.items, view })
+        Ok(ArrayView { reader: self.reader.copied(), view })
     }
 }

@@ -1,45 +1,92 @@
 // Made by `rust/erase` of `crates/nd_lent/src/array_view_mut.rt`: edit that.
-//! Items that are kept elsewhere, lent as an array to be written.
+//! A part of an array: a view, and the right to its items alone.
 
 mod making;
+mod reading;
+mod rows;
 mod mapping;
 mod writing;
 mod steps;
-mod splitting;
 mod axes;
-mod parts;
+mod axis_chunks;
+mod axis_iter;
+mod items;
+mod mapping_into;
+mod pairs;
+mod slice_parts;
+mod slices;
+mod tiles;
+mod triples;
 
-use crate::memory::AllocError;
-use crate::nd_lent::array_view::ArrayView;
-use crate::ndarray_layout::{Lengths, NdIndex, Order, Strided};
+use crate::nd_lent::cells::Cells;
+use crate::ndarray_layout::{Axis, LayoutError, Lengths, NdIndex, Order, Strided};
+pub use axis_chunks::AxisChunksIterMut;
+pub use axis_iter::AxisIterMut;
 use core::mem::replace;
-pub use splitting::SplitViews;
+pub use items::IterMut;
+pub use rows::LanesMut;
+pub use slice_parts::SliceParts;
+pub use tiles::TilesMut;
 
-/// A view over items of any type that are kept elsewhere, to be read and written. No two indices have one item. No call writes
-/// the other items, which are *spare*. ndarray's `ArrayViewMut`.
+/// A part of an array, to be read and written beside other parts of the same items: a view, and the right to the items at its
+/// places, at the price of a pointer. Nothing else of the items is read or written.
 ///
-/// In the examples `a` is `[2]` with the stride `[-1]` over 7 8 9: (0) is 8, (1) is 7, and 9 is spare.
+/// The rows of `[2,2]` over 7 8 9 10: one part has 7 8, the other 9 10. The project's own.
 pub struct ArrayViewMut<'a, T, D: Lengths> {
-    pub(crate) items: &'a mut [T],
-    pub(crate) view: Strided<D>,
+    pub(in crate::nd_lent) cells: Cells<'a, T>,
+    pub(in crate::nd_lent) view: Strided<D>,
 }
 
 impl<'a, T: Sized, D: Lengths> ArrayViewMut<'a, T, D> {
-    /// The view: the shape, the strides and the place of the first index. Each place of it has an item, and no two indices
-    /// alias.
+    /// The part of all indices of a view. The caller ensures that each index has a place to itself, which has a mark.
     ///
-    /// `a.strided()` is `[2]`, `[-1]` from 1. The project's own.
+    /// <details><summary>Contract (proved)</summary>
+    ///
+    /// ```text
+    /// ensures items: (array_of result).items ≡ cells.entry.items
+    /// ensures view: (array_of result).view ≡ view
+    /// ```
+    /// [How to read it](crate::contracts)
+    /// </details>
+    #[inline]
+    fn of_cells(cells: Cells<'a, T>, view: Strided<D>) -> Self {
+        ArrayViewMut { cells, view }
+    }
+
+    /// The part of all indices of a view, taken from a right to more items; that to the others stays.
+    ///
+    /// # Conditions
+    ///
+    /// The caller ensures that each index has a place to itself, which has a mark. Otherwise the behaviour is
+    /// undefined.
+    ///
+    /// <details><summary>Contract (proved)</summary>
+    ///
+    /// ```text
+    /// requires IsPart cells.old.marks view
+    /// ensures array: array_of result ≡ record { items = cells.old.items; view = view }
+    /// ensures items: cells.new.items ≡ cells.old.items
+    /// ensures left: cells.new.marks ≡ without (marks_of (length cells.old.marks) view) cells.old.marks
+    /// ```
+    /// [How to read it](crate::contracts)
+    /// </details>
+    #[inline]
+    fn take_from(cells: &mut Cells<'a, T>, view: Strided<D>) -> Self {
+        let taken = cells.take_part(&view);
+        ArrayViewMut { cells: taken, view }
+    }
+
+    /// The view, by which each index of the part has its place among all items; no two indices alias. The project's own.
     ///
     /// # Examples
     ///
     /// ```
-    /// use ndarray_layout::{ArrayViewMut, Ix1, LayoutError, ShapeBuilder, signed, unsigned};
+    /// use ndarray_layout::{ArrayViewMut, Ix2, LayoutError};
     ///
     /// # fn main() -> Result<(), LayoutError> {
-    /// let mut items = [7, 8, 9];
-    /// let a = ArrayViewMut::from_shape(Ix1(2).strides(Ix1(unsigned(-1)))?, &mut items)?;
-    /// assert_eq!((a.strided().dim(), a.strided().start()), (&Ix1(2), 1));
-    /// assert_eq!(signed(a.strided().strides()[0]), -1);
+    /// let mut items = [7, 8, 9, 10];
+    /// let part = ArrayViewMut::from_shape(Ix2(2, 2), &mut items)?.reversed_axes();
+    /// assert_eq!((part.strided().start(), part.strided().strides()), (0, &Ix2(1, 2)));
     /// # Ok(())
     /// # }
     /// ```
@@ -52,9 +99,11 @@ impl<'a, T: Sized, D: Lengths> ArrayViewMut<'a, T, D> {
     /// ```
     /// [How to read it](crate::contracts)
     /// </details>
-    #[must_use]
     #[inline]
+    #[must_use]
     pub fn strided(&self) -> &Strided<D> {
+        // (each mark has an item: for the proof alone)
+        let _shared = self.cells.shared();
         &self.view
     }
 
@@ -63,12 +112,11 @@ impl<'a, T: Sized, D: Lengths> ArrayViewMut<'a, T, D> {
     /// # Examples
     ///
     /// ```
-    /// use ndarray_layout::{ArrayViewMut, Ix2, LayoutError};
+    /// use ndarray_layout::{Ix2, LayoutError, ArrayViewMut};
     ///
     /// # fn main() -> Result<(), LayoutError> {
     /// let mut items = [0, 1, 2, 3, 4, 5];
-    /// let table = ArrayViewMut::from_shape(Ix2(2, 3).into(), &mut items)?;
-    /// assert_eq!(table.dim(), &Ix2(2, 3));
+    /// assert_eq!(ArrayViewMut::from_shape(Ix2(2, 3), &mut items)?.dim(), &Ix2(2, 3));
     /// # Ok(())
     /// # }
     /// ```
@@ -86,19 +134,18 @@ impl<'a, T: Sized, D: Lengths> ArrayViewMut<'a, T, D> {
         self.view.dim()
     }
 
-    /// How many indices the shape has; spare items don't count.
+    /// How many indices the shape has.
     ///
-    /// `a.len()` is 2. ndarray's `len`.
+    /// `[2]`, `[-1]` from 1 over 7 8 9: 2. ndarray's `len`.
     ///
     /// # Examples
     ///
     /// ```
-    /// use ndarray_layout::{ArrayViewMut, Ix1, LayoutError, ShapeBuilder, unsigned};
+    /// use ndarray_layout::{Ix1, LayoutError, ArrayViewMut, ShapeBuilder, unsigned};
     ///
     /// # fn main() -> Result<(), LayoutError> {
     /// let mut items = [7, 8, 9];
-    /// let a = ArrayViewMut::from_shape(Ix1(2).strides(Ix1(unsigned(-1)))?, &mut items)?;
-    /// assert_eq!((a.len(), a.stored().len()), (2, 3));
+    /// assert_eq!(ArrayViewMut::from_shape(Ix1(2).strides(Ix1(unsigned(-1)))?, &mut items)?.len(), 2);
     /// # Ok(())
     /// # }
     /// ```
@@ -110,8 +157,8 @@ impl<'a, T: Sized, D: Lengths> ArrayViewMut<'a, T, D> {
     /// ```
     /// [How to read it](crate::contracts)
     /// </details>
-    #[inline]
     #[must_use]
+    #[inline]
     pub fn len(&self) -> usize {
         self.view.len()
     }
@@ -121,12 +168,12 @@ impl<'a, T: Sized, D: Lengths> ArrayViewMut<'a, T, D> {
     /// # Examples
     ///
     /// ```
-    /// use ndarray_layout::{ArrayViewMut, Ix2, LayoutError};
+    /// use ndarray_layout::{Ix2, LayoutError, ArrayViewMut};
     ///
     /// # fn main() -> Result<(), LayoutError> {
     /// let mut items = [7, 8, 9];
-    /// assert!(!ArrayViewMut::from_shape(Ix2(1, 3).into(), &mut items)?.is_empty());
-    /// assert!(ArrayViewMut::from_shape(Ix2(0, 3).into(), &mut items)?.is_empty());
+    /// assert!(!ArrayViewMut::from_shape(Ix2(1, 3), &mut items)?.is_empty());
+    /// assert!(ArrayViewMut::from_shape(Ix2(0, 3), &mut items)?.is_empty());
     /// # Ok(())
     /// # }
     /// ```
@@ -138,49 +185,15 @@ impl<'a, T: Sized, D: Lengths> ArrayViewMut<'a, T, D> {
     /// ```
     /// [How to read it](crate::contracts)
     /// </details>
-    #[inline]
     #[must_use]
+    #[inline]
     pub fn is_empty(&self) -> bool {
         self.view.is_empty()
     }
 
-    /// All items as they are stored, spare ones too.
+    /// The item of an index; `None` where it is no index of the shape.
     ///
-    /// `a.stored()` is 7 8 9. ndarray's `as_slice_memory_order`, where no item is spare.
-    ///
-    /// # Examples
-    ///
-    /// ```
-    /// use ndarray_layout::{ArrayViewMut, Ix1, LayoutError, ShapeBuilder, unsigned};
-    ///
-    /// # fn main() -> Result<(), LayoutError> {
-    /// let mut items = [7, 8, 9];
-    /// let a = ArrayViewMut::from_shape(Ix1(2).strides(Ix1(unsigned(-1)))?, &mut items)?;
-    /// assert_eq!(a.stored(), [7, 8, 9]);
-    /// assert_eq!(a.try_view()?.to_vec()?, [8, 7]);
-    /// # Ok(())
-    /// # }
-    /// ```
-    ///
-    /// <details><summary>Contract (proved)</summary>
-    ///
-    /// ```text
-    /// ensures items: result.now ≡ (array_of self.now).items
-    /// ensures owned: IsOwned (length (array_of self.now).items) (array_of self.now).view
-    /// ```
-    /// [How to read it](crate::contracts)
-    /// </details>
-    #[must_use]
-    #[inline]
-    pub fn stored(&self) -> &[T] {
-        &*self.items
-    }
-
-    /// The items as a slice, to be read, where their places follow one another in row-major order; else `None`.
-    ///
-    /// Takes no memory, and time in proportion to the count of axes.
-    ///
-    /// `[2]`, `[1]` from 1 over 7 8 9: 8 9; `a.as_slice()` is `None`. ndarray's `as_slice`.
+    /// `[2]`, `[-1]` from 1 over 7 8 9: (0) is 8, and (2) is `None`. ndarray's `get`.
     ///
     /// # Examples
     ///
@@ -188,46 +201,9 @@ impl<'a, T: Sized, D: Lengths> ArrayViewMut<'a, T, D> {
     /// use ndarray_layout::{ArrayViewMut, Ix2, LayoutError};
     ///
     /// # fn main() -> Result<(), LayoutError> {
-    /// let mut items = [1, 2, 3, 4, 5, 6];
-    /// let array = ArrayViewMut::from_shape(Ix2(2, 3).into(), &mut items)?;
-    /// assert_eq!(array.as_slice(), Some(&[1, 2, 3, 4, 5, 6][..]));
-    /// assert_eq!(array.reversed_axes().as_slice(), None);
-    /// # Ok(())
-    /// # }
-    /// ```
-    ///
-    /// <details><summary>Contract (proved)</summary>
-    ///
-    /// ```text
-    /// ensures found: IsSome result ↔ IsStretch RowMajor (array_of self.now).view
-    /// ensures items: IfSome result (λ slice. map Some slice.now ≡
-    ///     map (item_at_place (array_of self.now).items)
-    ///     (view_places RowMajor (array_of self.now).view))
-    /// ```
-    /// [How to read it](crate::contracts)
-    /// </details>
-    #[must_use]
-    #[inline]
-    pub fn as_slice(&self) -> Option<&[T]> {
-        let places = self.view.stretch(Order::RowMajor)?;
-        let items = self.stored();
-        Some(&items[places.start..places.end])
-    }
-
-    /// The item of an index; `None` where it is no index of the shape.
-    ///
-    /// `a.get(&0)` is 8, and `a.get(&2)` is `None`. ndarray's `get`.
-    ///
-    /// # Examples
-    ///
-    /// ```
-    /// use ndarray_layout::{ArrayViewMut, Ix1, LayoutError, ShapeBuilder, unsigned};
-    ///
-    /// # fn main() -> Result<(), LayoutError> {
-    /// let mut items = [7, 8, 9];
-    /// let a = ArrayViewMut::from_shape(Ix1(2).strides(Ix1(unsigned(-1)))?, &mut items)?;
-    /// assert_eq!(a.get(&0), Some(&8));
-    /// assert_eq!(a.get(&2), None);
+    /// let mut items = [7, 8, 9, 10];
+    /// let part = ArrayViewMut::from_shape(Ix2(2, 2), &mut items)?;
+    /// assert_eq!((part.get(&(1, 0)), part.get(&(2, 0))), (Some(&9), None));
     /// # Ok(())
     /// # }
     /// ```
@@ -240,29 +216,66 @@ impl<'a, T: Sized, D: Lengths> ArrayViewMut<'a, T, D> {
     /// ```
     /// [How to read it](crate::contracts)
     /// </details>
-    #[must_use]
     #[inline]
+    #[must_use]
     pub fn get<I: NdIndex<D>>(&self, index: &I) -> Option<&T> {
         let place = self.view.place(index)?;
-        let items = self.stored();
-        Some(&items[place])
+        Some(self.cells.get(place))
     }
 
-    /// Replaces the item of an index, and returns whether it is an index of the shape; else the array is unchanged.
+    /// The item of an index, to be written; `None` where it is no index of the shape.
     ///
-    /// `a.set(&1, 5)` makes it 5 8 9. ndarray's `get_mut`, with the write.
+    /// `[2]`, `[-1]` from 1 over 7 8 9: (0) is 8; 5 written there makes the items 7 5 9. ndarray's `get_mut`.
     ///
     /// # Examples
     ///
     /// ```
-    /// use ndarray_layout::{ArrayViewMut, Ix1, LayoutError, ShapeBuilder, unsigned};
+    /// use ndarray_layout::{ArrayViewMut, Ix2, LayoutError};
     ///
     /// # fn main() -> Result<(), LayoutError> {
-    /// let mut items = [7, 8, 9];
-    /// let mut a = ArrayViewMut::from_shape(Ix1(2).strides(Ix1(unsigned(-1)))?, &mut items)?;
-    /// assert!(a.set(&1, 5));
-    /// assert!(!a.set(&2, 6));
-    /// assert_eq!(items, [5, 8, 9]);
+    /// let mut items = [1, 2, 3, 4];
+    /// let mut part = ArrayViewMut::from_shape(Ix2(2, 2), &mut items)?.reversed_axes();
+    /// if let Some(item) = part.get_mut(&(0, 1)) {
+    ///     *item += 10;
+    /// }
+    /// assert_eq!(part.get_mut(&(0, 2)), None);
+    /// assert_eq!(items, [1, 2, 13, 4]);
+    /// # Ok(())
+    /// # }
+    /// ```
+    ///
+    /// <details><summary>Contract (proved)</summary>
+    ///
+    /// ```text
+    /// ensures found: IsSome result ↔ IsTrue (is_index (array_of self.old).view.shape (I.index_list index.now))
+    /// ensures item: IfSome result (λ item. item_at (array_of self.old) (I.index_list index.now) ≡ Some item.now)
+    /// ```
+    /// [How to read it](crate::contracts)
+    /// </details>
+    #[inline]
+    #[must_use]
+    pub fn get_mut<I: NdIndex<D>>(&mut self, index: &I) -> Option<&mut T> {
+        match self.view.place(index) {
+            Some(place) => Some(self.item_mut(place)),
+            None => None,
+        }
+    }
+
+    /// Replaces the item of an index, and returns whether it is an index of the shape; else the part is unchanged.
+    ///
+    /// `[2]`, `[-1]` from 1 over 7 8 9: 5 at (1) makes the items 5 8 9. ndarray's `get_mut`, with the write.
+    ///
+    /// # Examples
+    ///
+    /// ```
+    /// use ndarray_layout::{ArrayViewMut, Ix2, LayoutError};
+    ///
+    /// # fn main() -> Result<(), LayoutError> {
+    /// let mut items = [7, 8, 9, 10];
+    /// let mut part = ArrayViewMut::from_shape(Ix2(2, 2), &mut items)?;
+    /// assert!(part.set(&(0, 1), 0));
+    /// assert!(!part.set(&(0, 2), 0));
+    /// assert_eq!(items, [7, 0, 9, 10]);
     /// # Ok(())
     /// # }
     /// ```
@@ -275,12 +288,12 @@ impl<'a, T: Sized, D: Lengths> ArrayViewMut<'a, T, D> {
     /// ```
     /// [How to read it](crate::contracts)
     /// </details>
-    #[must_use]
     #[inline]
+    #[must_use]
     pub fn set<I: NdIndex<D>>(&mut self, index: &I, item: T) -> bool {
         match self.view.place(index) {
             Some(place) => {
-                self.items[place] = item;
+                *self.item_mut(place) = item;
                 true
             }
             None => false,
@@ -288,22 +301,22 @@ impl<'a, T: Sized, D: Lengths> ArrayViewMut<'a, T, D> {
     }
 
     /// Replaces the item of an index by another one, and returns the one that was there; the given one comes back as the error
-    /// where it is no index of the shape, and the array is unchanged. So no item is dropped.
+    /// where it is no index of the shape, and the part is unchanged. So no item is dropped.
     ///
-    /// `a.replace(&1, 5)` returns 7 and makes it 5 8 9, and `a.replace(&2, 5)` returns `Err(5)`. ndarray's `get_mut`, with
+    /// `[2]`, `[-1]` from 1 over 7 8 9: 5 at (1) returns 7 and makes the items 5 8 9; at (2) `Err(5)`. ndarray's `get_mut`, with
     /// `std::mem::replace`.
     ///
     /// # Examples
     ///
     /// ```
-    /// use ndarray_layout::{ArrayViewMut, Ix1, LayoutError, ShapeBuilder, unsigned};
+    /// use ndarray_layout::{ArrayViewMut, Ix2, LayoutError};
     ///
     /// # fn main() -> Result<(), LayoutError> {
-    /// let mut items = [7, 8, 9];
-    /// let mut a = ArrayViewMut::from_shape(Ix1(2).strides(Ix1(unsigned(-1)))?, &mut items)?;
-    /// assert_eq!(a.replace(&1, 5), Ok(7));
-    /// assert_eq!(a.replace(&2, 5), Err(5));
-    /// assert_eq!(items, [5, 8, 9]);
+    /// let mut items = ["a", "b", "c", "d"];
+    /// let mut part = ArrayViewMut::from_shape(Ix2(2, 2), &mut items)?;
+    /// assert_eq!(part.replace(&(0, 1), "e"), Ok("b"));
+    /// assert_eq!(part.replace(&(0, 2), "f"), Err("f"));
+    /// assert_eq!(items, ["a", "e", "c", "d"]);
     /// # Ok(())
     /// # }
     /// ```
@@ -321,29 +334,30 @@ impl<'a, T: Sized, D: Lengths> ArrayViewMut<'a, T, D> {
     #[inline]
     pub fn replace<I: NdIndex<D>>(&mut self, index: &I, item: T) -> Result<T, T> {
         match self.view.place(index) {
-            Some(place) => {
-                let items = &mut *self.items;
-                Ok(replace(&mut items[place], item))
-            }
+            Some(place) => Ok(replace(self.item_mut(place), item)),
             None => Err(item),
         }
     }
 
-    /// Swaps the items of two indices, and returns whether both are indices of the shape; else the array is unchanged.
+    /// The items as a slice, for as long as the whole is lent, where their places follow one another in row-major order; else the
+    /// part.
     ///
-    /// `a.swap(&0, &1)` makes it 8 7 9. ndarray's `swap`, which panics where one is no index.
+    /// `[2]`, `[1]` from 1 over 7 8 9: 8 9. ndarray's `into_slice`.
     ///
     /// # Examples
     ///
     /// ```
-    /// use ndarray_layout::{ArrayViewMut, Ix1, LayoutError, ShapeBuilder, unsigned};
+    /// use ndarray_layout::{ArrayViewMut, Axis, Ix2, LayoutError};
     ///
     /// # fn main() -> Result<(), LayoutError> {
-    /// let mut items = [7, 8, 9];
-    /// let mut a = ArrayViewMut::from_shape(Ix1(2).strides(Ix1(unsigned(-1)))?, &mut items)?;
-    /// assert!(a.swap(&0, &1));
-    /// assert!(!a.swap(&0, &2));
-    /// assert_eq!(items, [8, 7, 9]);
+    /// let mut items = [7, 8, 9, 10];
+    /// let part = ArrayViewMut::from_shape(Ix2(2, 2), &mut items)?;
+    /// let (first, second) = part.split_at(Axis(0), 1)?;
+    /// assert_eq!(first.into_slice().ok(), Some(&mut [7, 8][..]));
+    /// let (column, _) = second.split_at(Axis(1), 1)?;
+    /// assert_eq!(column.reversed_axes().into_slice().ok(), Some(&mut [9][..]));
+    /// let turned = ArrayViewMut::from_shape(Ix2(2, 2), &mut items)?.reversed_axes();
+    /// assert_eq!(turned.into_slice().map_err(|part| part.get(&(0, 1)).copied()), Err(Some(9)));
     /// # Ok(())
     /// # }
     /// ```
@@ -351,46 +365,51 @@ impl<'a, T: Sized, D: Lengths> ArrayViewMut<'a, T, D> {
     /// <details><summary>Contract (proved)</summary>
     ///
     /// ```text
-    /// ensures are_indices: result ≡
-    ///     (is_index (array_of self.old).view.shape (I.index_list index.now)
-    ///     && is_index (array_of self.old).view.shape (J.index_list other.now))
-    /// ensures swapped: array_of self.new ≡ with_swapped (array_of self.old)
-    ///     (I.index_list index.now) (J.index_list other.now)
+    /// ensures found: IsOk result ↔ IsStretch RowMajor (array_of self.entry).view
+    /// ensures items: IfOk result (λ items. map Some items.now ≡
+    ///     map (item_at_place (array_of self.entry).items)
+    ///     (view_places RowMajor (array_of self.entry).view))
+    /// ensures kept: IfErr result (λ part. array_of part ≡ array_of self.entry)
     /// ```
     /// [How to read it](crate::contracts)
     /// </details>
-    #[must_use]
     #[inline]
-    pub fn swap<I: NdIndex<D>, J: NdIndex<D>>(&mut self, index: &I, other: &J) -> bool {
-        let view = &self.view;
-        match (view.place(index), view.place(other)) {
-            (Some(one), Some(other)) => {
-                self.items.swap(one, other);
-                true
+    pub fn into_slice(self) -> Result<&'a mut [T], Self> {
+        let ArrayViewMut { cells, view } = self;
+        match view.stretch(Order::RowMajor) {
+            Some(places) => {
+                let mut cells = cells;
+                Ok(cells.take_slice(places.start, places.end - places.start))
             }
-            _ => false,
+            None => Err(ArrayViewMut { cells, view }),
         }
     }
 
-    /// The array, to be read for as long as this one isn't written.
+    /// The parts of the coordinates below `index` on an axis, and of those from `index` on; both may be used at once, and in
+    /// threads, whatever the strides are.
     ///
-    /// ndarray's `view`.
+    /// Columns of `[2,2]`, `[2,1]` from 0 over 7 8 9 10, at 1: one part has 7 9, the other 8 10. ndarray's `split_at`.
     ///
     /// # Errors
     ///
-    /// Out of memory; never where the type fixes the count of axes or there are at most 4.
+    /// Those of `Strided::split_at`: `OutOfBounds` where there is no such axis or the index is greater than its length; then out
+    /// of memory, never where the type fixes the count of axes or there are at most 4. The part is gone then.
     ///
     /// # Examples
     ///
     /// ```
-    /// use ndarray_layout::{ArrayViewMut, Ix1, LayoutError, ShapeBuilder, unsigned};
+    /// use ndarray_layout::{ArrayViewMut, Axis, ErrorKind, Ix2, LayoutError, from_kind};
     ///
     /// # fn main() -> Result<(), LayoutError> {
-    /// let mut items = [7, 8, 9];
-    /// let mut a = ArrayViewMut::from_shape(Ix1(2).strides(Ix1(unsigned(-1)))?, &mut items)?;
-    /// assert_eq!(a.try_view()?.to_vec()?, [8, 7]);
-    /// a.fill(5);
-    /// assert_eq!(a.try_view()?.to_vec()?, [5, 5]);
+    /// let mut items = [1, 2, 3, 4, 5, 6];
+    /// let table = ArrayViewMut::from_shape(Ix2(2, 3), &mut items)?;
+    /// let (left, mut right) = table.split_at(Axis(1), 2)?;
+    /// let (mut above, below) = left.split_at(Axis(0), 1)?;
+    /// above.fill(0);
+    /// right[(1, 0)] = 9;
+    /// assert_eq!(below[(0, 1)], 5);
+    /// assert_eq!(below.split_at(Axis(0), 2).err(), Some(from_kind(ErrorKind::OutOfBounds).into()));
+    /// assert_eq!(items, [0, 0, 3, 4, 5, 9]);
     /// # Ok(())
     /// # }
     /// ```
@@ -398,14 +417,29 @@ impl<'a, T: Sized, D: Lengths> ArrayViewMut<'a, T, D> {
     /// <details><summary>Contract (proved)</summary>
     ///
     /// ```text
-    /// ensures array: IfOk result (λ a. a ≡ array_of self.now)
-    /// ensures memory: NeedsNoMemory D.NDIM (length (array_of self.now).view.shape) → IsOk result
+    /// ensures fault: shape_fault result ≡ split_fault (array_of self.entry).view.shape axis.0 index
+    /// ensures memory: shape_fault result ≡ None →
+    ///     NeedsNoMemory D.NDIM (length (array_of self.entry).view.shape) → IsOk result
+    /// ensures items: IfOk result (λ (first, second).
+    ///     ((array_of first).items ≡ (array_of self.entry).items)
+    ///     × ((array_of second).items ≡ (array_of self.entry).items))
+    /// ensures first: IfOk result (λ (first, second).
+    ///     (array_of first).view ≡ first_part_of axis.0 index (array_of self.entry).view)
+    /// ensures second: IfOk result (λ (first, second).
+    ///     (array_of second).view ≡ second_part_of axis.0 index (array_of self.entry).view)
+    /// ensures first_items: IfOk result (λ (first, second).
+    ///     ShowsPartOf (λ coordinates. coordinates) (array_of self.entry) (array_of first))
+    /// ensures second_items: IfOk result (λ (first, second).
+    ///     ShowsPartOf (second_source axis.0 index) (array_of self.entry) (array_of second))
     /// ```
     /// [How to read it](crate::contracts)
     /// </details>
     #[inline]
-    pub fn try_view(&self) -> Result<ArrayView<'_, T, D>, AllocError> {
-        let view = self.view.duplicate()?;
-        Ok(ArrayView::new(view, self.stored()))
+    pub fn split_at(self, axis: Axis, index: usize) -> Result<(Self, Self), LayoutError> {
+        let ArrayViewMut { cells, view } = self;
+        let (first, second) = view.split_at(axis, index)?;
+        let mut cells = cells;
+        let one = cells.take_part(&first);
+        Ok((ArrayViewMut { cells: one, view: first }, ArrayViewMut { cells, view: second }))
     }
 }

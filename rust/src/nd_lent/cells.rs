@@ -3,10 +3,11 @@
 
 #![allow(unsafe_code, reason = "proved: a comment says by which clauses")]
 
+mod readers;
 mod swapping;
 mod taken;
 
-use crate::nd_lent::part::PartMut;
+use crate::nd_lent::array_view_mut::ArrayViewMut;
 use crate::ndarray_layout::{Lengths, Strided};
 use core::marker::PhantomData;
 use core::slice::from_raw_parts;
@@ -20,7 +21,7 @@ pub(in crate::nd_lent) struct Cells<'a, T> {
     mark: PhantomData<&'a mut T>,
 }
 
-// SAFETY: no other `Cells` has a mark that this one has (`array` of `new`, `all` of `take_part`), so it is sent as a
+// SAFETY: no other `Cells` has a mark that this one has (`all` of `all_of` and of `take_part`), so it is sent as a
 // `&mut [T]` of its elements would be.
 unsafe impl<T: Send> Send for Cells<'_, T> {}
 
@@ -28,6 +29,14 @@ unsafe impl<T: Send> Send for Cells<'_, T> {}
 unsafe impl<T: Sync> Sync for Cells<'_, T> {}
 
 impl<'a, T> Cells<'a, T> {
+    /// The right to all elements of a slice, under the name of its reference.
+    ///
+    /// Of 7 8 9: each of them. The project's own.
+    #[inline]
+    pub(in crate::nd_lent) fn all_of(items: &'a mut [T]) -> Self {
+        Cells { first: items.as_mut_ptr(), mark: PhantomData }
+    }
+
     /// The element at a place, counted in elements from the first of the slice, to be read.
     ///
     /// Of 7 8 9, place 1 is 8. The project's own.
@@ -60,6 +69,7 @@ impl<'a, T> Cells<'a, T> {
     ///
     /// ```text
     /// ensures all: (result.items ≡ self.now.items) × (result.marks ≡ self.now.marks)
+    ///     × (length self.now.items ≡ length self.now.marks)
     /// ```
     /// [How to read it](crate::contracts)
     /// </details>
@@ -151,6 +161,16 @@ pub(in crate::nd_lent) struct Reader<'s, T> {
     mark: PhantomData<&'s T>,
 }
 
+/// Not proved.
+impl<'s, T> Clone for Reader<'s, T> {
+    fn clone(&self) -> Self {
+        *self
+    }
+}
+
+/// Not proved.
+impl<'s, T> Copy for Reader<'s, T> {}
+
 // SAFETY: it only reads (`get`, `slice`), so it is sent as a `&[T]` of its elements would be.
 unsafe impl<T: Sync> Send for Reader<'_, T> {}
 
@@ -207,51 +227,7 @@ impl<'s, T> Reader<'s, T> {
     }
 }
 
-impl<'a, T, D: Lengths> PartMut<'a, T, D> {
-    /// The part of all indices of a view. Once the part and all that is made of it are gone, the items are what they
-    /// hold. Takes no memory.
-    ///
-    /// `[2]`, `[-1]` from 1 over 7 8 9: (0) is 8, (1) is 7, and 9 is no part of it. The project's own.
-    ///
-    /// # Conditions
-    ///
-    /// The caller ensures that each index has an item to itself, as `Strided::from_shape`, `new` and `from_parts` check
-    /// it in owned mode; `over` checks it. This call panics where two indices have one item, or one lies past the
-    /// items. Where the rule of owned mode does not show that none have, it takes memory and time for a sort of the
-    /// places.
-    ///
-    /// # Examples
-    ///
-    /// ```
-    /// use ndarray_layout::{CanIndexCheckMode, Ix1, LayoutError, PartMut, Strided, unsigned};
-    ///
-    /// # fn main() -> Result<(), LayoutError> {
-    /// let mut items = [7, 8, 9];
-    /// let view = Strided::from_parts(1, Ix1(2), Ix1(unsigned(-1)), 1, items.len(), CanIndexCheckMode::OwnedMutable)?;
-    /// let part = PartMut::new(view, &mut items);
-    /// assert_eq!((part.get(&0), part.get(&1), part.get(&2)), (Some(&8), Some(&7), None));
-    /// # Ok(())
-    /// # }
-    /// ```
-    ///
-    /// <details><summary>Contract (proved)</summary>
-    ///
-    /// ```text
-    /// requires IsOwned (length items.old) view
-    /// ensures array: ((array_of result).items ≡ items.old) × ((array_of result).view ≡ view)
-    /// ```
-    /// [How to read it](crate::contracts)
-    /// </details>
-    #[inline]
-    #[must_use]
-    pub fn new(view: Strided<D>, items: &'a mut [T]) -> Self {
-        assert!(
-            crate::parts::has_own_items(&view, items.len()),
-            "two indices of the view share an item, or one is past the items"
-        );
-        PartMut { cells: Cells { first: items.as_mut_ptr(), mark: PhantomData }, view }
-    }
-
+impl<'a, T, D: Lengths> ArrayViewMut<'a, T, D> {
     /// The element at a place, counted in elements from the first of the slice. The caller ensures that it has a mark.
     ///
     /// Of 7 8 9, place 1 is 8. The project's own.
@@ -276,7 +252,7 @@ impl<'a, T, D: Lengths> PartMut<'a, T, D> {
     ///
     /// `[2]` from 1 of 7 8 9: 8 and 9. The project's own.
     #[inline]
-    pub(in crate::nd_lent) fn borrowed<E: Lengths>(&mut self, view: Strided<E>) -> PartMut<'_, T, E> {
-        PartMut { cells: Cells { first: self.cells.first, mark: PhantomData }, view }
+    pub(in crate::nd_lent) fn borrowed<E: Lengths>(&mut self, view: Strided<E>) -> ArrayViewMut<'_, T, E> {
+        ArrayViewMut { cells: Cells { first: self.cells.first, mark: PhantomData }, view }
     }
 }

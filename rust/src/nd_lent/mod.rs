@@ -21,8 +21,11 @@ mod array_view_mut;
 mod cells;
 mod indexing;
 pub(crate) mod nearest;
-mod part;
+mod split_views;
 
-pub use array_view::{ArrayView, IntoRows, Iter, LentRow, LentRows, RowItems, Unsigned, ViewIter};
-pub use array_view_mut::{ArrayViewMut, SplitViews};
-pub use part::{PartItems, PartIter, PartMut, PartRows};
+pub use array_view::{
+    ArrayView, AxisChunksIter, AxisIter, BlocksIter, EqualTo, IntoRows, Iter, LentRow, LentRows, RowItems, Unsigned,
+    ViewIter,
+};
+pub use array_view_mut::{ArrayViewMut, AxisChunksIterMut, AxisIterMut, IterMut, LanesMut, SliceParts, TilesMut};
+pub use split_views::SplitViews;

@@ -65,7 +65,7 @@ impl EvenRows {
 /// [How to read it](crate::contracts)
 /// </details>
 #[inline(always)]
-fn place_at(start: usize, offset: isize) -> usize {
+pub(crate) fn place_at(start: usize, offset: isize) -> usize {
     (start as isize + offset) as usize
 }
 

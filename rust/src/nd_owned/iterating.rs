@@ -4,7 +4,7 @@
 use crate::memory::prelude::Vec;
 use crate::nd_lent::Iter;
 use crate::nd_owned::owned::OwnedArray;
-use crate::ndarray_layout::{Lengths, Order};
+use crate::ndarray_layout::Lengths;
 use core::iter::FusedIterator;
 
 /// Copies of the items of an array that are still to come, in row-major order of their indices.
@@ -79,6 +79,6 @@ impl<T: Copy, D: Lengths> OwnedArray<T, D> {
     #[inline]
     #[must_use]
     pub fn iter(&self) -> Items<'_, T> {
-        Items { lent: Iter::new(self.stored(), self.strided().iter_places(Order::RowMajor)) }
+        Items { lent: Iter::new(self.strided(), self.stored()) }
     }
 }

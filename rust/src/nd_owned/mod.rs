@@ -22,11 +22,13 @@ mod iterating;
 mod multi_set;
 mod owned;
 mod picked_view;
+mod ready;
 mod rows;
 
 pub use crate::nd_lent::{
-    ArrayView, ArrayViewMut, IntoRows, Iter, LentRow, LentRows, PartItems, PartIter, PartMut, PartRows, RowItems,
-    SplitViews, Unsigned, ViewIter,
+    ArrayView, ArrayViewMut, AxisChunksIter, AxisChunksIterMut, AxisIter, AxisIterMut, BlocksIter, EqualTo, IntoRows,
+    Iter, IterMut, LanesMut, LentRow, LentRows, RowItems, SliceParts, SplitViews, TilesMut, Unsigned, ViewIter,
 };
 pub use iterating::Items;
 pub use owned::OwnedArray;
+pub use ready::ReadySlice;

@@ -5,6 +5,7 @@ use crate::memory::prelude::Vec;
 
 mod making;
 mod mapping;
+mod tiles;
 
 use crate::memory::AllocError;
 use crate::nd_lent::{ArrayView, ArrayViewMut};
@@ -67,7 +68,7 @@ impl<T: Sized, D: Lengths> OwnedArray<T, D> {
     /// use ndarray_layout::{Ix2, LayoutError, OwnedArray};
     ///
     /// # fn main() -> Result<(), LayoutError> {
-    /// let table = OwnedArray::from_shape_vec(Ix2(2, 3).into(), vec![0, 1, 2, 3, 4, 5])?;
+    /// let table = OwnedArray::from_shape_vec(Ix2(2, 3), vec![0, 1, 2, 3, 4, 5])?;
     /// assert_eq!(table.dim(), &Ix2(2, 3));
     /// # Ok(())
     /// # }
@@ -123,8 +124,8 @@ impl<T: Sized, D: Lengths> OwnedArray<T, D> {
     /// use ndarray_layout::{Ix2, LayoutError, OwnedArray};
     ///
     /// # fn main() -> Result<(), LayoutError> {
-    /// assert!(!OwnedArray::from_shape_vec(Ix2(1, 3).into(), vec![7, 8, 9])?.is_empty());
-    /// assert!(OwnedArray::from_shape_vec(Ix2(0, 3).into(), vec![7, 8, 9])?.is_empty());
+    /// assert!(!OwnedArray::from_shape_vec(Ix2(1, 3), vec![7, 8, 9])?.is_empty());
+    /// assert!(OwnedArray::from_shape_vec(Ix2(0, 3), vec![7, 8, 9])?.is_empty());
     /// # Ok(())
     /// # }
     /// ```
@@ -185,9 +186,9 @@ impl<T: Sized, D: Lengths> OwnedArray<T, D> {
     /// use ndarray_layout::{Ix2, LayoutError, OwnedArray, ShapeBuilder};
     ///
     /// # fn main() -> Result<(), LayoutError> {
-    /// let array = OwnedArray::from_shape_vec(Ix2(1, 2).into(), vec![7, 8, 9])?;
+    /// let array = OwnedArray::from_shape_vec(Ix2(1, 2), vec![7, 8, 9])?;
     /// assert_eq!(array.as_slice(), Some(&[7, 8][..]));
-    /// let columns = OwnedArray::from_shape_vec(Ix2(2, 2).f()?.into(), vec![7, 8, 9, 10])?;
+    /// let columns = OwnedArray::from_shape_vec(Ix2(2, 2).f()?, vec![7, 8, 9, 10])?;
     /// assert_eq!(columns.as_slice(), None);
     /// # Ok(())
     /// # }
@@ -467,7 +468,7 @@ impl<T: Copy, D: Lengths> OwnedArray<T, D> {
     /// use ndarray_layout::{ErrorKind, Ix2, LayoutError, OwnedArray, from_kind, s};
     ///
     /// # fn main() -> Result<(), LayoutError> {
-    /// let table = OwnedArray::from_shape_vec(Ix2(2, 3).into(), vec![0, 1, 2, 3, 4, 5])?;
+    /// let table = OwnedArray::from_shape_vec(Ix2(2, 3), vec![0, 1, 2, 3, 4, 5])?;
     /// assert_eq!(table.items(&s![..;-1, 1..])?, [4, 5, 1, 2]);
     /// let past = table.items(&s![.., 1..4]);
     /// assert_eq!(past, Err(from_kind(ErrorKind::OutOfBounds).into()));
@@ -519,7 +520,7 @@ impl<T: Copy, D: Lengths> OwnedArray<T, D> {
     /// use ndarray_layout::{ErrorKind, Ix2, LayoutError, OwnedArray, from_kind, s};
     ///
     /// # fn main() -> Result<(), LayoutError> {
-    /// let mut table = OwnedArray::from_shape_vec(Ix2(2, 3).into(), vec![0, 1, 2, 3, 4, 5])?;
+    /// let mut table = OwnedArray::from_shape_vec(Ix2(2, 3), vec![0, 1, 2, 3, 4, 5])?;
     /// let (row, column) = (s![0, ..].to_vec(), s![.., 0].to_vec());
     /// table.multi_set(&[(row.clone(), vec![7, 8, 9]), (s![1, ..;2].to_vec(), vec![5, 6])])?;
     /// let crossed = table.multi_set(&[(row, vec![0; 3]), (column, vec![0; 2])]);

@@ -3,7 +3,7 @@
 
 use crate::memory::AllocError;
 use crate::memory::prelude::{FallibleVec, Vec};
-use crate::nd_owned::even_rows::EvenRows;
+use crate::nd_owned::even_rows::{EvenRows, place_at};
 use crate::ndarray_layout::{Lengths, Order, Places, Row, Strided};
 
 /// How many neighbours are worth the call of a copy.
@@ -105,6 +105,73 @@ pub(crate) fn write_rows<T: Copy>(stored: &mut [T], rows: EvenRows, items: &[T])
     }
 }
 
+/// Copies of the items at the places of rows that lie at an offset from these, one row after another. The rows have `count` places.
+///
+/// <details><summary>Contract (proved)</summary>
+///
+/// ```text
+/// requires starts: All (CanMove offset) rows.now
+/// requires in_bounds: All (λ row. AreInBounds (length stored.now) (places_of row)) (moved_rows offset rows.now)
+/// requires count: count ≡ length (rows_places (moved_rows offset rows.now))
+/// ensures items: IfOk result (λ v. map Some v.items
+///     ≡ map (item_at_place stored.now) (rows_places (moved_rows offset rows.now)))
+/// ensures memory: count ≡ 0 → IsOk result
+/// ```
+/// [How to read it](crate::contracts)
+/// </details>
+#[inline(always)]
+pub(crate) fn read_moved_rows<T: Copy>(
+    rows: &[Row],
+    offset: isize,
+    count: usize,
+    stored: &[T],
+) -> Result<Vec<T>, AllocError> {
+    let mut items = Vec::fallible_with_capacity(count)?;
+    for row in rows {
+        items = push_row(items, stored, row_at_offset(*row, offset));
+    }
+    Ok(items)
+}
+
+/// Writes an item at each place of rows that lie at an offset from these, one row after another.
+///
+/// <details><summary>Contract (proved)</summary>
+///
+/// ```text
+/// requires starts: All (CanMove offset) rows.now
+/// requires in_bounds: All (λ row. AreInBounds (length stored.old) (places_of row)) (moved_rows offset rows.now)
+/// requires count: length (rows_places (moved_rows offset rows.now)) ≡ length items.now
+/// ensures AllPairs (λ one other. one ≢ other) (rows_places (moved_rows offset rows.now)) →
+///     HasWritten (rows_places (moved_rows offset rows.now)) items.now stored.old stored.new
+/// ```
+/// [How to read it](crate::contracts)
+/// </details>
+#[inline(always)]
+pub(crate) fn write_moved_rows<T: Copy>(stored: &mut [T], rows: &[Row], offset: isize, items: &[T]) {
+    let mut left = items;
+    for row in rows {
+        let moved = row_at_offset(*row, offset);
+        let (these, others) = left.split_at(moved.len);
+        write_row(stored, moved, these);
+        left = others;
+    }
+}
+
+/// The row at an offset from another one.
+///
+/// <details><summary>Contract (proved)</summary>
+///
+/// ```text
+/// requires CanMove offset row
+/// ensures result ≡ moved_row offset row
+/// ```
+/// [How to read it](crate::contracts)
+/// </details>
+#[inline(always)]
+fn row_at_offset(row: Row, offset: isize) -> Row {
+    Row { start: place_at(row.start, offset), ..row }
+}
+
 /// Appends the items at places to a list with room for them.
 ///
 /// <details><summary>Contract (proved)</summary>
@@ -151,7 +218,7 @@ fn is_copied(row: Row) -> bool {
 /// </details>
 #[inline]
 fn place_after(row: Row, place: usize) -> usize {
-    (place as isize + row.stride) as usize
+    place_at(place, row.stride)
 }
 
 /// Appends the items at the places of a row to a list with room for them. It stays a call, so that its loop keeps more in

@@ -8,7 +8,7 @@ use crate::nd_shape::size_limits::{checked_nonzero_size, checked_span, multiply}
 
 /// How a layout is going to be used: to read, or as the owner of its elements. ndarray's
 /// `CanIndexCheckMode`.
-#[derive(Clone, Copy, PartialEq)]
+#[derive(Clone, Copy, PartialEq, Debug, Eq)]
 pub enum CanIndexCheckMode {
     /// Elements are owned or written, and no two indices may alias. What the docs call owned mode.
     OwnedMutable,

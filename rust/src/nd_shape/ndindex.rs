@@ -1,6 +1,7 @@
 // Made by `rust/erase` of `crates/nd_shape/src/ndindex.rt`: edit that.
 //! What can index an array.
 
+use crate::memory::prelude::Vec;
 use crate::nd_base::{Dim, Ix0, Ix1, Ix2, Ix3, Ix4, Ix5, Ix6, IxDyn, Lengths, index_offset, stride_offset_checked};
 use core::fmt::Debug;
 
@@ -208,6 +209,18 @@ impl NdIndex<IxDyn> for &[usize] {
     #[inline]
     fn index_unchecked(&self, strides: &IxDyn) -> isize {
         index_offset(self, strides.slice())
+    }
+}
+
+impl NdIndex<IxDyn> for Vec<usize> {
+    #[inline]
+    fn index_checked(&self, dim: &IxDyn, strides: &IxDyn) -> Option<isize> {
+        stride_offset_checked(dim.slice(), strides.slice(), self.as_slice())
+    }
+
+    #[inline]
+    fn index_unchecked(&self, strides: &IxDyn) -> isize {
+        index_offset(self.as_slice(), strides.slice())
     }
 }
 

@@ -2,8 +2,10 @@
 //! Slice arguments whose type says which shapes they are for.
 
 use crate::nd_base::{Dim, FixedCount, IxDyn, Lengths};
+use crate::nd_slice::elem::SliceInfoElem;
 use crate::nd_slice::elems::SliceElems;
 use crate::nd_slice::info::SliceInfo;
+use crate::nd_slice::slice_errors::{in_ndim_of, out_ndim_of};
 
 /// A slice argument for shapes of the type `D`. ndarray's `SliceArg`.
 ///
@@ -76,5 +78,20 @@ impl<T: SliceElems, Din: FixedCount, Dout: crate::Dimension> SliceArg<IxDyn> for
     #[inline]
     fn out_ndim(&self) -> usize {
         SliceInfo::out_ndim(self)
+    }
+}
+
+/// Bare elements, for any number of axes.
+impl SliceArg<IxDyn> for &[SliceInfoElem] {
+    type OutDim = IxDyn;
+
+    #[inline]
+    fn in_ndim(&self) -> usize {
+        in_ndim_of(*self)
+    }
+
+    #[inline]
+    fn out_ndim(&self) -> usize {
+        out_ndim_of(*self)
     }
 }

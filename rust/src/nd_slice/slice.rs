@@ -5,6 +5,9 @@ mod builders;
 mod slice_from;
 mod slice_text;
 
+/// The greatest `isize`, which no length or coordinate passes.
+pub(crate) const LIMIT: usize = 9223372036854775807;
+
 /// A range of an axis with a step, all three counted in coordinates. A negative bound counts from
 /// the end of the axis, no end is the end of the axis, and a negative step picks from the last
 /// coordinate of the range to the first. ndarray's `Slice`.

@@ -23,7 +23,7 @@ pub enum Step {
 
 /// The error of a run: the step that was not taken, why, and the view that the steps before it
 /// left. The project's own.
-#[derive(Debug)]
+#[derive(Debug, Clone)]
 pub struct Stopped {
     /// How many steps were taken, which is the number of the one that was not, from 0 on.
     pub at: usize,

@@ -23,6 +23,7 @@ mod broadcasting;
 mod stretch;
 mod intersecting;
 mod alike_rows;
+mod block_views;
 mod blocks;
 mod into_places;
 mod into_rows;
@@ -32,8 +33,10 @@ mod nearest;
 mod nth_row;
 mod picked_size;
 mod places_of_rows;
+mod typing;
 
 use crate::nd_base::Lengths;
+pub use block_views::BlockViews;
 pub use into_places::IntoPlaces;
 pub use into_rows::StridedRows;
 pub use iter_places::Places;
@@ -44,6 +47,7 @@ pub use rows::{Row, Rows};
 /// A view of data: a shape, a stride for each axis, and the place of the first index. The place of
 /// an index is its buffer index, its number of elements from the start of the data, from 0 to
 /// `isize::MAX`. The layout of ndarray's `ArrayView`.
+#[derive(Clone, PartialEq, Eq)]
 pub struct Strided<D: Lengths> {
     pub(crate) start: usize,
     pub(crate) dim: D,

@@ -1,6 +1,5 @@
 //! Arrays at the coordinates of an axis, to be read and to be written.
 
-use crate::layouts::{Layout, rounds};
 use crate::{NUMBERS, kind, owned, rows, rows_mut, texts};
 use ndarray_layout::CanIndexCheckMode::OwnedMutable;
 use ndarray_layout::ErrorKind::OutOfBounds;
@@ -31,7 +30,7 @@ fn rows_of_an_axis_are_mapped() {
     let array = rows_mut(&mut numbers);
     assert_eq!(array.map_axis(Axis(1), |row| row.into_iter().sum::<u8>()).unwrap().into_stored(), [3, 12]);
     assert_eq!(kind(array.map_axis(Axis(2), |_| ())), Some(OutOfBounds));
-    let none = ArrayView::from_shape(ndarray_layout::Ix2(0, 3).into(), &NUMBERS).unwrap();
+    let none = ArrayView::from_shape(ndarray_layout::Ix2(0, 3), &NUMBERS).unwrap();
     assert_eq!(none.map_axis(Axis(0), |column| column.len()).unwrap().into_stored(), [0; 3]);
     assert!(none.map_axis(Axis(1), |_| ()).unwrap().is_empty());
 }
@@ -61,7 +60,7 @@ fn a_line_without_items_lies_as_a_list_of_none() {
     let none = ArrayView::over(without_items(), &[0_u8; 20]).unwrap();
     let lines =
         none.map_axis(Axis(1), |line| (line.strided().start(), line.strided().strides()[0], line.len())).unwrap();
-    let list = ArrayView::<u8, Ix1>::from_shape(Ix1(0).into(), &[]).unwrap();
+    let list = ArrayView::<u8, Ix1>::from_shape(Ix1(0), &[]).unwrap();
     assert_eq!((list.strided().start(), list.strided().strides()[0], list.len()), (0, 0, 0));
     assert_eq!(lines.into_stored(), [(0, 0, 0); 6]);
 }
@@ -69,7 +68,7 @@ fn a_line_without_items_lies_as_a_list_of_none() {
 #[test]
 #[should_panic = "an array without axes has no outer arrays"]
 fn an_array_without_axes_has_no_outer_arrays() {
-    let _ = ArrayView::from_shape(IxDyn(&[]).into(), &NUMBERS).unwrap().outer_iter();
+    let _ = ArrayView::from_shape(IxDyn(&[]), &NUMBERS).unwrap().outer_iter();
 }
 
 #[test]
@@ -90,58 +89,4 @@ fn arrays_of_an_axis_are_written() {
     array.outer_iter_mut().unwrap().rev().zip(7..).for_each(|(mut row, number)| row.fill(number));
     array.index_axis_mut(Axis(1), 1).unwrap().fill(0);
     assert_eq!(array.into_stored(), [8, 0, 8, 7, 0, 7, 6]);
-}
-
-#[test]
-fn arrays_of_an_axis_are_the_models() {
-    rounds(10_000, 15, |numbers| {
-        let layout = if numbers.once_in(2) { Layout::random(numbers) } else { Layout::shared(numbers) };
-        let Some(axis) = numbers.below(layout.shape.len() + 1).checked_sub(1) else {
-            return;
-        };
-        let numbered: Vec<usize> = (0..layout.count).collect();
-        let array = layout.array(&numbered);
-        let expected: Vec<Vec<usize>> = (0..layout.shape[axis]).map(|at| layout.at(axis, at).places()).collect();
-        let mut left = array.axis_iter(Axis(axis)).unwrap();
-        assert_eq!(left.len(), expected.len(), "{layout:?} along {axis}");
-        let skipped = numbers.below(expected.len() + 1);
-        let mut last: Option<Vec<usize>> = None;
-        if numbers.once_in(2) {
-            last = left.next_back().map(|part| part.to_vec().unwrap());
-        }
-        let found: Option<Vec<usize>> = left.nth(skipped).map(|part| part.to_vec().unwrap());
-        assert!(last.is_none() || last.as_ref() == expected.last(), "{layout:?} along {axis}");
-        let end = expected.len() - usize::from(last.is_some());
-        assert_eq!(found.as_ref(), expected[..end].get(skipped), "{layout:?} along {axis}");
-        let parts: Vec<_> = array.axis_iter(Axis(axis)).unwrap().map(|part| part.to_vec().unwrap()).collect();
-        assert_eq!(parts, expected, "{layout:?} along {axis}");
-    });
-}
-
-#[test]
-fn arrays_of_an_axis_are_written_as_the_models() {
-    rounds(10_000, 16, |numbers| {
-        let layout = Layout::random(numbers);
-        let Some(axis) = numbers.below(layout.shape.len() + 1).checked_sub(1) else {
-            return;
-        };
-        let mut numbered: Vec<usize> = (0..layout.count).collect();
-        let parts: Vec<Layout> = (0..layout.shape[axis]).map(|at| layout.at(axis, at)).collect();
-        let mut array = layout.array_mut(&mut numbered);
-        let mut left = array.axis_iter_mut(Axis(axis)).unwrap();
-        let mut expected: Vec<Vec<usize>> = parts.iter().map(Layout::places).collect();
-        while !expected.is_empty() {
-            let (part, places) = match numbers.once_in(2) {
-                true => (left.next(), expected.remove(0)),
-                false => (left.next_back(), expected.pop().unwrap()),
-            };
-            let mut part = part.unwrap();
-            assert!(part.iter().eq(&places), "{layout:?} along {axis}");
-            part.iter_mut().for_each(|item| *item += 1000);
-        }
-        assert!(left.next().is_none() && left.next_back().is_none());
-        let written = layout.places();
-        let expected = |place| if written.contains(&place) { place + 1000 } else { place };
-        assert_eq!(numbered, (0..layout.count).map(expected).collect::<Vec<_>>(), "{layout:?} along {axis}");
-    });
 }

@@ -3,7 +3,6 @@
 use crate::allocator::failing_at;
 use crate::layouts::{Layout, rounds};
 use crate::numbers::Numbers;
-use crate::of_count;
 use ndarray_layout::{ArrayView, ArrayViewMut, ErrorKind, Lengths, from_kind};
 
 /// A layout of up to eight axes, with others of length 1, by any stride, between those of a random one.
@@ -21,37 +20,6 @@ fn with_more_axes(numbers: &mut Numbers) -> Layout {
 fn sorted<T: Ord>(mut items: Vec<T>) -> Vec<T> {
     items.sort();
     items
-}
-
-/// Calls `map_in_place_nearest`, and returns at which items; each is numbered by its call, from 1,000 on.
-fn number<D: Lengths>(mut array: ArrayViewMut<'_, usize, D>) -> Vec<usize> {
-    let mut seen = Vec::new();
-    array.map_in_place_nearest(|item| {
-        seen.push(*item);
-        *item = 999 + seen.len();
-    });
-    seen
-}
-
-#[test]
-fn items_that_are_mapped_in_place_are_each_met_once() {
-    rounds(10_000, 31, |numbers| {
-        let layout = with_more_axes(numbers);
-        let all: Vec<usize> = (0..layout.count).collect();
-        let check = |seen: Vec<usize>, items: Vec<usize>| {
-            let mut expected = all.clone();
-            seen.iter().zip(1_000..).for_each(|(place, turn)| expected[*place] = turn);
-            assert_eq!((items, sorted(seen)), (expected, sorted(layout.places())), "{layout:?}");
-        };
-        let mut items = all.clone();
-        check(number(layout.array_mut(&mut items)), items);
-        if layout.shape.len() < 6 {
-            let mut items = all.clone();
-            let seen = of_count!(layout.shape.len(), D =>
-                number(layout.array_mut(&mut items).into_dimensionality::<D>().unwrap()));
-            check(seen, items);
-        }
-    });
 }
 
 /// Calls `map_into_nearest`, and returns at which items; what is written is the number of the call, from 1 on, beside the item.

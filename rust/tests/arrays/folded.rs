@@ -12,7 +12,7 @@ fn sums_and_joins_are_those_of_the_items() {
     let joined = rows(&texts).reversed_axes().iter().fold(String::new(), |text, item| text + item);
     assert_eq!(joined, "031425");
     let columns = ndarray_layout::Ix2(2, 3).f().unwrap();
-    let owned = OwnedArray::from_shape_vec(columns.into(), NUMBERS.to_vec());
+    let owned = OwnedArray::from_shape_vec(columns, NUMBERS.to_vec());
     let mut found = Vec::new();
     owned.unwrap_or_else(|_| panic!("two rows")).iter().for_each(|item| found.push(item));
     assert_eq!(found, [0, 2, 4, 1, 3, 5]);
@@ -22,8 +22,8 @@ fn sums_and_joins_are_those_of_the_items() {
 fn items_backwards_come_in_order() {
     for count in [1, 7, 8, 9, 100] {
         let items: Vec<usize> = (0..count).collect();
-        let array = ArrayView::from_shape(Ix1(count).into(), &items).unwrap();
-        let turned: ArrayView<'_, usize, Ix1> = array.slice(&s![..;-1], Fit::Strict).unwrap();
+        let array = ArrayView::from_shape(Ix1(count), &items).unwrap();
+        let turned: ArrayView<'_, usize, Ix1> = array.slice_with(&s![..;-1], Fit::Strict).unwrap();
         let onto = |list: Vec<usize>, item: &usize| [list, vec![*item]].concat();
         let backwards: Vec<usize> = items.iter().rev().copied().collect();
         assert_eq!(

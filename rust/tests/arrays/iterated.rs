@@ -14,7 +14,7 @@ fn positive<T: PartialOrd + Default>(items: &[T]) -> impl Iterator<Item = &T> {
 
 /// The rows of an array that is made here.
 fn firsts<T>(items: &[T]) -> impl Iterator<Item = &T> {
-    let flat = ArrayView::from_shape(Ix2(3, 2).into(), items).unwrap();
+    let flat = ArrayView::from_shape(Ix2(3, 2), items).unwrap();
     flat.into_rows().filter_map(|row| row.into_iter().next())
 }
 
@@ -46,7 +46,7 @@ fn an_iterator_says_how_many_are_left() {
     assert_eq!((left.next_back(), left.len(), left.size_hint()), (Some(&5), 5, (5, Some(5))));
     assert_eq!(format!("{left:?}"), "ViewIter { left: 5, .. }");
     assert_eq!((left.clone().last(), left.clone().count(), left.max()), (Some(&4), 5, Some(&4)));
-    let mut none = ArrayView::from_shape(Ix1(0).into(), &NUMBERS).unwrap().into_iter();
+    let mut none = ArrayView::from_shape(Ix1(0), &NUMBERS).unwrap().into_iter();
     assert_eq!((none.next(), none.next_back(), none.len()), (None, None, 0));
 }
 
@@ -90,8 +90,12 @@ fn is_same_step<'a, T: PartialEq + Debug, D: Lengths>(
 }
 
 /// Compares an iterator with the model: steps at both ends, then all that is left.
-fn compare<T: PartialEq + Debug, D: Dimension>(numbers: &mut Numbers, array: ArrayView<'_, T, D>, layout: &Layout) {
-    let mut model: VecDeque<&T> = layout.places().into_iter().map(|place| &array.stored()[place]).collect();
+fn compare<T: PartialEq + Debug, D: Dimension>(
+    numbers: &mut Numbers,
+    (array, items): (ArrayView<'_, T, D>, &[T]),
+    layout: &Layout,
+) {
+    let mut model: VecDeque<&T> = layout.places().into_iter().map(|place| &items[place]).collect();
     let mut left = array.into_iter();
     assert_eq!(left.len(), model.len(), "{layout:?}");
     for _ in 0..numbers.below(8) {
@@ -114,9 +118,9 @@ fn items_from_both_ends_are_the_models() {
     rounds(20_000, 1, |numbers| {
         let layout = if numbers.once_in(2) { Layout::random(numbers) } else { Layout::shared(numbers) };
         let items: Vec<usize> = (0..layout.count).collect();
-        compare(numbers, layout.array(&items), &layout);
+        compare(numbers, (layout.array(&items), &items), &layout);
         of_count!(layout.shape.len(), D => {
-            compare(numbers, layout.array(&items).into_dimensionality::<D>().unwrap(), &layout);
+            compare(numbers, (layout.array(&items).into_dimensionality::<D>().unwrap(), &items), &layout);
         });
     });
 }
@@ -126,7 +130,7 @@ fn texts_from_both_ends_are_the_models() {
     rounds(1_000, 2, |numbers| {
         let layout = Layout::random(numbers);
         let items: Vec<String> = (0..layout.count).map(|place| place.to_string()).collect();
-        compare(numbers, layout.array(&items), &layout);
+        compare(numbers, (layout.array(&items), &items), &layout);
     });
 }
 

@@ -4,11 +4,12 @@
 mod allocator;
 mod along;
 mod any_order;
+mod blocks;
+mod both_ends;
 mod chunks;
 mod folded;
 mod indexing;
 mod iterated;
-mod iterated_mut;
 mod joined;
 mod layouts;
 mod memory;
@@ -19,6 +20,7 @@ mod numbers;
 mod places;
 mod reads;
 mod rows;
+mod tiles;
 mod writes;
 
 use ndarray_layout::{ArrayView, ArrayViewMut, ErrorKind, Ix2, LayoutError, OwnedArray};
@@ -36,17 +38,17 @@ fn texts() -> Vec<String> {
 
 /// Items as two rows.
 fn rows<T>(items: &[T]) -> ArrayView<'_, T, Ix2> {
-    ArrayView::from_shape(ROWS.into(), items).unwrap()
+    ArrayView::from_shape(ROWS, items).unwrap()
 }
 
 /// Items as two rows to be written.
 fn rows_mut<T>(items: &mut [T]) -> ArrayViewMut<'_, T, Ix2> {
-    ArrayViewMut::from_shape(ROWS.into(), items).unwrap()
+    ArrayViewMut::from_shape(ROWS, items).unwrap()
 }
 
 /// Two rows that own their items.
 fn owned<T>(items: Vec<T>) -> OwnedArray<T, Ix2> {
-    match OwnedArray::from_shape_vec(ROWS.into(), items) {
+    match OwnedArray::from_shape_vec(ROWS, items) {
         Ok(array) => array,
         Err((error, _)) => panic!("{error}"),
     }

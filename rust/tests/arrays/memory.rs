@@ -2,7 +2,7 @@
 
 use crate::allocator::failing_at;
 use crate::layouts::Layout;
-use ndarray_layout::{ArrayViewMut, Axis, Ix2, LayoutError, OwnedArray, StrideShape, Strides};
+use ndarray_layout::{ArrayViewMut, Axis, Ix2, IxDyn, LayoutError, OwnedArray, ShapeBuilder, StrideShape, Strides};
 use std::panic::{AssertUnwindSafe, catch_unwind};
 
 /// Ten numbers along five axes, so that a shape takes memory, with the rows and the columns turned.
@@ -63,10 +63,9 @@ fn an_iterator_panics_where_memory_runs_out() {
     let five = layout().array(&numbers);
     assert_eq!((panics(|| five.view()), panics(|| (&five).into_iter().count())), (2, 2));
     let mut array = small.array_mut(&mut numbers);
-    // the items that don't lie side by side
-    assert_eq!(panics(|| array.iter_mut().count()), 1);
+    assert_eq!(panics(|| array.iter_mut().count()), 0);
     let mut whole = [0; 6];
-    let mut array = ArrayViewMut::from_shape(Ix2(2, 3).into(), &mut whole).unwrap();
+    let mut array = ArrayViewMut::from_shape(Ix2(2, 3), &mut whole).unwrap();
     assert_eq!(panics(|| array.iter_mut().count()), 0);
 }
 
@@ -83,4 +82,29 @@ fn items_are_handed_out_in_another_list_or_in_their_own() {
         };
         assert_eq!((0..).take_while(failing).count(), expected);
     }
+}
+
+#[test]
+fn arrays_of_copies_and_of_a_closure_panic_where_memory_runs_out() {
+    assert_eq!(panics(|| OwnedArray::from_elem((2, 3), 7_u8)), 1);
+    assert_eq!(panics(|| OwnedArray::from_shape_fn((2, 3), |(row, column)| row + column)), 1);
+    // the list, and copies of five lengths: of the shape, of its strides, and of the indices
+    let five = || IxDyn(&[2, 1, 1, 1, 5]);
+    assert!(panics(|| OwnedArray::from_elem(five(), 7_u8)) > 1);
+    assert!(panics(|| OwnedArray::from_shape_fn(five(), |index| index)) > 10);
+    let array = layout().array(&NUMBERS).to_owned();
+    assert_eq!((panics(|| array.to_owned()), array.into_stored()), (3, vec![0, 2, 4, 6, 8, 1, 3, 5, 7, 9]));
+}
+
+/// The numbers of `layout`.
+const NUMBERS: [usize; 10] = [0, 1, 2, 3, 4, 5, 6, 7, 8, 9];
+
+#[test]
+fn an_array_of_more_items_than_an_isize_counts_is_not_made() {
+    let is_made = |call: &dyn Fn() -> usize| catch_unwind(AssertUnwindSafe(call)).is_ok();
+    assert!(!is_made(&|| OwnedArray::from_elem((usize::MAX, 2), ()).len()));
+    assert!(!is_made(&|| OwnedArray::from_shape_fn((1 << 62, 2), |_| 0_u8).len()));
+    assert!(!is_made(&|| OwnedArray::<(), Ix2>::from(vec![[(); usize::MAX]; 2]).len()));
+    assert!(is_made(&|| OwnedArray::from_elem((1 << 62, 0), 0_u8).len()));
+    assert!(is_made(&|| OwnedArray::from_shape_fn((0, 3).f().unwrap(), |_| 0_u8).len()));
 }

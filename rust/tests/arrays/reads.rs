@@ -3,7 +3,7 @@
 use crate::layouts::{Layout, rounds};
 use crate::{NUMBERS, kind, of_count, owned, rows, rows_mut, texts};
 use ndarray_layout::ErrorKind::IncompatibleShape;
-use ndarray_layout::{ArrayView, ArrayViewMut, Axis, Ix1, Ix2, Ix3, Lengths, OwnedArray};
+use ndarray_layout::{ArrayView, ArrayViewMut, Axis, Ix1, Ix2, Ix3, IxDyn, Lengths, OwnedArray, ShapeBuilder};
 
 #[test]
 fn shapes_and_strides_are_read() {
@@ -71,7 +71,7 @@ fn a_dimension_of_another_type_has_as_many_axes() {
     assert!(array.into_dimensionality::<Ix2>().is_ok());
     assert_eq!(kind(rows(&NUMBERS).into_dimensionality::<Ix3>()), Some(IncompatibleShape));
     assert_eq!(kind(rows_mut(&mut NUMBERS.clone()).into_dyn().into_dimensionality::<Ix1>()), Some(IncompatibleShape));
-    let six = ArrayView::from_shape(ndarray_layout::Ix6(1, 2, 1, 3, 1, 1).into(), &NUMBERS).unwrap();
+    let six = ArrayView::from_shape(ndarray_layout::Ix6(1, 2, 1, 3, 1, 1), &NUMBERS).unwrap();
     assert_eq!(six.into_dyn().into_iter().sum::<u8>(), 15);
 }
 
@@ -141,5 +141,24 @@ fn copies_of_shared_items_are_the_models() {
             changed.stored_mut()[place].push('a');
             assert!(changed != other, "{layout:?} at {place}");
         }
+    });
+}
+
+#[test]
+fn items_that_a_closure_makes_are_those_of_their_indices() {
+    rounds(2_000, 24, |numbers| {
+        let layout = Layout::random(numbers);
+        let is_f = numbers.once_in(2);
+        let mut made = Vec::new();
+        let array = OwnedArray::from_shape_fn(IxDyn(&layout.shape).set_f(is_f).unwrap(), |index| {
+            made.push(index.clone());
+            index
+        });
+        assert!(array.indexed_iter().all(|(index, item)| index == *item), "{layout:?}");
+        assert_eq!((array.len(), array.stored()), (layout.indices().len(), &made[..]), "{layout:?}");
+        let again = OwnedArray::from_elem(IxDyn(&layout.shape).set_f(is_f).unwrap(), 7);
+        assert_eq!((again.dim(), again.stored()), (array.dim(), &vec![7; made.len()][..]), "{layout:?}");
+        let strides = |axis| (array.stride_of(Axis(axis)), again.stride_of(Axis(axis)));
+        assert!((0..array.ndim()).map(strides).all(|(one, other)| one == other), "{layout:?}");
     });
 }

@@ -1,9 +1,8 @@
 //! Rows, columns and the lanes of any axis, to be read and to be written.
 
-use crate::layouts::{Layout, rounds};
 use crate::{NUMBERS, kind, owned, rows, rows_mut, texts};
 use ndarray_layout::ErrorKind::OutOfBounds;
-use ndarray_layout::{Axis, LentRow};
+use ndarray_layout::{Axis, LentRow, s};
 
 #[test]
 fn a_row_and_a_column_are_lent() {
@@ -19,6 +18,7 @@ fn a_row_and_a_column_are_lent() {
     array.column_mut(1).unwrap()[1] = 8;
     assert_eq!((kind(array.row_mut(2)), kind(array.column_mut(3))), (Some(OutOfBounds), Some(OutOfBounds)));
     assert_eq!((array.row(0).unwrap().len(), array.column(1).unwrap().last()), (3, Some(&8)));
+    assert!(array.slice_mut(s![.., ..2]).unwrap().is_square());
     let mut array = owned(numbers.to_vec());
     array.row_mut(1).unwrap()[2] = 7;
     array.column_mut(0).unwrap().fill(6);
@@ -48,7 +48,7 @@ fn rows_are_iterated_from_both_ends() {
     for (mut row, number) in array.rows_mut().rev().zip(7..) {
         row[0] = number;
     }
-    assert_eq!(format!("{:?}", array.rows_mut()), "PartRows { left: 2, .. }");
+    assert_eq!(format!("{:?}", array.rows_mut()), "LanesMut { left: 2, .. }");
     assert_eq!(numbers, [8, 1, 2, 7, 4, 5, 6]);
 }
 
@@ -73,55 +73,4 @@ fn rows_that_interleave_are_lent() {
         row.iter_mut().for_each(|text| text.push_str(letter));
     }
     assert_eq!(texts, ["0b", "1b", "2b", "3xa", "4ya", "5za", "6"]);
-}
-
-#[test]
-fn lanes_are_the_models() {
-    rounds(10_000, 13, |numbers| {
-        let layout = if numbers.once_in(2) { Layout::random(numbers) } else { Layout::shared(numbers) };
-        let Some(axis) = numbers.below(layout.shape.len() + 1).checked_sub(1) else {
-            return;
-        };
-        let numbered: Vec<usize> = (0..layout.count).collect();
-        let lanes = layout.lanes(axis);
-        let expected: Vec<Vec<usize>> = lanes.iter().map(Layout::places).collect();
-        let array = layout.array(&numbered);
-        let found = array.lanes(Axis(axis)).unwrap();
-        assert_eq!(found.len(), expected.len(), "{layout:?} along {axis}");
-        assert_eq!(found.map(items).collect::<Vec<_>>(), expected, "{layout:?} along {axis}");
-        let backwards: Vec<_> = array.lanes(Axis(axis)).unwrap().rev().map(items).collect();
-        assert!(backwards.iter().rev().eq(expected.iter()), "{layout:?} along {axis}");
-        if axis + 1 == layout.shape.len() {
-            assert_eq!(array.into_rows().map(items).collect::<Vec<_>>(), expected, "{layout:?}");
-        }
-    });
-}
-
-#[test]
-fn lanes_to_be_written_are_the_models() {
-    rounds(10_000, 14, |numbers| {
-        let layout = Layout::random(numbers);
-        let Some(axis) = numbers.below(layout.shape.len() + 1).checked_sub(1) else {
-            return;
-        };
-        let mut numbered: Vec<usize> = (0..layout.count).collect();
-        let lanes = layout.lanes(axis);
-        let mut array = layout.array_mut(&mut numbered);
-        let mut left = array.lanes_mut(Axis(axis)).unwrap();
-        let mut expected: Vec<Vec<usize>> = lanes.iter().map(Layout::places).collect();
-        assert_eq!(left.len(), expected.len(), "{layout:?} along {axis}");
-        while !expected.is_empty() {
-            let (row, places) = match numbers.once_in(2) {
-                true => (left.next(), expected.remove(0)),
-                false => (left.next_back(), expected.pop().unwrap()),
-            };
-            let mut row = row.unwrap();
-            assert!(row.iter().eq(&places), "{layout:?} along {axis}");
-            row.iter_mut().for_each(|item| *item += 1000);
-        }
-        assert!(left.next().is_none() && left.next_back().is_none());
-        let written = layout.places();
-        let expected = |place| if written.contains(&place) { place + 1000 } else { place };
-        assert_eq!(numbered, (0..layout.count).map(expected).collect::<Vec<_>>(), "{layout:?} along {axis}");
-    });
 }

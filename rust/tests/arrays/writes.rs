@@ -31,13 +31,11 @@ fn slices_of_an_array_are_written() {
     array.as_slice_mut().unwrap().swap(0, 1);
     array.first_mut().unwrap().push('a');
     array.last_mut().unwrap().push('b');
-    array.stored_mut()[6].push('c');
     assert!(array.view_mut().reversed_axes().as_slice_mut().is_none());
     array.view_mut().reversed_axes().as_slice_memory_order_mut().unwrap()[2].push('d');
-    let (view, stored) = array.parts_mut();
-    stored[view.place(&(1, 0)).unwrap()].push('e');
-    assert_eq!(array.into_slice().map(|slice| slice.len()), Some(6));
-    assert_eq!(list, ["1a", "0", "2d", "3e", "4", "5b", "6c"]);
+    array[(1, 0)].push('e');
+    assert_eq!(array.into_slice().map(|slice| slice.len()).ok(), Some(6));
+    assert_eq!(list, ["1a", "0", "2d", "3e", "4", "5b", "6"]);
     let mut array = owned(NUMBERS.to_vec());
     array.as_slice_mut().unwrap().reverse();
     *array.first_mut().unwrap() = 50;
@@ -74,7 +72,7 @@ fn items_that_are_handed_out_are_the_models() {
 #[test]
 fn an_array_without_items_has_no_first_one() {
     let mut none = [0_u8; 0];
-    let mut array = ndarray_layout::ArrayViewMut::from_shape(Ix2(0, 3).into(), &mut none).unwrap();
+    let mut array = ndarray_layout::ArrayViewMut::from_shape(Ix2(0, 3), &mut none).unwrap();
     assert!(array.first_mut().is_none() && array.last_mut().is_none());
     assert_eq!(array.as_slice_mut().map(|slice| slice.len()), Some(0));
     assert!(array.first().is_none() && array.last().is_none() && array.iter_mut().next().is_none());
@@ -87,7 +85,7 @@ fn two_arrays_are_gone_over_side_by_side() {
     let (mut list, numbers) = (texts(), NUMBERS);
     let mut array = rows_mut(&mut list);
     array.zip_mut_with(&rows(&numbers), |text, number| text.push_str(&number.to_string())).unwrap();
-    let row = ArrayView::from_shape(Ix1(3).into(), &["a", "b", "c"]).unwrap();
+    let row = ArrayView::from_shape(Ix1(3), &["a", "b", "c"]).unwrap();
     let row = row.broadcast(&Ix2(2, 3)).unwrap();
     array.zip_mut_with(&row, |text, other| text.push_str(other)).unwrap();
     let turned = rows(&numbers).reversed_axes();
@@ -121,41 +119,6 @@ fn pairs_of_items_are_the_models() {
         found.sort_unstable();
         pairs.sort_unstable();
         assert_eq!((found, items), (pairs, expected), "{layout:?} beside {other:?}");
-    });
-}
-
-#[test]
-fn items_that_are_mapped_in_place_are_the_models() {
-    rounds(20_000, 21, |numbers| {
-        let layout = Layout::random(numbers);
-        let mut items: Vec<String> = (0..layout.count).map(|place| place.to_string()).collect();
-        let mut expected = items.clone();
-        for (turn, place) in layout.places().into_iter().enumerate() {
-            expected[place].push_str(&format!(" at {turn}"));
-        }
-        let mut turn = 0;
-        layout.array_mut(&mut items).map_in_place(|item| {
-            item.push_str(&format!(" at {turn}"));
-            turn += 1;
-        });
-        assert_eq!(items, expected, "{layout:?}");
-    });
-}
-
-#[test]
-fn an_array_is_filled_as_the_model() {
-    rounds(10_000, 22, |numbers| {
-        let layout = Layout::random(numbers);
-        let mut items: Vec<usize> = (0..layout.count).collect();
-        let mut expected = items.clone();
-        layout.places().into_iter().for_each(|place| expected[place] = 1_000);
-        let mut counted = items.clone();
-        layout.array_mut(&mut items).fill(1_000);
-        assert_eq!(items, expected, "{layout:?}");
-        of_count!(layout.shape.len(), D => {
-            layout.array_mut(&mut counted).into_dimensionality::<D>().unwrap().fill(1_000);
-        });
-        assert_eq!(counted, expected, "{layout:?} of a fixed count of axes");
     });
 }
 

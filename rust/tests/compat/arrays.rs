@@ -80,11 +80,11 @@ fn arrays_of_each_count_of_axes_are_made() {
 #[test]
 fn the_shape_of_an_array_is_told_and_its_indices() -> Result<(), LayoutError> {
     let mut items = [3, 1, 4, 1, 5, 9];
-    let view = ArrayView::from_shape(Ix2(2, 3).into(), &items)?;
+    let view = ArrayView::from_shape(Ix2(2, 3), &items)?;
     assert_eq!((view.raw_dim(), indices_of(&view).into_iter().last()), (Ix2(2, 3), Some((1, 2))));
     let turned: Strided<Ix2> = view.strided().reversed_axes();
     assert_eq!((turned.raw_dim(), letters(turned.layout())), (Ix2(3, 2), "Ff".to_string()));
-    let view = ArrayViewMut::from_shape(IxDyn(&[3, 2]).into(), &mut items)?;
+    let view = ArrayViewMut::from_shape(IxDyn(&[3, 2]), &mut items)?;
     assert_eq!((view.raw_dim(), letters(view.layout())), (IxDyn(&[3, 2]), "Cc".to_string()));
     let mut array = Array3::<i32>::zeros(Ix3(2, 1, 2));
     assert_eq!(array.raw_dim(), Ix3(2, 1, 2));

@@ -19,21 +19,21 @@ fn a_slice_of_an_array_has_the_axes_that_its_type_says() -> Result<(), LayoutErr
     let mut cube = counted(Ix3(2, 3, 4))?;
     let plane: ArrayView<'_, i32, Ix2> = cube.sliced(s![1, .., ..;2])?;
     assert_eq!((plane.dim(), plane[(2, 1)]), (&Ix2(3, 2), 22));
-    let line: ArrayView<'_, i32, Ix1> = plane.sliced(s![-1, ..;-1])?;
+    let line: ArrayView<'_, i32, Ix1> = plane.slice(s![-1, ..;-1])?;
     assert_eq!(line.iter().copied().collect::<Vec<_>>(), [22, 20]);
-    let mut plane: ArrayViewMut<'_, i32, Ix2> = cube.sliced_mut(s![0, .., 1..3])?;
-    plane.sliced_mut(s![0, ..])?.fill(99);
-    let again: ArrayView<'_, i32, Ix3> = plane.sliced(s![.., NewAxis, ..])?;
+    let mut plane: ArrayViewMut<'_, i32, Ix2> = cube.slice_mut(s![0, .., 1..3])?;
+    plane.slice_mut(s![0, ..])?.fill(99);
+    let again: ArrayView<'_, i32, Ix3> = plane.slice(s![.., NewAxis, ..])?;
     assert_eq!(again[(0, 0, 1)], 99);
-    plane.sliced_move(s![2, ..])?.fill(77);
+    plane.slice_move(s![2, ..])?.fill(77);
     assert_eq!(cube.stored()[..12], [0, 99, 99, 3, 4, 5, 6, 7, 8, 77, 77, 11]);
     Ok(())
 }
 
 #[test]
 fn a_slice_of_lists_is_lent() -> Result<(), LayoutError> {
-    let mut lists = OwnedArray::from_shape_vec(Ix2(2, 2).into(), vec![vec![1], vec![2], vec![3], vec![4]])?;
-    let mut column: ArrayViewMut<'_, Vec<i32>, Ix1> = lists.sliced_mut(s![.., 1])?;
+    let mut lists = OwnedArray::from_shape_vec(Ix2(2, 2), vec![vec![1], vec![2], vec![3], vec![4]])?;
+    let mut column: ArrayViewMut<'_, Vec<i32>, Ix1> = lists.slice_mut(s![.., 1])?;
     assert!(column.set(&1, vec![5, 6]));
     assert_eq!(lists.sliced(s![1.., ..])?[(0, 1)], [5, 6]);
     Ok(())
@@ -43,10 +43,10 @@ fn a_slice_of_lists_is_lent() -> Result<(), LayoutError> {
 fn what_does_not_fit_has_an_error() -> Result<(), LayoutError> {
     let mut table = counted(Ix2(2, 3))?;
     assert_eq!(kind(table.sliced(s![2, ..])), Some(OutOfBounds));
-    assert_eq!(kind(table.sliced_mut(s![.., ..;0])), Some(Unsupported));
+    assert_eq!(kind(table.slice_mut(s![.., ..;0])), Some(Unsupported));
     let mut any = counted(IxDyn(&[2, 3]))?;
     assert_eq!(kind(any.sliced(s![1])), Some(IncompatibleShape));
-    assert_eq!(kind(any.sliced_mut(s![1, .., ..])), Some(IncompatibleShape));
+    assert_eq!(kind(any.slice_mut(s![1, .., ..])), Some(IncompatibleShape));
     Ok(())
 }
 
@@ -62,11 +62,11 @@ fn any_count_of_axes_crops_as_a_fixed_one_does() -> Result<(), LayoutError> {
     assert_eq!(view.into_dyn().crop(&IxDyn(&[0]), &IxDyn(&[1])), None);
     let array = counted(IxDyn(&[4, 6]))?;
     let part = array.try_view()?.crop(&IxDyn(&[1, 2]), &IxDyn(&[3, 4])).expect("a part");
-    assert_eq!(part, OwnedArray::from_shape_vec(IxDyn(&[2, 2]).into(), vec![8, 9, 14, 15])?);
+    assert_eq!(part, OwnedArray::from_shape_vec(IxDyn(&[2, 2]), vec![8, 9, 14, 15])?);
     let mut lists = [vec![1], vec![2], vec![3]];
-    let lent = ArrayViewMut::from_shape(IxDyn(&[3]).into(), &mut lists)?;
+    let lent = ArrayViewMut::from_shape(IxDyn(&[3]), &mut lists)?;
     assert!(lent.crop(&IxDyn(&[2]), &IxDyn(&[4])).is_none());
-    let lent = ArrayViewMut::from_shape(IxDyn(&[3]).into(), &mut lists)?;
+    let lent = ArrayViewMut::from_shape(IxDyn(&[3]), &mut lists)?;
     assert!(lent.crop(&IxDyn(&[2]), &IxDyn(&[3])).is_some_and(|mut lent| lent.set(&0, vec![9])));
     assert_eq!(lists[2], [9]);
     Ok(())

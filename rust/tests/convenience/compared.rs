@@ -13,7 +13,7 @@ fn by_columns(numbers: &[i32]) -> Result<ArrayView<'_, i32, Ix2>, LayoutError> {
 /// Words that own memory, as an array.
 fn words(words: &[&str]) -> Result<OwnedArray<String, Ix1>, LayoutError> {
     let items: Vec<String> = words.iter().map(|word| (*word).to_owned()).collect();
-    Ok(OwnedArray::from_shape_vec(Ix1(items.len()).into(), items)?)
+    Ok(OwnedArray::from_shape_vec(Ix1(items.len()), items)?)
 }
 
 #[test]
@@ -39,10 +39,10 @@ fn arrays_of_each_kind_are_equal_by_their_items() -> Result<(), LayoutError> {
 #[test]
 fn rows_with_gaps_and_steps_are_compared() -> Result<(), LayoutError> {
     let table = counted(Ix2(4, 6))?;
-    let same = OwnedArray::from_shape_vec(Ix2(2, 3).into(), vec![7, 8, 9, 19, 20, 21])?;
+    let same = OwnedArray::from_shape_vec(Ix2(2, 3), vec![7, 8, 9, 19, 20, 21])?;
     assert_eq!(table.sliced(s![1..;2, 1..4])?, same);
     assert_ne!(table.sliced(s![..;2, 1..4])?, same);
-    let backwards = OwnedArray::from_shape_vec(Ix1(3).into(), vec![11, 9, 7])?;
+    let backwards = OwnedArray::from_shape_vec(Ix1(3), vec![11, 9, 7])?;
     assert_eq!(table.sliced(s![1, ..;-2])?, backwards);
     Ok(())
 }
@@ -50,8 +50,8 @@ fn rows_with_gaps_and_steps_are_compared() -> Result<(), LayoutError> {
 #[test]
 fn items_of_two_types_are_compared() -> Result<(), LayoutError> {
     let words = words(&["a", "b"])?;
-    assert_eq!(words, ArrayView::from_shape(Ix1(2).into(), &["a", "b"])?);
-    assert_ne!(words, ArrayView::from_shape(Ix1(2).into(), &["a", "c"])?);
+    assert_eq!(words, ArrayView::from_shape(Ix1(2), &["a", "b"])?);
+    assert_ne!(words, ArrayView::from_shape(Ix1(2), &["a", "c"])?);
     Ok(())
 }
 
@@ -76,7 +76,7 @@ fn views_of_fixed_types_are_copied_by_use() -> Result<(), LayoutError> {
     let row = array.rows().nth(1).map(|row| [row, row]);
     assert!(row.is_some_and(|rows| rows[0].as_slice() == rows[1].as_slice()));
     assert_eq!((array[(1, 2, 3)], turned[(3, 2, 1)], array == turned.reversed_axes()), (23, 23, true));
-    let any = ArrayView::from_shape(IxDyn(&[1, 2, 1, 3, 1]).into(), &numbers)?;
+    let any = ArrayView::from_shape(IxDyn(&[1, 2, 1, 3, 1]), &numbers)?;
     assert_eq!(any.clone(), any);
     Ok(())
 }

@@ -41,7 +41,7 @@ mod prelude {
         let part: Strided<Ix3> = view.sliced(s![1, NewAxis, .., 1..;-1])?;
         assert_eq!((part.start(), part.dim().slice()), (15, &[1, 3, 3][..]));
         assert_eq!(part.iter_places(Order::RowMajor).len(), part.dim().size());
-        let array = OwnedArray::from_shape_vec(Dim((2, 2)).f()?.into(), vec![1, 2, 3, 4])?;
+        let array = OwnedArray::from_shape_vec(Dim((2, 2)).f()?, vec![1, 2, 3, 4])?;
         assert_eq!((array[[0, 1]], array[(1, 0)]), (3, 2));
         let columns: ArrayView<'_, i32, Ix2> = array.sliced(s![.., ..1])?;
         assert_eq!(columns.iter().sum::<i32>(), 3);

@@ -3,7 +3,7 @@
 use super::counted;
 use ndarray_layout::CanIndexCheckMode::ReadOnly;
 use ndarray_layout::{
-    ArrayView, ArrayViewMut, Axis, Ix0, Ix1, Ix2, IxDyn, LayoutError, Lengths, Order, OwnedArray, PartMut, SplitViews,
+    ArrayView, ArrayViewMut, Axis, Ix0, Ix1, Ix2, IxDyn, LayoutError, Lengths, Order, OwnedArray, SplitViews,
     StrideShape, Strided, Strides, s, unsigned,
 };
 
@@ -42,14 +42,26 @@ fn views_print_strides_with_their_signs() -> Result<(), LayoutError> {
 
 #[test]
 fn items_are_formatted_as_asked() -> Result<(), LayoutError> {
-    let numbers = OwnedArray::from_shape_vec(Ix1(2).into(), vec![1.0, 0.5])?;
+    let numbers = OwnedArray::from_shape_vec(Ix1(2), vec![1.0, 0.5])?;
     assert!(format!("{numbers:5.2?}").starts_with("[ 1.00,  0.50], shape"));
+    assert_eq!(
+        (numbers.to_string(), format!("{numbers:.1} {numbers:e}")),
+        ("[1, 0.5]".into(), "[1.0, 0.5] [1e0, 5e-1]".into())
+    );
+    let words = ["a", "b", "c", "d"];
+    assert_eq!(ArrayView::from_shape((2, 2), &words)?.t().to_string(), "[[a, c],\n [b, d]]");
+    assert_eq!((counted(Ix0())?.to_string(), counted(Ix2(2, 0))?.to_string()), ("0".into(), "[[]]".into()));
+    let mut bytes = [10, 200];
+    let bytes = ArrayViewMut::from(&mut bytes);
+    assert_eq!(format!("{bytes:#x} {bytes:b} {bytes:02x}"), "[0xa, 0xc8] [1010, 11001000] [0a, c8]");
     Ok(())
 }
 
 #[test]
 fn of_many_items_the_first_and_the_last_are_printed() -> Result<(), LayoutError> {
     let line = counted(Ix1(600))?;
+    assert_eq!(line.to_string(), "[0, 1, 2, 3, 4, ..., 595, 596, 597, 598, 599]");
+    assert!(format!("{line:#}").contains(", 299, 300, "));
     assert!(format!("{line:?}").starts_with("[0, 1, 2, 3, 4, ..., 595, 596, 597, 598, 599], shape"));
     assert!(format!("{line:#?}").contains(", 299, 300, "));
     assert!(printed(Ix1(500))?.contains(", 299, 300, "));
@@ -72,21 +84,23 @@ fn many_axes_print_without_recursion() -> Result<(), LayoutError> {
 #[test]
 fn parts_print_their_items_and_shape() -> Result<(), LayoutError> {
     let mut table = counted(Ix2(2, 3))?;
-    let (column, item) = table.multi_sliced_mut((s![..;-1, 1], s![0, 0]))?;
-    assert_eq!(format!("{column:?} {item:?}"), "[4, 1], shape=[2] 0, shape=[]");
+    let (column, item) = table.multi_slice_mut((s![..;-1, 1], s![0, 0]))?;
+    assert_eq!(
+        format!("{column:?} {item:?}"),
+        "[4, 1], shape=[2], strides=[-3], layout=Custom (0x0), const ndim=1 0, shape=[], strides=[], layout=CFcf (0xf), const ndim=0"
+    );
     Ok(())
 }
 
 #[test]
 fn rows_and_splits_print() -> Result<(), LayoutError> {
-    let mut items = [1, 2, 3, 4];
-    let array = ArrayView::from_shape(Ix2(2, 2).into(), &items)?;
+    let items = [1, 2, 3, 4];
+    let array = ArrayView::from_shape(Ix2(2, 2), &items)?;
     assert_eq!(
         (format!("{:?}", array.strided().rows(Order::C)), array.rows().len()),
         ("Rows { left: 2, .. }".to_owned(), 2)
     );
     let view = *array.strided();
-    assert_eq!(format!("{:?}", PartMut::over(view, &mut items)?), "[[1, 2],\n [3, 4]], shape=[2, 2]");
     let row = "dim: [1, 2], strides: [2, 1] }";
     let expected = format!(
         "SplitViews {{ first: Strided {{ start: 0, {row}, second: Strided {{ start: 0, {row}, cut: 2, first_is_lower: true }}"

@@ -42,11 +42,11 @@ fn slices<T: Clone + PartialEq + Debug>(
     let mut items: Vec<T> = (0..plain.len).map(&item).collect();
     let expected: Vec<T> = picked.places.iter().map(|place| item(*place)).collect();
     let array = ArrayView::over(view_of(plain), &items).expect("room for the layout");
-    let part = array.sliced(elems).expect("a slice within the shape");
+    let part = array.slice(elems).expect("a slice within the shape");
     assert_eq!((part.dim().slice(), part.iter().cloned().collect::<Vec<_>>()), (&picked.shape[..], expected));
     let mut array = ArrayViewMut::over(view_of(plain), &mut items).expect("room for the layout");
-    assert_eq!(array.sliced(elems).expect("a slice").len(), picked.places.len());
-    array.sliced_mut(elems).expect("a slice").map_in_place(|written| *written = item(1000));
+    assert_eq!(array.slice(elems).expect("a slice").len(), picked.places.len());
+    array.slice_mut(elems).expect("a slice").map_in_place(|written| *written = item(1000));
     let is_picked = |place: usize| picked.places.contains(&place);
     assert!(items.iter().enumerate().all(|(place, left)| *left == item(if is_picked(place) { 1000 } else { place })));
 }

@@ -175,12 +175,12 @@ fn elements_may_have_generic_types() {
 #[test]
 fn a_bare_number_leaves_no_type_open() -> Result<(), LayoutError> {
     let mut numbers = [0, 1, 2, 3, 4, 5];
-    let mut rows = ArrayViewMut::from_shape(Ix2(2, 3).into(), &mut numbers)?;
-    let (mut column, other) = rows.multi_sliced_mut((s![.., 0], s![.., -2]))?;
+    let mut rows = ArrayViewMut::from_shape(Ix2(2, 3), &mut numbers)?;
+    let (mut column, other) = rows.multi_slice_mut((s![.., 0], s![.., -2]))?;
     column[0] = other[1];
-    let [mut item, _] = rows.multi_sliced_mut([s![1, 0], s![1, 1]])?;
+    let [mut item, _] = rows.multi_slice_mut([s![1, 0], s![1, 1]])?;
     item[()] += 5;
-    assert_eq!(rows.sliced(s![1, ..])?.dim().slice(), [3]);
+    assert_eq!(rows.slice(s![1, ..])?.dim().slice(), [3]);
     assert_eq!(parts(s![0, 1_i32, 2_isize, 3_usize, -1]).0, "0, 1, 2, 3, -1");
     assert_eq!(numbers, [4, 1, 2, 8, 4, 5]);
     Ok(())

@@ -19,7 +19,7 @@ pub fn hash_of(value: &impl Hash) -> u64 {
 
 /// The array of a shape and a list, in a function whose errors are those of any kind.
 fn exact<S: Into<StrideShape<Ix2>>>(shape: S, items: Vec<u8>) -> Result<OwnedArray<u8, Ix2>, Box<dyn Error>> {
-    Ok(OwnedArray::from_exact_vec(shape.into(), items)?)
+    Ok(OwnedArray::from_exact_vec(shape, items)?)
 }
 
 /// The error of such an array.
@@ -48,7 +48,7 @@ fn a_list_of_another_length_than_the_shape_is_refused() -> Result<(), Box<dyn Er
 
 #[test]
 fn a_list_of_coordinates_is_an_index() -> Result<(), LayoutError> {
-    let mut table = OwnedArray::from_exact_vec(IxDyn(&[2, 2]).into(), vec![7, 8, 9, 10])?;
+    let mut table = OwnedArray::from_exact_vec(IxDyn(&[2, 2]), vec![7, 8, 9, 10])?;
     let index = vec![1, 0];
     assert_eq!((table.get(&index), table.strided().place(&index), table[&index[..]]), (Some(9), Some(2), 9));
     assert!(table.set(&index, 5) && !table.set(&vec![0, 2], 5) && !table.set(&vec![0], 5));
@@ -59,7 +59,7 @@ fn a_list_of_coordinates_is_an_index() -> Result<(), LayoutError> {
 
 #[test]
 fn a_range_that_ends_before_the_last_coordinate_is_no_empty_one() -> Result<(), LayoutError> {
-    let table = OwnedArray::from_exact_vec(Ix2(4, 2).into(), (0..8).collect())?;
+    let table = OwnedArray::from_exact_vec(Ix2(4, 2), (0..8).collect())?;
     assert_eq!(table.sliced(s![1..-1, ..])?.to_vec()?, [2, 3, 4, 5]);
     assert_eq!(table.sliced(s![2..-1;-1, 1])?.to_vec()?, [5]);
     Ok(())
@@ -117,7 +117,7 @@ fn views_are_equal_by_start_shape_and_strides() -> Result<(), LayoutError> {
 /// The arrays `[2]` with the stride `[-1]` over 7 8 9, and `[2]` over 8 7.
 fn equal_arrays() -> Result<[OwnedArray<i32, Ix1>; 2], LayoutError> {
     let backward = StrideShape { dim: Ix1(2), strides: Strides::Custom(Ix1(unsigned(-1))) };
-    Ok([OwnedArray::from_shape_vec(backward, vec![7, 8, 9])?, OwnedArray::from_shape_vec(Ix1(2).into(), vec![8, 7])?])
+    Ok([OwnedArray::from_shape_vec(backward, vec![7, 8, 9])?, OwnedArray::from_shape_vec(Ix1(2), vec![8, 7])?])
 }
 
 #[test]
@@ -126,10 +126,10 @@ fn arrays_are_equal_by_shape_and_items() -> Result<(), LayoutError> {
     assert_eq!(a, b);
     assert_eq!(hash_of(&a), hash_of(&b));
     assert_eq!(HashSet::from([a.clone(), b]).len(), 1);
-    let other = OwnedArray::from_shape_vec(Ix1(2).into(), vec![8, 9])?;
+    let other = OwnedArray::from_shape_vec(Ix1(2), vec![8, 9])?;
     assert_ne!(a, other);
     assert_ne!(hash_of(&a), hash_of(&other));
-    assert_ne!(a, OwnedArray::from_shape_vec(Ix1(1).into(), vec![8])?);
+    assert_ne!(a, OwnedArray::from_shape_vec(Ix1(1), vec![8])?);
     let (tall, wide) = (counted(Ix2(3, 2))?, counted(Ix2(2, 3))?);
     assert_ne!(tall, wide);
     assert_ne!(hash_of(&tall), hash_of(&wide));
@@ -231,7 +231,7 @@ fn errors_print_and_convert() -> Result<(), Box<dyn Error>> {
     assert_eq!(Box::<dyn Error>::from(failed).to_string(), "out of memory");
     let boxed = Box::<dyn Error + Send + Sync>::from(shape.clone());
     assert_eq!(boxed.downcast_ref(), Some(&shape));
-    let refused = OwnedArray::from_shape_vec(Ix2(2, 3).into(), vec![1]).map_err(LayoutError::from);
+    let refused = OwnedArray::from_shape_vec(Ix2(2, 3), vec![1]).map_err(LayoutError::from);
     assert_eq!(refused.err(), Some(from_kind(ErrorKind::OutOfBounds).into()));
     Ok(())
 }

@@ -39,6 +39,8 @@ mod proofs;
 mod tokens;
 #[path = "../../eraser/unsafety.rs"]
 mod unsafety;
+#[path = "../../eraser/wholes.rs"]
+mod wholes;
 
 use erase::{Names, erase};
 use modules::{files_of, module_of};
@@ -83,7 +85,7 @@ fn each_form_becomes_plain_rust() {
         ("#[tactic(auto, using(a))] #[inline] fn f() {}", "#[inline] fn f() {}"),
         ("#[derive(Debug, Drop)] struct S;", "#[derive(Debug)] struct S;"),
         ("#[derive(Drop)] struct S;", "struct S;"),
-        ("#[derive(Debug, Drop)] pub struct Strided;", "pub struct Strided;"),
+        ("#[derive(Debug, Drop)] pub struct Strided;", "#[derive(Clone, PartialEq, Eq)] pub struct Strided;"),
         ("#[derive(Drop)] pub struct StridedRows;", "#[derive(Clone)] pub struct StridedRows;"),
         ("impl<D> Model for S<D> { ghost use A.{b}; ghost view = { λ s. s }; } struct T;", "struct T;"),
         ("#[unsafe(no_mangle)] pub extern \"C\" fn f(x: &[u8]) {}", "pub fn f(x: &[u8]) {}"),
@@ -132,7 +134,7 @@ fn a_module_that_only_a_proof_calls_is_left_out() {
     const ROWS: &[(&str, &str, &str)] = &[
         ("nd_lent", "mod whole; pub use whole::Whole; pub use part::Part;", "pub use part::Part;"),
         ("nd_owned", "pub use nd_lent::Whole; pub use nd_lent::{Rest, Whole}; struct S;", "struct S;"),
-        ("nd_owned", "pub use nd_lent::{A, Whole};", "pub use nd_lent::{A, Whole};"),
+        ("nd_owned", "pub use nd_lent::{A, Whole, B};", "pub use nd_lent::{A, B};"),
         ("nd_owned", "mod whole; use whole::Whole;", "mod whole use whole::Whole;"),
     ];
     for (own, source, expected) in ROWS {
@@ -140,6 +142,26 @@ fn a_module_that_only_a_proof_calls_is_left_out() {
         let text = trees_of(source).and_then(|(trees, _)| erase(&trees, &names)).expect("known forms").text;
         assert_eq!(text.split_whitespace().collect::<Vec<_>>().join(" "), *expected, "{source}");
     }
+}
+
+#[test]
+fn a_whole_becomes_the_call_that_lends_it() {
+    const ROWS: &[(&str, &str)] = &[
+        (
+            "fn f() { let mut whole = Whole::new(items); let mut part = whole.lend(view); part.g(); whole.end(part); }",
+            "fn f() { let mut part = ArrayViewMut::new(view, items); part.g(); }",
+        ),
+        ("use lower::Whole; use lower::A;", "use crate::lower::ArrayViewMut; use crate::lower::A;"),
+        ("use lower::{A, Whole};", "use crate::lower::{A, ArrayViewMut};"),
+        ("use lower::{ArrayViewMut, Whole};", "use crate::lower::{ArrayViewMut,};"),
+        ("pub use lower::{ArrayViewMut, Whole};", "pub use crate::lower::{ArrayViewMut,};"),
+        ("use whole::Whole; let whole = whole.end();", "use whole::Whole; let whole = whole.end();"),
+    ];
+    for (source, expected) in ROWS {
+        assert_eq!(line(source), *expected, "{source}");
+    }
+    let parts = "let mut whole = Whole::new(items); let mut rest = whole.rest();";
+    assert!(line(parts).ends_with("is no call of a whole that plain Rust has"), "{parts}");
 }
 
 #[test]
@@ -242,6 +264,23 @@ fn each_row_of_the_list_of_bounds_is_of_something() {
     for row in heads.chain(types).chain(impls).chain(others) {
         assert!(text.contains(&row), "{row}");
     }
+    let packed = text.replace('\n', " ");
+    for name in bounds::OF_SHAPES {
+        let impls: Vec<&str> = packed.split(&format!("> {name}<")).skip(1).collect();
+        assert!(impls.iter().any(|body| body.contains("shape: StrideShape<D>,")), "{name}");
+    }
+}
+
+#[test]
+fn a_call_of_a_list_takes_what_converts_to_a_shape() {
+    let source = |of, call| {
+        format!(
+            "impl<T, D> {of}<T, D> {{ fn f(shape: StrideShape<D>, x: &[T]) {{ {call}(shape, 1, x); g(shape, 2) }} }}"
+        )
+    };
+    let expected = source("ArrayView", "g").replace("shape: StrideShape<D>", "shape: impl Into<StrideShape<D>>");
+    assert_eq!(erased(&source("ArrayView", "g")), expected.replace("shape, 1", "shape.into(), 1"));
+    assert_eq!(erased(&source("Strided", "g")), source("Strided", "g"));
 }
 
 #[test]

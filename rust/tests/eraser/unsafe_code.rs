@@ -10,7 +10,7 @@ use std::path::{Path, PathBuf};
 
 /// What is left of a source of a crate, in one line, or what is said of it.
 fn line_of(own: &str, source: &str) -> String {
-    let names = Names { own, module: "part", ..NAMES };
+    let names = Names { own, module: "array_view_mut", ..NAMES };
     let text = match trees_of(source).and_then(|(trees, _)| erase(&trees, &names)) {
         Ok(erased) => erased.text,
         Err(fault) => fault.to_string(),
@@ -60,14 +60,14 @@ fn a_ghost_parameter_goes() {
 #[test]
 fn a_condition_that_keeps_it_sound_is_checked_where_others_see_the_call() {
     let call = "/// A. The caller ensures that it fits.\npub fn new(n: u8) -> Self requires { IsOwned n } { f(n) }";
-    let checked = line_of("nd_lent", &format!("impl<T> PartMut<T> {{ {call} }}"));
-    assert!(checked.contains("{assert!(crate::parts::has_own_items(&view, items.len()), \"two indices"), "{checked}");
+    let checked = line_of("nd_lent", &format!("impl<T> ArrayViewMut<T> {{ {call} }}"));
+    assert!(checked.contains("{assert!(crate::arrays::has_own_items(&view, items.len()), \"two indices"), "{checked}");
     assert!(checked.contains("This call panics where two indices have one item"), "{checked}");
     let expected = "2: `{` begins a call that others see, whose condition `CHECKED` of rust/eraser/names.rs lacks";
     assert_eq!(line_of("nd_lent", &format!("impl<T> Other<T> {{ {call} }}")), expected);
     let private = line_of("nd_lent", &format!("impl<T> Other<T> {{ {} }}", call.replace("pub ", "")));
     assert!(private.contains("Otherwise the behaviour is undefined.") && !private.contains("assert!"), "{private}");
-    assert!(line_of("upper", &format!("impl<T> PartMut<T> {{ {call} }}")).contains("unspecified values."));
+    assert!(line_of("upper", &format!("impl<T> ArrayViewMut<T> {{ {call} }}")).contains("unspecified values."));
     let of_closure = call.replace("IsOwned n", "CallableOnEachMut F.FnMut items f");
     assert!(!line_of("nd_lent", &format!("impl<T> Other<T> {{ {of_closure} }}")).contains("CHECKED"));
     let of_both = call.replace("IsOwned n", "CallableOnEachMut F.FnMut items f × IsOwned n");

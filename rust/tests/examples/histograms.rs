@@ -44,7 +44,7 @@ fn a_transpose_has_the_sum_of_the_picture() {
 #[test]
 fn a_picture_is_pasted_into_its_part_of_another_one() {
     let small = [91, 92, 93, 94];
-    let square = ArrayView::from_shape(Ix2(2, 2).into(), &small).unwrap();
+    let square = ArrayView::from_shape(Ix2(2, 2), &small).unwrap();
     let view = || Strided::new(Ix2(3, 4), Ix2(4, 1), 1, 13, OwnedMutable).unwrap();
     let mut whole = pixels(13);
     assert!(paste(view(), &mut whole, &Ix2(1, 2), &Ix2(3, 4), &square));

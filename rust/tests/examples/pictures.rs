@@ -49,7 +49,7 @@ fn dark_pixels_are_counted_where_they_are_lent_and_where_they_are_owned() {
     for &(rows, columns, len, bound, expected) in DARK {
         let pixels = pixels(len);
         assert_eq!(count_dark(&picture_of(&pixels, rows, columns), bound), expected);
-        let owned = OwnedArray::from_shape_vec((rows, columns).into(), pixels).unwrap();
+        let owned = OwnedArray::from_shape_vec((rows, columns), pixels).unwrap();
         assert_eq!(count_dark_pixels(&owned, bound), expected);
     }
 }
@@ -128,9 +128,9 @@ fn a_pixel_across_stands_in_a_column() {
 #[test]
 fn a_tile_is_lit_up_to_the_brightest_pixel() {
     let mut pixels = [0, 100, 200, 250, 10, 20];
-    let mut picture = ArrayViewMut::from_shape(Ix2(2, 3).into(), &mut pixels).unwrap().into_part();
-    let light = ArrayView::from_shape(Ix2(2, 2).into(), &[60, 60, 5, 6]).unwrap();
-    assert!(lighten(&mut picture.sliced_mut(s![.., 1..]).unwrap(), &light));
+    let mut picture = ArrayViewMut::from_shape(Ix2(2, 3), &mut pixels).unwrap();
+    let light = ArrayView::from_shape(Ix2(2, 2), &[60, 60, 5, 6]).unwrap();
+    assert!(lighten(&mut picture.slice_mut(s![.., 1..]).unwrap(), &light));
     assert!(!lighten(&mut picture, &light));
     assert_eq!(pixels, [0, 160, 255, 250, 15, 26]);
 }

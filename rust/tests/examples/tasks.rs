@@ -64,7 +64,7 @@ fn a_sum_is_that_of_the_pixels_in_the_crop() {
 #[test]
 fn a_mirror_has_each_row_backwards() {
     let items = [1, 2, 3, 4, 5, 6];
-    let picture = ArrayView::from_shape(Ix2(2, 3).into(), &items).unwrap();
+    let picture = ArrayView::from_shape(Ix2(2, 3), &items).unwrap();
     assert_eq!(mirror(picture).unwrap(), [3, 2, 1, 6, 5, 4]);
     assert!(mirror(picture_of(&items, &[6], &[1])).is_err());
 }

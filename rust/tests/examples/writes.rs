@@ -57,7 +57,7 @@ fn a_picture_is_painted_and_spare_pixels_are_not() {
 
 #[test]
 fn an_owned_picture_is_painted_and_spare_pixels_are_not() {
-    let mut picture = OwnedArray::from_shape_vec((2, 3).into(), pixels(7)).unwrap();
+    let mut picture = OwnedArray::from_shape_vec((2, 3), pixels(7)).unwrap();
     assert_eq!(paint_owned(&mut picture, 8), Ok(()));
     assert_eq!(picture.stored(), [8, 8, 8, 8, 8, 8, 6]);
 }

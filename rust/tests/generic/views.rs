@@ -37,12 +37,12 @@ fn add_coordinates<D: Dimension>(view: &mut ArrayViewMut<'_, i32, D>) {
 #[test]
 fn a_view_of_any_type_is_read_and_written() -> Result<(), LayoutError> {
     let mut items = [5, 0, 1, 4, 3, 9];
-    let view = ArrayView::from_shape(Ix2(2, 3).into(), &items)?;
+    let view = ArrayView::from_shape(Ix2(2, 3), &items)?;
     assert_eq!(greatest(&view), Some(((1, 2), 9)));
     assert_eq!((item(&view, [1, 0]), item(&view, (0, 2)), item(&view, Ix2(0, 0))), (4, 1, 5));
-    let view = ArrayView::from_shape(IxDyn(&[3, 2]).into(), &items)?;
+    let view = ArrayView::from_shape(IxDyn(&[3, 2]), &items)?;
     assert_eq!(greatest(&view), Some((IxDyn(&[2, 1]), 9)));
-    add_coordinates(&mut ArrayViewMut::from_shape(IxDyn(&[2, 3]).into(), &mut items)?);
+    add_coordinates(&mut ArrayViewMut::from_shape(IxDyn(&[2, 3]), &mut items)?);
     assert_eq!(items, [5, 1, 3, 5, 5, 12]);
     Ok(())
 }
@@ -66,14 +66,14 @@ fn inner<'a, D: Dimension>(view: &ArrayView<'a, i32, D>) -> Option<ArrayView<'a,
 #[test]
 fn a_view_of_any_type_is_sliced_and_cropped() -> Result<(), LayoutError> {
     let mut items: Vec<i32> = (0..60).collect();
-    let view = ArrayView::from_shape(Ix3(3, 4, 5).into(), &items)?;
+    let view = ArrayView::from_shape(Ix3(3, 4, 5), &items)?;
     assert_eq!(sizes(view.strided(), s![1, .., ..;2])?, (12, 1));
     assert_eq!(inner(&view).map(|inner| inner.iter().copied().collect()), Some(vec![26, 27, 28, 31, 32, 33]));
-    let view = ArrayView::from_shape(IxDyn(&[3, 4, 5]).into(), &items)?;
+    let view = ArrayView::from_shape(IxDyn(&[3, 4, 5]), &items)?;
     assert_eq!(sizes(view.strided(), s![1, .., ..;2])?, (12, 1));
     assert_eq!(inner(&view).map(|inner| inner.iter().sum()), Some(26 + 27 + 28 + 31 + 32 + 33));
     assert!(view.strided().crop(&IxDyn(&[0, 0]), &IxDyn(&[1, 1])).is_none());
-    let view = ArrayViewMut::from_shape(IxDyn(&[3, 4, 5]).into(), &mut items)?;
+    let view = ArrayViewMut::from_shape(IxDyn(&[3, 4, 5]), &mut items)?;
     view.crop(&IxDyn(&[1, 1, 1]), &IxDyn(&[2, 2, 2])).expect("a part").fill(-1);
     assert_eq!(items.iter().position(|&item| item == -1), Some(26));
     assert_eq!(items.iter().filter(|&&item| item == -1).count(), 1);
@@ -92,13 +92,13 @@ fn counts(views: &Views<'_>) -> [usize; 5] {
 #[test]
 fn an_alias_is_the_view_of_its_count_of_axes() -> Result<(), LayoutError> {
     let items = [7; 24];
-    let (four, five) = (ArrayView::from_shape(Ix4(1, 2, 3, 4).into(), &items)?, Ix5(1, 1, 2, 3, 4));
-    let three = ArrayView::from_shape(Ix3(2, 3, 1).into(), &items)?;
-    let (two, one) = (ArrayView::from_shape(Ix2(2, 2).into(), &items)?, ArrayView::from_shape(Ix1(3).into(), &items)?);
-    assert_eq!(counts(&(ArrayView::from_shape(Ix0().into(), &items)?, one, two, three, four)), [1, 3, 4, 6, 24]);
-    let five: ArrayView5<'_, u8> = ArrayView::from_shape(five.into(), &items)?;
-    let six: ArrayView6<'_, u8> = ArrayView::from_shape(Ix6(1, 1, 1, 2, 3, 4).into(), &items)?;
-    let any: ArrayViewD<'_, u8> = ArrayView::from_shape(IxDyn(&[24]).into(), &items)?;
+    let (four, five) = (ArrayView::from_shape(Ix4(1, 2, 3, 4), &items)?, Ix5(1, 1, 2, 3, 4));
+    let three = ArrayView::from_shape(Ix3(2, 3, 1), &items)?;
+    let (two, one) = (ArrayView::from_shape(Ix2(2, 2), &items)?, ArrayView::from_shape(Ix1(3), &items)?);
+    assert_eq!(counts(&(ArrayView::from_shape(Ix0(), &items)?, one, two, three, four)), [1, 3, 4, 6, 24]);
+    let five: ArrayView5<'_, u8> = ArrayView::from_shape(five, &items)?;
+    let six: ArrayView6<'_, u8> = ArrayView::from_shape(Ix6(1, 1, 1, 2, 3, 4), &items)?;
+    let any: ArrayViewD<'_, u8> = ArrayView::from_shape(IxDyn(&[24]), &items)?;
     assert_eq!((five.len(), six.len(), any.len()), (24, 24, 24));
     Ok(())
 }
@@ -106,22 +106,19 @@ fn an_alias_is_the_view_of_its_count_of_axes() -> Result<(), LayoutError> {
 #[test]
 fn an_alias_is_the_view_to_be_written_of_its_count_of_axes() -> Result<(), LayoutError> {
     let (mut first, mut second, mut third) = ([7; 24], [7; 24], [7; 24]);
-    let two: ArrayViewMut2<'_, u8> = ArrayViewMut::from_shape(Ix2(4, 6).into(), &mut third)?;
-    let mut views: ViewsMut<'_> = (
-        ArrayViewMut::from_shape(Ix0().into(), &mut first)?,
-        ArrayViewMut::from_shape(Ix1(24).into(), &mut second)?,
-        two,
-    );
+    let two: ArrayViewMut2<'_, u8> = ArrayViewMut::from_shape(Ix2(4, 6), &mut third)?;
+    let mut views: ViewsMut<'_> =
+        (ArrayViewMut::from_shape(Ix0(), &mut first)?, ArrayViewMut::from_shape(Ix1(24), &mut second)?, two);
     assert!(views.0.set(&(), 1) && views.1.set(&2, 1) && views.2.set(&(3, 5), 1));
-    let mut three: ArrayViewMut3<'_, u8> = ArrayViewMut::from_shape(Ix3(2, 3, 4).into(), &mut first)?;
+    let mut three: ArrayViewMut3<'_, u8> = ArrayViewMut::from_shape(Ix3(2, 3, 4), &mut first)?;
     assert!(three.set(&(1, 2, 3), 2));
-    let mut four: ArrayViewMut4<'_, u8> = ArrayViewMut::from_shape(Ix4(1, 2, 3, 4).into(), &mut first)?;
+    let mut four: ArrayViewMut4<'_, u8> = ArrayViewMut::from_shape(Ix4(1, 2, 3, 4), &mut first)?;
     assert!(four.set(&(0, 0, 0, 1), 3));
-    let mut five: ArrayViewMut5<'_, u8> = ArrayViewMut::from_shape(Ix5(1, 1, 2, 3, 4).into(), &mut first)?;
+    let mut five: ArrayViewMut5<'_, u8> = ArrayViewMut::from_shape(Ix5(1, 1, 2, 3, 4), &mut first)?;
     assert!(five.set(&(0, 0, 0, 0, 2), 4));
-    let mut six: ArrayViewMut6<'_, u8> = ArrayViewMut::from_shape(Ix6(1, 1, 1, 2, 3, 4).into(), &mut first)?;
+    let mut six: ArrayViewMut6<'_, u8> = ArrayViewMut::from_shape(Ix6(1, 1, 1, 2, 3, 4), &mut first)?;
     assert!(six.set(&(0, 0, 0, 0, 0, 3), 5));
-    let mut any: ArrayViewMutD<'_, u8> = ArrayViewMut::from_shape(IxDyn(&[24]).into(), &mut first)?;
+    let mut any: ArrayViewMutD<'_, u8> = ArrayViewMut::from_shape(IxDyn(&[24]), &mut first)?;
     assert!(any.set(&4, 6));
     assert_eq!((&first[..5], first[23], second[2], third[23]), (&[1, 3, 4, 5, 6][..], 2, 1, 1));
     Ok(())

@@ -20,12 +20,12 @@ const ROWS: Ix2 = Ix2(2, 3);
 
 /// The numbers as two rows.
 fn two_rows() -> ArrayView<'static, u8, Ix2> {
-    ArrayView::from_shape(ROWS.into(), &NUMBERS).unwrap()
+    ArrayView::from_shape(ROWS, &NUMBERS).unwrap()
 }
 
 /// Items as two rows to be written.
 fn rows_mut<T>(items: &mut [T]) -> ArrayViewMut<'_, T, Ix2> {
-    ArrayViewMut::from_shape(ROWS.into(), items).unwrap()
+    ArrayViewMut::from_shape(ROWS, items).unwrap()
 }
 
 /// The two rows as a view, in which no two indices alias.

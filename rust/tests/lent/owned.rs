@@ -4,11 +4,11 @@ use crate::{NUMBERS, ROWS, items, lists};
 use ndarray_layout::{Ix2, OwnedArray, s};
 
 fn owned_numbers() -> OwnedArray<u8, Ix2> {
-    OwnedArray::from_shape_vec(ROWS.into(), NUMBERS.to_vec()).unwrap()
+    OwnedArray::from_shape_vec(ROWS, NUMBERS.to_vec()).unwrap()
 }
 
 fn owned_lists() -> OwnedArray<Vec<u8>, Ix2> {
-    OwnedArray::from_shape_vec(ROWS.into(), lists()).unwrap_or_else(|(error, _)| panic!("{error}"))
+    OwnedArray::from_shape_vec(ROWS, lists()).unwrap_or_else(|(error, _)| panic!("{error}"))
 }
 
 #[test]
@@ -66,6 +66,6 @@ fn a_list_is_replaced_by_its_place() {
 
 #[test]
 fn lists_come_back_where_they_are_too_few() {
-    let (_error, back) = OwnedArray::from_shape_vec(Ix2(2, 4).into(), lists()).err().unwrap();
+    let (_error, back) = OwnedArray::from_shape_vec(Ix2(2, 4), lists()).err().unwrap();
     assert_eq!(back, lists());
 }

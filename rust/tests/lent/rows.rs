@@ -28,7 +28,7 @@ fn two_rows_of_three_are_slices() {
 
 #[test]
 fn rows_of_one_item_are_slices_and_of_none_there_are_no_rows() {
-    let column: ArrayView<'_, u8, Ix2> = two_rows().slice(&s![.., 1..2], Fit::Strict).unwrap();
+    let column: ArrayView<'_, u8, Ix2> = two_rows().slice_with(&s![.., 1..2], Fit::Strict).unwrap();
     assert_eq!(rows_of(column.rows(), true), [[1], [4]]);
     let none = column.crop(&Ix2(0, 0), &Ix2(2, 0)).unwrap();
     assert!(rows_of(none.rows(), true).is_empty());
@@ -45,7 +45,7 @@ fn rows_backwards_and_columns_are_no_slices() {
 
 #[test]
 fn one_item_is_a_row_until_it_is_repeated() {
-    let one = ArrayView::from_shape(Ix0().into(), &NUMBERS).unwrap();
+    let one = ArrayView::from_shape(Ix0(), &NUMBERS).unwrap();
     assert_eq!(rows_of(one.rows(), true), [[0]]);
     assert_eq!(rows_of(one.broadcast(&Ix1(3)).unwrap().rows(), false), [[0, 0, 0]]);
 }
@@ -59,7 +59,7 @@ fn one_axis_is_a_row_which_may_be_repeated() {
 
 #[test]
 fn a_type_may_leave_the_count_of_axes_open() {
-    let cube = ArrayView::from_shape(IxDyn(&[2, 1, 3]).into(), &NUMBERS).unwrap();
+    let cube = ArrayView::from_shape(IxDyn(&[2, 1, 3]), &NUMBERS).unwrap();
     assert_eq!(rows_of(cube.rows(), true), [[0, 1, 2], [3, 4, 5]]);
 }
 
@@ -82,7 +82,7 @@ fn items_are_folded_in_row_major_order() {
 #[test]
 fn lists_are_lent_in_rows_and_folded() {
     let lists = lists();
-    let array = ArrayView::from_shape(ROWS.into(), &lists).unwrap();
+    let array = ArrayView::from_shape(ROWS, &lists).unwrap();
     assert_eq!(array.fold(0, |count, list| count + list.len()), 6);
     let mut called = 0;
     array.for_each(|list| called += list.len());

@@ -2,15 +2,18 @@
 
 use crate::{NUMBERS, kind, lists, rows_mut, view_of_rows};
 use ndarray_layout::ErrorKind::{OutOfBounds, Unsupported};
-use ndarray_layout::{ArrayViewMut, Axis, Ix6, IxDyn, LayoutError, PartMut, SliceElems, SliceInfoElem, s};
+use ndarray_layout::{ArrayViewMut, Axis, Ix6, IxDyn, LayoutError, SliceElems, SliceInfoElem, s};
 
 /// The parts of items as two rows that slices pick.
-fn parts<'a, T, S: SliceElems>(items: &'a mut [T], slices: &[S]) -> Result<Vec<PartMut<'a, T, IxDyn>>, LayoutError> {
-    rows_mut(items).multi_slice_mut(slices)
+fn parts<'a, T, S: SliceElems>(
+    items: &'a mut [T],
+    slices: &[S],
+) -> Result<Vec<ArrayViewMut<'a, T, IxDyn>>, LayoutError> {
+    rows_mut(items).multi_slice_move(slices)
 }
 
 /// The two parts of two slices.
-fn both<T>(parts: Result<Vec<PartMut<'_, T, IxDyn>>, LayoutError>) -> [PartMut<'_, T, IxDyn>; 2] {
+fn both<T>(parts: Result<Vec<ArrayViewMut<'_, T, IxDyn>>, LayoutError>) -> [ArrayViewMut<'_, T, IxDyn>; 2] {
     parts.unwrap().try_into().ok().expect("two parts")
 }
 
@@ -30,7 +33,7 @@ fn every_second_column_and_the_one_between_are_written_in_turn() {
 fn a_tile_and_the_column_beside_it_are_parts_of_a_view() {
     let mut numbers = NUMBERS;
     let slices = [s![..;-1, 1..3].to_vec(), s![.., 0].to_vec()];
-    let [tile, column] = both(PartMut::over(view_of_rows(), &mut numbers).unwrap().multi_slice_mut(&slices));
+    let [tile, column] = both(ArrayViewMut::over(view_of_rows(), &mut numbers).unwrap().multi_slice_move(&slices));
     assert_eq!((tile[[0, 0]], tile[[0, 1]], column[[1]]), (4, 5, 3));
     tile.index_axis(Axis(0), 1).unwrap().fill(9);
     assert_eq!(numbers, [0, 9, 9, 3, 4, 5, 6]);
@@ -57,12 +60,12 @@ fn no_slice_has_no_part() {
 #[test]
 fn ten_blocks_of_six_axes_are_filled() {
     let mut numbers = [90_u8; 10_000];
-    let array = ArrayViewMut::from_shape(Ix6(2, 1, 5, 1, 10, 100).into(), &mut numbers).unwrap();
+    let array = ArrayViewMut::from_shape(Ix6(2, 1, 5, 1, 10, 100), &mut numbers).unwrap();
     let slices = [9, 8, 7, 6, 5, 4, 3, 2, 1, 0].map(|block| {
         let (first, third) = (block / 5, block % 5);
         s![first..first + 1, .., third..third + 1, .., .., ..]
     });
-    for (mut part, number) in array.multi_slice_mut(&slices).unwrap().into_iter().zip((0..10).rev()) {
+    for (mut part, number) in array.multi_slice_move::<_, IxDyn>(&slices).unwrap().into_iter().zip((0..10).rev()) {
         part.fill(number);
     }
     let expected: Vec<u8> = (0..10).flat_map(|number| [number; 1000]).collect();

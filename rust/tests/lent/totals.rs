@@ -1,15 +1,15 @@
 //! What is known of all items at once: sums, the least and the greatest, and whether some or all pass a test.
 
 use crate::{ROWS, lists, two_rows};
-use ndarray_layout::{ArrayView, Axis, Fit, Ix1, Ix2, LayoutError, s};
+use ndarray_layout::{ArrayView, Axis, Fit, Ix1, Ix2, LayoutError, ShapeBuilder, s, unsigned};
 
 #[test]
 fn items_are_added_as_often_as_they_have_an_index() -> Result<(), LayoutError> {
     let rows = two_rows();
     assert_eq!(rows.sum(), Some(15));
     assert_eq!(rows.index_axis(Axis(1), 2)?.sum(), Some(7));
-    assert_eq!(rows.slice::<Ix2, _>(&s![..0, ..], Fit::Strict)?.sum(), Some(0));
-    let one = ArrayView::from_shape(Ix1(1).into(), &[200_u8])?;
+    assert_eq!(rows.slice_with::<Ix2, _>(&s![..0, ..], Fit::Strict)?.sum(), Some(0));
+    let one = ArrayView::from_shape(Ix1(1), &[200_u8])?;
     assert_eq!(one.broadcast(&Ix2(1000, 1000))?.sum(), Some(200_000_000));
     Ok(())
 }
@@ -17,10 +17,10 @@ fn items_are_added_as_often_as_they_have_an_index() -> Result<(), LayoutError> {
 #[test]
 fn a_sum_past_the_greatest_number_is_none() -> Result<(), LayoutError> {
     let items = [u64::MAX - 1, 1, 1];
-    assert_eq!(ArrayView::from_shape(Ix1(2).into(), &items)?.sum(), Some(u64::MAX));
-    assert_eq!(ArrayView::from_shape(Ix1(3).into(), &items)?.sum(), None);
+    assert_eq!(ArrayView::from_shape(Ix1(2), &items)?.sum(), Some(u64::MAX));
+    assert_eq!(ArrayView::from_shape(Ix1(3), &items)?.sum(), None);
     let [short, whole] =
-        [[3_u16, 4].map(u32::from), [5, 6]].map(|items| ArrayView::from_shape(Ix1(2).into(), &items).map(|a| a.sum()));
+        [[3_u16, 4].map(u32::from), [5, 6]].map(|items| ArrayView::from_shape(Ix1(2), &items).map(|a| a.sum()));
     assert_eq!((short?, whole?), (Some(7), Some(11)));
     Ok(())
 }
@@ -29,9 +29,9 @@ fn a_sum_past_the_greatest_number_is_none() -> Result<(), LayoutError> {
 fn the_least_and_the_greatest_are_found_where_there_is_an_item() -> Result<(), LayoutError> {
     let rows = two_rows();
     assert_eq!((rows.min(), rows.max()), (Some(0), Some(5)));
-    let middle = rows.slice::<Ix2, _>(&s![..;-1, 1..2], Fit::Strict)?;
+    let middle = rows.slice_with::<Ix2, _>(&s![..;-1, 1..2], Fit::Strict)?;
     assert_eq!((middle.min(), middle.max()), (Some(1), Some(4)));
-    let none = rows.slice::<Ix2, _>(&s![.., 3..], Fit::Strict)?;
+    let none = rows.slice_with::<Ix2, _>(&s![.., 3..], Fit::Strict)?;
     assert_eq!((none.min(), none.max()), (None, None));
     Ok(())
 }
@@ -52,7 +52,7 @@ fn a_test_is_asked_in_order_until_it_decides() -> Result<(), LayoutError> {
     }));
     assert_eq!(asked, [0, 1]);
     assert!(rows.all(|item| *item < 6) && !rows.any(|item| *item > 5));
-    let none = rows.slice::<Ix2, _>(&s![..0, ..], Fit::Strict)?;
+    let none = rows.slice_with::<Ix2, _>(&s![..0, ..], Fit::Strict)?;
     assert!(none.all(|_| false) && !none.any(|_| true));
     Ok(())
 }
@@ -60,7 +60,7 @@ fn a_test_is_asked_in_order_until_it_decides() -> Result<(), LayoutError> {
 #[test]
 fn lists_that_own_memory_pass_tests() -> Result<(), LayoutError> {
     let lists = lists();
-    let rows = ArrayView::from_shape(ROWS.into(), &lists)?;
+    let rows = ArrayView::from_shape(ROWS, &lists)?;
     assert!(rows.any(|list| !list.is_empty()) && rows.all(|list| list.len() < 100));
     Ok(())
 }
@@ -69,16 +69,20 @@ fn lists_that_own_memory_pass_tests() -> Result<(), LayoutError> {
 fn arrays_are_equal_where_shapes_and_items_are() -> Result<(), LayoutError> {
     let rows = two_rows();
     let columns = [0, 3, 1, 4, 2, 5];
-    let turned = ArrayView::from_shape(Ix2(3, 2).into(), &columns)?.reversed_axes();
+    let turned = ArrayView::from_shape(Ix2(3, 2), &columns)?.reversed_axes();
     assert!(ArrayView::eq(&rows, &turned) && rows == turned);
     let other = [0, 3, 1, 4, 2, 6];
-    let other = ArrayView::from_shape(Ix2(3, 2).into(), &other)?;
+    let other = ArrayView::from_shape(Ix2(3, 2), &other)?;
     assert!(!ArrayView::eq(&rows, &other) && !ArrayView::eq(&rows, &other.reversed_axes()));
     let (no_row, no_column) =
-        (rows.slice::<Ix2, _>(&s![..0, ..], Fit::Strict)?, rows.slice::<Ix2, _>(&s![.., ..0], Fit::Strict)?);
+        (rows.slice_with::<Ix2, _>(&s![..0, ..], Fit::Strict)?, rows.slice_with::<Ix2, _>(&s![.., ..0], Fit::Strict)?);
     assert!(ArrayView::eq(&no_row, &no_row.view()) && !ArrayView::eq(&no_row, &no_column));
     let [one, another] = [lists(), lists()];
-    let [one, another] = [ArrayView::from_shape(ROWS.into(), &one)?, ArrayView::from_shape(ROWS.into(), &another)?];
+    let [one, another] = [ArrayView::from_shape(ROWS, &one)?, ArrayView::from_shape(ROWS, &another)?];
     assert!(ArrayView::eq(&one, &another));
+    let (words, others) = (["a", "b"].map(String::from), ["b", "a"]);
+    let words = ArrayView::from_shape(Ix1(2), &words)?;
+    let turned = ArrayView::from_shape(Ix1(2).strides(Ix1(unsigned(-1)))?, &others)?;
+    assert!(ArrayView::eq(&words, &turned) && !ArrayView::eq(&words, &ArrayView::from_shape(Ix1(2), &others)?));
     Ok(())
 }

@@ -4,10 +4,8 @@ use crate::iterated_at_random::{Check, WRITTEN, stepped, whole};
 use crate::model::{Picked, Plain, index_of};
 use crate::numbers::Numbers;
 use crate::threads::arrays;
-use crate::{NUMBERS, kind, rows_mut};
-use ndarray_layout::{
-    ArrayViewMut, Axis, ErrorKind, Ix1, Ix2, Ix3, IxDyn, LayoutError, Lengths, PartMut, RemoveAxis, s,
-};
+use crate::{kind, rows_mut};
+use ndarray_layout::{ArrayViewMut, Axis, ErrorKind, Ix1, Ix2, Ix3, IxDyn, LayoutError, Lengths, RemoveAxis};
 use std::thread;
 
 /// Checks parts of random arrays of any count of axes, and at the types of two and of three axes.
@@ -35,6 +33,15 @@ impl Picked {
         self.seen_as(shape, |index| [&index[..axis], &[coordinate], &index[axis..]].concat())
     }
 
+    /// The lanes along an axis, in row-major order of the other coordinates.
+    fn lanes(&self, axis: usize) -> Vec<Picked> {
+        let at = |coordinate| self.at(axis, coordinate).places;
+        let planes: Vec<Vec<usize>> = (0..self.shape[axis]).map(at).collect();
+        let lane = |number| planes.iter().map(|plane| plane[number]).collect::<Vec<usize>>();
+        let lanes = (0..planes.first().map_or(0, Vec::len)).map(lane);
+        lanes.map(|places| Picked { shape: vec![places.len()], places }).collect()
+    }
+
     /// The number of each item's coordinate on an axis among groups of so many, in row-major order.
     fn groups(&self, axis: usize, size: usize) -> Vec<usize> {
         (0..self.places.len()).map(|number| index_of(&self.shape, number)[axis] / size).collect()
@@ -42,7 +49,7 @@ impl Picked {
 }
 
 /// Asserts that a part has the shape and the items of places.
-fn is_picked<D: Lengths>(part: &mut PartMut<'_, usize, D>, picked: &Picked) {
+fn is_picked<D: Lengths>(part: &mut ArrayViewMut<'_, usize, D>, picked: &Picked) {
     assert_eq!((part.shape(), part.len()), (&picked.shape[..], picked.places.len()));
     assert!(part.view_mut().into_items().map(|item| *item).eq(picked.places.iter().copied()), "{picked:?}");
 }
@@ -56,10 +63,11 @@ where
     while !expected.is_empty() {
         assert_eq!((left.len(), left.size_hint()), (expected.len(), expected.size_hint()));
         let skipped = numbers.below(3);
-        let (number, come) = match numbers.below(6) {
+        let (number, come) = match numbers.below(7) {
             0..3 => (expected.next(), left.next()),
             3 | 4 => (expected.next_back(), left.next_back()),
-            _ => (expected.nth(skipped), left.nth(skipped)),
+            5 => (expected.nth(skipped), left.nth(skipped)),
+            _ => (expected.nth_back(skipped), left.nth_back(skipped)),
         };
         assert_eq!(number.is_some(), come.is_some());
         taken.extend(number.zip(come));
@@ -71,7 +79,7 @@ where
 /// Writes its number in each part, and returns what is then at each item of a whole by the numbers of their groups.
 fn fill_each<D: Lengths>(
     numbers: &mut Numbers,
-    taken: Vec<(usize, PartMut<'_, usize, D>)>,
+    taken: Vec<(usize, ArrayViewMut<'_, usize, D>)>,
     picked: &Picked,
     groups: &[usize],
 ) -> Vec<usize> {
@@ -93,7 +101,11 @@ fn fill_each<D: Lengths>(
 }
 
 /// Asserts that the part at each coordinate of an axis comes, with its items.
-fn coordinates_come<D: RemoveAxis>(numbers: &mut Numbers, part: PartMut<'_, usize, D>, picked: &Picked) -> Vec<usize> {
+fn coordinates_come<D: RemoveAxis>(
+    numbers: &mut Numbers,
+    part: ArrayViewMut<'_, usize, D>,
+    picked: &Picked,
+) -> Vec<usize> {
     let (mut part, axis) = (part, numbers.below(picked.shape.len() + 1));
     let Some(len) = picked.shape.get(axis) else {
         assert_eq!(kind(part.axis_iter_mut(Axis(axis))), Some(ErrorKind::OutOfBounds));
@@ -111,7 +123,7 @@ fn each_coordinate_of_an_axis_of_random_parts_has_a_part() {
 }
 
 /// Asserts that each chunk along an axis comes, with its items.
-fn chunks_come<D: Lengths>(numbers: &mut Numbers, part: PartMut<'_, usize, D>, picked: &Picked) -> Vec<usize> {
+fn chunks_come<D: Lengths>(numbers: &mut Numbers, part: ArrayViewMut<'_, usize, D>, picked: &Picked) -> Vec<usize> {
     let (mut part, axis) = (part, numbers.below(picked.shape.len() + 1));
     let size = if numbers.once_in(8) { numbers.pick(&[0, usize::MAX]) } else { 1 + numbers.below(4) };
     let error = match picked.shape.get(axis) {
@@ -137,10 +149,30 @@ fn each_chunk_along_an_axis_of_random_parts_comes() {
     check(1_991_001, chunks_come, chunks_come, chunks_come);
 }
 
+/// Asserts that each lane along an axis comes, with its items.
+fn lanes_come<D: Lengths>(numbers: &mut Numbers, part: ArrayViewMut<'_, usize, D>, picked: &Picked) -> Vec<usize> {
+    let (mut part, axis) = (part, numbers.below(picked.shape.len() + 1));
+    if axis == picked.shape.len() {
+        assert!(part.lanes_mut(Axis(axis)).is_err());
+        return picked.places.clone();
+    }
+    let lanes = picked.lanes(axis);
+    let mut taken = taken(numbers, part.lanes_mut(Axis(axis)).expect("an axis"), lanes.len());
+    taken.iter_mut().for_each(|(number, part)| is_picked(part, &lanes[*number]));
+    let of_lane = |place: &usize| lanes.iter().position(|lane| lane.places.contains(place)).expect("a lane");
+    let groups: Vec<usize> = picked.places.iter().map(of_lane).collect();
+    fill_each(numbers, taken, picked, &groups)
+}
+
+#[test]
+fn each_lane_along_an_axis_of_random_parts_comes() {
+    check(1_994_001, lanes_come, lanes_come, lanes_come);
+}
+
 /// Asserts that a coordinate of an axis is lent, and the part again after it.
 fn coordinate_is_lent<D: RemoveAxis>(
     numbers: &mut Numbers,
-    part: PartMut<'_, usize, D>,
+    part: ArrayViewMut<'_, usize, D>,
     picked: &Picked,
 ) -> Vec<usize> {
     let (mut part, axis) = (part, numbers.below(picked.shape.len() + 1));
@@ -165,7 +197,7 @@ fn a_coordinate_of_random_parts_is_lent_and_the_part_again() {
 }
 
 /// Asserts that the layout says what the shape and the places do, and that no other type of the dimension changes it.
-fn layout_is_told<D: Lengths>(_: &mut Numbers, part: PartMut<'_, usize, D>, picked: &Picked) -> Vec<usize> {
+fn layout_is_told<D: Lengths>(_: &mut Numbers, part: ArrayViewMut<'_, usize, D>, picked: &Picked) -> Vec<usize> {
     let shape = &picked.shape;
     assert_eq!((part.ndim(), part.shape()), (shape.len(), &shape[..]));
     let place = |axis: usize| picked.at(axis, 1).places[0] as isize - picked.places[0] as isize;
@@ -174,8 +206,9 @@ fn layout_is_told<D: Lengths>(_: &mut Numbers, part: PartMut<'_, usize, D>, pick
     (0..shape.len()).filter(longer).for_each(|axis| assert_eq!(part.stride_of(Axis(axis)), place(axis)));
     let follows = |pair: &[usize]| pair[1].wrapping_sub(pair[0]) == 1;
     assert_eq!(part.is_standard_layout(), picked.places.windows(2).all(follows), "{picked:?}");
+    let strides: Vec<isize> = (0..shape.len()).map(|axis| part.stride_of(Axis(axis))).collect();
     let mut part = part.into_dyn();
-    (0..shape.len()).filter(|axis| shape[*axis] < 2).for_each(|axis| assert_eq!(part.stride_of(Axis(axis)), 0));
+    (0..shape.len()).for_each(|axis| assert_eq!(part.stride_of(Axis(axis)), strides[axis]));
     (0..shape.len()).filter(longer).for_each(|axis| assert_eq!(part.stride_of(Axis(axis)), place(axis)));
     is_picked(&mut part, picked);
     if shape.len() != 1 {
@@ -192,24 +225,9 @@ fn layouts_of_random_parts_are_told_and_have_each_type() {
 }
 
 #[test]
-fn rows_and_columns_of_numbers_are_lent() -> Result<(), LayoutError> {
-    let mut numbers = NUMBERS;
-    let mut part = rows_mut(&mut numbers).into_part();
-    assert_eq!((part.nrows(), part.ncols(), part.is_square()), (2, 3, false));
-    part.row_mut(1)?[2] = 9;
-    part.column_mut(1)?.fill(8);
-    assert_eq!((kind(part.row_mut(2)), kind(part.column_mut(3))), (Some(OUT_OF_BOUNDS), Some(OUT_OF_BOUNDS)));
-    assert!(part.sliced_mut(s![.., ..2])?.is_square());
-    assert_eq!(numbers, [0, 8, 2, 3, 8, 9, 6]);
-    Ok(())
-}
-
-const OUT_OF_BOUNDS: ErrorKind = ErrorKind::OutOfBounds;
-
-#[test]
 fn lists_are_written_along_an_axis_that_interleaves() -> Result<(), LayoutError> {
     let mut lists = crate::lists();
-    let mut part = rows_mut(&mut lists).into_part();
+    let mut part = rows_mut(&mut lists);
     let mut left = part.axis_iter_mut(Axis(1))?;
     let (Some(mut last), Some(mut first)) = (left.next_back(), left.next()) else {
         panic!("three columns");
@@ -228,6 +246,6 @@ fn lists_are_written_along_an_axis_that_interleaves() -> Result<(), LayoutError>
 #[should_panic(expected = "an array without axes has no outer arrays")]
 fn a_part_without_axes_has_no_outer_parts() {
     let mut items = [7];
-    let mut part = ArrayViewMut::from_shape(IxDyn(&[]).into(), &mut items).expect("one item").into_part();
+    let mut part = ArrayViewMut::from_shape(IxDyn(&[]), &mut items).expect("one item");
     let _ = part.outer_iter_mut();
 }

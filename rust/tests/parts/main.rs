@@ -26,12 +26,12 @@ const NUMBERS: [u8; 7] = [0, 1, 2, 3, 4, 5, 6];
 
 /// Items as two rows of three.
 fn rows_mut<T>(items: &mut [T]) -> ArrayViewMut<'_, T, Ix2> {
-    ArrayViewMut::from_shape(Ix2(2, 3).into(), items).expect("room for six items")
+    ArrayViewMut::from_shape(Ix2(2, 3), items).expect("room for six items")
 }
 
 /// Items as a picture of two rows of three pixels, with three colours side by side.
 fn picture<T>(items: &mut [T]) -> ArrayViewMut<'_, T, Ix3> {
-    ArrayViewMut::from_shape(Ix3(2, 3, 3).into(), items).expect("room for eighteen items")
+    ArrayViewMut::from_shape(Ix3(2, 3, 3), items).expect("room for eighteen items")
 }
 
 /// A list of each of the numbers.

@@ -40,6 +40,9 @@ impl Plain {
             start += if is_backwards { reach } else { 0 };
             last += reach;
             stride = step * shape[axis].max(1);
+            if shape[axis] == 1 && numbers.once_in(2) {
+                strides[axis] = numbers.between(-9, 10);
+            }
         }
         Plain { shape, strides, start, len: last + 1 + numbers.below(4) }
     }

@@ -4,7 +4,6 @@ use crate::model::Plain;
 use crate::numbers::Numbers;
 use crate::random::array;
 use ndarray_layout::CanIndexCheckMode::{OwnedMutable, ReadOnly};
-use ndarray_layout::PartMut;
 use ndarray_layout::{ArrayViewMut, Axis, Ix1, Ix2, IxDyn, Lengths, ShapeError, Strided, s, unsigned};
 use std::collections::BTreeSet;
 use std::panic::catch_unwind;
@@ -15,7 +14,7 @@ where
     Strided<D>: std::panic::UnwindSafe,
 {
     let view = view.expect("a view of more items");
-    catch_unwind(move || PartMut::new(view, &mut vec![0_u8; len]).strided().len()).is_ok()
+    catch_unwind(move || ArrayViewMut::new(view, &mut vec![0_u8; len]).strided().len()).is_ok()
 }
 
 #[test]
@@ -26,6 +25,7 @@ fn a_view_that_leaves_its_items_or_has_an_alias_panics() {
     assert!(is_made(grid(), 7) && !is_made(grid(), 6) && !is_made(grid(), 0));
     let aliased = |row, column| Strided::from_parts(0, Ix2(2, 2), Ix2(row, column), 1, 99, ReadOnly);
     assert!(is_made(aliased(2, 1), 99) && !is_made(aliased(1, 1), 99) && !is_made(aliased(0, 1), 99));
+    assert!(!is_made(aliased(1, 2), 3) && !is_made(aliased(3, 1), 4) && is_made(aliased(3, 1), 5));
     let far = Strided::from_parts(1 << 62, Ix1(2), Ix1(1 << 61), 1, usize::MAX >> 1, ReadOnly);
     assert!(!is_made(far, 99));
     let none = Strided::from_parts(0, Ix2(0, 3), Ix2(0, 0), 1, 0, ReadOnly);
@@ -37,7 +37,7 @@ fn a_view_that_leaves_its_items_or_has_an_alias_panics() {
 fn slices_of_an_array_whose_view_has_an_alias_panic() {
     let view = Strided::from_parts(0, Ix2(2, 2), Ix2(1, 1), 1, 3, ReadOnly).expect("a view of three items");
     let mut items = [0_u8; 3];
-    let _ = ArrayViewMut::new(view, &mut items).multi_sliced_mut([s![0, ..]]).map(|parts| parts.len());
+    let _ = ArrayViewMut::new(view, &mut items).multi_slice_mut([s![0, ..]]).map(|parts| parts.len());
 }
 
 #[test]
@@ -50,7 +50,7 @@ fn each_slice_of_an_accepted_view_is_made_a_part() {
 }
 
 /// Adds 1 to each item of a part, and returns how many there are.
-fn count<D: Lengths>(mut part: PartMut<'_, u8, D>) -> usize {
+fn count<D: Lengths>(mut part: ArrayViewMut<'_, u8, D>) -> usize {
     part.map_in_place(|item| *item += 1);
     part.len()
 }
@@ -68,14 +68,14 @@ fn each_array_that_the_package_lends_is_made_a_part() {
         let axis = Axis(numbers.below(whole.shape.len()));
         let size = 1 + numbers.below(3);
         let mut array = array::<_, IxDyn>(&plain, &mut items);
-        let mut times = usize::from(count(array.view_mut().into_part()) == whole.places.len());
+        let mut times = usize::from(count(array.view_mut()) == whole.places.len());
         times += usize::from(array.axis_iter_mut(axis).is_ok_and(|lent| lent.map(count).sum::<usize>() > 0));
         times +=
             usize::from(array.axis_chunks_iter_mut(axis, size).is_ok_and(|lent| lent.map(count).sum::<usize>() > 0));
         times += usize::from(array.rows_mut().map(count).sum::<usize>() > 0);
         let at = numbers.below(whole.shape[axis.index()] + 1);
-        if let Ok((first, second)) = array.split_at_mut(axis, at) {
-            times += usize::from(count(first.into_part()) + count(second.into_part()) > 0);
+        if let Ok((first, second)) = array.split_at(axis, at) {
+            times += usize::from(count(first) + count(second) > 0);
         }
         assert!(whole.places.iter().all(|place| usize::from(items[*place]) == times), "{plain:?}: {times}");
         assert_eq!(items.iter().map(|item| usize::from(*item)).sum::<usize>(), times * whole.places.len());
@@ -101,7 +101,7 @@ fn items_at_distinct_places_are_lent_though_the_rule_is_broken() {
     let in_order = [1, 0, 3, 2, 5, 4, 0, 6];
     let columns = [s![.., 0], s![.., 1]];
     let write = |items: &mut dyn Iterator<Item = &mut u8>| items.zip(1..).for_each(|(item, number)| *item = number);
-    assert_eq!(written(|array| write(&mut array.into_part().into_items())), in_order);
+    assert_eq!(written(|array| write(&mut array.into_items())), in_order);
     assert_eq!(written(|mut array| write(&mut array.iter_mut())), in_order);
     assert_eq!(
         written(|mut array| array.iter_mut().rev().zip(1..).for_each(|(item, number)| *item = 7 - number)),
@@ -109,7 +109,7 @@ fn items_at_distinct_places_are_lent_though_the_rule_is_broken() {
     );
     assert_eq!(
         written(|mut array| {
-            for (column, first) in array.multi_sliced_mut(&columns).expect("two columns").iter_mut().zip(1..) {
+            for (column, first) in array.multi_slice_mut(&columns).expect("two columns").iter_mut().zip(1..) {
                 column.iter_mut().zip(0..).for_each(|(item, number)| *item = first + 2 * number);
             }
         }),
@@ -117,7 +117,7 @@ fn items_at_distinct_places_are_lent_though_the_rule_is_broken() {
     );
     assert_eq!(
         written(|array| {
-            let parts = array.multi_slice_mut(&columns).expect("two columns");
+            let parts = array.multi_slice_move::<_, Ix1>(&columns).expect("two columns");
             parts.into_iter().zip(1..).for_each(|(mut column, number)| column.fill(number));
         }),
         [1, 0, 1, 2, 1, 2, 0, 2]

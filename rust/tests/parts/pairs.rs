@@ -7,11 +7,11 @@ use crate::random::{array, dimension};
 use crate::threads::arrays;
 use crate::{NUMBERS, rows_mut};
 use ndarray_layout::{
-    ArrayView, ArrayViewMut, Dimension, ErrorKind, Ix1, Ix2, Ix3, IxDyn, LayoutError, Lengths, PartMut, from_kind, s,
+    ArrayView, ArrayViewMut, Dimension, ErrorKind, Ix1, Ix2, Ix3, IxDyn, LayoutError, Lengths, from_kind, s,
 };
 
 /// Asserts that each item meets that of another array, in row-major order, and returns what is written.
-fn takes<D: Lengths>(numbers: &mut Numbers, part: PartMut<'_, usize, D>, picked: &Picked) -> Vec<usize> {
+fn takes<D: Lengths>(numbers: &mut Numbers, part: ArrayViewMut<'_, usize, D>, picked: &Picked) -> Vec<usize> {
     let (mut part, other) = (part, Plain::of(numbers, picked.shape.clone()));
     let places = other.whole().places;
     let mut others: Vec<usize> = (WRITTEN..).take(other.len).collect();
@@ -30,6 +30,78 @@ fn takes<D: Lengths>(numbers: &mut Numbers, part: PartMut<'_, usize, D>, picked:
     places.iter().map(|place| WRITTEN + place).collect()
 }
 
+/// Asserts that each item meets those of two other arrays, in row-major order, and returns what is written.
+fn takes_two<D: Lengths>(numbers: &mut Numbers, part: ArrayViewMut<'_, usize, D>, picked: &Picked) -> Vec<usize> {
+    let (mut part, other) = (part, Plain::of(numbers, picked.shape.clone()));
+    let third = Plain::of(numbers, picked.shape.clone());
+    let mut others: Vec<usize> = (WRITTEN..).take(other.len).collect();
+    let mut thirds: Vec<String> = (0..third.len).map(|place| place.to_string()).collect();
+    let others: ArrayViewMut<'_, usize, D> = array(&other, &mut others);
+    let thirds: ArrayViewMut<'_, String, D> = array(&third, &mut thirds);
+    let mut met = Vec::new();
+    let zipped = part.zip_mut_with_two(&others.view(), &thirds.view(), |item, other, third| {
+        met.push((*item, *other, third.clone()));
+        *item += other + third.len();
+    });
+    assert_eq!(zipped, Ok(()));
+    let both = other.whole().places.into_iter().zip(third.whole().places);
+    let expected =
+        picked.places.iter().zip(both).map(|(place, (other, third))| (*place, WRITTEN + other, third.to_string()));
+    assert!(met.iter().cloned().eq(expected), "{picked:?}");
+    met.iter().map(|(item, other, third)| item + other + third.len()).collect()
+}
+
+/// Asserts that each item meets that of another array once, in some order, and returns what is written.
+fn takes_as_they_lie<D: Lengths>(
+    numbers: &mut Numbers,
+    part: ArrayViewMut<'_, usize, D>,
+    picked: &Picked,
+) -> Vec<usize> {
+    let (mut part, other) = (part, Plain::of(numbers, picked.shape.clone()));
+    let mut others: Vec<usize> = (WRITTEN..).take(other.len).collect();
+    let others: ArrayViewMut<'_, usize, D> = array(&other, &mut others);
+    let mut met = Vec::new();
+    let zipped = part.zip_mut_with_nearest(&others.view(), |item, other| {
+        met.push((*item, *other));
+        *item += *other;
+    });
+    assert_eq!(zipped, Ok(()));
+    let places = other.whole().places.into_iter().map(|place| WRITTEN + place);
+    let mut pairs: Vec<(usize, usize)> = picked.places.iter().copied().zip(places).collect();
+    let written = pairs.iter().map(|(item, other)| item + other).collect();
+    met.sort_unstable();
+    pairs.sort_unstable();
+    assert_eq!(met, pairs, "{picked:?}");
+    written
+}
+
+/// Asserts that a closure makes the items of those of another array, each once, and returns what is written.
+fn is_written_of_others<D: Lengths>(
+    numbers: &mut Numbers,
+    part: ArrayViewMut<'_, usize, D>,
+    picked: &Picked,
+) -> Vec<usize> {
+    let (mut part, other) = (part, Plain::of(numbers, picked.shape.clone()));
+    let mut places = other.whole().places;
+    let written = places.iter().map(|place| WRITTEN + place).collect();
+    let mut others: Vec<usize> = (0..other.len).collect();
+    let others: ArrayViewMut<'_, usize, D> = array(&other, &mut others);
+    let mut seen = Vec::new();
+    let write = |item: &usize| {
+        seen.push(*item);
+        WRITTEN + item
+    };
+    if numbers.once_in(2) {
+        assert_eq!(others.view().map_into(&mut part, write), Ok(()));
+    } else {
+        assert_eq!(others.view().map_into_nearest(&mut part, write), Ok(()));
+        seen.sort_unstable();
+        places.sort_unstable();
+    }
+    assert_eq!(seen, places, "{picked:?}");
+    written
+}
+
 /// Two indices, each of which may be past one axis, as numbers in row-major order and as indices.
 fn indices<D: Lengths>(numbers: &mut Numbers, shape: &[usize]) -> [(Option<usize>, D); 2] {
     [(); 2].map(|()| {
@@ -45,7 +117,7 @@ fn indices<D: Lengths>(numbers: &mut Numbers, shape: &[usize]) -> [(Option<usize
 }
 
 /// Asserts that a swap is that of the model.
-fn swaps<D: Lengths>(numbers: &mut Numbers, part: PartMut<'_, usize, D>, picked: &Picked) -> Vec<usize> {
+fn swaps<D: Lengths>(numbers: &mut Numbers, part: ArrayViewMut<'_, usize, D>, picked: &Picked) -> Vec<usize> {
     let (mut part, mut expected) = (part, picked.places.clone());
     for _ in 0..if expected.is_empty() { 0 } else { 3 } {
         let [(one, index), (two, other)] = indices::<D>(numbers, &picked.shape);
@@ -57,7 +129,7 @@ fn swaps<D: Lengths>(numbers: &mut Numbers, part: PartMut<'_, usize, D>, picked:
 }
 
 /// Asserts that each item comes with its index.
-fn indices_come<D: Dimension>(numbers: &mut Numbers, part: PartMut<'_, usize, D>, picked: &Picked) -> Vec<usize> {
+fn indices_come<D: Dimension>(numbers: &mut Numbers, part: ArrayViewMut<'_, usize, D>, picked: &Picked) -> Vec<usize> {
     let (mut part, begun) = (part, numbers.below(picked.places.len() + 1));
     let mut left = part.indexed_iter_mut();
     for number in 0..begun {
@@ -84,10 +156,15 @@ fn random_parts_take_items_swap_them_and_tell_their_indices() {
     let mut written = 0;
     for _ in 0..arrays() / 2 {
         let plain = Plain::any(&mut numbers);
-        for call in [takes::<IxDyn>, swaps::<IxDyn>, indices_come::<IxDyn>] {
+        let calls = [takes, takes_two, takes_as_they_lie, is_written_of_others, swaps, indices_come::<IxDyn>];
+        for call in calls {
             written += whole(&mut numbers, &plain, call);
         }
-        let calls: &[_] = if plain.shape.len() == 2 { &[takes::<Ix2>, swaps::<Ix2>, indices_come::<Ix2>] } else { &[] };
+        let calls: &[_] = if plain.shape.len() == 2 {
+            &[takes::<Ix2>, takes_two::<Ix2>, swaps::<Ix2>, indices_come::<Ix2>]
+        } else {
+            &[]
+        };
         calls.iter().for_each(|call| written += whole(&mut numbers, &plain, *call));
         let calls: &[_] = if plain.shape.len() == 3 { &[takes::<Ix3>, swaps::<Ix3>, indices_come::<Ix3>] } else { &[] };
         calls.iter().for_each(|call| written += whole(&mut numbers, &plain, *call));
@@ -98,27 +175,33 @@ fn random_parts_take_items_swap_them_and_tell_their_indices() {
 #[test]
 fn an_array_of_another_shape_changes_no_item() -> Result<(), LayoutError> {
     let mut numbers = NUMBERS;
-    let mut part = rows_mut(&mut numbers).into_part();
-    let others = ArrayView::from_shape(Ix2(3, 2).into(), &NUMBERS)?;
+    let mut part = rows_mut(&mut numbers);
+    let others = ArrayView::from_shape(Ix2(3, 2), &NUMBERS)?;
     let fault = Err(from_kind(ErrorKind::IncompatibleShape));
     assert_eq!(part.zip_mut_with(&others, |_, _| panic!("no item is called with")), fault);
+    assert_eq!(part.zip_mut_with_nearest(&others, |_, _| panic!("no item is called with")), fault);
+    let same = ArrayView::from_shape(Ix2(2, 3), &NUMBERS)?;
+    assert_eq!(part.zip_mut_with_two(&others, &same, |_, _, _| panic!("no item is called with")), fault);
+    assert_eq!(part.zip_mut_with_two(&same, &others, |_, _, _| panic!("no item is called with")), fault);
+    assert_eq!(others.map_into(&mut part, |_| panic!("no item is called with")), fault);
+    assert_eq!(others.map_into_nearest(&mut part, |_| panic!("no item is called with")), fault);
     assert_eq!(part.assign(&others), fault);
     assert!(!part.swap(&(0, 0), &(2, 0)) && !part.swap(&(0, 3), &(0, 0)));
     assert_eq!(numbers, NUMBERS);
-    let one = ArrayViewMut::from_shape(IxDyn(&[]).into(), &mut numbers)?;
-    assert!(!one.into_part().swap(&IxDyn(&[0]), &IxDyn(&[])));
+    let mut one = ArrayViewMut::from_shape(IxDyn(&[]), &mut numbers)?;
+    assert!(!one.swap(&IxDyn(&[0]), &IxDyn(&[])));
     Ok(())
 }
 
 #[test]
 fn lists_are_taken_and_swapped() -> Result<(), LayoutError> {
     let (mut lists, others) = (crate::lists(), vec![vec![7, 7], vec![8, 8, 8]]);
-    let mut part = rows_mut(&mut lists).into_part();
-    part.sliced_mut(s![.., 2])?.assign(&ArrayView::from_shape([2].into(), &others)?)?;
+    let mut part = rows_mut(&mut lists);
+    part.slice_mut(s![.., 2])?.assign(&ArrayView::from_shape([2], &others)?)?;
     assert!(part.swap(&(0, 1), &(1, 0)) && part.swap(&(1, 1), &(1, 1)));
     part.view_mut().reversed_axes().indexed_iter_mut().for_each(|((row, _), list)| list.push(row as u8));
-    let rows = ArrayView::from_shape([1, 2].into(), &others)?.broadcast(&Ix2(2, 2))?;
-    part.sliced_mut(s![.., ..2])?.zip_mut_with(&rows, |list, other| list.extend(&other[1..]))?;
+    let rows = ArrayView::from_shape([1, 2], &others)?.broadcast(&Ix2(2, 2))?;
+    part.slice_mut(s![.., ..2])?.zip_mut_with(&rows, |list, other| list.extend(&other[1..]))?;
     let expected: [&[u8]; 7] = [&[0, 0, 7], &[3, 1, 8, 8], &[7, 7, 2], &[1, 0, 7], &[4, 1, 8, 8], &[8, 8, 8, 2], &[6]];
     assert_eq!(lists, expected);
     Ok(())
@@ -127,13 +210,13 @@ fn lists_are_taken_and_swapped() -> Result<(), LayoutError> {
 #[test]
 fn columns_tiles_and_turned_parts_take_the_items_beside_them() -> Result<(), LayoutError> {
     let mut numbers = NUMBERS;
-    let mut part = rows_mut(&mut numbers).into_part();
-    part.sliced_mut(s![.., 1])?.assign(&ArrayView::from_shape(Ix1(2).into(), &[20, 21])?)?;
+    let mut part = rows_mut(&mut numbers);
+    part.slice_mut(s![.., 1])?.assign(&ArrayView::from_shape(Ix1(2), &[20, 21])?)?;
     assert_eq!(part.iter().copied().collect::<Vec<u8>>(), [0, 20, 2, 3, 21, 5]);
-    let row = ArrayView::from_shape(Ix1(2).into(), &[30, 31])?.broadcast(&Ix2(2, 2))?;
-    part.sliced_mut(s![.., 1..])?.assign(&row)?;
+    let row = ArrayView::from_shape(Ix1(2), &[30, 31])?.broadcast(&Ix2(2, 2))?;
+    part.slice_mut(s![.., 1..])?.assign(&row)?;
     assert_eq!(part.iter().copied().collect::<Vec<u8>>(), [0, 30, 31, 3, 30, 31]);
-    let columns = ArrayView::from_shape(Ix2(3, 2).into(), &[10, 11, 12, 13, 14, 15])?;
+    let columns = ArrayView::from_shape(Ix2(3, 2), &[10, 11, 12, 13, 14, 15])?;
     part.view_mut().reversed_axes().assign(&columns)?;
     assert_eq!(part.iter().copied().collect::<Vec<u8>>(), [10, 12, 14, 11, 13, 15]);
     let mut met = Vec::new();
@@ -143,8 +226,8 @@ fn columns_tiles_and_turned_parts_take_the_items_beside_them() -> Result<(), Lay
     })?;
     assert_eq!(met, [(10, 10), (11, 11), (12, 12), (13, 13), (14, 14), (15, 15)]);
     assert_eq!(part.iter().copied().collect::<Vec<u8>>(), [20, 24, 28, 22, 26, 30]);
-    let rows = ArrayView::from_shape(Ix2(2, 3).into(), &[1, 2, 3, 4, 5, 6])?;
-    part.sliced_mut(s![..;-1, ..;-1])?.assign(&rows)?;
+    let rows = ArrayView::from_shape(Ix2(2, 3), &[1, 2, 3, 4, 5, 6])?;
+    part.slice_mut(s![..;-1, ..;-1])?.assign(&rows)?;
     assert_eq!(numbers, [6, 5, 4, 3, 2, 1, 6]);
     Ok(())
 }
@@ -152,8 +235,8 @@ fn columns_tiles_and_turned_parts_take_the_items_beside_them() -> Result<(), Lay
 #[test]
 fn more_axes_than_are_sorted_take_the_items_beside_them() -> Result<(), LayoutError> {
     let (mut items, others) = ([0; 128], std::array::from_fn::<u8, 128, _>(|place| place as u8));
-    let others = ArrayView::from_shape(IxDyn(&[2; 7]).into(), &others)?;
-    ArrayViewMut::from_shape(IxDyn(&[2; 7]).into(), &mut items)?.into_part().reversed_axes().assign(&others)?;
+    let others = ArrayView::from_shape(IxDyn(&[2; 7]), &others)?;
+    ArrayViewMut::from_shape(IxDyn(&[2; 7]), &mut items)?.reversed_axes().assign(&others)?;
     assert!(items.iter().zip(0_u8..).all(|(item, place)| *item == place.reverse_bits() >> 1));
     Ok(())
 }

@@ -5,8 +5,8 @@ use crate::kind;
 use crate::model::{Picked, Plain, index_of};
 use crate::numbers::Numbers;
 use ndarray_layout::{
-    ArrayViewMut, Axis, ErrorKind, Ix1, Ix2, Ix3, IxDyn, LayoutError, Lengths, PartMut, SliceArg, SliceInfo,
-    SliceInfoElem, Strided, Strides, unsigned,
+    ArrayViewMut, Axis, ErrorKind, Ix1, Ix2, Ix3, IxDyn, LayoutError, Lengths, SliceArg, SliceInfo, SliceInfoElem,
+    Strided, Strides, unsigned,
 };
 use std::collections::BTreeSet;
 use std::fmt::Debug;
@@ -97,7 +97,11 @@ pub fn model(plain: &Plain, slices: &[Vec<SliceInfoElem>]) -> Result<Vec<Picked>
 }
 
 /// Asserts that a part has these items, each by its index.
-fn has_items<T: PartialEq + Debug, E: Lengths>(part: &PartMut<'_, T, E>, picked: &Picked, item: impl Fn(usize) -> T) {
+fn has_items<T: PartialEq + Debug, E: Lengths>(
+    part: &ArrayViewMut<'_, T, E>,
+    picked: &Picked,
+    item: impl Fn(usize) -> T,
+) {
     assert_eq!((part.dim().slice(), part.len()), (&picked.shape[..], picked.places.len()));
     for (number, place) in picked.places.iter().enumerate() {
         let index: E = dimension(index_of(&picked.shape, number).into_iter());
@@ -111,7 +115,7 @@ fn has_items<T: PartialEq + Debug, E: Lengths>(part: &PartMut<'_, T, E>, picked:
 
 /// Asserts that the two parts of a part along an axis are those of its places.
 fn splits<T: PartialEq + Debug, E: Lengths>(
-    part: PartMut<'_, T, E>,
+    part: ArrayViewMut<'_, T, E>,
     picked: &Picked,
     (axis, at): (usize, usize),
     item: impl Fn(usize) -> T,
@@ -142,24 +146,24 @@ fn compare<T, D, S>(
     let mut array: ArrayViewMut<'_, T, D> = array(plain, &mut items);
     let expected = match expected {
         Ok(expected) => expected,
-        Err(error) => return assert_eq!(kind(array.multi_sliced_mut(slices)), Some(*error)),
+        Err(error) => return assert_eq!(kind(array.multi_slice_mut(slices)), Some(*error)),
     };
     for (number, picked) in expected.iter().enumerate() {
-        let lend = |array: &mut ArrayViewMut<'_, T, D>| array.multi_sliced_mut(slices).expect("parts").len();
+        let lend = |array: &mut ArrayViewMut<'_, T, D>| array.multi_slice_mut(slices).expect("parts").len();
         assert_eq!(lend(&mut array), expected.len());
-        let mut parts = array.multi_sliced_mut(slices).expect("parts");
+        let mut parts = array.multi_slice_mut(slices).expect("parts");
         has_items(&parts[number], picked, &item);
         iterates(parts.swap_remove(number), picked, &item, seed + number);
-        let mut parts = array.multi_sliced_mut(slices).expect("parts");
-        let rows = parts.swap_remove(number).into_rows().expect("memory");
+        let mut parts = array.multi_slice_mut(slices).expect("parts");
+        let rows = parts.swap_remove(number).into_row_slices().expect("memory");
         let in_rows: Vec<T> = rows.into_iter().flat_map(|row| row.iter().cloned()).collect();
         assert_eq!(in_rows, picked.places.iter().map(|place| item(*place)).collect::<Vec<_>>());
         if let Some(axis) = seed.checked_rem(picked.shape.len()) {
-            let part = array.multi_sliced_mut(slices).expect("parts").swap_remove(number);
+            let part = array.multi_slice_mut(slices).expect("parts").swap_remove(number);
             splits(part, picked, (axis, seed % (picked.shape[axis] + 1)), &item);
         }
     }
-    for (number, mut part) in array.multi_sliced_mut(slices).expect("parts").into_iter().enumerate() {
+    for (number, mut part) in array.multi_slice_mut(slices).expect("parts").into_iter().enumerate() {
         part.map_in_place(|written| *written = item(100 + number));
     }
     for (number, picked) in expected.iter().enumerate() {

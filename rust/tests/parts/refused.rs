@@ -4,7 +4,7 @@
 use crate::{NUMBERS, rows_mut};
 use ndarray_layout::CanIndexCheckMode::{OwnedMutable, ReadOnly};
 use ndarray_layout::{
-    ArrayView, ArrayViewMut, Axis, Fit, Ix1, Ix2, Ix4, Lengths, Order, OwnedArray, PartMut, Strided, s, unsigned,
+    ArrayView, ArrayViewMut, Axis, Fit, Ix1, Ix2, Ix4, Lengths, Order, OwnedArray, Strided, s, unsigned,
 };
 
 /// The shape, the strides and the start of a view.
@@ -42,24 +42,16 @@ fn keeps(call: impl FnOnce(&mut [u8]) -> bool) -> bool {
 }
 
 /// Asserts that a call of a part returns true, and leaves the part's view and the items as they were.
-fn keeps_part(call: impl FnOnce(&mut PartMut<'_, u8, Ix2>) -> bool) {
+fn keeps_part(call: impl FnOnce(&mut ArrayViewMut<'_, u8, Ix2>) -> bool) {
     assert!(keeps(|items| {
-        let mut part = turned(items).into_part();
+        let mut part = turned(items);
         call(&mut part) && is_turned(part.strided())
-    }));
-}
-
-/// The same of a call of an array.
-fn keeps_array(call: impl FnOnce(&mut ArrayViewMut<'_, u8, Ix2>) -> bool) {
-    assert!(keeps(|items| {
-        let mut array = turned(items);
-        call(&mut array) && is_turned(array.strided())
     }));
 }
 
 /// The same of a call of an array that owns its items.
 fn keeps_owned(call: impl FnOnce(&mut OwnedArray<u8, Ix2>) -> bool) {
-    let mut array = OwnedArray::from_shape_vec(Ix2(2, 3).into(), NUMBERS.to_vec()).expect("six items");
+    let mut array = OwnedArray::from_shape_vec(Ix2(2, 3), NUMBERS.to_vec()).expect("six items");
     assert!(call(&mut array) && is_in_order(array.strided()));
     assert_eq!(array.stored(), NUMBERS);
 }
@@ -67,11 +59,9 @@ fn keeps_owned(call: impl FnOnce(&mut OwnedArray<u8, Ix2>) -> bool) {
 #[test]
 fn items_that_are_too_few_or_shared_are_as_they_were() {
     let view = |stride, mode| Strided::new(Ix2(2, 3), Ix2(stride, 1), 1, 7, mode).unwrap();
-    assert!(keeps(|items| PartMut::over(view(3, OwnedMutable), &mut items[2..]).is_err()));
-    assert!(keeps(|items| PartMut::over(view(1, ReadOnly), items).is_err()));
     assert!(keeps(|items| ArrayViewMut::over(view(3, OwnedMutable), &mut items[2..]).is_err()));
     assert!(keeps(|items| ArrayViewMut::over(view(1, ReadOnly), items).is_err()));
-    assert!(keeps(|items| ArrayViewMut::from_shape(Ix2(2, 4).into(), items).is_err()));
+    assert!(keeps(|items| ArrayViewMut::from_shape(Ix2(2, 4), items).is_err()));
 }
 
 #[test]
@@ -81,10 +71,7 @@ fn an_item_at_no_index_is_lent_to_none() {
     keeps_part(|part| !part.set(&(2, 0), 9));
     keeps_part(|part| part.replace(&(0, 3), 9) == Err(9));
     keeps_part(|part| !part.swap(&(0, 0), &(2, 0)));
-    keeps_array(|array| array.get_mut(&(2, 0)).is_none());
-    keeps_array(|array| !array.set(&(0, 3), 9));
-    keeps_array(|array| array.replace(&(0, 3), 9) == Err(9));
-    keeps_array(|array| !array.swap(&(0, 0), &(2, 0)));
+    keeps_part(|part| !part.set(&(0, 3), 9));
     keeps_owned(|array| array.get_mut(&(2, 0)).is_none());
     keeps_owned(|array| !array.set(&(0, 3), 9));
     keeps_owned(|array| !array.swap(&(0, 0), &(2, 0)));
@@ -92,24 +79,18 @@ fn an_item_at_no_index_is_lent_to_none() {
 
 #[test]
 fn a_slice_that_does_not_fit_changes_no_item() {
-    keeps_part(|part| part.slice_mut::<Ix2, _>(&s![..3, ..], Fit::Strict).is_err());
-    keeps_part(|part| part.sliced_mut(s![..3, ..]).is_err());
-    keeps_part(|part| part.multi_sliced_mut((s![0, ..], s![.., 2])).is_err());
-    keeps_part(|part| part.view_mut().slice::<Ix1, _>(&s![.., ..], Fit::Strict).is_err());
-    keeps_part(|part| part.view_mut().multi_slice_mut(&[s![0, ..], s![2, ..]]).is_err());
-    keeps_part(|part| part.view_mut().multi_slice_mut(&[s![0, ..], s![.., 2]]).is_err());
+    keeps_part(|part| part.slice_mut_with::<Ix2, _>(&s![..3, ..], Fit::Strict).is_err());
+    keeps_part(|part| part.slice_mut(s![..3, ..]).is_err());
+    keeps_part(|part| part.multi_slice_mut((s![0, ..], s![.., 2])).is_err());
+    keeps_part(|part| part.view_mut().slice_move_with::<Ix1, _>(&s![.., ..], Fit::Strict).is_err());
+    keeps_part(|part| part.view_mut().multi_slice_move::<_, Ix1>(&[s![0, ..], s![2, ..]]).is_err());
+    keeps_part(|part| part.view_mut().multi_slice_move::<_, Ix1>(&[s![0, ..], s![.., 2]]).is_err());
     keeps_part(|part| part.view_mut().split_at(Axis(1), 4).is_err());
     keeps_part(|part| part.view_mut().crop(&Ix2(0, 0), &Ix2(2, 4)).is_none());
     keeps_part(|part| part.view_mut().into_slice().is_err());
-    keeps_array(|array| array.sliced_mut(s![..3, ..]).is_err());
-    keeps_array(|array| array.multi_sliced_mut((s![0, ..], s![.., 2])).is_err());
-    keeps_array(|array| array.view_mut().slice::<Ix1, _>(&s![.., ..], Fit::Strict).is_err());
-    keeps_array(|array| array.view_mut().crop(&Ix2(0, 0), &Ix2(2, 4)).is_none());
-    keeps_array(|array| array.view_mut().multi_slice_mut(&[s![0, ..], s![.., 2]]).is_err());
-    keeps_array(|array| array.view_mut().split_at_mut(Axis(1), 1).is_err());
-    keeps_array(|array| array.as_slice_mut().is_none());
-    keeps_owned(|array| array.sliced_mut(s![..3, ..]).is_err());
-    keeps_owned(|array| array.multi_sliced_mut((s![0, ..], s![.., 2])).is_err());
+    keeps_part(|part| part.as_slice_mut().is_none());
+    keeps_owned(|array| array.slice_mut(s![..3, ..]).is_err());
+    keeps_owned(|array| array.multi_slice_mut((s![0, ..], s![.., 2])).is_err());
     keeps_owned(|array| array.map_in_place(&s![..3, ..], |item| *item = 9).is_err());
     keeps_owned(|array| array.multi_set(&[(s![..3, ..].to_vec(), vec![9; 9])]).is_err());
 }
@@ -122,12 +103,7 @@ fn a_coordinate_past_an_axis_changes_no_item() {
     keeps_part(|part| part.row_mut(2).is_err());
     keeps_part(|part| part.column_mut(3).is_err());
     keeps_part(|part| part.view_mut().index_axis(Axis(0), 2).is_err());
-    keeps_array(|array| array.axis_iter_mut(Axis(2)).is_err());
-    keeps_array(|array| array.axis_chunks_iter_mut(Axis(0), 0).is_err());
-    keeps_array(|array| array.row_mut(2).is_err());
-    keeps_array(|array| array.column_mut(3).is_err());
-    keeps_array(|array| array.lanes_mut(Axis(2)).is_err());
-    keeps_array(|array| array.view_mut().index_axis(Axis(0), 2).is_err());
+    keeps_part(|part| part.lanes_mut(Axis(2)).is_err());
     keeps_owned(|array| array.axis_iter_mut(Axis(2)).is_err());
     keeps_owned(|array| array.axis_chunks_iter_mut(Axis(0), 0).is_err());
     keeps_owned(|array| array.row_mut(2).is_err());
@@ -143,37 +119,30 @@ fn axes_and_shapes_that_are_refused_change_no_item() {
     keeps_part(|part| part.view_mut().reshape(&Ix1(6), Order::RowMajor).is_err());
     keeps_part(|part| part.view_mut().exact_chunks::<Ix4>(&Ix2(0, 1)).is_err());
     keeps_part(|part| part.view_mut().insert_axis(Axis(3)).is_err());
-    keeps_array(|array| array.invert_axis(Axis(2)).is_err());
-    keeps_array(|array| array.swap_axes(Axis(0), Axis(2)).is_err());
-    keeps_array(|array| array.view_mut().permuted_axes(&[Axis(0), Axis(0)]).is_err());
-    keeps_array(|array| array.view_mut().reshape(&Ix1(6), Order::RowMajor).is_err());
-    keeps_array(|array| array.view_mut().exact_chunks::<Ix4>(&Ix2(0, 1)).is_err());
-    keeps_array(|array| array.view_mut().insert_axis(Axis(3)).is_err());
 }
 
 #[test]
 fn items_of_another_shape_change_none() {
-    let others = || ArrayView::from_shape(Ix2(3, 2).into(), &NUMBERS).expect("six items");
+    let others = || ArrayView::from_shape(Ix2(3, 2), &NUMBERS).expect("six items");
+    let same = || ArrayView::from_shape(Ix2(2, 3), &NUMBERS).expect("six items");
     keeps_part(|part| part.assign(&others()).is_err());
+    keeps_part(|part| part.zip_mut_with_two(&others(), &same(), |item, _, _| *item = 9).is_err());
+    keeps_part(|part| part.zip_mut_with_two(&same(), &others(), |item, _, _| *item = 9).is_err());
     keeps_part(|part| part.zip_mut_with(&others(), |item, _| *item = 9).is_err());
-    keeps_array(|array| array.assign(&others()).is_err());
-    keeps_array(|array| array.zip_mut_with(&others(), |item, _| *item = 9).is_err());
     keeps_owned(|array| array.assign(&others()).is_err());
     keeps_owned(|array| array.zip_mut_with(&others(), |item, _| *item = 9).is_err());
+    keeps_owned(|array| array.zip_mut_with_two(&same(), &others(), |item, _, _| *item = 9).is_err());
 }
 
 #[test]
 fn what_is_lent_leaves_the_view() {
     keeps_part(|part| is_turned(part.reborrow().expect("memory").strided()));
-    keeps_part(|part| is_turned(part.slice_mut(&s![.., ..], Fit::Strict).expect("a slice").strided()));
-    keeps_part(|part| is_turned(part.sliced_mut(s![.., ..]).expect("a slice").strided()));
+    keeps_part(|part| is_turned(part.slice_mut_with(&s![.., ..], Fit::Strict).expect("a slice").strided()));
+    keeps_part(|part| is_turned(part.slice_mut(s![.., ..]).expect("a slice").strided()));
     keeps_part(|part| part.get_mut(&(1, 2)) == Some(&mut 2));
-    keeps_array(|array| is_turned(array.parts_mut().0));
-    keeps_array(|array| is_turned(array.view_mut().strided()));
-    keeps_array(|array| is_turned(array.sliced_mut(s![.., ..]).expect("a slice").strided()));
-    keeps_array(|array| array.get_mut(&(1, 2)) == Some(&mut 2));
+    keeps_part(|part| is_turned(part.view_mut().strided()));
     keeps_owned(|array| is_in_order(array.parts_mut().0));
     keeps_owned(|array| is_in_order(array.try_view_mut().expect("memory").strided()));
-    keeps_owned(|array| is_in_order(array.sliced_mut(s![.., ..]).expect("a slice").strided()));
+    keeps_owned(|array| is_in_order(array.slice_mut(s![.., ..]).expect("a slice").strided()));
     keeps_owned(|array| array.stored_mut() == NUMBERS);
 }

@@ -2,13 +2,13 @@
 
 use crate::model::{Picked, index_of};
 use crate::numbers::Numbers;
-use ndarray_layout::{Axis, Fit, IxDyn, Order, PartMut, SliceInfoElem};
+use ndarray_layout::{ArrayViewMut, Axis, Fit, IxDyn, Order, SliceInfoElem};
 
 /// A part of a random count of axes, and the places of its items.
-type Piece<'a, T> = (PartMut<'a, T, IxDyn>, Picked);
+type Piece<'a, T> = (ArrayViewMut<'a, T, IxDyn>, Picked);
 
 /// Takes up to four random steps.
-pub fn step<'a, T>(numbers: &mut Numbers, part: PartMut<'a, T, IxDyn>, picked: Picked) -> Piece<'a, T> {
+pub fn step<'a, T>(numbers: &mut Numbers, part: ArrayViewMut<'a, T, IxDyn>, picked: Picked) -> Piece<'a, T> {
     let mut piece = (part, picked);
     for _ in 0..numbers.below(5) {
         piece = match numbers.below(10) {
@@ -93,7 +93,7 @@ fn sliced<'a, T>(numbers: &mut Numbers, (part, picked): Piece<'a, T>) -> Piece<'
     }
     let shape = coordinates.iter().map(Vec::len).collect();
     let source = |index: &[usize]| index.iter().zip(&coordinates).map(|(at, list)| list[*at]).collect();
-    (part.slice(&elems, Fit::Strict).expect("a slice"), picked.seen_as(shape, source))
+    (part.slice_move_with(&elems, Fit::Strict).expect("a slice"), picked.seen_as(shape, source))
 }
 
 fn inserted<'a, T>(numbers: &mut Numbers, (part, picked): Piece<'a, T>) -> Piece<'a, T> {
@@ -151,7 +151,7 @@ fn diagonal<'a, T>(numbers: &mut Numbers, (part, picked): Piece<'a, T>) -> Piece
     let ndim = picked.shape.len();
     let shape = vec![picked.shape.iter().min().copied().unwrap_or(1)];
     let whole = [SliceInfoElem::from(..)];
-    let line = part.diag().slice(&whole, Fit::Strict).expect("one axis");
+    let line = part.diag().slice_move_with(&whole, Fit::Strict).expect("one axis");
     (line, picked.seen_as(shape, |index| vec![index[0]; ndim]))
 }
 

@@ -4,7 +4,7 @@ use crate::model::{Picked, Plain, index_of};
 use crate::numbers::Numbers;
 use crate::random::{array, dimension, model, slices};
 use crate::steps::step;
-use ndarray_layout::{Axis, Dimension, Ix1, Ix2, Ix3, Ix4, Ix5, IxDyn, Lengths, NdIndex, PartMut, SliceInfoElem};
+use ndarray_layout::{ArrayViewMut, Axis, Dimension, Ix1, Ix2, Ix3, Ix4, Ix5, IxDyn, Lengths, NdIndex, SliceInfoElem};
 use std::env;
 use std::sync::Barrier;
 use std::thread;
@@ -18,7 +18,7 @@ pub fn arrays() -> usize {
 }
 
 /// A part, and the places of its items.
-type Piece<'a, D> = (PartMut<'a, usize, D>, Picked);
+type Piece<'a, D> = (ArrayViewMut<'a, usize, D>, Picked);
 
 /// Cuts parts in two, each along a random axis, until there are so many, or none can be cut.
 fn cut<'a, D: Lengths>(numbers: &mut Numbers, pieces: Vec<Piece<'a, D>>, count: usize) -> Vec<Piece<'a, D>> {
@@ -91,9 +91,9 @@ where
     let Ok(expected) = model(plain, &picked) else {
         return 0;
     };
-    let whole = array::<_, D>(plain, &mut items).into_part();
+    let whole = array::<_, D>(plain, &mut items);
     let lent =
-        whole.multi_slice_mut(&picked.iter().map(Vec::as_slice).collect::<Vec<&[SliceInfoElem]>>()).expect("parts");
+        whole.multi_slice_move(&picked.iter().map(Vec::as_slice).collect::<Vec<&[SliceInfoElem]>>()).expect("parts");
     let stepped = lent.into_iter().zip(expected).map(|(part, picked)| step(numbers, part, picked)).collect();
     let pieces = cut(numbers, stepped, 9);
     let expected: Vec<Vec<usize>> = pieces.iter().map(|(_, picked)| picked.places.clone()).collect();
@@ -112,7 +112,7 @@ where
     D: Lengths + NdIndex<D> + Send,
 {
     let mut items: Vec<usize> = (0..plain.len).collect();
-    let pieces = cut(numbers, vec![(array::<_, D>(plain, &mut items).into_part(), plain.whole())], 8);
+    let pieces = cut(numbers, vec![(array::<_, D>(plain, &mut items), plain.whole())], 8);
     let expected: Vec<Vec<usize>> = pieces.iter().map(|(_, picked)| picked.places.clone()).collect();
     write_in_threads(pieces, 1);
     let mut left: Vec<usize> = (0..plain.len).collect();

@@ -15,8 +15,19 @@ pub fn answer(call: &Call) -> Option<String> {
     let reversed = call.reversed();
     Some(match call.name {
         "OwnedArray::items" => call.told(|| array.items(&reversed)),
+        "OwnedArray::ready" => call.told(|| array.ready(&reversed)),
+        "OwnedArray::items_of" => {
+            let ready = array.ready(&reversed).ok()?;
+            let first = IxDyn(&vec![0; reversed.len()]);
+            call.told(|| array.items_of(&ready, &first))
+        }
         "OwnedArray::try_view" => call.told(|| array.try_view()),
         "OwnedArray::try_view_mut" => call.told(|| array.try_view_mut()),
+        "OwnedArray::into_dimensionality" => call.told(|| array.into_dimensionality::<IxDyn>()),
+        "ArrayView::map_to_vec" => {
+            let lent = array.try_view().ok()?;
+            call.told(|| lent.map_to_vec(|item| item + 50))
+        }
         "OwnedArray::map_in_place" => {
             let mapped = call.makes(|| array.map_in_place(&reversed, |item| *item += 50));
             left(mapped, array.stored())

@@ -13,7 +13,7 @@ fn view_of(shape: &IxDyn) -> Strided<IxDyn> {
 
 #[test]
 fn a_copy_panics_where_its_allocation_fails() {
-    let array = OwnedArray::from_shape_vec(Ix2(2, 3).into(), vec![0; 6]).expect("an array");
+    let array = OwnedArray::from_shape_vec(Ix2(2, 3), vec![0; 6]).expect("an array");
     let shape = IxDyn(&[1; 6]);
     let view = view_of(&shape);
     let step = Step::Slice(vec![NewAxis.into()], Fit::Strict);

@@ -4,7 +4,7 @@
 use crate::call::Call;
 use Fit::Strict;
 use Order::RowMajor;
-use ndarray_layout::{ArrayView, ArrayViewMut, Fit, IxDyn, Order, PartMut, StrideShape, Strides};
+use ndarray_layout::{ArrayView, ArrayViewMut, Fit, IxDyn, Order, StrideShape, Strides};
 
 /// What a call answers.
 pub fn answer(call: &Call) -> Option<String> {
@@ -13,11 +13,10 @@ pub fn answer(call: &Call) -> Option<String> {
     match call.name {
         "ArrayView::from_shape" => Some(call.told(|| ArrayView::from_shape(shape, &numbers))),
         "ArrayViewMut::from_shape" => Some(call.told(|| ArrayViewMut::from_shape(shape, &mut numbers))),
-        "PartMut::from_shape" => Some(call.told(|| PartMut::from_shape(shape, &mut numbers))),
-        _ if call.name.starts_with("ArrayView::") => read(call, ArrayView::over(call.view(), &numbers).ok()?),
-        _ if call.name.starts_with("PartMut::") => {
-            part(call, ArrayViewMut::from_shape(call.laid(), &mut numbers).ok()?.into_part())
+        _ if call.name.starts_with("ArrayView::") || call.name.starts_with("BlocksIter") => {
+            read(call, ArrayView::over(call.view(), &numbers).ok()?)
         }
+        _ if call.name.starts_with("Axis") => along(call, ArrayViewMut::from_shape(call.laid(), &mut numbers).ok()?),
         _ => written(call, ArrayViewMut::from_shape(call.laid(), &mut numbers).ok()?),
     }
 }
@@ -26,62 +25,99 @@ fn read(call: &Call, array: ArrayView<'_, usize, IxDyn>) -> Option<String> {
     let (reversed, back, to) = (call.reversed(), call.back(), call.dim(2));
     let (axis, index) = call.axis_and_index();
     Some(match call.name {
-        "ArrayView::slice" => call.told(|| array.slice::<IxDyn, _>(&reversed, Strict)),
+        "ArrayView::slice_with" => call.told(|| array.slice_with::<IxDyn, _>(&reversed, Strict)),
         "ArrayView::permuted_axes" => call.told(|| array.permuted_axes(&back)),
         "ArrayView::reshape" => call.told(|| array.reshape(&to, RowMajor)),
         "ArrayView::broadcast" => call.told(|| array.broadcast(&to)),
         "ArrayView::windows" => call.told(|| array.windows::<IxDyn>(&to)),
         "ArrayView::exact_chunks" => call.told(|| array.exact_chunks::<IxDyn>(&to)),
+        "ArrayView::into_dimensionality" => call.told(|| array.into_dimensionality::<IxDyn>()),
         "ArrayView::index_axis" => call.told(|| array.index_axis(axis, index)),
         "ArrayView::insert_axis" => call.told(|| array.insert_axis(axis)),
         "ArrayView::split_at" => call.told(|| array.split_at(axis, index)),
+        "ArrayView::into_windows" => call.told(|| array.into_windows(&to).map(|left| left.len())),
+        "ArrayView::into_exact_chunks" => call.told(|| array.into_exact_chunks(&to).map(|left| left.len())),
+        "BlocksIter::try_next" => {
+            let mut left = array.into_windows(&to).ok()?;
+            call.told(|| left.try_next())
+        }
+        "BlocksIter::try_next_back" => {
+            let mut left = array.into_windows(&to).ok()?;
+            call.told(|| left.try_next_back())
+        }
         "ArrayView::duplicate" => call.told(|| array.duplicate()),
         _ => return None,
     })
 }
 
+/// The same of what comes along an axis: an index says how many are left out, and chunks have one coordinate more.
+fn along(call: &Call, part: ArrayViewMut<'_, usize, IxDyn>) -> Option<String> {
+    let (axis, index) = call.axis_and_index();
+    let numbers = [0; 99];
+    let array = ArrayView::over(call.view(), &numbers).ok()?;
+    Some(match call.name {
+        "AxisIter::try_next" => {
+            let mut left = array.into_axis_iter(axis).ok()?;
+            left.advance(index);
+            call.told(|| left.try_next())
+        }
+        "AxisIter::try_next_back" => {
+            let mut left = array.into_axis_iter(axis).ok()?;
+            call.told(|| left.try_next_back())
+        }
+        "AxisChunksIter::try_next" => {
+            let mut left = array.into_axis_chunks(axis, index + 1).ok()?;
+            call.told(|| left.try_next())
+        }
+        "AxisChunksIter::try_next_back" => {
+            let mut left = array.into_axis_chunks(axis, index + 1).ok()?;
+            call.told(|| left.try_next_back())
+        }
+        "AxisIterMut::try_next" => {
+            let mut left = part.into_axis_parts(axis).ok()?;
+            left.advance(index);
+            call.told(|| left.try_next())
+        }
+        "AxisIterMut::try_next_back" => {
+            let mut left = part.into_axis_parts(axis).ok()?;
+            call.told(|| left.try_next_back())
+        }
+        "AxisChunksIterMut::try_next" => {
+            let mut left = part.into_chunk_parts(axis, index + 1).ok()?;
+            call.told(|| left.try_next())
+        }
+        "AxisChunksIterMut::try_next_back" => {
+            let mut left = part.into_chunk_parts(axis, index + 1).ok()?;
+            call.told(|| left.try_next_back())
+        }
+        _ => return None,
+    })
+}
+
 /// The same of numbers that are lent to be written.
-fn written(call: &Call, array: ArrayViewMut<'_, usize, IxDyn>) -> Option<String> {
+fn written(call: &Call, mut part: ArrayViewMut<'_, usize, IxDyn>) -> Option<String> {
     let (reversed, back, to) = (call.reversed(), call.back(), call.dim(2));
     let (axis, index) = call.axis_and_index();
     Some(match call.name {
-        "ArrayViewMut::slice" => call.told(|| array.slice::<IxDyn, _>(&reversed, Strict)),
-        "ArrayViewMut::permuted_axes" => call.told(|| array.permuted_axes(&back)),
-        "ArrayViewMut::reshape" => call.told(|| array.reshape(&to, RowMajor)),
-        "ArrayViewMut::exact_chunks" => call.told(|| array.exact_chunks::<IxDyn>(&to)),
-        "ArrayViewMut::index_axis" => call.told(|| array.index_axis(axis, index)),
-        "ArrayViewMut::insert_axis" => call.told(|| array.insert_axis(axis)),
-        "ArrayViewMut::try_view" => call.told(|| array.try_view()),
-        _ => return None,
-    })
-}
-
-/// The same of numbers that are lent as a part.
-fn part(call: &Call, mut part: PartMut<'_, usize, IxDyn>) -> Option<String> {
-    let (reversed, back, to) = (call.reversed(), call.back(), call.dim(2));
-    let (axis, index) = call.axis_and_index();
-    Some(match call.name {
-        "PartMut::slice" => call.told(|| part.slice::<IxDyn, _>(&reversed, Strict)),
-        "PartMut::permuted_axes" => call.told(|| part.permuted_axes(&back)),
-        "PartMut::reshape" => call.told(|| part.reshape(&to, RowMajor)),
-        "PartMut::exact_chunks" => call.told(|| part.exact_chunks::<IxDyn>(&to)),
-        "PartMut::index_axis" => call.told(|| part.index_axis(axis, index)),
-        "PartMut::insert_axis" => call.told(|| part.insert_axis(axis)),
-        "PartMut::slice_mut" => call.told(|| part.slice_mut::<IxDyn, _>(&reversed, Strict)),
-        "PartMut::reborrow" => call.told(|| part.reborrow()),
-        "PartMut::fill" => {
-            call.makes(|| part.fill(7));
-            items(&part)
+        "ArrayViewMut::slice_move_with" => call.told(|| part.slice_move_with::<IxDyn, _>(&reversed, Strict)),
+        "ArrayViewMut::permuted_axes" => call.told(|| part.permuted_axes(&back)),
+        "ArrayViewMut::reshape" => call.told(|| part.reshape(&to, RowMajor)),
+        "ArrayViewMut::exact_chunks" => call.told(|| part.exact_chunks::<IxDyn>(&to)),
+        "ArrayViewMut::into_dimensionality" => call.told(|| part.into_dimensionality::<IxDyn>()),
+        "ArrayViewMut::index_axis" => call.told(|| part.index_axis(axis, index)),
+        "ArrayViewMut::insert_axis" => call.told(|| part.insert_axis(axis)),
+        "ArrayViewMut::slice_mut_with" => call.told(|| part.slice_mut_with::<IxDyn, _>(&reversed, Strict)),
+        "ArrayViewMut::try_view" => call.told(|| part.try_view()),
+        "ArrayViewMut::reborrow" => call.told(|| part.reborrow()),
+        "ArrayViewMut::into_tiles" => call.told(|| part.into_tiles(&to).map(|left| left.len())),
+        "TilesMut::try_next" => {
+            let mut left = part.into_tiles(&to).ok()?;
+            call.told(|| left.try_next())
         }
-        "PartMut::map_in_place_nearest" => {
-            call.makes(|| part.map_in_place_nearest(|item| *item += 7));
-            items(&part)
+        "TilesMut::try_next_back" => {
+            let mut left = part.into_tiles(&to).ok()?;
+            call.told(|| left.try_next_back())
         }
         _ => return None,
     })
-}
-
-/// The items of a part, in row-major order.
-fn items(part: &PartMut<'_, usize, IxDyn>) -> String {
-    part.iter().map(usize::to_string).collect::<Vec<_>>().join(" ")
 }

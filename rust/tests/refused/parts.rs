@@ -3,7 +3,7 @@
 
 use crate::call::Call;
 use CanIndexCheckMode::OwnedMutable;
-use ndarray_layout::{ArrayViewMut, CanIndexCheckMode, SliceInfoElem, SplitViews, Strided};
+use ndarray_layout::{ArrayViewMut, CanIndexCheckMode, IxDyn, SliceInfoElem, SplitViews, Strided};
 use std::array;
 
 /// What a call answers.
@@ -16,18 +16,21 @@ pub fn answer(call: &Call) -> Option<String> {
     }
     let array = ArrayViewMut::from_shape(call.laid(), &mut numbers).ok()?;
     let all = SliceInfoElem::from(..);
+    let at = |coordinate: usize| (coordinate..coordinate + 1).into();
     let halves = [(..1).into(), (1..).into()].map(|half| [half, all, all, all, all, all]);
     Some(match call.name {
-        "ArrayViewMut::split_at_mut" => call.told(|| array.split_at_mut(axis, index)),
-        "ArrayViewMut::multi_slice_mut" => call.told(|| array.multi_slice_mut(&halves)),
-        "PartMut::split_at" => {
-            let part = array.into_part();
-            call.told(|| part.split_at(axis, index))
+        "ArrayViewMut::split_at" => call.told(|| array.split_at(axis, index)),
+        "ArrayViewMut::slice_parts" => {
+            let tiles: [_; 6] = array::from_fn(|tile| [at(tile % 2), all, at(tile / 2), all, all, all]);
+            let tiles = tiles.each_ref().map(|tile| &tile[..]);
+            call.told(|| array.slice_parts(&tiles).ok().map(|_| (tiles.len(), 0)))
         }
-        "PartMut::multi_slice_mut" => {
-            let part = array.into_part();
-            call.told(|| part.multi_slice_mut(&halves))
+        "SliceParts::try_next" => {
+            let slices = halves.each_ref().map(|half| &half[..]);
+            let mut parts = array.slice_parts(&slices).ok()?;
+            call.told(|| parts.try_next::<IxDyn>())
         }
+        "ArrayViewMut::multi_slice_move" => call.told(|| array.multi_slice_move::<_, IxDyn>(&halves)),
         _ => return None,
     })
 }

@@ -10,7 +10,7 @@ use ndarray_layout::{CanIndexCheckMode, Fit, IxDyn, Lengths, Order, StrideShape,
 
 /// What a call answers, and the view that it was lent.
 pub fn of_view(call: &Call) -> Option<String> {
-    let (view, to) = (call.view(), call.dim(2));
+    let (view, taken, to) = (call.view(), call.view(), call.dim(2));
     let (reversed, back) = (call.reversed(), call.back());
     let shape = StrideShape { dim: call.dim(2), strides: Strides::F };
     let told = match call.name {
@@ -20,8 +20,19 @@ pub fn of_view(call: &Call) -> Option<String> {
         "Strided::broadcast" => call.told(|| view.broadcast(&to)),
         "Strided::windows" => call.told(|| view.windows::<IxDyn>(&to)),
         "Strided::exact_chunks" => call.told(|| view.exact_chunks::<IxDyn>(&to)),
+        "Strided::into_windows" => call.told(|| taken.into_windows(&to).map(|left| left.len())),
+        "Strided::into_chunks" => call.told(|| taken.into_chunks(&to).map(|left| left.len())),
+        "BlockViews::try_next" => {
+            let mut left = taken.into_windows(&to).ok()?;
+            call.told(|| left.try_next())
+        }
+        "BlockViews::try_next_back" => {
+            let mut left = taken.into_windows(&to).ok()?;
+            call.told(|| left.try_next_back())
+        }
         "Strided::places" => call.told(|| view.places(RowMajor)),
         "Strided::duplicate" => call.told(|| view.duplicate()),
+        "Strided::into_dimensionality" => call.told(|| taken.into_dimensionality::<IxDyn>()),
         "Strided::from_shape" => call.told(|| Strided::from_shape(shape, 1, 99, ReadOnly)),
         "reshape_dim" => call.told(|| reshape_dim(view.dim(), view.strides(), &to, RowMajor)),
         _ => return None,

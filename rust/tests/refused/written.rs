@@ -1,8 +1,8 @@
 //! What a call returns, as the table writes it.
 
 use ndarray_layout::{
-    AllocError, ArrayView, ArrayViewMut, IxDyn, IxDynImpl, LayoutError, Lengths, Order, PartMut, Shape, SplitViews,
-    StrideShape, Strided,
+    AllocError, ArrayView, ArrayViewMut, IxDyn, IxDynImpl, LayoutError, Lengths, Order, OwnedArray, ReadySlice, Shape,
+    SplitViews, StrideShape, Strided,
 };
 
 /// A value as the table writes it.
@@ -46,9 +46,10 @@ written! {
     Strided<IxDyn>: |view| format!("{} {} {}", view.dim().written(), view.strides().written(), view.start());
     ArrayView<'_, usize, IxDyn>: |array| array.strided().written();
     ArrayViewMut<'_, usize, IxDyn>: |array| array.strided().written();
+    OwnedArray<usize, IxDyn>: |array| array.strided().written();
     SplitViews<IxDyn>: |parts| format!("{} and {} at {}", parts.first.written(), parts.second.written(), parts.cut);
-    PartMut<'_, usize, IxDyn>: |part| part.strided().written();
-    Vec<PartMut<'_, usize, IxDyn>>: |parts| {
+    ReadySlice<IxDyn>: |ready| ready.moves().written();
+    Vec<ArrayViewMut<'_, usize, IxDyn>>: |parts| {
         parts.iter().map(|part| format!("{};", part.written())).collect::<Vec<_>>().join(" ")
     };
 }

@@ -1,10 +1,10 @@
 -- Laws of lists: of two parts, of pairs of items, of what a function makes of each item, and of an item that is replaced.
-use Rattle.std.proofs.Common.{◌≡◌, ◌≢◌, ℕ, zero, suc, ◌+◌, ◌<◌, inl, inr, Some, List, [], ◌∷◌, ◌++◌, length, get_or, set, map, drop, refl}
-use Rattle.std.proofs.Common.{sym, ap, subst}
+use Rattle.std.proofs.Common.{◌≡◌, ◌≢◌, ℕ, zero, suc, ◌+◌, ◌<◌, ◌≤◌, inl, inr, Some, List, [], ◌∷◌, ◌++◌, length, get_or, set, map, drop}
+use Rattle.std.proofs.Common.{refl, sym, ap, subst}
 use Rattle.std.proofs.Common.{◌∙◌, arith}
 use Rattle.std.specs.List.{All, AllPairs, Contains, flat_map}
 use Rattle.std.specs.Prelude.{slice_get}
-use Rattle.std.proofs.lemmas.List.{drop_more, get_or-append-add, get_or-map, get_or_append_left, length-append, length-map}
+use Rattle.std.proofs.lemmas.List.{drop_all, drop_more, get_or-append-add, get_or-map, get_or_append_left, length-append, length-map}
 use Rattle.std.proofs.lemmas.List.Elements.{All-append, All-head, All-tail, Contains-append_cases}
 use Rattle.std.proofs.lemmas.List.Kept.{AllPairs-cons}
 
@@ -94,6 +94,10 @@ pub next : {X Y : Type 0} (f : X → Y) (xs : List X) (i : ℕ) {x : X} → i < 
     → drop i (map f xs) ≡ f x ∷ drop (i + 1) (map f xs)
 next f xs i {x} below is = drop_more (map f xs) i (f x) (within f xs i below) ∙ ap (λ y. y ∷ drop (i + 1) (map f xs))
     (sym (this f xs i below is))
+
+-- nothing is left from its end on
+pub ended : {X Y : Type 0} (f : X → Y) (xs : List X) (i : ℕ) → length xs ≤ i → drop i (map f xs) ≡ []
+ended f xs i end = drop_all i (map f xs) (omega (arith, length-map xs f, end))
 
 -- what holds of each item holds of it
 pub of_this : {X Y : Type 0} (P : Y → Type 0) (f : X → Y) (xs : List X) (i : ℕ) {x : X} → i < length xs → x ≡ get_or xs i x

@@ -58,7 +58,7 @@ then_folded R p q r [] ys first then = subst (λ p. FoldsTo R p ys r) (sym first
 then_folded R p q r (x ∷ xs) ys first then = (first.0, first.1, then_folded R first.0 q r xs ys first.2 then)
 
 -- ---- two lists of pairs
-zip_both : {A B : Type 0} (xs more : List A) (ys others : List B) → length xs ≡ length ys
+pub zip_both : {A B : Type 0} (xs more : List A) (ys others : List B) → length xs ≡ length ys
     → zip (xs ++ more) (ys ++ others) ≡ zip xs ys ++ zip more others
 zip_both [] more [] others count = refl
 zip_both [] more (y ∷ ys) others count = absurd (omega arith)

@@ -142,7 +142,7 @@ part_after (Ok x) source marks same kept part = part_descendant marks kept part
 part_after (Err e) source marks same kept part = subst (IsPart marks) (sym same) part
 
 -- where all places have a mark, those that have an item do
-in_bounds_marked : (count : ℕ) (place : ℤ) → IsInBounds count place → has_mark (replicate count true) place ≡ true
+pub in_bounds_marked : (count : ℕ) (place : ℤ) → IsInBounds count place → has_mark (replicate count true) place ≡ true
 in_bounds_marked count (pos place) below = get_or-replicate count place true false below
 in_bounds_marked count (negsuc below) none = absurd none
 

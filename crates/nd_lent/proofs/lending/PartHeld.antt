@@ -1,4 +1,4 @@
--- A value of `PartMut`: its machine value and what it holds. Assumes `Logic`.
+-- A value of `ArrayViewMut`: its machine value and what it holds. Assumes `Logic`.
 --     Bound                what the type of the view's shape brings
 --     part_word p us       the machine value of a part whose first element lies at p, and whose view is us
 --     part_had             a proof's step: of a value to its machine value and to what it holds.        part_made     the other way
@@ -23,8 +23,8 @@ use Rattle.ndarray_layout.specs.declared.FixedCount as fixed
 use Rattle.ndarray_layout.specs.declared.Lengths as lengths
 use Rattle.ndarray_layout.specs.contracts.strided.Strided as V-type
 use Rattle.nd_lent.specs.Cells.{holds_cells}
-use Rattle.nd_lent.specs.declared.part.PartMut.{PartMut}
-use Rattle.nd_lent.specs.contracts.part.PartMut as P-type
+use Rattle.nd_lent.specs.declared.array_view_mut.ArrayViewMut.{ArrayViewMut}
+use Rattle.nd_lent.specs.contracts.array_view_mut.ArrayViewMut as P-type
 use Rattle.nd_lent.proofs.lending.Held.{word, cells_had, cells_made}
 
 -- what the type of the view's shape brings
@@ -36,7 +36,7 @@ pub record Bound (D : Type 0) : Type 1 where
   pub at : index.Ghosts D ℕ ℕ
 
 abbrev pub Part : Type 0 → (D : Type 0) → Bound D → Type 0
-Part T D g = PartMut T D g.lens g.count g.same g.text g.at
+Part T D g = ArrayViewMut T D g.lens g.count g.same g.text g.at
 
 abbrev pub part_word : Ptr → List Val → Val
 part_word p us = vstruct (of_list ((word p ∷ []) ++ (us ++ [])))

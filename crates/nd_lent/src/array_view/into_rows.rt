@@ -10,6 +10,7 @@ ghost use Rattle.nd_lent.specs.Items.{item_at_place};
 ghost use Rattle.nd_lent.specs.LentRow.{RowValue, row_of, rows_items};
 
 use crate::array_view::{ArrayView, LentRow};
+use crate::cells::Reader;
 use ndarray_layout::{Lengths, Order, StridedRows};
 use std::iter::FusedIterator;
 use std::marker::Model;
@@ -18,20 +19,20 @@ use std::marker::Model;
 /// contract sees the list of them. ndarray's `Lanes`.
 #[derive(Drop)]
 pub struct IntoRows<'a, T, D: Lengths> {
-    items: &'a [T],
+    reader: Reader<'a, T>,
     rows: StridedRows<D>,
 }
 
 impl<'a, T, D: Lengths> Model for IntoRows<'a, T, D> {
-    ghost use Rattle.std.specs.List.{All};
     ghost use Rattle.std.specs.Prelude.{List, length, map};
-    ghost use Rattle.nd_lent.specs.LentRow.{HasRow, RowValue, row_of};
+    ghost use Rattle.nd_lent.specs.LentRow.{RowValue, row_of};
+    ghost use Rattle.nd_lent.specs.Read.{AreRowsRead};
 
     ghost Value = { List (RowValue T) };
 
-    ghost view = { λ left. map (row_of left.items.now) left.rows };
+    ghost view = { λ left. map (row_of left.reader.items) left.rows };
 
-    ghost invariant = { λ left. All (HasRow (length left.items.now)) left.rows };
+    ghost invariant = { λ left. AreRowsRead left.reader.marks (length left.reader.items) left.rows };
 }
 
 impl<'a, T, D: Lengths> IntoRows<'a, T, D> {
@@ -69,7 +70,7 @@ impl<'a, T, D: Lengths> Iterator for IntoRows<'a, T, D> {
     fn next(&mut self) -> Option<LentRow<'a, T>> {
         let row = self.rows.next()?;
         Some(LentRow {
-            items: self.items,
+            reader: self.reader.copied(),
             row,
         })
     }
@@ -91,7 +92,7 @@ impl<'a, T, D: Lengths> DoubleEndedIterator for IntoRows<'a, T, D> {
     fn next_back(&mut self) -> Option<LentRow<'a, T>> {
         let row = self.rows.next_back()?;
         Some(LentRow {
-            items: self.items,
+            reader: self.reader.copied(),
             row,
         })
     }
@@ -119,9 +120,9 @@ impl<'a, T, D: Lengths> ArrayView<'a, T, D> {
         ensures in_order { YieldsInOrder
             (YieldsFirst (λ (left : List (RowValue T)). left)) (λ left. left) }
     {
-        let ArrayView { items, view } = self;
+        let ArrayView { reader, view } = self;
         IntoRows {
-            items,
+            reader,
             rows: view.into_rows(Order::RowMajor),
         }
     }

@@ -3,17 +3,18 @@ ghost use Rattle.std.specs.Borrow.{Bor};
 ghost use Rattle.std.specs.Iterator.{UpTo, YieldsFirstBy, YieldsLastBy, item_count};
 ghost use Rattle.std.specs.Iterator.Runs.{EveryRun, ItemsMapTo};
 ghost use Rattle.std.specs.Iterator.SizeHint.{IsWithinCount};
-ghost use Rattle.std.specs.List.{All};
 ghost use Rattle.std.specs.Prelude.{◌≡◌, ◌-◌, ◌<◌, ◌++◌, [], IfSome, List, MatchOption, Option, Some, drop, length, map, take};
 ghost use Rattle.ndarray_layout.specs.declared.Order.TheVariants.{RowMajor};
-ghost use Rattle.ndarray_layout.specs.Bounds.{IsInBounds};
 ghost use Rattle.ndarray_layout.specs.Size.{size};
 ghost use Rattle.ndarray_layout.specs.View.{view_places};
+ghost use Rattle.nd_lent.specs.ArrayView.{HasItems};
 ghost use Rattle.nd_lent.specs.Items.{item_at_place};
 ghost use Rattle.nd_lent.specs.LentRow.{row_items};
+ghost use Rattle.nd_lent.specs.Read.{AreRead};
 
 use crate::array_view::{ArrayView, LentRow};
-use ndarray_layout::{Lengths, Order, Places};
+use crate::cells::Reader;
+use ndarray_layout::{Lengths, Order, Places, Strided};
 use std::iter::FusedIterator;
 use std::marker::Model;
 
@@ -21,32 +22,42 @@ use std::marker::Model;
 /// sees the list of them.
 #[derive(Drop)]
 pub struct Iter<'a, T> {
-    stored: &'a [T],
+    reader: Reader<'a, T>,
     places: Places<'a>,
 }
 
 impl<'a, T> Model for Iter<'a, T> {
-    ghost use Rattle.std.specs.List.{All};
     ghost use Rattle.std.specs.Prelude.{List, Option, length, map};
-    ghost use Rattle.ndarray_layout.specs.Bounds.{IsInBounds};
     ghost use Rattle.nd_lent.specs.Items.{item_at_place};
+    ghost use Rattle.nd_lent.specs.Read.{AreRead};
 
     ghost Value = { List (Option T) };
 
-    ghost view = { λ items. map (item_at_place items.stored.now) items.places };
+    ghost view = { λ items. map (item_at_place items.reader.items) items.places };
 
-    ghost invariant = { λ items. All (IsInBounds (length items.stored.now)) items.places };
+    ghost invariant = { λ items. AreRead items.reader.marks (length items.reader.items) items.places };
 }
 
 impl<'a, T> Iter<'a, T> {
-    /// The items at places. The caller ensures that each is one of these items.
+    /// The items of all indices of a view, in row-major order. The caller ensures that each place of it has an item.
     ///
-    /// The places 1 and 0 of 7 8 9: 8 7. The project's own.
-    pub fn new(stored: &'a [T], places: Places<'a>) -> Self
-        requires { All (IsInBounds (length stored.now)) places }
-        ensures { result ≡ map (item_at_place stored.now) places.entry }
+    /// `[2]`, `[-1]` from 1 over 7 8 9: 8 7. The project's own.
+    pub fn new<D: Lengths>(view: &'a Strided<D>, items: &'a [T]) -> Self
+        requires { HasItems (length items.now) view.now }
+        ensures { result ≡ map (item_at_place items.now) (view_places RowMajor view.now) }
     {
-        Iter { stored, places }
+        Iter {
+            reader: Reader::of_slice(items),
+            places: view.iter_places(Order::RowMajor),
+        }
+    }
+
+    /// The items at places, which the caller ensures to have marks.
+    pub(crate) fn of_reader(reader: Reader<'a, T>, places: Places<'a>) -> Self
+        requires { AreRead reader.marks (length reader.items) places }
+        ensures { result ≡ map (item_at_place reader.entry.items) places.entry }
+    {
+        Iter { reader, places }
     }
 
     /// The items that come next and lie evenly, at once: what is left of the row in progress, or else the next row; `None` after
@@ -58,7 +69,7 @@ impl<'a, T> Iter<'a, T> {
     {
         let row = self.places.next_row()?;
         Some(LentRow {
-            items: self.stored,
+            reader: self.reader.copied(),
             row,
         })
     }
@@ -72,7 +83,7 @@ impl<'a, T> Iter<'a, T> {
     {
         let row = self.places.next_row_back()?;
         Some(LentRow {
-            items: self.stored,
+            reader: self.reader.copied(),
             row,
         })
     }
@@ -110,8 +121,7 @@ impl<'a, T> Iterator for Iter<'a, T> {
     #[inline]
     fn next(&mut self) -> Option<&'a T> {
         let place = self.places.next()?;
-        let stored = self.stored;
-        Some(&stored[place])
+        Some(self.reader.get(place))
     }
 
     fn size_hint(&self) -> (usize, Option<usize>)
@@ -129,8 +139,7 @@ impl<'a, T> DoubleEndedIterator for Iter<'a, T> {
     #[inline]
     fn next_back(&mut self) -> Option<&'a T> {
         let place = self.places.next_back()?;
-        let stored = self.stored;
-        Some(&stored[place])
+        Some(self.reader.get(place))
     }
 }
 
@@ -157,6 +166,6 @@ impl<'a, T, D: Lengths> ArrayView<'a, T, D> {
             (YieldsFirstBy (λ (item : Bor T). Some item.now) (λ (left : List (Option T)). left))
             (λ turns. ItemsMapTo turns (λ (item : Bor T). Some item.now) turns.from) }
     {
-        Iter::new(self.stored(), self.strided().iter_places(Order::RowMajor))
+        Iter::of_reader(self.reader(), self.strided().iter_places(Order::RowMajor))
     }
 }

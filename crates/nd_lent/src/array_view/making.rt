@@ -10,8 +10,10 @@ ghost use Rattle.ndarray_layout.specs.ShapeBuilder.{custom_strides, strides_list
 ghost use Rattle.ndarray_layout.specs.ShapeFault.{shape_fault};
 ghost use Rattle.nd_lent.specs.ArrayView.{HasItems};
 ghost use Rattle.nd_lent.specs.Items.{view_from_0};
+ghost use Rattle.nd_lent.specs.Read.{IsRead};
 
 use crate::array_view::ArrayView;
+use crate::cells::Reader;
 use ndarray_layout::{CanIndexCheckMode, LayoutError, Lengths, ShapeError, StrideShape, Strided};
 use std::alloc::Global;
 
@@ -24,7 +26,30 @@ impl<'a, T, D: Lengths> ArrayView<'a, T, D> {
         ensures items { result.items ≡ items.now }
         ensures view { result.view ≡ view }
     {
-        ArrayView { items, view }
+        ArrayView::laid(view, items)
+    }
+
+    /// The array of a view over items. The caller ensures that each place of it has one.
+    #[inline]
+    fn laid(view: Strided<D>, items: &'a [T]) -> Self
+        requires { HasItems (length items.now) view }
+        ensures items { result.items ≡ items.now }
+        ensures view { result.view ≡ view }
+    {
+        ArrayView {
+            reader: Reader::of_slice(items),
+            view,
+        }
+    }
+
+    /// The array of a view over items that are read by their places. The caller ensures that each place of it has one.
+    #[inline]
+    pub(crate) fn of_reader(reader: Reader<'a, T>, view: Strided<D>) -> Self
+        requires { IsRead reader.marks (length reader.items) view }
+        ensures items { result.items ≡ reader.entry.items }
+        ensures view { result.view ≡ view }
+    {
+        ArrayView { reader, view }
     }
 
     /// The array of a shape, by its own strides or by given ones, over items.
@@ -56,7 +81,7 @@ impl<'a, T, D: Lengths> ArrayView<'a, T, D> {
     {
         let len = items.len();
         let view = Strided::from_shape(alloc, shape, 1, len, CanIndexCheckMode::ReadOnly)?;
-        Ok(ArrayView { items, view })
+        Ok(ArrayView::laid(view, items))
     }
 
     /// The array of a view over items, which may be fewer than those that the view was made for.
@@ -78,6 +103,6 @@ impl<'a, T, D: Lengths> ArrayView<'a, T, D> {
     {
         let start = view.start();
         let view = view.moved_to(start, 1, items.len(), CanIndexCheckMode::ReadOnly)?;
-        Ok(ArrayView { items, view })
+        Ok(ArrayView::laid(view, items))
     }
 }

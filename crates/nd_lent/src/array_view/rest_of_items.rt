@@ -7,26 +7,27 @@ ghost use Rattle.nd_lent.specs.Items.{item_at_place};
 ghost use Rattle.nd_lent.specs.LentRow.{row_items};
 
 use crate::array_view::{ArrayView, LentRow};
+use crate::cells::Reader;
 use ndarray_layout::{IntoPlaces, Lengths, Order};
 use std::marker::Model;
 
 /// The items of an array that are still to come, in row-major order of their indices, row by row. A contract sees the list of them.
 #[derive(Drop)]
 pub(crate) struct RestOfItems<'a, T, D: Lengths> {
-    items: &'a [T],
+    reader: Reader<'a, T>,
     places: IntoPlaces<D>,
 }
 
 impl<'a, T, D: Lengths> Model for RestOfItems<'a, T, D> {
     ghost use Rattle.std.specs.Prelude.{List, Option, length, map};
     ghost use Rattle.nd_lent.specs.Items.{item_at_place};
-    ghost use Rattle.nd_lent.specs.LentPlaces.{ArePlacesOf};
+    ghost use Rattle.nd_lent.specs.Read.{ArePlacesRead};
 
     ghost Value = { List (Option T) };
 
-    ghost view = { λ left. map (item_at_place left.items.now) left.places };
+    ghost view = { λ left. map (item_at_place left.reader.items) left.places };
 
-    ghost invariant = { λ left. ArePlacesOf (length left.items.now) left.places };
+    ghost invariant = { λ left. ArePlacesRead left.reader.marks (length left.reader.items) left.places };
 }
 
 impl<'a, T, D: Lengths> RestOfItems<'a, T, D> {
@@ -35,9 +36,9 @@ impl<'a, T, D: Lengths> RestOfItems<'a, T, D> {
     pub(super) fn new(array: ArrayView<'a, T, D>) -> Self
         ensures { result ≡ map (item_at_place array.entry.items) (view_places RowMajor array.entry.view) }
     {
-        let ArrayView { items, view } = array;
+        let ArrayView { reader, view } = array;
         RestOfItems {
-            items,
+            reader,
             places: view.into_places(Order::RowMajor),
         }
     }
@@ -70,8 +71,7 @@ impl<'a, T, D: Lengths> RestOfItems<'a, T, D> {
         ensures { YieldsFirstBy (λ item. Some item.now) (λ left. left) self.old result self.new }
     {
         let place = self.places.next()?;
-        let items = self.items;
-        Some(&items[place])
+        Some(self.reader.get(place))
     }
 
     /// The last item.
@@ -80,8 +80,7 @@ impl<'a, T, D: Lengths> RestOfItems<'a, T, D> {
         ensures { YieldsLastBy (λ item. Some item.now) (λ left. left) self.old result self.new }
     {
         let place = self.places.next_back()?;
-        let items = self.items;
-        Some(&items[place])
+        Some(self.reader.get(place))
     }
 
     /// The row that comes next; `None` after the last item.
@@ -92,7 +91,7 @@ impl<'a, T, D: Lengths> RestOfItems<'a, T, D> {
     {
         let row = self.places.next_row()?;
         Some(LentRow {
-            items: self.items,
+            reader: self.reader.copied(),
             row,
         })
     }
@@ -105,7 +104,7 @@ impl<'a, T, D: Lengths> RestOfItems<'a, T, D> {
     {
         let row = self.places.next_row_back()?;
         Some(LentRow {
-            items: self.items,
+            reader: self.reader.copied(),
             row,
         })
     }

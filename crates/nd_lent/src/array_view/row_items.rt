@@ -7,6 +7,7 @@ ghost use Rattle.std.specs.Prelude.{◌≡◌, ◌-◌, ◌<◌, [], IfSome, Lis
 ghost use Rattle.nd_lent.specs.LentRow.{row_items};
 
 use crate::array_view::{LentRow, place_in_row};
+use crate::cells::Reader;
 use ndarray_layout::Row;
 use std::iter::FusedIterator;
 use std::marker::Model;
@@ -15,7 +16,7 @@ use std::marker::Model;
 /// them. ndarray's `Iter` of a row.
 #[derive(Drop)]
 pub struct RowItems<'a, T> {
-    items: &'a [T],
+    reader: Reader<'a, T>,
     row: Row,
     // The coordinate that comes next, and the one after the last that is left.
     begun: usize,
@@ -25,13 +26,15 @@ pub struct RowItems<'a, T> {
 impl<'a, T> Model for RowItems<'a, T> {
     ghost use Rattle.std.specs.Prelude.{List, Option, length};
     ghost use Rattle.nd_lent.specs.LentRow.{row_of};
-    ghost use Rattle.nd_lent.specs.RowItemsLeft.{HasRowLeft, row_items_left};
+    ghost use Rattle.nd_lent.specs.Read.{IsRowLeftRead};
+    ghost use Rattle.nd_lent.specs.RowItemsLeft.{row_items_left};
 
     ghost Value = { List (Option T) };
 
-    ghost view = { λ left. row_items_left (row_of left.items.now left.row) left.begun left.end };
+    ghost view = { λ left. row_items_left (row_of left.reader.items left.row) left.begun left.end };
 
-    ghost invariant = { λ left. HasRowLeft (length left.items.now) left.row left.begun left.end };
+    ghost invariant = { λ left.
+        IsRowLeftRead left.reader.marks (length left.reader.items) left.row left.begun left.end };
 }
 
 impl<'a, T> RowItems<'a, T> {
@@ -51,7 +54,7 @@ impl<'a, T> RowItems<'a, T> {
         };
         self.begun = self.end;
         Some(LentRow {
-            items: self.items,
+            reader: self.reader.copied(),
             row,
         })
     }
@@ -97,7 +100,7 @@ impl<'a, T> Iterator for RowItems<'a, T> {
             return None;
         }
         let row = LentRow {
-            items: self.items,
+            reader: self.reader.copied(),
             row: self.row,
         };
         let item = row.item(self.begun);
@@ -126,7 +129,7 @@ impl<'a, T> DoubleEndedIterator for RowItems<'a, T> {
         }
         self.end -= 1;
         let row = LentRow {
-            items: self.items,
+            reader: self.reader.copied(),
             row: self.row,
         };
         Some(row.item(self.end))
@@ -158,9 +161,9 @@ impl<'a, T> IntoIterator for LentRow<'a, T> {
 
     #[inline]
     fn into_iter(self) -> RowItems<'a, T> {
-        let LentRow { items, row } = self;
+        let LentRow { reader, row } = self;
         RowItems {
-            items,
+            reader,
             row,
             begun: 0,
             end: row.len,

@@ -7,14 +7,16 @@ ghost use Rattle.std.specs.List.Sorted.{IsPermutation};
 ghost use Rattle.std.specs.Prelude.{◌≡◌, ◌<◌, ◌^◌, ◌↔◌, ◌+ℤ◌, ◌*ℤ◌, pos, None, IfSome, IsSome, IsTrue, List, Some, length, map, option_copied, reverse, slice_index_or};
 ghost use Rattle.ndarray_layout.specs.declared.Order.TheVariants.{RowMajor};
 ghost use Rattle.ndarray_layout.specs.Bounds.{IsInBounds};
-ghost use Rattle.ndarray_layout.specs.Rows.{view_rows};
+ghost use Rattle.ndarray_layout.specs.Rows.{rows_places, view_rows};
 ghost use Rattle.ndarray_layout.specs.View.{view_places};
 ghost use Rattle.nd_lent.specs.Backwards.{is_backwards};
-ghost use Rattle.nd_lent.specs.LentRow.{HasRow, RowValue, is_contiguous, row_items, row_of, rows_items};
+ghost use Rattle.nd_lent.specs.LentRow.{RowValue, is_contiguous, row_items, row_of, rows_items};
 ghost use Rattle.nd_lent.specs.Items.{item_at_place};
+ghost use Rattle.nd_lent.specs.Read.{AreRowsRead};
 ghost use Rattle.nd_lent.specs.RowsLeft.{row_array};
 
 use crate::array_view::ArrayView;
+use crate::cells::Reader;
 use crate::nearest::nearest_rows;
 use ndarray_layout::{Ix1, Ix6, Lengths, Order, Row, Rows, Strided};
 use std::iter::FusedIterator;
@@ -24,19 +26,20 @@ use std::marker::Model;
 /// `ArrayView`.
 #[derive(Drop)]
 pub struct LentRow<'a, T> {
-    pub(crate) items: &'a [T],
+    pub(crate) reader: Reader<'a, T>,
     pub(crate) row: Row,
 }
 
 impl<'a, T> Model for LentRow<'a, T> {
     ghost use Rattle.std.specs.Prelude.{length};
-    ghost use Rattle.nd_lent.specs.LentRow.{HasRow, RowValue, row_of};
+    ghost use Rattle.nd_lent.specs.LentRow.{RowValue, row_of};
+    ghost use Rattle.nd_lent.specs.Read.{IsRowRead};
 
     ghost Value = { RowValue T };
 
-    ghost view = { λ row. row_of row.items.now row.row };
+    ghost view = { λ row. row_of row.reader.items row.row };
 
-    ghost invariant = { λ row. HasRow (length row.items.now) row.row };
+    ghost invariant = { λ row. IsRowRead row.reader.marks (length row.reader.items) row.row };
 }
 
 /// The place of a coordinate of a row. The caller ensures that neither it nor the first place is past an `isize`.
@@ -76,11 +79,11 @@ impl<'a, T> LentRow<'a, T> {
         ensures found { IsSome result ↔ IsTrue (is_contiguous self.now.row) }
         ensures items { IfSome result (λ slice. map Some slice.now ≡ row_items self.now) }
     {
-        let (items, row) = (self.items, self.row);
+        let row = self.row;
         if !is_contiguous(row) {
             return None;
         }
-        Some(&items[row.start..row.start + row.len])
+        Some(self.reader.slice(row.start, row.len))
     }
 
     /// The row as all of a slice, where the items follow one another; else `None`.
@@ -96,7 +99,10 @@ impl<'a, T> LentRow<'a, T> {
             stride: 1,
             len,
         };
-        Some(LentRow { items, row })
+        Some(LentRow {
+            reader: Reader::of_slice(items),
+            row,
+        })
     }
 
     /// The items as a slice, the last one first, where each lies just before the one that it follows: by the stride -1; else `None`.
@@ -107,12 +113,11 @@ impl<'a, T> LentRow<'a, T> {
         ensures found { IsSome result ↔ IsTrue (is_backwards self.now.row) }
         ensures items { IfSome result (λ slice. reverse (map Some slice.now) ≡ row_items self.now) }
     {
-        let (items, row) = (self.items, self.row);
+        let row = self.row;
         if row.stride != -1 {
             return None;
         }
-        let end = row.start + 1;
-        Some(&items[end - row.len..end])
+        Some(self.reader.slice(row.start + 1 - row.len, row.len))
     }
 
     /// The row as an array of one axis.
@@ -124,9 +129,9 @@ impl<'a, T> LentRow<'a, T> {
     pub fn into_array(self) -> ArrayView<'a, T, Ix1>
         ensures { result ≡ row_array self.entry.items self.entry.row }
     {
-        let LentRow { items, row } = self;
+        let LentRow { reader, row } = self;
         ArrayView {
-            items,
+            reader,
             view: row.layout(),
         }
     }
@@ -137,8 +142,7 @@ impl<'a, T> LentRow<'a, T> {
         requires { coordinate < self.now.row.len }
         ensures { slice_index_or (row_items self.now) coordinate None ≡ Some result.now }
     {
-        let (items, row) = (self.items, self.row);
-        &items[place_in_row(row, coordinate)]
+        self.reader.get(place_in_row(self.row, coordinate))
     }
 
     /// The item of a coordinate; `None` where it is past the row.
@@ -159,29 +163,29 @@ impl<'a, T> LentRow<'a, T> {
 /// The rows of an array that are still to come, in row-major order, from both ends, each lent. A contract sees the list of them.
 #[derive(Drop)]
 pub struct LentRows<'a, T> {
-    items: &'a [T],
+    reader: Reader<'a, T>,
     rows: Rows<'a>,
 }
 
 impl<'a, T> Model for LentRows<'a, T> {
-    ghost use Rattle.std.specs.List.{All};
     ghost use Rattle.std.specs.Prelude.{List, length, map};
-    ghost use Rattle.nd_lent.specs.LentRow.{HasRow, RowValue, row_of};
+    ghost use Rattle.nd_lent.specs.LentRow.{RowValue, row_of};
+    ghost use Rattle.nd_lent.specs.Read.{AreRowsRead};
 
     ghost Value = { List (RowValue T) };
 
-    ghost view = { λ rows. map (row_of rows.items.now) rows.rows };
+    ghost view = { λ rows. map (row_of rows.reader.items) rows.rows };
 
-    ghost invariant = { λ rows. All (HasRow (length rows.items.now)) rows.rows };
+    ghost invariant = { λ rows. AreRowsRead rows.reader.marks (length rows.reader.items) rows.rows };
 }
 
 impl<'a, T> LentRows<'a, T> {
     /// These rows, each lent. The caller ensures that each has an item at each place.
-    pub(crate) fn new(items: &'a [T], rows: Rows<'a>) -> Self
-        requires { All (HasRow (length items.now)) rows }
-        ensures { result ≡ map (row_of items.now) rows.entry }
+    pub(crate) fn new(reader: Reader<'a, T>, rows: Rows<'a>) -> Self
+        requires { AreRowsRead reader.marks (length reader.items) rows }
+        ensures { result ≡ map (row_of reader.entry.items) rows.entry }
     {
-        LentRows { items, rows }
+        LentRows { reader, rows }
     }
 }
 
@@ -196,7 +200,7 @@ impl<'a, T> Iterator for LentRows<'a, T> {
     fn next(&mut self) -> Option<LentRow<'a, T>> {
         let row = self.rows.next()?;
         Some(LentRow {
-            items: self.items,
+            reader: self.reader.copied(),
             row,
         })
     }
@@ -217,7 +221,7 @@ impl<'a, T> DoubleEndedIterator for LentRows<'a, T> {
     fn next_back(&mut self) -> Option<LentRow<'a, T>> {
         let row = self.rows.next_back()?;
         Some(LentRow {
-            items: self.items,
+            reader: self.reader.copied(),
             row,
         })
     }
@@ -237,7 +241,7 @@ impl<'a, T, D: Lengths> ArrayView<'a, T, D> {
         ensures { rows_items result
             ≡ map (item_at_place self.now.items) (view_places RowMajor self.now.view) }
     {
-        LentRows::new(self.stored(), self.strided().joined_rows(Order::RowMajor))
+        LentRows::new(self.reader(), self.strided().joined_rows(Order::RowMajor))
     }
 
     /// The items of all indices as the rows of the nearest view, or as `joined_rows` where there is none.
@@ -247,7 +251,7 @@ impl<'a, T, D: Lengths> ArrayView<'a, T, D> {
         ensures { IsPermutation (rows_items result)
             (map (item_at_place self.now.items) (view_places RowMajor self.now.view)) }
     {
-        LentRows::new(self.stored(), nearest_rows(self.strided(), nearest))
+        LentRows::new(self.reader(), nearest_rows(self.strided(), nearest))
     }
 
     /// An iterator over the rows along the last axis, in row-major order, from both ends, which knows how many are left. Each is
@@ -263,6 +267,6 @@ impl<'a, T, D: Lengths> ArrayView<'a, T, D> {
         ensures in_order { YieldsInOrder
             (YieldsFirst (λ (left : List (RowValue T)). left)) (λ left. left) }
     {
-        LentRows::new(self.stored(), self.strided().rows(Order::RowMajor))
+        LentRows::new(self.reader(), self.strided().rows(Order::RowMajor))
     }
 }

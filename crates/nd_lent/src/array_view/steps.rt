@@ -22,11 +22,13 @@ ghost use Rattle.ndarray_layout.specs.SliceFault.{out_count};
 ghost use Rattle.ndarray_layout.specs.SlicedView.{slice_of, view_slice_fault};
 ghost use Rattle.ndarray_layout.specs.SplitView.{split_fault, first_part_of, second_part_of, second_source};
 ghost use Rattle.ndarray_layout.specs.WindowsView.{window_source, windows_fault, windows_of};
+ghost use Rattle.ndarray_layout.specs.TypedView.{count_fault};
 ghost use Rattle.nd_lent.specs.ArrayOfStep.{IsArrayOfStep};
 
 use crate::array_view::ArrayView;
 use ndarray_layout::{
     Axis, Dimension, Fit, Ix1, LayoutError, Lengths, Order, RemoveAxis, ShapeError, SliceElems,
+    Strided,
 };
 use std::alloc::Global;
 
@@ -34,8 +36,9 @@ impl<'a, T, D: Lengths> ArrayView<'a, T, D> {
     /// The array of the items that a slice argument leaves: `Strided::slice`, with its errors.
     ///
     /// `1..` of `[3]` over 7 8 9: 8 9. ndarray's `slice`.
+    #[tactic(auto, using(crate::proofs::Read::read_step))]
     #[inline]
-    pub fn slice<E: Lengths, S: SliceElems>(
+    pub fn slice_with<E: Lengths, S: SliceElems>(
         &self,
         alloc: Global,
         slices: &S,
@@ -50,7 +53,7 @@ impl<'a, T, D: Lengths> ArrayView<'a, T, D> {
             (slice_of fit (S.list slices.now)) self.now) }
     {
         let view = self.view.slice(alloc, slices, fit)?;
-        Ok(ArrayView::new(view, self.items))
+        Ok(ArrayView::of_reader(self.reader.copied(), view))
     }
 
     /// Reduces an axis to one of its coordinates: `Strided::collapse`, with its errors; the array is unchanged after one.
@@ -80,16 +83,18 @@ impl<'a, T, D: Lengths> ArrayView<'a, T, D> {
     /// The transpose: `Strided::reversed_axes`.
     ///
     /// (2,1) of the result is (1,2) of the array. ndarray's `reversed_axes`.
+    #[tactic(auto, using(crate::proofs::Read::read_step))]
     pub fn reversed_axes(self) -> Self
         ensures { IsArrayOfStep Descends reverse reversed_of self.entry result }
     {
-        let ArrayView { items, view } = self;
-        ArrayView::new(view.reversed_axes(), items)
+        let ArrayView { reader, view } = self;
+        ArrayView::of_reader(reader, view.reversed_axes())
     }
 
     /// The axes in another order: `Strided::permuted_axes`, with its errors.
     ///
     /// ndarray's `permuted_axes`.
+    #[tactic(auto, using(crate::proofs::Read::read_step))]
     pub fn permuted_axes(&self, alloc: Global, axes: &[Axis]) -> Result<Self, LayoutError>
         ensures fault { shape_fault result ≡
             permute_fault self.now.view.shape (axis_numbers axes.now) }
@@ -99,7 +104,7 @@ impl<'a, T, D: Lengths> ArrayView<'a, T, D> {
             (permute_source (axis_numbers axes.now)) (permuted_of (axis_numbers axes.now)) self.now) }
     {
         let view = self.view.permuted_axes(alloc, axes)?;
-        Ok(ArrayView::new(view, self.items))
+        Ok(ArrayView::of_reader(self.reader.copied(), view))
     }
 
     /// Reverses an axis: `Strided::invert_axis`, with its errors; the array is unchanged after one.
@@ -134,6 +139,7 @@ impl<'a, T, D: Lengths> ArrayView<'a, T, D> {
     /// The same items along another shape, in an order: `Strided::reshape`, with its errors.
     ///
     /// ndarray's `to_shape` where it copies nothing.
+    #[tactic(auto, using(crate::proofs::Read::read_step))]
     pub fn reshape<E: Lengths>(
         &self,
         alloc: Global,
@@ -153,12 +159,13 @@ impl<'a, T, D: Lengths> ArrayView<'a, T, D> {
             (reshape_of order (E.list shape.now)) self.now) }
     {
         let view = self.view.reshape(alloc, shape, order)?;
-        Ok(ArrayView::new(view, self.items))
+        Ok(ArrayView::of_reader(self.reader.copied(), view))
     }
 
     /// The array of a shape that this one can be broadcast to: `Strided::broadcast`, with its errors.
     ///
     /// `[1]` over 7 to `[3]`: 7 7 7. ndarray's `broadcast`.
+    #[tactic(auto, using(crate::proofs::Read::read_view))]
     pub fn broadcast<E: Lengths>(
         &self,
         alloc: Global,
@@ -172,12 +179,13 @@ impl<'a, T, D: Lengths> ArrayView<'a, T, D> {
             (broadcast_source self.now.view.shape) (broadcast_of (E.list shape.now)) self.now) }
     {
         let view = self.view.broadcast(alloc, shape)?;
-        Ok(ArrayView::new(view, self.items))
+        Ok(ArrayView::of_reader(self.reader.copied(), view))
     }
 
     /// All windows of a shape, as one array: `Strided::windows`, with its errors.
     ///
     /// Windows of `[2]` of `[3]` over 7 8 9: 7 8 and 8 9. ndarray's `windows`.
+    #[tactic(auto, using(crate::proofs::Read::read_view))]
     pub fn windows<E: Lengths>(
         &self,
         alloc: Global,
@@ -191,12 +199,13 @@ impl<'a, T, D: Lengths> ArrayView<'a, T, D> {
             (window_source (length self.now.view.shape)) (windows_of (D.list window.now)) self.now) }
     {
         let view = self.view.windows(alloc, window)?;
-        Ok(ArrayView::new(view, self.items))
+        Ok(ArrayView::of_reader(self.reader.copied(), view))
     }
 
     /// All chunks of a shape that lie side by side, as one array: `Strided::exact_chunks`, with its errors.
     ///
     /// Chunks of `[2]` of `[5]` over 5 6 7 8 9: 5 6 and 7 8. ndarray's `exact_chunks`.
+    #[tactic(auto, using(crate::proofs::Read::read_step))]
     pub fn exact_chunks<E: Lengths>(
         &self,
         alloc: Global,
@@ -210,22 +219,41 @@ impl<'a, T, D: Lengths> ArrayView<'a, T, D> {
             (chunk_source (D.list chunk.now)) (chunks_of (D.list chunk.now)) self.now) }
     {
         let view = self.view.exact_chunks(alloc, chunk)?;
-        Ok(ArrayView::new(view, self.items))
+        Ok(ArrayView::of_reader(self.reader.copied(), view))
     }
 
     /// The items of the indices with the same coordinate on each axis: `Strided::diag`.
     ///
     /// ndarray's `diag`.
+    #[tactic(auto, using(crate::proofs::Read::read_step))]
     pub fn diag(&self) -> ArrayView<'a, T, Ix1>
         ensures { IsArrayOfStep Descends
             (diagonal_source (length self.now.view.shape)) diagonal_of self.now result }
     {
-        ArrayView::new(self.view.diag(), self.items)
+        ArrayView::of_reader(self.reader.copied(), self.view.diag())
+    }
+
+    /// The array with a dimension of another type: `Strided::into_dimensionality`, with its errors.
+    ///
+    /// `[2,3]` at `IxDyn` becomes the same at `Ix2`. ndarray's `into_dimensionality`.
+    pub fn into_dimensionality<E: Lengths>(
+        self,
+        alloc: Global,
+    ) -> Result<ArrayView<'a, T, E>, LayoutError>
+        ensures fault { shape_fault result ≡ count_fault E.NDIM (length self.entry.view.shape) }
+        ensures memory { shape_fault result ≡ None →
+            NeedsNoMemory E.NDIM (length self.entry.view.shape) → IsOk result }
+        ensures array { IfOk result (λ a. a ≡ self.entry) }
+    {
+        let ArrayView { reader, view } = self;
+        let view = view.into_dimensionality(alloc)?;
+        Ok(ArrayView::of_reader(reader, view))
     }
 
     /// The two parts along an axis: `Strided::split_at`, with its errors.
     ///
     /// Axis 0 of `[3]` over 7 8 9 at 1: 7, and 8 9. ndarray's `split_at`.
+    #[tactic(auto, using(crate::proofs::Read::read_step))]
     pub fn split_at(
         self,
         alloc: Global,
@@ -240,9 +268,12 @@ impl<'a, T, D: Lengths> ArrayView<'a, T, D> {
         ensures second { IfOk result (λ (first, second). IsArrayOfStep Descends
             (second_source axis.0 index) (second_part_of axis.0 index) self.entry second) }
     {
-        let ArrayView { items, view } = self;
+        let ArrayView { reader, view } = self;
         let (first, second) = view.split_at(alloc, axis, index)?;
-        Ok((ArrayView::new(first, items), ArrayView::new(second, items)))
+        Ok((
+            ArrayView::of_reader(reader.copied(), first),
+            ArrayView::of_reader(reader, second),
+        ))
     }
 }
 
@@ -250,6 +281,7 @@ impl<'a, T, D: Lengths + Copy> ArrayView<'a, T, D> {
     /// The items of the coordinates from `starts` to `ends`, one of each for each axis: `Strided::crop`.
     ///
     /// From (1) to (3) of `[3]` over 7 8 9: 8 9; to (4) `None`. In place of ndarray's `slice` by ranges.
+    #[tactic(auto, using(crate::proofs::Read::read_step))]
     #[inline]
     pub fn crop(&self, starts: &D, ends: &D) -> Option<Self>
         ensures found { IsSome result
@@ -259,7 +291,7 @@ impl<'a, T, D: Lengths + Copy> ArrayView<'a, T, D> {
             (cropped_of (D.list starts.now) (D.list ends.now)) self.now) }
     {
         let view = self.view.crop(starts, ends)?;
-        Some(ArrayView::new(view, self.items))
+        Some(ArrayView::of_reader(self.reader.copied(), view))
     }
 }
 
@@ -267,6 +299,7 @@ impl<'a, T, D: RemoveAxis> ArrayView<'a, T, D> {
     /// The items at one coordinate of an axis, without the axis: `Strided::index_axis`, with its errors.
     ///
     /// Coordinate 1 of axis 0 of `[2,3]`: the second row. ndarray's `index_axis`.
+    #[tactic(auto, using(crate::proofs::Read::read_step))]
     pub fn index_axis(
         &self,
         alloc: Global,
@@ -280,7 +313,7 @@ impl<'a, T, D: RemoveAxis> ArrayView<'a, T, D> {
             (index_source axis.0 index) (indexed_of axis.0 index) self.now) }
     {
         let view = self.view.index_axis(alloc, axis, index)?;
-        Ok(ArrayView::new(view, self.items))
+        Ok(ArrayView::of_reader(self.reader.copied(), view))
     }
 }
 
@@ -288,6 +321,7 @@ impl<'a, T, D: Dimension> ArrayView<'a, T, D> {
     /// The array with a new axis of length 1: `Strided::insert_axis`, with its errors.
     ///
     /// ndarray's `insert_axis`.
+    #[tactic(auto, using(crate::proofs::Read::read_step))]
     pub fn insert_axis(
         &self,
         alloc: Global,
@@ -300,6 +334,6 @@ impl<'a, T, D: Dimension> ArrayView<'a, T, D> {
             (insert_source axis.0) (inserted_of axis.0) self.now) }
     {
         let view = self.view.insert_axis(alloc, axis)?;
-        Ok(ArrayView::new(view, self.items))
+        Ok(ArrayView::of_reader(self.reader.copied(), view))
     }
 }

@@ -1,4 +1,4 @@
-//! Axes of items that are lent to be written: reversed and swapped in place, or other views with one more, fewer or shorter
+//! Axes of a part: reversed and swapped in place, or other views with one more, fewer or shorter
 //! ones, each made as that of its layout is.
 ghost use Rattle.std.specs.List.{swap};
 ghost use Rattle.std.specs.Prelude.{◌≡◌, ◌+◌, ◌↔◌, IsSome, IfOk, IfSome, IsOk, None, OnErr, OnOk, length};
@@ -18,9 +18,9 @@ use ndarray_layout::{Axis, Dimension, Ix1, LayoutError, Lengths, ShapeError};
 use std::alloc::Global;
 
 impl<'a, T: Drop, D: Lengths> ArrayViewMut<'a, T, D> {
-    ghost use Rattle.nd_lent.specs.Lender.{array_of};
+    ghost use Rattle.nd_lent.specs.Lent.{array_of};
 
-    /// Reverses an axis: `Strided::invert_axis`, with its errors; the array is unchanged after one. No item is written.
+    /// Reverses an axis: `Strided::invert_axis`, with its errors; the part is unchanged after one. No item is written.
     ///
     /// Axis 0 of `[3]` over 7 8 9: 9 8 7. ndarray's `invert_axis`.
     pub fn invert_axis(&mut self, axis: Axis) -> Result<(), ShapeError>
@@ -29,12 +29,12 @@ impl<'a, T: Drop, D: Lengths> ArrayViewMut<'a, T, D> {
         ensures array { OnOk result (IsArrayOfStep Descends
             (invert_source axis.0 (array_of self.old).view.shape) (inverted_of axis.0)
             (array_of self.old) (array_of self.new)) }
-        ensures same_reference { self.new.items.ghost_name ≡ self.old.items.ghost_name }
+        ensures same_right { self.new.cells.name ≡ self.old.cells.name }
     {
         self.view.invert_axis(axis)
     }
 
-    /// Swaps two axes: `Strided::swap_axes`, with its errors; the array is unchanged after one. No item is written.
+    /// Swaps two axes: `Strided::swap_axes`, with its errors; the part is unchanged after one. No item is written.
     ///
     /// ndarray's `swap_axes`.
     pub fn swap_axes(&mut self, axis: Axis, other: Axis) -> Result<(), ShapeError>
@@ -44,7 +44,7 @@ impl<'a, T: Drop, D: Lengths> ArrayViewMut<'a, T, D> {
         ensures array { OnOk result (IsArrayOfStep Descends
             (λ index. swap index axis.0 other.0) (swapped_of axis.0 other.0)
             (array_of self.old) (array_of self.new)) }
-        ensures same_reference { self.new.items.ghost_name ≡ self.old.items.ghost_name }
+        ensures same_right { self.new.cells.name ≡ self.old.cells.name }
     {
         self.view.swap_axes(axis, other)
     }
@@ -52,49 +52,47 @@ impl<'a, T: Drop, D: Lengths> ArrayViewMut<'a, T, D> {
     /// The items of the indices with the same coordinate on each axis: `Strided::diag`.
     ///
     /// `[2,2]` over 5 6 7 8: 5 8. ndarray's `diag_mut`.
-    #[tactic(auto, using(crate::proofs::Laws::OwnedViews::owned_descendant))]
+    #[tactic(auto, using(crate::proofs::Laws::Marks::part_descendant))]
     pub fn diag(self) -> ArrayViewMut<'a, T, Ix1>
         ensures array { IsArrayOfStep Descends
             (diagonal_source (length (array_of self.entry).view.shape)) diagonal_of
             (array_of self.entry) (array_of result) }
-        ensures same_reference { result.items.ghost_name ≡ self.entry.items.ghost_name }
+        ensures same_right { result.cells.name ≡ self.entry.cells.name }
     {
-        let ArrayViewMut { items, view } = self;
+        let ArrayViewMut { cells, view } = self;
         let view = view.diag();
-        ArrayViewMut::new(view, items)
+        ArrayViewMut::of_cells(cells, view)
     }
 }
 
 impl<'a, T: Drop, D: Lengths + Copy> ArrayViewMut<'a, T, D> {
-    ghost use Rattle.nd_lent.specs.Lender.{array_of};
+    ghost use Rattle.nd_lent.specs.Lent.{array_of};
 
     /// The items of the coordinates from `starts` to `ends`, one of each for each axis: `Strided::crop`.
     ///
     /// From (1) to (3) of `[3]` over 7 8 9: 8 9; to (4) `None`. In place of ndarray's `slice_move` by ranges.
-    #[inline]
-    #[tactic(auto, using(crate::proofs::Laws::OwnedViews::owned_descendant))]
+    #[tactic(auto, using(crate::proofs::Laws::Marks::part_descendant))]
     pub fn crop(self, starts: &D, ends: &D) -> Option<Self>
         ensures found { IsSome result
             ↔ RangesFit (array_of self.entry).view.shape (D.list starts.now) (D.list ends.now) }
         ensures array { IfSome result (λ a. IsArrayOfStep Descends
             (crop_source (D.list starts.now)) (cropped_of (D.list starts.now) (D.list ends.now))
             (array_of self.entry) (array_of a)) }
-        ensures same_reference { IfSome result (λ a.
-            a.items.ghost_name ≡ self.entry.items.ghost_name) }
+        ensures same_right { IfSome result (λ a. a.cells.name ≡ self.entry.cells.name) }
     {
-        let ArrayViewMut { items, view } = self;
+        let ArrayViewMut { cells, view } = self;
         let view = view.crop(starts, ends)?;
-        Some(ArrayViewMut::new(view, items))
+        Some(ArrayViewMut::of_cells(cells, view))
     }
 }
 
 impl<'a, T: Drop, D: Dimension> ArrayViewMut<'a, T, D> {
-    ghost use Rattle.nd_lent.specs.Lender.{array_of};
+    ghost use Rattle.nd_lent.specs.Lent.{array_of};
 
-    /// The array with a new axis of length 1: `Strided::insert_axis`, with its errors.
+    /// The part with a new axis of length 1: `Strided::insert_axis`, with its errors.
     ///
     /// ndarray's `insert_axis`.
-    #[tactic(auto, using(crate::proofs::Laws::OwnedViews::owned_descendant))]
+    #[tactic(auto, using(crate::proofs::Laws::Marks::part_descendant))]
     pub fn insert_axis(
         self,
         alloc: Global,
@@ -107,11 +105,10 @@ impl<'a, T: Drop, D: Dimension> ArrayViewMut<'a, T, D> {
             IsOk result }
         ensures array { IfOk result (λ a. IsArrayOfStep Descends
             (insert_source axis.0) (inserted_of axis.0) (array_of self.entry) (array_of a)) }
-        ensures same_reference { IfOk result (λ a.
-            a.items.ghost_name ≡ self.entry.items.ghost_name) }
+        ensures same_right { IfOk result (λ a. a.cells.name ≡ self.entry.cells.name) }
     {
-        let ArrayViewMut { items, view } = self;
+        let ArrayViewMut { cells, view } = self;
         let view = view.insert_axis(alloc, axis)?;
-        Ok(ArrayViewMut::new(view, items))
+        Ok(ArrayViewMut::of_cells(cells, view))
     }
 }

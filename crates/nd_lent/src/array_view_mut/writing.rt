@@ -1,59 +1,62 @@
-//! Writes to all items of an array.
-ghost use Rattle.std.specs.Prelude.{◌≡◌, ◌↔◌, IsOk, OnErr, OnOk, Some};
-ghost use Rattle.std.specs.Result.{result_err};
-ghost use Rattle.ndarray_layout.specs.declared.ErrorKind.TheVariants.{IncompatibleShape};
-ghost use Rattle.nd_lent.specs.HasItems.{HasItemsOf};
-ghost use Rattle.nd_lent.specs.Items.{item_at};
+//! Writes to all items of a part, and swaps of two.
+ghost use Rattle.std.specs.Prelude.{◌≡◌, ◌&&◌, Some, length};
+ghost use Rattle.ndarray_layout.specs.Indices.{is_index};
+ghost use Rattle.nd_lent.specs.HasItems.{HasItemsOf, with_swapped};
+ghost use Rattle.nd_lent.specs.Rights.{right_of};
 
-use crate::array_view::ArrayView;
 use crate::array_view_mut::ArrayViewMut;
-use ndarray_layout::{Lengths, ShapeError};
+use crate::array_view_mut::mapping::map_nearest;
+use ndarray_layout::{Lengths, NdIndex};
 
-impl<'a, T: Copy, D: Lengths> ArrayViewMut<'a, T, D> {
-    ghost use Rattle.nd_lent.specs.Lender.{array_of};
+impl<'a, T: Drop, D: Lengths> ArrayViewMut<'a, T, D> {
+    ghost use Rattle.nd_lent.specs.Lent.{array_of};
 
-    /// Writes an item at each index. Spare items are unchanged.
+    /// Swaps the items of two indices, and returns whether both are indices of the shape; else the part is unchanged.
     ///
-    /// Takes no memory. Goes over the items in the order in which they lie, as `map_in_place_nearest` does: a row whose items
-    /// follow one another is a loop over a slice; in others each index takes the time of its place.
+    /// `[2]`, `[2]` from 0 over 7 8 9: (0) and (1) make the items 9 8 7. ndarray's `swap`, which panics where one is no index.
+    pub fn swap<I: NdIndex<D>, J: NdIndex<D>>(&mut self, index: &I, other: &J) -> bool
+        ensures are_indices { result ≡
+            (is_index (array_of self.old).view.shape (I.index_list index.now)
+            && is_index (array_of self.old).view.shape (J.index_list other.now)) }
+        ensures swapped { array_of self.new ≡ with_swapped (array_of self.old)
+            (I.index_list index.now) (J.index_list other.now) }
+        ensures same_right { self.new.cells.name ≡ self.old.cells.name }
+        ensures same_marks { self.new.cells.marks ≡ self.old.cells.marks }
+        ensures same_right_of { right_of self.new.cells ≡ right_of self.old.cells }
+    {
+        match (self.view.place(index), self.view.place(other)) {
+            (Some(one), Some(other)) => {
+                self.cells.swap(one, other);
+                true
+            },
+            _ => false,
+        }
+    }
+}
+
+impl<'a, T: Drop + Copy, D: Lengths> ArrayViewMut<'a, T, D> {
+    ghost use Rattle.nd_lent.specs.Lent.{array_of};
+
+    /// Writes an item at each index. Other items are unchanged.
     ///
-    /// 5 to `a`: 5 5 9. ndarray's `fill`.
+    /// Takes no memory. Goes over the items in the order in which they lie, as `map_in_place_nearest` does.
+    ///
+    /// 5 to `[2]`, `[-1]` from 1 over 7 8 9: 5 5 9. ndarray's `fill`.
     pub fn fill(&mut self, item: T)
         ensures filled { HasItemsOf (λ index. Some item) (array_of self.old) (array_of self.new) }
-        ensures same_reference { self.new.items.ghost_name ≡ self.old.items.ghost_name }
+        ensures count { length (array_of self.new).items ≡ length (array_of self.old).items }
+        ensures same_right { self.new.cells.name ≡ self.old.cells.name }
+        ensures same_marks { self.new.cells.marks ≡ self.old.cells.marks }
+        ensures same_right_of { right_of self.new.cells ≡ right_of self.old.cells }
     {
-        self.map_in_place_nearest(
+        map_nearest(
+            &mut self.cells,
+            &self.view,
             |stored: &mut T|
                 ensures { stored.new ≡ item }
             {
                 *stored = item;
             },
         );
-    }
-
-    /// Writes at each index a copy of the item that another array of the same shape has there. Spare items are unchanged.
-    ///
-    /// Takes no memory. Goes over the items in the order in which they lie here, as `map_into_nearest` does.
-    ///
-    /// # Errors
-    ///
-    /// `IncompatibleShape` where the shapes differ; the items are unchanged. (A shape that can be broadcast is an error
-    /// too: `ArrayView::broadcast` comes first.)
-    ///
-    /// 5 6 to `a`: 6 5 9. ndarray's `assign`.
-    pub fn assign(&mut self, other: &ArrayView<'_, T, D>) -> Result<(), ShapeError>
-        ensures fits { IsOk result ↔ ((array_of self.old).view.shape ≡ other.now.view.shape) }
-        ensures fault { OnErr result (result_err result ≡ Some IncompatibleShape) }
-        ensures unchanged { OnErr result (array_of self.new ≡ array_of self.old) }
-        ensures assigned { OnOk result
-            (HasItemsOf (item_at other.now) (array_of self.old) (array_of self.new)) }
-        ensures same_reference { self.new.items.ghost_name ≡ self.old.items.ghost_name }
-    {
-        other.map_into_nearest(
-            self,
-            |item: &T|
-                ensures { result ≡ item.now }
-            { *item },
-        )
     }
 }

@@ -8,6 +8,7 @@ impl<'s, T> Reader<'s, T> {
     /// All elements of a slice. Takes no memory.
     ///
     /// Of 7 8 9, place 1 is 8. The project's own.
+    #[inline]
     pub(crate) fn of_slice(items: &'s [T]) -> Self
         ensures all { (result.items ≡ items.now) × (result.marks ≡ replicate (length items.now) true) }
     {
@@ -17,9 +18,23 @@ impl<'s, T> Reader<'s, T> {
         }
     }
 
+    /// The same elements, for a shorter time. Takes no memory.
+    ///
+    /// Of 7 8 9, place 1 of both is 8. The project's own.
+    #[inline]
+    pub(crate) fn lent(&self) -> Reader<'_, T>
+        ensures same { result ≡ self.now }
+    {
+        Reader {
+            first: self.first,
+            mark: PhantomData,
+        }
+    }
+
     /// The same elements once more, for as long. Takes no memory.
     ///
     /// Of 7 8 9, place 1 of both is 8. The project's own.
+    #[inline]
     pub(crate) fn copied(&self) -> Self
         ensures same { result ≡ self.now }
     {

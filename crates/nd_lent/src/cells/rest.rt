@@ -3,8 +3,8 @@ ghost use Rattle.std.specs.Prelude.{◌≡◌, length};
 ghost use Rattle.nd_lent.specs.Cells.{chosen_of, without};
 ghost use Rattle.nd_lent.specs.Part.{IsPart, marks_of};
 
+use crate::array_view_mut::ArrayViewMut;
 use crate::cells::{Cells, Taken};
-use crate::part::PartMut;
 use ndarray_layout::{Lengths, Strided};
 
 /// The items of a slice that no part has: `Whole::rest` has them all, `take` lends some as a part, and `put_back` brings them again.
@@ -23,7 +23,7 @@ impl<'a, T> Rest<'a, T> {
     /// in a thread. The caller ensures that each index has an item to itself, which no other part has. Takes no memory.
     ///
     /// `[2]`, `[2]` from 0 of 7 8 9: (0) of the part is 7, (1) is 9. The project's own.
-    pub fn take<D: Lengths>(&mut self, view: Strided<D>) -> (PartMut<'a, T, D>, Taken<'a, T>)
+    pub fn take<D: Lengths>(&mut self, view: Strided<D>) -> (ArrayViewMut<'a, T, D>, Taken<'a, T>)
         requires { IsPart self.old.cells.marks view }
         ensures items { (array_of result.0).items ≡ self.old.cells.items }
         ensures view { (array_of result.0).view ≡ view }
@@ -37,14 +37,14 @@ impl<'a, T> Rest<'a, T> {
         ensures part { result.1.part ≡ right_of result.0.cells }
     {
         let (cells, taken) = self.cells.lend_part(&view);
-        (PartMut { cells, view }, taken)
+        (ArrayViewMut { cells, view }, taken)
     }
 
     /// The part is put back: the rest holds its items as it left them, and the others as they were. The caller ensures that each part
     /// that was taken since was put back before. Takes no memory.
     ///
     /// `[2]`, `[2]` from 0 of 7 8 9 with 5 set at (1): 7 8 5. The project's own.
-    pub fn put_back<D: Lengths>(&mut self, part: PartMut<'a, T, D>, taken: Taken<'a, T>)
+    pub fn put_back<D: Lengths>(&mut self, part: ArrayViewMut<'a, T, D>, taken: Taken<'a, T>)
         requires rest { right_of self.old.cells ≡ taken.rest }
         requires part { right_of part.cells ≡ taken.part }
         ensures items { self.new.cells.items ≡

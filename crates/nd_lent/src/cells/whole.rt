@@ -2,15 +2,14 @@
 ghost use Rattle.std.specs.Prelude.{◌≡◌, length, replicate, true};
 ghost use Rattle.nd_lent.specs.Items.{IsOwned};
 
+use crate::array_view_mut::ArrayViewMut;
 use crate::cells::{Cells, Rest};
-use crate::part::PartMut;
 use ndarray_layout::{Lengths, Strided};
-use std::marker::PhantomData;
 use std::mem::replace;
 use std::slice::from_raw_parts_mut;
 
 /// A slice whose items are lent as a part. A proof knows what the slice holds once the part has come back, as `end` says; of a
-/// part that `PartMut::new` makes it doesn't.
+/// part that `ArrayViewMut::new` makes, and that is dropped, it doesn't.
 ///
 /// `[2]`, `[-1]` from 1 over 7 8 9: 5 written at (0) of the part that it lends makes the slice 7 5 9. The project's own.
 pub struct Whole<'a, T> {
@@ -46,7 +45,7 @@ impl<'a, T> Whole<'a, T> {
     /// Takes no memory.
     ///
     /// `[2]`, `[-1]` from 1 over 7 8 9: (0) of the part is 8, (1) is 7. The project's own.
-    pub fn lend<D: Lengths>(&mut self, view: Strided<D>) -> PartMut<'a, T, D>
+    pub fn lend<D: Lengths>(&mut self, view: Strided<D>) -> ArrayViewMut<'a, T, D>
         requires { IsOwned (length self.old.items.now) view }
         ensures items { (array_of result).items ≡ self.old.items.now }
         ensures view { (array_of result).view ≡ view }
@@ -55,14 +54,14 @@ impl<'a, T> Whole<'a, T> {
         ensures same_right { result.cells.name ≡ self.old.items.ghost_name }
     {
         let items = replace(&mut self.items, &mut []);
-        PartMut::of_all(Cells::all_of(items), view)
+        ArrayViewMut::new(view, items)
     }
 
     /// The part comes back: the slice holds what the part and all that was made of it left. The caller ensures that it is the
     /// part of all items, as `lend` returned it, or as `set` and `replace` left it. Takes no memory.
     ///
     /// `[2]`, `[-1]` from 1 over 7 8 9 with 5 set at (0): 7 5 9. The project's own.
-    pub fn end<D: Lengths>(&mut self, part: PartMut<'a, T, D>)
+    pub fn end<D: Lengths>(&mut self, part: ArrayViewMut<'a, T, D>)
         requires marks { part.cells.marks ≡ replicate self.old.len true }
         ensures items { self.new.items.now ≡ (array_of part.entry).items }
         ensures same_right { self.new.items.ghost_name ≡ part.entry.cells.name }
@@ -100,19 +99,6 @@ impl<'a, T> Whole<'a, T> {
 }
 
 impl<'a, T> Cells<'a, T> {
-    /// The right to all elements of a slice, under the name of its reference.
-    ///
-    /// Of 7 8 9: each of them. The project's own.
-    fn all_of(items: &'a mut [T]) -> Self
-        ensures all { (result.name ≡ items.entry.ghost_name) × (result.items ≡ items.old)
-            × (result.marks ≡ replicate (length items.old) true) }
-    {
-        Cells {
-            first: items.as_mut_ptr(),
-            mark: PhantomData,
-        }
-    }
-
     /// The elements as a slice again, under the same name. The caller ensures that each has a mark, and that there are so many.
     ///
     /// All 3 of 7 8 9: that slice. The project's own.
@@ -124,23 +110,12 @@ impl<'a, T> Cells<'a, T> {
     }
 }
 
-impl<'a, T, D: Lengths> PartMut<'a, T, D> {
-    ghost use Rattle.nd_lent.specs.Lent.{array_of};
-
-    /// The part of all items, by a view.
-    fn of_all(cells: Cells<'a, T>, view: Strided<D>) -> Self
-        requires { (cells.marks ≡ replicate (length cells.items) true) × IsOwned (length cells.items) view }
-        ensures array { ((array_of result).items ≡ cells.entry.items) × ((array_of result).view ≡ view) }
-        ensures same_right { result.cells ≡ cells.entry }
-    {
-        PartMut { cells, view }
-    }
-
+impl<'a, T, D: Lengths> ArrayViewMut<'a, T, D> {
     /// The right that a part has, without its view.
     pub(crate) fn into_cells(self) -> Cells<'a, T>
         ensures { result ≡ self.entry.cells }
     {
-        let PartMut { cells, view: _ } = self;
+        let ArrayViewMut { cells, view: _ } = self;
         cells
     }
 }

@@ -5,6 +5,8 @@ ghost use Rattle.ndarray_layout.specs.declared.CanIndexCheckMode.TheVariants.{Ow
 ghost use Rattle.ndarray_layout.specs.AcceptanceByStrides.{acceptance_by_strides};
 ghost use Rattle.ndarray_layout.specs.Memory.{NeedsNoMemory};
 ghost use Rattle.ndarray_layout.specs.ShapeBuilder.{custom_strides, strides_list};
+ghost use Rattle.ndarray_layout.specs.ShapeFault.{shape_fault};
+ghost use Rattle.ndarray_layout.specs.TypedView.{count_fault};
 ghost use Rattle.nd_owned.specs.Owned.{shape_fault_of};
 ghost use Rattle.nd_lent.specs.Items.{IsOwned, view_from_0};
 
@@ -48,5 +50,22 @@ impl<T: Drop, D: Lengths> OwnedArray<T, D> {
             Ok(view) => Ok(OwnedArray { items, view }),
             Err(fault) => Err((fault, items)),
         }
+    }
+
+    /// The array with a dimension of another type: `Strided::into_dimensionality`, with its errors.
+    ///
+    /// `[2,3]` at `IxDyn` becomes the same at `Ix2`. ndarray's `into_dimensionality`.
+    pub fn into_dimensionality<E: Lengths>(
+        self,
+        alloc: Global,
+    ) -> Result<OwnedArray<T, E>, LayoutError>
+        ensures fault { shape_fault result ≡ count_fault E.NDIM (length self.view.shape) }
+        ensures memory { shape_fault result ≡ None →
+            NeedsNoMemory E.NDIM (length self.view.shape) → IsOk result }
+        ensures array { IfOk result (λ a. a ≡ self) }
+    {
+        let OwnedArray { items, view } = self;
+        let view = view.into_dimensionality(alloc)?;
+        Ok(OwnedArray { items, view })
     }
 }

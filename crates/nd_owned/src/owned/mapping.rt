@@ -11,7 +11,7 @@ ghost use Rattle.nd_lent.specs.Mapped.{ActsAsAtMut, CallableOnEachMut, CallsMake
 ghost use Rattle.nd_lent.specs.Items.{IsOwned, item_at};
 
 use crate::owned::OwnedArray;
-use nd_lent::ArrayViewMut;
+use nd_lent::Whole;
 use ndarray_layout::{Fit, IxDyn, LayoutError, Lengths, SliceElems, Strided};
 use std::alloc::Global;
 
@@ -29,8 +29,10 @@ fn map_view<T: Drop, D: Lengths, F: FnMut(&mut T)>(stored: &mut [T], view: Strid
     ensures spare { KeepsSpare
         (record { items = stored.old; view = view }) (record { items = stored.new; view = view }) }
 {
-    let mut array = ArrayViewMut::new(view, stored);
-    array.map_in_place(f);
+    let mut whole = Whole::new(stored);
+    let mut part = whole.lend(view);
+    part.map_in_place(f);
+    whole.end(part);
 }
 
 impl<T: Drop, D: Lengths> OwnedArray<T, D> {

@@ -1,10 +1,10 @@
 //! Slices from ranges.
-ghost use Rattle.std.specs.Prelude.{◌≡◌, pos, Some, None};
+ghost use Rattle.std.specs.Prelude.{◌≡◌, ◌+◌, pos, Some, None};
 ghost use Rattle.std.specs.Range.{range_inclusive_start, range_inclusive_end};
 ghost use Rattle.nd_slice.specs.SliceBounds.{slice_with};
-ghost use Rattle.nd_slice.specs.SliceBounds.{end_after};
+ghost use Rattle.nd_slice.specs.SliceBounds.{end_after, last_bound, usize_bound};
 
-use super::Slice;
+use super::{LIMIT, Slice};
 use std::ops::{Range, RangeFrom, RangeFull, RangeInclusive, RangeTo, RangeToInclusive};
 
 impl From<RangeFull> for Slice {
@@ -86,5 +86,75 @@ impl From<RangeToInclusive<i32>> for Slice {
     #[inline]
     fn from(range: RangeToInclusive<i32>) -> Slice {
         Slice::to_inclusive(range.end as isize)
+    }
+}
+
+impl From<Range<usize>> for Slice {
+    ghost from_gives = { λ range slice. slice ≡ slice_with
+        (usize_bound range.start) (Some (usize_bound range.end)) (pos 1) };
+
+    #[inline]
+    fn from(range: Range<usize>) -> Slice {
+        Slice::of_usize(range.start.min(LIMIT), range.end.min(LIMIT))
+    }
+}
+
+impl From<RangeFrom<usize>> for Slice {
+    ghost from_gives = { λ range slice. slice ≡ slice_with (usize_bound range.start) None (pos 1) };
+
+    #[inline]
+    fn from(range: RangeFrom<usize>) -> Slice {
+        Slice::from_usize(range.start.min(LIMIT))
+    }
+}
+
+impl From<RangeTo<usize>> for Slice {
+    ghost from_gives = { λ range slice. slice ≡ slice_with (pos 0) (Some (usize_bound range.end)) (pos 1) };
+
+    #[inline]
+    fn from(range: RangeTo<usize>) -> Slice {
+        Slice::to_usize(range.end.min(LIMIT))
+    }
+}
+
+impl From<RangeInclusive<usize>> for Slice {
+    ghost from_gives = { λ range slice. slice ≡ slice_with (usize_bound (range_inclusive_start range))
+        (Some (usize_bound (range_inclusive_end range + 1))) (pos 1) };
+
+    #[inline]
+    fn from(range: RangeInclusive<usize>) -> Slice {
+        Slice::inclusive_usize((*range.start()).min(LIMIT), (*range.end()).min(LIMIT - 1))
+    }
+}
+
+impl From<RangeToInclusive<usize>> for Slice {
+    ghost from_gives = { λ range slice. slice ≡ slice_with (pos 0) (Some (usize_bound (range.end + 1))) (pos 1) };
+
+    #[inline]
+    fn from(range: RangeToInclusive<usize>) -> Slice {
+        Slice::to_inclusive_usize(range.end.min(LIMIT - 1))
+    }
+}
+
+impl From<RangeInclusive<isize>> for Slice {
+    ghost from_gives = { λ range slice. slice ≡ slice_with
+        (range_inclusive_start range) (end_after (last_bound (range_inclusive_end range))) (pos 1) };
+
+    #[inline]
+    fn from(range: RangeInclusive<isize>) -> Slice {
+        let last = *range.end();
+        Slice::inclusive(
+            *range.start(),
+            if last == isize::MAX { last - 1 } else { last },
+        )
+    }
+}
+
+impl From<RangeToInclusive<isize>> for Slice {
+    ghost from_gives = { λ range slice. slice ≡ slice_with (pos 0) (end_after (last_bound range.end)) (pos 1) };
+
+    #[inline]
+    fn from(range: RangeToInclusive<isize>) -> Slice {
+        Slice::from(0..=range.end)
     }
 }

@@ -109,7 +109,7 @@ IsView-filled {view} v = record {
 }
 
 -- a layout with an index, whose indices lie where indices of a view do, is a view: so do the lowest and the highest
-IsView-from_places : (source : List ℕ → List ℕ) {view new : View} → IsView view → length new.shape ≡ length new.strides
+pub IsView-from_places : (source : List ℕ → List ℕ) {view new : View} → IsView view → length new.shape ≡ length new.strides
     → nonzero_size new.shape ≤ limit → is_empty new.shape ≡ false → KeepsPlaces source view new → IsView new
 IsView-from_places source {view} {new} v counts fits some keeps =
     let least = least_offset new.shape new.strides counts some in

@@ -2,11 +2,12 @@
 ghost use Rattle.std.specs.Prelude.{◌≡◌, ◌+◌, None, length, IfOk, IsOk};
 ghost use Rattle.nd_base.specs.Memory.{NeedsNoMemory};
 ghost use Rattle.nd_base.specs.ShapeFault.{shape_fault};
-ghost use Rattle.ndarray_layout.specs.ChunksView.{chunk_source, chunks_fault, chunks_of};
+ghost use Rattle.ndarray_layout.specs.ChunksView.{chunk_source, chunk_starts_of, chunks_fault, chunks_of};
 ghost use Rattle.ndarray_layout.specs.Descends.{Descends};
+ghost use Rattle.ndarray_layout.specs.View.{IsView};
 
 use crate::strided::Strided;
-use crate::strided::blocks::{Blocks, block_axes};
+use crate::strided::blocks::{Blocks, block_axes, start_axes};
 use nd_base::{LayoutError, Lengths};
 use std::alloc::Global;
 
@@ -44,6 +45,24 @@ impl<D: Lengths> Strided<D> {
     {
         let (shape, strides) = (self.dim.slice(), self.strides.slice());
         let (dim, strides) = block_axes(alloc, Blocks::Chunks, shape, strides, chunk)?;
+        Ok(Strided {
+            start: self.start,
+            dim,
+            strides,
+        })
+    }
+
+    /// The view of the first index of each chunk of a shape: its indices are the numbers of the chunks. Errors: those of
+    /// `Strided::into_chunks`.
+    pub(super) fn chunk_starts(&self, alloc: Global, chunk: &D) -> Result<Self, LayoutError>
+        ensures fault { shape_fault result ≡ chunks_fault None self.now.shape (D.list chunk.now) }
+        ensures memory { chunks_fault None self.now.shape (D.list chunk.now) ≡ None →
+            NeedsNoMemory D.NDIM (length self.now.shape) → IsOk result }
+        ensures starts { IfOk result (λ v. v ≡ chunk_starts_of (D.list chunk.now) self.now) }
+        ensures is_view { IsView self.now }
+    {
+        let (shape, strides) = (self.dim.slice(), self.strides.slice());
+        let (dim, strides) = start_axes(alloc, Blocks::Chunks, shape, strides, chunk)?;
         Ok(Strided {
             start: self.start,
             dim,

@@ -3,10 +3,11 @@ ghost use Rattle.std.specs.Prelude.{◌≡◌, ◌+◌, None, length, IfOk, IsOk
 ghost use Rattle.nd_base.specs.Memory.{NeedsNoMemory};
 ghost use Rattle.nd_base.specs.ShapeFault.{shape_fault};
 ghost use Rattle.ndarray_layout.specs.Descends.{IsViewOf};
-ghost use Rattle.ndarray_layout.specs.WindowsView.{window_source, windows_fault, windows_of};
+ghost use Rattle.ndarray_layout.specs.View.{IsView};
+ghost use Rattle.ndarray_layout.specs.WindowsView.{window_source, window_starts_of, windows_fault, windows_of};
 
 use crate::strided::Strided;
-use crate::strided::blocks::{Blocks, block_axes};
+use crate::strided::blocks::{Blocks, block_axes, start_axes};
 use nd_base::{LayoutError, Lengths};
 use std::alloc::Global;
 
@@ -41,6 +42,25 @@ impl<D: Lengths> Strided<D> {
     {
         let (shape, strides) = (self.dim.slice(), self.strides.slice());
         let (dim, strides) = block_axes(alloc, Blocks::Windows, shape, strides, window)?;
+        Ok(Strided {
+            start: self.start,
+            dim,
+            strides,
+        })
+    }
+
+    /// The view of the first index of each window of a shape: its indices are those of the windows. Errors: those of
+    /// `Strided::into_windows`.
+    pub(super) fn window_starts(&self, alloc: Global, window: &D) -> Result<Self, LayoutError>
+        ensures fault { shape_fault result ≡
+            windows_fault None self.now.shape (D.list window.now) }
+        ensures memory { windows_fault None self.now.shape (D.list window.now) ≡ None →
+            NeedsNoMemory D.NDIM (length self.now.shape) → IsOk result }
+        ensures starts { IfOk result (λ v. v ≡ window_starts_of (D.list window.now) self.now) }
+        ensures is_view { IsView self.now }
+    {
+        let (shape, strides) = (self.dim.slice(), self.strides.slice());
+        let (dim, strides) = start_axes(alloc, Blocks::Windows, shape, strides, window)?;
         Ok(Strided {
             start: self.start,
             dim,

@@ -1,7 +1,7 @@
 //! A picture of `image` that is cut into tiles, and then into rows, which threads of `rayon` write at once, with no `unsafe`.
 
 use image::GrayImage;
-use ndarray_layout::{ArrayViewMut, Ix2, LayoutError, PartMut, s};
+use ndarray_layout::{ArrayViewMut, Ix2, LayoutError, s};
 use rayon::prelude::*;
 
 /// How many rows and columns a tile has; the last ones of a row or a column may have fewer.
@@ -13,7 +13,7 @@ fn ranges(len: usize) -> impl Iterator<Item = std::ops::Range<usize>> {
 }
 
 /// Paints a tile with its brightest pixel.
-fn flatten(mut tile: PartMut<'_, u8, Ix2>) {
+fn flatten(mut tile: ArrayViewMut<'_, u8, Ix2>) {
     let brightest = tile.iter().copied().max().unwrap_or(0);
     tile.fill(brightest);
 }
@@ -21,11 +21,11 @@ fn flatten(mut tile: PartMut<'_, u8, Ix2>) {
 fn main() -> Result<(), LayoutError> {
     let mut picture = GrayImage::from_fn(50, 40, |column, row| image::Luma([(row * 3 + column) as u8]));
     let (rows, columns) = (picture.height() as usize, picture.width() as usize);
-    let mut view = ArrayViewMut::from_shape(Ix2(rows, columns).into(), &mut picture)?;
+    let mut view = ArrayViewMut::from_shape((rows, columns), &mut picture)?;
 
     let slices: Vec<_> =
         ranges(rows).flat_map(|rows| ranges(columns).map(move |columns| s![rows.clone(), columns])).collect();
-    let tiles = view.multi_sliced_mut(slices)?;
+    let tiles = view.multi_slice_mut(slices)?;
     println!("{} tiles", tiles.len());
     tiles.into_par_iter().for_each(flatten);
 

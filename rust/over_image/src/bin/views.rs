@@ -25,21 +25,21 @@ fn main() -> Result<(), LayoutError> {
     let flat = picture.as_flat_samples();
     let view = ArrayView::over(layout_of(&flat, CanIndexCheckMode::ReadOnly)?, flat.samples)?;
 
-    let crop = view.sliced(s![1..3, 2..5, ..])?;
+    let crop = view.slice(s![1..3, 2..5, ..])?;
     println!("crop: {}", picture_of(&crop)? == crop_imm(&picture, 2, 1, 3, 2).to_image());
-    println!("upside down: {}", picture_of(&view.sliced(s![..;-1, .., ..])?)? == flip_vertical(&picture));
-    println!("mirrored: {}", picture_of(&view.sliced(s![.., ..;-1, ..])?)? == flip_horizontal(&picture));
-    let mut turned = view.sliced(s![.., ..;-1, ..])?;
+    println!("upside down: {}", picture_of(&view.slice(s![..;-1, .., ..])?)? == flip_vertical(&picture));
+    println!("mirrored: {}", picture_of(&view.slice(s![.., ..;-1, ..])?)? == flip_horizontal(&picture));
+    let mut turned = view.slice(s![.., ..;-1, ..])?;
     turned.swap_axes(Axis(0), Axis(1))?;
     println!("turned: {}", picture_of(&turned)? == rotate270(&picture));
-    let half = picture_of(&view.sliced(s![..;2, ..;2, ..])?)?;
+    let half = picture_of(&view.slice(s![..;2, ..;2, ..])?)?;
     println!("half: {}x{}, {:?}", half.width(), half.height(), half.get_pixel(2, 1));
 
     let mut picture = picture;
     let flat = picture.as_flat_samples_mut();
     let layout = layout_of(&flat, CanIndexCheckMode::OwnedMutable)?;
     let mut view = ArrayViewMut::over(layout, flat.samples)?;
-    view.sliced_mut(s![1..3, 2..5, 0])?.fill(255);
+    view.slice_mut(s![1..3, 2..5, 0])?.fill(255);
     println!("red: {:?} and {:?}", picture.get_pixel(4, 2), picture.get_pixel(5, 2));
 
     let mut header = picture.as_flat_samples();

@@ -1,9 +1,35 @@
 // Made by `rust/erase` of `crates/nd_lent/src/array_view/comparing.rt`: edit that.
 //! Whether two arrays have the same items.
 
+use crate::memory::prelude::String;
 use crate::nd_lent::array_view::{ArrayView, LentRow, LentRows};
 use crate::nd_lent::nearest::{nearest_rows_with, nearest_views};
 use crate::ndarray_layout::Lengths;
+
+/// A type whose items are compared with those of another type, one by one and as slices: each of Rust's `PartialEq<U>`.
+pub trait EqualTo<U>: Sized {
+    /// Whether both items are equal. `2_u8` and 2: `true`. Rust's `eq`.
+    ///
+    /// <details><summary>Contract (proved)</summary>
+    ///
+    /// ```text
+    /// ensures result ≡ equal_to self.now other.now
+    /// ```
+    /// [How to read it](crate::contracts)
+    /// </details>
+    fn is_equal_to(&self, other: &U) -> bool;
+
+    /// Whether the slices have one length, and each item is equal to the one beside it. 7 8 and 7: `false`. Rust's `eq` of slices.
+    ///
+    /// <details><summary>Contract (proved)</summary>
+    ///
+    /// ```text
+    /// ensures result ≡ pointwise equal_to items.now others.now
+    /// ```
+    /// [How to read it](crate::contracts)
+    /// </details>
+    fn are_equal_to(items: &[Self], others: &[U]) -> bool;
+}
 
 /// Whether the items of two rows of one length are equal, one after another.
 ///
@@ -11,14 +37,14 @@ use crate::ndarray_layout::Lengths;
 ///
 /// ```text
 /// requires one.now.row.len ≡ other.now.row.len
-/// ensures result ≡ pointwise (both_equal T.eq) (row_items one.now) (row_items other.now)
+/// ensures result ≡ pointwise (both_equal T.equal_to) (row_items one.now) (row_items other.now)
 /// ```
 /// [How to read it](crate::contracts)
 /// </details>
 #[inline]
-fn have_equal_places<T: PartialEq>(one: &LentRow<'_, T>, other: &LentRow<'_, T>) -> bool {
+fn have_equal_places<T: EqualTo<U>, U>(one: &LentRow<'_, T>, other: &LentRow<'_, U>) -> bool {
     for coordinate in 0..one.len() {
-        if *one.item(coordinate) != *other.item(coordinate) {
+        if !one.item(coordinate).is_equal_to(other.item(coordinate)) {
             return false;
         }
     }
@@ -31,14 +57,14 @@ fn have_equal_places<T: PartialEq>(one: &LentRow<'_, T>, other: &LentRow<'_, T>)
 ///
 /// ```text
 /// requires one.now.row.len ≡ other.now.row.len
-/// ensures result ≡ pointwise (both_equal T.eq) (row_items one.now) (row_items other.now)
+/// ensures result ≡ pointwise (both_equal T.equal_to) (row_items one.now) (row_items other.now)
 /// ```
 /// [How to read it](crate::contracts)
 /// </details>
 #[inline]
-fn are_equal_rows<T: PartialEq>(one: &LentRow<'_, T>, other: &LentRow<'_, T>) -> bool {
+fn are_equal_rows<T: EqualTo<U>, U>(one: &LentRow<'_, T>, other: &LentRow<'_, U>) -> bool {
     match (one.as_slice(), other.as_slice()) {
-        (Some(items), Some(others)) => items == others,
+        (Some(items), Some(others)) => T::are_equal_to(items, others),
         _ => have_equal_places(one, other),
     }
 }
@@ -49,12 +75,12 @@ fn are_equal_rows<T: PartialEq>(one: &LentRow<'_, T>, other: &LentRow<'_, T>) ->
 ///
 /// ```text
 /// requires AllZip (λ row other. row.row.len ≡ other.row.len) rows others
-/// ensures result ≡ pointwise (both_equal T.eq) (rows_items rows.entry) (rows_items others.entry)
+/// ensures result ≡ pointwise (both_equal T.equal_to) (rows_items rows.entry) (rows_items others.entry)
 /// ```
 /// [How to read it](crate::contracts)
 /// </details>
 #[inline]
-fn have_equal_rows<T: PartialEq>(rows: LentRows<'_, T>, others: LentRows<'_, T>) -> bool {
+fn have_equal_rows<T: EqualTo<U>, U>(rows: LentRows<'_, T>, others: LentRows<'_, U>) -> bool {
     let mut others = others;
     for row in rows {
         if let Some(other) = others.next() {
@@ -66,7 +92,7 @@ fn have_equal_rows<T: PartialEq>(rows: LentRows<'_, T>, others: LentRows<'_, T>)
     true
 }
 
-impl<T: PartialEq, D: Lengths> ArrayView<'_, T, D> {
+impl<T, D: Lengths> ArrayView<'_, T, D> {
     /// Whether each item is equal to that at the same index of an array of the same shape, compared in the order in which
     /// those of this array lie.
     ///
@@ -74,17 +100,20 @@ impl<T: PartialEq, D: Lengths> ArrayView<'_, T, D> {
     ///
     /// ```text
     /// requires self.now.view.shape ≡ other.now.view.shape
-    /// ensures result ≡ pointwise (both_equal T.eq)
+    /// ensures result ≡ pointwise (both_equal T.equal_to)
     ///     (map (item_at_place self.now.items) (view_places RowMajor self.now.view))
     ///     (map (item_at_place other.now.items) (view_places RowMajor other.now.view))
     /// ```
     /// [How to read it](crate::contracts)
     /// </details>
     #[inline]
-    fn has_equal_items(&self, other: &ArrayView<'_, T, D>) -> bool {
+    fn has_equal_items<U>(&self, other: &ArrayView<'_, U, D>) -> bool
+    where
+        T: EqualTo<U>,
+    {
         let nearest = nearest_views(self.strided(), other.strided());
         let (rows, others) = nearest_rows_with(self.strided(), other.strided(), &nearest);
-        have_equal_rows(LentRows::new(self.stored(), rows), LentRows::new(other.stored(), others))
+        have_equal_rows(LentRows::new(self.reader(), rows), LentRows::new(other.reader(), others))
     }
 
     /// Whether another array has the same shape, and an equal item at each index. Spare items don't count.
@@ -102,9 +131,11 @@ impl<T: PartialEq, D: Lengths> ArrayView<'_, T, D> {
     ///
     /// # fn main() -> Result<(), LayoutError> {
     /// let a = ArrayView::from_shape(Ix1(2).strides(Ix1(unsigned(-1)))?, &[7, 8, 9])?;
-    /// let forwards = ArrayView::from_shape(Ix1(2).into(), &[8, 7])?;
+    /// let forwards = ArrayView::from_shape(Ix1(2), &[8, 7])?;
     /// assert!(a.eq(&forwards) && a == forwards);
-    /// assert!(!a.eq(&ArrayView::from_shape(Ix1(2).into(), &[8, 9])?));
+    /// assert!(!a.eq(&ArrayView::from_shape(Ix1(2), &[8, 9])?));
+    /// let words = ["a", "b"].map(String::from);
+    /// assert!(ArrayView::from_shape(Ix1(2), &words)?.eq(&ArrayView::from_shape(Ix1(2), &["a", "b"])?));
     /// # Ok(())
     /// # }
     /// ```
@@ -112,13 +143,16 @@ impl<T: PartialEq, D: Lengths> ArrayView<'_, T, D> {
     /// <details><summary>Contract (proved)</summary>
     ///
     /// ```text
-    /// ensures result ≡ are_equal T.eq self.now other.now
+    /// ensures result ≡ are_equal T.equal_to self.now other.now
     /// ```
     /// [How to read it](crate::contracts)
     /// </details>
     #[inline]
     #[must_use]
-    pub fn eq(&self, other: &ArrayView<'_, T, D>) -> bool {
+    pub fn eq<U>(&self, other: &ArrayView<'_, U, D>) -> bool
+    where
+        T: EqualTo<U>,
+    {
         self.dim().equal(other.dim()) && self.has_equal_items(other)
     }
 }

@@ -19,7 +19,7 @@ impl<T: Copy + Ord, D: Lengths> ArrayView<'_, T, D> {
     /// # fn main() -> Result<(), LayoutError> {
     /// let a = ArrayView::from_shape(Ix1(2).strides(Ix1(unsigned(-1)))?, &[7, 8, 9])?;
     /// assert_eq!(a.max(), Some(8));
-    /// assert_eq!(ArrayView::from_shape(Ix1(0).into(), &[7, 8, 9])?.max(), None);
+    /// assert_eq!(ArrayView::from_shape(Ix1(0), &[7, 8, 9])?.max(), None);
     /// # Ok(())
     /// # }
     /// ```
@@ -59,7 +59,7 @@ impl<T: Copy + Ord, D: Lengths> ArrayView<'_, T, D> {
     /// # fn main() -> Result<(), LayoutError> {
     /// let a = ArrayView::from_shape(Ix1(2).strides(Ix1(unsigned(-1)))?, &[7, 8, 9])?;
     /// assert_eq!(a.min(), Some(7));
-    /// assert_eq!(ArrayView::from_shape(Ix1(0).into(), &[7, 8, 9])?.min(), None);
+    /// assert_eq!(ArrayView::from_shape(Ix1(0), &[7, 8, 9])?.min(), None);
     /// # Ok(())
     /// # }
     /// ```

@@ -2,13 +2,14 @@
 //! The rows of an array one after another, lent for as long as the data is: the iterator has the view.
 
 use crate::nd_lent::array_view::{ArrayView, LentRow};
+use crate::nd_lent::cells::Reader;
 use crate::ndarray_layout::{Lengths, Order, StridedRows};
 use core::iter::FusedIterator;
 
 /// The rows of an array that are still to come, in row-major order, from both ends, each lent for as long as the data
 /// is. ndarray's `Lanes`.
 pub struct IntoRows<'a, T, D: Lengths> {
-    items: &'a [T],
+    reader: Reader<'a, T>,
     rows: StridedRows<D>,
 }
 
@@ -25,7 +26,7 @@ impl<'a, T, D: Lengths> IntoRows<'a, T, D> {
     /// use ndarray_layout::{ArrayView, Ix2, LayoutError};
     ///
     /// # fn main() -> Result<(), LayoutError> {
-    /// let table = ArrayView::from_shape(Ix2(2, 2).into(), &[5, 6, 7, 8])?;
+    /// let table = ArrayView::from_shape(Ix2(2, 2), &[5, 6, 7, 8])?;
     /// let mut left = table.into_rows();
     /// left.advance(1);
     /// assert_eq!(left.next().and_then(|row| row.as_slice()), Some(&[7, 8][..]));
@@ -57,7 +58,7 @@ impl<'a, T, D: Lengths> IntoRows<'a, T, D> {
     /// use ndarray_layout::{ArrayView, Ix2, LayoutError};
     ///
     /// # fn main() -> Result<(), LayoutError> {
-    /// let table = ArrayView::from_shape(Ix2(2, 2).into(), &[5, 6, 7, 8])?;
+    /// let table = ArrayView::from_shape(Ix2(2, 2), &[5, 6, 7, 8])?;
     /// let mut left = table.into_rows();
     /// left.advance_back(1);
     /// assert_eq!(left.next_back().and_then(|row| row.as_slice()), Some(&[5, 6][..]));
@@ -84,7 +85,7 @@ impl<'a, T, D: Lengths> Iterator for IntoRows<'a, T, D> {
     #[inline]
     fn next(&mut self) -> Option<LentRow<'a, T>> {
         let row = self.rows.next()?;
-        Some(LentRow { items: self.items, row })
+        Some(LentRow { reader: self.reader.copied(), row })
     }
 
     #[inline]
@@ -97,7 +98,7 @@ impl<'a, T, D: Lengths> DoubleEndedIterator for IntoRows<'a, T, D> {
     #[inline]
     fn next_back(&mut self) -> Option<LentRow<'a, T>> {
         let row = self.rows.next_back()?;
-        Some(LentRow { items: self.items, row })
+        Some(LentRow { reader: self.reader.copied(), row })
     }
 }
 
@@ -125,7 +126,7 @@ impl<'a, T, D: Lengths> ArrayView<'a, T, D> {
     ///
     /// # fn main() -> Result<(), LayoutError> {
     /// fn last<'a>(items: &'a [u8]) -> Result<Option<LentRow<'a, u8>>, LayoutError> {
-    ///     let table = ArrayView::from_shape(Ix2(2, 3).into(), items)?;
+    ///     let table = ArrayView::from_shape(Ix2(2, 3), items)?;
     ///     Ok(table.into_rows().next_back())
     /// }
     ///
@@ -147,7 +148,7 @@ impl<'a, T, D: Lengths> ArrayView<'a, T, D> {
     #[inline]
     #[must_use]
     pub fn into_rows(self) -> IntoRows<'a, T, D> {
-        let ArrayView { items, view } = self;
-        IntoRows { items, rows: view.into_rows(Order::RowMajor) }
+        let ArrayView { reader, view } = self;
+        IntoRows { reader, rows: view.into_rows(Order::RowMajor) }
     }
 }

@@ -3,33 +3,34 @@
 
 use crate::memory::prelude::Vec;
 use crate::nd_lent::array_view::{ArrayView, LentRow};
-use crate::ndarray_layout::{Lengths, Order, Places};
+use crate::nd_lent::cells::Reader;
+use crate::ndarray_layout::{Lengths, Order, Places, Strided};
 use core::iter::FusedIterator;
 
 /// The items of an array that are still to come, in row-major order of their indices, from both ends, each lent.
 pub struct Iter<'a, T> {
-    stored: &'a [T],
+    reader: Reader<'a, T>,
     places: Places<'a>,
 }
 
 impl<'a, T> Iter<'a, T> {
-    /// The items at places.
+    /// The items of all indices of a view, in row-major order.
     ///
-    /// The places 1 and 0 of 7 8 9: 8 7. The project's own.
+    /// `[2]`, `[-1]` from 1 over 7 8 9: 8 7. The project's own.
     ///
     /// # Conditions
     ///
-    /// The caller ensures that each is one of these items. Otherwise this call or a later one panics or returns
-    /// unspecified values.
+    /// The caller ensures that each place of it has an item. This call panics where an index lies past the items; to
+    /// see that takes time in proportion to the count of axes.
     ///
     /// # Examples
     ///
     /// ```
-    /// use ndarray_layout::{CanIndexCheckMode, Iter, Ix1, LayoutError, Order, Strided, unsigned};
+    /// use ndarray_layout::{CanIndexCheckMode, Iter, Ix1, LayoutError, Strided, unsigned};
     ///
     /// # fn main() -> Result<(), LayoutError> {
     /// let view = Strided::from_parts(1, Ix1(2), Ix1(unsigned(-1)), 1, 3, CanIndexCheckMode::ReadOnly)?;
-    /// let items = Iter::new(&[7, 8, 9], view.iter_places(Order::RowMajor));
+    /// let items = Iter::new(&view, &[7, 8, 9]);
     /// assert_eq!(items.len(), 2);
     /// assert_eq!(items.copied().collect::<Vec<i32>>(), [8, 7]);
     /// # Ok(())
@@ -39,15 +40,31 @@ impl<'a, T> Iter<'a, T> {
     /// <details><summary>Contract (proved)</summary>
     ///
     /// ```text
-    /// requires All (IsInBounds (length stored.now)) places
-    /// ensures result ≡ map (item_at_place stored.now) places.entry
+    /// requires HasItems (length items.now) view.now
+    /// ensures result ≡ map (item_at_place items.now) (view_places RowMajor view.now)
     /// ```
     /// [How to read it](crate::contracts)
     /// </details>
     #[inline]
     #[must_use]
-    pub fn new(stored: &'a [T], places: Places<'a>) -> Self {
-        Iter { stored, places }
+    pub fn new<D: Lengths>(view: &'a Strided<D>, items: &'a [T]) -> Self {
+        assert!(crate::arrays::has_items(view, items.len()), "an index of the view is past the items");
+        Iter { reader: Reader::of_slice(items), places: view.iter_places(Order::RowMajor) }
+    }
+
+    /// The items at places, which the caller ensures to have marks.
+    ///
+    /// <details><summary>Contract (proved)</summary>
+    ///
+    /// ```text
+    /// requires AreRead reader.marks (length reader.items) places
+    /// ensures result ≡ map (item_at_place reader.entry.items) places.entry
+    /// ```
+    /// [How to read it](crate::contracts)
+    /// </details>
+    #[inline]
+    pub(in crate::nd_lent) fn of_reader(reader: Reader<'a, T>, places: Places<'a>) -> Self {
+        Iter { reader, places }
     }
 
     /// The items that come next and lie evenly, at once: what is left of the row in progress, or else the next row; `None` after
@@ -64,7 +81,7 @@ impl<'a, T> Iter<'a, T> {
     #[inline]
     pub(crate) fn next_row(&mut self) -> Option<LentRow<'a, T>> {
         let row = self.places.next_row()?;
-        Some(LentRow { items: self.stored, row })
+        Some(LentRow { reader: self.reader.copied(), row })
     }
 
     /// The last items that lie evenly, at once: what is left of the row in progress at the back, or else the last row; `None` before
@@ -79,9 +96,9 @@ impl<'a, T> Iter<'a, T> {
     /// [How to read it](crate::contracts)
     /// </details>
     #[inline]
-    pub(crate) fn next_row_back(&mut self) -> Option<LentRow<'a, T>> {
+    pub(in crate::nd_lent) fn next_row_back(&mut self) -> Option<LentRow<'a, T>> {
         let row = self.places.next_row_back()?;
-        Some(LentRow { items: self.stored, row })
+        Some(LentRow { reader: self.reader.copied(), row })
     }
 
     /// Leaves out so many items, or all where fewer are left: the next one is the one that comes after them.
@@ -96,7 +113,7 @@ impl<'a, T> Iter<'a, T> {
     /// use ndarray_layout::{ArrayView, Ix2, LayoutError};
     ///
     /// # fn main() -> Result<(), LayoutError> {
-    /// let table = ArrayView::from_shape(Ix2(2, 2).into(), &[5, 6, 7, 8])?;
+    /// let table = ArrayView::from_shape(Ix2(2, 2), &[5, 6, 7, 8])?;
     /// let mut left = table.iter();
     /// left.advance(3);
     /// assert_eq!((left.next(), left.next()), (Some(&8), None));
@@ -128,7 +145,7 @@ impl<'a, T> Iter<'a, T> {
     /// use ndarray_layout::{ArrayView, Ix2, LayoutError};
     ///
     /// # fn main() -> Result<(), LayoutError> {
-    /// let table = ArrayView::from_shape(Ix2(2, 2).into(), &[5, 6, 7, 8])?;
+    /// let table = ArrayView::from_shape(Ix2(2, 2), &[5, 6, 7, 8])?;
     /// let mut left = table.iter();
     /// left.advance_back(3);
     /// assert_eq!((left.next_back(), left.next_back()), (Some(&5), None));
@@ -155,8 +172,7 @@ impl<'a, T> Iterator for Iter<'a, T> {
     #[inline]
     fn next(&mut self) -> Option<&'a T> {
         let place = self.places.next()?;
-        let stored = self.stored;
-        Some(&stored[place])
+        Some(self.reader.get(place))
     }
 
     #[inline]
@@ -171,8 +187,7 @@ impl<'a, T> DoubleEndedIterator for Iter<'a, T> {
     #[inline]
     fn next_back(&mut self) -> Option<&'a T> {
         let place = self.places.next_back()?;
-        let stored = self.stored;
-        Some(&stored[place])
+        Some(self.reader.get(place))
     }
 
     crate::arrays::rfold_lent!();
@@ -222,6 +237,6 @@ impl<'a, T, D: Lengths> ArrayView<'a, T, D> {
     #[inline]
     #[must_use]
     pub fn iter(&self) -> Iter<'_, T> {
-        Iter::new(self.stored(), self.strided().iter_places(Order::RowMajor))
+        Iter::of_reader(self.reader(), self.strided().iter_places(Order::RowMajor))
     }
 }

@@ -2,6 +2,7 @@
 //! The ways to lend items as an array.
 
 use crate::nd_lent::array_view::ArrayView;
+use crate::nd_lent::cells::Reader;
 use crate::ndarray_layout::{CanIndexCheckMode, LayoutError, Lengths, ShapeError, StrideShape, Strided};
 
 impl<'a, T, D: Lengths> ArrayView<'a, T, D> {
@@ -11,8 +12,8 @@ impl<'a, T, D: Lengths> ArrayView<'a, T, D> {
     ///
     /// # Conditions
     ///
-    /// The caller ensures that each place of it has an item; `over` checks it. Otherwise this call or a later one
-    /// panics or returns unspecified values.
+    /// The caller ensures that each place of it has an item; `over` checks it. This call panics where an index lies
+    /// past the items; to see that takes time in proportion to the count of axes.
     ///
     /// # Examples
     ///
@@ -39,7 +40,48 @@ impl<'a, T, D: Lengths> ArrayView<'a, T, D> {
     #[inline]
     #[must_use]
     pub fn new(view: Strided<D>, items: &'a [T]) -> Self {
-        ArrayView { items, view }
+        assert!(crate::arrays::has_items(&view, items.len()), "an index of the view is past the items");
+        ArrayView::laid(view, items)
+    }
+
+    /// The array of a view over items.
+    ///
+    /// # Conditions
+    ///
+    /// The caller ensures that each place of it has one. Otherwise the behaviour is undefined.
+    ///
+    /// <details><summary>Contract (proved)</summary>
+    ///
+    /// ```text
+    /// requires HasItems (length items.now) view
+    /// ensures items: result.items ≡ items.now
+    /// ensures view: result.view ≡ view
+    /// ```
+    /// [How to read it](crate::contracts)
+    /// </details>
+    #[inline]
+    fn laid(view: Strided<D>, items: &'a [T]) -> Self {
+        ArrayView { reader: Reader::of_slice(items), view }
+    }
+
+    /// The array of a view over items that are read by their places.
+    ///
+    /// # Conditions
+    ///
+    /// The caller ensures that each place of it has one. Otherwise the behaviour is undefined.
+    ///
+    /// <details><summary>Contract (proved)</summary>
+    ///
+    /// ```text
+    /// requires IsRead reader.marks (length reader.items) view
+    /// ensures items: result.items ≡ reader.entry.items
+    /// ensures view: result.view ≡ view
+    /// ```
+    /// [How to read it](crate::contracts)
+    /// </details>
+    #[inline]
+    pub(in crate::nd_lent) fn of_reader(reader: Reader<'a, T>, view: Strided<D>) -> Self {
+        ArrayView { reader, view }
     }
 
     /// The array of a shape, by its own strides or by given ones, over items.
@@ -60,7 +102,7 @@ impl<'a, T, D: Lengths> ArrayView<'a, T, D> {
     /// # fn main() -> Result<(), LayoutError> {
     /// let a = ArrayView::from_shape(Ix1(2).strides(Ix1(unsigned(-1)))?, &[7, 8, 9])?;
     /// assert_eq!(a.to_vec()?, [8, 7]);
-    /// assert!(ArrayView::from_shape(Ix1(4).into(), &[7, 8, 9]).is_err());
+    /// assert!(ArrayView::from_shape(Ix1(4), &[7, 8, 9]).is_err());
     /// # Ok(())
     /// # }
     /// ```
@@ -82,10 +124,10 @@ impl<'a, T, D: Lengths> ArrayView<'a, T, D> {
     /// [How to read it](crate::contracts)
     /// </details>
     #[inline]
-    pub fn from_shape(shape: StrideShape<D>, items: &'a [T]) -> Result<Self, LayoutError> {
+    pub fn from_shape(shape: impl Into<StrideShape<D>>, items: &'a [T]) -> Result<Self, LayoutError> {
         let len = items.len();
-        let view = Strided::from_shape(shape, 1, len, CanIndexCheckMode::ReadOnly)?;
-        Ok(ArrayView { items, view })
+        let view = Strided::from_shape(shape.into(), 1, len, CanIndexCheckMode::ReadOnly)?;
+        Ok(ArrayView::laid(view, items))
     }
 
     /// The array of a view over items, which may be fewer than those that the view was made for.
@@ -128,6 +170,6 @@ impl<'a, T, D: Lengths> ArrayView<'a, T, D> {
     pub fn over(view: Strided<D>, items: &'a [T]) -> Result<Self, ShapeError> {
         let start = view.start();
         let view = view.moved_to(start, 1, items.len(), CanIndexCheckMode::ReadOnly)?;
-        Ok(ArrayView { items, view })
+        Ok(ArrayView::laid(view, items))
     }
 }

@@ -2,18 +2,19 @@
 //! The rest of the items of an array, whose rows come at once: the iterator has the view.
 
 use crate::nd_lent::array_view::{ArrayView, LentRow};
+use crate::nd_lent::cells::Reader;
 use crate::ndarray_layout::{IntoPlaces, Lengths, Order};
 
 /// The items of an array that are still to come, in row-major order of their indices, row by row.
-pub(crate) struct RestOfItems<'a, T, D: Lengths> {
-    items: &'a [T],
+pub(in crate::nd_lent) struct RestOfItems<'a, T, D: Lengths> {
+    reader: Reader<'a, T>,
     places: IntoPlaces<D>,
 }
 
 /// A copy, of which neither moves the other. Panics where an allocation fails, never for at most 4 axes. Not proved.
 impl<'a, T, D: Lengths> Clone for RestOfItems<'a, T, D> {
     fn clone(&self) -> Self {
-        RestOfItems { items: Clone::clone(&self.items), places: Clone::clone(&self.places) }
+        RestOfItems { reader: Clone::clone(&self.reader), places: Clone::clone(&self.places) }
     }
 }
 
@@ -29,8 +30,8 @@ impl<'a, T, D: Lengths> RestOfItems<'a, T, D> {
     /// </details>
     #[inline]
     pub(super) fn new(array: ArrayView<'a, T, D>) -> Self {
-        let ArrayView { items, view } = array;
-        RestOfItems { items, places: view.into_places(Order::RowMajor) }
+        let ArrayView { reader, view } = array;
+        RestOfItems { reader, places: view.into_places(Order::RowMajor) }
     }
 
     /// How many are left.
@@ -87,8 +88,7 @@ impl<'a, T, D: Lengths> RestOfItems<'a, T, D> {
     #[inline(always)]
     pub(super) fn next(&mut self) -> Option<&'a T> {
         let place = self.places.next()?;
-        let items = self.items;
-        Some(&items[place])
+        Some(self.reader.get(place))
     }
 
     /// The last item.
@@ -103,8 +103,7 @@ impl<'a, T, D: Lengths> RestOfItems<'a, T, D> {
     #[inline]
     pub(super) fn next_back(&mut self) -> Option<&'a T> {
         let place = self.places.next_back()?;
-        let items = self.items;
-        Some(&items[place])
+        Some(self.reader.get(place))
     }
 
     /// The row that comes next; `None` after the last item.
@@ -120,7 +119,7 @@ impl<'a, T, D: Lengths> RestOfItems<'a, T, D> {
     #[inline]
     pub(super) fn next_row(&mut self) -> Option<LentRow<'a, T>> {
         let row = self.places.next_row()?;
-        Some(LentRow { items: self.items, row })
+        Some(LentRow { reader: self.reader.copied(), row })
     }
 
     /// What is left of the last row; `None` before the first item.
@@ -136,6 +135,6 @@ impl<'a, T, D: Lengths> RestOfItems<'a, T, D> {
     #[inline]
     pub(super) fn next_row_back(&mut self) -> Option<LentRow<'a, T>> {
         let row = self.places.next_row_back()?;
-        Some(LentRow { items: self.items, row })
+        Some(LentRow { reader: self.reader.copied(), row })
     }
 }

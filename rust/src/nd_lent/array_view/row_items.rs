@@ -2,13 +2,14 @@
 //! The items of a row one after another, lent for as long as the data is.
 
 use crate::nd_lent::array_view::{LentRow, place_in_row};
+use crate::nd_lent::cells::Reader;
 use crate::ndarray_layout::Row;
 use core::iter::FusedIterator;
 
 /// The items of a row that are still to come, from both ends, each lent for as long as the data is. ndarray's `Iter` of
 /// a row.
 pub struct RowItems<'a, T> {
-    items: &'a [T],
+    reader: Reader<'a, T>,
     row: Row,
     // The coordinate that comes next, and the one after the last that is left.
     begun: usize,
@@ -19,7 +20,7 @@ pub struct RowItems<'a, T> {
 impl<'a, T> Clone for RowItems<'a, T> {
     fn clone(&self) -> Self {
         RowItems {
-            items: Clone::clone(&self.items),
+            reader: Clone::clone(&self.reader),
             row: Clone::clone(&self.row),
             begun: Clone::clone(&self.begun),
             end: Clone::clone(&self.end),
@@ -46,7 +47,7 @@ impl<'a, T> RowItems<'a, T> {
         let row =
             Row { start: place_in_row(self.row, self.begun), stride: self.row.stride, len: self.end - self.begun };
         self.begun = self.end;
-        Some(LentRow { items: self.items, row })
+        Some(LentRow { reader: self.reader.copied(), row })
     }
 
     /// The same, from the back.
@@ -74,7 +75,7 @@ impl<'a, T> RowItems<'a, T> {
     /// use ndarray_layout::{ArrayView, Ix2, LayoutError};
     ///
     /// # fn main() -> Result<(), LayoutError> {
-    /// let table = ArrayView::from_shape(Ix2(1, 3).into(), &[5, 6, 7])?;
+    /// let table = ArrayView::from_shape(Ix2(1, 3), &[5, 6, 7])?;
     /// if let Some(row) = table.into_rows().next() {
     ///     let mut left = row.into_iter();
     ///     left.advance(2);
@@ -106,7 +107,7 @@ impl<'a, T> RowItems<'a, T> {
     /// use ndarray_layout::{ArrayView, Ix2, LayoutError};
     ///
     /// # fn main() -> Result<(), LayoutError> {
-    /// let table = ArrayView::from_shape(Ix2(1, 3).into(), &[5, 6, 7])?;
+    /// let table = ArrayView::from_shape(Ix2(1, 3), &[5, 6, 7])?;
     /// if let Some(row) = table.into_rows().next() {
     ///     let mut left = row.into_iter();
     ///     left.advance_back(2);
@@ -137,7 +138,7 @@ impl<'a, T> Iterator for RowItems<'a, T> {
         if self.begun == self.end {
             return None;
         }
-        let row = LentRow { items: self.items, row: self.row };
+        let row = LentRow { reader: self.reader.copied(), row: self.row };
         let item = row.item(self.begun);
         self.begun += 1;
         Some(item)
@@ -159,7 +160,7 @@ impl<'a, T> DoubleEndedIterator for RowItems<'a, T> {
             return None;
         }
         self.end -= 1;
-        let row = LentRow { items: self.items, row: self.row };
+        let row = LentRow { reader: self.reader.copied(), row: self.row };
         Some(row.item(self.end))
     }
 
@@ -187,7 +188,7 @@ impl<'a, T> IntoIterator for LentRow<'a, T> {
 
     #[inline]
     fn into_iter(self) -> RowItems<'a, T> {
-        let LentRow { items, row } = self;
-        RowItems { items, row, begun: 0, end: row.len }
+        let LentRow { reader, row } = self;
+        RowItems { reader, row, begun: 0, end: row.len }
     }
 }

@@ -3,6 +3,7 @@
 
 use crate::memory::prelude::Vec;
 use crate::nd_lent::array_view::ArrayView;
+use crate::nd_lent::cells::Reader;
 use crate::nd_lent::nearest::nearest_rows;
 use crate::ndarray_layout::{Ix1, Ix6, Lengths, Order, Row, Rows, Strided};
 use core::iter::FusedIterator;
@@ -10,16 +11,25 @@ use core::iter::FusedIterator;
 /// A row of an array: items that lie evenly among those that are lent. There is at least one. ndarray's one-dimensional
 /// `ArrayView`.
 pub struct LentRow<'a, T> {
-    pub(crate) items: &'a [T],
-    pub(crate) row: Row,
+    pub(in crate::nd_lent) reader: Reader<'a, T>,
+    pub(in crate::nd_lent) row: Row,
 }
+
+/// Not proved.
+impl<'a, T> Clone for LentRow<'a, T> {
+    fn clone(&self) -> Self {
+        *self
+    }
+}
+
+/// Not proved.
+impl<'a, T> Copy for LentRow<'a, T> {}
 
 /// The place of a coordinate of a row.
 ///
 /// # Conditions
 ///
-/// The caller ensures that neither it nor the first place is past an `isize`. Otherwise this call or a later one panics
-/// or returns unspecified values.
+/// The caller ensures that neither it nor the first place is past an `isize`. Otherwise the behaviour is undefined.
 ///
 /// <details><summary>Contract (proved)</summary>
 ///
@@ -32,7 +42,7 @@ pub struct LentRow<'a, T> {
 /// [How to read it](crate::contracts)
 /// </details>
 #[inline(always)]
-pub(crate) fn place_in_row(row: Row, coordinate: usize) -> usize {
+pub(in crate::nd_lent) fn place_in_row(row: Row, coordinate: usize) -> usize {
     (row.start as isize + coordinate as isize * row.stride) as usize
 }
 
@@ -46,7 +56,7 @@ pub(crate) fn place_in_row(row: Row, coordinate: usize) -> usize {
 /// [How to read it](crate::contracts)
 /// </details>
 #[inline(always)]
-pub(crate) fn is_contiguous(row: Row) -> bool {
+pub(in crate::nd_lent) fn is_contiguous(row: Row) -> bool {
     row.stride == 1 || row.len <= 1
 }
 
@@ -59,7 +69,7 @@ impl<'a, T> LentRow<'a, T> {
     /// use ndarray_layout::{ArrayView, Ix2, LayoutError, LentRow};
     ///
     /// # fn main() -> Result<(), LayoutError> {
-    /// let table = ArrayView::from_shape(Ix2(2, 3).into(), &[1, 2, 3, 4, 5, 6])?;
+    /// let table = ArrayView::from_shape(Ix2(2, 3), &[1, 2, 3, 4, 5, 6])?;
     /// let rows: Vec<LentRow<'_, i32>> = table.rows().collect();
     /// assert_eq!((rows[0].len(), rows[1].len()), (3, 3));
     /// # Ok(())
@@ -90,7 +100,7 @@ impl<'a, T> LentRow<'a, T> {
     /// use ndarray_layout::{ArrayView, Ix2, LayoutError, LentRow};
     ///
     /// # fn main() -> Result<(), LayoutError> {
-    /// let table = ArrayView::from_shape(Ix2(2, 2).into(), &[5, 6, 7, 8])?;
+    /// let table = ArrayView::from_shape(Ix2(2, 2), &[5, 6, 7, 8])?;
     /// let rows: Vec<LentRow<'_, i32>> = table.rows().collect();
     /// assert_eq!(rows[1].as_slice(), Some(&[7, 8][..]));
     /// let turned = table.reversed_axes();
@@ -110,11 +120,11 @@ impl<'a, T> LentRow<'a, T> {
     #[must_use]
     #[inline]
     pub fn as_slice(&self) -> Option<&'a [T]> {
-        let (items, row) = (self.items, self.row);
+        let row = self.row;
         if !is_contiguous(row) {
             return None;
         }
-        Some(&items[row.start..row.start + row.len])
+        Some(self.reader.slice(row.start, row.len))
     }
 
     /// The row as all of a slice, where the items follow one another; else `None`.
@@ -128,11 +138,11 @@ impl<'a, T> LentRow<'a, T> {
     /// [How to read it](crate::contracts)
     /// </details>
     #[inline(always)]
-    pub(crate) fn alone(&self) -> Option<LentRow<'a, T>> {
+    pub(in crate::nd_lent) fn alone(&self) -> Option<LentRow<'a, T>> {
         let len = self.row.len;
         let items = self.as_slice()?;
         let row = Row { start: 0, stride: 1, len };
-        Some(LentRow { items, row })
+        Some(LentRow { reader: Reader::of_slice(items), row })
     }
 
     /// The items as a slice, the last one first, where each lies just before the one that it follows: by the stride -1; else `None`.
@@ -149,12 +159,11 @@ impl<'a, T> LentRow<'a, T> {
     /// </details>
     #[inline]
     pub(crate) fn as_slice_backwards(&self) -> Option<&'a [T]> {
-        let (items, row) = (self.items, self.row);
+        let row = self.row;
         if row.stride != -1 {
             return None;
         }
-        let end = row.start + 1;
-        Some(&items[end - row.len..end])
+        Some(self.reader.slice(row.start + 1 - row.len, row.len))
     }
 
     /// The row as an array of one axis.
@@ -169,7 +178,7 @@ impl<'a, T> LentRow<'a, T> {
     /// use ndarray_layout::{ArrayView, Ix2, LayoutError};
     ///
     /// # fn main() -> Result<(), LayoutError> {
-    /// let rows = ArrayView::from_shape(Ix2(2, 3).into(), &[1, 2, 3, 4, 5, 6])?;
+    /// let rows = ArrayView::from_shape(Ix2(2, 3), &[1, 2, 3, 4, 5, 6])?;
     /// let last = rows.into_rows().last().map(|row| row.into_array()[1]);
     /// assert_eq!(last, Some(5));
     /// # Ok(())
@@ -186,16 +195,15 @@ impl<'a, T> LentRow<'a, T> {
     #[must_use]
     #[inline]
     pub fn into_array(self) -> ArrayView<'a, T, Ix1> {
-        let LentRow { items, row } = self;
-        ArrayView { items, view: row.layout() }
+        let LentRow { reader, row } = self;
+        ArrayView { reader, view: row.layout() }
     }
 
     /// The item of a coordinate.
     ///
     /// # Conditions
     ///
-    /// The caller ensures that it is one of the row. Otherwise this call or a later one panics or returns unspecified
-    /// values.
+    /// The caller ensures that it is one of the row. Otherwise the behaviour is undefined.
     ///
     /// <details><summary>Contract (proved)</summary>
     ///
@@ -206,9 +214,8 @@ impl<'a, T> LentRow<'a, T> {
     /// [How to read it](crate::contracts)
     /// </details>
     #[inline(always)]
-    pub(crate) fn item(&self, coordinate: usize) -> &'a T {
-        let (items, row) = (self.items, self.row);
-        &items[place_in_row(row, coordinate)]
+    pub(in crate::nd_lent) fn item(&self, coordinate: usize) -> &'a T {
+        self.reader.get(place_in_row(self.row, coordinate))
     }
 
     /// The item of a coordinate; `None` where it is past the row.
@@ -221,7 +228,7 @@ impl<'a, T> LentRow<'a, T> {
     /// use ndarray_layout::{ArrayView, Ix2, LayoutError, LentRow};
     ///
     /// # fn main() -> Result<(), LayoutError> {
-    /// let table = ArrayView::from_shape(Ix2(2, 2).into(), &[5, 6, 7, 8])?;
+    /// let table = ArrayView::from_shape(Ix2(2, 2), &[5, 6, 7, 8])?;
     /// let rows: Vec<LentRow<'_, i32>> = table.rows().collect();
     /// assert_eq!(rows[1].get(0), Some(&7));
     /// assert_eq!(rows[1].get(2), None);
@@ -249,7 +256,7 @@ impl<'a, T> LentRow<'a, T> {
 
 /// The rows of an array that are still to come, in row-major order, from both ends, each lent.
 pub struct LentRows<'a, T> {
-    items: &'a [T],
+    reader: Reader<'a, T>,
     rows: Rows<'a>,
 }
 
@@ -258,20 +265,19 @@ impl<'a, T> LentRows<'a, T> {
     ///
     /// # Conditions
     ///
-    /// The caller ensures that each has an item at each place. Otherwise this call or a later one panics or returns
-    /// unspecified values.
+    /// The caller ensures that each has an item at each place. Otherwise the behaviour is undefined.
     ///
     /// <details><summary>Contract (proved)</summary>
     ///
     /// ```text
-    /// requires All (HasRow (length items.now)) rows
-    /// ensures result ≡ map (row_of items.now) rows.entry
+    /// requires AreRowsRead reader.marks (length reader.items) rows
+    /// ensures result ≡ map (row_of reader.entry.items) rows.entry
     /// ```
     /// [How to read it](crate::contracts)
     /// </details>
     #[inline]
-    pub(crate) fn new(items: &'a [T], rows: Rows<'a>) -> Self {
-        LentRows { items, rows }
+    pub(in crate::nd_lent) fn new(reader: Reader<'a, T>, rows: Rows<'a>) -> Self {
+        LentRows { reader, rows }
     }
 }
 
@@ -281,7 +287,7 @@ impl<'a, T> Iterator for LentRows<'a, T> {
     #[inline]
     fn next(&mut self) -> Option<LentRow<'a, T>> {
         let row = self.rows.next()?;
-        Some(LentRow { items: self.items, row })
+        Some(LentRow { reader: self.reader.copied(), row })
     }
 
     #[inline]
@@ -294,7 +300,7 @@ impl<'a, T> DoubleEndedIterator for LentRows<'a, T> {
     #[inline]
     fn next_back(&mut self) -> Option<LentRow<'a, T>> {
         let row = self.rows.next_back()?;
-        Some(LentRow { items: self.items, row })
+        Some(LentRow { reader: self.reader.copied(), row })
     }
 }
 
@@ -318,8 +324,8 @@ impl<'a, T, D: Lengths> ArrayView<'a, T, D> {
     /// [How to read it](crate::contracts)
     /// </details>
     #[inline]
-    pub(crate) fn joined_rows(&self) -> LentRows<'_, T> {
-        LentRows::new(self.stored(), self.strided().joined_rows(Order::RowMajor))
+    pub(in crate::nd_lent) fn joined_rows(&self) -> LentRows<'_, T> {
+        LentRows::new(self.reader(), self.strided().joined_rows(Order::RowMajor))
     }
 
     /// The items of all indices as the rows of the nearest view, or as `joined_rows` where there is none.
@@ -335,8 +341,8 @@ impl<'a, T, D: Lengths> ArrayView<'a, T, D> {
     /// [How to read it](crate::contracts)
     /// </details>
     #[inline]
-    pub(crate) fn rows_in<'s>(&'s self, nearest: &'s Option<Strided<Ix6>>) -> LentRows<'s, T> {
-        LentRows::new(self.stored(), nearest_rows(self.strided(), nearest))
+    pub(in crate::nd_lent) fn rows_in<'s>(&'s self, nearest: &'s Option<Strided<Ix6>>) -> LentRows<'s, T> {
+        LentRows::new(self.reader(), nearest_rows(self.strided(), nearest))
     }
 
     /// An iterator over the rows along the last axis, in row-major order, from both ends, which knows how many are left. Each is
@@ -352,7 +358,7 @@ impl<'a, T, D: Lengths> ArrayView<'a, T, D> {
     /// use ndarray_layout::{ArrayView, Ix2, LayoutError};
     ///
     /// # fn main() -> Result<(), LayoutError> {
-    /// let table = ArrayView::from_shape(Ix2(2, 2).into(), &[5, 6, 7, 8])?;
+    /// let table = ArrayView::from_shape(Ix2(2, 2), &[5, 6, 7, 8])?;
     /// let rows: Vec<&[i32]> = table.rows().filter_map(|row| row.as_slice()).collect();
     /// assert_eq!(rows, [[5, 6], [7, 8]]);
     /// let turned = table.reversed_axes();
@@ -374,6 +380,6 @@ impl<'a, T, D: Lengths> ArrayView<'a, T, D> {
     #[inline]
     #[must_use]
     pub fn rows(&self) -> LentRows<'_, T> {
-        LentRows::new(self.stored(), self.strided().rows(Order::RowMajor))
+        LentRows::new(self.reader(), self.strided().rows(Order::RowMajor))
     }
 }

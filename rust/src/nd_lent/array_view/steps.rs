@@ -4,7 +4,7 @@
 use crate::memory::prelude::Vec;
 use crate::nd_lent::array_view::ArrayView;
 use crate::ndarray_layout::{
-    Axis, Dimension, Fit, Ix1, LayoutError, Lengths, Order, RemoveAxis, ShapeError, SliceElems,
+    Axis, Dimension, Fit, Ix1, LayoutError, Lengths, Order, RemoveAxis, ShapeError, SliceElems, Strided,
 };
 
 impl<'a, T, D: Lengths> ArrayView<'a, T, D> {
@@ -18,11 +18,11 @@ impl<'a, T, D: Lengths> ArrayView<'a, T, D> {
     /// use ndarray_layout::{ArrayView, Fit, Ix1, LayoutError, s};
     ///
     /// # fn main() -> Result<(), LayoutError> {
-    /// let row = ArrayView::from_shape(Ix1(3).into(), &[7, 8, 9])?;
-    /// let part: ArrayView<'_, i32, Ix1> = row.slice(&s![1..], Fit::Strict)?;
+    /// let row = ArrayView::from_shape(Ix1(3), &[7, 8, 9])?;
+    /// let part: ArrayView<'_, i32, Ix1> = row.slice_with(&s![1..], Fit::Strict)?;
     /// assert_eq!(part.to_vec()?, [8, 9]);
-    /// assert!(row.slice::<Ix1, _>(&s![1..4], Fit::Strict).is_err());
-    /// assert_eq!(row.slice::<Ix1, _>(&s![1..4], Fit::Clamp)?.to_vec()?, [8, 9]);
+    /// assert!(row.slice_with::<Ix1, _>(&s![1..4], Fit::Strict).is_err());
+    /// assert_eq!(row.slice_with::<Ix1, _>(&s![1..4], Fit::Clamp)?.to_vec()?, [8, 9]);
     /// # Ok(())
     /// # }
     /// ```
@@ -39,9 +39,13 @@ impl<'a, T, D: Lengths> ArrayView<'a, T, D> {
     /// [How to read it](crate::contracts)
     /// </details>
     #[inline]
-    pub fn slice<E: Lengths, S: SliceElems>(&self, slices: &S, fit: Fit) -> Result<ArrayView<'a, T, E>, LayoutError> {
+    pub fn slice_with<E: Lengths, S: SliceElems>(
+        &self,
+        slices: &S,
+        fit: Fit,
+    ) -> Result<ArrayView<'a, T, E>, LayoutError> {
         let view = self.view.slice(slices, fit)?;
-        Ok(ArrayView::new(view, self.items))
+        Ok(ArrayView::of_reader(self.reader.copied(), view))
     }
 
     /// Reduces an axis to one of its coordinates: `Strided::collapse`, with its errors; the array is unchanged after one.
@@ -54,7 +58,7 @@ impl<'a, T, D: Lengths> ArrayView<'a, T, D> {
     /// use ndarray_layout::{ArrayView, Axis, Ix1, LayoutError};
     ///
     /// # fn main() -> Result<(), LayoutError> {
-    /// let mut row = ArrayView::from_shape(Ix1(3).into(), &[7, 8, 9])?;
+    /// let mut row = ArrayView::from_shape(Ix1(3), &[7, 8, 9])?;
     /// row.collapse(Axis(0), 1)?;
     /// assert_eq!(row.to_vec()?, [8]);
     /// assert!(row.collapse(Axis(0), 1).is_err());
@@ -88,7 +92,7 @@ impl<'a, T, D: Lengths> ArrayView<'a, T, D> {
     /// use ndarray_layout::{ArrayView, Axis, Ix2, LayoutError};
     ///
     /// # fn main() -> Result<(), LayoutError> {
-    /// let mut table = ArrayView::from_shape(Ix2(2, 3).into(), &[1, 2, 3, 4, 5, 6])?;
+    /// let mut table = ArrayView::from_shape(Ix2(2, 3), &[1, 2, 3, 4, 5, 6])?;
     /// table.swap_axes(Axis(0), Axis(1))?;
     /// assert_eq!(table.to_vec()?, [1, 4, 2, 5, 3, 6]);
     /// assert!(table.swap_axes(Axis(0), Axis(2)).is_err());
@@ -122,7 +126,7 @@ impl<'a, T, D: Lengths> ArrayView<'a, T, D> {
     /// use ndarray_layout::{ArrayView, Ix2, LayoutError};
     ///
     /// # fn main() -> Result<(), LayoutError> {
-    /// let table = ArrayView::from_shape(Ix2(2, 3).into(), &[1, 2, 3, 4, 5, 6])?;
+    /// let table = ArrayView::from_shape(Ix2(2, 3), &[1, 2, 3, 4, 5, 6])?;
     /// assert_eq!(table.get(&(1, 2)), Some(&6));
     /// let turned = table.reversed_axes();
     /// assert_eq!(turned.get(&(2, 1)), Some(&6));
@@ -141,8 +145,8 @@ impl<'a, T, D: Lengths> ArrayView<'a, T, D> {
     #[inline]
     #[must_use]
     pub fn reversed_axes(self) -> Self {
-        let ArrayView { items, view } = self;
-        ArrayView::new(view.reversed_axes(), items)
+        let ArrayView { reader, view } = self;
+        ArrayView::of_reader(reader, view.reversed_axes())
     }
 
     /// The axes in another order: `Strided::permuted_axes`, with its errors.
@@ -156,7 +160,7 @@ impl<'a, T, D: Lengths> ArrayView<'a, T, D> {
     ///
     /// # fn main() -> Result<(), LayoutError> {
     /// let items: Vec<u8> = (0..24).collect();
-    /// let block = ArrayView::from_shape(Ix3(2, 3, 4).into(), &items)?;
+    /// let block = ArrayView::from_shape(Ix3(2, 3, 4), &items)?;
     /// let permuted = block.permuted_axes(&[Axis(2), Axis(0), Axis(1)])?;
     /// assert_eq!(permuted.dim(), &Ix3(4, 2, 3));
     /// assert_eq!((permuted.get(&(3, 0, 1)), block.get(&(0, 1, 3))), (Some(&7), Some(&7)));
@@ -178,7 +182,7 @@ impl<'a, T, D: Lengths> ArrayView<'a, T, D> {
     #[inline]
     pub fn permuted_axes(&self, axes: &[Axis]) -> Result<Self, LayoutError> {
         let view = self.view.permuted_axes(axes)?;
-        Ok(ArrayView::new(view, self.items))
+        Ok(ArrayView::of_reader(self.reader.copied(), view))
     }
 
     /// Reverses an axis: `Strided::invert_axis`, with its errors; the array is unchanged after one.
@@ -191,7 +195,7 @@ impl<'a, T, D: Lengths> ArrayView<'a, T, D> {
     /// use ndarray_layout::{ArrayView, Axis, Ix1, LayoutError};
     ///
     /// # fn main() -> Result<(), LayoutError> {
-    /// let mut row = ArrayView::from_shape(Ix1(3).into(), &[7, 8, 9])?;
+    /// let mut row = ArrayView::from_shape(Ix1(3), &[7, 8, 9])?;
     /// row.invert_axis(Axis(0))?;
     /// assert_eq!(row.to_vec()?, [9, 8, 7]);
     /// assert!(row.invert_axis(Axis(1)).is_err());
@@ -226,7 +230,7 @@ impl<'a, T, D: Lengths> ArrayView<'a, T, D> {
     /// use ndarray_layout::{ArrayView, Axis, Ix2, LayoutError};
     ///
     /// # fn main() -> Result<(), LayoutError> {
-    /// let mut table = ArrayView::from_shape(Ix2(2, 3).into(), &[1, 2, 3, 4, 5, 6])?;
+    /// let mut table = ArrayView::from_shape(Ix2(2, 3), &[1, 2, 3, 4, 5, 6])?;
     /// let mut turned = table.duplicate()?.reversed_axes();
     /// assert!(!turned.merge(Axis(0), Axis(1))?);
     /// assert!(table.merge(Axis(0), Axis(1))?);
@@ -264,7 +268,7 @@ impl<'a, T, D: Lengths> ArrayView<'a, T, D> {
     /// use ndarray_layout::{ArrayView, ErrorKind, Ix2, LayoutError, Order, from_kind};
     ///
     /// # fn main() -> Result<(), LayoutError> {
-    /// let table = ArrayView::from_shape(Ix2(2, 3).into(), &[1, 2, 3, 4, 5, 6])?;
+    /// let table = ArrayView::from_shape(Ix2(2, 3), &[1, 2, 3, 4, 5, 6])?;
     /// let tall = table.reshape(&Ix2(3, 2), Order::RowMajor)?;
     /// assert_eq!((tall.get(&(0, 1)), tall.get(&(2, 0))), (Some(&2), Some(&5)));
     /// let fault = table.reshape(&Ix2(3, 2), Order::ColumnMajor).err();
@@ -291,7 +295,7 @@ impl<'a, T, D: Lengths> ArrayView<'a, T, D> {
     #[inline]
     pub fn reshape<E: Lengths>(&self, shape: &E, order: Order) -> Result<ArrayView<'a, T, E>, LayoutError> {
         let view = self.view.reshape(shape, order)?;
-        Ok(ArrayView::new(view, self.items))
+        Ok(ArrayView::of_reader(self.reader.copied(), view))
     }
 
     /// The array of a shape that this one can be broadcast to: `Strided::broadcast`, with its errors.
@@ -304,7 +308,7 @@ impl<'a, T, D: Lengths> ArrayView<'a, T, D> {
     /// use ndarray_layout::{ArrayView, Ix1, LayoutError};
     ///
     /// # fn main() -> Result<(), LayoutError> {
-    /// let one = ArrayView::from_shape(Ix1(1).into(), &[7])?;
+    /// let one = ArrayView::from_shape(Ix1(1), &[7])?;
     /// let three = one.broadcast(&Ix1(3))?;
     /// assert_eq!(three.to_vec()?, [7, 7, 7]);
     /// assert!(three.broadcast(&Ix1(4)).is_err());
@@ -325,7 +329,7 @@ impl<'a, T, D: Lengths> ArrayView<'a, T, D> {
     #[inline]
     pub fn broadcast<E: Lengths>(&self, shape: &E) -> Result<ArrayView<'a, T, E>, LayoutError> {
         let view = self.view.broadcast(shape)?;
-        Ok(ArrayView::new(view, self.items))
+        Ok(ArrayView::of_reader(self.reader.copied(), view))
     }
 
     /// All windows of a shape, as one array: `Strided::windows`, with its errors.
@@ -338,7 +342,7 @@ impl<'a, T, D: Lengths> ArrayView<'a, T, D> {
     /// use ndarray_layout::{ArrayView, Ix1, Ix2, LayoutError};
     ///
     /// # fn main() -> Result<(), LayoutError> {
-    /// let row = ArrayView::from_shape(Ix1(3).into(), &[7, 8, 9])?;
+    /// let row = ArrayView::from_shape(Ix1(3), &[7, 8, 9])?;
     /// let windows: ArrayView<'_, i32, Ix2> = row.windows(&Ix1(2))?;
     /// let rows: Vec<&[i32]> = windows.rows().filter_map(|row| row.as_slice()).collect();
     /// assert_eq!(rows, [[7, 8], [8, 9]]);
@@ -361,7 +365,7 @@ impl<'a, T, D: Lengths> ArrayView<'a, T, D> {
     #[inline]
     pub fn windows<E: Lengths>(&self, window: &D) -> Result<ArrayView<'a, T, E>, LayoutError> {
         let view = self.view.windows(window)?;
-        Ok(ArrayView::new(view, self.items))
+        Ok(ArrayView::of_reader(self.reader.copied(), view))
     }
 
     /// All chunks of a shape that lie side by side, as one array: `Strided::exact_chunks`, with its errors.
@@ -374,7 +378,7 @@ impl<'a, T, D: Lengths> ArrayView<'a, T, D> {
     /// use ndarray_layout::{ArrayView, Ix1, Ix2, LayoutError};
     ///
     /// # fn main() -> Result<(), LayoutError> {
-    /// let row = ArrayView::from_shape(Ix1(5).into(), &[5, 6, 7, 8, 9])?;
+    /// let row = ArrayView::from_shape(Ix1(5), &[5, 6, 7, 8, 9])?;
     /// let chunks: ArrayView<'_, i32, Ix2> = row.exact_chunks(&Ix1(2))?;
     /// let rows: Vec<&[i32]> = chunks.rows().filter_map(|row| row.as_slice()).collect();
     /// assert_eq!(rows, [[5, 6], [7, 8]]);
@@ -397,7 +401,7 @@ impl<'a, T, D: Lengths> ArrayView<'a, T, D> {
     #[inline]
     pub fn exact_chunks<E: Lengths>(&self, chunk: &D) -> Result<ArrayView<'a, T, E>, LayoutError> {
         let view = self.view.exact_chunks(chunk)?;
-        Ok(ArrayView::new(view, self.items))
+        Ok(ArrayView::of_reader(self.reader.copied(), view))
     }
 
     /// The items of the indices with the same coordinate on each axis: `Strided::diag`.
@@ -410,7 +414,7 @@ impl<'a, T, D: Lengths> ArrayView<'a, T, D> {
     /// use ndarray_layout::{ArrayView, Ix2, LayoutError};
     ///
     /// # fn main() -> Result<(), LayoutError> {
-    /// let table = ArrayView::from_shape(Ix2(2, 3).into(), &[1, 2, 3, 4, 5, 6])?;
+    /// let table = ArrayView::from_shape(Ix2(2, 3), &[1, 2, 3, 4, 5, 6])?;
     /// assert_eq!(table.diag().to_vec()?, [1, 5]);
     /// # Ok(())
     /// # }
@@ -426,7 +430,41 @@ impl<'a, T, D: Lengths> ArrayView<'a, T, D> {
     #[inline]
     #[must_use]
     pub fn diag(&self) -> ArrayView<'a, T, Ix1> {
-        ArrayView::new(self.view.diag(), self.items)
+        ArrayView::of_reader(self.reader.copied(), self.view.diag())
+    }
+
+    /// The array with a dimension of another type: `Strided::into_dimensionality`, with its errors.
+    ///
+    /// `[2,3]` at `IxDyn` becomes the same at `Ix2`. ndarray's `into_dimensionality`.
+    ///
+    /// # Examples
+    ///
+    /// ```
+    /// use ndarray_layout::{ArrayView, Ix1, Ix2, IxDyn, LayoutError};
+    ///
+    /// # fn main() -> Result<(), LayoutError> {
+    /// let array: ArrayView<'_, i32, IxDyn> = ArrayView::from_shape(IxDyn(&[2, 3]), &[1, 2, 3, 4, 5, 6])?;
+    /// let array = array.into_dimensionality::<Ix2>()?;
+    /// assert_eq!(array.dim(), &Ix2(2, 3));
+    /// assert!(array.into_dimensionality::<Ix1>().is_err());
+    /// # Ok(())
+    /// # }
+    /// ```
+    ///
+    /// <details><summary>Contract (proved)</summary>
+    ///
+    /// ```text
+    /// ensures fault: shape_fault result ≡ count_fault E.NDIM (length self.entry.view.shape)
+    /// ensures memory: shape_fault result ≡ None → NeedsNoMemory E.NDIM (length self.entry.view.shape) → IsOk result
+    /// ensures array: IfOk result (λ a. a ≡ self.entry)
+    /// ```
+    /// [How to read it](crate::contracts)
+    /// </details>
+    #[inline]
+    pub fn into_dimensionality<E: Lengths>(self) -> Result<ArrayView<'a, T, E>, LayoutError> {
+        let ArrayView { reader, view } = self;
+        let view = view.into_dimensionality()?;
+        Ok(ArrayView::of_reader(reader, view))
     }
 
     /// The two parts along an axis: `Strided::split_at`, with its errors.
@@ -439,7 +477,7 @@ impl<'a, T, D: Lengths> ArrayView<'a, T, D> {
     /// use ndarray_layout::{ArrayView, Axis, Ix1, LayoutError};
     ///
     /// # fn main() -> Result<(), LayoutError> {
-    /// let row = ArrayView::from_shape(Ix1(3).into(), &[7, 8, 9])?;
+    /// let row = ArrayView::from_shape(Ix1(3), &[7, 8, 9])?;
     /// let (first, second) = row.duplicate()?.split_at(Axis(0), 1)?;
     /// assert_eq!((first.to_vec()?, second.to_vec()?), (vec![7], vec![8, 9]));
     /// assert!(row.split_at(Axis(0), 4).is_err());
@@ -461,9 +499,9 @@ impl<'a, T, D: Lengths> ArrayView<'a, T, D> {
     /// </details>
     #[inline]
     pub fn split_at(self, axis: Axis, index: usize) -> Result<(Self, Self), LayoutError> {
-        let ArrayView { items, view } = self;
+        let ArrayView { reader, view } = self;
         let (first, second) = view.split_at(axis, index)?;
-        Ok((ArrayView::new(first, items), ArrayView::new(second, items)))
+        Ok((ArrayView::of_reader(reader.copied(), first), ArrayView::of_reader(reader, second)))
     }
 }
 
@@ -478,7 +516,7 @@ impl<'a, T, D: Lengths + Clone> ArrayView<'a, T, D> {
     /// use ndarray_layout::{ArrayView, Ix1, LayoutError};
     ///
     /// # fn main() -> Result<(), LayoutError> {
-    /// let row = ArrayView::from_shape(Ix1(3).into(), &[7, 8, 9])?;
+    /// let row = ArrayView::from_shape(Ix1(3), &[7, 8, 9])?;
     /// let part = row.crop(&Ix1(1), &Ix1(3)).expect("both bounds fit");
     /// assert_eq!(part.to_vec()?, [8, 9]);
     /// assert!(row.crop(&Ix1(1), &Ix1(4)).is_none());
@@ -500,7 +538,7 @@ impl<'a, T, D: Lengths + Clone> ArrayView<'a, T, D> {
     #[inline]
     pub fn crop(&self, starts: &D, ends: &D) -> Option<Self> {
         let view = self.view.crop(starts, ends)?;
-        Some(ArrayView::new(view, self.items))
+        Some(ArrayView::of_reader(self.reader.copied(), view))
     }
 }
 
@@ -515,7 +553,7 @@ impl<'a, T, D: RemoveAxis> ArrayView<'a, T, D> {
     /// use ndarray_layout::{ArrayView, Axis, Ix2, LayoutError};
     ///
     /// # fn main() -> Result<(), LayoutError> {
-    /// let table = ArrayView::from_shape(Ix2(2, 3).into(), &[1, 2, 3, 4, 5, 6])?;
+    /// let table = ArrayView::from_shape(Ix2(2, 3), &[1, 2, 3, 4, 5, 6])?;
     /// assert_eq!(table.index_axis(Axis(0), 1)?.to_vec()?, [4, 5, 6]);
     /// assert_eq!(table.index_axis(Axis(1), 1)?.to_vec()?, [2, 5]);
     /// assert!(table.index_axis(Axis(0), 2).is_err());
@@ -537,7 +575,7 @@ impl<'a, T, D: RemoveAxis> ArrayView<'a, T, D> {
     #[inline]
     pub fn index_axis(&self, axis: Axis, index: usize) -> Result<ArrayView<'a, T, D::Smaller>, LayoutError> {
         let view = self.view.index_axis(axis, index)?;
-        Ok(ArrayView::new(view, self.items))
+        Ok(ArrayView::of_reader(self.reader.copied(), view))
     }
 }
 
@@ -552,7 +590,7 @@ impl<'a, T, D: Dimension> ArrayView<'a, T, D> {
     /// use ndarray_layout::{ArrayView, Axis, Ix2, Ix3, LayoutError};
     ///
     /// # fn main() -> Result<(), LayoutError> {
-    /// let table = ArrayView::from_shape(Ix2(2, 3).into(), &[1, 2, 3, 4, 5, 6])?;
+    /// let table = ArrayView::from_shape(Ix2(2, 3), &[1, 2, 3, 4, 5, 6])?;
     /// let inserted = table.insert_axis(Axis(1))?;
     /// assert_eq!(inserted.dim(), &Ix3(2, 1, 3));
     /// assert_eq!(inserted.get(&(1, 0, 2)), Some(&6));
@@ -574,6 +612,6 @@ impl<'a, T, D: Dimension> ArrayView<'a, T, D> {
     #[inline]
     pub fn insert_axis(&self, axis: Axis) -> Result<ArrayView<'a, T, D::Larger>, LayoutError> {
         let view = self.view.insert_axis(axis)?;
-        Ok(ArrayView::new(view, self.items))
+        Ok(ArrayView::of_reader(self.reader.copied(), view))
     }
 }

@@ -92,9 +92,9 @@ impl<T: Unsigned, D: Lengths> ArrayView<'_, T, D> {
     /// # fn main() -> Result<(), LayoutError> {
     /// let a = ArrayView::from_shape(Ix1(2).strides(Ix1(unsigned(-1)))?, &[7u8, 8, 9])?;
     /// assert_eq!(a.sum(), Some(15));
-    /// let bytes = ArrayView::from_shape(Ix1(2).into(), &[200u8, 100])?;
+    /// let bytes = ArrayView::from_shape(Ix1(2), &[200u8, 100])?;
     /// assert_eq!(bytes.sum(), Some(300));
-    /// let greatest = ArrayView::from_shape(Ix1(2).into(), &[u64::MAX, 1])?;
+    /// let greatest = ArrayView::from_shape(Ix1(2), &[u64::MAX, 1])?;
     /// assert_eq!(greatest.sum(), None);
     /// # Ok(())
     /// # }

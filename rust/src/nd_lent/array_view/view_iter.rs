@@ -63,7 +63,7 @@ impl<'a, T, D: Lengths> ViewIter<'a, T, D> {
     /// use ndarray_layout::{ArrayView, Ix2, LayoutError};
     ///
     /// # fn main() -> Result<(), LayoutError> {
-    /// let table = ArrayView::from_shape(Ix2(2, 2).into(), &[5, 6, 7, 8])?;
+    /// let table = ArrayView::from_shape(Ix2(2, 2), &[5, 6, 7, 8])?;
     /// let mut left = table.into_iter();
     /// left.advance(3);
     /// assert_eq!((left.next(), left.next()), (Some(&8), None));
@@ -95,7 +95,7 @@ impl<'a, T, D: Lengths> ViewIter<'a, T, D> {
     /// use ndarray_layout::{ArrayView, Ix2, LayoutError};
     ///
     /// # fn main() -> Result<(), LayoutError> {
-    /// let table = ArrayView::from_shape(Ix2(2, 2).into(), &[5, 6, 7, 8])?;
+    /// let table = ArrayView::from_shape(Ix2(2, 2), &[5, 6, 7, 8])?;
     /// let mut left = table.into_iter();
     /// left.advance_back(3);
     /// assert_eq!((left.next_back(), left.next_back()), (Some(&5), None));

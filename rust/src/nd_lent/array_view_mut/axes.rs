@@ -1,27 +1,26 @@
 // Made by `rust/erase` of `crates/nd_lent/src/array_view_mut/axes.rt`: edit that.
-//! Axes of items that are lent to be written: reversed and swapped in place, or other views with one more, fewer or shorter
+//! Axes of a part: reversed and swapped in place, or other views with one more, fewer or shorter
 //! ones, each made as that of its layout is.
 
 use crate::nd_lent::array_view_mut::ArrayViewMut;
 use crate::ndarray_layout::{Axis, Dimension, Ix1, LayoutError, Lengths, ShapeError};
 
 impl<'a, T: Sized, D: Lengths> ArrayViewMut<'a, T, D> {
-    /// Reverses an axis: `Strided::invert_axis`, with its errors; the array is unchanged after one. No item is written.
+    /// Reverses an axis: `Strided::invert_axis`, with its errors; the part is unchanged after one. No item is written.
     ///
     /// Axis 0 of `[3]` over 7 8 9: 9 8 7. ndarray's `invert_axis`.
     ///
     /// # Examples
     ///
     /// ```
-    /// use ndarray_layout::{ArrayViewMut, Axis, ErrorKind, Ix1, LayoutError, from_kind};
+    /// use ndarray_layout::{ArrayViewMut, Axis, Ix1, LayoutError};
     ///
     /// # fn main() -> Result<(), LayoutError> {
     /// let mut items = [7, 8, 9];
-    /// let mut array = ArrayViewMut::from_shape(Ix1(3).into(), &mut items)?;
-    /// array.invert_axis(Axis(0))?;
-    /// assert_eq!(array.try_view()?.to_vec()?, [9, 8, 7]);
-    /// assert_eq!(array.invert_axis(Axis(1)), Err(from_kind(ErrorKind::OutOfBounds)));
-    /// assert_eq!(items, [7, 8, 9]);
+    /// let mut part = ArrayViewMut::from_shape(Ix1(3), &mut items)?;
+    /// part.invert_axis(Axis(0))?;
+    /// assert_eq!((part[0], part[2]), (9, 7));
+    /// assert!(part.invert_axis(Axis(1)).is_err());
     /// # Ok(())
     /// # }
     /// ```
@@ -42,21 +41,21 @@ impl<'a, T: Sized, D: Lengths> ArrayViewMut<'a, T, D> {
         self.view.invert_axis(axis)
     }
 
-    /// Swaps two axes: `Strided::swap_axes`, with its errors; the array is unchanged after one. No item is written.
+    /// Swaps two axes: `Strided::swap_axes`, with its errors; the part is unchanged after one. No item is written.
     ///
     /// ndarray's `swap_axes`.
     ///
     /// # Examples
     ///
     /// ```
-    /// use ndarray_layout::{ArrayViewMut, Axis, ErrorKind, Ix2, LayoutError, from_kind};
+    /// use ndarray_layout::{ArrayViewMut, Axis, Ix2, LayoutError};
     ///
     /// # fn main() -> Result<(), LayoutError> {
-    /// let mut items = [0, 1, 2, 3, 4, 5];
-    /// let mut table = ArrayViewMut::from_shape(Ix2(2, 3).into(), &mut items)?;
-    /// table.swap_axes(Axis(0), Axis(1))?;
-    /// assert_eq!((table.dim(), table.get(&(2, 0))), (&Ix2(3, 2), Some(&2)));
-    /// assert_eq!(table.swap_axes(Axis(0), Axis(2)), Err(from_kind(ErrorKind::OutOfBounds)));
+    /// let mut items = [1, 2, 3, 4, 5, 6];
+    /// let mut part = ArrayViewMut::from_shape(Ix2(2, 3), &mut items)?;
+    /// part.swap_axes(Axis(0), Axis(1))?;
+    /// assert_eq!((part.dim(), part[(2, 0)]), (&Ix2(3, 2), 3));
+    /// assert!(part.swap_axes(Axis(0), Axis(2)).is_err());
     /// # Ok(())
     /// # }
     /// ```
@@ -88,9 +87,7 @@ impl<'a, T: Sized, D: Lengths> ArrayViewMut<'a, T, D> {
     ///
     /// # fn main() -> Result<(), LayoutError> {
     /// let mut items = [5, 6, 7, 8];
-    /// let mut diagonal = ArrayViewMut::from_shape(Ix2(2, 2).into(), &mut items)?.diag();
-    /// assert_eq!(diagonal.try_view()?.to_vec()?, [5, 8]);
-    /// diagonal.fill(0);
+    /// ArrayViewMut::from_shape(Ix2(2, 2), &mut items)?.diag().fill(0);
     /// assert_eq!(items, [0, 6, 7, 0]);
     /// # Ok(())
     /// # }
@@ -108,9 +105,9 @@ impl<'a, T: Sized, D: Lengths> ArrayViewMut<'a, T, D> {
     #[inline]
     #[must_use]
     pub fn diag(self) -> ArrayViewMut<'a, T, Ix1> {
-        let ArrayViewMut { items, view } = self;
+        let ArrayViewMut { cells, view } = self;
         let view = view.diag();
-        ArrayViewMut::new(view, items)
+        ArrayViewMut::of_cells(cells, view)
     }
 }
 
@@ -122,15 +119,17 @@ impl<'a, T: Sized, D: Lengths + Clone> ArrayViewMut<'a, T, D> {
     /// # Examples
     ///
     /// ```
-    /// use ndarray_layout::{ArrayViewMut, Ix1, LayoutError};
+    /// use ndarray_layout::{ArrayViewMut, Ix2, LayoutError};
     ///
     /// # fn main() -> Result<(), LayoutError> {
-    /// let mut items = [7, 8, 9];
-    /// let array = ArrayViewMut::from_shape(Ix1(3).into(), &mut items)?;
-    /// let part = array.crop(&Ix1(1), &Ix1(3)).expect("a part");
-    /// assert_eq!(part.try_view()?.to_vec()?, [8, 9]);
-    /// let array = ArrayViewMut::from_shape(Ix1(3).into(), &mut items)?;
-    /// assert_eq!(array.crop(&Ix1(1), &Ix1(4)), None);
+    /// let mut items = [1, 2, 3, 4, 5, 6];
+    /// let part = ArrayViewMut::from_shape(Ix2(2, 3), &mut items)?;
+    /// let Some(mut corner) = part.crop(&Ix2(1, 1), &Ix2(2, 3)) else {
+    ///     panic!("the ranges fit");
+    /// };
+    /// corner.fill(0);
+    /// assert!(corner.crop(&Ix2(0, 0), &Ix2(2, 2)).is_none());
+    /// assert_eq!(items, [1, 2, 3, 4, 0, 0]);
     /// # Ok(())
     /// # }
     /// ```
@@ -145,31 +144,30 @@ impl<'a, T: Sized, D: Lengths + Clone> ArrayViewMut<'a, T, D> {
     /// ```
     /// [How to read it](crate::contracts)
     /// </details>
-    #[must_use]
     #[inline]
+    #[must_use]
     pub fn crop(self, starts: &D, ends: &D) -> Option<Self> {
-        let ArrayViewMut { items, view } = self;
+        let ArrayViewMut { cells, view } = self;
         let view = view.crop(starts, ends)?;
-        Some(ArrayViewMut::new(view, items))
+        Some(ArrayViewMut::of_cells(cells, view))
     }
 }
 
 impl<'a, T: Sized, D: Dimension> ArrayViewMut<'a, T, D> {
-    /// The array with a new axis of length 1: `Strided::insert_axis`, with its errors.
+    /// The part with a new axis of length 1: `Strided::insert_axis`, with its errors.
     ///
     /// ndarray's `insert_axis`.
     ///
     /// # Examples
     ///
     /// ```
-    /// use ndarray_layout::{ArrayViewMut, Axis, ErrorKind, Ix2, Ix3, LayoutError, from_kind};
+    /// use ndarray_layout::{ArrayViewMut, Axis, Ix1, Ix2, LayoutError};
     ///
     /// # fn main() -> Result<(), LayoutError> {
-    /// let mut items = [0, 1, 2, 3, 4, 5];
-    /// let table = ArrayViewMut::from_shape(Ix2(2, 3).into(), &mut items)?;
-    /// let table = table.insert_axis(Axis(1))?;
-    /// assert_eq!((table.dim(), table.get(&(1, 0, 2))), (&Ix3(2, 1, 3), Some(&5)));
-    /// assert_eq!(table.insert_axis(Axis(4)), Err(from_kind(ErrorKind::OutOfBounds).into()));
+    /// let mut items = [7, 8, 9];
+    /// let part = ArrayViewMut::from_shape(Ix1(3), &mut items)?;
+    /// let column = part.insert_axis(Axis(1))?;
+    /// assert_eq!((column.dim(), column[(2, 0)]), (&Ix2(3, 1), 9));
     /// # Ok(())
     /// # }
     /// ```
@@ -188,8 +186,8 @@ impl<'a, T: Sized, D: Dimension> ArrayViewMut<'a, T, D> {
     /// </details>
     #[inline]
     pub fn insert_axis(self, axis: Axis) -> Result<ArrayViewMut<'a, T, D::Larger>, LayoutError> {
-        let ArrayViewMut { items, view } = self;
+        let ArrayViewMut { cells, view } = self;
         let view = view.insert_axis(axis)?;
-        Ok(ArrayViewMut::new(view, items))
+        Ok(ArrayViewMut::of_cells(cells, view))
     }
 }

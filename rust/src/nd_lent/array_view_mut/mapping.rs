@@ -1,49 +1,32 @@
 // Made by `rust/erase` of `crates/nd_lent/src/array_view_mut/mapping.rt`: edit that.
-//! Calls of a closure at all items of an array.
+//! Calls of a closure at all items of a part.
 
 use crate::memory::prelude::Vec;
-use crate::nd_lent::array_view::{ArrayView, LentRow, LentRows, is_contiguous, place_in_row};
+use crate::nd_lent::array_view::place_in_row;
 use crate::nd_lent::array_view_mut::ArrayViewMut;
-use crate::nd_lent::nearest::{nearest_view, nearest_views};
-use crate::ndarray_layout::{ErrorKind, Lengths, Order, Row, Rows, ShapeError, Strided, from_kind};
-
-/// Calls a closure at each item of a slice, one after another, and hands it back.
-///
-/// <details><summary>Contract (proved)</summary>
-///
-/// ```text
-/// requires CallableOnEachMut F.FnMut (map Some items.old) f
-/// ensures MapsTo (λ p x y q. CalledAtMut F.FnMut p x tt q y) f
-///     (row_places 0 (pos 1) (length items.old)) (map Some items.old) items.old items.new result
-/// ```
-/// [How to read it](crate::contracts)
-/// </details>
-#[inline(always)]
-fn map_slice<T, F: FnMut(&mut T)>(items: &mut [T], mut f: F) -> F {
-    for item in items.iter_mut() {
-        f(item);
-    }
-    f
-}
+use crate::nd_lent::cells::Cells;
+use crate::nd_lent::nearest::nearest_view;
+use crate::ndarray_layout::{Lengths, Order, Row, Rows, Strided};
 
 /// Calls a closure at the item of each place of a row, one after another, and hands it back.
 ///
 /// <details><summary>Contract (proved)</summary>
 ///
 /// ```text
-/// requires row: HasRow (length stored.old) row
-/// requires distinct: AllPairs (λ one other. one ≢ other) (places_of row)
-/// requires callable: CallableOnEachMut F.FnMut (map (item_at_place stored.old) (places_of row)) f
-/// ensures MapsTo (λ p x y q. CalledAtMut F.FnMut p x tt q y) f (places_of row)
-///     (map (item_at_place stored.old) (places_of row)) stored.old stored.new result
+/// requires row: OwnsRow cells.old.marks row
+/// requires callable: CallableOnEachMut F.FnMut
+///     (map (item_at_place cells.old.items) (row_places row.start row.stride row.len)) f
+/// ensures ran: MapsTo (λ p x y q. CalledAtMut F.FnMut p x tt q y) f (row_places row.start row.stride row.len)
+///     (map (item_at_place cells.old.items) (row_places row.start row.stride row.len)) cells.old.items cells.new.items result
 /// ```
 /// [How to read it](crate::contracts)
 /// </details>
-#[inline(always)]
-fn map_places<T, F: FnMut(&mut T)>(stored: &mut [T], row: Row, mut f: F) -> F {
+#[inline]
+// (not `inline(always)`: by a parameter of its own rustc knows that no write changes the pointer, and the loop reads it once)
+fn map_places<T, F: FnMut(&mut T)>(cells: &mut Cells<'_, T>, row: Row, mut f: F) -> F {
     for coordinate in 0..row.len {
         let place = place_in_row(row, coordinate);
-        f(&mut stored[place]);
+        f(cells.item_mut(place));
     }
     f
 }
@@ -53,22 +36,22 @@ fn map_places<T, F: FnMut(&mut T)>(stored: &mut [T], row: Row, mut f: F) -> F {
 /// <details><summary>Contract (proved)</summary>
 ///
 /// ```text
-/// requires row: HasRow (length stored.old) row
-/// requires distinct: AllPairs (λ one other. one ≢ other) (places_of row)
-/// requires callable: CallableOnEachMut F.FnMut (map (item_at_place stored.old) (places_of row)) f
-/// ensures MapsTo (λ p x y q. CalledAtMut F.FnMut p x tt q y) f (places_of row)
-///     (map (item_at_place stored.old) (places_of row)) stored.old stored.new result
+/// requires row: OwnsRow cells.old.marks row
+/// requires callable: CallableOnEachMut F.FnMut
+///     (map (item_at_place cells.old.items) (row_places row.start row.stride row.len)) f
+/// ensures ran: MapsTo (λ p x y q. CalledAtMut F.FnMut p x tt q y) f (row_places row.start row.stride row.len)
+///     (map (item_at_place cells.old.items) (row_places row.start row.stride row.len)) cells.old.items cells.new.items result
 /// ```
 /// [How to read it](crate::contracts)
 /// </details>
 #[inline(always)]
-fn map_row<T, F: FnMut(&mut T)>(stored: &mut [T], row: Row, f: F) -> F {
-    if !is_contiguous(row) {
-        return map_places(stored, row, f);
+fn map_row<T, F: FnMut(&mut T)>(cells: &mut Cells<'_, T>, row: Row, f: F) -> F {
+    if row.stride == 1 {
+        // (by a stride that is known, the loop is one over a slice)
+        let neighbours = Row { start: row.start, stride: 1, len: row.len };
+        return map_places(cells, neighbours, f);
     }
-    let (_before, others) = stored.split_at_mut(row.start);
-    let (these, _after) = others.split_at_mut(row.len);
-    map_slice(these, f)
+    map_places(cells, row, f)
 }
 
 /// Calls a closure at each item of these rows, one after another.
@@ -76,113 +59,17 @@ fn map_row<T, F: FnMut(&mut T)>(stored: &mut [T], row: Row, f: F) -> F {
 /// <details><summary>Contract (proved)</summary>
 ///
 /// ```text
-/// requires rows: All (HasRow (length stored.old)) rows
-/// requires distinct: AllPairs (λ one other. one ≢ other) (rows_places rows)
-/// requires callable: CallableOnEachMut F.FnMut (map (item_at_place stored.old) (rows_places rows)) f
-/// ensures Maps (λ p x y q. CalledAtMut F.FnMut p x tt q y) f (rows_places rows.entry)
-///     (map (item_at_place stored.old) (rows_places rows.entry)) stored.old stored.new
+/// requires rows: OwnsEachRow cells.old.marks rows
+/// requires callable: CallableOnEachMut F.FnMut (map (item_at_place cells.old.items) (rows_places rows)) f
+/// ensures ran: Maps (λ p x y q. CalledAtMut F.FnMut p x tt q y) f (rows_places rows.entry)
+///     (map (item_at_place cells.old.items) (rows_places rows.entry)) cells.old.items cells.new.items
 /// ```
 /// [How to read it](crate::contracts)
 /// </details>
 #[inline(always)]
-fn map_rows<T, F: FnMut(&mut T)>(stored: &mut [T], rows: Rows<'_>, mut f: F) {
+fn map_rows<T, F: FnMut(&mut T)>(cells: &mut Cells<'_, T>, rows: Rows<'_>, mut f: F) {
     for row in rows {
-        f = map_row(stored, row, f);
-    }
-}
-
-/// Writes at each item of a slice what a closure makes of the item beside it, and hands the closure back.
-///
-/// <details><summary>Contract (proved)</summary>
-///
-/// ```text
-/// requires count: length items.now ≡ length to.old
-/// requires callable: CallableOnAllAt gives F.FnMut (map Some items.now) f
-/// ensures MapsTo (λ p x y q. CalledAt F.FnMut p x y q) f
-///     (row_places 0 (pos 1) (length to.old)) (map Some items.now) to.old to.new result
-/// ```
-/// [How to read it](crate::contracts)
-/// </details>
-#[inline(always)]
-fn write_slice<T, U: Sized, F: FnMut(&T) -> U>(to: &mut [U], items: &[T], mut f: F) -> F {
-    // (with one count for both no item needs a check of its bounds)
-    let beside = &items[..to.len()];
-    for (index, place) in to.iter_mut().enumerate() {
-        *place = f(&beside[index]);
-    }
-    f
-}
-
-/// Writes at each place of a row what a closure makes of the item of another row beside it, and hands the closure back.
-///
-/// <details><summary>Contract (proved)</summary>
-///
-/// ```text
-/// requires row: HasRow (length stored.old) row
-/// requires distinct: AllPairs (λ one other. one ≢ other) (places_of row)
-/// requires count: row.len ≡ source.now.row.len
-/// requires callable: CallableOnAllAt gives F.FnMut (row_items source.now) f
-/// ensures MapsTo (λ p x y q. CalledAt F.FnMut p x y q) f (places_of row)
-///     (row_items source.now) stored.old stored.new result
-/// ```
-/// [How to read it](crate::contracts)
-/// </details>
-#[inline(always)]
-fn write_places<T, U: Sized, F: FnMut(&T) -> U>(stored: &mut [U], row: Row, source: &LentRow<'_, T>, mut f: F) -> F {
-    for coordinate in 0..row.len {
-        let place = place_in_row(row, coordinate);
-        stored[place] = f(source.item(coordinate));
-    }
-    f
-}
-
-/// Writes at each place of a row what a closure makes of the item of another row beside it, and hands the closure back.
-///
-/// <details><summary>Contract (proved)</summary>
-///
-/// ```text
-/// requires row: HasRow (length stored.old) row
-/// requires distinct: AllPairs (λ one other. one ≢ other) (places_of row)
-/// requires count: row.len ≡ source.now.row.len
-/// requires callable: CallableOnAllAt gives F.FnMut (row_items source.now) f
-/// ensures MapsTo (λ p x y q. CalledAt F.FnMut p x y q) f (places_of row)
-///     (row_items source.now) stored.old stored.new result
-/// ```
-/// [How to read it](crate::contracts)
-/// </details>
-#[inline(always)]
-fn write_row<T, U: Sized, F: FnMut(&T) -> U>(stored: &mut [U], row: Row, source: &LentRow<'_, T>, f: F) -> F {
-    match source.as_slice() {
-        Some(items) if is_contiguous(row) => {
-            let (_before, others) = stored.split_at_mut(row.start);
-            let (these, _after) = others.split_at_mut(row.len);
-            write_slice(these, items, f)
-        }
-        _ => write_places(stored, row, source, f),
-    }
-}
-
-/// Writes at each place of these rows what a closure makes of the next item of other rows.
-///
-/// <details><summary>Contract (proved)</summary>
-///
-/// ```text
-/// requires rows: All (HasRow (length stored.old)) rows
-/// requires count: AllZip (λ row source. row.len ≡ source.row.len) rows sources
-/// requires distinct: AllPairs (λ one other. one ≢ other) (rows_places rows)
-/// requires callable: CallableOnAllAt gives F.FnMut (rows_items sources) f
-/// ensures Maps (λ p x y q. CalledAt F.FnMut p x y q) f (rows_places rows.entry)
-///     (rows_items sources.entry) stored.old stored.new
-/// ```
-/// [How to read it](crate::contracts)
-/// </details>
-#[inline(always)]
-fn write_rows<T, U: Sized, F: FnMut(&T) -> U>(stored: &mut [U], rows: Rows<'_>, sources: LentRows<'_, T>, mut f: F) {
-    let mut sources = sources;
-    for row in rows {
-        if let Some(source) = sources.next() {
-            f = write_row(stored, row, &source, f);
-        }
+        f = map_row(cells, row, f);
     }
 }
 
@@ -191,56 +78,50 @@ fn write_rows<T, U: Sized, F: FnMut(&T) -> U>(stored: &mut [U], rows: Rows<'_>, 
 /// <details><summary>Contract (proved)</summary>
 ///
 /// ```text
-/// requires within: All (IsInBounds (length stored.old)) (view_places RowMajor view.now)
-/// requires distinct: AllPairs (λ one other. one ≢ other) (view_places RowMajor view.now)
-/// requires callable: CallableOnEachMut F.FnMut (map (item_at_place stored.old) (view_places RowMajor view.now)) f
-/// ensures Maps (λ p x y q. CalledAtMut F.FnMut p x tt q y) f (view_places RowMajor view.now)
-///     (map (item_at_place stored.old) (view_places RowMajor view.now)) stored.old stored.new
+/// requires own: AreOwn cells.old.marks (view_places RowMajor view.now)
+/// requires callable: CallableOnEachMut F.FnMut (map (item_at_place cells.old.items) (view_places RowMajor view.now)) f
+/// ensures ran: Maps (λ p x y q. CalledAtMut F.FnMut p x tt q y) f (view_places RowMajor view.now)
+///     (map (item_at_place cells.old.items) (view_places RowMajor view.now)) cells.old.items cells.new.items
 /// ```
 /// [How to read it](crate::contracts)
 /// </details>
 #[inline(always)]
-fn map_view<T, D: Lengths, F: FnMut(&mut T)>(stored: &mut [T], view: &Strided<D>, f: F) {
-    map_rows(stored, view.joined_rows(Order::RowMajor), f);
+fn map_view<T, D: Lengths, F: FnMut(&mut T)>(cells: &mut Cells<'_, T>, view: &Strided<D>, f: F) {
+    map_rows(cells, view.joined_rows(Order::RowMajor), f);
 }
 
-/// Writes at each index of a view what a closure makes of the item at the same index of another view of its shape, in row-major
-/// order.
+/// Calls a closure at the item of each index of a view, each once: in the order in which they lie; with more axes than `nearest_view`
+/// sorts, in row-major order.
 ///
 /// <details><summary>Contract (proved)</summary>
 ///
 /// ```text
-/// requires shape: view.now.shape ≡ source.now.shape
-/// requires own_view: IsView view.now
-/// requires is_view: IsView source.now
-/// requires within: All (IsInBounds (length stored.old)) (view_places RowMajor view.now)
-/// requires distinct: AllPairs (λ one other. one ≢ other) (view_places RowMajor view.now)
-/// requires items: All (IsInBounds (length items.now)) (view_places RowMajor source.now)
-/// requires callable: CallableOnAllAt gives F.FnMut (map (item_at_place items.now) (view_places RowMajor source.now)) f
-/// ensures Maps (λ p x y q. CalledAt F.FnMut p x y q) f (view_places RowMajor view.now)
-///     (map (item_at_place items.now) (view_places RowMajor source.now)) stored.old stored.new
+/// requires own: AreOwn cells.old.marks (view_places RowMajor view.now)
+/// requires callable: InAnyOrder (λ items. CallableOnEachMut F.FnMut items f)
+///     (map (item_at_place cells.old.items) (view_places RowMajor view.now))
+/// ensures ran: MapsAt (λ p x y q. CalledAtMut F.FnMut p x tt q y) f (view_places RowMajor view.now)
+///     cells.old.items cells.new.items
 /// ```
 /// [How to read it](crate::contracts)
 /// </details>
 #[inline(always)]
-fn write_view<'a, T, U: Sized, D: Lengths, F: FnMut(&T) -> U>(
-    stored: &mut [U],
-    view: &'a Strided<D>,
-    items: &'a [T],
-    source: &'a Strided<D>,
+pub(in crate::nd_lent) fn map_nearest<T, D: Lengths, F: FnMut(&mut T)>(
+    cells: &mut Cells<'_, T>,
+    view: &Strided<D>,
     f: F,
 ) {
-    let (rows, sources) = view.joined_rows_with(source, Order::RowMajor);
-    write_rows(stored, rows, LentRows::new(items, sources), f);
+    match nearest_view(view) {
+        Some(nearest) => map_view(cells, &nearest, f),
+        None => map_view(cells, view, f),
+    }
 }
 
 impl<'a, T: Sized, D: Lengths> ArrayViewMut<'a, T, D> {
-    /// Calls a closure at the item of each index, in row-major order, to change it in place. Spare items are unchanged.
+    /// Calls a closure at the item of each index, in row-major order, to change it in place. Other items are unchanged.
     ///
-    /// Takes no memory. Goes over the longest rows that the axes allow (`Strided::joined_rows`): one whose items follow one
-    /// another is a loop over a slice; in others each index takes the time of its place.
+    /// Takes no memory. Goes over the longest rows that the axes allow (`Strided::joined_rows`).
     ///
-    /// `|item| *item = item.wrapping_mul(2)` at `a`: 14 16 9. ndarray's `map_inplace`.
+    /// `|item| *item *= 2` at `[2]`, `[-1]` from 1 over 7 8 9: 14 16 9. ndarray's `map_inplace`.
     ///
     /// # Conditions
     ///
@@ -250,13 +131,15 @@ impl<'a, T: Sized, D: Lengths> ArrayViewMut<'a, T, D> {
     /// # Examples
     ///
     /// ```
-    /// use ndarray_layout::{ArrayViewMut, Ix1, LayoutError, ShapeBuilder, unsigned};
+    /// use ndarray_layout::{ArrayViewMut, Ix2, LayoutError, s};
     ///
     /// # fn main() -> Result<(), LayoutError> {
-    /// let mut items = [7_i32, 8, 9];
-    /// let mut a = ArrayViewMut::from_shape(Ix1(2).strides(Ix1(unsigned(-1)))?, &mut items)?;
-    /// a.map_in_place(|item| *item = item.wrapping_mul(2));
-    /// assert_eq!(items, [14, 16, 9]);
+    /// let mut items = [1, 2, 3, 4];
+    /// let mut table = ArrayViewMut::from_shape(Ix2(2, 2), &mut items)?;
+    /// let (mut row, mut item) = table.multi_slice_mut((s![0, ..], s![1, 1]))?;
+    /// row.map_in_place(|item| *item *= 10);
+    /// item.map_in_place(|item| *item += 1);
+    /// assert_eq!(items, [10, 20, 3, 5]);
     /// # Ok(())
     /// # }
     /// ```
@@ -277,17 +160,17 @@ impl<'a, T: Sized, D: Lengths> ArrayViewMut<'a, T, D> {
     /// </details>
     #[inline]
     pub fn map_in_place<F: FnMut(&mut T)>(&mut self, f: F) {
-        map_view(self.items, &self.view, f);
+        map_view(&mut self.cells, &self.view, f);
     }
 
     /// Calls a closure at the item of each index, each once, to change it in place, in the order in which they lie: that in which
-    /// ndarray goes. Spare items are unchanged.
+    /// ndarray goes. Other items are unchanged.
     ///
-    /// It is `map_in_place` for a closure that needs no order. Takes no memory. With at most 6 axes it goes over the longest rows
-    /// that the axes allow once they are turned and sorted (`Strided::nearest`), so that one that is transposed, mirrored or
-    /// column-major is one slice as well, where its items lie side by side; with more axes as `map_in_place` does.
+    /// It is `map_in_place` for a closure that needs no order. Takes no memory. With at most 6 axes it goes over the longest rows that
+    /// the axes allow once they are turned and sorted (`Strided::nearest`), so that a part that is transposed, mirrored or column-major
+    /// is one row as well, where its items lie side by side; with more axes as `map_in_place` does.
     ///
-    /// `|item| *item = item.wrapping_mul(2)` at `a`: at 7, then at 8, 14 16 9. ndarray's `map_inplace`.
+    /// `|item| *item *= 2` at `[2]`, `[-1]` from 1 over 7 8 9: at 7, then at 8, 14 16 9. ndarray's `map_inplace`.
     ///
     /// # Conditions
     ///
@@ -297,18 +180,13 @@ impl<'a, T: Sized, D: Lengths> ArrayViewMut<'a, T, D> {
     /// # Examples
     ///
     /// ```
-    /// use ndarray_layout::{ArrayViewMut, Ix1, LayoutError, ShapeBuilder, unsigned};
+    /// use ndarray_layout::{ArrayViewMut, Ix2, LayoutError};
     ///
     /// # fn main() -> Result<(), LayoutError> {
-    /// let mut items = [7_i32, 8, 9];
-    /// let mut a = ArrayViewMut::from_shape(Ix1(2).strides(Ix1(unsigned(-1)))?, &mut items)?;
-    /// let mut seen = Vec::new();
-    /// a.map_in_place_nearest(|item| {
-    ///     seen.push(*item);
-    ///     *item = item.wrapping_mul(2);
-    /// });
-    /// assert_eq!(items, [14, 16, 9]);
-    /// assert_eq!(seen, [7, 8]);
+    /// let (mut items, mut met) = ([1, 2, 3, 4], Vec::new());
+    /// let mut part = ArrayViewMut::from_shape(Ix2(2, 2), &mut items)?.reversed_axes();
+    /// part.map_in_place_nearest(|item| met.push(*item));
+    /// assert_eq!(met, [1, 2, 3, 4]);
     /// # Ok(())
     /// # }
     /// ```
@@ -329,150 +207,6 @@ impl<'a, T: Sized, D: Lengths> ArrayViewMut<'a, T, D> {
     /// </details>
     #[inline]
     pub fn map_in_place_nearest<F: FnMut(&mut T)>(&mut self, f: F) {
-        match nearest_view(&self.view) {
-            Some(nearest) => map_view(self.items, &nearest, f),
-            None => self.map_in_place(f),
-        }
-    }
-}
-
-impl<T, D: Lengths> ArrayView<'_, T, D> {
-    /// Writes at each index of another array of the same shape what a closure makes of the item here, in row-major order. Spare
-    /// items are unchanged.
-    ///
-    /// Takes no memory. Goes over the longest rows that the axes of both allow (`Strided::joined_rows_with`): two whose items
-    /// follow one another are a loop over two slices; in others each index takes the time of its place in both.
-    ///
-    /// `|item| *item < 6` of 5 6 to `[2]` with the stride `[-1]`: the second item is `true`, and the first `false`. ndarray's
-    /// `map`, which makes a new array, and `Zip::map_assign_into`.
-    ///
-    /// # Errors
-    ///
-    /// `IncompatibleShape` where the shapes differ; the items are unchanged, and the closure isn't called. (A shape that can be
-    /// broadcast is an error too: `broadcast` comes first.)
-    ///
-    /// # Conditions
-    ///
-    /// The function may be called with any item of the array, whatever it was called with before. Where it panics, so
-    /// does this call, and the items before keep what they were given.
-    ///
-    /// # Examples
-    ///
-    /// ```
-    /// use ndarray_layout::{ArrayView, ArrayViewMut, Ix1, LayoutError, ShapeBuilder, unsigned};
-    ///
-    /// # fn main() -> Result<(), LayoutError> {
-    /// let numbers = ArrayView::from_shape(Ix1(2).into(), &[5, 6])?;
-    /// let mut items = [false, false];
-    /// let shape = Ix1(2).strides(Ix1(unsigned(-1)))?;
-    /// let mut small = ArrayViewMut::from_shape(shape, &mut items)?;
-    /// numbers.map_into(&mut small, |item| *item < 6)?;
-    /// assert_eq!(items, [false, true]);
-    /// # Ok(())
-    /// # }
-    /// ```
-    ///
-    /// <details><summary>Contract (proved)</summary>
-    ///
-    /// ```text
-    /// requires self.now.view.shape ≡ (array_of to.old).view.shape →
-    ///     CallableOnAllAt gives F.FnMut (row_major_items self.now) f
-    /// ensures fits: IsOk result ↔ (self.now.view.shape ≡ (array_of to.old).view.shape)
-    /// ensures fault: OnErr result (result_err result ≡ Some IncompatibleShape)
-    /// ensures unchanged: OnErr result (array_of to.new ≡ array_of to.old)
-    /// ensures ran: OnOk result (CallsMake (λ p x y q. CalledAt F.FnMut p x y q) f
-    ///     (row_major_items self.now) (row_major_items (array_of to.new)))
-    /// ensures mapped: OnOk result ((h : T → U) → ActsAsAt F.FnMut f h → HasItemsOf
-    ///     (λ index. option_map h (item_at self.now index)) (array_of to.old) (array_of to.new))
-    /// ensures view: (array_of to.new).view ≡ (array_of to.old).view
-    /// ensures spare: KeepsSpare (array_of to.old) (array_of to.new)
-    /// ```
-    /// [How to read it](crate::contracts)
-    /// </details>
-    #[inline]
-    pub fn map_into<U: Sized, F: FnMut(&T) -> U>(
-        &self,
-        to: &mut ArrayViewMut<'_, U, D>,
-        f: F,
-    ) -> Result<(), ShapeError> {
-        if !to.view.dim().equal(self.dim()) {
-            return Err(from_kind(ErrorKind::IncompatibleShape));
-        }
-        write_view(to.items, &to.view, self.stored(), self.strided(), f);
-        Ok(())
-    }
-
-    /// Writes at each index of another array of the same shape what a closure makes of the item here, each once, in the order in
-    /// which those of the other array lie. Spare items are unchanged.
-    ///
-    /// It is `map_into` for a closure that needs no order. Takes no memory. With at most 6 axes it goes over the longest rows that
-    /// the axes of both allow once they are turned and sorted by the other array's strides (`Strided::nearest_with`); with more
-    /// axes as `map_into` does.
-    ///
-    /// `|item| *item < 6` of 5 6 to `[2]` with the stride `[-1]`: at 6, then at 5, and the second item is `true`. ndarray's
-    /// `Zip::map_assign_into`.
-    ///
-    /// # Errors
-    ///
-    /// `IncompatibleShape` where the shapes differ; the items are unchanged, and the closure isn't called. (A shape that can be
-    /// broadcast is an error too: `broadcast` comes first.)
-    ///
-    /// # Conditions
-    ///
-    /// The function may be called with any item of the array, whatever it was called with before. Where it panics, so
-    /// does this call, and the items before keep what they were given.
-    ///
-    /// # Examples
-    ///
-    /// ```
-    /// use ndarray_layout::{ArrayView, ArrayViewMut, Ix1, LayoutError, ShapeBuilder, unsigned};
-    ///
-    /// # fn main() -> Result<(), LayoutError> {
-    /// let numbers = ArrayView::from_shape(Ix1(2).into(), &[5, 6])?;
-    /// let mut are_small = [false; 2];
-    /// let mut to = ArrayViewMut::from_shape(Ix1(2).strides(Ix1(unsigned(-1)))?, &mut are_small)?;
-    /// let mut seen = Vec::new();
-    /// numbers.map_into_nearest(&mut to, |item| {
-    ///     seen.push(*item);
-    ///     *item < 6
-    /// })?;
-    /// assert_eq!(are_small, [false, true]);
-    /// assert_eq!(seen, [6, 5]);
-    /// # Ok(())
-    /// # }
-    /// ```
-    ///
-    /// <details><summary>Contract (proved)</summary>
-    ///
-    /// ```text
-    /// requires self.now.view.shape ≡ (array_of to.old).view.shape →
-    ///     InAnyOrder (λ items. CallableOnAllAt gives F.FnMut items f)
-    ///     (row_major_items self.now)
-    /// ensures fits: IsOk result ↔ (self.now.view.shape ≡ (array_of to.old).view.shape)
-    /// ensures fault: OnErr result (result_err result ≡ Some IncompatibleShape)
-    /// ensures unchanged: OnErr result (array_of to.new ≡ array_of to.old)
-    /// ensures ran: OnOk result (CallsMakeArrayInSomeOrder (λ p x y q. CalledAt F.FnMut p x y q) f
-    ///     self.now (array_of to.new))
-    /// ensures mapped: OnOk result ((h : T → U) → ActsAsAt F.FnMut f h → HasItemsOf
-    ///     (λ index. option_map h (item_at self.now index)) (array_of to.old) (array_of to.new))
-    /// ensures view: (array_of to.new).view ≡ (array_of to.old).view
-    /// ensures spare: KeepsSpare (array_of to.old) (array_of to.new)
-    /// ```
-    /// [How to read it](crate::contracts)
-    /// </details>
-    #[inline]
-    pub fn map_into_nearest<U: Sized, F: FnMut(&T) -> U>(
-        &self,
-        to: &mut ArrayViewMut<'_, U, D>,
-        f: F,
-    ) -> Result<(), ShapeError> {
-        if !to.view.dim().equal(self.dim()) {
-            return Err(from_kind(ErrorKind::IncompatibleShape));
-        }
-        match nearest_views(&to.view, self.strided()) {
-            Some((view, source)) => write_view(to.items, &view, self.stored(), &source, f),
-            None => return self.map_into(to, f),
-        }
-        Ok(())
+        map_nearest(&mut self.cells, &self.view, f);
     }
 }

@@ -1,27 +1,27 @@
 // Made by `rust/erase` of `crates/nd_lent/src/array_view_mut/steps.rt`: edit that.
-//! Other views of items that are lent to be written: each is made as that of its layout is, and ends the array. Through a
-//! step that may fail a proof loses what the items are in the end; `ArrayViewMut::new` of a view that is made first keeps it.
+//! Other views of the items of a part: each is made as that of its layout is, and ends the part. No item is read or written.
 
+use crate::memory::AllocError;
 use crate::nd_lent::array_view_mut::ArrayViewMut;
 use crate::ndarray_layout::{Axis, Fit, LayoutError, Lengths, Order, RemoveAxis, SliceElems};
 
 impl<'a, T: Sized, D: Lengths> ArrayViewMut<'a, T, D> {
-    /// The array of the items that a slice argument leaves: `Strided::slice`, with its errors.
+    /// The part of the items that a slice argument leaves: `Strided::slice`, with its errors.
     ///
     /// `1..` of `[3]` over 7 8 9: 8 9. ndarray's `slice_move`.
     ///
     /// # Examples
     ///
     /// ```
-    /// use ndarray_layout::{ArrayViewMut, ErrorKind, Fit, Ix1, LayoutError, from_kind, s};
+    /// use ndarray_layout::{ArrayViewMut, Fit, Ix1, Ix2, LayoutError, s};
     ///
     /// # fn main() -> Result<(), LayoutError> {
-    /// let mut items = [7, 8, 9];
-    /// let array = ArrayViewMut::from_shape(Ix1(3).into(), &mut items)?;
-    /// let part: ArrayViewMut<'_, i32, Ix1> = array.slice(&s![1..], Fit::Strict)?;
-    /// assert_eq!(part.try_view()?.to_vec()?, [8, 9]);
-    /// let past = part.slice::<Ix1, _>(&s![1..3], Fit::Strict);
-    /// assert_eq!(past, Err(from_kind(ErrorKind::OutOfBounds).into()));
+    /// let mut items = [1, 2, 3, 4, 5, 6];
+    /// let part = ArrayViewMut::from_shape(Ix2(2, 3), &mut items)?;
+    /// let mut row: ArrayViewMut<'_, i32, Ix1> = part.slice_move_with(&s![1, ..;-2], Fit::Strict)?;
+    /// assert_eq!((row[0], row[1]), (6, 4));
+    /// row.fill(0);
+    /// assert_eq!(items, [1, 2, 3, 0, 5, 0]);
     /// # Ok(())
     /// # }
     /// ```
@@ -39,15 +39,67 @@ impl<'a, T: Sized, D: Lengths> ArrayViewMut<'a, T, D> {
     /// [How to read it](crate::contracts)
     /// </details>
     #[inline]
-    pub fn slice<E: Lengths, S: SliceElems>(self, slices: &S, fit: Fit) -> Result<ArrayViewMut<'a, T, E>, LayoutError> {
-        let ArrayViewMut { items, view } = self;
+    pub fn slice_move_with<E: Lengths, S: SliceElems>(
+        self,
+        slices: &S,
+        fit: Fit,
+    ) -> Result<ArrayViewMut<'a, T, E>, LayoutError> {
+        let ArrayViewMut { cells, view } = self;
         let view = view.slice(slices, fit)?;
-        Ok(ArrayViewMut::new(view, items))
+        Ok(ArrayViewMut::of_cells(cells, view))
     }
 
-    /// The transpose: `Strided::reversed_axes`.
+    /// The part of the items that a slice argument leaves, for as long as this one is borrowed: `Strided::slice`, with its errors.
+    /// Once it is gone, this part has what was written: that is tested, and in no clause.
     ///
-    /// (2,1) of the result is (1,2) of the array. ndarray's `reversed_axes`.
+    /// `1..` of `[3]` over 7 8 9: 8 9. ndarray's `slice_mut`.
+    ///
+    /// # Examples
+    ///
+    /// ```
+    /// use ndarray_layout::{ArrayViewMut, Fit, Ix1, Ix2, LayoutError, s};
+    ///
+    /// # fn main() -> Result<(), LayoutError> {
+    /// let mut items = [7, 8, 9, 10];
+    /// let mut part = ArrayViewMut::from_shape(Ix2(2, 2), &mut items)?;
+    /// let mut column: ArrayViewMut<'_, i32, Ix1> = part.slice_mut_with(&s![.., 1], Fit::Strict)?;
+    /// assert!(column.set(&0, 0));
+    /// assert!(part.set(&(1, 0), 1));
+    /// assert_eq!(items, [7, 0, 1, 10]);
+    /// # Ok(())
+    /// # }
+    /// ```
+    ///
+    /// <details><summary>Contract (proved)</summary>
+    ///
+    /// ```text
+    /// ensures fault: shape_fault result ≡
+    ///     view_slice_fault fit E.NDIM (array_of self.old).view.shape (S.list slices.now)
+    /// ensures memory: shape_fault result ≡ None → NeedsNoMemory E.NDIM (out_count (S.list slices.now)) → IsOk result
+    /// ensures array: IfOk result (λ a. IsArrayOfStep Descends
+    ///     (selected fit (S.list slices.now) (array_of self.old).view.shape)
+    ///     (slice_of fit (S.list slices.now)) (array_of self.old) (array_of a))
+    /// ```
+    /// [How to read it](crate::contracts)
+    /// </details>
+    #[inline]
+    pub fn slice_mut_with<E: Lengths, S: SliceElems>(
+        &mut self,
+        slices: &S,
+        fit: Fit,
+    ) -> Result<ArrayViewMut<'_, T, E>, LayoutError> {
+        let view = self.view.slice(slices, fit)?;
+        Ok(self.borrowed(view))
+    }
+
+    /// The part once more, for as long as this one is borrowed. Once it is gone, this part has what was written: that is tested, and in
+    /// no clause.
+    ///
+    /// ndarray's `view_mut`.
+    ///
+    /// # Errors
+    ///
+    /// Out of memory; never where the type fixes the count of axes or there are at most 4.
     ///
     /// # Examples
     ///
@@ -55,11 +107,79 @@ impl<'a, T: Sized, D: Lengths> ArrayViewMut<'a, T, D> {
     /// use ndarray_layout::{ArrayViewMut, Ix2, LayoutError};
     ///
     /// # fn main() -> Result<(), LayoutError> {
-    /// let mut items = [0, 1, 2, 3, 4, 5];
-    /// let table = ArrayViewMut::from_shape(Ix2(2, 3).into(), &mut items)?;
-    /// assert_eq!(table.get(&(1, 2)), Some(&5));
-    /// let table = table.reversed_axes();
-    /// assert_eq!((table.dim(), table.get(&(2, 1))), (&Ix2(3, 2), Some(&5)));
+    /// let mut items = [7, 8, 9, 10];
+    /// let mut part = ArrayViewMut::from_shape(Ix2(2, 2), &mut items)?;
+    /// let mut turned = part.reborrow()?.reversed_axes();
+    /// assert!(turned.set(&(0, 1), 0));
+    /// assert!(part.set(&(0, 1), 1));
+    /// assert_eq!(items, [7, 1, 0, 10]);
+    /// # Ok(())
+    /// # }
+    /// ```
+    ///
+    /// <details><summary>Contract (proved)</summary>
+    ///
+    /// ```text
+    /// ensures memory: NeedsNoMemory D.NDIM (length (array_of self.old).view.shape) → IsOk result
+    /// ensures array: IfOk result (λ a. array_of a ≡ array_of self.old)
+    /// ```
+    /// [How to read it](crate::contracts)
+    /// </details>
+    #[inline]
+    pub fn reborrow(&mut self) -> Result<ArrayViewMut<'_, T, D>, AllocError> {
+        let view = self.view.duplicate()?;
+        Ok(self.borrowed(view))
+    }
+
+    /// The array with a dimension of another type: `Strided::into_dimensionality`, with its errors.
+    ///
+    /// `[2,3]` at `IxDyn` becomes the same at `Ix2`. ndarray's `into_dimensionality`.
+    ///
+    /// # Examples
+    ///
+    /// ```
+    /// use ndarray_layout::{ArrayViewMut, Ix1, Ix2, IxDyn, LayoutError};
+    ///
+    /// # fn main() -> Result<(), LayoutError> {
+    /// let mut items = [1, 2, 3, 4, 5, 6];
+    /// let array: ArrayViewMut<'_, i32, IxDyn> = ArrayViewMut::from_shape(IxDyn(&[2, 3]), &mut items)?;
+    /// let array = array.into_dimensionality::<Ix2>()?;
+    /// assert_eq!(array.dim(), &Ix2(2, 3));
+    /// assert!(array.into_dimensionality::<Ix1>().is_err());
+    /// # Ok(())
+    /// # }
+    /// ```
+    ///
+    /// <details><summary>Contract (proved)</summary>
+    ///
+    /// ```text
+    /// ensures fault: shape_fault result ≡ count_fault E.NDIM (length (array_of self.entry).view.shape)
+    /// ensures memory: shape_fault result ≡ None →
+    ///     NeedsNoMemory E.NDIM (length (array_of self.entry).view.shape) → IsOk result
+    /// ensures array: IfOk result (λ a. array_of a ≡ array_of self.entry)
+    /// ```
+    /// [How to read it](crate::contracts)
+    /// </details>
+    #[inline]
+    pub fn into_dimensionality<E: Lengths>(self) -> Result<ArrayViewMut<'a, T, E>, LayoutError> {
+        let ArrayViewMut { cells, view } = self;
+        let view = view.into_dimensionality()?;
+        Ok(ArrayViewMut::of_cells(cells, view))
+    }
+
+    /// The transpose: `Strided::reversed_axes`.
+    ///
+    /// (2,1) of the result is (1,2) of the part. ndarray's `reversed_axes`.
+    ///
+    /// # Examples
+    ///
+    /// ```
+    /// use ndarray_layout::{ArrayViewMut, Ix2, LayoutError};
+    ///
+    /// # fn main() -> Result<(), LayoutError> {
+    /// let mut items = [1, 2, 3, 4, 5, 6];
+    /// let turned = ArrayViewMut::from_shape(Ix2(2, 3), &mut items)?.reversed_axes();
+    /// assert_eq!((turned.dim(), turned[(2, 0)], turned[(2, 1)]), (&Ix2(3, 2), 3, 6));
     /// # Ok(())
     /// # }
     /// ```
@@ -74,9 +194,9 @@ impl<'a, T: Sized, D: Lengths> ArrayViewMut<'a, T, D> {
     #[inline]
     #[must_use]
     pub fn reversed_axes(self) -> Self {
-        let ArrayViewMut { items, view } = self;
+        let ArrayViewMut { cells, view } = self;
         let view = view.reversed_axes();
-        ArrayViewMut::new(view, items)
+        ArrayViewMut::of_cells(cells, view)
     }
 
     /// The axes in another order: `Strided::permuted_axes`, with its errors.
@@ -86,15 +206,14 @@ impl<'a, T: Sized, D: Lengths> ArrayViewMut<'a, T, D> {
     /// # Examples
     ///
     /// ```
-    /// use ndarray_layout::{ArrayViewMut, Axis, ErrorKind, Ix3, LayoutError, from_kind};
+    /// use ndarray_layout::{ArrayViewMut, Axis, Ix3, LayoutError};
     ///
     /// # fn main() -> Result<(), LayoutError> {
-    /// let mut items = [0, 1, 2, 3, 4, 5];
-    /// let array = ArrayViewMut::from_shape(Ix3(1, 2, 3).into(), &mut items)?;
-    /// let array = array.permuted_axes(&[Axis(2), Axis(0), Axis(1)])?;
-    /// assert_eq!((array.dim(), array.get(&(2, 0, 1))), (&Ix3(3, 1, 2), Some(&5)));
-    /// let twice = array.permuted_axes(&[Axis(0), Axis(0), Axis(1)]);
-    /// assert_eq!(twice, Err(from_kind(ErrorKind::IncompatibleShape).into()));
+    /// let mut pixels = [10, 11, 12, 20, 21, 22];
+    /// let picture = ArrayViewMut::from_shape(Ix3(1, 2, 3), &mut pixels)?;
+    /// let planes = picture.permuted_axes(&[Axis(2), Axis(0), Axis(1)])?;
+    /// assert_eq!((planes.dim(), planes[(2, 0, 1)]), (&Ix3(3, 1, 2), 22));
+    /// assert!(planes.permuted_axes(&[Axis(0), Axis(1)]).is_err());
     /// # Ok(())
     /// # }
     /// ```
@@ -113,9 +232,9 @@ impl<'a, T: Sized, D: Lengths> ArrayViewMut<'a, T, D> {
     /// </details>
     #[inline]
     pub fn permuted_axes(self, axes: &[Axis]) -> Result<Self, LayoutError> {
-        let ArrayViewMut { items, view } = self;
+        let ArrayViewMut { cells, view } = self;
         let view = view.permuted_axes(axes)?;
-        Ok(ArrayViewMut::new(view, items))
+        Ok(ArrayViewMut::of_cells(cells, view))
     }
 
     /// The same items along another shape, in an order: `Strided::reshape`, with its errors.
@@ -125,15 +244,14 @@ impl<'a, T: Sized, D: Lengths> ArrayViewMut<'a, T, D> {
     /// # Examples
     ///
     /// ```
-    /// use ndarray_layout::{ArrayViewMut, ErrorKind, Ix1, Ix2, LayoutError, Order, from_kind};
+    /// use ndarray_layout::{ArrayViewMut, Ix1, Ix2, LayoutError, Order};
     ///
     /// # fn main() -> Result<(), LayoutError> {
-    /// let mut items = [0, 1, 2, 3, 4, 5];
-    /// let table = ArrayViewMut::from_shape(Ix2(2, 3).into(), &mut items)?;
-    /// let table = table.reshape(&Ix2(3, 2), Order::RowMajor)?;
-    /// assert_eq!(table.get(&(2, 1)), Some(&5));
-    /// let four = table.reshape(&Ix1(4), Order::RowMajor);
-    /// assert_eq!(four, Err(from_kind(ErrorKind::IncompatibleShape).into()));
+    /// let mut items = [1, 2, 3, 4, 5, 6];
+    /// let part = ArrayViewMut::from_shape(Ix2(2, 3), &mut items)?;
+    /// let list = part.reshape(&Ix1(6), Order::RowMajor)?;
+    /// assert_eq!(list[4], 5);
+    /// assert!(list.reshape(&Ix1(5), Order::RowMajor).is_err());
     /// # Ok(())
     /// # }
     /// ```
@@ -157,12 +275,12 @@ impl<'a, T: Sized, D: Lengths> ArrayViewMut<'a, T, D> {
     /// </details>
     #[inline]
     pub fn reshape<E: Lengths>(self, shape: &E, order: Order) -> Result<ArrayViewMut<'a, T, E>, LayoutError> {
-        let ArrayViewMut { items, view } = self;
+        let ArrayViewMut { cells, view } = self;
         let view = view.reshape(shape, order)?;
-        Ok(ArrayViewMut::new(view, items))
+        Ok(ArrayViewMut::of_cells(cells, view))
     }
 
-    /// All chunks of a shape that lie side by side, as one array: `Strided::exact_chunks`, with its errors.
+    /// All chunks of a shape that lie side by side, as one part: `Strided::exact_chunks`, with its errors.
     ///
     /// Chunks of `[2]` of `[5]` over 5 6 7 8 9: 5 6 and 7 8. ndarray's `exact_chunks_mut`.
     ///
@@ -173,10 +291,9 @@ impl<'a, T: Sized, D: Lengths> ArrayViewMut<'a, T, D> {
     ///
     /// # fn main() -> Result<(), LayoutError> {
     /// let mut items = [5, 6, 7, 8, 9];
-    /// let array = ArrayViewMut::from_shape(Ix1(5).into(), &mut items)?;
-    /// let chunks: ArrayViewMut<'_, i32, Ix2> = array.exact_chunks(&Ix1(2))?;
-    /// assert_eq!(chunks.dim(), &Ix2(2, 2));
-    /// assert_eq!(chunks.try_view()?.to_vec()?, [5, 6, 7, 8]);
+    /// let part = ArrayViewMut::from_shape(Ix1(5), &mut items)?;
+    /// let chunks: ArrayViewMut<'_, i32, Ix2> = part.exact_chunks(&Ix1(2))?;
+    /// assert_eq!((chunks.dim(), chunks[(1, 0)]), (&Ix2(2, 2), 7));
     /// # Ok(())
     /// # }
     /// ```
@@ -196,9 +313,9 @@ impl<'a, T: Sized, D: Lengths> ArrayViewMut<'a, T, D> {
     /// </details>
     #[inline]
     pub fn exact_chunks<E: Lengths>(self, chunk: &D) -> Result<ArrayViewMut<'a, T, E>, LayoutError> {
-        let ArrayViewMut { items, view } = self;
+        let ArrayViewMut { cells, view } = self;
         let view = view.exact_chunks(chunk)?;
-        Ok(ArrayViewMut::new(view, items))
+        Ok(ArrayViewMut::of_cells(cells, view))
     }
 }
 
@@ -210,15 +327,15 @@ impl<'a, T: Sized, D: RemoveAxis> ArrayViewMut<'a, T, D> {
     /// # Examples
     ///
     /// ```
-    /// use ndarray_layout::{ArrayViewMut, Axis, ErrorKind, Ix2, LayoutError, from_kind};
+    /// use ndarray_layout::{ArrayViewMut, Axis, Ix2, LayoutError};
     ///
     /// # fn main() -> Result<(), LayoutError> {
-    /// let mut items = [0, 1, 2, 3, 4, 5];
-    /// let table = ArrayViewMut::from_shape(Ix2(2, 3).into(), &mut items)?;
-    /// let mut row = table.index_axis(Axis(0), 1)?;
-    /// row.fill(9);
-    /// assert_eq!(row.index_axis(Axis(0), 3), Err(from_kind(ErrorKind::OutOfBounds).into()));
-    /// assert_eq!(items, [0, 1, 2, 9, 9, 9]);
+    /// let mut items = [1, 2, 3, 4, 5, 6];
+    /// let part = ArrayViewMut::from_shape(Ix2(2, 3), &mut items)?;
+    /// let mut column = part.index_axis(Axis(1), 2)?;
+    /// column[1] = 0;
+    /// assert!(column.index_axis(Axis(0), 2).is_err());
+    /// assert_eq!(items, [1, 2, 3, 4, 5, 0]);
     /// # Ok(())
     /// # }
     /// ```
@@ -238,8 +355,8 @@ impl<'a, T: Sized, D: RemoveAxis> ArrayViewMut<'a, T, D> {
     /// </details>
     #[inline]
     pub fn index_axis(self, axis: Axis, index: usize) -> Result<ArrayViewMut<'a, T, D::Smaller>, LayoutError> {
-        let ArrayViewMut { items, view } = self;
+        let ArrayViewMut { cells, view } = self;
         let view = view.index_axis(axis, index)?;
-        Ok(ArrayViewMut::new(view, items))
+        Ok(ArrayViewMut::of_cells(cells, view))
     }
 }

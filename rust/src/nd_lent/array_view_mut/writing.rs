@@ -1,28 +1,72 @@
 // Made by `rust/erase` of `crates/nd_lent/src/array_view_mut/writing.rt`: edit that.
-//! Writes to all items of an array.
+//! Writes to all items of a part, and swaps of two.
 
-use crate::nd_lent::array_view::ArrayView;
 use crate::nd_lent::array_view_mut::ArrayViewMut;
-use crate::ndarray_layout::{Lengths, ShapeError};
+use crate::nd_lent::array_view_mut::mapping::map_nearest;
+use crate::ndarray_layout::{Lengths, NdIndex};
 
-impl<'a, T: Copy, D: Lengths> ArrayViewMut<'a, T, D> {
-    /// Writes an item at each index. Spare items are unchanged.
+impl<'a, T: Sized, D: Lengths> ArrayViewMut<'a, T, D> {
+    /// Swaps the items of two indices, and returns whether both are indices of the shape; else the part is unchanged.
     ///
-    /// Takes no memory. Goes over the items in the order in which they lie, as `map_in_place_nearest` does: a row whose items
-    /// follow one another is a loop over a slice; in others each index takes the time of its place.
-    ///
-    /// 5 to `a`: 5 5 9. ndarray's `fill`.
+    /// `[2]`, `[2]` from 0 over 7 8 9: (0) and (1) make the items 9 8 7. ndarray's `swap`, which panics where one is no index.
     ///
     /// # Examples
     ///
     /// ```
-    /// use ndarray_layout::{ArrayViewMut, Ix1, LayoutError, ShapeBuilder, unsigned};
+    /// use ndarray_layout::{ArrayViewMut, Ix2, LayoutError};
     ///
     /// # fn main() -> Result<(), LayoutError> {
-    /// let mut items = [7, 8, 9];
-    /// let mut a = ArrayViewMut::from_shape(Ix1(2).strides(Ix1(unsigned(-1)))?, &mut items)?;
-    /// a.fill(5);
-    /// assert_eq!(items, [5, 5, 9]);
+    /// let mut items = ["a", "b", "c", "d"];
+    /// let mut part = ArrayViewMut::from_shape(Ix2(2, 2), &mut items)?;
+    /// assert!(part.swap(&(0, 1), &(1, 0)));
+    /// assert!(!part.swap(&(0, 0), &(0, 2)));
+    /// assert_eq!(items, ["a", "c", "b", "d"]);
+    /// # Ok(())
+    /// # }
+    /// ```
+    ///
+    /// <details><summary>Contract (proved)</summary>
+    ///
+    /// ```text
+    /// ensures are_indices: result ≡
+    ///     (is_index (array_of self.old).view.shape (I.index_list index.now)
+    ///     && is_index (array_of self.old).view.shape (J.index_list other.now))
+    /// ensures swapped: array_of self.new ≡ with_swapped (array_of self.old)
+    ///     (I.index_list index.now) (J.index_list other.now)
+    /// ```
+    /// [How to read it](crate::contracts)
+    /// </details>
+    #[inline]
+    #[must_use]
+    pub fn swap<I: NdIndex<D>, J: NdIndex<D>>(&mut self, index: &I, other: &J) -> bool {
+        match (self.view.place(index), self.view.place(other)) {
+            (Some(one), Some(other)) => {
+                self.cells.swap(one, other);
+                true
+            }
+            _ => false,
+        }
+    }
+}
+
+impl<'a, T: Sized + Clone, D: Lengths> ArrayViewMut<'a, T, D> {
+    /// Writes an item at each index. Other items are unchanged.
+    ///
+    /// Takes no memory. Goes over the items in the order in which they lie, as `map_in_place_nearest` does.
+    ///
+    /// 5 to `[2]`, `[-1]` from 1 over 7 8 9: 5 5 9. ndarray's `fill`.
+    ///
+    /// # Examples
+    ///
+    /// ```
+    /// use ndarray_layout::{Ix2, LayoutError, OwnedArray, s};
+    ///
+    /// # fn main() -> Result<(), LayoutError> {
+    /// let mut table = OwnedArray::from_shape_vec(Ix2(2, 2), vec!["a".to_string(); 4])?;
+    /// let [mut left, mut right] = table.multi_slice_mut([s![.., 0], s![.., 1]])?;
+    /// left.fill("b".to_string());
+    /// right.fill("c".to_string());
+    /// assert_eq!(table.stored(), ["b", "c", "b", "c"]);
     /// # Ok(())
     /// # }
     /// ```
@@ -31,55 +75,14 @@ impl<'a, T: Copy, D: Lengths> ArrayViewMut<'a, T, D> {
     ///
     /// ```text
     /// ensures filled: HasItemsOf (λ index. Some item) (array_of self.old) (array_of self.new)
+    /// ensures count: length (array_of self.new).items ≡ length (array_of self.old).items
     /// ```
     /// [How to read it](crate::contracts)
     /// </details>
     #[inline]
     pub fn fill(&mut self, item: T) {
-        self.map_in_place_nearest(|stored: &mut T| {
-            *stored = item;
+        map_nearest(&mut self.cells, &self.view, |stored: &mut T| {
+            *stored = item.clone();
         });
-    }
-
-    /// Writes at each index a copy of the item that another array of the same shape has there. Spare items are unchanged.
-    ///
-    /// Takes no memory. Goes over the items in the order in which they lie here, as `map_into_nearest` does.
-    ///
-    /// 5 6 to `a`: 6 5 9. ndarray's `assign`.
-    ///
-    /// # Errors
-    ///
-    /// `IncompatibleShape` where the shapes differ; the items are unchanged. (A shape that can be broadcast is an error
-    /// too: `ArrayView::broadcast` comes first.)
-    ///
-    /// # Examples
-    ///
-    /// ```
-    /// use ndarray_layout::{ArrayView, ArrayViewMut, ErrorKind, Ix1, ShapeBuilder, from_kind, unsigned};
-    ///
-    /// # fn main() -> Result<(), Box<dyn std::error::Error>> {
-    /// let mut items = [7, 8, 9];
-    /// let mut a = ArrayViewMut::from_shape(Ix1(2).strides(Ix1(unsigned(-1)))?, &mut items)?;
-    /// a.assign(&ArrayView::from_shape(Ix1(2).into(), &[5, 6])?)?;
-    /// let longer = ArrayView::from_shape(Ix1(3).into(), &[1, 2, 3])?;
-    /// assert_eq!(a.assign(&longer), Err(from_kind(ErrorKind::IncompatibleShape)));
-    /// assert_eq!(items, [6, 5, 9]);
-    /// # Ok(())
-    /// # }
-    /// ```
-    ///
-    /// <details><summary>Contract (proved)</summary>
-    ///
-    /// ```text
-    /// ensures fits: IsOk result ↔ ((array_of self.old).view.shape ≡ other.now.view.shape)
-    /// ensures fault: OnErr result (result_err result ≡ Some IncompatibleShape)
-    /// ensures unchanged: OnErr result (array_of self.new ≡ array_of self.old)
-    /// ensures assigned: OnOk result (HasItemsOf (item_at other.now) (array_of self.old) (array_of self.new))
-    /// ```
-    /// [How to read it](crate::contracts)
-    /// </details>
-    #[inline]
-    pub fn assign(&mut self, other: &ArrayView<'_, T, D>) -> Result<(), ShapeError> {
-        other.map_into_nearest(self, |item: &T| *item)
     }
 }

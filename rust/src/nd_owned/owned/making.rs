@@ -26,7 +26,7 @@ impl<T: Sized, D: Lengths> OwnedArray<T, D> {
     /// # fn main() -> Result<(), LayoutError> {
     /// let a = OwnedArray::from_shape_vec(Ix1(2).strides(Ix1(unsigned(-1)))?, vec![7, 8, 9])?;
     /// assert_eq!((a.get(&0), a.get(&1)), (Some(8), Some(7)));
-    /// let too_long = OwnedArray::from_shape_vec(Ix1(4).into(), vec![7, 8, 9]);
+    /// let too_long = OwnedArray::from_shape_vec(Ix1(4), vec![7, 8, 9]);
     /// let fault = from_kind(ErrorKind::OutOfBounds).into();
     /// assert_eq!(too_long, Err((fault, vec![7, 8, 9])));
     /// # Ok(())
@@ -51,11 +51,45 @@ impl<T: Sized, D: Lengths> OwnedArray<T, D> {
     /// [How to read it](crate::contracts)
     /// </details>
     #[inline]
-    pub fn from_shape_vec(shape: StrideShape<D>, items: Vec<T>) -> Result<Self, (LayoutError, Vec<T>)> {
+    pub fn from_shape_vec(shape: impl Into<StrideShape<D>>, items: Vec<T>) -> Result<Self, (LayoutError, Vec<T>)> {
         let len = items.len();
-        match Strided::from_shape(shape, 1, len, CanIndexCheckMode::OwnedMutable) {
+        match Strided::from_shape(shape.into(), 1, len, CanIndexCheckMode::OwnedMutable) {
             Ok(view) => Ok(OwnedArray { items, view }),
             Err(fault) => Err((fault, items)),
         }
+    }
+
+    /// The array with a dimension of another type: `Strided::into_dimensionality`, with its errors.
+    ///
+    /// `[2,3]` at `IxDyn` becomes the same at `Ix2`. ndarray's `into_dimensionality`.
+    ///
+    /// # Examples
+    ///
+    /// ```
+    /// use ndarray_layout::{OwnedArray, Ix1, Ix2, IxDyn, LayoutError};
+    ///
+    /// # fn main() -> Result<(), LayoutError> {
+    /// let array: OwnedArray<i32, IxDyn> = OwnedArray::from_shape_vec(IxDyn(&[2, 3]), vec![1, 2, 3, 4, 5, 6])?;
+    /// let array = array.into_dimensionality::<Ix2>()?;
+    /// assert_eq!(array.dim(), &Ix2(2, 3));
+    /// assert!(array.into_dimensionality::<Ix1>().is_err());
+    /// # Ok(())
+    /// # }
+    /// ```
+    ///
+    /// <details><summary>Contract (proved)</summary>
+    ///
+    /// ```text
+    /// ensures fault: shape_fault result ≡ count_fault E.NDIM (length self.view.shape)
+    /// ensures memory: shape_fault result ≡ None → NeedsNoMemory E.NDIM (length self.view.shape) → IsOk result
+    /// ensures array: IfOk result (λ a. a ≡ self)
+    /// ```
+    /// [How to read it](crate::contracts)
+    /// </details>
+    #[inline]
+    pub fn into_dimensionality<E: Lengths>(self) -> Result<OwnedArray<T, E>, LayoutError> {
+        let OwnedArray { items, view } = self;
+        let view = view.into_dimensionality()?;
+        Ok(OwnedArray { items, view })
     }
 }

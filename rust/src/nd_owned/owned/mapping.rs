@@ -24,8 +24,8 @@ use crate::ndarray_layout::{Fit, IxDyn, LayoutError, Lengths, SliceElems, Stride
 /// </details>
 #[inline]
 fn map_view<T: Sized, D: Lengths, F: FnMut(&mut T)>(stored: &mut [T], view: Strided<D>, f: F) {
-    let mut array = ArrayViewMut::new(view, stored);
-    array.map_in_place(f);
+    let mut part = ArrayViewMut::new(view, stored);
+    part.map_in_place(f);
 }
 
 impl<T: Sized, D: Lengths> OwnedArray<T, D> {
@@ -52,7 +52,7 @@ impl<T: Sized, D: Lengths> OwnedArray<T, D> {
     /// use ndarray_layout::{ErrorKind, Ix1, LayoutError, OwnedArray, from_kind, s};
     ///
     /// # fn main() -> Result<(), LayoutError> {
-    /// let mut array = OwnedArray::from_shape_vec(Ix1(3).into(), vec![5, 6, 7])?;
+    /// let mut array = OwnedArray::from_shape_vec(Ix1(3), vec![5, 6, 7])?;
     /// array.map_in_place(&s![1..], |item| *item = 9)?;
     /// let past = array.map_in_place(&s![1..4], |item| *item = 0);
     /// assert_eq!(past, Err(from_kind(ErrorKind::OutOfBounds).into()));

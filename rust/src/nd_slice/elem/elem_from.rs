@@ -2,7 +2,7 @@
 //! Elements of a slice argument from ranges and numbers.
 
 use super::{NewAxis, SliceInfoElem};
-use crate::nd_slice::slice::Slice;
+use crate::nd_slice::slice::{LIMIT, Slice};
 use core::ops::Range;
 use core::ops::RangeFrom;
 use core::ops::RangeFull;
@@ -73,6 +73,55 @@ impl From<RangeToInclusive<i32>> for SliceInfoElem {
     }
 }
 
+impl From<Range<usize>> for SliceInfoElem {
+    #[inline]
+    fn from(range: Range<usize>) -> SliceInfoElem {
+        Slice::from(range).into()
+    }
+}
+
+impl From<RangeFrom<usize>> for SliceInfoElem {
+    #[inline]
+    fn from(range: RangeFrom<usize>) -> SliceInfoElem {
+        Slice::from(range).into()
+    }
+}
+
+impl From<RangeTo<usize>> for SliceInfoElem {
+    #[inline]
+    fn from(range: RangeTo<usize>) -> SliceInfoElem {
+        Slice::from(range).into()
+    }
+}
+
+impl From<RangeInclusive<usize>> for SliceInfoElem {
+    #[inline]
+    fn from(range: RangeInclusive<usize>) -> SliceInfoElem {
+        Slice::from(range).into()
+    }
+}
+
+impl From<RangeToInclusive<usize>> for SliceInfoElem {
+    #[inline]
+    fn from(range: RangeToInclusive<usize>) -> SliceInfoElem {
+        Slice::from(range).into()
+    }
+}
+
+impl From<RangeInclusive<isize>> for SliceInfoElem {
+    #[inline]
+    fn from(range: RangeInclusive<isize>) -> SliceInfoElem {
+        Slice::from(range).into()
+    }
+}
+
+impl From<RangeToInclusive<isize>> for SliceInfoElem {
+    #[inline]
+    fn from(range: RangeToInclusive<isize>) -> SliceInfoElem {
+        Slice::from(range).into()
+    }
+}
+
 impl From<Slice> for SliceInfoElem {
     #[inline]
     fn from(slice: Slice) -> SliceInfoElem {
@@ -92,6 +141,13 @@ impl From<i32> for SliceInfoElem {
     #[inline]
     fn from(index: i32) -> SliceInfoElem {
         SliceInfoElem::Index(index as isize)
+    }
+}
+
+impl From<usize> for SliceInfoElem {
+    #[inline]
+    fn from(index: usize) -> SliceInfoElem {
+        SliceInfoElem::index_usize(index.min(LIMIT))
     }
 }
 

@@ -1,7 +1,7 @@
 // Made by `rust/erase` of `crates/nd_slice/src/slice/slice_from.rt`: edit that.
 //! Slices from ranges.
 
-use super::Slice;
+use super::{LIMIT, Slice};
 use core::ops::Range;
 use core::ops::RangeFrom;
 use core::ops::RangeFull;
@@ -69,5 +69,55 @@ impl From<RangeToInclusive<i32>> for Slice {
     #[inline]
     fn from(range: RangeToInclusive<i32>) -> Slice {
         Slice::to_inclusive(range.end as isize)
+    }
+}
+
+impl From<Range<usize>> for Slice {
+    #[inline]
+    fn from(range: Range<usize>) -> Slice {
+        Slice::of_usize(range.start.min(LIMIT), range.end.min(LIMIT))
+    }
+}
+
+impl From<RangeFrom<usize>> for Slice {
+    #[inline]
+    fn from(range: RangeFrom<usize>) -> Slice {
+        Slice::from_usize(range.start.min(LIMIT))
+    }
+}
+
+impl From<RangeTo<usize>> for Slice {
+    #[inline]
+    fn from(range: RangeTo<usize>) -> Slice {
+        Slice::to_usize(range.end.min(LIMIT))
+    }
+}
+
+impl From<RangeInclusive<usize>> for Slice {
+    #[inline]
+    fn from(range: RangeInclusive<usize>) -> Slice {
+        Slice::inclusive_usize((*range.start()).min(LIMIT), (*range.end()).min(LIMIT - 1))
+    }
+}
+
+impl From<RangeToInclusive<usize>> for Slice {
+    #[inline]
+    fn from(range: RangeToInclusive<usize>) -> Slice {
+        Slice::to_inclusive_usize(range.end.min(LIMIT - 1))
+    }
+}
+
+impl From<RangeInclusive<isize>> for Slice {
+    #[inline]
+    fn from(range: RangeInclusive<isize>) -> Slice {
+        let last = *range.end();
+        Slice::inclusive(*range.start(), if last == isize::MAX { last - 1 } else { last })
+    }
+}
+
+impl From<RangeToInclusive<isize>> for Slice {
+    #[inline]
+    fn from(range: RangeToInclusive<isize>) -> Slice {
+        Slice::from(0..=range.end)
     }
 }

@@ -138,6 +138,26 @@ fn check_blocks<D: Lengths>(
     check_total(blocks, shape, lens, size)
 }
 
+/// Writes how many blocks there are along each axis to the first of the lengths.
+///
+/// <details><summary>Contract (proved)</summary>
+///
+/// ```text
+/// requires lens_fit: (k : ℕ) → slice_index shape.now k ≤ limit
+/// requires some: is_empty block.now ≡ false
+/// requires counts: length block.now ≡ length shape.now
+/// requires room: length shape.now ≤ length new_shape.old
+/// ensures take (length shape.now) new_shape.new ≡ block_counts blocks shape.now block.now
+/// ```
+/// [How to read it](crate::contracts)
+/// </details>
+#[inline(always)]
+fn write_counts(blocks: Blocks, shape: &[usize], block: &[usize], new_shape: &mut [usize]) {
+    for axis in 0..shape.len() {
+        new_shape[axis] = blocks.count(shape[axis], block[axis]);
+    }
+}
+
 /// Writes how many blocks there are along each axis, and then the lengths of a block.
 ///
 /// <details><summary>Contract (proved)</summary>
@@ -153,10 +173,29 @@ fn check_blocks<D: Lengths>(
 /// </details>
 #[inline(always)]
 fn write_lengths(blocks: Blocks, shape: &[usize], block: &[usize], new_shape: &mut [usize]) {
-    for axis in 0..shape.len() {
-        new_shape[axis] = blocks.count(shape[axis], block[axis]);
-    }
+    write_counts(blocks, shape, block, new_shape);
     new_shape[shape.len()..].copy_from_slice(block);
+}
+
+/// Writes the strides from one block of each axis to the next to the first of the strides.
+///
+/// <details><summary>Contract (proved)</summary>
+///
+/// ```text
+/// requires valid: IsValidLayout shape.now (all_signed strides.now)
+/// requires some: is_empty block.now ≡ false
+/// requires counts: length block.now ≡ length shape.now
+/// requires room: length shape.now ≤ length new_strides.old
+/// ensures take (length shape.now) (all_signed new_strides.new) ≡
+///     block_strides blocks shape.now block.now (all_signed strides.now)
+/// ```
+/// [How to read it](crate::contracts)
+/// </details>
+#[inline(always)]
+fn write_steps(blocks: Blocks, shape: &[usize], strides: &[usize], block: &[usize], new_strides: &mut [usize]) {
+    for axis in 0..shape.len() {
+        new_strides[axis] = blocks.stride(shape[axis], block[axis], strides[axis]);
+    }
 }
 
 /// Writes the strides from one block of each axis to the next, and then those in a block.
@@ -176,9 +215,7 @@ fn write_lengths(blocks: Blocks, shape: &[usize], block: &[usize], new_shape: &m
 /// </details>
 #[inline(always)]
 fn write_strides(blocks: Blocks, shape: &[usize], strides: &[usize], block: &[usize], new_strides: &mut [usize]) {
-    for axis in 0..shape.len() {
-        new_strides[axis] = blocks.stride(shape[axis], block[axis], strides[axis]);
-    }
+    write_steps(blocks, shape, strides, block, new_strides);
     new_strides[shape.len()..].copy_from_slice(strides);
 }
 
@@ -221,6 +258,46 @@ pub(crate) fn block_axes<D: Lengths, E: Lengths>(
     write_lengths(blocks, shape, block.slice(), dim.slice_mut());
     if !dim.slice().contains(&0) {
         write_strides(blocks, shape, strides, block.slice(), new_strides.slice_mut());
+    }
+    Ok((dim, new_strides))
+}
+
+/// The lengths and the strides of the view of the first index of each block of a shape. Errors: those of
+/// `Strided::window_starts`.
+///
+/// # Conditions
+///
+/// The caller ensures that the layout is valid. Otherwise this call or a later one panics or returns unspecified
+/// values.
+///
+/// <details><summary>Contract (proved)</summary>
+///
+/// ```text
+/// requires IsValidLayout shape.now (all_signed strides.now)
+/// ensures fault: shape_fault result ≡ blocks_fault None shape.now
+///     (block_counts blocks shape.now (D.list block.now)) (D.list block.now)
+/// ensures memory: shape_fault result ≡ None → NeedsNoMemory D.NDIM (length shape.now) → IsOk result
+/// ensures shape: IfOk result (λ (dim, new_strides). D.list dim ≡ block_counts blocks shape.now (D.list block.now))
+/// ensures strides: IfOk result (λ (dim, new_strides). all_signed (D.list new_strides) ≡
+///     strides_of_blocks (block_counts blocks shape.now (D.list block.now))
+///     (block_strides blocks shape.now (D.list block.now) (all_signed strides.now)))
+/// ```
+/// [How to read it](crate::contracts)
+/// </details>
+#[inline(always)]
+pub(crate) fn start_axes<D: Lengths>(
+    blocks: Blocks,
+    shape: &[usize],
+    strides: &[usize],
+    block: &D,
+) -> Result<(D, D), LayoutError> {
+    check_blocks(blocks, None, shape, block)?;
+    let lens = block.slice();
+    let mut dim = D::zeros(lens.len())?;
+    let mut new_strides = D::zeros(lens.len())?;
+    write_counts(blocks, shape, lens, dim.slice_mut());
+    if !dim.slice().contains(&0) {
+        write_steps(blocks, shape, strides, lens, new_strides.slice_mut());
     }
     Ok((dim, new_strides))
 }

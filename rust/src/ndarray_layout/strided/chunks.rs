@@ -3,7 +3,7 @@
 
 use crate::nd_base::{LayoutError, Lengths};
 use crate::ndarray_layout::strided::Strided;
-use crate::ndarray_layout::strided::blocks::{Blocks, block_axes};
+use crate::ndarray_layout::strided::blocks::{Blocks, block_axes, start_axes};
 
 impl<D: Lengths> Strided<D> {
     /// The view of all chunks of a shape that lie side by side: first the number of the chunk along each
@@ -57,6 +57,27 @@ impl<D: Lengths> Strided<D> {
     pub fn exact_chunks<E: Lengths>(&self, chunk: &D) -> Result<Strided<E>, LayoutError> {
         let (shape, strides) = (self.dim.slice(), self.strides.slice());
         let (dim, strides) = block_axes(Blocks::Chunks, shape, strides, chunk)?;
+        Ok(Strided { start: self.start, dim, strides })
+    }
+
+    /// The view of the first index of each chunk of a shape: its indices are the numbers of the chunks. Errors: those of
+    /// `Strided::into_chunks`.
+    ///
+    /// <details><summary>Contract (proved)</summary>
+    ///
+    /// ```text
+    /// ensures fault: shape_fault result ≡ chunks_fault None self.now.shape (D.list chunk.now)
+    /// ensures memory: chunks_fault None self.now.shape (D.list chunk.now) ≡ None →
+    ///     NeedsNoMemory D.NDIM (length self.now.shape) → IsOk result
+    /// ensures starts: IfOk result (λ v. v ≡ chunk_starts_of (D.list chunk.now) self.now)
+    /// ensures is_view: IsView self.now
+    /// ```
+    /// [How to read it](crate::contracts)
+    /// </details>
+    #[inline]
+    pub(super) fn chunk_starts(&self, chunk: &D) -> Result<Self, LayoutError> {
+        let (shape, strides) = (self.dim.slice(), self.strides.slice());
+        let (dim, strides) = start_axes(Blocks::Chunks, shape, strides, chunk)?;
         Ok(Strided { start: self.start, dim, strides })
     }
 }

@@ -3,7 +3,7 @@
 
 use crate::nd_base::{LayoutError, Lengths};
 use crate::ndarray_layout::strided::Strided;
-use crate::ndarray_layout::strided::blocks::{Blocks, block_axes};
+use crate::ndarray_layout::strided::blocks::{Blocks, block_axes, start_axes};
 
 impl<D: Lengths> Strided<D> {
     /// The view of all windows of a shape: first the index of the window, then the index in it.
@@ -57,6 +57,27 @@ impl<D: Lengths> Strided<D> {
     pub fn windows<E: Lengths>(&self, window: &D) -> Result<Strided<E>, LayoutError> {
         let (shape, strides) = (self.dim.slice(), self.strides.slice());
         let (dim, strides) = block_axes(Blocks::Windows, shape, strides, window)?;
+        Ok(Strided { start: self.start, dim, strides })
+    }
+
+    /// The view of the first index of each window of a shape: its indices are those of the windows. Errors: those of
+    /// `Strided::into_windows`.
+    ///
+    /// <details><summary>Contract (proved)</summary>
+    ///
+    /// ```text
+    /// ensures fault: shape_fault result ≡ windows_fault None self.now.shape (D.list window.now)
+    /// ensures memory: windows_fault None self.now.shape (D.list window.now) ≡ None →
+    ///     NeedsNoMemory D.NDIM (length self.now.shape) → IsOk result
+    /// ensures starts: IfOk result (λ v. v ≡ window_starts_of (D.list window.now) self.now)
+    /// ensures is_view: IsView self.now
+    /// ```
+    /// [How to read it](crate::contracts)
+    /// </details>
+    #[inline]
+    pub(super) fn window_starts(&self, window: &D) -> Result<Self, LayoutError> {
+        let (shape, strides) = (self.dim.slice(), self.strides.slice());
+        let (dim, strides) = start_axes(Blocks::Windows, shape, strides, window)?;
         Ok(Strided { start: self.start, dim, strides })
     }
 }

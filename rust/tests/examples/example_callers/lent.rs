@@ -25,8 +25,7 @@ use ::ndarray_layout::{CanIndexCheckMode, Ix2, LayoutError, Lengths, StrideShape
 pub fn paint<D: Lengths>(pixels: &mut [u8], shape: StrideShape<D>, pixel: u8) -> Result<(), LayoutError> {
     let mode = CanIndexCheckMode::OwnedMutable;
     let view = Strided::from_shape(shape, 1, pixels.len(), mode)?;
-    let mut picture = ArrayViewMut::new(view, pixels);
-    picture.fill(pixel);
+    paint_view(view, pixels, pixel);
     Ok(())
 }
 
@@ -42,7 +41,7 @@ pub fn paint<D: Lengths>(pixels: &mut [u8], shape: StrideShape<D>, pixel: u8) ->
 /// ```
 /// [How to read it](ndarray_layout::contracts)
 /// </details>
-fn paint_view(view: Strided<Ix2>, pixels: &mut [u8], pixel: u8) {
+fn paint_view<D: Lengths>(view: Strided<D>, pixels: &mut [u8], pixel: u8) {
     let mut picture = ArrayViewMut::new(view, pixels);
     picture.fill(pixel);
 }

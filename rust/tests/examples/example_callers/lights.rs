@@ -2,7 +2,7 @@
 //! A part of a picture that is lit by another picture.
 
 use ::ndarray_layout::Ix2;
-use ::ndarray_layout::nd_owned::{ArrayView, PartMut};
+use ::ndarray_layout::nd_owned::{ArrayView, ArrayViewMut};
 
 /// Adds to each pixel of a part the one of the same index of another picture, up to the brightest one, 255. Returns whether the shapes are
 /// the same; else the part is unchanged. Pixels beside the part are unchanged.
@@ -18,7 +18,7 @@ use ::ndarray_layout::nd_owned::{ArrayView, PartMut};
 /// ```
 /// [How to read it](ndarray_layout::contracts)
 /// </details>
-pub fn lighten(part: &mut PartMut<'_, u8, Ix2>, light: &ArrayView<'_, u8, Ix2>) -> bool {
+pub fn lighten(part: &mut ArrayViewMut<'_, u8, Ix2>, light: &ArrayView<'_, u8, Ix2>) -> bool {
     part.zip_mut_with(light, |pixel: &mut u8, more: &u8| {
         *pixel = pixel.saturating_add(*more);
     })

@@ -21,7 +21,8 @@ use ::ndarray_layout::{Ix2, Strided};
 /// </details>
 fn assign_view(view: Strided<Ix2>, pixels: &mut [u8], picture: &ArrayView<'_, u8, Ix2>) -> bool {
     let mut array = ArrayViewMut::new(view, pixels);
-    array.assign(picture).is_ok()
+    let assigned = array.assign(picture);
+    assigned.is_ok()
 }
 
 /// Writes a picture into a part of another one, whose pixels lie in a list by a view, and returns whether it did: it

@@ -25,7 +25,7 @@ use ::ndarray_layout::{Fit, Ix2, LayoutError, Lengths, Slice, SliceInfoElem};
 /// </details>
 pub fn alternate_rows<'a>(picture: &ArrayView<'a, u8, Ix2>) -> Result<ArrayView<'a, u8, Ix2>, LayoutError> {
     let part: [SliceInfoElem; 2] = [Slice::new(0, None, -2).into(), (..).into()];
-    let rows = picture.slice(&part, Fit::Strict)?;
+    let rows = picture.slice_with(&part, Fit::Strict)?;
     Ok(rows)
 }
 

@@ -20,7 +20,7 @@ fn many_axes() {
 #[test]
 fn many_items() {
     let shape = IxDyn(&[50, 1, 2, 10, 1, 10]);
-    let mut array = OwnedArray::from_shape_vec(shape.into(), (0..10_000).collect()).unwrap();
+    let mut array = OwnedArray::from_shape_vec(shape, (0..10_000).collect()).unwrap();
     assert_eq!(items_of(array.iter()), array.stored());
     let all = [BACK; 6];
     let items = array.items(&all).unwrap();

@@ -5,7 +5,7 @@ use Rattle.ndarray_layout.specs.Indices.{indices_in}
 use Rattle.ndarray_layout.specs.InvertedView.{invert_source}
 use Rattle.nd_lent.proofs.Laws.FlippedItems.{IsFlippedBut, all_flipped, coordinate_of_next, none_flipped, one_flipped}
 use Rattle.nd_lent.specs.HasItems.{with_swapped}
-use Rattle.nd_owned.specs.Lender.{array_of}
+use Rattle.nd_owned.specs.Lent.{array_of}
 use Rattle.example_callers.proofs.flips.swap_rows.Goals as goal
 
 pub loop-row-init : goal.loop-row-init
@@ -16,10 +16,10 @@ loop-row-init c =
     let is : view.shape ≡ rows ∷ columns ∷ [] = search rules in
     let upper : c.into_iter-row-iterator.result ≡ indices_in RowMajor (rows / 2 ∷ columns ∷ []) = search rules in
     record {
-      flipped = none_flipped 0 view c.strided.ensures.owned.is_view (omega (arith, ap length is)) c.args.picture.now.items.now
+      flipped = none_flipped 0 view c.strided.ensures.owned.is_view (omega (arith, ap length is)) c.args.picture.now.cells.items
           c.into_iter-row-iterator.result
           (upper ∙ ap (λ (shape : List ℕ). indices_in RowMajor (set shape 0 (get_or shape 0 0 / 2))) (sym is));
-      same_reference = refl;
+      same_right = refl;
     }
 
 pub overflow_sub-rows : goal.overflow_sub-rows
@@ -56,7 +56,7 @@ loop-row-preserved c =
           (subst (λ left. IsFlippedBut (invert_source 0 old.view.shape) left old now) next c.loop-row.invariant.flipped)
           (c.swap.ensures.swapped
           ∙ ap (λ (shape : List ℕ). with_swapped now index ((get_or shape 0 0 - 1 - row) ∷ c.in-Some.column ∷ [])) (sym is));
-      same_reference = search rules;
+      same_right = search rules;
     }
 
 pub returns-clause-flipped : goal.returns-clause-flipped

@@ -2,11 +2,12 @@
 use Rattle.std.proofs.Common.{◌≡◌}
 use Rattle.ndarray_layout.specs.InvertedView.{invert_source}
 use Rattle.nd_lent.proofs.Laws.FlippedItems.{IsFlippedBut}
-use Rattle.nd_owned.specs.Lender.{array_of}
+use Rattle.nd_owned.specs.Lent.{array_of}
+use Rattle.nd_owned.specs.Rights.{right_of}
 use Rattle.example_callers.proofs.flips.swap_rows.Given as goal
 
 abbrev pub invariant-loop-row : goal.invariant-loop-row
 invariant-loop-row l = record {
   flipped : IsFlippedBut (invert_source 0 (array_of l.fn.picture).view.shape) l.row-iterator (array_of l.fn.picture) (array_of l.picture);
-  same_reference : l.picture.items.ghost_name ≡ l.fn.picture.items.ghost_name;
+  same_right : right_of l.picture.cells ≡ right_of l.fn.picture.cells;
 }

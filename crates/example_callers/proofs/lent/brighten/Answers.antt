@@ -2,7 +2,7 @@
 use Rattle.std.proofs.Common.{rules, ◌≡◌, ◌+◌, ◌<◌, IfSome, Some, refl, sym, ap, subst, ◌∙◌}
 use Rattle.std.proofs.lemmas.Iterator.Adapters.{serves_from_places}
 use Rattle.std.proofs.lemmas.Iterator.Consumers.{YieldsList-from_first}
-use Rattle.nd_owned.specs.Lender.{array_of}
+use Rattle.nd_owned.specs.Lent.{array_of}
 use Rattle.nd_owned.specs.Mapped.{row_major_items}
 use Rattle.example_callers.proofs.lent.brighten.Goals as goal
 

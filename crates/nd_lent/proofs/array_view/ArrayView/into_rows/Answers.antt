@@ -7,24 +7,25 @@ use Rattle.ndarray_layout.specs.Rows.{view_rows}
 use Rattle.ndarray_layout.proofs.Laws.Rows.{rows_places-view_rows, some_in_each_row}
 use Rattle.nd_lent.specs.LentRow.{RowValue, row_of, rows_items}
 use Rattle.nd_lent.proofs.Permuted.{permuted}
-use Rattle.nd_lent.proofs.RowsLent.{items_of_rows, rows_have_items}
+use Rattle.nd_lent.proofs.Read.{rows_of_view_read}
+use Rattle.nd_lent.proofs.RowsLent.{items_of_rows}
 use Rattle.nd_lent.proofs.array_view.ArrayView.into_rows.Goals as goal
 
 pub invariant_of-result : goal.invariant_of-result
 invariant_of-result g c =
     let view = c.self.inside.view in
-    let has = c.self.invariant in
+    let read = c.self.invariant in
     rw c.into_rows.ensures.items
-    (rows_have_items RowMajor view (view_rows RowMajor view) (permuted (rows_places-view_rows RowMajor has.is_view)) has.is_view has.within
+    (rows_of_view_read view (view_rows RowMajor view) (permuted (rows_places-view_rows RowMajor read.has.is_view)) read
     (some_in_each_row RowMajor view))
 
 pub returns-clause-items : goal.returns-clause-items
 returns-clause-items g c =
     let view = c.self.inside.view in
-    let items = c.self.inside.items.now in
+    let items = c.self.inside.reader.items in
     rw (← c.self.view_is)
     (ap (λ rows. rows_items (map (row_of items) rows)) c.into_rows.ensures.items
-    ∙ items_of_rows RowMajor items view (view_rows RowMajor view) (rows_places-view_rows RowMajor c.self.invariant.is_view))
+    ∙ items_of_rows RowMajor items view (view_rows RowMajor view) (rows_places-view_rows RowMajor c.self.invariant.has.is_view))
 
 pub returns-clause-in_order : goal.returns-clause-in_order
 returns-clause-in_order g c =

@@ -6,18 +6,18 @@ use Rattle.std.proofs.lemmas.List.{length-map}
 use Rattle.ndarray_layout.specs.declared.Order.TheVariants.{RowMajor}
 use Rattle.ndarray_layout.proofs.Laws.View.{length-view_places}
 use Rattle.nd_lent.specs.Items.{item_at_place}
-use Rattle.nd_lent.proofs.Laws.ItemPlaces.{all_places, are_in_bounds}
+use Rattle.nd_lent.proofs.Laws.ItemPlaces.{all_places}
+use Rattle.nd_lent.proofs.Read.{places_read}
 use Rattle.nd_lent.proofs.array_view.ArrayView.iter.Goals as goal
 
-pub new-requires : goal.new-requires
-new-requires g c =
-    rw c.stored.ensures.items
-    (are_in_bounds _ c.stored.ensures.has_items.within (all_places c.iter_places.ensures.items c.strided.ensures.view))
+pub of_reader-requires : goal.of_reader-requires
+of_reader-requires g c =
+    places_read c.args.self.now.view c.reader.ensures.read (all_places c.iter_places.ensures.items c.strided.ensures.view)
 
 pub returns-clause-count : goal.returns-clause-count
 returns-clause-count g c =
-    ap length c.new.ensures
-    ∙ length-map c.iter_places.result (item_at_place c.stored.result.now)
+    ap length c.of_reader.ensures
+    ∙ length-map c.iter_places.result (item_at_place c.reader.result.items)
     ∙ ap length (all_places c.iter_places.ensures.items c.strided.ensures.view)
     ∙ length-view_places RowMajor c.args.self.now.view
 

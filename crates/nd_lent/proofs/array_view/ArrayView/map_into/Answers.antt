@@ -1,80 +1,58 @@
--- What the calls give is written at each place of the other array, once.
-use Rattle.std.proofs.Common.{rules, ◌≡◌, length, map, refl, sym, ap, subst, ◌∙◌}
-use Rattle.std.specs.Fn.{CalledAt}
-use Rattle.std.specs.Iterator.{CallableOnAllAt}
-use Rattle.std.proofs.lemmas.List.Sorted.{IsPermutation-refl}
+-- What the calls give is written at each place of the part, in row-major order.
+use Rattle.std.proofs.Common.{rules, ◌≡◌, length, sym}
 use Rattle.ndarray_layout.specs.declared.Order.TheVariants.{RowMajor}
-use Rattle.ndarray_layout.specs.Indices.{indices_in}
-use Rattle.ndarray_layout.specs.View.{place_at, view_places}
-use Rattle.ndarray_layout.proofs.Laws.DistinctPlaces.{AllPairs-view_places}
 use Rattle.ndarray_layout.proofs.Laws.View.{places_lie_within}
-use Rattle.nd_lent.specs.Lender.{array_of}
-use Rattle.nd_lent.specs.Mapped.{CallsMake, gives}
-use Rattle.nd_lent.specs.Items.{item_at, item_at_place}
-use Rattle.nd_lent.proofs.ArrayMaps.{changed, mapped, ran_over, spare}
-use Rattle.nd_lent.proofs.Laws.IndexItems.{items_in}
+use Rattle.nd_lent.specs.Lent.{array_of}
+use Rattle.nd_lent.proofs.OwnPlaces.{own_of_part}
+use Rattle.nd_lent.proofs.Read.{places_marked}
+use Rattle.nd_lent.proofs.PairMaps.{maps_of_lent, pairs_in_order, pairs_of_lent, spare, zips_in_order}
+use Rattle.nd_lent.proofs.PairsInside.{callable_in_order, mapped_inside, ran_inside}
 use Rattle.nd_lent.proofs.array_view.ArrayView.map_into.Given.{Over}
 use Rattle.nd_lent.proofs.array_view.ArrayView.map_into.Goals as goal
-use Rattle.nd_lent.proofs.array_view.ArrayView.map_into.Goals.{After-strided}
+use Rattle.nd_lent.proofs.array_view.ArrayView.map_into.Goals.{After-reader}
 
-pub write_view-requires-clause-within : goal.write_view-requires-clause-within
-write_view-requires-clause-within g c =
-    places_lie_within (length c.args.to.now.items.now) RowMajor c.args.to.now.view c.args.to.now.owned.within
+pub zip_view-requires-clause-own : goal.zip_view-requires-clause-own
+zip_view-requires-clause-own g c = own_of_part c.args.to.now.cells.marks c.args.to.now.view c.args.to.now.part
 
-pub write_view-requires-clause-distinct : goal.write_view-requires-clause-distinct
-write_view-requires-clause-distinct g c = AllPairs-view_places RowMajor c.args.to.now.view c.args.to.now.owned.distinct
+pub zip_view-requires-clause-items : goal.zip_view-requires-clause-items
+zip_view-requires-clause-items g c =
+    rw c.strided-source.ensures.view
+    (places_lie_within (length c.reader.result.items) RowMajor c.args.self.now.view c.reader.ensures.read.has.within)
 
-same_shape : (g : Over) (c : After-strided g) → c.args.to.now.view.shape ≡ c.args.self.now.view.shape
+pub zip_view-requires-clause-marked : goal.zip_view-requires-clause-marked
+zip_view-requires-clause-marked g c =
+    rw c.strided-source.ensures.view
+    (places_marked c.reader.result.marks RowMajor c.args.self.now.view c.reader.ensures.read.marked)
+
+same_shape : (g : Over) (c : After-reader g) → c.args.to.now.view.shape ≡ c.args.self.now.view.shape
 same_shape g c = search rules
 
--- the items that are given, in the order of the indices of the other array
-given : (g : Over) (c : After-strided g) → map (item_at_place c.stored.result.now) (view_places RowMajor c.strided.result.now)
-    ≡ map (item_at_place c.args.self.now.items) (view_places RowMajor c.args.self.now.view)
-given g c =
-    ap (λ items. map (item_at_place items) (view_places RowMajor c.strided.result.now)) c.stored.ensures.items
-    ∙ ap (λ view. map (item_at_place c.args.self.now.items) (view_places RowMajor view)) c.strided.ensures.view
-
-given_at : (g : Over) (c : After-strided g) → map (item_at_place c.stored.result.now) (view_places RowMajor c.strided.result.now)
-    ≡ map (item_at_place c.args.self.now.items) (map (place_at c.args.self.now.view) (indices_in RowMajor c.args.to.now.view.shape))
-given_at g c =
-    given g c
-    ∙ ap (λ shape. map (item_at_place c.args.self.now.items) (map (place_at c.args.self.now.view) (indices_in RowMajor shape)))
-    (sym (same_shape g c))
-
-pub write_view-requires-clause-items : goal.write_view-requires-clause-items
-write_view-requires-clause-items g c =
-    let has = c.stored.ensures.has_items in
-    rw (c.stored.ensures.items, c.strided.ensures.view) (places_lie_within (length c.args.self.now.items) RowMajor c.args.self.now.view
-    has.within)
-
-pub write_view-requires-clause-callable : goal.write_view-requires-clause-callable
-write_view-requires-clause-callable g c =
-    let at = (goal.at.write_view-requires-clause-callable g c).After-strided in
-    subst (λ items. CallableOnAllAt gives g.F.FnMut items c.args.f) (sym (given g at ∙ items_in RowMajor c.args.self.now))
-    (c.requires (sym (same_shape g at)))
+pub zip_view-requires-clause-callable : goal.zip_view-requires-clause-callable
+zip_view-requires-clause-callable g c =
+    let at = (goal.at.zip_view-requires-clause-callable g c).After-reader in
+    let to = array_of c.args.to.now in
+    let source = c.args.self.now in
+    rw (pairs_of_lent to.items to.view c.reader.ensures.items c.strided-source.ensures.view, pairs_in_order to source)
+    (callable_in_order g.F.FnMut _ (λ each. each.0) (λ s t stored left item e. search rules) to source (same_shape g at)
+    (λ s stored item p. search rules) (c.requires (sym (same_shape g at))))
 
 pub returns-clause-ran : goal.returns-clause-ran
 returns-clause-ran g c =
-    let at = (goal.at.returns-clause-ran g c).After-strided in
-    let to = array_of c.args.to.now in
-    let indices = indices_in RowMajor to.view.shape in
-    subst (λ shape. CallsMake (λ p x y q. CalledAt g.F.FnMut p x y q) c.args.f (map (item_at c.args.self.now) (indices_in RowMajor shape))
-    (map (item_at (changed to c.write_view.new.stored)) indices)) (same_shape g at)
-    (ran_over to c.write_view.new.stored indices (IsPermutation-refl indices) refl
-    (λ p x y q. CalledAt g.F.FnMut p x y q) c.args.self.now (same_shape g at) (given_at g at) c.write_view.ensures)
+    let at = (goal.at.returns-clause-ran g c).After-reader in
+    ran_inside g.F.FnMut _ (λ each. each.0) (λ s t stored left item e. search rules) (array_of c.args.to.now) c.args.self.now
+    (same_shape g at) (maps_of_lent c.args.to.now.view c.reader.ensures.items c.strided-source.ensures.view c.zip_view.ensures.ran)
 
 pub returns-clause-mapped : goal.returns-clause-mapped
 returns-clause-mapped g c =
-    let at = (goal.at.returns-clause-mapped g c).After-strided in
-    let to = array_of c.args.to.now in
-    let indices = indices_in RowMajor to.view.shape in
-    λ h acts. mapped to c.write_view.new.stored indices (IsPermutation-refl indices) refl
-    (λ p x y q. CalledAt g.F.FnMut p x y q) c.args.self.now (same_shape g at) (given_at g at) c.write_view.ensures h acts
+    let at = (goal.at.returns-clause-mapped g c).After-reader in
+    mapped_inside g.F.FnMut _ (λ each. each.0) (λ s t stored left item e. search rules) (array_of c.args.to.now) c.args.self.now
+    (same_shape g at)
+    (zips_in_order (same_shape g at)
+    (maps_of_lent c.args.to.now.view c.reader.ensures.items c.strided-source.ensures.view c.zip_view.ensures.ran))
 
 pub returns-clause-spare : goal.returns-clause-spare
 returns-clause-spare g c =
-    let at = (goal.at.returns-clause-spare g c).After-strided in
-    let to = array_of c.args.to.now in
-    let indices = indices_in RowMajor to.view.shape in
-    spare to c.write_view.new.stored indices (IsPermutation-refl indices) refl
-    (λ p x y q. CalledAt g.F.FnMut p x y q) c.args.self.now (same_shape g at) (given_at g at) c.write_view.ensures
+    let at = (goal.at.returns-clause-spare g c).After-reader in
+    spare _ (array_of c.args.to.now) c.zip_view.new.cells.items c.args.self.now (same_shape g at)
+    (zips_in_order (same_shape g at)
+    (maps_of_lent c.args.to.now.view c.reader.ensures.items c.strided-source.ensures.view c.zip_view.ensures.ran))

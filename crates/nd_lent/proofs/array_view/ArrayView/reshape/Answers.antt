@@ -1,9 +1,12 @@
 -- The view is that of the layout, reshaped.
-use Rattle.std.proofs.Common.{refl}
+use Rattle.std.proofs.Common.{refl, ap, ◌∙◌}
+use Rattle.nd_lent.specs.declared.cells.Reader.{Reader}
 use Rattle.nd_lent.proofs.Steps.{step_to}
 use Rattle.nd_lent.proofs.array_view.ArrayView.reshape.Goals as goal
 
 pub returns-clause-array : goal.returns-clause-array
 returns-clause-array g c =
     rw (← c.self.view_is)
-    (step_to c.self.inside.items.now refl c.new.ensures.items c.new.ensures.view c.in_ok-view.ensures.reshaped c.in_ok-view.ensures.kept)
+    (step_to c.self.inside.reader.items refl
+    (c.of_reader.ensures.items ∙ ap (λ (r : Reader g.row.T.Denot). r.items) c.copied.ensures.same) c.of_reader.ensures.view
+    c.in_ok-view.ensures.reshaped c.in_ok-view.ensures.kept)

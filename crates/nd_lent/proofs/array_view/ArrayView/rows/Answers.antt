@@ -7,7 +7,8 @@ use Rattle.ndarray_layout.specs.Rows.{view_rows}
 use Rattle.ndarray_layout.proofs.Laws.Rows.{rows_places-view_rows, some_in_each_row}
 use Rattle.nd_lent.specs.LentRow.{RowValue, row_of, rows_items}
 use Rattle.nd_lent.proofs.Permuted.{permuted}
-use Rattle.nd_lent.proofs.RowsLent.{items_of_rows, rows_have_items}
+use Rattle.nd_lent.proofs.Read.{rows_of_view_read}
+use Rattle.nd_lent.proofs.RowsLent.{items_of_rows}
 use Rattle.nd_lent.proofs.array_view.ArrayView.rows.Given.{Over}
 use Rattle.nd_lent.proofs.array_view.ArrayView.rows.Goals as goal
 use Rattle.nd_lent.proofs.array_view.ArrayView.rows.Goals.{After-new}
@@ -15,16 +16,16 @@ use Rattle.nd_lent.proofs.array_view.ArrayView.rows.Goals.{After-new}
 pub new-requires : goal.new-requires
 new-requires g c =
     let view = c.args.self.now.view in
-    let has = c.stored.ensures.has_items in
-    rw (c.stored.ensures.items, c.rows.ensures.items, c.strided.ensures.view)
-    (rows_have_items RowMajor view (view_rows RowMajor view) (permuted (rows_places-view_rows RowMajor has.is_view)) has.is_view has.within
+    let read = c.reader.ensures.read in
+    rw (c.rows.ensures.items, c.strided.ensures.view)
+    (rows_of_view_read view (view_rows RowMajor view) (permuted (rows_places-view_rows RowMajor read.has.is_view)) read
     (some_in_each_row RowMajor view))
 
 -- the rows are those of the view
 are : (g : Over) (c : After-new g) → c.new.result ≡ map (row_of c.args.self.now.items) (view_rows RowMajor c.args.self.now.view)
 are g c =
     c.new.ensures
-    ∙ ap (λ items. map (row_of items) c.rows.result) c.stored.ensures.items
+    ∙ ap (λ items. map (row_of items) c.rows.result) c.reader.ensures.items
     ∙ ap (map (row_of c.args.self.now.items)) (c.rows.ensures.items ∙ ap (view_rows RowMajor) c.strided.ensures.view)
 
 pub returns-clause-rows : goal.returns-clause-rows
@@ -35,7 +36,7 @@ returns-clause-items g c =
     let view = c.args.self.now.view in
     ap rows_items (are g (goal.at.returns-clause-items g c).After-new)
     ∙ items_of_rows RowMajor c.args.self.now.items view (view_rows RowMajor view)
-    (rows_places-view_rows RowMajor c.stored.ensures.has_items.is_view)
+    (rows_places-view_rows RowMajor c.reader.ensures.read.has.is_view)
 
 pub returns-clause-in_order : goal.returns-clause-in_order
 returns-clause-in_order g c =

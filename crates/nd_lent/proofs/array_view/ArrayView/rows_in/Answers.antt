@@ -7,7 +7,8 @@ use Rattle.ndarray_layout.specs.Rows.{rows_places}
 use Rattle.ndarray_layout.specs.View.{view_places}
 use Rattle.nd_lent.specs.LentRow.{rows_items}
 use Rattle.nd_lent.specs.Items.{item_at_place}
-use Rattle.nd_lent.proofs.RowsLent.{rows_have_items, rows_items-row_of}
+use Rattle.nd_lent.proofs.Read.{rows_of_view_read}
+use Rattle.nd_lent.proofs.RowsLent.{rows_items-row_of}
 use Rattle.nd_lent.proofs.array_view.ArrayView.rows_in.Given.{Over}
 use Rattle.nd_lent.proofs.array_view.ArrayView.rows_in.Goals as goal
 use Rattle.nd_lent.proofs.array_view.ArrayView.rows_in.Goals.{After-nearest_rows}
@@ -23,10 +24,8 @@ nearest_rows-requires g c = rw c.strided.ensures.view c.requires
 
 pub new-requires : goal.new-requires
 new-requires g c =
-    let has = c.stored.ensures.has_items in
     let at = (goal.at.new-requires g c).After-nearest_rows in
-    rw c.stored.ensures.items
-    (rows_have_items RowMajor c.args.self.now.view c.nearest_rows.result (moved g at) has.is_view has.within c.nearest_rows.ensures.some)
+    rows_of_view_read c.args.self.now.view c.nearest_rows.result (moved g at) c.reader.ensures.read c.nearest_rows.ensures.some
 
 pub returns : goal.returns
 returns g c =
@@ -34,6 +33,6 @@ returns g c =
     let items = c.args.self.now.items in
     let at = (goal.at.returns g c).After-nearest_rows in
     subst (λ listed. IsPermutation listed (map (item_at_place items) (view_places RowMajor c.args.self.now.view)))
-    (sym (ap rows_items c.new.ensures ∙ rows_items-row_of c.stored.result.now c.nearest_rows.result
-    ∙ ap (λ items. map (item_at_place items) places) c.stored.ensures.items))
+    (sym (ap rows_items c.new.ensures ∙ rows_items-row_of c.reader.result.items c.nearest_rows.result
+    ∙ ap (λ items. map (item_at_place items) places) c.reader.ensures.items))
     (IsPermutation-map (item_at_place items) places (view_places RowMajor c.args.self.now.view) (moved g at))

@@ -6,6 +6,6 @@ use Rattle.nd_lent.proofs.array_view.ArrayView.swap_axes.Goals as goal
 
 pub returns-clause-array : goal.returns-clause-array
 returns-clause-array g c =
-    step_in_place c.swap_axes.result c.self.inside.items.now (λ index. swap index c.args.axis.0 c.args.other.0)
+    step_in_place c.swap_axes.result c.self.inside.reader.items (λ index. swap index c.args.axis.0 c.args.other.0)
     (swapped_of c.args.axis.0 c.args.other.0)
     c.self.inside.view c.swap_axes.new.self c.self.view_is c.swap_axes.ensures.swapped c.swap_axes.ensures.kept

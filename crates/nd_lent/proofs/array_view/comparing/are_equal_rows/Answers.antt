@@ -10,8 +10,8 @@ pub returns-in-Some-Some : goal.returns-in-Some-Some
 returns-in-Some-Some g c =
     let items = c.in-Some-Some.items.now in
     let others = c.in-Some-Some.others.now in
-    let compare = pointwise (both_equal g.T.PartialEq.eq) in
-    c.eq.ensures
-    ∙ sym (slices_compared g.T.PartialEq.eq items others)
+    let compare = pointwise (both_equal g.T.EqualTo.equal_to) in
+    c.are_equal_to.ensures
+    ∙ sym (slices_compared g.T.EqualTo.equal_to items others)
     ∙ ap (λ xs. compare xs (map Some others)) c.in-Some-Some.ensures.items
     ∙ ap (compare (row_items c.args.one.now)) c.in-Some-Some.ensures'.items

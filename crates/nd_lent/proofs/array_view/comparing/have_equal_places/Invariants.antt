@@ -7,6 +7,6 @@ use Rattle.nd_lent.proofs.array_view.comparing.have_equal_places.Given as goal
 
 abbrev pub invariant-loop-coordinate : goal.invariant-loop-coordinate
 invariant-loop-coordinate g l = record {
-  same : pointwise (both_equal g.T.PartialEq.eq) (drop l.coordinate (row_items l.fn.one)) (drop l.coordinate (row_items l.fn.other))
-      ≡ pointwise (both_equal g.T.PartialEq.eq) (row_items l.fn.one) (row_items l.fn.other);
+  same : pointwise (both_equal g.T.EqualTo.equal_to) (drop l.coordinate (row_items l.fn.one)) (drop l.coordinate (row_items l.fn.other))
+      ≡ pointwise (both_equal g.T.EqualTo.equal_to) (row_items l.fn.one) (row_items l.fn.other);
 }

@@ -20,30 +20,30 @@ counts g c =
     c.loop-row.invariant.count)
 
 -- all items are equal where those of the row are, and those of the rows that are left
-parts : (g : Over) (c : In-Some-next g) → pointwise (both_equal g.T.PartialEq.eq) (rows_items c.args.rows) (rows_items c.args.others)
-    ≡ (pointwise (both_equal g.T.PartialEq.eq) (row_items c.in-Some.row) (row_items c.in-Some-next.other)
-    && pointwise (both_equal g.T.PartialEq.eq) (rows_items c.next.new.self) (rows_items c.next-in-loop-row.new.self))
+parts : (g : Over) (c : In-Some-next g) → pointwise (both_equal g.T.EqualTo.equal_to) (rows_items c.args.rows) (rows_items c.args.others)
+    ≡ (pointwise (both_equal g.T.EqualTo.equal_to) (row_items c.in-Some.row) (row_items c.in-Some-next.other)
+    && pointwise (both_equal g.T.EqualTo.equal_to) (rows_items c.next.new.self) (rows_items c.next-in-loop-row.new.self))
 parts g c =
-    let compare = pointwise (both_equal g.T.PartialEq.eq) in
+    let compare = pointwise (both_equal g.T.EqualTo.equal_to) in
     let row = c.in-Some.row in
     let other = c.in-Some-next.other in
     sym c.loop-row.invariant.same
     ∙ ap (λ rows. compare (rows_items rows) (rows_items c.loop-row.others)) c.in-Some.ensures.steps
     ∙ ap (λ others. compare (rows_items (row ∷ c.next.new.self)) (rows_items others)) c.in-Some-next.ensures.steps
-    ∙ compared_parts g.T.PartialEq.eq (row_items row) (rows_items c.next.new.self) (row_items other)
+    ∙ compared_parts g.T.EqualTo.equal_to (row_items row) (rows_items c.next.new.self) (row_items other)
     (rows_items c.next-in-loop-row.new.self)
     (sym (count_of_items row.items row.row) ∙ (counts g c).0 ∙ count_of_items other.items other.row)
 
 pub returns-then-not-are_equal_rows : goal.returns-then-not-are_equal_rows
 returns-then-not-are_equal_rows g c =
-    let rest = pointwise (both_equal g.T.PartialEq.eq) (rows_items c.next.new.self) (rows_items c.next-in-loop-row.new.self) in
+    let rest = pointwise (both_equal g.T.EqualTo.equal_to) (rows_items c.next.new.self) (rows_items c.next-in-loop-row.new.self) in
     sym (parts g (goal.at.returns-then-not-are_equal_rows g c).In-Some-next
     ∙ ap (λ first. first && rest) (sym c.are_equal_rows.ensures ∙ c.if-not-are_equal_rows.true))
 
 pub loop-row-preserved-else-not-are_equal_rows : goal.loop-row-preserved-else-not-are_equal_rows
 loop-row-preserved-else-not-are_equal_rows g c =
     let at = (goal.at.loop-row-preserved-else-not-are_equal_rows g c).In-Some-next in
-    let rest = pointwise (both_equal g.T.PartialEq.eq) (rows_items c.next.new.self) (rows_items c.next-in-loop-row.new.self) in
+    let rest = pointwise (both_equal g.T.EqualTo.equal_to) (rows_items c.next.new.self) (rows_items c.next-in-loop-row.new.self) in
     record {
       count = (counts g at).1;
       same = sym (parts g at ∙ ap (λ first. first && rest) (sym c.are_equal_rows.ensures ∙ c.if-not-are_equal_rows.false));

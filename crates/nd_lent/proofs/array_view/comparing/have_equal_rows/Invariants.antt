@@ -9,6 +9,6 @@ use Rattle.nd_lent.proofs.array_view.comparing.have_equal_rows.Given as goal
 abbrev pub invariant-loop-row : goal.invariant-loop-row
 invariant-loop-row g l = record {
   count : AllZip (λ row other. row.row.len ≡ other.row.len) l.row-iterator l.others;
-  same : pointwise (both_equal g.T.PartialEq.eq) (rows_items l.row-iterator) (rows_items l.others)
-      ≡ pointwise (both_equal g.T.PartialEq.eq) (rows_items l.fn.rows) (rows_items l.fn.others);
+  same : pointwise (both_equal g.T.EqualTo.equal_to) (rows_items l.row-iterator) (rows_items l.others)
+      ≡ pointwise (both_equal g.T.EqualTo.equal_to) (rows_items l.fn.rows) (rows_items l.fn.others);
 }

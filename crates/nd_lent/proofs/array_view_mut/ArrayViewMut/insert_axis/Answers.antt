@@ -1,6 +1,6 @@
--- With a new axis there is an item for each index.
-use Rattle.nd_lent.proofs.Laws.OwnedViews.{owned_descendant}
+-- With a new axis each index has a place to itself, which has a mark.
+use Rattle.nd_lent.proofs.Laws.Marks.{part_descendant}
 use Rattle.nd_lent.proofs.array_view_mut.ArrayViewMut.insert_axis.Goals as goal
 
-pub new-requires : goal.new-requires
-new-requires g c = owned_descendant _ c.in_ok-view.ensures.kept c.args.self.owned
+pub of_cells-requires : goal.of_cells-requires
+of_cells-requires g c = part_descendant _ c.in_ok-view.ensures.kept c.args.self.part

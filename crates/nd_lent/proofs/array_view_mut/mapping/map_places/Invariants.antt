@@ -1,7 +1,14 @@
 -- The calls at the coordinates below this one are made.
-use Rattle.nd_lent.specs.LentRow.{places_of}
-use Rattle.nd_lent.proofs.RowMaps.{HasMappedSoFar}
+use Rattle.std.proofs.Common.{◌≡◌, length}
+use Rattle.ndarray_layout.specs.Rows.{row_places}
+use Rattle.nd_lent.specs.Rights.{right_of}
+use Rattle.nd_lent.proofs.Laws.MapsTo.{HasMappedSoFar}
 use Rattle.nd_lent.proofs.array_view_mut.mapping.map_places.Given as goal
 
 abbrev pub invariant-loop-coordinate : goal.invariant-loop-coordinate
-invariant-loop-coordinate g l = HasMappedSoFar g.F.FnMut l.initial.f (places_of l.row) l.initial.stored l.coordinate l.stored l.f
+invariant-loop-coordinate g l = record {
+  run : HasMappedSoFar g.F.FnMut l.initial.f (row_places l.row.start l.row.stride l.row.len) l.initial.cells.items l.coordinate
+      l.cells.items l.f;
+  long : length l.cells.items ≡ length l.initial.cells.items;
+  same_right : right_of l.cells ≡ right_of l.initial.cells;
+}

@@ -2,6 +2,7 @@
 use mathlib.Core.Path.{◌≡◌, refl, sym, subst}
 use Prim.Native.Nat.{ℕ, ◌+◌}
 use mathlib.Core.List.{[], ◌∷◌}
+use lib.ListN.{length}
 use seplogic.Ra.Ura.{Ura}
 use mir.Syntax.{Fn, named, a_type}
 use mir.MapTy.{inst_fn}
@@ -99,7 +100,7 @@ module _ (Y : RattleType) where
   stayed = (stay_dropped (RefOf (0 ∷ []) tt (plain (λ κs. It (named_lft 2 1 tt κs) R)) (λ _. tt)) yes, tt)
 
   abbrev Gives : Cells Y.Denot → Reader Y.Denot → Type 0
-  Gives c r = (r.items ≡ c.items) × (r.marks ≡ c.marks)
+  Gives c r = (r.items ≡ c.items) × (r.marks ≡ c.marks) × (length c.items ≡ length c.marks)
 
   abbrev spec : {M : Type 1} (𝓤 : Ura M) → Clauses 𝓤 ended
   spec 𝓤 κs a = record { ghost = Unit {0}; requires = λ _. emp 𝓤; ensures = λ _ r w. fact 𝓤 (Gives a.0.now r) }
@@ -180,7 +181,7 @@ module _ (Y : RattleType) (L : Laws Y) {M : Type 1} {𝓤 : Ura M} (𝓛 : Logic
         sets ! (agg ! (and_then ! (get ! refl) (and_then ! (get ! refl) (no_more !)))) refl (reader_typed shorter V p) $
         returns ! (look_at ! 0 refl) $ free_all ! refl $ keep ! (4 ∷ 0 ∷ 2 ∷ []) $
         suffices ! _ (ends_at 𝓛 (ended Y) (stayed Y) (spec Y 𝓤) bound (word p) r (tt, tt) (tt, tt)) $
-        says ! (refl, refl) $
+        says ! (refl, refl, k.1.0) $
         nothing ! $ nothing ! $ fjoin ! $ join ! $ nothing ! $ move ! (3 ∷ 0 ∷ []) $ join ! $ move ! (2 ∷ 0 ∷ []) $
         join ! $ join ! $ done !)))
 

@@ -1,4 +1,4 @@
--- What the calls leave at the items of the array is what they leave at those of the list.
+-- What the calls leave at the items of the part is what they leave at those of the list.
 use Rattle.std.proofs.Common.{rules, ◌≡◌, List, subst}
 use Rattle.ndarray_layout.specs.View.{View}
 use Rattle.std.specs.Fn.{CalledAtMut}
@@ -9,7 +9,7 @@ use Rattle.nd_lent.specs.Items.{item_at}
 use Rattle.nd_lent.specs.Items.{ArrayValue}
 use Rattle.nd_owned.proofs.owned.mapping.map_view.Goals as goal
 
--- what holds of the array of lent items, before and after, holds of the items
+-- what holds of the part, before and after, holds of the items
 at_lent : {T : Type 0} (P : ArrayValue T → ArrayValue T → Type 0) {old new : ArrayValue T} {items left : List T} {view : View}
     → old.items ≡ items → old.view ≡ view → new.items ≡ left → new.view ≡ old.view → P old new
     → P (record { items = items; view = view }) (record { items = left; view = view })
@@ -22,9 +22,9 @@ at_lent P {old} {new} {items} {left} {view} given by now same holds =
 pub returns-clause-ran : goal.returns-clause-ran
 returns-clause-ran g c =
     at_lent (λ old new. CallsMake (λ p x y q. CalledAtMut g.F.FnMut p x tt q y) c.args.f (row_major_items old) (row_major_items new))
-    c.new-array.ensures.stored c.new-array.ensures.view (search rules) c.map_in_place.ensures.view c.map_in_place.ensures.ran
+    (search rules) c.lend-part.ensures.view (search rules) c.map_in_place.ensures.view c.map_in_place.ensures.ran
 
 pub returns-clause-mapped : goal.returns-clause-mapped
 returns-clause-mapped g c = λ h acts.
     at_lent (λ old new. HasItemsOf (λ index. option_map h (item_at old index)) old new)
-    c.new-array.ensures.stored c.new-array.ensures.view (search rules) c.map_in_place.ensures.view (c.map_in_place.ensures.mapped h acts)
+    (search rules) c.lend-part.ensures.view (search rules) c.map_in_place.ensures.view (c.map_in_place.ensures.mapped h acts)

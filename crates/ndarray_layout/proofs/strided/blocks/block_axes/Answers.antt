@@ -1,12 +1,12 @@
 -- Without an index the strides stay the zeros that they were made of.
-use Rattle.std.proofs.Common.{◌≡◌, ◌*◌, true, false, cond, pos, List, ℕ, ◌∷◌, ◌++◌, length, replicate, None, zero, suc, refl, sym, ap}
+use Rattle.std.proofs.Common.{◌≡◌, ◌*◌, true, false, cond, pos, List, ℕ, ◌++◌, length, replicate, None, sym, ap}
 use Rattle.std.proofs.Common.{◌∙◌, arith}
 use Rattle.std.proofs.lemmas.List.{length-append}
 use Rattle.nd_base.proofs.Laws.Definitions.{all_signed, is_empty}
 use Rattle.nd_base.proofs.Laws.NonzeroSize.{length_le_nonzero_size}
 use Rattle.ndarray_layout.specs.BlocksView.{blocks_fault}
 use Rattle.ndarray_layout.specs.private.Blocks.{block_counts, block_strides}
-use Rattle.ndarray_layout.proofs.BlocksWritten.{length-block_counts}
+use Rattle.ndarray_layout.proofs.BlocksWritten.{length-block_counts, zeros_read}
 use Rattle.ndarray_layout.proofs.Laws.BlocksView.{can_take_blocks}
 use Rattle.ndarray_layout.proofs.strided.blocks.block_axes.Given.{Over}
 use Rattle.ndarray_layout.proofs.strided.blocks.block_axes.Goals as goal
@@ -43,10 +43,6 @@ empty g c =
     let new_strides = g.met.E.Lengths.list_of_with_list c.in_ok-dim.dim new
     (c.write_lengths.auto.new_shape ∙ ap length c.slice_mut.ensures.list) in
     c.contains.ensures.value ∙ ap is_empty (c.slice-2.ensures.list ∙ new_strides ∙ made)
-
-zeros_read : (n : ℕ) → all_signed (replicate n 0) ≡ replicate n (pos 0)
-zeros_read zero = refl
-zeros_read (suc n) = ap (λ strides. pos 0 ∷ strides) (zeros_read n)
 
 pub returns-clause-strides : goal.returns-clause-strides
 returns-clause-strides g c =

@@ -4,4 +4,4 @@ use Rattle.nd_lent.proofs.BothEnds.{made_of_dropped}
 use Rattle.nd_lent.proofs.array_view.iterating.Iter.advance.Goals as goal
 
 pub returns : goal.returns
-returns g c = made_of_dropped (item_at_place c.self.inside.stored.now) c.args.count c.self.inside.places c.advance.ensures c.self.view_is
+returns g c = made_of_dropped (item_at_place c.self.inside.reader.items) c.args.count c.self.inside.places c.advance.ensures c.self.view_is

@@ -4,4 +4,5 @@ use Rattle.nd_lent.proofs.BothEnds.{made_of_taken}
 use Rattle.nd_lent.proofs.array_view.iterating.Iter.advance_back.Goals as goal
 
 pub returns : goal.returns
-returns g c = made_of_taken (item_at_place c.self.inside.stored.now) c.args.count c.self.inside.places c.advance_back.ensures c.self.view_is
+returns g c =
+    made_of_taken (item_at_place c.self.inside.reader.items) c.args.count c.self.inside.places c.advance_back.ensures c.self.view_is

@@ -3,13 +3,27 @@ use Rattle.std.proofs.Common.{length, subst}
 use Rattle.ndarray_layout.specs.Rows.{row_places}
 use Rattle.nd_lent.specs.LentPlaces.{ArePlacesOf}
 use Rattle.nd_lent.proofs.BothEnds.{last_row_has_items, first_of_places}
+use Rattle.nd_lent.proofs.Read.{back_marked, front_marked}
 use Rattle.nd_lent.proofs.array_view.rest_of_items.RestOfItems.next_row_back.Goals as goal
 
 pub invariant_of-result : goal.invariant_of-result
 invariant_of-result g c =
-    last_row_has_items c.in_ok-row.row c.next_row_back.new.self c.in_ok-row.ensures.row.0 c.in_ok-row.ensures.row.1 c.self.invariant
+    let marks = c.self.inside.reader.marks in
+    let row = c.in_ok-row.row in
+    let found = c.in_ok-row.ensures.row in
+    rw c.copied.ensures.same (record {
+      has = last_row_has_items row c.next_row_back.new.self found.0 found.1 c.self.invariant.are;
+      marked = back_marked marks c.next_row_back.new.self (row_places row.start row.stride row.len) found.1 c.self.invariant.marked;
+    })
 
 pub invariant_of-self-2 : goal.invariant_of-self-2
 invariant_of-self-2 g c =
-    first_of_places c.next_row_back.new.self (row_places c.in_ok-row.row.start c.in_ok-row.row.stride c.in_ok-row.row.len)
-    (subst (ArePlacesOf (length c.self.inside.items.now)) c.in_ok-row.ensures.row.1 c.self.invariant)
+    let marks = c.self.inside.reader.marks in
+    let row = c.in_ok-row.row in
+    let here = row_places row.start row.stride row.len in
+    let found = c.in_ok-row.ensures.row in
+    record {
+      are = first_of_places c.next_row_back.new.self here
+          (subst (ArePlacesOf (length c.self.inside.reader.items)) found.1 c.self.invariant.are);
+      marked = front_marked marks c.next_row_back.new.self here found.1 c.self.invariant.marked;
+    }

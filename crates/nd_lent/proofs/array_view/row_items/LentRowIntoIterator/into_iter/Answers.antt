@@ -12,10 +12,10 @@ pub returns : goal.returns
 returns g c =
     let left = λ (items : List (Option g.row.T.Denot)). items in
     let shown = λ (item : Bor g.row.T.Denot). Some item.now in
-    let items = row_items (row_of c.self.inside.items.now c.self.inside.row) in
+    let items = row_items (row_of c.self.inside.reader.items c.self.inside.row) in
     record {
       into_iter_gives = (
-        take_all (c.self.inside.row.len - 0) items (omega (arith, count_of_items c.self.inside.items.now c.self.inside.row))
+        take_all (c.self.inside.row.len - 0) items (omega (arith, count_of_items c.self.inside.reader.items c.self.inside.row))
             ∙ ap row_items c.self.view_is,
         from_front (YieldsFirstBy shown left) shown left (λ s t h. ap length h.0) (λ s x t h. h),
       );

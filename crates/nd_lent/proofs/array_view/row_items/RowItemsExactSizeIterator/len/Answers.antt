@@ -8,7 +8,7 @@ use Rattle.nd_lent.proofs.array_view.row_items.RowItemsExactSizeIterator.len.Goa
 pub returns-clause-value : goal.returns-clause-value
 returns-clause-value g c =
     let left = c.self.inside in
-    let has = c.self.invariant in
-    let items = row_items (row_of left.items.now left.row) in
-    let within : left.end ≤ length items = omega (arith, has.within, count_of_items left.items.now left.row) in
+    let has = c.self.invariant.left in
+    let items = row_items (row_of left.reader.items left.row) in
+    let within : left.end ≤ length items = omega (arith, has.within, count_of_items left.reader.items left.row) in
     sym (count_between items left.begun left.end has.begun_first within) ∙ ap length c.self.view_is

@@ -5,4 +5,4 @@ use Rattle.nd_lent.proofs.array_view.rows.LentRow.get.Goals as goal
 
 pub returns-then-coordinate-self-clause-item : goal.returns-then-coordinate-self-clause-item
 returns-then-coordinate-self-clause-item g c =
-    rw (← c.self.view_is) (no_item_past c.self.inside.items.now c.self.inside.row (omega (arith, c.if-coordinate-self.true)))
+    rw (← c.self.view_is) (no_item_past c.self.inside.reader.items c.self.inside.row (omega (arith, c.if-coordinate-self.true)))

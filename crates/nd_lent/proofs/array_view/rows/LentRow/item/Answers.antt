@@ -1,37 +1,25 @@
--- A coordinate of the row has a place among the items.
-use Rattle.std.proofs.Common.{sym, ap, ◌<◌, ◌∙◌, arith, subst, Some}
-use Rattle.ndarray_layout.specs.Bounds.{IsInBounds}
-use Rattle.nd_lent.proofs.RowsLent.{item_of_coordinate, place_of_coordinate}
+-- A coordinate of the row has a place among the items, which has a mark.
+use Rattle.std.proofs.Common.{sym, ◌<◌, ◌∙◌, subst}
+use Rattle.nd_lent.proofs.Read.{mark_of_coordinate, read_of_coordinate}
+use Rattle.nd_lent.proofs.RowsLent.{place_of_coordinate}
 use Rattle.nd_lent.proofs.array_view.rows.LentRow.item.Goals as goal
 
 pub place_in_row-requires-clause-first : goal.place_in_row-requires-clause-first
 place_in_row-requires-clause-first g c =
     let below = subst (λ row. c.args.coordinate < row.row.len) (sym c.self.view_is) c.requires in
-    (place_of_coordinate c.self.inside.row c.args.coordinate c.self.invariant below).first
+    (place_of_coordinate c.self.inside.row c.args.coordinate c.self.invariant.has below).first
 
 pub place_in_row-requires-clause-in_bounds : goal.place_in_row-requires-clause-in_bounds
 place_in_row-requires-clause-in_bounds g c =
     let below = subst (λ row. c.args.coordinate < row.row.len) (sym c.self.view_is) c.requires in
-    (place_of_coordinate c.self.inside.row c.args.coordinate c.self.invariant below).fits
+    (place_of_coordinate c.self.inside.row c.args.coordinate c.self.invariant.has below).fits
 
-pub offset_bounds-items-place_in_row : goal.offset_bounds-items-place_in_row
-offset_bounds-items-place_in_row g c =
+pub get-requires : goal.get-requires
+get-requires g c =
     let below = subst (λ row. c.args.coordinate < row.row.len) (sym c.self.view_is) c.requires in
-    let at = place_of_coordinate c.self.inside.row c.args.coordinate c.self.invariant below in
-    omega (arith, subst (IsInBounds _) (sym c.place_in_row.ensures) at.within)
-
-pub bounds-items-place_in_row : goal.bounds-items-place_in_row
-bounds-items-place_in_row g c =
-    let below = subst (λ row. c.args.coordinate < row.row.len) (sym c.self.view_is) c.requires in
-    let at = place_of_coordinate c.self.inside.row c.args.coordinate c.self.invariant below in
-    subst (IsInBounds _) (sym c.place_in_row.ensures) at.within
+    mark_of_coordinate c.self.inside.reader.marks c.self.inside.row c.self.invariant.marked below c.place_in_row.ensures
 
 pub returns : goal.returns
 returns g c =
     let below = subst (λ row. c.args.coordinate < row.row.len) (sym c.self.view_is) c.requires in
-    let at = place_of_coordinate c.self.inside.row c.args.coordinate c.self.invariant below in
-    let item = c.index-items-place_in_row in
-    rw (← c.self.view_is)
-    (sym (ap Some item.is
-    ∙ item_of_coordinate c.self.inside.items.now item.result c.self.inside.row below c.place_in_row.ensures
-    (subst (IsInBounds _) (sym c.place_in_row.ensures) at.within)))
+    rw (← c.self.view_is) (read_of_coordinate c.self.inside.reader.items c.self.inside.row below c.place_in_row.ensures c.get.ensures)

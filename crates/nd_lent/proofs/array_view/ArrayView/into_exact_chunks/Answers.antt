@@ -1,0 +1,8 @@
+-- Each chunk is read.
+use Rattle.std.proofs.Common.{sym}
+use Rattle.nd_lent.proofs.BlocksOf.{chunks_read}
+use Rattle.nd_lent.proofs.array_view.ArrayView.into_exact_chunks.Goals as goal
+
+pub invariant_of-result : goal.invariant_of-result
+invariant_of-result g c =
+    chunks_read (g.D.Lengths.list c.args.chunk.now) c.self.invariant (sym c.in_ok-views.ensures.fault) c.in_ok-views.ensures.views

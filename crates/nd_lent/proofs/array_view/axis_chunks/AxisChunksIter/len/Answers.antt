@@ -1,0 +1,10 @@
+-- As many as lie between.
+use Rattle.nd_lent.specs.ChunksAlong.{chunk_at, chunk_count}
+use Rattle.nd_lent.proofs.AlongAxis.{many_left}
+use Rattle.nd_lent.proofs.array_view.axis_chunks.AxisChunksIter.len.Goals as goal
+
+pub returns : goal.returns
+returns g c =
+    let self = c.self.inside in
+    many_left (chunk_at self.axis.0 self.size self.array) (chunk_count self.array.view.shape self.axis.0 self.size) self.begun self.end
+    c.self.invariant.ordered c.self.invariant.within c.self.view_is

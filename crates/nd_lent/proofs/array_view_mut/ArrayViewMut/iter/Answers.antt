@@ -1,0 +1,31 @@
+-- Each place of the part has a mark, and what is left comes from its front on, in order.
+use Rattle.std.proofs.Common.{List, Option, Some, ap, length, ◌∙◌, Bor}
+use Rattle.std.specs.Iterator.{YieldsFirstBy}
+use Rattle.std.proofs.iter.runs.Sources.{from_front}
+use Rattle.std.proofs.lemmas.List.{length-map}
+use Rattle.ndarray_layout.specs.declared.Order.TheVariants.{RowMajor}
+use Rattle.ndarray_layout.proofs.Laws.View.{length-view_places}
+use Rattle.nd_lent.specs.Items.{item_at_place}
+use Rattle.nd_lent.proofs.PartRead.{part_read}
+use Rattle.nd_lent.proofs.Read.{places_read}
+use Rattle.nd_lent.proofs.array_view_mut.ArrayViewMut.iter.Goals as goal
+
+pub of_reader-requires : goal.of_reader-requires
+of_reader-requires g c =
+    let self = c.args.self.now in
+    let all = c.shared.ensures.all in
+    rw (all.0, all.1) (places_read self.view (part_read self.cells.marks self.view (length self.cells.items) all.2 self.part)
+    c.iter_places.ensures.items)
+
+pub returns-clause-count : goal.returns-clause-count
+returns-clause-count g c =
+    ap length c.of_reader.ensures
+    ∙ length-map c.iter_places.result (item_at_place c.shared.result.items)
+    ∙ ap length c.iter_places.ensures.items
+    ∙ length-view_places RowMajor c.args.self.now.view
+
+pub returns-clause-in_order : goal.returns-clause-in_order
+returns-clause-in_order g c =
+    let left = λ (items : List (Option g.row.T.Denot)). items in
+    let shown = λ (item : Bor g.row.T.Denot). Some item.now in
+    from_front (YieldsFirstBy shown left) shown left (λ s t h. ap length h.0) (λ s x t h. h)

@@ -1,0 +1,34 @@
+-- The row that comes next is a part of its own, and the right has the others.
+use Rattle.std.proofs.Common.{ap, map, subst, ◌∙◌}
+use Rattle.nd_lent.specs.Items.{item_at_place}
+use Rattle.nd_lent.specs.Own.{AreOwn}
+use Rattle.nd_lent.proofs.OwnRows.{front_row_comes, other_rows_are_own, row_is_part, some_items}
+use Rattle.nd_lent.proofs.array_view_mut.items.IterMut.next_row.Goals as goal
+
+pub take_from-requires : goal.take_from-requires
+take_from-requires g c =
+    let self = c.args.self.now in
+    let own = subst (AreOwn self.cells.marks) c.in_ok-row.ensures.row.1 self.own in
+    rw c.layout.ensures.view (row_is_part self.cells.marks c.in_ok-row.row c.next_row.new.self own c.in_ok-row.ensures.row_is_view)
+
+pub invariant_of-self-2 : goal.invariant_of-self-2
+invariant_of-self-2 g c =
+    let self = c.args.self.now in
+    let own = subst (AreOwn self.cells.marks) c.in_ok-row.ensures.row.1 self.own in
+    record {
+      own = rw (c.take_from.ensures.left, c.layout.ensures.view)
+          (other_rows_are_own self.cells.marks c.in_ok-row.row c.next_row.new.self own);
+    }
+
+pub returns-clause-row : goal.returns-clause-row
+returns-clause-row g c =
+    let items = c.args.self.now.cells.items in
+    front_row_comes c.in_ok-row.row items c.in_ok-row.ensures.row.0 c.in_ok-row.ensures.row_is_view
+    (c.take_from.ensures.array ∙ ap (λ view. record { items = items; view = view }) c.layout.ensures.view)
+    c.next_row.new.self c.take_from.ensures.items (ap (map (item_at_place items)) c.in_ok-row.ensures.row.1)
+
+pub returns-clause-some : goal.returns-clause-some
+returns-clause-some g c =
+    let items = c.args.self.now.cells.items in
+    some_items c.in_ok-row.row items c.in_ok-row.ensures.row.0 c.in_ok-row.ensures.row_is_view
+    (c.take_from.ensures.array ∙ ap (λ view. record { items = items; view = view }) c.layout.ensures.view)

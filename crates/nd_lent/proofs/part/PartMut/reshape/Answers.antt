@@ -1,6 +1,0 @@
--- Each index of the reshaped view has a place to itself, which has a mark.
-use Rattle.nd_lent.proofs.Laws.Marks.{part_descendant}
-use Rattle.nd_lent.proofs.part.PartMut.reshape.Goals as goal
-
-pub of_cells-requires : goal.of_cells-requires
-of_cells-requires g c = part_descendant _ c.in_ok-view.ensures.kept c.args.self.part

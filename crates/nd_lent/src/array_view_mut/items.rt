@@ -1,0 +1,156 @@
+//! The items of a part one after another, each lent to be written, without a list of them.
+ghost use Rattle.std.specs.Iterator.{UpTo, YieldsFirstBy, YieldsLastBy, item_count};
+ghost use Rattle.std.specs.Iterator.SizeHint.{IsWithinCount};
+ghost use Rattle.std.specs.Prelude.{◌≡◌, ◌≢◌, ◌-◌, ◌++◌, [], IfSome, MatchOption, Some, drop, length, map, take};
+ghost use Rattle.ndarray_layout.specs.declared.Order.TheVariants.{RowMajor};
+ghost use Rattle.ndarray_layout.specs.View.{view_places};
+ghost use Rattle.nd_lent.specs.Items.{item_at_place};
+ghost use Rattle.nd_lent.specs.Own.{AreOwn, AreOwn-prop};
+
+use crate::array_view_mut::ArrayViewMut;
+use crate::cells::Cells;
+use ndarray_layout::{IntoPlaces, Ix1, Lengths, Order};
+use std::iter::FusedIterator;
+
+/// The items of a part that are still to come, in row-major order of their indices, from both ends, each lent to be written.
+/// ndarray's `IterMut`.
+#[derive(Drop)]
+pub struct IterMut<'a, T, D: Lengths> {
+    pub(crate) cells: Cells<'a, T>,
+    pub(crate) places: IntoPlaces<D>,
+    ghost own: { AreOwn cells.marks places } by { AreOwn-prop cells.marks places },
+}
+
+impl<'a, T, D: Lengths> Iterator for IterMut<'a, T, D> {
+    ghost use Rattle.nd_lent.specs.ItemsLeft.{items_left};
+
+    type Item = &'a mut T;
+
+    ghost next_gives = { YieldsFirstBy (λ item. Some item.now) items_left };
+
+    ghost remaining = { item_count items_left };
+
+    #[inline(always)]
+    fn next(&mut self) -> Option<&'a mut T> {
+        let place = self.places.next()?;
+        self.cells.take_slice(place, 1).first_mut()
+    }
+
+    fn size_hint(&self) -> (usize, Option<usize>)
+        ensures lower { IsWithinCount result.0 (item_count items_left self.now) }
+        ensures upper { IfSome result.1 (UpTo (item_count items_left self.now)) }
+        ensures exact { (result.0 ≡ length (items_left self.now)) × (result.1 ≡ Some (length (items_left self.now))) }
+    {
+        self.places.size_hint()
+    }
+}
+
+impl<'a, T, D: Lengths> DoubleEndedIterator for IterMut<'a, T, D> {
+    ghost use Rattle.nd_lent.specs.ItemsLeft.{items_left};
+
+    ghost next_back_gives = { YieldsLastBy (λ item. Some item.now) items_left };
+
+    #[inline]
+    fn next_back(&mut self) -> Option<&'a mut T> {
+        let place = self.places.next_back()?;
+        self.cells.take_slice(place, 1).first_mut()
+    }
+}
+
+impl<'a, T, D: Lengths> ExactSizeIterator for IterMut<'a, T, D> {
+    fn len(&self) -> usize {
+        self.places.len()
+    }
+}
+
+impl<'a, T, D: Lengths> FusedIterator for IterMut<'a, T, D> {}
+
+impl<'a, T, D: Lengths> IterMut<'a, T, D> {
+    ghost use Rattle.nd_lent.specs.ItemsLeft.{items_left};
+
+    /// Leaves out so many items, or all where fewer are left: the next one is the one that comes after them. They are unchanged.
+    ///
+    /// Takes no memory, and no time for each of them (`PlacesOf::advance`).
+    ///
+    /// Of the items of `[2,2]` over 5 6 7 8, after 3 of them: 8. What `nth` of std's iterators leaves out one by one.
+    pub fn advance(&mut self, count: usize)
+        ensures left { items_left self.new ≡ drop count (items_left self.old) }
+        ensures same_right { self.new.cells.name ≡ self.old.cells.name }
+    {
+        self.places.advance(count);
+    }
+
+    /// Leaves out so many items at the back, or all where fewer are left: the last one is the one that comes before them. They are
+    /// unchanged.
+    ///
+    /// Takes no memory, and no time for each of them (`PlacesOf::advance_back`).
+    ///
+    /// Of the items of `[2,2]` over 5 6 7 8, without the last 3: 5. What `nth_back` of std's iterators leaves out one by one.
+    pub fn advance_back(&mut self, count: usize)
+        ensures left { items_left self.new ≡
+            take (length (items_left self.old) - count) (items_left self.old) }
+        ensures same_right { self.new.cells.name ≡ self.old.cells.name }
+    {
+        self.places.advance_back(count);
+    }
+}
+
+impl<'a, T: Drop, D: Lengths> IterMut<'a, T, D> {
+    ghost use Rattle.nd_lent.specs.ItemsLeft.{items_left};
+    ghost use Rattle.nd_lent.specs.Items.{items_of};
+    ghost use Rattle.nd_lent.specs.Lent.{array_of};
+
+    /// The items that come next and lie evenly, at once, as a part of their own: what is left of the row in progress, or else the
+    /// next row; `None` after the last item.
+    ///
+    /// Takes no memory. Costs as much as an item.
+    ///
+    /// Of the items of `[2,2]` with strides `[3,1]` over 5 6 7 8 9, after one item: a part of 6, and then one of 8 9. The project's own.
+    pub fn next_row(&mut self) -> Option<ArrayViewMut<'a, T, Ix1>>
+        ensures row { MatchOption result ((items_left self.old ≡ []) × (items_left self.new ≡ []))
+            (λ row. items_left self.old ≡ items_of (array_of row) ++ items_left self.new) }
+        ensures some { IfSome result (λ row. items_of (array_of row) ≢ []) }
+    {
+        let row = self.places.next_row()?;
+        Some(ArrayViewMut::take_from(&mut self.cells, row.layout()))
+    }
+
+    /// The last items that lie evenly, at once, as a part of their own: what is left of the row in progress at the back, or else
+    /// the last row; `None` before the first item.
+    ///
+    /// Takes no memory. Costs as much as an item from the back.
+    ///
+    /// Of the items of `[2,2]` with strides `[3,1]` over 5 6 7 8 9, without the last one: a part of 8, and then one of 5 6. The
+    /// project's own.
+    pub fn next_row_back(&mut self) -> Option<ArrayViewMut<'a, T, Ix1>>
+        ensures row { MatchOption result ((items_left self.old ≡ []) × (items_left self.new ≡ []))
+            (λ row. items_left self.old ≡ items_left self.new ++ items_of (array_of row)) }
+        ensures some { IfSome result (λ row. items_of (array_of row) ≢ []) }
+    {
+        let row = self.places.next_row_back()?;
+        Some(ArrayViewMut::take_from(&mut self.cells, row.layout()))
+    }
+}
+
+impl<'a, T: Drop, D: Lengths> ArrayViewMut<'a, T, D> {
+    ghost use Rattle.nd_lent.specs.ItemsLeft.{items_left};
+    ghost use Rattle.nd_lent.specs.Lent.{array_of};
+
+    /// An iterator over the items of all indices, in row-major order (the last axis moves fastest), from both ends, each lent to be
+    /// written for as long as the whole is. It knows how many are left. That they keep what is written is tested, and in no clause.
+    ///
+    /// Takes no memory. An item takes the time of its place (`Strided::into_places`).
+    ///
+    /// The transpose of `[2,2]` over 5 6 7 8: 5 7 6 8. ndarray's `into_iter` of a view to be written.
+    pub fn into_items(self) -> IterMut<'a, T, D>
+        ensures items { items_left result ≡ map (item_at_place (array_of self.entry).items)
+            (view_places RowMajor (array_of self.entry).view) }
+        ensures same_right { result.cells.name ≡ self.entry.cells.name }
+    {
+        let ArrayViewMut { cells, view } = self;
+        IterMut {
+            cells,
+            places: view.into_places(Order::RowMajor),
+        }
+    }
+}

@@ -1,0 +1,117 @@
+//! Items that a closure makes of those of an array, written to a part.
+ghost use Rattle.std.specs.Fn.{CalledAt};
+ghost use Rattle.std.specs.Iterator.{ActsAsAt, CallableOnAllAt};
+ghost use Rattle.std.specs.Option.{option_map};
+ghost use Rattle.std.specs.Prelude.{◌≡◌, ◌↔◌, IsOk, OnErr, OnOk, Some};
+ghost use Rattle.std.specs.Result.{result_err};
+ghost use Rattle.ndarray_layout.specs.declared.ErrorKind.TheVariants.{IncompatibleShape};
+ghost use Rattle.nd_lent.specs.AnyOrder.{CallsMakeArrayInSomeOrder, InAnyOrder};
+ghost use Rattle.nd_lent.specs.HasItems.{HasItemsOf, KeepsSpare};
+ghost use Rattle.nd_lent.specs.Items.{item_at};
+ghost use Rattle.nd_lent.specs.Mapped.{CallsMake, gives, row_major_items};
+ghost use Rattle.nd_lent.specs.Rights.{right_of};
+
+use crate::array_view::ArrayView;
+use crate::array_view_mut::ArrayViewMut;
+use crate::array_view_mut::pairs::{zip_nearest, zip_view};
+use ndarray_layout::{ErrorKind, Lengths, ShapeError, from_kind};
+
+impl<T, D: Lengths> ArrayView<'_, T, D> {
+    ghost use Rattle.nd_lent.specs.Lent.{array_of};
+
+    /// Writes at each index of a part of the same shape what a closure makes of the item here, in row-major order. Other items are
+    /// unchanged.
+    ///
+    /// Takes no memory. Goes over the longest rows that the axes of both allow (`Strided::joined_rows_with`): two whose items
+    /// follow one another are a loop over two slices; in others each index takes the time of its place in both.
+    ///
+    /// # Errors
+    ///
+    /// `IncompatibleShape` where the shapes differ; the items are unchanged, and the closure isn't called. (A shape that can be
+    /// broadcast is an error too: `broadcast` comes first.)
+    ///
+    /// `|item| *item < 6` of 5 6 to `[2]` with the stride `[-1]`: the second item is `true`, and the first `false`. ndarray's
+    /// `map`, which makes a new array, and `Zip::map_assign_into`.
+    pub fn map_into<U: Drop, F: FnMut(&T) -> U>(
+        &self,
+        to: &mut ArrayViewMut<'_, U, D>,
+        mut f: F,
+    ) -> Result<(), ShapeError>
+        requires { self.now.view.shape ≡ (array_of to.old).view.shape →
+            CallableOnAllAt gives F.FnMut (row_major_items self.now) f }
+        ensures fits { IsOk result ↔ (self.now.view.shape ≡ (array_of to.old).view.shape) }
+        ensures fault { OnErr result (result_err result ≡ Some IncompatibleShape) }
+        ensures unchanged { OnErr result (array_of to.new ≡ array_of to.old) }
+        ensures ran { OnOk result (CallsMake (λ p x y q. CalledAt F.FnMut p x y q) f
+            (row_major_items self.now) (row_major_items (array_of to.new))) }
+        ensures mapped { OnOk result ((h : T → U) → ActsAsAt F.FnMut f h → HasItemsOf
+            (λ index. option_map h (item_at self.now index)) (array_of to.old) (array_of to.new)) }
+        ensures view { (array_of to.new).view ≡ (array_of to.old).view }
+        ensures spare { KeepsSpare (array_of to.old) (array_of to.new) }
+        ensures same_right { to.new.cells.name ≡ to.old.cells.name }
+        ensures same_marks { to.new.cells.marks ≡ to.old.cells.marks }
+        ensures same_right_of { right_of to.new.cells ≡ right_of to.old.cells }
+    {
+        if !to.view.dim().equal(self.dim()) {
+            return Err(from_kind(ErrorKind::IncompatibleShape));
+        }
+        let each = move |stored: &mut U, item: &T|
+            requires { F.pre f item }
+            ensures { F.step f.entry item.entry stored.new f.exit }
+        {
+            *stored = f(item);
+        };
+        let source = self.strided();
+        zip_view(&mut to.cells, &to.view, self.reader(), source, each);
+        Ok(())
+    }
+
+    /// Writes at each index of a part of the same shape what a closure makes of the item here, each once, in the order in which
+    /// those of the part lie. Other items are unchanged.
+    ///
+    /// It is `map_into` for a closure that needs no order. Takes no memory. With at most 6 axes it goes over the longest rows
+    /// that the axes of both allow once they are turned and sorted by the part's strides (`Strided::nearest_with`); with more axes
+    /// as `map_into` does.
+    ///
+    /// # Errors
+    ///
+    /// `IncompatibleShape` where the shapes differ; the items are unchanged, and the closure isn't called. (A shape that can be
+    /// broadcast is an error too: `broadcast` comes first.)
+    ///
+    /// `|item| *item < 6` of 5 6 to `[2]` with the stride `[-1]`: at 6, then at 5, and the second item is `true`. ndarray's
+    /// `Zip::map_assign_into`.
+    pub fn map_into_nearest<U: Drop, F: FnMut(&T) -> U>(
+        &self,
+        to: &mut ArrayViewMut<'_, U, D>,
+        mut f: F,
+    ) -> Result<(), ShapeError>
+        requires { self.now.view.shape ≡ (array_of to.old).view.shape →
+            InAnyOrder (λ items. CallableOnAllAt gives F.FnMut items f)
+            (row_major_items self.now) }
+        ensures fits { IsOk result ↔ (self.now.view.shape ≡ (array_of to.old).view.shape) }
+        ensures fault { OnErr result (result_err result ≡ Some IncompatibleShape) }
+        ensures unchanged { OnErr result (array_of to.new ≡ array_of to.old) }
+        ensures ran { OnOk result (CallsMakeArrayInSomeOrder (λ p x y q. CalledAt F.FnMut p x y q) f
+            self.now (array_of to.new)) }
+        ensures mapped { OnOk result ((h : T → U) → ActsAsAt F.FnMut f h → HasItemsOf
+            (λ index. option_map h (item_at self.now index)) (array_of to.old) (array_of to.new)) }
+        ensures view { (array_of to.new).view ≡ (array_of to.old).view }
+        ensures spare { KeepsSpare (array_of to.old) (array_of to.new) }
+        ensures same_right { to.new.cells.name ≡ to.old.cells.name }
+        ensures same_marks { to.new.cells.marks ≡ to.old.cells.marks }
+        ensures same_right_of { right_of to.new.cells ≡ right_of to.old.cells }
+    {
+        if !to.view.dim().equal(self.dim()) {
+            return Err(from_kind(ErrorKind::IncompatibleShape));
+        }
+        let each = move |stored: &mut U, item: &T|
+            requires { F.pre f item }
+            ensures { F.step f.entry item.entry stored.new f.exit }
+        {
+            *stored = f(item);
+        };
+        let source = self.strided();
+        zip_nearest(&mut to.cells, &to.view, &self.reader(), source, each);
+        Ok(())
+    }
+}

@@ -1,0 +1,192 @@
+//! A slice that was checked once on a layout, to be moved along the axes.
+ghost use Rattle.std.specs.List.{All};
+ghost use Rattle.std.specs.Option.{IsSome};
+ghost use Rattle.std.specs.Prelude.{◌≡◌, ◌↔◌, ◌<◌, ◌^◌, ℕ, IfOk, IfSome, IsOk, IsTrue, None, length, slice_index};
+ghost use Rattle.ndarray_layout.specs.declared.Fit.TheVariants.{Strict};
+ghost use Rattle.ndarray_layout.specs.declared.Order.TheVariants.{RowMajor};
+ghost use Rattle.ndarray_layout.specs.AxisElems.{axis_elems};
+ghost use Rattle.ndarray_layout.specs.Indices.{is_index as is_index_of_shape};
+ghost use Rattle.ndarray_layout.specs.Offset.{offset_of};
+ghost use Rattle.ndarray_layout.specs.Rows.{rows_places};
+ghost use Rattle.ndarray_layout.specs.ShapeFault.{shape_fault};
+ghost use Rattle.ndarray_layout.specs.Signed.{all_signed};
+ghost use Rattle.ndarray_layout.specs.SliceFault.{argument_fault};
+ghost use Rattle.ndarray_layout.specs.SlicedView.{slice_of};
+ghost use Rattle.ndarray_layout.specs.View.{view_places};
+ghost use Rattle.nd_owned.specs.Moved.{moves};
+
+use ndarray_layout::{
+    AxisElems, Fit, IxDyn, LayoutError, Lengths, Order, Row, ShapeError, SliceElems, SliceInfoElem,
+    Strided, index_offset, is_index, resolve_elem,
+};
+use std::alloc::{AllocError, Global};
+use std::marker::Model;
+
+/// A slice of the arrays of one layout, checked once, to be moved along the axes: what `OwnedArray::ready` returns, for many
+/// tiles of one shape. A contract sees the layout and the slice.
+#[derive(Drop)]
+pub struct ReadySlice<D: Lengths> {
+    view: Strided<D>,
+    elems: Vec<SliceInfoElem>,
+    // By how many coordinates along each axis it can be moved, 0 among them.
+    moves: D,
+    // The rows of the slice where it wasn't moved, and how many places they have.
+    rows: Vec<Row>,
+    count: usize,
+}
+
+impl<D: Lengths> Model for ReadySlice<D> {
+    ghost use Rattle.nd_owned.specs.Moved.{Ready};
+    ghost use Rattle.nd_owned.specs.private.MovedRows.{AreReady};
+
+    ghost Value = { Ready };
+
+    ghost view = { λ ready. record { view = ready.view; elems = ready.elems.items } };
+
+    ghost invariant = { λ ready. AreReady ready.view ready.elems.items (D.list ready.moves) ready.rows.items ready.count };
+}
+
+/// By how many coordinates a slice of a shape can be moved along each axis. Errors: that of the first element with one, where
+/// there is one for each axis; then out of memory.
+fn moves_of<D: Lengths>(alloc: Global, dim: &D, elems: &[SliceInfoElem]) -> Result<D, LayoutError>
+    requires { argument_fault Strict (D.list dim.now) elems.now ≡ None }
+    ensures fault { shape_fault result ≡ None }
+    ensures moves { IfOk result (λ counts. D.list counts ≡ moves elems.now (D.list dim.now)) }
+{
+    let shape = dim.slice();
+    let mut counts = D::zeros(alloc, shape.len())?;
+    write_moves(counts.slice_mut(), shape, elems)?;
+    Ok(counts)
+}
+
+/// Writes by how many coordinates each element for an axis can be moved.
+fn write_moves(
+    counts: &mut [usize],
+    shape: &[usize],
+    elems: &[SliceInfoElem],
+) -> Result<(), ShapeError>
+    requires fits { argument_fault Strict shape.now elems.now ≡ None }
+    requires room { length counts.old ≡ length (axis_elems shape.now elems.now) }
+    ensures fault { IsOk result }
+    ensures moves { counts.new ≡ moves elems.now shape.now }
+{
+    for (axis, (len, elem)) in AxisElems::new(shape, elems).enumerate() {
+        let range = resolve_elem(len, elem, Fit::Strict)?;
+        counts[axis] = len - range.end.saturating_sub(1);
+    }
+    Ok(())
+}
+
+/// The longest rows that the axes of a view allow, one after another.
+fn list_rows<D: Lengths>(alloc: Global, view: &Strided<D>) -> Result<Vec<Row>, AllocError>
+    ensures places { IfOk result (λ v. rows_places v.items ≡ view_places RowMajor view.now) }
+    ensures some { IfOk result (λ v. All (λ row. 0 < row.len) v.items) }
+{
+    let mut rows = Vec::new(alloc);
+    for row in view.joined_rows(Order::RowMajor) {
+        rows.push(row)?;
+    }
+    Ok(rows)
+}
+
+/// Whether two lists of strides stand for the same numbers.
+#[inline(always)]
+fn are_same_strides(one: &[usize], other: &[usize]) -> bool
+    requires one_fits { (k : ℕ) → slice_index one.now k < 2 ^ 64 }
+    requires other_fits { (k : ℕ) → slice_index other.now k < 2 ^ 64 }
+    ensures { IsTrue result ↔ (all_signed one.now ≡ all_signed other.now) }
+{
+    one == other
+}
+
+impl<D: Lengths> ReadySlice<D> {
+    /// The slice on a layout. Errors: those of `check_slice` on the shape, then out of memory.
+    pub(crate) fn new<S: SliceElems>(
+        alloc: Global,
+        view: &Strided<D>,
+        slices: &S,
+    ) -> Result<Self, LayoutError>
+        ensures fault { shape_fault result ≡ argument_fault Strict view.now.shape (S.list slices.now) }
+        ensures layout { IfOk result (λ ready. ready.view ≡ view.now) }
+        ensures slice { IfOk result (λ ready. ready.elems ≡ S.list slices.now) }
+    {
+        let part: Strided<IxDyn> = view.slice(alloc, slices, Fit::Strict)?;
+        let count = part.len();
+        let rows = list_rows(alloc, &part)?;
+        let moves = moves_of(alloc, view.dim(), slices.elems())?;
+        let elems = Vec::from_slice(alloc, slices.elems())?;
+        let view = view.duplicate(alloc)?;
+        Ok(ReadySlice {
+            view,
+            elems,
+            moves,
+            rows,
+            count,
+        })
+    }
+
+    /// The slice, as it was given.
+    ///
+    /// Of `..2,..2` on `[3,4]`: these two ranges. The project's own.
+    #[inline]
+    pub fn elems(&self) -> &[SliceInfoElem]
+        ensures { result.now ≡ self.now.elems }
+    {
+        self.elems.as_slice()
+    }
+
+    /// By how many coordinates the slice can be moved along each axis, 0 among them: as many as lie from the last one of its range to
+    /// the end of the axis.
+    ///
+    /// Of `..2,..2` on `[3,4]`: `[2,3]`, so by 0 or 1 along the first axis. What ndarray's `windows` has as its shape.
+    #[inline]
+    pub fn moves(&self) -> &D
+        ensures { D.list result.now ≡ moves self.now.elems self.now.view.shape }
+    {
+        &self.moves
+    }
+
+    /// Whether it was checked on this layout.
+    #[inline(always)]
+    pub(crate) fn is_of(&self, view: &Strided<D>) -> bool
+        ensures { IsTrue result ↔ (self.now.view ≡ view.now) }
+    {
+        let own = self.view.strides().slice();
+        let other = view.strides().slice();
+        self.view.start() == view.start()
+            && self.view.dim().equal(view.dim())
+            && are_same_strides(own, other)
+    }
+
+    /// How far the slice moves by an index, in elements; `None` where it can't be moved so.
+    #[inline(always)]
+    pub(crate) fn offset(&self, by: &D) -> Option<isize>
+        ensures found { IsSome result
+            ↔ IsTrue (is_index_of_shape (moves self.now.elems self.now.view.shape) (D.list by.now)) }
+        ensures offset { IfSome result (λ offset. offset ≡ offset_of self.now.view.strides (D.list by.now)) }
+    {
+        if !is_index(self.moves.slice(), by.slice()) {
+            return None;
+        }
+        Some(index_offset(by.slice(), self.view.strides().slice()))
+    }
+
+    /// The rows of the slice where it wasn't moved.
+    #[inline(always)]
+    pub(crate) fn rows(&self) -> &[Row]
+        ensures fits { argument_fault Strict self.now.view.shape self.now.elems ≡ None }
+        ensures places { rows_places result.now
+            ≡ view_places RowMajor (slice_of Strict self.now.elems self.now.view) }
+        ensures some { All (λ row. 0 < row.len) result.now }
+    {
+        self.rows.as_slice()
+    }
+
+    /// How many items it picks.
+    #[inline(always)]
+    pub(crate) fn count(&self) -> usize
+        ensures { result ≡ length (view_places RowMajor (slice_of Strict self.now.elems self.now.view)) }
+    {
+        self.count
+    }
+}

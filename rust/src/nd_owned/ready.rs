@@ -1,0 +1,246 @@
+// Made by `rust/erase` of `crates/nd_owned/src/ready.rt`: edit that.
+//! A slice that was checked once on a layout, to be moved along the axes.
+
+use crate::memory::AllocError;
+use crate::memory::prelude::{FallibleVec, Vec};
+use crate::ndarray_layout::{
+    AxisElems, Fit, IxDyn, LayoutError, Lengths, Order, Row, ShapeError, SliceElems, SliceInfoElem, Strided,
+    index_offset, is_index, resolve_elem,
+};
+
+/// A slice of the arrays of one layout, checked once, to be moved along the axes: what `OwnedArray::ready` returns, for
+/// many tiles of one shape.
+pub struct ReadySlice<D: Lengths> {
+    view: Strided<D>,
+    elems: Vec<SliceInfoElem>,
+    // By how many coordinates along each axis it can be moved, 0 among them.
+    moves: D,
+    // The rows of the slice where it wasn't moved, and how many places they have.
+    rows: Vec<Row>,
+    count: usize,
+}
+
+/// By how many coordinates a slice of a shape can be moved along each axis. Errors: that of the first element with one, where
+/// there is one for each axis; then out of memory.
+///
+/// <details><summary>Contract (proved)</summary>
+///
+/// ```text
+/// requires argument_fault Strict (D.list dim.now) elems.now ≡ None
+/// ensures fault: shape_fault result ≡ None
+/// ensures moves: IfOk result (λ counts. D.list counts ≡ moves elems.now (D.list dim.now))
+/// ```
+/// [How to read it](crate::contracts)
+/// </details>
+#[inline]
+fn moves_of<D: Lengths>(dim: &D, elems: &[SliceInfoElem]) -> Result<D, LayoutError> {
+    let shape = dim.slice();
+    let mut counts = D::zeros(shape.len())?;
+    write_moves(counts.slice_mut(), shape, elems)?;
+    Ok(counts)
+}
+
+/// Writes by how many coordinates each element for an axis can be moved.
+///
+/// <details><summary>Contract (proved)</summary>
+///
+/// ```text
+/// requires fits: argument_fault Strict shape.now elems.now ≡ None
+/// requires room: length counts.old ≡ length (axis_elems shape.now elems.now)
+/// ensures fault: IsOk result
+/// ensures moves: counts.new ≡ moves elems.now shape.now
+/// ```
+/// [How to read it](crate::contracts)
+/// </details>
+#[inline]
+fn write_moves(counts: &mut [usize], shape: &[usize], elems: &[SliceInfoElem]) -> Result<(), ShapeError> {
+    for (axis, (len, elem)) in AxisElems::new(shape, elems).enumerate() {
+        let range = resolve_elem(len, elem, Fit::Strict)?;
+        counts[axis] = len - range.end.saturating_sub(1);
+    }
+    Ok(())
+}
+
+/// The longest rows that the axes of a view allow, one after another.
+///
+/// <details><summary>Contract (proved)</summary>
+///
+/// ```text
+/// ensures places: IfOk result (λ v. rows_places v.items ≡ view_places RowMajor view.now)
+/// ensures some: IfOk result (λ v. All (λ row. 0 < row.len) v.items)
+/// ```
+/// [How to read it](crate::contracts)
+/// </details>
+#[inline]
+fn list_rows<D: Lengths>(view: &Strided<D>) -> Result<Vec<Row>, AllocError> {
+    let mut rows = Vec::new();
+    for row in view.joined_rows(Order::RowMajor) {
+        rows.fallible_push(row)?;
+    }
+    Ok(rows)
+}
+
+/// Whether two lists of strides stand for the same numbers.
+///
+/// <details><summary>Contract (proved)</summary>
+///
+/// ```text
+/// requires one_fits: (k : ℕ) → slice_index one.now k < 2 ^ 64
+/// requires other_fits: (k : ℕ) → slice_index other.now k < 2 ^ 64
+/// ensures IsTrue result ↔ (all_signed one.now ≡ all_signed other.now)
+/// ```
+/// [How to read it](crate::contracts)
+/// </details>
+#[inline(always)]
+fn are_same_strides(one: &[usize], other: &[usize]) -> bool {
+    one == other
+}
+
+impl<D: Lengths> ReadySlice<D> {
+    /// The slice on a layout. Errors: those of `check_slice` on the shape, then out of memory.
+    ///
+    /// <details><summary>Contract (proved)</summary>
+    ///
+    /// ```text
+    /// ensures fault: shape_fault result ≡ argument_fault Strict view.now.shape (S.list slices.now)
+    /// ensures layout: IfOk result (λ ready. ready.view ≡ view.now)
+    /// ensures slice: IfOk result (λ ready. ready.elems ≡ S.list slices.now)
+    /// ```
+    /// [How to read it](crate::contracts)
+    /// </details>
+    #[inline]
+    pub(crate) fn new<S: SliceElems>(view: &Strided<D>, slices: &S) -> Result<Self, LayoutError> {
+        let part: Strided<IxDyn> = view.slice(slices, Fit::Strict)?;
+        let count = part.len();
+        let rows = list_rows(&part)?;
+        let moves = moves_of(view.dim(), slices.elems())?;
+        let elems = Vec::fallible_from_slice(slices.elems())?;
+        let view = view.duplicate()?;
+        Ok(ReadySlice { view, elems, moves, rows, count })
+    }
+
+    /// The slice, as it was given.
+    ///
+    /// Of `..2,..2` on `[3,4]`: these two ranges. The project's own.
+    ///
+    /// # Examples
+    ///
+    /// ```
+    /// use ndarray_layout::{Ix2, LayoutError, OwnedArray, s};
+    ///
+    /// # fn main() -> Result<(), LayoutError> {
+    /// let table = OwnedArray::from_shape_vec(Ix2(3, 4), (0..12).collect())?;
+    /// assert_eq!(table.ready(&s![..2, ..2])?.elems(), &*s![..2, ..2]);
+    /// # Ok(())
+    /// # }
+    /// ```
+    ///
+    /// <details><summary>Contract (proved)</summary>
+    ///
+    /// ```text
+    /// ensures result.now ≡ self.now.elems
+    /// ```
+    /// [How to read it](crate::contracts)
+    /// </details>
+    #[must_use]
+    #[inline]
+    pub fn elems(&self) -> &[SliceInfoElem] {
+        self.elems.as_slice()
+    }
+
+    /// By how many coordinates the slice can be moved along each axis, 0 among them: as many as lie from the last one of its range to
+    /// the end of the axis.
+    ///
+    /// Of `..2,..2` on `[3,4]`: `[2,3]`, so by 0 or 1 along the first axis. What ndarray's `windows` has as its shape.
+    ///
+    /// # Examples
+    ///
+    /// ```
+    /// use ndarray_layout::{Ix2, LayoutError, OwnedArray, s};
+    ///
+    /// # fn main() -> Result<(), LayoutError> {
+    /// let table = OwnedArray::from_shape_vec(Ix2(3, 4), (0..12).collect())?;
+    /// assert_eq!(table.ready(&s![..2, ..2])?.moves(), &Ix2(2, 3));
+    /// assert_eq!(table.ready(&s![-1, ..;-1])?.moves(), &Ix2(1, 1));
+    /// # Ok(())
+    /// # }
+    /// ```
+    ///
+    /// <details><summary>Contract (proved)</summary>
+    ///
+    /// ```text
+    /// ensures D.list result.now ≡ moves self.now.elems self.now.view.shape
+    /// ```
+    /// [How to read it](crate::contracts)
+    /// </details>
+    #[must_use]
+    #[inline]
+    pub fn moves(&self) -> &D {
+        &self.moves
+    }
+
+    /// Whether it was checked on this layout.
+    ///
+    /// <details><summary>Contract (proved)</summary>
+    ///
+    /// ```text
+    /// ensures IsTrue result ↔ (self.now.view ≡ view.now)
+    /// ```
+    /// [How to read it](crate::contracts)
+    /// </details>
+    #[inline(always)]
+    pub(crate) fn is_of(&self, view: &Strided<D>) -> bool {
+        let own = self.view.strides().slice();
+        let other = view.strides().slice();
+        self.view.start() == view.start() && self.view.dim().equal(view.dim()) && are_same_strides(own, other)
+    }
+
+    /// How far the slice moves by an index, in elements; `None` where it can't be moved so.
+    ///
+    /// <details><summary>Contract (proved)</summary>
+    ///
+    /// ```text
+    /// ensures found: IsSome result
+    ///     ↔ IsTrue (is_index_of_shape (moves self.now.elems self.now.view.shape) (D.list by.now))
+    /// ensures offset: IfSome result (λ offset. offset ≡ offset_of self.now.view.strides (D.list by.now))
+    /// ```
+    /// [How to read it](crate::contracts)
+    /// </details>
+    #[inline(always)]
+    pub(crate) fn offset(&self, by: &D) -> Option<isize> {
+        if !is_index(self.moves.slice(), by.slice()) {
+            return None;
+        }
+        Some(index_offset(by.slice(), self.view.strides().slice()))
+    }
+
+    /// The rows of the slice where it wasn't moved.
+    ///
+    /// <details><summary>Contract (proved)</summary>
+    ///
+    /// ```text
+    /// ensures fits: argument_fault Strict self.now.view.shape self.now.elems ≡ None
+    /// ensures places: rows_places result.now ≡ view_places RowMajor (slice_of Strict self.now.elems self.now.view)
+    /// ensures some: All (λ row. 0 < row.len) result.now
+    /// ```
+    /// [How to read it](crate::contracts)
+    /// </details>
+    #[inline(always)]
+    pub(crate) fn rows(&self) -> &[Row] {
+        self.rows.as_slice()
+    }
+
+    /// How many items it picks.
+    ///
+    /// <details><summary>Contract (proved)</summary>
+    ///
+    /// ```text
+    /// ensures result ≡ length (view_places RowMajor (slice_of Strict self.now.elems self.now.view))
+    /// ```
+    /// [How to read it](crate::contracts)
+    /// </details>
+    #[inline(always)]
+    pub(crate) fn count(&self) -> usize {
+        self.count
+    }
+}
