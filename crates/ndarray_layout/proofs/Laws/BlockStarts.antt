@@ -58,7 +58,7 @@ module _ {source : List ℕ → List ℕ} {counts block : List ℕ} {along : Lis
       (take_at at inner (length along) long)
       ∙ ap (λ index. offset_of along at +ℤ offset_of view.strides index) (drop_at at inner (length along) long) in
       let whole : place_at (blocks_of counts along block view) (at ++ inner)
-          ≡ pos view.start +ℤ (offset_of along at +ℤ offset_of view.strides inner) =
+      ≡ pos view.start +ℤ (offset_of along at +ℤ offset_of view.strides inner) =
       ap (λ strides. pos view.start +ℤ offset_of strides (at ++ inner)) all ∙ ap (λ z. pos view.start +ℤ z) split in
       let first : place_at (block_starts counts along view) at ≡ pos view.start +ℤ offset_of along at =
       ap (λ strides. pos view.start +ℤ offset_of strides at) own in
