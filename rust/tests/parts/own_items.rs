@@ -4,7 +4,7 @@ use crate::model::Plain;
 use crate::numbers::Numbers;
 use crate::random::array;
 use ndarray_layout::CanIndexCheckMode::{OwnedMutable, ReadOnly};
-use ndarray_layout::{ArrayViewMut, Axis, Ix1, Ix2, IxDyn, Lengths, ShapeError, Strided, s, unsigned};
+use ndarray_layout::{ArrayView, ArrayViewMut, Axis, Ix1, Ix2, IxDyn, Lengths, Row, ShapeError, Strided, s, unsigned};
 use std::collections::BTreeSet;
 use std::panic::catch_unwind;
 
@@ -30,6 +30,17 @@ fn a_view_that_leaves_its_items_or_has_an_alias_panics() {
     assert!(!is_made(far, 99));
     let none = Strided::from_parts(0, Ix2(0, 3), Ix2(0, 0), 1, 0, ReadOnly);
     assert!(is_made(none, 0));
+}
+
+#[test]
+fn a_view_whose_numbers_are_no_views_panics() {
+    let row = |start, stride, len| Ok(Row { start, stride, len }.layout());
+    assert!(is_made(row(3, -1, 4), 4) && !is_made(row(2, -1, 4), 4) && !is_made(row(usize::MAX, 1, 2), 4));
+    for stride in [isize::MAX, isize::MAX / 2, isize::MIN, isize::MIN + 1] {
+        assert!(!is_made(row(0, stride, 9), 4) && !is_made(row(usize::MAX, stride, 9), 4), "{stride}");
+        let reads = catch_unwind(|| ArrayView::new(Row { start: 0, stride, len: 9 }.layout(), &[0_u8; 4]).len());
+        assert!(reads.is_err(), "{stride}");
+    }
 }
 
 #[test]
