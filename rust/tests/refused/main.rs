@@ -2,6 +2,7 @@
 
 mod allocator;
 mod arrays;
+mod axes;
 mod call;
 mod copies;
 mod dimensions;
