@@ -8,6 +8,7 @@ pub mod CollapsedView
 pub mod CroppedView
 pub mod DiagonalView
 pub mod DistinctPlaces
+pub mod Folding
 pub mod IndexedView
 pub mod InsertedView
 pub mod InvertedView

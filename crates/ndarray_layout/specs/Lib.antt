@@ -8,6 +8,7 @@ pub mod CroppedView
 pub mod Descends
 pub mod DiagonalView
 pub mod DistinctPlaces
+pub mod Folded
 pub mod IndexedView
 pub mod InsertedView
 pub mod InvertedView

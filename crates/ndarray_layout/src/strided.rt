@@ -8,6 +8,7 @@ mod collapsing;
 mod constructors;
 mod cropping;
 mod diagonal;
+mod folding;
 mod indexing;
 mod inserting;
 mod intersecting;

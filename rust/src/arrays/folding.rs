@@ -118,18 +118,10 @@ macro_rules! fold_places {
     () => {
         crate::arrays::skip!();
 
-        /// What a loop over `next` returns, row by row. Not proved.
+        /// What a loop over `next` returns, by `fold_rest`, which is proved.
         #[inline]
-        fn fold<B, F: FnMut(B, usize) -> B>(self, init: B, mut f: F) -> B {
-            let (mut places, mut total) = (self, init);
-            while let Some(row) = places.next_row() {
-                let mut place = row.start;
-                for _ in 0..row.len {
-                    total = f(total, place);
-                    place = place.wrapping_add_signed(row.stride);
-                }
-            }
-            total
+        fn fold<B, F: FnMut(B, usize) -> B>(self, init: B, f: F) -> B {
+            self.fold_rest(init, f)
         }
     };
 }

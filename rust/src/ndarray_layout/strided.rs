@@ -6,6 +6,7 @@ mod readers;
 mod places;
 mod iter_places;
 mod rows;
+mod folding;
 mod slicing;
 mod cropping;
 mod indexing;
