@@ -200,7 +200,7 @@ pub const SOUND_BY_CONDITIONS: &[(&str, &str)] =
     &[("nd_lent", "array_view"), ("nd_lent", "cells"), ("nd_lent", "array_view_mut")];
 
 /// Calls of these modules that are not public, which files of `rust/src` make. None has a condition.
-pub const SEEN: &[&str] = &["as_slice_backwards", "next_row"];
+pub const SEEN: &[&str] = &["to_list"];
 
 /// Calls of these modules that others see, whose condition the package checks, since no proof of its callers does: the type, the call,
 /// what is asserted, what the panic says, and what the docs say of it.
@@ -263,7 +263,8 @@ pub const LENDING: &[&str] = &["LentRow", "Reader", "RestOfItems", "RowItems", "
 pub const POINTERS: &[&str] = &["LentRow", "Reader"];
 
 /// Iterators whose `fold` and `nth`, or `nth_back`, are more than calls of the `next` or `next_back` that is proved: the
-/// trait, the iterator, and the macro of `rust/src/arrays` that adds them.
+/// trait, the iterator, and the macro of `rust/src/arrays` that adds them. A `fold` of items that are lent is a proved call, `fold_rest`, and
+/// an `rfold` is `rfold_rest`.
 pub const FOLDED: &[(&str, &str, &str)] = &[
     ("Iterator", "Items", "fold_items"),
     ("Iterator", "Iter", "fold_lent"),

@@ -12,7 +12,6 @@ use Rattle.ndarray_layout.specs.Rows.{row_places}
 use Rattle.ndarray_layout.proofs.Laws.Rows.{get_or-row_places, length-row_places}
 use Rattle.nd_lent.specs.Items.{item_at_place}
 use Rattle.nd_lent.specs.LentRow.{HasRow, row_items, row_of}
-use Rattle.nd_lent.proofs.Folding.{IsItemAt}
 use Rattle.nd_lent.proofs.Laws.Neighbours.{got_between}
 use Rattle.nd_lent.proofs.Laws.RowItems.{begins, coordinate_in_bounds}
 
@@ -70,16 +69,3 @@ backwards_items items row begin has step long at =
     get_or-map (item_at_place items) places k (pos 0) None (omega (arith, below, length-row_places row.start row.stride row.len))
     ∙ ap (item_at_place items) (get_or-row_places row.start row.stride row.len k (pos 0) below
     ∙ ap (λ s. pos row.start +ℤ (pos k *ℤ s)) step)))
-
--- ---- an item of a slice, from its end
-pub item_from_end : {T : Type 0} (slice : List T) {i : ℕ} {x : T} → i < length slice → x ≡ get_or slice (length slice - 1 - i) x
-    → IsItemAt (reverse (map Some slice)) i x
-item_from_end slice {i} {x} below is =
-    let long : length (map Some slice) ≡ length slice = length-map slice Some in
-    record {
-      below = omega (arith, long, length-reverse (map Some slice));
-      is = get_or-reverse (map Some slice) i None (omega (arith, long))
-          ∙ ap (λ n. get_or (map Some slice) (n - 1 - i) None) long
-          ∙ get_or-map Some slice (length slice - 1 - i) x None (omega (arith, below))
-          ∙ ap Some (sym is);
-    }

@@ -60,6 +60,11 @@ module _ {P T : Type 0} {call : P → Bor T → P → Type 0} where
   one_called : {p q : P} (item : Bor T) → call p item q → HasCalled call p (Some item.now ∷ []) q
   one_called {q = q} item called = record { lent = item ∷ []; are = refl; calls = (q, called, refl) }
 
+  pub first_called : {p q r : P} {items left : List (Option T)} (item : Bor T) → items ≡ Some item.now ∷ left → call p item q
+      → HasCalled call q left r → HasCalled call p items r
+  first_called {p} {r = r} item is called others =
+      subst (λ items. HasCalled call p items r) (sym is) (both_called (one_called item called) others)
+
   -- one item more
   pub one_more_called : {p q r : P} {items : List (Option T)} {i : ℕ} (item : Bor T) → IsItemAt items i item.now → call q item r
       → HasCalled call p (take i items) q → HasCalled call p (take (i + 1) items) r
@@ -99,6 +104,16 @@ module _ {P T : Type 0} {call : P → Bor T → P → Type 0} where
         (subst (λ left. CallableAtEachTurn lends call Q left p)
         (drop_more items i None at.below ∙ ap (λ y. y ∷ drop (i + 1) items) at.is) callable)
 
+    -- where an item comes first
+    pub first_may_be_called : {p : P} {items left : List (Option T)} (item : Bor T) → items ≡ Some item.now ∷ left
+        → CallableAtEachTurn lends call Q items p → Q p item
+    first_may_be_called {p} {items} {left} item is callable = callable.at [] items p item left refl refl is
+
+    pub callable_after_first : {p q : P} {items left : List (Option T)} (item : Bor T) → items ≡ Some item.now ∷ left → call p item q
+        → CallableAtEachTurn lends call Q items p → CallableAtEachTurn lends call Q left q
+    callable_after_first {p} item is called callable =
+        callable_after (one_called item called) (subst (λ items. CallableAtEachTurn lends call Q items p) is callable)
+
 -- ---- all items
 pub all_folded : {F B T : Type 0} {g : Mut F (B × (Bor T × Unit {0})) B} {f h : F} {init result : B} {items : List (Option T)}
     → HasFolded g (f, init) items (h, result) → FoldsItems lends g items f init result
@@ -131,3 +146,29 @@ pub called_inside : {F C T : Type 0} (g : Mut F (Bor T × Unit {0}) (Unit {0})) 
     → {items : List (Option T)} (f : C) → FoldsItems lends other items f tt tt → CallsOnEach lends g items (inside f)
 called_inside g other inside says f ran =
     (ran.0, inside ran.1, ran.2, calls_inside g other inside says ran.0 (f, tt) (ran.1, tt) ran.3)
+
+-- ---- a function that calls another one, which is kept inside it
+folds_inside : {F C B T : Type 0} (g : Mut F (B × (Bor T × Unit {0})) B) (other : Mut C (B × (Bor T × Unit {0})) B) (inside : C → F)
+    → ((s t : C) (b r : B) (x : Bor T) → Called other s (b, (x, tt)) r t → Called g (inside s) (b, (x, tt)) r (inside t))
+    → (xs : List (Bor T)) (p q : C × B) → FoldsTo {P = C × B} (FoldTurn other) p xs q
+    → FoldsTo {P = F × B} (FoldTurn g) (inside p.0, p.1) xs (inside q.0, q.1)
+folds_inside g other inside says [] p q calls = ap (λ p. (inside p.0, p.1)) calls
+folds_inside g other inside says (x ∷ xs) p q calls =
+    ((inside calls.0.0, calls.0.1), says p.0 calls.0.0 p.1 calls.0.1 x calls.1, folds_inside g other inside says xs calls.0 q calls.2)
+
+pub may_fold_inside : {F C B T : Type 0} (g : Mut F (B × (Bor T × Unit {0})) B) (other : Mut C (B × (Bor T × Unit {0})) B) (inside : C → F)
+    → ((s : C) (b : B) (x : Bor T) → Takes g (inside s) (b, (x, tt)) → Takes other s (b, (x, tt)))
+    → ((s t : C) (b r : B) (x : Bor T) → Called other s (b, (x, tt)) r t → Called g (inside s) (b, (x, tt)) r (inside t))
+    → {items : List (Option T)} {init : B} (f : C)
+    → CallableInFold lends g items (inside f) init → CallableInFold lends other items f init
+may_fold_inside g other inside asks says {init = init} f callable = record {
+  at = λ xs t q x u yields calls step. asks q.0 q.1 x
+      (callable.at xs t (inside q.0, q.1) x u yields (folds_inside g other inside says xs (f, init) q calls) step);
+}
+
+pub folded_inside : {F C B T : Type 0} (g : Mut F (B × (Bor T × Unit {0})) B) (other : Mut C (B × (Bor T × Unit {0})) B) (inside : C → F)
+    → ((s t : C) (b r : B) (x : Bor T) → Called other s (b, (x, tt)) r t → Called g (inside s) (b, (x, tt)) r (inside t))
+    → {items : List (Option T)} {init result : B} (f : C)
+    → FoldsItems lends other items f init result → FoldsItems lends g items (inside f) init result
+folded_inside g other inside says {init = init} {result} f ran =
+    (ran.0, inside ran.1, ran.2, folds_inside g other inside says ran.0 (f, init) (ran.1, result) ran.3)

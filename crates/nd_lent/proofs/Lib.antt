@@ -5,9 +5,11 @@ pub mod Between
 pub mod BothEnds
 pub mod ChunksAlong
 pub mod Comparing
+pub mod Copied
 pub mod Equals
 pub mod EvenRows
 pub mod Extremes
+pub mod FoldedBack
 pub mod Folding
 pub mod ItemWritten
 pub mod Moved

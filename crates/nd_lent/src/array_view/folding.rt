@@ -1,12 +1,12 @@
 //! A function that is called at each item of an array in turn, row by row.
 ghost use Rattle.std.specs.Iterator.{CallableInFold, CallableInForEach, CallsOnEach, FoldsItems};
-ghost use Rattle.std.specs.Prelude.{Some, map, reverse};
+ghost use Rattle.std.specs.Prelude.{◌≡◌, ◌<◌, ◌++◌, [], List, MatchOption, Option, Some, map, reverse};
 ghost use Rattle.ndarray_layout.specs.declared.Order.TheVariants.{RowMajor};
 ghost use Rattle.ndarray_layout.specs.View.{view_places};
 ghost use Rattle.nd_lent.specs.AnyOrder.{InAnyOrder};
 ghost use Rattle.nd_lent.specs.AnyOrder.{InSomeOrder};
 ghost use Rattle.nd_lent.specs.LentRow.{row_items, rows_items};
-ghost use Rattle.nd_lent.specs.Lending.{lends};
+ghost use Rattle.nd_lent.specs.Lending.{lends, lends_last};
 ghost use Rattle.nd_lent.specs.Items.{item_at_place};
 ghost use Rattle.nd_lent.specs.private.Folded.{HasFolded};
 
@@ -14,15 +14,43 @@ use crate::array_view::{ArrayView, LentRow, LentRows};
 use crate::nearest::nearest_view;
 use ndarray_layout::Lengths;
 
+/// Iterators over items that are lent, which give them row by row as well.
+pub(crate) trait RowByRow<'a, T: 'a> {
+    // The items that are left.
+    ghost left: { Self → List (Option T) };
+
+    /// The items that come next and lie evenly, at once: what is left of the row in progress, or else the next row; `None` after
+    /// the last item.
+    fn next_row(&mut self) -> Option<LentRow<'a, T>>
+        ensures { MatchOption result ((left self.old ≡ []) × (left self.new ≡ []))
+            (λ row. (0 < row.row.len) × (left self.old ≡ row_items row ++ left self.new)) };
+
+    /// The last items that lie evenly, at once: what is left of the row in progress at the back, or else the last row; `None` before
+    /// the first item.
+    fn next_row_back(&mut self) -> Option<LentRow<'a, T>>
+        ensures { MatchOption result ((left self.old ≡ []) × (left self.new ≡ []))
+            (λ row. (0 < row.row.len) × (left self.old ≡ left self.new ++ row_items row)) };
+}
+
+/// Calls a function with a total and an item, and hands it back.
+#[inline(always)]
+fn turn<'a, T, B, F: FnMut(B, &'a T) -> B>(mut f: F, total: B, item: &'a T) -> (B, F)
+    requires { F.pre f total item }
+    ensures { F.step f total item.entry result.0 result.1 }
+{
+    let next = f(total, item);
+    (next, f)
+}
+
 /// Folds the items of a slice, and hands back the function.
 #[inline(always)]
-fn fold_slice<T, B, F: FnMut(B, &T) -> B>(items: &[T], init: B, mut f: F) -> (B, F)
+fn fold_slice<'a, T, B, F: FnMut(B, &'a T) -> B>(items: &'a [T], init: B, mut f: F) -> (B, F)
     requires { CallableInFold lends F.FnMut (map Some items.now) f init }
     ensures { HasFolded F.FnMut (f, init) (map Some items.now) (result.1, result.0) }
 {
     let mut total = init;
     for item in items {
-        total = f(total, item);
+        (total, f) = turn(f, total, item);
     }
     (total, f)
 }
@@ -30,37 +58,45 @@ fn fold_slice<T, B, F: FnMut(B, &T) -> B>(items: &[T], init: B, mut f: F) -> (B,
 /// How many items a row has at least that is folded as a slice from its end: one by one, those of fewer take less time.
 const LONG: usize = 8;
 
-/// Folds the items of a slice from the last one on, and hands back the function. It stays a call, so that a loop over rows is short.
-#[inline(never)]
-fn fold_backwards<T, B, F: FnMut(B, &T) -> B>(items: &[T], init: B, mut f: F) -> (B, F)
+/// Folds the items of a slice from the last one on, and hands back the function.
+#[inline(always)]
+fn rfold_slice<'a, T, B, F: FnMut(B, &'a T) -> B>(items: &'a [T], init: B, mut f: F) -> (B, F)
     requires { CallableInFold lends F.FnMut (reverse (map Some items.now)) f init }
     ensures { HasFolded F.FnMut (f, init) (reverse (map Some items.now)) (result.1, result.0) }
 {
     let mut total = init;
-    for coordinate in 0..items.len() {
-        let item = &items[items.len() - 1 - coordinate];
-        total = f(total, item);
+    for item in items.iter().rev() {
+        (total, f) = turn(f, total, item);
     }
     (total, f)
 }
 
+/// Folds the items of a slice from the last one on, and hands back the function. It stays a call, so that a loop over rows is short.
+#[inline(never)]
+fn fold_backwards<'a, T, B, F: FnMut(B, &'a T) -> B>(items: &'a [T], init: B, f: F) -> (B, F)
+    requires { CallableInFold lends F.FnMut (reverse (map Some items.now)) f init }
+    ensures { HasFolded F.FnMut (f, init) (reverse (map Some items.now)) (result.1, result.0) }
+{
+    rfold_slice(items, init, f)
+}
+
 /// Folds the items of a row place by place, and hands back the function.
 #[inline(always)]
-fn fold_places<T, B, F: FnMut(B, &T) -> B>(row: &LentRow<'_, T>, init: B, mut f: F) -> (B, F)
+fn fold_places<'a, T, B, F: FnMut(B, &'a T) -> B>(row: &LentRow<'a, T>, init: B, mut f: F) -> (B, F)
     requires { CallableInFold lends F.FnMut (row_items row.now) f init }
     ensures { HasFolded F.FnMut (f, init) (row_items row.now) (result.1, result.0) }
 {
     let mut total = init;
     for coordinate in 0..row.len() {
         let item = row.item(coordinate);
-        total = f(total, item);
+        (total, f) = turn(f, total, item);
     }
     (total, f)
 }
 
 /// Folds the items of a row that don't follow one another, and hands back the function.
 #[inline(always)]
-fn fold_turned<T, B, F: FnMut(B, &T) -> B>(row: &LentRow<'_, T>, init: B, f: F) -> (B, F)
+fn fold_turned<'a, T, B, F: FnMut(B, &'a T) -> B>(row: &LentRow<'a, T>, init: B, f: F) -> (B, F)
     requires { CallableInFold lends F.FnMut (row_items row.now) f init }
     ensures { HasFolded F.FnMut (f, init) (row_items row.now) (result.1, result.0) }
 {
@@ -74,7 +110,7 @@ fn fold_turned<T, B, F: FnMut(B, &T) -> B>(row: &LentRow<'_, T>, init: B, f: F) 
 
 /// Folds the items of a row, and hands back the function.
 #[inline(always)]
-fn fold_row<T, B, F: FnMut(B, &T) -> B>(row: &LentRow<'_, T>, init: B, f: F) -> (B, F)
+fn fold_row<'a, T, B, F: FnMut(B, &'a T) -> B>(row: &LentRow<'a, T>, init: B, f: F) -> (B, F)
     requires { CallableInFold lends F.FnMut (row_items row.now) f init }
     ensures { HasFolded F.FnMut (f, init) (row_items row.now) (result.1, result.0) }
 {
@@ -84,15 +120,82 @@ fn fold_row<T, B, F: FnMut(B, &T) -> B>(row: &LentRow<'_, T>, init: B, f: F) -> 
     }
 }
 
+/// Folds the items of a row place by place, from the last one on, and hands back the function.
+#[inline(always)]
+fn rfold_places<'a, T, B, F: FnMut(B, &'a T) -> B>(
+    row: &LentRow<'a, T>,
+    init: B,
+    mut f: F,
+) -> (B, F)
+    requires { CallableInFold lends F.FnMut (reverse (row_items row.now)) f init }
+    ensures { HasFolded F.FnMut (f, init) (reverse (row_items row.now)) (result.1, result.0) }
+{
+    let mut total = init;
+    let len = row.len();
+    for coordinate in 0..len {
+        let item = row.item(len - 1 - coordinate);
+        (total, f) = turn(f, total, item);
+    }
+    (total, f)
+}
+
+/// Folds the items of a row from the last one on, and hands back the function.
+#[inline(always)]
+fn rfold_row<'a, T, B, F: FnMut(B, &'a T) -> B>(row: &LentRow<'a, T>, init: B, f: F) -> (B, F)
+    requires { CallableInFold lends F.FnMut (reverse (row_items row.now)) f init }
+    ensures { HasFolded F.FnMut (f, init) (reverse (row_items row.now)) (result.1, result.0) }
+{
+    match row.as_slice() {
+        Some(items) => rfold_slice(items, init, f),
+        None => rfold_places(row, init, f),
+    }
+}
+
 /// Folds the items of rows, one row after another.
 #[inline(always)]
-fn fold_rows<T, B, F: FnMut(B, &T) -> B>(rows: LentRows<'_, T>, init: B, f: F) -> B
+fn fold_rows<'a, T, B, F: FnMut(B, &'a T) -> B>(rows: LentRows<'a, T>, init: B, f: F) -> B
     requires { CallableInFold lends F.FnMut (rows_items rows) f init }
     ensures { FoldsItems lends F.FnMut (rows_items rows.entry) f init result }
 {
     let (mut total, mut f) = (init, f);
     for row in rows {
         (total, f) = fold_row(&row, total, f);
+    }
+    total
+}
+
+/// What `fold` of std's iterators returns of the items that are left, row by row: one whose items follow one another is a loop over a
+/// slice.
+#[inline(always)]
+pub(crate) fn fold_rest<'a, T: 'a, I: RowByRow<'a, T> + Drop, B, F: FnMut(B, &'a T) -> B>(
+    items: I,
+    init: B,
+    f: F,
+) -> B
+    requires callable { CallableInFold lends F.FnMut (I.left items) f init }
+    ensures ran { FoldsItems lends F.FnMut (I.left items) f init result }
+{
+    let (mut items, mut total, mut f) = (items, init, f);
+    while let Some(row) = items.next_row() {
+        (total, f) = fold_row(&row, total, f);
+    }
+    total
+}
+
+/// What `rfold` of std's iterators returns of the items that are left, row by row from the back: one whose items follow one another is a
+/// loop over a slice.
+#[inline(always)]
+pub(crate) fn rfold_rest<'a, T: 'a, I: RowByRow<'a, T> + Drop, B, F: FnMut(B, &'a T) -> B>(
+    items: I,
+    init: B,
+    f: F,
+) -> B
+    requires callable { CallableInFold lends_last F.FnMut (I.left items) f init }
+    ensures ran { FoldsItems lends_last F.FnMut (I.left items) f init result }
+{
+    let (mut items, mut total, mut f) = (items, init, f);
+    while let Some(row) = items.next_row_back() {
+        (total, f) = rfold_row(&row, total, f);
     }
     total
 }
@@ -105,14 +208,22 @@ impl<T, D: Lengths> ArrayView<'_, T, D> {
     /// whose items follow one another is a loop over a slice.
     ///
     /// `a.fold(0, |sum, item| sum + item)` is 15. ndarray's `fold`.
-    pub fn fold<B, F: FnMut(B, &T) -> B>(&self, init: B, f: F) -> B
+    pub fn fold<B, F: FnMut(B, &T) -> B>(&self, init: B, mut f: F) -> B
         requires callable { CallableInFold lends F.FnMut
             (map (item_at_place self.now.items) (view_places RowMajor self.now.view)) f init }
         ensures ran { FoldsItems lends F.FnMut
             (map (item_at_place self.now.items) (view_places RowMajor self.now.view))
             f init result }
     {
-        fold_rows(self.joined_rows(), init, f)
+        let rows = self.joined_rows();
+        fold_rows(
+            rows,
+            init,
+            move |total, item|
+                requires { F.pre f total item }
+                ensures { F.step f.entry total item.entry result f.exit }
+            { f(total, item) },
+        )
     }
 
     /// The last result of a function that is called at each item, each index once, with the result before, first with `init`, in
@@ -123,14 +234,22 @@ impl<T, D: Lengths> ArrayView<'_, T, D> {
     /// one slice as well, where its items lie side by side. Where an axis has the stride 0, or there are more axes, it is `fold`.
     ///
     /// `a.fold_nearest(0, |sum, item| sum + item)` is 15, from 7 to 8. ndarray's `fold`.
-    pub fn fold_nearest<B, F: FnMut(B, &T) -> B>(&self, init: B, f: F) -> B
+    pub fn fold_nearest<B, F: FnMut(B, &T) -> B>(&self, init: B, mut f: F) -> B
         requires callable { InAnyOrder (λ items. CallableInFold lends F.FnMut items f init)
             (map (item_at_place self.now.items) (view_places RowMajor self.now.view)) }
         ensures ran { InSomeOrder (λ items. FoldsItems lends F.FnMut items f init result)
             (map (item_at_place self.now.items) (view_places RowMajor self.now.view)) }
     {
         let nearest = nearest_view(self.strided());
-        fold_rows(self.rows_in(&nearest), init, f)
+        let rows = self.rows_in(&nearest);
+        fold_rows(
+            rows,
+            init,
+            move |total, item|
+                requires { F.pre f total item }
+                ensures { F.step f.entry total item.entry result f.exit }
+            { f(total, item) },
+        )
     }
 
     /// Calls a function at each item in turn, in row-major order.

@@ -3,15 +3,15 @@ ghost use Rattle.std.specs.Borrow.{Bor};
 ghost use Rattle.std.specs.Iterator.{UpTo, YieldsFirstBy, YieldsLastBy, item_count};
 ghost use Rattle.std.specs.Iterator.Runs.{EveryRun, ItemsMapTo};
 ghost use Rattle.std.specs.Iterator.SizeHint.{IsWithinCount};
-ghost use Rattle.std.specs.Prelude.{◌≡◌, ◌-◌, ◌<◌, ◌++◌, [], IfSome, List, MatchOption, Option, Some, drop, length, map, take};
+ghost use Rattle.std.specs.Prelude.{◌≡◌, ◌-◌, IfSome, List, Option, Some, drop, length, map, take};
 ghost use Rattle.ndarray_layout.specs.declared.Order.TheVariants.{RowMajor};
 ghost use Rattle.ndarray_layout.specs.Size.{size};
 ghost use Rattle.ndarray_layout.specs.View.{view_places};
 ghost use Rattle.nd_lent.specs.ArrayView.{HasItems};
 ghost use Rattle.nd_lent.specs.Items.{item_at_place};
-ghost use Rattle.nd_lent.specs.LentRow.{row_items};
 ghost use Rattle.nd_lent.specs.Read.{AreRead};
 
+use crate::array_view::folding::RowByRow;
 use crate::array_view::{ArrayView, LentRow};
 use crate::cells::Reader;
 use ndarray_layout::{Lengths, Order, Places, Strided};
@@ -60,34 +60,6 @@ impl<'a, T> Iter<'a, T> {
         Iter { reader, places }
     }
 
-    /// The items that come next and lie evenly, at once: what is left of the row in progress, or else the next row; `None` after
-    /// the last item.
-    #[inline]
-    pub(crate) fn next_row(&mut self) -> Option<LentRow<'a, T>>
-        ensures { MatchOption result ((self.old ≡ []) × (self.new ≡ []))
-            (λ row. (0 < row.row.len) × (self.old ≡ row_items row ++ self.new)) }
-    {
-        let row = self.places.next_row()?;
-        Some(LentRow {
-            reader: self.reader.copied(),
-            row,
-        })
-    }
-
-    /// The last items that lie evenly, at once: what is left of the row in progress at the back, or else the last row; `None` before
-    /// the first item.
-    #[inline]
-    pub(crate) fn next_row_back(&mut self) -> Option<LentRow<'a, T>>
-        ensures { MatchOption result ((self.old ≡ []) × (self.new ≡ []))
-            (λ row. (0 < row.row.len) × (self.old ≡ self.new ++ row_items row)) }
-    {
-        let row = self.places.next_row_back()?;
-        Some(LentRow {
-            reader: self.reader.copied(),
-            row,
-        })
-    }
-
     /// Leaves out so many items, or all where fewer are left: the next one is the one that comes after them.
     ///
     /// Takes no memory, and no time for each item (`Places::advance`).
@@ -108,6 +80,28 @@ impl<'a, T> Iter<'a, T> {
         ensures { self.new ≡ take (length self.old - count) self.old }
     {
         self.places.advance_back(count);
+    }
+}
+
+impl<'a, T> RowByRow<'a, T> for Iter<'a, T> {
+    ghost left = { λ left. left };
+
+    #[inline]
+    fn next_row(&mut self) -> Option<LentRow<'a, T>> {
+        let row = self.places.next_row()?;
+        Some(LentRow {
+            reader: self.reader.copied(),
+            row,
+        })
+    }
+
+    #[inline]
+    fn next_row_back(&mut self) -> Option<LentRow<'a, T>> {
+        let row = self.places.next_row_back()?;
+        Some(LentRow {
+            reader: self.reader.copied(),
+            row,
+        })
     }
 }
 

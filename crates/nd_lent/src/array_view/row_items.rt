@@ -6,6 +6,7 @@ ghost use Rattle.std.specs.Iterator.SizeHint.{IsWithinCount};
 ghost use Rattle.std.specs.Prelude.{◌≡◌, ◌-◌, ◌<◌, [], IfSome, List, MatchOption, Option, Some, drop, length, take};
 ghost use Rattle.nd_lent.specs.LentRow.{row_items};
 
+use crate::array_view::folding::RowByRow;
 use crate::array_view::{LentRow, place_in_row};
 use crate::cells::Reader;
 use ndarray_layout::Row;
@@ -40,7 +41,7 @@ impl<'a, T> Model for RowItems<'a, T> {
 impl<'a, T> RowItems<'a, T> {
     /// The items that are left, as a row; `None` where none is.
     #[inline]
-    pub(super) fn next_row(&mut self) -> Option<LentRow<'a, T>>
+    fn rest(&mut self) -> Option<LentRow<'a, T>>
         ensures { MatchOption result ((self.old ≡ []) × (self.new ≡ []))
             (λ row. (0 < row.row.len) × (self.old ≡ row_items row) × (self.new ≡ [])) }
     {
@@ -59,15 +60,6 @@ impl<'a, T> RowItems<'a, T> {
         })
     }
 
-    /// The same, from the back.
-    #[inline]
-    pub(super) fn next_row_back(&mut self) -> Option<LentRow<'a, T>>
-        ensures { MatchOption result ((self.old ≡ []) × (self.new ≡ []))
-            (λ row. (0 < row.row.len) × (self.old ≡ row_items row) × (self.new ≡ [])) }
-    {
-        self.next_row()
-    }
-
     /// Leaves out so many items, or all where fewer are left: the next one is the one that comes after them.
     ///
     /// Of a row of 5 6 7, after two items: 7. What `nth` of std's iterators leaves out one by one.
@@ -84,6 +76,20 @@ impl<'a, T> RowItems<'a, T> {
         ensures { self.new ≡ take (length self.old - count) self.old }
     {
         self.end -= count.min(self.end - self.begun);
+    }
+}
+
+impl<'a, T> RowByRow<'a, T> for RowItems<'a, T> {
+    ghost left = { λ left. left };
+
+    #[inline]
+    fn next_row(&mut self) -> Option<LentRow<'a, T>> {
+        self.rest()
+    }
+
+    #[inline]
+    fn next_row_back(&mut self) -> Option<LentRow<'a, T>> {
+        self.rest()
     }
 }
 

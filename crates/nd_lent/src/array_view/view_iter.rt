@@ -3,12 +3,12 @@ ghost use Rattle.std.specs.Borrow.{Bor};
 ghost use Rattle.std.specs.Iterator.{UpTo, YieldsFirstBy, YieldsLastBy, item_count};
 ghost use Rattle.std.specs.Iterator.Runs.{EveryRun, ItemsMapTo};
 ghost use Rattle.std.specs.Iterator.SizeHint.{IsWithinCount};
-ghost use Rattle.std.specs.Prelude.{◌≡◌, ◌-◌, ◌<◌, ◌++◌, [], IfSome, List, MatchOption, Option, Some, drop, length, map, take};
+ghost use Rattle.std.specs.Prelude.{◌≡◌, ◌-◌, IfSome, List, Option, Some, drop, length, map, take};
 ghost use Rattle.ndarray_layout.specs.declared.Order.TheVariants.{RowMajor};
 ghost use Rattle.ndarray_layout.specs.View.{view_places};
 ghost use Rattle.nd_lent.specs.Items.{item_at_place};
-ghost use Rattle.nd_lent.specs.LentRow.{row_items};
 
+use crate::array_view::folding::RowByRow;
 use crate::array_view::{ArrayView, LentRow, RestOfItems};
 use ndarray_layout::Lengths;
 use std::iter::FusedIterator;
@@ -30,26 +30,6 @@ impl<'a, T, D: Lengths> Model for ViewIter<'a, T, D> {
 }
 
 impl<'a, T, D: Lengths> ViewIter<'a, T, D> {
-    /// The items that come next and lie evenly, at once: what is left of the row in progress, or else the next row; `None` after
-    /// the last item.
-    #[inline]
-    pub(super) fn next_row(&mut self) -> Option<LentRow<'a, T>>
-        ensures { MatchOption result ((self.old ≡ []) × (self.new ≡ []))
-            (λ row. (0 < row.row.len) × (self.old ≡ row_items row ++ self.new)) }
-    {
-        self.rest.next_row()
-    }
-
-    /// The last items that lie evenly, at once: what is left of the row in progress at the back, or else the last row; `None` before
-    /// the first item.
-    #[inline]
-    pub(super) fn next_row_back(&mut self) -> Option<LentRow<'a, T>>
-        ensures { MatchOption result ((self.old ≡ []) × (self.new ≡ []))
-            (λ row. (0 < row.row.len) × (self.old ≡ self.new ++ row_items row)) }
-    {
-        self.rest.next_row_back()
-    }
-
     /// Leaves out so many items, or all where fewer are left: the next one is the one that comes after them.
     ///
     /// Takes no memory, and no time for each item (`IntoPlaces::advance`).
@@ -70,6 +50,20 @@ impl<'a, T, D: Lengths> ViewIter<'a, T, D> {
         ensures { self.new ≡ take (length self.old - count) self.old }
     {
         self.rest.advance_back(count);
+    }
+}
+
+impl<'a, T, D: Lengths> RowByRow<'a, T> for ViewIter<'a, T, D> {
+    ghost left = { λ left. left };
+
+    #[inline]
+    fn next_row(&mut self) -> Option<LentRow<'a, T>> {
+        self.rest.next_row()
+    }
+
+    #[inline]
+    fn next_row_back(&mut self) -> Option<LentRow<'a, T>> {
+        self.rest.next_row_back()
     }
 }
 

@@ -1,11 +1,13 @@
 //! The items of a part one after another, each lent to be written, without a list of them.
-ghost use Rattle.std.specs.Iterator.{UpTo, YieldsFirstBy, YieldsLastBy, item_count};
+ghost use Rattle.std.specs.Iterator.{CallableInFold, FoldsItems, UpTo, YieldsFirstBy, YieldsLastBy, item_count};
 ghost use Rattle.std.specs.Iterator.SizeHint.{IsWithinCount};
 ghost use Rattle.std.specs.Prelude.{◌≡◌, ◌≢◌, ◌-◌, ◌++◌, [], IfSome, MatchOption, Some, drop, length, map, take};
 ghost use Rattle.ndarray_layout.specs.declared.Order.TheVariants.{RowMajor};
 ghost use Rattle.ndarray_layout.specs.View.{view_places};
 ghost use Rattle.nd_lent.specs.Items.{item_at_place};
+ghost use Rattle.nd_lent.specs.Lending.{lends_mut};
 ghost use Rattle.nd_lent.specs.Own.{AreOwn, AreOwn-prop};
+ghost use Rattle.nd_lent.specs.private.Folded.{HasFoldedMut};
 
 use crate::array_view_mut::ArrayViewMut;
 use crate::cells::Cells;
@@ -132,9 +134,84 @@ impl<'a, T: Drop, D: Lengths> IterMut<'a, T, D> {
     }
 }
 
+/// How many items a row has at least that is folded as a slice: one by one, those of fewer take less time.
+const LONG: usize = 8;
+
+/// Calls a function with a total and an item, and hands it back.
+#[inline(always)]
+fn turn<'a, T, B, F: FnMut(B, &'a mut T) -> B>(mut f: F, total: B, item: &'a mut T) -> (B, F)
+    requires { F.pre f total item }
+    ensures { F.step f total item.entry result.0 result.1 }
+{
+    let next = f(total, item);
+    (next, f)
+}
+
+/// Folds the items of a slice, and hands back the function.
+#[inline(always)]
+fn fold_slice<'a, T, B, F: FnMut(B, &'a mut T) -> B>(items: &'a mut [T], init: B, f: F) -> (B, F)
+    requires { CallableInFold lends_mut F.FnMut (map Some items.old) f init }
+    ensures { HasFoldedMut F.FnMut (f, init) (map Some items.old) (result.1, result.0) }
+{
+    let (mut total, mut f) = (init, f);
+    for item in items.iter_mut() {
+        (total, f) = turn(f, total, item);
+    }
+    (total, f)
+}
+
+impl<'a, T: Drop, D: Lengths> IterMut<'a, T, D> {
+    ghost use Rattle.nd_lent.specs.ItemsLeft.{items_left};
+
+    /// Folds the items that are left one by one, and hands back the function.
+    #[inline]
+    fn fold_each<B, F: FnMut(B, &'a mut T) -> B>(self, init: B, f: F) -> (B, F)
+        requires { CallableInFold lends_mut F.FnMut (items_left self) f init }
+        ensures { HasFoldedMut F.FnMut (f, init) (items_left self.entry) (result.1, result.0) }
+    {
+        let (mut total, mut f) = (init, f);
+        for item in self {
+            (total, f) = turn(f, total, item);
+        }
+        (total, f)
+    }
+
+    /// What `fold` of std's iterators returns of the items that are left, row by row: one whose items follow one another is a loop over
+    /// a slice. After a row that is short the others are folded one by one.
+    #[inline]
+    pub(crate) fn fold_rest<B, F: FnMut(B, &'a mut T) -> B>(self, init: B, f: F) -> B
+        requires callable { CallableInFold lends_mut F.FnMut (items_left self) f init }
+        ensures ran { FoldsItems lends_mut F.FnMut (items_left self.entry) f init result }
+    {
+        let (mut items, mut total, mut f) = (self, init, f);
+        while let Some(row) = items.next_row() {
+            let is_short = row.len() < LONG;
+            (total, f) = row.fold_items(total, f);
+            if is_short {
+                let (total, _) = items.fold_each(total, f);
+                return total;
+            }
+        }
+        total
+    }
+}
+
 impl<'a, T: Drop, D: Lengths> ArrayViewMut<'a, T, D> {
     ghost use Rattle.nd_lent.specs.ItemsLeft.{items_left};
+    ghost use Rattle.nd_lent.specs.Items.{items_of};
     ghost use Rattle.nd_lent.specs.Lent.{array_of};
+
+    /// Folds the items, and hands back the function: where they follow one another, as a slice.
+    #[inline(always)]
+    fn fold_items<B, F: FnMut(B, &'a mut T) -> B>(self, init: B, f: F) -> (B, F)
+        requires { CallableInFold lends_mut F.FnMut (items_of (array_of self)) f init }
+        ensures { HasFoldedMut F.FnMut (f, init) (items_of (array_of self.entry)) (result.1, result.0) }
+    {
+        match self.into_slice() {
+            Ok(items) => fold_slice(items, init, f),
+            Err(row) => row.into_items().fold_each(init, f),
+        }
+    }
 
     /// An iterator over the items of all indices, in row-major order (the last axis moves fastest), from both ends, each lent to be
     /// written for as long as the whole is. It knows how many are left. That they keep what is written is tested, and in no clause.

@@ -6,6 +6,51 @@ use crate::nd_lent::array_view::{ArrayView, LentRow, LentRows};
 use crate::nd_lent::nearest::nearest_view;
 use crate::ndarray_layout::Lengths;
 
+/// Iterators over items that are lent, which give them row by row as well.
+pub(in crate::nd_lent) trait RowByRow<'a, T: 'a> {
+    /// The items that come next and lie evenly, at once: what is left of the row in progress, or else the next row; `None` after
+    /// the last item.
+    ///
+    /// <details><summary>Contract (proved)</summary>
+    ///
+    /// ```text
+    /// ensures MatchOption result ((left self.old ≡ []) × (left self.new ≡ []))
+    ///     (λ row. (0 < row.row.len) × (left self.old ≡ row_items row ++ left self.new))
+    /// ```
+    /// [How to read it](crate::contracts)
+    /// </details>
+    fn next_row(&mut self) -> Option<LentRow<'a, T>>;
+
+    /// The last items that lie evenly, at once: what is left of the row in progress at the back, or else the last row; `None` before
+    /// the first item.
+    ///
+    /// <details><summary>Contract (proved)</summary>
+    ///
+    /// ```text
+    /// ensures MatchOption result ((left self.old ≡ []) × (left self.new ≡ []))
+    ///     (λ row. (0 < row.row.len) × (left self.old ≡ left self.new ++ row_items row))
+    /// ```
+    /// [How to read it](crate::contracts)
+    /// </details>
+    fn next_row_back(&mut self) -> Option<LentRow<'a, T>>;
+}
+
+/// Calls a function with a total and an item, and hands it back.
+///
+/// <details><summary>Contract (proved)</summary>
+///
+/// ```text
+/// requires F.pre f total item
+/// ensures F.step f total item.entry result.0 result.1
+/// ```
+/// [How to read it](crate::contracts)
+/// </details>
+#[inline(always)]
+fn turn<'a, T, B, F: FnMut(B, &'a T) -> B>(mut f: F, total: B, item: &'a T) -> (B, F) {
+    let next = f(total, item);
+    (next, f)
+}
+
 /// Folds the items of a slice, and hands back the function.
 ///
 /// <details><summary>Contract (proved)</summary>
@@ -17,16 +62,35 @@ use crate::ndarray_layout::Lengths;
 /// [How to read it](crate::contracts)
 /// </details>
 #[inline(always)]
-fn fold_slice<T, B, F: FnMut(B, &T) -> B>(items: &[T], init: B, mut f: F) -> (B, F) {
+fn fold_slice<'a, T, B, F: FnMut(B, &'a T) -> B>(items: &'a [T], init: B, mut f: F) -> (B, F) {
     let mut total = init;
     for item in items {
-        total = f(total, item);
+        (total, f) = turn(f, total, item);
     }
     (total, f)
 }
 
 /// How many items a row has at least that is folded as a slice from its end: one by one, those of fewer take less time.
 const LONG: usize = 8;
+
+/// Folds the items of a slice from the last one on, and hands back the function.
+///
+/// <details><summary>Contract (proved)</summary>
+///
+/// ```text
+/// requires CallableInFold lends F.FnMut (reverse (map Some items.now)) f init
+/// ensures HasFolded F.FnMut (f, init) (reverse (map Some items.now)) (result.1, result.0)
+/// ```
+/// [How to read it](crate::contracts)
+/// </details>
+#[inline(always)]
+fn rfold_slice<'a, T, B, F: FnMut(B, &'a T) -> B>(items: &'a [T], init: B, mut f: F) -> (B, F) {
+    let mut total = init;
+    for item in items.iter().rev() {
+        (total, f) = turn(f, total, item);
+    }
+    (total, f)
+}
 
 /// Folds the items of a slice from the last one on, and hands back the function. It stays a call, so that a loop over rows is short.
 ///
@@ -39,13 +103,8 @@ const LONG: usize = 8;
 /// [How to read it](crate::contracts)
 /// </details>
 #[inline(never)]
-fn fold_backwards<T, B, F: FnMut(B, &T) -> B>(items: &[T], init: B, mut f: F) -> (B, F) {
-    let mut total = init;
-    for coordinate in 0..items.len() {
-        let item = &items[items.len() - 1 - coordinate];
-        total = f(total, item);
-    }
-    (total, f)
+fn fold_backwards<'a, T, B, F: FnMut(B, &'a T) -> B>(items: &'a [T], init: B, f: F) -> (B, F) {
+    rfold_slice(items, init, f)
 }
 
 /// Folds the items of a row place by place, and hands back the function.
@@ -59,11 +118,11 @@ fn fold_backwards<T, B, F: FnMut(B, &T) -> B>(items: &[T], init: B, mut f: F) ->
 /// [How to read it](crate::contracts)
 /// </details>
 #[inline(always)]
-fn fold_places<T, B, F: FnMut(B, &T) -> B>(row: &LentRow<'_, T>, init: B, mut f: F) -> (B, F) {
+fn fold_places<'a, T, B, F: FnMut(B, &'a T) -> B>(row: &LentRow<'a, T>, init: B, mut f: F) -> (B, F) {
     let mut total = init;
     for coordinate in 0..row.len() {
         let item = row.item(coordinate);
-        total = f(total, item);
+        (total, f) = turn(f, total, item);
     }
     (total, f)
 }
@@ -79,7 +138,7 @@ fn fold_places<T, B, F: FnMut(B, &T) -> B>(row: &LentRow<'_, T>, init: B, mut f:
 /// [How to read it](crate::contracts)
 /// </details>
 #[inline(always)]
-fn fold_turned<T, B, F: FnMut(B, &T) -> B>(row: &LentRow<'_, T>, init: B, f: F) -> (B, F) {
+fn fold_turned<'a, T, B, F: FnMut(B, &'a T) -> B>(row: &LentRow<'a, T>, init: B, f: F) -> (B, F) {
     if row.len() >= LONG {
         if let Some(items) = row.as_slice_backwards() {
             return fold_backwards(items, init, f);
@@ -99,10 +158,49 @@ fn fold_turned<T, B, F: FnMut(B, &T) -> B>(row: &LentRow<'_, T>, init: B, f: F) 
 /// [How to read it](crate::contracts)
 /// </details>
 #[inline(always)]
-fn fold_row<T, B, F: FnMut(B, &T) -> B>(row: &LentRow<'_, T>, init: B, f: F) -> (B, F) {
+fn fold_row<'a, T, B, F: FnMut(B, &'a T) -> B>(row: &LentRow<'a, T>, init: B, f: F) -> (B, F) {
     match row.as_slice() {
         Some(items) => fold_slice(items, init, f),
         None => fold_turned(row, init, f),
+    }
+}
+
+/// Folds the items of a row place by place, from the last one on, and hands back the function.
+///
+/// <details><summary>Contract (proved)</summary>
+///
+/// ```text
+/// requires CallableInFold lends F.FnMut (reverse (row_items row.now)) f init
+/// ensures HasFolded F.FnMut (f, init) (reverse (row_items row.now)) (result.1, result.0)
+/// ```
+/// [How to read it](crate::contracts)
+/// </details>
+#[inline(always)]
+fn rfold_places<'a, T, B, F: FnMut(B, &'a T) -> B>(row: &LentRow<'a, T>, init: B, mut f: F) -> (B, F) {
+    let mut total = init;
+    let len = row.len();
+    for coordinate in 0..len {
+        let item = row.item(len - 1 - coordinate);
+        (total, f) = turn(f, total, item);
+    }
+    (total, f)
+}
+
+/// Folds the items of a row from the last one on, and hands back the function.
+///
+/// <details><summary>Contract (proved)</summary>
+///
+/// ```text
+/// requires CallableInFold lends F.FnMut (reverse (row_items row.now)) f init
+/// ensures HasFolded F.FnMut (f, init) (reverse (row_items row.now)) (result.1, result.0)
+/// ```
+/// [How to read it](crate::contracts)
+/// </details>
+#[inline(always)]
+fn rfold_row<'a, T, B, F: FnMut(B, &'a T) -> B>(row: &LentRow<'a, T>, init: B, f: F) -> (B, F) {
+    match row.as_slice() {
+        Some(items) => rfold_slice(items, init, f),
+        None => rfold_places(row, init, f),
     }
 }
 
@@ -117,10 +215,58 @@ fn fold_row<T, B, F: FnMut(B, &T) -> B>(row: &LentRow<'_, T>, init: B, f: F) -> 
 /// [How to read it](crate::contracts)
 /// </details>
 #[inline(always)]
-fn fold_rows<T, B, F: FnMut(B, &T) -> B>(rows: LentRows<'_, T>, init: B, f: F) -> B {
+fn fold_rows<'a, T, B, F: FnMut(B, &'a T) -> B>(rows: LentRows<'a, T>, init: B, f: F) -> B {
     let (mut total, mut f) = (init, f);
     for row in rows {
         (total, f) = fold_row(&row, total, f);
+    }
+    total
+}
+
+/// What `fold` of std's iterators returns of the items that are left, row by row: one whose items follow one another is a loop over a
+/// slice.
+///
+/// <details><summary>Contract (proved)</summary>
+///
+/// ```text
+/// requires callable: CallableInFold lends F.FnMut (I.left items) f init
+/// ensures ran: FoldsItems lends F.FnMut (I.left items) f init result
+/// ```
+/// [How to read it](crate::contracts)
+/// </details>
+#[inline(always)]
+pub(in crate::nd_lent) fn fold_rest<'a, T: 'a, I: RowByRow<'a, T> + Sized, B, F: FnMut(B, &'a T) -> B>(
+    items: I,
+    init: B,
+    f: F,
+) -> B {
+    let (mut items, mut total, mut f) = (items, init, f);
+    while let Some(row) = items.next_row() {
+        (total, f) = fold_row(&row, total, f);
+    }
+    total
+}
+
+/// What `rfold` of std's iterators returns of the items that are left, row by row from the back: one whose items follow one another is a
+/// loop over a slice.
+///
+/// <details><summary>Contract (proved)</summary>
+///
+/// ```text
+/// requires callable: CallableInFold lends_last F.FnMut (I.left items) f init
+/// ensures ran: FoldsItems lends_last F.FnMut (I.left items) f init result
+/// ```
+/// [How to read it](crate::contracts)
+/// </details>
+#[inline(always)]
+pub(in crate::nd_lent) fn rfold_rest<'a, T: 'a, I: RowByRow<'a, T> + Sized, B, F: FnMut(B, &'a T) -> B>(
+    items: I,
+    init: B,
+    f: F,
+) -> B {
+    let (mut items, mut total, mut f) = (items, init, f);
+    while let Some(row) = items.next_row_back() {
+        (total, f) = rfold_row(&row, total, f);
     }
     total
 }
@@ -164,8 +310,9 @@ impl<T, D: Lengths> ArrayView<'_, T, D> {
     /// [How to read it](crate::contracts)
     /// </details>
     #[inline]
-    pub fn fold<B, F: FnMut(B, &T) -> B>(&self, init: B, f: F) -> B {
-        fold_rows(self.joined_rows(), init, f)
+    pub fn fold<B, F: FnMut(B, &T) -> B>(&self, init: B, mut f: F) -> B {
+        let rows = self.joined_rows();
+        fold_rows(rows, init, move |total, item| f(total, item))
     }
 
     /// The last result of a function that is called at each item, each index once, with the result before, first with `init`, in
@@ -206,9 +353,10 @@ impl<T, D: Lengths> ArrayView<'_, T, D> {
     /// [How to read it](crate::contracts)
     /// </details>
     #[inline]
-    pub fn fold_nearest<B, F: FnMut(B, &T) -> B>(&self, init: B, f: F) -> B {
+    pub fn fold_nearest<B, F: FnMut(B, &T) -> B>(&self, init: B, mut f: F) -> B {
         let nearest = nearest_view(self.strided());
-        fold_rows(self.rows_in(&nearest), init, f)
+        let rows = self.rows_in(&nearest);
+        fold_rows(rows, init, move |total, item| f(total, item))
     }
 
     /// Calls a function at each item in turn, in row-major order.

@@ -2,6 +2,7 @@
 //! The items of an array one after another, each lent, without a list of them.
 
 use crate::memory::prelude::Vec;
+use crate::nd_lent::array_view::folding::RowByRow;
 use crate::nd_lent::array_view::{ArrayView, LentRow};
 use crate::nd_lent::cells::Reader;
 use crate::ndarray_layout::{Lengths, Order, Places, Strided};
@@ -67,40 +68,6 @@ impl<'a, T> Iter<'a, T> {
         Iter { reader, places }
     }
 
-    /// The items that come next and lie evenly, at once: what is left of the row in progress, or else the next row; `None` after
-    /// the last item.
-    ///
-    /// <details><summary>Contract (proved)</summary>
-    ///
-    /// ```text
-    /// ensures MatchOption result ((self.old ≡ []) × (self.new ≡ []))
-    ///     (λ row. (0 < row.row.len) × (self.old ≡ row_items row ++ self.new))
-    /// ```
-    /// [How to read it](crate::contracts)
-    /// </details>
-    #[inline]
-    pub(crate) fn next_row(&mut self) -> Option<LentRow<'a, T>> {
-        let row = self.places.next_row()?;
-        Some(LentRow { reader: self.reader.copied(), row })
-    }
-
-    /// The last items that lie evenly, at once: what is left of the row in progress at the back, or else the last row; `None` before
-    /// the first item.
-    ///
-    /// <details><summary>Contract (proved)</summary>
-    ///
-    /// ```text
-    /// ensures MatchOption result ((self.old ≡ []) × (self.new ≡ []))
-    ///     (λ row. (0 < row.row.len) × (self.old ≡ self.new ++ row_items row))
-    /// ```
-    /// [How to read it](crate::contracts)
-    /// </details>
-    #[inline]
-    pub(in crate::nd_lent) fn next_row_back(&mut self) -> Option<LentRow<'a, T>> {
-        let row = self.places.next_row_back()?;
-        Some(LentRow { reader: self.reader.copied(), row })
-    }
-
     /// Leaves out so many items, or all where fewer are left: the next one is the one that comes after them.
     ///
     /// Takes no memory, and no time for each item (`Places::advance`).
@@ -163,6 +130,20 @@ impl<'a, T> Iter<'a, T> {
     #[inline]
     pub fn advance_back(&mut self, count: usize) {
         self.places.advance_back(count);
+    }
+}
+
+impl<'a, T> RowByRow<'a, T> for Iter<'a, T> {
+    #[inline]
+    fn next_row(&mut self) -> Option<LentRow<'a, T>> {
+        let row = self.places.next_row()?;
+        Some(LentRow { reader: self.reader.copied(), row })
+    }
+
+    #[inline]
+    fn next_row_back(&mut self) -> Option<LentRow<'a, T>> {
+        let row = self.places.next_row_back()?;
+        Some(LentRow { reader: self.reader.copied(), row })
     }
 }
 

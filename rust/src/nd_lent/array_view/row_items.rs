@@ -1,6 +1,7 @@
 // Made by `rust/erase` of `crates/nd_lent/src/array_view/row_items.rt`: edit that.
 //! The items of a row one after another, lent for as long as the data is.
 
+use crate::nd_lent::array_view::folding::RowByRow;
 use crate::nd_lent::array_view::{LentRow, place_in_row};
 use crate::nd_lent::cells::Reader;
 use crate::ndarray_layout::Row;
@@ -40,7 +41,7 @@ impl<'a, T> RowItems<'a, T> {
     /// [How to read it](crate::contracts)
     /// </details>
     #[inline]
-    pub(super) fn next_row(&mut self) -> Option<LentRow<'a, T>> {
+    fn rest(&mut self) -> Option<LentRow<'a, T>> {
         if self.begun == self.end {
             return None;
         }
@@ -48,21 +49,6 @@ impl<'a, T> RowItems<'a, T> {
             Row { start: place_in_row(self.row, self.begun), stride: self.row.stride, len: self.end - self.begun };
         self.begun = self.end;
         Some(LentRow { reader: self.reader.copied(), row })
-    }
-
-    /// The same, from the back.
-    ///
-    /// <details><summary>Contract (proved)</summary>
-    ///
-    /// ```text
-    /// ensures MatchOption result ((self.old ≡ []) × (self.new ≡ []))
-    ///     (λ row. (0 < row.row.len) × (self.old ≡ row_items row) × (self.new ≡ []))
-    /// ```
-    /// [How to read it](crate::contracts)
-    /// </details>
-    #[inline]
-    pub(super) fn next_row_back(&mut self) -> Option<LentRow<'a, T>> {
-        self.next_row()
     }
 
     /// Leaves out so many items, or all where fewer are left: the next one is the one that comes after them.
@@ -127,6 +113,18 @@ impl<'a, T> RowItems<'a, T> {
     #[inline]
     pub fn advance_back(&mut self, count: usize) {
         self.end -= count.min(self.end - self.begun);
+    }
+}
+
+impl<'a, T> RowByRow<'a, T> for RowItems<'a, T> {
+    #[inline]
+    fn next_row(&mut self) -> Option<LentRow<'a, T>> {
+        self.rest()
+    }
+
+    #[inline]
+    fn next_row_back(&mut self) -> Option<LentRow<'a, T>> {
+        self.rest()
     }
 }
 

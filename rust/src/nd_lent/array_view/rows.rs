@@ -158,7 +158,7 @@ impl<'a, T> LentRow<'a, T> {
     /// [How to read it](crate::contracts)
     /// </details>
     #[inline]
-    pub(crate) fn as_slice_backwards(&self) -> Option<&'a [T]> {
+    pub(in crate::nd_lent) fn as_slice_backwards(&self) -> Option<&'a [T]> {
         let row = self.row;
         if row.stride != -1 {
             return None;

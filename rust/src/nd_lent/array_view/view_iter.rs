@@ -1,6 +1,7 @@
 // Made by `rust/erase` of `crates/nd_lent/src/array_view/view_iter.rt`: edit that.
 //! The items of an array one after another, lent for as long as the data is: the iterator has the view.
 
+use crate::nd_lent::array_view::folding::RowByRow;
 use crate::nd_lent::array_view::{ArrayView, LentRow, RestOfItems};
 use crate::ndarray_layout::Lengths;
 use core::iter::FusedIterator;
@@ -19,38 +20,6 @@ impl<'a, T, D: Lengths> Clone for ViewIter<'a, T, D> {
 }
 
 impl<'a, T, D: Lengths> ViewIter<'a, T, D> {
-    /// The items that come next and lie evenly, at once: what is left of the row in progress, or else the next row; `None` after
-    /// the last item.
-    ///
-    /// <details><summary>Contract (proved)</summary>
-    ///
-    /// ```text
-    /// ensures MatchOption result ((self.old ≡ []) × (self.new ≡ []))
-    ///     (λ row. (0 < row.row.len) × (self.old ≡ row_items row ++ self.new))
-    /// ```
-    /// [How to read it](crate::contracts)
-    /// </details>
-    #[inline]
-    pub(super) fn next_row(&mut self) -> Option<LentRow<'a, T>> {
-        self.rest.next_row()
-    }
-
-    /// The last items that lie evenly, at once: what is left of the row in progress at the back, or else the last row; `None` before
-    /// the first item.
-    ///
-    /// <details><summary>Contract (proved)</summary>
-    ///
-    /// ```text
-    /// ensures MatchOption result ((self.old ≡ []) × (self.new ≡ []))
-    ///     (λ row. (0 < row.row.len) × (self.old ≡ self.new ++ row_items row))
-    /// ```
-    /// [How to read it](crate::contracts)
-    /// </details>
-    #[inline]
-    pub(super) fn next_row_back(&mut self) -> Option<LentRow<'a, T>> {
-        self.rest.next_row_back()
-    }
-
     /// Leaves out so many items, or all where fewer are left: the next one is the one that comes after them.
     ///
     /// Takes no memory, and no time for each item (`IntoPlaces::advance`).
@@ -113,6 +82,18 @@ impl<'a, T, D: Lengths> ViewIter<'a, T, D> {
     #[inline]
     pub fn advance_back(&mut self, count: usize) {
         self.rest.advance_back(count);
+    }
+}
+
+impl<'a, T, D: Lengths> RowByRow<'a, T> for ViewIter<'a, T, D> {
+    #[inline]
+    fn next_row(&mut self) -> Option<LentRow<'a, T>> {
+        self.rest.next_row()
+    }
+
+    #[inline]
+    fn next_row_back(&mut self) -> Option<LentRow<'a, T>> {
+        self.rest.next_row_back()
     }
 }
 

@@ -137,7 +137,109 @@ impl<'a, T: Sized, D: Lengths> IterMut<'a, T, D> {
     }
 }
 
+/// How many items a row has at least that is folded as a slice: one by one, those of fewer take less time.
+const LONG: usize = 8;
+
+/// Calls a function with a total and an item, and hands it back.
+///
+/// <details><summary>Contract (proved)</summary>
+///
+/// ```text
+/// requires F.pre f total item
+/// ensures F.step f total item.entry result.0 result.1
+/// ```
+/// [How to read it](crate::contracts)
+/// </details>
+#[inline(always)]
+fn turn<'a, T, B, F: FnMut(B, &'a mut T) -> B>(mut f: F, total: B, item: &'a mut T) -> (B, F) {
+    let next = f(total, item);
+    (next, f)
+}
+
+/// Folds the items of a slice, and hands back the function.
+///
+/// <details><summary>Contract (proved)</summary>
+///
+/// ```text
+/// requires CallableInFold lends_mut F.FnMut (map Some items.old) f init
+/// ensures HasFoldedMut F.FnMut (f, init) (map Some items.old) (result.1, result.0)
+/// ```
+/// [How to read it](crate::contracts)
+/// </details>
+#[inline(always)]
+fn fold_slice<'a, T, B, F: FnMut(B, &'a mut T) -> B>(items: &'a mut [T], init: B, f: F) -> (B, F) {
+    let (mut total, mut f) = (init, f);
+    for item in items.iter_mut() {
+        (total, f) = turn(f, total, item);
+    }
+    (total, f)
+}
+
+impl<'a, T: Sized, D: Lengths> IterMut<'a, T, D> {
+    /// Folds the items that are left one by one, and hands back the function.
+    ///
+    /// <details><summary>Contract (proved)</summary>
+    ///
+    /// ```text
+    /// requires CallableInFold lends_mut F.FnMut (items_left self) f init
+    /// ensures HasFoldedMut F.FnMut (f, init) (items_left self.entry) (result.1, result.0)
+    /// ```
+    /// [How to read it](crate::contracts)
+    /// </details>
+    #[inline]
+    fn fold_each<B, F: FnMut(B, &'a mut T) -> B>(self, init: B, f: F) -> (B, F) {
+        let (mut total, mut f) = (init, f);
+        for item in self {
+            (total, f) = turn(f, total, item);
+        }
+        (total, f)
+    }
+
+    /// What `fold` of std's iterators returns of the items that are left, row by row: one whose items follow one another is a loop over
+    /// a slice. After a row that is short the others are folded one by one.
+    ///
+    /// <details><summary>Contract (proved)</summary>
+    ///
+    /// ```text
+    /// requires callable: CallableInFold lends_mut F.FnMut (items_left self) f init
+    /// ensures ran: FoldsItems lends_mut F.FnMut (items_left self.entry) f init result
+    /// ```
+    /// [How to read it](crate::contracts)
+    /// </details>
+    #[inline]
+    pub(in crate::nd_lent) fn fold_rest<B, F: FnMut(B, &'a mut T) -> B>(self, init: B, f: F) -> B {
+        let (mut items, mut total, mut f) = (self, init, f);
+        while let Some(row) = items.next_row() {
+            let is_short = row.len() < LONG;
+            (total, f) = row.fold_items(total, f);
+            if is_short {
+                let (total, _) = items.fold_each(total, f);
+                return total;
+            }
+        }
+        total
+    }
+}
+
 impl<'a, T: Sized, D: Lengths> ArrayViewMut<'a, T, D> {
+    /// Folds the items, and hands back the function: where they follow one another, as a slice.
+    ///
+    /// <details><summary>Contract (proved)</summary>
+    ///
+    /// ```text
+    /// requires CallableInFold lends_mut F.FnMut (items_of (array_of self)) f init
+    /// ensures HasFoldedMut F.FnMut (f, init) (items_of (array_of self.entry)) (result.1, result.0)
+    /// ```
+    /// [How to read it](crate::contracts)
+    /// </details>
+    #[inline(always)]
+    fn fold_items<B, F: FnMut(B, &'a mut T) -> B>(self, init: B, f: F) -> (B, F) {
+        match self.into_slice() {
+            Ok(items) => fold_slice(items, init, f),
+            Err(row) => row.into_items().fold_each(init, f),
+        }
+    }
+
     /// An iterator over the items of all indices, in row-major order (the last axis moves fastest), from both ends, each lent to be
     /// written for as long as the whole is. It knows how many are left. That they keep what is written is tested, and in no clause.
     ///

@@ -1,5 +1,5 @@
 -- The items of one row more are folded.
-use Rattle.std.proofs.Common.{ap, subst, sym}
+use Rattle.std.proofs.Common.{ap, refl, subst, sym}
 use Rattle.std.specs.Iterator.{CallableInFold}
 use Rattle.nd_lent.specs.LentRow.{row_items, rows_items}
 use Rattle.nd_lent.specs.Lending.{lends}
@@ -8,10 +8,10 @@ use Rattle.nd_lent.proofs.Folding.{all_folded, both_called, callable_after, call
 use Rattle.nd_lent.proofs.array_view.folding.fold_rows.Goals as goal
 
 pub fold_row-requires : goal.fold_row-requires
-fold_row-requires g c =
+fold_row-requires g c κs =
     let all = subst (λ items. CallableInFold lends g.F.FnMut items c.loop-row.f c.loop-row.total) (ap rows_items c.in-Some.ensures.steps)
     c.loop-row.invariant.callable in
-    callable_in_part (row_items c.in-Some.row) (rows_items c.next.new.self) all
+    ((refl, tt), callable_in_part (row_items c.in-Some.row) (rows_items c.next.new.self) all)
 
 pub loop-row-preserved : goal.loop-row-preserved
 loop-row-preserved g c =

@@ -6,7 +6,7 @@ use Rattle.nd_lent.specs.Part.{has_mark}
 use Rattle.nd_lent.specs.Read.{IsRowRead}
 use Rattle.nd_lent.proofs.RestOfRow.{items_left, left_has_row, of_left}
 use Rattle.nd_lent.proofs.RowsLent.{place_of_coordinate}
-use Rattle.nd_lent.proofs.array_view.row_items.RowItems.next_row.Goals as goal
+use Rattle.nd_lent.proofs.array_view.row_items.RowItems.rest.Goals as goal
 
 pub place_in_row-requires-clause-in_bounds : goal.place_in_row-requires-clause-in_bounds
 place_in_row-requires-clause-in_bounds g c =

@@ -7,7 +7,7 @@ use Rattle.nd_lent.proofs.BothEnds.{all_second}
 use Rattle.nd_lent.proofs.Laws.Lists.{all_first}
 use Rattle.nd_lent.proofs.Read.{back_marked, front_marked}
 use Rattle.nd_lent.proofs.RestOfRow.{row_that_is_view}
-use Rattle.nd_lent.proofs.array_view.iterating.Iter.next_row.Goals as goal
+use Rattle.nd_lent.proofs.array_view.iterating.IterRowByRow.next_row_back.Goals as goal
 
 pub invariant_of-result : goal.invariant_of-result
 invariant_of-result g c =
@@ -18,8 +18,8 @@ invariant_of-result g c =
     let within = IsInBounds (length c.self.inside.reader.items) in
     rw c.copied.ensures.same (record {
       has = row_that_is_view row found.row.0 found.row_is_view
-          (all_first within here c.next_row.new.self (subst (All within) found.row.1 c.self.invariant.within));
-      marked = front_marked marks here c.next_row.new.self found.row.1 c.self.invariant.marked;
+          (all_second within c.next_row_back.new.self here (subst (All within) found.row.1 c.self.invariant.within));
+      marked = back_marked marks c.next_row_back.new.self here found.row.1 c.self.invariant.marked;
     })
 
 pub invariant_of-self-2 : goal.invariant_of-self-2
@@ -30,6 +30,6 @@ invariant_of-self-2 g c =
     let here = row_places row.start row.stride row.len in
     let within = IsInBounds (length c.self.inside.reader.items) in
     record {
-      within = all_second within here c.next_row.new.self (subst (All within) found.row.1 c.self.invariant.within);
-      marked = back_marked marks here c.next_row.new.self found.row.1 c.self.invariant.marked;
+      within = all_first within c.next_row_back.new.self here (subst (All within) found.row.1 c.self.invariant.within);
+      marked = front_marked marks c.next_row_back.new.self here found.row.1 c.self.invariant.marked;
     }

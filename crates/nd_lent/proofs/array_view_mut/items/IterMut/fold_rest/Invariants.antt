@@ -1,0 +1,17 @@
+-- Once the items that are left are folded, all are; the function may be called at them.
+use Rattle.std.proofs.Common.{length}
+use Rattle.std.specs.Iterator.{CallableInFold}
+use Rattle.nd_lent.specs.ItemsLeft.{items_left}
+use Rattle.nd_lent.specs.Lending.{lends_mut}
+use Rattle.nd_lent.specs.private.Folded.{HasFoldedMut}
+use Rattle.nd_lent.proofs.array_view_mut.items.IterMut.fold_rest.Given as goal
+
+abbrev pub invariant-loop-row : goal.invariant-loop-row
+invariant-loop-row g l = record {
+  folded : (h : _) (result : _) → HasFoldedMut g.F.FnMut (l.f, l.total) (items_left l.items) (h, result)
+      → HasFoldedMut g.F.FnMut (l.fn.f, l.fn.init) (items_left l.fn.self) (h, result);
+  callable : CallableInFold lends_mut g.F.FnMut (items_left l.items) l.f l.total;
+}
+
+abbrev pub decreases-loop-row : goal.decreases-loop-row
+decreases-loop-row g l = length (items_left l.items)
