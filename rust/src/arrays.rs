@@ -23,7 +23,6 @@ mod dimensionality;
 mod equal_to;
 mod folding;
 mod from;
-mod indexed;
 mod indexing;
 mod iter;
 mod lending;
@@ -36,9 +35,7 @@ mod skipping;
 mod writing;
 
 pub(crate) use axis_iter::{check_axis, check_chunks};
-pub(crate) use folding::{fold_items, fold_lent, fold_part_items, fold_places, rfold_lent};
-pub(crate) use indexed::Odometer;
-pub use indexed::{Indexed, IndexedIter, IndexedIterMut};
+pub(crate) use folding::{fold_indexed, fold_items, fold_lent, fold_part_items, fold_places, rfold_lent};
 pub(crate) use indexing::no_such_index;
 pub use multi_slice::MultiSliceArg;
 pub(crate) use own_items::{has_items, has_own_items};

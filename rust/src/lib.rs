@@ -111,12 +111,13 @@ struct Readme;
 #[cfg(doctest)]
 struct MustUse;
 
-pub use crate::arrays::{Indexed, IndexedIter, IndexedIterMut, MultiSliceArg};
+pub use crate::arrays::MultiSliceArg;
 pub use crate::convenience::*;
 #[doc(inline)]
 pub use crate::memory::AllocError;
 pub use crate::nd_lent::{
-    AxisChunksIter, AxisChunksIterMut, AxisIter, AxisIterMut, BlocksIter, IterMut, LanesMut, SliceParts, TilesMut,
+    AxisChunksIter, AxisChunksIterMut, AxisIter, AxisIterMut, BlocksIter, IndexedIter, IndexedIterMut, IterMut,
+    LanesMut, SliceParts, TilesMut,
 };
 pub use crate::nd_owned::{
     ArrayView, ArrayViewMut, EqualTo, IntoRows, Items, Iter, LentRow, LentRows, OwnedArray, ReadySlice, RowItems,

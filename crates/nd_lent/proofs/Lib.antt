@@ -11,6 +11,7 @@ pub mod EvenRows
 pub mod Extremes
 pub mod FoldedBack
 pub mod Folding
+pub mod IndexedItems
 pub mod ItemWritten
 pub mod Moved
 pub mod OwnedAlong

@@ -10,6 +10,8 @@ pub mod ChunksAlong
 pub mod Equal
 pub mod Extremes
 pub mod HasItems
+pub mod IndexedItems
+pub mod IndexedLeft
 pub mod Items
 pub mod ItemsLeft
 pub mod Lending

@@ -1,15 +1,20 @@
-//! The arrays and the chunks along an axis, and the blocks of a shape, as iterators of std, which panic where an allocation fails.
+//! The arrays and the chunks along an axis, the blocks of a shape, and items with their indices, as iterators of std, which panic where
+//! an allocation fails.
 
 use crate::ArrayView;
 use crate::convenience::{OUT_OF_MEMORY, printed};
 use crate::nd_base::{Axis, ErrorKind, LayoutError, Lengths, from_kind};
-use crate::nd_lent::{ArrayViewMut, AxisChunksIter, AxisChunksIterMut, AxisIter, AxisIterMut, BlocksIter, TilesMut};
+use crate::nd_dim::{Dimension, advance_row_major};
+use crate::nd_lent::{
+    ArrayViewMut, AxisChunksIter, AxisChunksIterMut, AxisIter, AxisIterMut, BlocksIter, IndexedIter, IndexedIterMut,
+    TilesMut,
+};
 use crate::ndarray_layout::RemoveAxis;
 use core::iter::FusedIterator;
 
-/// Iterators whose `try_next` and `try_next_back` are proved, each with the bound of its dimension and its item.
-macro_rules! iterates {
-    ($($name:ident $bound:ident $item:ty;)*) => {$(
+/// Iterators whose `try_next` is proved, each with the bound of its dimension, its item, and the macro of what its `Iterator` has besides.
+macro_rules! iterates_forwards {
+    ($($name:ident $bound:ident $item:ty $(, $skip:ident)?;)*) => {$(
         /// Panics where an allocation fails, never for at most 4 axes. Not proved.
         impl<'a, T, D: $bound> Iterator for $name<'a, T, D> {
             type Item = $item;
@@ -24,17 +29,7 @@ macro_rules! iterates {
                 (self.len(), Some(self.len()))
             }
 
-            crate::arrays::skip!();
-        }
-
-        /// Panics as `next`. Not proved.
-        impl<'a, T, D: $bound> DoubleEndedIterator for $name<'a, T, D> {
-            #[inline]
-            fn next_back(&mut self) -> Option<$item> {
-                self.try_next_back().expect(OUT_OF_MEMORY)
-            }
-
-            crate::arrays::skip_back!();
+            $(crate::arrays::$skip!();)?
         }
 
         /// Not proved.
@@ -47,6 +42,23 @@ macro_rules! iterates {
     )*};
 }
 
+/// Those whose `try_next_back` is proved as well.
+macro_rules! iterates {
+    ($($name:ident $bound:ident $item:ty;)*) => {$(
+        iterates_forwards! { $name $bound $item, skip; }
+
+        /// Panics as `next`. Not proved.
+        impl<'a, T, D: $bound> DoubleEndedIterator for $name<'a, T, D> {
+            #[inline]
+            fn next_back(&mut self) -> Option<$item> {
+                self.try_next_back().expect(OUT_OF_MEMORY)
+            }
+
+            crate::arrays::skip_back!();
+        }
+    )*};
+}
+
 iterates! {
     AxisIter RemoveAxis ArrayView<'a, T, D::Smaller>;
     AxisIterMut RemoveAxis ArrayViewMut<'a, T, D::Smaller>;
@@ -54,6 +66,11 @@ iterates! {
     AxisChunksIterMut Lengths ArrayViewMut<'a, T, D>;
     BlocksIter Lengths ArrayView<'a, T, D>;
     TilesMut Lengths ArrayViewMut<'a, T, D>;
+}
+
+iterates_forwards! {
+    IndexedIter Dimension (D::Pattern, &'a T), fold_indexed;
+    IndexedIterMut Dimension (D::Pattern, &'a mut T), fold_indexed;
 }
 
 /// The first axis of a shape. Panics where there is none, as only an `IxDyn` may have.

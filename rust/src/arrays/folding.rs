@@ -73,6 +73,23 @@ macro_rules! fold_part_items {
 }
 pub(crate) use fold_part_items;
 
+/// Of the iterators over items with their indices.
+macro_rules! fold_indexed {
+    () => {
+        /// What a loop over `next` returns, row by row. Not proved.
+        #[inline]
+        fn fold<B, F: FnMut(B, Self::Item) -> B>(self, init: B, mut f: F) -> B {
+            let (items, dim, mut next) = self.into_items_at();
+            items.fold(init, |total, item| {
+                let index = next.duplicate().expect(OUT_OF_MEMORY);
+                let _has_next = advance_row_major(dim.slice(), next.slice_mut());
+                f(total, (index.into_pattern(), item))
+            })
+        }
+    };
+}
+pub(crate) use fold_indexed;
+
 /// Of `PlacesOf`.
 macro_rules! fold_places {
     () => {

@@ -1,10 +1,10 @@
 //! What may be read of an array of any number of axes.
 
-use super::{IndexedIter, Odometer, check_chunks};
+use super::check_chunks;
 use crate::convenience::OUT_OF_MEMORY;
 use crate::nd_base::{Axis, LayoutError, Lengths, ShapeError};
 use crate::nd_dim::Dimension;
-use crate::{ArrayView, ArrayViewMut, AxisChunksIter, IntoRows, OwnedArray};
+use crate::{ArrayView, ArrayViewMut, AxisChunksIter, IndexedIter, IntoRows, OwnedArray};
 
 /// The view or the array with one of its axes after all others.
 macro_rules! with_last {
@@ -205,11 +205,10 @@ macro_rules! reads {
             /// assert!(array.indexed_iter().all(|((row, column), item)| *item as usize == 3 * row + column + 1));
             /// # Ok::<(), LayoutError>(())
             /// ```
-            pub fn indexed_iter(&self) -> IndexedIter<$lent, T, D>
-            where
-                D: Dimension,
-            {
-                IndexedIter::new(Odometer::new(self.strided()), self.view().into_iter())
+            #[inline]
+            #[must_use]
+            pub fn indexed_iter(&self) -> IndexedIter<$lent, T, D> {
+                self.view().into_indexed_iter().expect(OUT_OF_MEMORY)
             }
         }
     };

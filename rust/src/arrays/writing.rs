@@ -1,10 +1,10 @@
 //! What may be written of an array of any number of axes.
 
-use super::{IndexedIterMut, Odometer, check_chunks, with_last};
+use super::{check_chunks, with_last};
 use crate::convenience::OUT_OF_MEMORY;
 use crate::nd_base::{Axis, LayoutError, Lengths, ShapeError};
 use crate::nd_dim::Dimension;
-use crate::nd_lent::{IterMut, LanesMut};
+use crate::nd_lent::{IndexedIterMut, IterMut, LanesMut};
 use crate::nd_shape::NdIndex;
 use crate::{ArrayView, ArrayViewMut, AxisChunksIterMut, IntoRows, OwnedArray};
 
@@ -151,12 +151,10 @@ macro_rules! writes {
             /// assert_eq!(items, [0, 1, 2, 10, 11, 12]);
             /// # Ok::<(), LayoutError>(())
             /// ```
+            #[inline]
             #[must_use]
-            pub fn indexed_iter_mut(&mut self) -> IndexedIterMut<'_, T, D>
-            where
-                D: Dimension,
-            {
-                IndexedIterMut::new(Odometer::new(self.strided()), self.iter_mut())
+            pub fn indexed_iter_mut(&mut self) -> IndexedIterMut<'_, T, D> {
+                self.view_mut().into_indexed_items().expect(OUT_OF_MEMORY)
             }
 
             /// An iterator over the rows along the last axis, in row-major order, to be read. ndarray's `rows`. Not proved.

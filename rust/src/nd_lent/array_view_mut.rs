@@ -10,6 +10,7 @@ mod steps;
 mod axes;
 mod axis_chunks;
 mod axis_iter;
+mod indexed_iter_mut;
 mod items;
 mod mapping_into;
 mod pairs;
@@ -23,6 +24,7 @@ use crate::ndarray_layout::{Axis, LayoutError, Lengths, NdIndex, Order, Strided}
 pub use axis_chunks::AxisChunksIterMut;
 pub use axis_iter::AxisIterMut;
 use core::mem::replace;
+pub use indexed_iter_mut::IndexedIterMut;
 pub use items::IterMut;
 pub use rows::LanesMut;
 pub use slice_parts::SliceParts;

@@ -24,8 +24,10 @@ pub(crate) mod nearest;
 mod split_views;
 
 pub use array_view::{
-    ArrayView, AxisChunksIter, AxisIter, BlocksIter, EqualTo, IntoRows, Iter, LentRow, LentRows, RowItems, Unsigned,
-    ViewIter,
+    ArrayView, AxisChunksIter, AxisIter, BlocksIter, EqualTo, IndexedIter, IntoRows, Iter, LentRow, LentRows, RowItems,
+    Unsigned, ViewIter,
 };
-pub use array_view_mut::{ArrayViewMut, AxisChunksIterMut, AxisIterMut, IterMut, LanesMut, SliceParts, TilesMut};
+pub use array_view_mut::{
+    ArrayViewMut, AxisChunksIterMut, AxisIterMut, IndexedIterMut, IterMut, LanesMut, SliceParts, TilesMut,
+};
 pub use split_views::SplitViews;

@@ -26,8 +26,9 @@ mod ready;
 mod rows;
 
 pub use crate::nd_lent::{
-    ArrayView, ArrayViewMut, AxisChunksIter, AxisChunksIterMut, AxisIter, AxisIterMut, BlocksIter, EqualTo, IntoRows,
-    Iter, IterMut, LanesMut, LentRow, LentRows, RowItems, SliceParts, SplitViews, TilesMut, Unsigned, ViewIter,
+    ArrayView, ArrayViewMut, AxisChunksIter, AxisChunksIterMut, AxisIter, AxisIterMut, BlocksIter, EqualTo,
+    IndexedIter, IndexedIterMut, IntoRows, Iter, IterMut, LanesMut, LentRow, LentRows, RowItems, SliceParts,
+    SplitViews, TilesMut, Unsigned, ViewIter,
 };
 pub use iterating::Items;
 pub use owned::OwnedArray;

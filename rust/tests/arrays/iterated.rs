@@ -64,7 +64,7 @@ fn items_come_with_their_indices() {
     });
     assert_eq!(lens.sum::<usize>(), 12);
     assert_eq!(written.concat(), "0011223041526");
-    assert_eq!(format!("{:?}", array.indexed_iter()), "Indexed { left: 6, .. }");
+    assert_eq!(format!("{:?}", array.indexed_iter()), "IndexedIter { left: 6, .. }");
 }
 
 /// Takes one item, or some, at an end of an iterator and of the model; whether both are the same.

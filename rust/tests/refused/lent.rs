@@ -16,6 +16,9 @@ pub fn answer(call: &Call) -> Option<String> {
         _ if call.name.starts_with("ArrayView::") || call.name.starts_with("BlocksIter") => {
             read(call, ArrayView::over(call.view(), &numbers).ok()?)
         }
+        _ if call.name.starts_with("Indexed") => {
+            indexed(call, ArrayViewMut::from_shape(call.laid(), &mut numbers).ok()?)
+        }
         _ if call.name.starts_with("Axis") => along(call, ArrayViewMut::from_shape(call.laid(), &mut numbers).ok()?),
         _ => written(call, ArrayViewMut::from_shape(call.laid(), &mut numbers).ok()?),
     }
@@ -46,6 +49,7 @@ fn read(call: &Call, array: ArrayView<'_, usize, IxDyn>) -> Option<String> {
             call.told(|| left.try_next_back())
         }
         "ArrayView::duplicate" => call.told(|| array.duplicate()),
+        "ArrayView::into_indexed_iter" => call.told(|| array.into_indexed_iter().map(|left| left.len())),
         _ => return None,
     })
 }
@@ -94,6 +98,20 @@ fn along(call: &Call, part: ArrayViewMut<'_, usize, IxDyn>) -> Option<String> {
     })
 }
 
+/// The same of items with their indices: the third list says how many are left out. The index is written.
+fn indexed(call: &Call, part: ArrayViewMut<'_, usize, IxDyn>) -> Option<String> {
+    let out = call.list(2)[0];
+    let numbers = [0; 99];
+    let mut read = ArrayView::over(call.view(), &numbers).ok()?.into_indexed_iter().ok()?;
+    let mut written = part.into_indexed_items().ok()?;
+    (read.by_ref().take(out).count(), written.by_ref().take(out).count());
+    Some(match call.name {
+        "IndexedIter::try_next" => call.told(|| read.try_next().map(|next| next.map(|(index, _)| index))),
+        "IndexedIterMut::try_next" => call.told(|| written.try_next().map(|next| next.map(|(index, _)| index))),
+        _ => return None,
+    })
+}
+
 /// The same of numbers that are lent to be written.
 fn written(call: &Call, mut part: ArrayViewMut<'_, usize, IxDyn>) -> Option<String> {
     let (reversed, back, to) = (call.reversed(), call.back(), call.dim(2));
@@ -109,6 +127,7 @@ fn written(call: &Call, mut part: ArrayViewMut<'_, usize, IxDyn>) -> Option<Stri
         "ArrayViewMut::slice_mut_with" => call.told(|| part.slice_mut_with::<IxDyn, _>(&reversed, Strict)),
         "ArrayViewMut::try_view" => call.told(|| part.try_view()),
         "ArrayViewMut::reborrow" => call.told(|| part.reborrow()),
+        "ArrayViewMut::into_indexed_items" => call.told(|| part.into_indexed_items().map(|left| left.len())),
         "ArrayViewMut::into_tiles" => call.told(|| part.into_tiles(&to).map(|left| left.len())),
         "TilesMut::try_next" => {
             let mut left = part.into_tiles(&to).ok()?;

@@ -3,7 +3,8 @@ use Rattle.std.proofs.Common.{None, Some, arith, map, refl, subst, sym}
 use Rattle.std.proofs.lemmas.List.{drop_all, length-map}
 use Rattle.nd_lent.specs.private.Folded.{HasFoldedMut}
 use Rattle.nd_lent.proofs.Folding.{item_of_slice}
-use Rattle.ndarray_layout.proofs.Laws.Folding.{callable_after_first, comes_first, first_called, first_may_be_called, item_in_list, none_called}
+use Rattle.ndarray_layout.proofs.Laws.Folding.{callable_after_first, comes_first, first_called, first_may_be_called, item_in_list}
+use Rattle.ndarray_layout.proofs.Laws.Folding.{none_called}
 use Rattle.nd_lent.proofs.array_view_mut.items.fold_slice.Goals as goal
 
 pub turn-requires : goal.turn-requires

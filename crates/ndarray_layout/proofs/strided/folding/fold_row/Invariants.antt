@@ -7,6 +7,7 @@ use Rattle.ndarray_layout.proofs.strided.folding.fold_row.Given as goal
 
 abbrev pub invariant-loop-coordinate : goal.invariant-loop-coordinate
 invariant-loop-coordinate g l = record {
-  folded : HasFolded pos g.F.FnMut (l.initial.f, l.fn.init) (take l.coordinate (row_places l.row.start l.row.stride l.row.len)) (l.f, l.total);
+  folded : HasFolded pos g.F.FnMut (l.initial.f, l.fn.init) (take l.coordinate (row_places l.row.start l.row.stride l.row.len))
+      (l.f, l.total);
   callable : CallableInFold (gives pos) g.F.FnMut (drop l.coordinate (row_places l.row.start l.row.stride l.row.len)) l.f l.total;
 }

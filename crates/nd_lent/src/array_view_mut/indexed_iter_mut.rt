@@ -1,0 +1,118 @@
+//! The items of a part with their indices one after another, each lent to be written.
+ghost use Rattle.std.specs.List.{All};
+ghost use Rattle.std.specs.Prelude.{◌≡◌, IfErr, IfOk, IsOk, MatchOption, Some, [], ◌∷◌, length};
+ghost use Rattle.ndarray_layout.specs.declared.Order.TheVariants.{RowMajor};
+ghost use Rattle.ndarray_layout.specs.IndicesLeft.{StandsAt};
+ghost use Rattle.ndarray_layout.specs.Memory.{NeedsNoMemory};
+ghost use Rattle.nd_lent.specs.IndexedItems.{StandsAt-prop, indexed_items, last_indexed};
+ghost use Rattle.nd_lent.specs.ItemsLeft.{items_left};
+ghost use Rattle.nd_lent.specs.Lent.{array_of};
+
+use crate::array_view_mut::{ArrayViewMut, IterMut};
+use ndarray_layout::{Dimension, Lengths, advance_row_major};
+use std::alloc::{AllocError, Global};
+
+/// The items of a part that are still to come, each with its index, in row-major order, lent to be written. ndarray's
+/// `IndexedIterMut`.
+#[derive(Drop)]
+pub struct IndexedIterMut<'a, T, D: Lengths> {
+    pub(crate) items: IterMut<'a, T, D>,
+    pub(crate) dim: D,
+    // The index of the item that comes next, where one is left.
+    pub(crate) index: D,
+    ghost stands: { StandsAt RowMajor (D.list dim) (length (items_left items)) (D.list index) } by { StandsAt-prop RowMajor (D.list dim) (length (items_left items)) (D.list index) },
+}
+
+impl<'a, T, D: Lengths> IndexedIterMut<'a, T, D> {
+    ghost use Rattle.nd_lent.specs.IndexedLeft.{indexed_left};
+
+    /// How many items are left.
+    ///
+    /// Of `[2,3]`: 6. ndarray's `len`.
+    #[inline]
+    pub fn len(&self) -> usize
+        ensures { result ≡ length (indexed_left D.list self.now) }
+    {
+        self.items.len()
+    }
+
+    /// The items that are left, the shape, and the index of the first item, where there is one. For a `fold` row by row.
+    #[inline]
+    pub(crate) fn into_items_at(self) -> (IterMut<'a, T, D>, D, D)
+        ensures items { last_indexed (D.list result.1) (items_left result.0) ≡ indexed_left D.list self.entry }
+        ensures index { StandsAt RowMajor (D.list result.1) (length (items_left result.0)) (D.list result.2) }
+    {
+        let IndexedIterMut { items, dim, index } = self;
+        (items, dim, index)
+    }
+}
+
+impl<'a, T, D: Dimension> IndexedIterMut<'a, T, D> {
+    ghost use Rattle.nd_lent.specs.IndexedLeft.{indexed_left};
+
+    /// The next item, after its index; `None` where none is left. That the items keep what is written is tested, and in no clause.
+    ///
+    /// # Errors
+    ///
+    /// Out of memory; never where the type fixes the count of axes, there are at most 4, or none is left. The iterator is unchanged
+    /// after it.
+    ///
+    /// Takes the time of a place (`Strided::into_places`), and in all as much again for the indices.
+    ///
+    /// Of `[2,2]` over 5 6 7 8: 5 at (0, 0), then 6 at (0, 1), 7 at (1, 0), 8 at (1, 1), and then `None`. ndarray's `next`.
+    #[inline(always)]
+    pub fn try_next(&mut self, alloc: Global) -> Result<Option<(D::Pattern, &'a mut T)>, AllocError>
+        ensures memory { All (λ pair. NeedsNoMemory D.FixedCount.NDIM (length pair.0)) (indexed_left D.list self.old) →
+            IsOk result }
+        ensures unchanged { IfErr result (λ _. indexed_left D.list self.new ≡ indexed_left D.list self.old) }
+        ensures first { IfOk result (λ next. MatchOption next
+            ((indexed_left D.list self.old ≡ []) × (indexed_left D.list self.new ≡ []))
+            (λ pair. indexed_left D.list self.old ≡
+            (D.Pattern.lens pair.0, Some pair.1.now) ∷ indexed_left D.list self.new)) }
+    {
+        let index = match self.index.duplicate(alloc) {
+            Ok(index) => index,
+            // (after the last item none is needed)
+            Err(fault) => {
+                return if self.items.len() == 0 {
+                    Ok(None)
+                } else {
+                    Err(fault)
+                };
+            }
+        };
+        let Some(item) = self.items.next() else {
+            return Ok(None);
+        };
+        let _has_next = advance_row_major(self.dim.slice(), self.index.slice_mut());
+        Ok(Some((index.into_pattern(), item)))
+    }
+}
+
+impl<'a, T: Drop, D: Lengths> ArrayViewMut<'a, T, D> {
+    ghost use Rattle.nd_lent.specs.IndexedLeft.{indexed_left};
+
+    /// An iterator over the items with their indices, in row-major order (the last axis moves fastest), each lent to be written for
+    /// as long as the whole is. It ends the part.
+    ///
+    /// # Errors
+    ///
+    /// Out of memory; never where the type fixes the count of axes or there are at most 4. The part is gone then.
+    ///
+    /// Takes time in proportion to the count of axes. An item takes that of `IndexedIterMut::try_next`.
+    ///
+    /// The transpose of `[2,2]` over 5 6 7 8: 5 at (0, 0), 7 at (0, 1), 6 at (1, 0), 8 at (1, 1). ndarray's `indexed_iter_mut`.
+    pub fn into_indexed_items(self, alloc: Global) -> Result<IndexedIterMut<'a, T, D>, AllocError>
+        ensures items { IfOk result (λ left. indexed_left D.list left ≡ indexed_items (array_of self.entry)) }
+        ensures same_right { IfOk result (λ left. left.items.cells.name ≡ self.entry.cells.name) }
+        ensures memory { NeedsNoMemory D.NDIM (length (array_of self.entry).view.shape) → IsOk result }
+    {
+        let dim = self.dim().duplicate(alloc)?;
+        let index = D::zeros(alloc, dim.ndim())?;
+        Ok(IndexedIterMut {
+            items: self.into_items(),
+            dim,
+            index,
+        })
+    }
+}
