@@ -6,7 +6,8 @@ import os, pathlib, re, subprocess
 
 TOP = str(pathlib.Path(__file__).resolve().parents[1])
 PARTS = ("src", "specs", "proofs")
-MEMORY = 5000  # megabytes: what a proof may take
+MEMORY = 7000  # megabytes: what a proof may take
+AT_ONCE = 5000  # what each of those that are made at once is taken to need
 
 
 def read(path):
@@ -49,4 +50,4 @@ def sums_of(name, *made):
 def jobs():
     """How many proofs this machine can make at once: one a processor, as memory holds."""
     free = int(re.search(r"MemAvailable: *(\d+)", pathlib.Path("/proc/meminfo").read_text())[1]) * 1024 // 10**6
-    return max(1, min(len(os.sched_getaffinity(0)), free // MEMORY))
+    return max(1, min(len(os.sched_getaffinity(0)), free // AT_ONCE))
