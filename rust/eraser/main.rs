@@ -71,6 +71,7 @@ const ALLOWED: &[(&str, &[&str])] = &[
             "clippy::manual_map",
             "clippy::needless_range_loop",
             "clippy::non_canonical_clone_impl",
+            "clippy::redundant_closure",
             "clippy::while_let_on_iterator",
         ],
     ),

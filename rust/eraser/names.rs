@@ -200,7 +200,7 @@ pub const SOUND_BY_CONDITIONS: &[(&str, &str)] =
     &[("nd_lent", "array_view"), ("nd_lent", "cells"), ("nd_lent", "array_view_mut")];
 
 /// Calls of these modules that are not public, which files of `rust/src` make. None has a condition.
-pub const SEEN: &[&str] = &["into_items_at", "to_list"];
+pub const SEEN: &[&str] = &["into_items_at", "into_list"];
 
 /// Calls of these modules that others see, whose condition the package checks, since no proof of its callers does: the type, the call,
 /// what is asserted, what the panic says, and what the docs say of it.

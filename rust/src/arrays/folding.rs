@@ -54,7 +54,7 @@ macro_rules! fold_items {
         /// What `collect` of std's iterators returns. The items are first listed row by row: this list becomes a `Vec` as it is, and any
         /// other collection is made of it. Panics where there is no memory for it. Not proved.
         fn collect<B: FromIterator<T>>(self) -> B {
-            self.lent.to_list().expect(crate::OUT_OF_MEMORY).into_iter().collect()
+            self.lent.into_list().expect(crate::OUT_OF_MEMORY).into_iter().collect()
         }
     };
 }

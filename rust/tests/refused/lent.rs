@@ -104,7 +104,7 @@ fn indexed(call: &Call, part: ArrayViewMut<'_, usize, IxDyn>) -> Option<String> 
     let numbers = [0; 99];
     let mut read = ArrayView::over(call.view(), &numbers).ok()?.into_indexed_iter().ok()?;
     let mut written = part.into_indexed_items().ok()?;
-    (read.by_ref().take(out).count(), written.by_ref().take(out).count());
+    assert_eq!((read.by_ref().take(out).count(), written.by_ref().take(out).count()), (out, out));
     Some(match call.name {
         "IndexedIter::try_next" => call.told(|| read.try_next().map(|next| next.map(|(index, _)| index))),
         "IndexedIterMut::try_next" => call.told(|| written.try_next().map(|next| next.map(|(index, _)| index))),

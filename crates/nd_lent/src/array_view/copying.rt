@@ -163,7 +163,7 @@ impl<T: Copy> Iter<'_, T> {
     /// Copies of the items that are left, in their order, as a list. It is allocated first, at once, and filled row by row.
     ///
     /// Errors: out of memory; never where none is left.
-    pub(crate) fn to_list(self, alloc: Global) -> Result<Vec<T>, AllocError>
+    pub(crate) fn into_list(self, alloc: Global) -> Result<Vec<T>, AllocError>
         ensures items { IfOk result (λ list. map Some list.items ≡ self.entry) }
         ensures memory { self.entry ≡ [] → IsOk result }
     {

@@ -212,7 +212,7 @@ impl<T: Copy> Iter<'_, T> {
     /// [How to read it](crate::contracts)
     /// </details>
     #[inline]
-    pub(crate) fn to_list(self) -> Result<Vec<T>, AllocError> {
+    pub(crate) fn into_list(self) -> Result<Vec<T>, AllocError> {
         let mut items = self;
         let mut list = Vec::fallible_with_capacity(items.len())?;
         while let Some(row) = items.next_row() {

@@ -13,6 +13,7 @@
     clippy::manual_map,
     clippy::needless_range_loop,
     clippy::non_canonical_clone_impl,
+    clippy::redundant_closure,
     clippy::while_let_on_iterator,
     reason = "a form that is proved with less"
 )]

@@ -4,7 +4,7 @@ use Rattle.std.proofs.lemmas.List.{length-append}
 use Rattle.nd_lent.specs.LentRow.{row_items}
 use Rattle.nd_lent.proofs.Copied.{row_copied}
 use Rattle.nd_lent.proofs.Pushed.{length-row_items}
-use Rattle.nd_lent.proofs.array_view.iterating.Iter.to_list.Goals as goal
+use Rattle.nd_lent.proofs.array_view.iterating.Iter.into_list.Goals as goal
 
 pub loop-row-smaller-in-Continue-branch-2 : goal.loop-row-smaller-in-Continue-branch-2
 loop-row-smaller-in-Continue-branch-2 g c = omega (

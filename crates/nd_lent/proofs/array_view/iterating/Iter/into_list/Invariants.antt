@@ -1,6 +1,6 @@
 -- What is copied and what is left are all, and for what is left there is room.
 use Rattle.std.proofs.Common.{◌≡◌, ◌+◌, ◌≤◌, ◌++◌, Some, length, map, vec_capacity, vec_len}
-use Rattle.nd_lent.proofs.array_view.iterating.Iter.to_list.Given as goal
+use Rattle.nd_lent.proofs.array_view.iterating.Iter.into_list.Given as goal
 
 abbrev pub invariant-loop-row : goal.invariant-loop-row
 invariant-loop-row g l = record {
