@@ -35,7 +35,20 @@ impl Eraser<'_> {
         };
         self.put(token.lead, &format!("{comment}unsafe"));
         self.is_unsafe = true;
-        Ok(Some(1))
+        match next {
+            Tree::Group(group) if self.names.is_packed() => self.reference(&group.trees),
+            _ => Ok(Some(1)),
+        }
+    }
+
+    /// What is in the braces of `unsafe`, `&*POINTER` or a slice of parts, through a `NonNull`: else rustc forgets that a reference which was
+    /// a pointer isn't null, and a loop over brackets tests each.
+    fn reference(&mut self, trees: &[Tree]) -> Result<Option<usize>, Fault> {
+        let is_mutable = trees.iter().take(2).any(|tree| tree.is("mut") || tree.is("from_raw_parts_mut"));
+        self.put(" ", "{ core::ptr::NonNull::from(");
+        self.all(trees)?;
+        self.put("", if is_mutable { ").as_mut() }" } else { ").as_ref() }" });
+        Ok(Some(2))
     }
 
     /// What all of a crate sees, in a module whose conditions keep `unsafe` sound, the crate's module sees alone: no other file of the package,

@@ -58,7 +58,7 @@ impl<'a, T> Cells<'a, T> {
         // SAFETY: the place has a mark, which the caller ensures; so it is one of the slice that was lent (`new`), and
         // no other `Cells` has its mark (`all` of `take_part`). While the result is in use this one is borrowed, so
         // nothing writes the element.
-        unsafe { &*self.first.add(place) }
+        unsafe { core::ptr::NonNull::from(&*self.first.add(place)).as_ref() }
     }
 
     /// Those that have a mark, to be read by as many as like while the right is borrowed. Takes no memory.
@@ -99,7 +99,7 @@ impl<'a, T> Cells<'a, T> {
         // SAFETY: the place has a mark, which the caller ensures; so it is one of the slice that was lent (`new`), and
         // no other `Cells` has its mark (`all` of `take_part`). While the result is in use the part is borrowed, so
         // nothing else reads or writes the element.
-        unsafe { &mut *self.first.add(place) }
+        unsafe { core::ptr::NonNull::from(&mut *self.first.add(place)).as_mut() }
     }
 
     /// The right to some of the elements, for as long as the whole is lent; the right to the others stays. Both may be
@@ -149,7 +149,7 @@ impl<'a, T> Cells<'a, T> {
         // SAFETY: each of these places has a mark, which the caller ensures, and has none afterwards (`all`, here). So
         // they are those of the slice that was lent (`new`), and no call of this `Cells` or of another reads or writes
         // them again.
-        unsafe { from_raw_parts_mut(self.first.add(start), len) }
+        unsafe { core::ptr::NonNull::from(from_raw_parts_mut(self.first.add(start), len)).as_mut() }
     }
 }
 
@@ -199,7 +199,7 @@ impl<'s, T> Reader<'s, T> {
         // SAFETY: the place has a mark, which the caller ensures; so it is one of the slice that was lent, and the
         // `Cells` that has its mark is borrowed for as long as the result is in use (`shared`). So nothing writes the
         // element.
-        unsafe { &*self.first.add(place) }
+        unsafe { core::ptr::NonNull::from(&*self.first.add(place)).as_ref() }
     }
 
     /// So many elements from a place on, as a slice.
@@ -223,7 +223,7 @@ impl<'s, T> Reader<'s, T> {
         // SAFETY: each of these places has a mark, which the caller ensures; so they are those of the slice that was
         // lent, and the `Cells` that has their marks is borrowed for as long as the result is in use (`shared`). So
         // nothing writes the elements.
-        unsafe { from_raw_parts(self.first.add(start), len) }
+        unsafe { core::ptr::NonNull::from(from_raw_parts(self.first.add(start), len)).as_ref() }
     }
 }
 
@@ -244,7 +244,7 @@ impl<'a, T, D: Lengths> ArrayViewMut<'a, T, D> {
         // SAFETY: the place has a mark, which the caller ensures; so it is one of the slice that was lent (`new`), and
         // no other `Cells` has its mark (`all` of `take_part`). While the result is in use the part is borrowed, so
         // nothing else reads or writes the element.
-        unsafe { &mut *self.cells.first.add(place) }
+        unsafe { core::ptr::NonNull::from(&mut *self.cells.first.add(place)).as_mut() }
     }
 
     /// Another view of the same items, for a shorter time. The caller ensures that each of its indices has a place to itself, which has a

@@ -24,9 +24,16 @@ fn unsafe_stays_where_it_is_told_why_it_is_sound() {
     const NO_REASON: &str = "1: `unsafe` is sound for no reason that `UNSAFE` of rust/eraser/names.rs has";
     let rows = [
         ("unsafe impl<T: Sync> Sync for Cells<'_, T> {}", "unsafe impl<T: Sync> Sync for Cells<'_, T> {}"),
-        ("fn get(&self) -> &T { unsafe { &*self.p } }", "unsafe { &*self.p } }"),
-        ("fn get(&self) { f(); unsafe { g() } } fn item_mut() { unsafe { h() } }", "unsafe { h() } }"),
-        ("fn other() { // SAFETY: as here\nunsafe { h() } }", "fn other() { // SAFETY: as here unsafe { h() } }"),
+        ("fn get(&self) -> &T { unsafe { &*self.p } }", "unsafe { core::ptr::NonNull::from( &*self.p).as_ref() } }"),
+        ("fn item_mut() { unsafe { &mut *h } }", "unsafe { core::ptr::NonNull::from( &mut *h).as_mut() } }"),
+        (
+            "fn take_slice() { unsafe { from_raw_parts_mut(p, n) } }",
+            "NonNull::from( from_raw_parts_mut(p, n)).as_mut() } }",
+        ),
+        (
+            "fn other() { // SAFETY: as here\nunsafe { from_raw_parts(p, n) } }",
+            "// SAFETY: as here unsafe { core::ptr::NonNull::from( from_raw_parts(p, n)).as_ref() } }",
+        ),
         ("fn other() { unsafe { h() } }", NO_REASON),
         ("unsafe impl Clone for Cells<'_, u8> {}", NO_REASON),
         ("unsafe fn get() {}", NO_FORM),
