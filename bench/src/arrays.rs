@@ -112,35 +112,27 @@ fn rows() -> Vec<Row> {
         rows.push(reading(named("fold"), form, by_hand::sum, by_package::fold));
         rows.push(reading(named("a[(i, j)]"), form, by_hand::index, by_package::index));
     }
-    rows.push(reading("blur by 3x3 of rows".into(), Form::Whole, by_hand::blur, by_package::blur_rows));
-    rows.push(reading("blur by windows(3, 3)".into(), Form::Whole, by_hand::blur, by_package::blur_windows));
+    rows.push(reading("blur by 3x3, rows".into(), Form::Whole, by_hand::blur, by_package::blur_rows));
+    rows.push(reading("blur by 3x3, windows".into(), Form::Whole, by_hand::blur, by_package::blur_windows));
+    rows.push(reading("blur by 3x3, into_windows".into(), Form::Whole, by_hand::blur, by_package::blur_each_window));
     let (tiles, planes) = (PICTURE * PICTURE, PICTURE * PICTURE * 3);
+    rows.push(lending("100 tiles filled, multi_slice_mut", tiles, by_hand::fill_tiles, by_package::fill_tiles));
     rows.push(lending(
-        "100 tiles of 10x10, lent and filled, beside a loop",
-        tiles,
-        by_hand::fill_tiles,
-        by_package::fill_tiles,
-    ));
-    rows.push(lending(
-        "100 tiles of 10x10, lent and filled, beside lists of rows",
+        "100 tiles filled beside lists of rows, multi_slice_mut",
         tiles,
         by_hand::lend_tiles,
         by_package::fill_tiles,
     ));
+    rows.push(lending("100 tiles filled, into_tiles", tiles, by_hand::fill_tiles, by_package::fill_each_tile));
     rows.push(lending(
-        "the same by multi_slice_move, beside lists of rows",
+        "100 tiles filled beside lists of rows, multi_slice_move",
         tiles,
         by_hand::lend_tiles,
         by_package::fill_part_muts,
     ));
+    rows.push(lending("three planes filled, multi_slice_mut", planes, by_hand::fill_planes, by_package::fill_planes));
     rows.push(lending(
-        "three planes, lent and filled, beside a loop",
-        planes,
-        by_hand::fill_planes,
-        by_package::fill_planes,
-    ));
-    rows.push(lending(
-        "three planes, lent and filled, beside lists of items",
+        "three planes filled beside lists of items, multi_slice_mut",
         planes,
         by_hand::lend_planes,
         by_package::fill_planes,

@@ -102,6 +102,16 @@ pub fn blur_windows(form: Form, items: &[u32]) -> usize {
     sum as usize
 }
 
+/// The same, where each window is an array of its own.
+#[inline(never)]
+pub fn blur_each_window(form: Form, items: &[u32]) -> usize {
+    let windows = array(form, items).into_windows(&Ix2(3, 3)).expect("windows");
+    let mean = |window: ArrayView<'_, u32, Ix2>| {
+        (0..3).flat_map(|i| (0..3).map(move |j| (i, j))).fold(0, |sum, index| wrapping(sum, &window[index])) / 9
+    };
+    windows.map(mean).fold(0u32, u32::wrapping_add) as usize
+}
+
 /// The tiles of a picture, as slices.
 fn tiles() -> impl Iterator<Item = [SliceInfoElem; 2]> {
     let starts = || (0..PICTURE).step_by(TILE);
@@ -120,6 +130,13 @@ pub fn fill_tiles(items: &mut [u8]) {
     let mut picture = picture(items);
     let tiles = picture.multi_slice_mut(slices).expect("tiles apart");
     tiles.into_iter().enumerate().for_each(|(number, mut tile)| tile.fill(number as u8));
+}
+
+/// Each tile of the whole picture, without slices that are compared.
+#[inline(never)]
+pub fn fill_each_tile(items: &mut [u8]) {
+    let tiles = picture(items).into_tiles(&Ix2(TILE, TILE)).expect("tiles");
+    tiles.enumerate().for_each(|(number, mut tile)| tile.fill(number as u8));
 }
 
 #[inline(never)]

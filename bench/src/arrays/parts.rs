@@ -134,10 +134,10 @@ fn number_items(items: &mut [u32]) {
 }
 
 pub fn rows() -> Vec<Row> {
-    let planes = ("three planes of 2000x2000 by three threads, beside raw pointers", BIG * BIG * 3, BIG * BIG * 3);
-    let lent = ("100 tiles lent by multi_slice_move, beside the comparison alone", 1, PICTURE * PICTURE);
-    let found = ("get_mut of a part, beside get", 10_000, SIDE * SIDE);
-    let iterated = ("the items of a transposed part, beside a loop", SIDE * SIDE, SIDE * SIDE);
+    let planes = ("three planes of 2000x2000 by threads beside raw pointers", BIG * BIG * 3, BIG * BIG * 3);
+    let lent = ("100 tiles lent beside their comparison, multi_slice_move", 1, PICTURE * PICTURE);
+    let found = ("get_mut of a part beside get", 10_000, SIDE * SIDE);
+    let iterated = ("items of a transposed part", SIDE * SIDE, SIDE * SIDE);
     let (slices, places) = (tiles(), indices());
     let (theirs, read_places) = (slices.clone(), places.clone());
     vec![
