@@ -9,6 +9,7 @@ mod dimensions;
 mod generic;
 mod idioms;
 mod indices;
+mod most_used;
 mod panics;
 mod slices;
 mod steps;
