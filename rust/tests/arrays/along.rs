@@ -30,6 +30,8 @@ fn rows_of_an_axis_are_mapped() {
     let array = rows_mut(&mut numbers);
     assert_eq!(array.map_axis(Axis(1), |row| row.into_iter().sum::<u8>()).unwrap().into_stored(), [3, 12]);
     assert_eq!(kind(array.map_axis(Axis(2), |_| ())), Some(OutOfBounds));
+    let cube = ArrayView::from_shape(Ix3(2, 1, 3), &NUMBERS).unwrap();
+    assert_eq!(cube.map_axis(Axis(1), |line| line[0]).unwrap(), rows(&NUMBERS));
     let none = ArrayView::from_shape(ndarray_layout::Ix2(0, 3), &NUMBERS).unwrap();
     assert_eq!(none.map_axis(Axis(0), |column| column.len()).unwrap().into_stored(), [0; 3]);
     assert!(none.map_axis(Axis(1), |_| ()).unwrap().is_empty());

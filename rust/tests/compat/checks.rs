@@ -43,6 +43,8 @@ fn the_size_of_an_element_counts() {
     assert_eq!(max_abs_offset_check_overflow::<u8, _>(&Ix1(2), &Ix1(most)), Ok(most));
     assert_eq!(fault(max_abs_offset_check_overflow::<u16, _>(&Ix1(2), &Ix1(most))), ErrorKind::Overflow);
     assert_eq!(max_abs_offset_check_overflow::<(), _>(&Ix1(2), &Ix1(most)), Ok(most));
+    assert_eq!(fault(can_index_slice(&[0_u16; 2], &Ix1(2), &Ix1(most), ReadOnly)), ErrorKind::Overflow);
+    assert_eq!(fault(can_index_slice(&[0_u8; 2], &Ix1(2), &Ix1(most), ReadOnly)), ErrorKind::OutOfBounds);
     assert_eq!(can_index_slice(&[(); 5], &Ix1(5), &Ix1(1), OwnedMutable), Ok(()));
     assert_eq!(fault(can_index_slice(&[(); 4], &Ix1(5), &Ix1(1), OwnedMutable)), ErrorKind::OutOfBounds);
 }

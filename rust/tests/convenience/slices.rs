@@ -236,17 +236,17 @@ fn a_view_of_any_count_of_axes_takes_each_slice() -> Result<(), LayoutError> {
 
 #[test]
 fn a_slice_argument_gives_its_elements() {
-    let info = s![1, .., NewAxis];
-    assert_eq!(info.len(), 3);
+    let info = s![1, .., NewAxis, NewAxis];
+    assert_eq!(info.len(), 4);
     assert_eq!(info.as_ref().first(), Some(&SliceInfoElem::Index(1)));
     assert_eq!(info.to_vec(), info.elems());
     let copy = info;
     assert_eq!(copy.elems(), info.elems());
     let bare: &[SliceInfoElem] = info.as_ref();
-    assert_eq!((SliceArg::<IxDyn>::in_ndim(bare), SliceArg::<IxDyn>::out_ndim(bare)), (2, 2));
-    assert_eq!((SliceArg::<IxDyn>::in_ndim(&bare), SliceArg::<IxDyn>::out_ndim(&bare)), (2, 2));
-    assert_eq!((SliceArg::<Ix2>::in_ndim(&&info), SliceArg::<Ix2>::out_ndim(&&info)), (2, 2));
-    assert_eq!((bare.elems().len(), SliceElems::elems(&&info).len()), (3, 3));
+    assert_eq!((SliceArg::<IxDyn>::in_ndim(bare), SliceArg::<IxDyn>::out_ndim(bare)), (2, 3));
+    assert_eq!((SliceArg::<IxDyn>::in_ndim(&bare), SliceArg::<IxDyn>::out_ndim(&bare)), (2, 3));
+    assert_eq!((SliceArg::<Ix2>::in_ndim(&&info), SliceArg::<Ix2>::out_ndim(&&info)), (2, 3));
+    assert_eq!((bare.elems().len(), SliceElems::elems(&&info).len()), (4, 4));
 }
 
 #[test]

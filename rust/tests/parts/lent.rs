@@ -55,6 +55,21 @@ fn lists_tuples_and_arrays_of_slices_are_taken() -> Result<(), LayoutError> {
 }
 
 #[test]
+fn each_part_of_a_tuple_is_that_of_its_slice() -> Result<(), LayoutError> {
+    let mut numbers = NUMBERS;
+    let mut rows = rows_mut(&mut numbers);
+    let three = rows.multi_slice_mut((s![1, 2], s![0, 1], s![1, 0]))?;
+    assert_eq!([three.0[()], three.1[()], three.2[()]], [5, 1, 3]);
+    let four = rows.multi_slice_mut((s![1, 2], s![0, 1], s![1, 0], s![0, 0]))?;
+    assert_eq!([four.0[()], four.1[()], four.2[()], four.3[()]], [5, 1, 3, 0]);
+    let five = rows.multi_slice_mut((s![1, 2], s![0, 1], s![1, 0], s![0, 0], s![1, 1]))?;
+    assert_eq!([five.0[()], five.1[()], five.2[()], five.3[()], five.4[()]], [5, 1, 3, 0, 4]);
+    let six = rows.multi_slice_mut((s![1, 2], s![0, 1], s![1, 0], s![0, 0], s![1, 1], s![0, 2]))?;
+    assert_eq!([six.0[()], six.1[()], six.2[()], six.3[()], six.4[()], six.5[()]], [5, 1, 3, 0, 4, 2]);
+    Ok(())
+}
+
+#[test]
 fn slices_that_share_an_item_or_do_not_fit_are_refused() -> Result<(), LayoutError> {
     let mut numbers = NUMBERS;
     let mut rows = rows_mut(&mut numbers);
