@@ -1,11 +1,11 @@
 //! Items by an index in brackets, and what a wrong one is told.
 
-use crate::ArrayViewMut;
 use crate::convenience::OUT_OF_MEMORY;
 use crate::nd_base::Lengths;
 use crate::nd_shape::NdIndex;
+use crate::{ArrayViewMut, Ix1, LentRow};
 use core::fmt;
-use core::ops::IndexMut;
+use core::ops::{Index, IndexMut};
 
 /// Panics with an index, and the shape that it is no index of. The index comes by value, so that a loop keeps it in registers.
 #[cold]
@@ -50,5 +50,26 @@ impl<T, D: Lengths, I: NdIndex<D>> IndexMut<I> for ArrayViewMut<'_, T, D> {
             Some(item) => item,
             None => unreachable!("an index of the shape"),
         }
+    }
+}
+
+/// The item of a coordinate of a row, to be read. Not proved; `get` is.
+///
+/// # Panics
+///
+/// Where the row has no such coordinate, with it and the length.
+///
+/// ```
+/// use ndarray_layout::*;
+///
+/// let firsts: Vec<i32> = array![[1, 2, 3], [4, 5, 6]].rows().map(|row| row[0]).collect();
+/// assert_eq!(firsts, [1, 4]);
+/// ```
+impl<T> Index<usize> for LentRow<'_, T> {
+    type Output = T;
+
+    #[track_caller]
+    fn index(&self, coordinate: usize) -> &T {
+        self.get(coordinate).unwrap_or_else(|| no_such_index(coordinate, &Ix1(self.len())))
     }
 }

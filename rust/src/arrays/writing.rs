@@ -1,6 +1,6 @@
 //! What may be written of an array of any number of axes.
 
-use super::{check_chunks, with_last};
+use super::{MultiSliceArg, check_chunks, with_last};
 use crate::convenience::OUT_OF_MEMORY;
 use crate::nd_base::{Axis, LayoutError, Lengths, ShapeError};
 use crate::nd_dim::Dimension;
@@ -253,6 +253,48 @@ macro_rules! writes {
                 Ok(self.$view()?.into_chunk_parts(axis, size)?)
             }
 
+            /// The parts that slices pick, all lent at once: for a tuple of slices a tuple of parts, for an array or a list of slices of
+            /// one type an array or a list. Afterwards this array may be used again. ndarray's `multi_slice_mut`, which panics. Not proved.
+            ///
+            /// # Errors
+            ///
+            /// That of `Strided::slice` for the first slice that doesn't fit; then `Unsupported` where two slices share an index, which
+            /// `Strided::first_intersection` names; then out of memory, which comes before both where this array has more than four axes.
+            /// The items are unchanged.
+            ///
+            /// Takes memory for a list of parts, none for a tuple, and time for each part and for the comparisons of
+            /// `first_intersection_sorted`, which takes memory for more than four slices.
+            ///
+            /// # Panics
+            ///
+            /// Where `ArrayViewMut::new` was given a view of which two indices share an item, or one is past the items.
+            ///
+            /// ```
+            /// use ndarray_layout::*;
+            ///
+            #[doc = $setup]
+            /// let (mut row, mut tile) = array.multi_slice_mut((s![0, ..], s![1.., ..2]))?;
+            /// row.fill(8);
+            /// tile[(0, 1)] = 9;
+            /// assert!(array.multi_slice_mut(vec![s![0, ..], s![..1, 0]]).is_err());
+            #[doc = $end]
+            /// assert_eq!(items, [8, 8, 8, 4, 9, 6]);
+            /// # Ok::<(), LayoutError>(())
+            /// ```
+            ///
+            /// One element is no slice of two axes, so this doesn't compile:
+            ///
+            /// ```compile_fail,E0271
+            /// use ndarray_layout::{ArrayViewMut, Ix2, LayoutError, s};
+            ///
+            /// fn clear(table: &mut ArrayViewMut<'_, u8, Ix2>) -> Result<(), LayoutError> {
+            ///     table.multi_slice_mut((s![0], s![1, ..]))?.0.fill(0);
+            ///     Ok(())
+            /// }
+            /// ```
+            pub fn multi_slice_mut<M: MultiSliceArg<D>>(&mut self, slices: M) -> Result<M::Parts<'_, T>, LayoutError> {
+                slices.lend(self.$view()?)
+            }
         }
     };
 }

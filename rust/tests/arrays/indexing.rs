@@ -49,6 +49,10 @@ fn an_index_that_is_none_is_named_with_the_shape() {
     assert_eq!(said(|| owned(texts())[(2, 0)].len()), expected);
     assert_eq!(said(|| owned(texts())[(2, 0)].push('a')), expected);
     assert_eq!(said(|| rows(&NUMBERS)[[0, 3]]), "index [0, 3] is out of bounds of the shape [2, 3]");
+    assert_eq!(
+        said(|| rows(&NUMBERS).rows().map(|row| row[3]).sum::<u8>()),
+        "index 3 is out of bounds of the shape [3]"
+    );
 }
 
 #[test]

@@ -24,7 +24,7 @@ fn arrays() -> (Array2<i32>, Array2<i32>, Vec<i32>, Array1<i32>, Array3<i32>, Ar
 
 /// Tests, each of idioms of one subject over new arrays of those names. An idiom has a form, its text, its value, and what ndarray has for
 /// it where that is another text: `same` has none; `near` has another name, another type of an argument, a `?`, a `&` or a `.view()`; `other`
-/// is another expression.
+/// is another expression. (Where its value is an array, `to_vec()?` has the items, and isn't part of it.)
 macro_rules! idioms {
     (
         $a:ident $b:ident $list:ident $one:ident $cube:ident $any:ident
@@ -160,11 +160,9 @@ idioms! {
         near a.index_axis_mut(Axis(1), 2)?.to_vec()? => [2, 5], "a.index_axis_mut(Axis(1), 2)";
         near a.view().index_axis(Axis(0), 1)?.len() => 3, "a.view().index_axis_move(Axis(0), 1)";
         same a.rows().into_iter().count() => 2;
-        near a.rows().into_iter().map(|row| row.into_array()[0]).collect::<Vec<_>>() => [0, 3],
-            "a.rows().into_iter().map(|row| row[0])";
+        same a.rows().into_iter().map(|row| row[0]).collect::<Vec<_>>() => [0, 3];
         same { let mut lens = vec![]; for row in a.rows() { lens.push(row.len()); } lens } => [3, 3];
-        near a.columns().into_iter().map(|column| column.into_array()[1]).collect::<Vec<_>>() => [3, 4, 5],
-            "a.columns().into_iter().map(|column| column[1])";
+        same a.columns().into_iter().map(|column| column[1]).collect::<Vec<_>>() => [3, 4, 5];
         same { for mut row in a.rows_mut() { row[0] = 9; } a[[1, 0]] } => 9;
         same { for mut column in a.columns_mut() { column[0] = 9; } a[[0, 2]] } => 9;
         same a.outer_iter().enumerate().last().map(|(row, items)| (row, items[0])) => Some((1, 3));
@@ -279,7 +277,7 @@ idioms! {
         other Array::from_exact_vec((3, 2), a.into_iter().collect())?[[2, 0]] => 4, "a.into_shape_with_order((3, 2))?";
         other Array::from_iter(a.iter()).len() => 6, "a.flatten()";
         same a.into_dyn().shape() => [2, 3];
-        same any.into_dimensionality::<Ix2>()?.dim().into_pattern() => (2, 3);
+        same any.into_dimensionality::<Ix2>()?.shape() => [2, 3];
         near a.view().insert_axis(Axis(0))?.shape() => [1, 2, 3], "a.view().insert_axis(Axis(0))";
         near a.view().insert_axis(Axis(2))?.shape() => [2, 3, 1], "a.insert_axis(Axis(2))";
         near a.view().index_axis(Axis(0), 0)?.to_vec()? => [0, 1, 2], "a.view().remove_axis(Axis(0))";
@@ -307,7 +305,7 @@ idioms! {
         same format!("{:.1}", array![0.25, 0.5]) => "[0.2, 0.5]";
         same format!("{:02x}", array![10, 11]) => "[0a, 0b]";
         same HashSet::from([a]).contains(&b) => true;
-        same Array1::<i32>::default().len() => 0;
+        same <Array1<i32> as Default>::default().len() => 0;
     }
 
     fn numbers_are_computed {
