@@ -109,7 +109,7 @@ pub(crate) struct Eraser<'a> {
 type Form<'a> = fn(&mut Eraser<'a>, &[Tree]) -> Result<Option<usize>, Fault>;
 
 impl<'a> Eraser<'a> {
-    const FORMS: [Form<'a>; 34] = [
+    const FORMS: [Form<'a>; 33] = [
         Self::doc,
         Self::clause,
         Self::ghost,
@@ -128,7 +128,6 @@ impl<'a> Eraser<'a> {
         Self::drop_bound,
         Self::clone_method,
         Self::formatter,
-        Self::opened,
         Self::lending,
         Self::folded,
         Self::index_method,

@@ -1,6 +1,7 @@
 //! Makes plain Rust of the sources in `crates/`: the modules of the package, of its programs, of its tests and of the exports
 //! for C, a file for each source, which `rust/erase` formats.
 
+mod added;
 mod bounds;
 mod code;
 mod differences;
@@ -13,7 +14,6 @@ mod library;
 mod modules;
 mod names;
 mod older;
-mod opened;
 mod paragraphs;
 mod proofs;
 mod tokens;

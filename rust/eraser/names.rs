@@ -240,9 +240,6 @@ pub const LEFT_OUT: &[(&str, &str, &[&str])] = &[
     ("example_callers", "wholes", &["fill_all", "set_first", "set_halves", "set_two", "swap_in_row"]),
 ];
 
-/// Structs that files of `rust/src` make and take apart: all of the package sees their fields.
-pub const OPENED: &[&str] = &["Indices", "Items", "OwnedArray", "Strided"];
-
 /// Types of which the package derives more than their sources do, where no list has to be copied.
 pub const DERIVED: &[(&str, &[&str])] = &[
     ("CanIndexCheckMode", &["Debug", "Eq"]),

@@ -1,4 +1,5 @@
 pub mod PickedView
 pub mod EvenRows
+pub mod Left
 pub mod MovedRows
 pub mod Written

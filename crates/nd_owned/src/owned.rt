@@ -20,6 +20,7 @@ ghost use Rattle.nd_owned.specs.private.Written.{HasWritten};
 
 mod making;
 mod mapping;
+mod taking;
 mod tiles;
 
 use crate::even_rows::even_rows_of;

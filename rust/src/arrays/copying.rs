@@ -1,11 +1,9 @@
 //! New lists and arrays that are made of the items of an array.
 
 use crate::convenience::OUT_OF_MEMORY;
-use crate::memory::{AllocError, FallibleSlice, FallibleVec};
-use crate::nd_base::{LayoutError, Lengths, Order};
-use crate::nd_dim::product;
+use crate::memory::{AllocError, FallibleSlice};
+use crate::nd_base::{LayoutError, Lengths};
 use crate::nd_shape::{StrideShape, Strides};
-use crate::ndarray_layout::Strided;
 use crate::{ArrayView, ArrayViewMut, OwnedArray};
 use alloc::vec::{self, Vec};
 
@@ -111,21 +109,6 @@ copies!(ArrayViewMut ['a,] self => &self.try_view()?,
 copies!(OwnedArray [] self => &self.try_view()?,
     "let array = OwnedArray::from_shape_vec(Ix2(2, 3), vec![1, 2, 3, 4, 5, 6])?;");
 
-/// The items of a view in row-major order, out of the list of those that are stored. Errors: out of memory.
-fn picked<T, D: Lengths>(view: &Strided<D>, items: Vec<T>) -> Result<Vec<T>, AllocError> {
-    let mut items = items;
-    if let Some(places) = view.stretch(Order::RowMajor) {
-        items.truncate(places.end);
-        items.drain(..places.start);
-        return Ok(items);
-    }
-    let mut left = Vec::fallible_with_capacity(items.len())?;
-    left.extend(items.into_iter().map(Some));
-    let mut picked = Vec::fallible_with_capacity(product(view.dim().slice()))?;
-    picked.extend(view.iter_places(Order::RowMajor).filter_map(|place| left.get_mut(place)?.take()));
-    Ok(picked)
-}
-
 /// Hands out the items in row-major order; spare ones are dropped. Where they aren't stored in this order, they are moved to another
 /// list first. Panics where an allocation fails. Not proved.
 ///
@@ -143,7 +126,6 @@ impl<T, D: Lengths> IntoIterator for OwnedArray<T, D> {
     type IntoIter = vec::IntoIter<T>;
 
     fn into_iter(self) -> vec::IntoIter<T> {
-        let OwnedArray { items, view } = self;
-        picked(&view, items).expect(OUT_OF_MEMORY).into_iter()
+        self.into_list().expect(OUT_OF_MEMORY).into_iter()
     }
 }

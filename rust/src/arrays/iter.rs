@@ -16,7 +16,7 @@ impl<'a, T: Copy> Iter<'a, T> {
     #[inline]
     #[must_use]
     pub fn copied(self) -> Items<'a, T> {
-        Items { lent: self }
+        Items::new(self)
     }
 }
 

@@ -15,7 +15,7 @@ pub(crate) fn has_items<D: Lengths>(view: &Strided<D>, len: usize) -> bool {
     let (shape, strides) = (view.dim().slice(), view.strides().slice());
     let highest = || {
         let span = span_of_lengths(1, shape, strides).ok()?;
-        view.start.checked_sub(low_span(shape, strides))?.checked_add(span)
+        view.start().checked_sub(low_span(shape, strides))?.checked_add(span)
     };
     shape.contains(&0) || highest().is_some_and(|highest| highest < len)
 }
@@ -37,7 +37,7 @@ fn lies_in_order<D: Lengths>(view: &Strided<D>, len: usize) -> bool {
         _ if *stride < past => None,
         _ => len.checked_sub(1)?.checked_mul(*stride)?.checked_add(past),
     });
-    let end = end.and_then(|end| end.checked_add(view.start));
+    let end = end.and_then(|end| end.checked_add(view.start()));
     shape.len() == strides.len() && end.is_some_and(|end| end <= len.min(isize::MAX as usize))
 }
 

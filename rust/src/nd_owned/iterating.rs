@@ -9,7 +9,39 @@ use core::iter::FusedIterator;
 
 /// Copies of the items of an array that are still to come, in row-major order of their indices.
 pub struct Items<'a, T: Copy> {
-    pub(crate) lent: Iter<'a, T>,
+    lent: Iter<'a, T>,
+}
+
+impl<'a, T: Copy> Items<'a, T> {
+    /// An iterator over copies of the items that another one lends.
+    ///
+    /// Of one over 7 8 9 it gives 7 8 9. std's `copied`, as a type with a name.
+    ///
+    /// # Examples
+    ///
+    /// ```
+    /// use ndarray_layout::{Items, Iter, Ix1, LayoutError, OwnedArray};
+    ///
+    /// # fn main() -> Result<(), LayoutError> {
+    /// let array = OwnedArray::from_shape_vec(Ix1(3), vec![7, 8, 9])?;
+    /// let lent = Iter::new(array.strided(), array.stored());
+    /// assert_eq!(Items::new(lent).collect::<Vec<_>>(), [7, 8, 9]);
+    /// # Ok(())
+    /// # }
+    /// ```
+    ///
+    /// <details><summary>Contract (proved)</summary>
+    ///
+    /// ```text
+    /// ensures result ≡ lent.entry
+    /// ```
+    /// [How to read it](crate::contracts)
+    /// </details>
+    #[must_use]
+    #[inline]
+    pub fn new(lent: Iter<'a, T>) -> Self {
+        Items { lent }
+    }
 }
 
 impl<T: Copy> Iterator for Items<'_, T> {
@@ -79,6 +111,6 @@ impl<T: Copy, D: Lengths> OwnedArray<T, D> {
     #[inline]
     #[must_use]
     pub fn iter(&self) -> Items<'_, T> {
-        Items { lent: Iter::new(self.strided(), self.stored()) }
+        Items::new(Iter::new(self.strided(), self.stored()))
     }
 }

@@ -5,6 +5,7 @@ use crate::memory::prelude::Vec;
 
 mod making;
 mod mapping;
+mod taking;
 mod tiles;
 
 use crate::memory::AllocError;
@@ -23,8 +24,8 @@ use crate::ndarray_layout::{
 ///
 /// In the examples `a` is `[2]` with the stride `[-1]` over 7 8 9: (0) is 8, (1) is 7, and 9 is spare.
 pub struct OwnedArray<T, D: Lengths> {
-    pub(crate) items: Vec<T>,
-    pub(crate) view: Strided<D>,
+    items: Vec<T>,
+    view: Strided<D>,
 }
 
 impl<T: Sized, D: Lengths> OwnedArray<T, D> {

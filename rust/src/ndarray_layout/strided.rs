@@ -50,7 +50,7 @@ pub use rows::{Row, Rows};
 /// `isize::MAX`. The layout of ndarray's `ArrayView`.
 #[derive(Clone, PartialEq, Eq)]
 pub struct Strided<D: Lengths> {
-    pub(crate) start: usize,
-    pub(crate) dim: D,
-    pub(crate) strides: D,
+    start: usize,
+    dim: D,
+    strides: D,
 }

@@ -4,7 +4,8 @@ use crate::layouts::{Layout, rounds};
 use crate::numbers::Numbers;
 use crate::{NUMBERS, kind, of_count, owned, rows, rows_mut, texts};
 use ndarray_layout::ErrorKind::IncompatibleShape;
-use ndarray_layout::{ArrayView, Axis, Ix1, Ix2, IxDyn, LayoutError, OwnedArray, StrideShape, Strides};
+use ndarray_layout::{ArrayView, Axis, Ix1, Ix2, IxDyn, LayoutError, Order, OwnedArray, StrideShape, Strides};
+use std::rc::Rc;
 
 #[test]
 fn an_array_is_lent_again_in_a_loop() -> Result<(), LayoutError> {
@@ -167,4 +168,19 @@ fn items_that_are_written_and_compared_beside_others_are_the_models() {
             assert!(!layout.array(&items).eq(&source) && !source.eq(&layout.array(&items)), "{layout:?}");
         }
     });
+}
+
+#[test]
+fn a_list_of_the_items_is_row_major_and_has_no_spare_one() {
+    for strides in [Strides::C, Strides::F] {
+        let items: Vec<Rc<usize>> = (0..122).map(Rc::new).collect();
+        let shape = StrideShape { dim: IxDyn(&[2, 3, 1, 5, 4, 1]), strides };
+        let array = OwnedArray::from_shape_vec(shape, items.clone());
+        let array = array.unwrap_or_else(|_| panic!("120 items and two spare ones"));
+        let places = array.strided().places(Order::RowMajor).unwrap();
+        let list = array.into_list().unwrap();
+        assert!(list.iter().map(|item| **item).eq(places));
+        let owners = |place| if place < 120 { 2 } else { 1 };
+        assert!(items.iter().map(Rc::strong_count).eq((0..122).map(owners)));
+    }
 }

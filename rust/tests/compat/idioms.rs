@@ -151,7 +151,7 @@ fn each_row_of_the_guide_is_compiled_here() {
     let (guide, tests) = (include_str!("../../GUIDE.md"), [include_str!("idioms.rs"), include_str!("most_used.rs")]);
     let (_, table) = guide.split_once("| ndarray | here |\n|---|---|\n").expect("the table");
     let rows: Vec<&str> = table.lines().take_while(|line| line.starts_with("| ")).collect();
-    assert_eq!(rows.len(), 81);
+    assert_eq!(rows.len(), 82);
     for row in rows {
         let (theirs, here) = row.trim_matches(['|', ' ']).split_once(" | ").expect("two cells");
         let compiled = if here.starts_with("the same") { codes(theirs) } else { codes(here) };

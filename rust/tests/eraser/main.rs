@@ -5,6 +5,8 @@ mod attributes;
 mod documented;
 mod unsafe_code;
 
+#[path = "../../eraser/added.rs"]
+mod added;
 #[path = "../../eraser/bounds.rs"]
 mod bounds;
 #[path = "../../eraser/code.rs"]
@@ -27,8 +29,6 @@ mod library;
 mod modules;
 #[path = "../../eraser/names.rs"]
 mod names;
-#[path = "../../eraser/opened.rs"]
-mod opened;
 #[path = "../../eraser/older.rs"]
 mod older;
 #[path = "../../eraser/paragraphs.rs"]
@@ -168,12 +168,9 @@ fn a_whole_becomes_the_call_that_lends_it() {
 fn what_the_package_adds_is_made_of_a_source() {
     const ROWS: &[(&str, &str)] = &[
         (
-            "pub struct Items<'a, T> where T: Eq { /// A.\n a: &'a [T], b: Rest<'a, T>, pub c: u8, ghost d: { 1 }, }",
-            "pub struct Items<'a, T> where T: Eq { /// A. pub(crate) a: &'a [T], pub(crate) b: Rest<'a, T>, pub c: u8, }",
+            "pub struct Other<'a, T> { /// A.\n a: &'a [T], ghost d: { 1 }, }",
+            "pub struct Other<'a, T> { /// A. a: &'a [T], }",
         ),
-        ("struct Strided { len: usize }", "pub(crate) struct Strided { pub(crate) len: usize }"),
-        ("pub(crate) struct Strided {}", "pub(crate) struct Strided {}"),
-        ("struct Other { len: usize }", "struct Other { len: usize }"),
         (
             "pub struct ViewIter<'a, T, D: A<B>> { // It.\n rest: Rest<'a, T, D>, to: usize, }",
             "pub struct ViewIter<'a, T, D: A<B>> { // It. rest: Rest<'a, T, D>, to: usize, } \

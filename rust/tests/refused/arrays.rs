@@ -23,6 +23,7 @@ pub fn answer(call: &Call) -> Option<String> {
         }
         "OwnedArray::try_view" => call.told(|| array.try_view()),
         "OwnedArray::try_view_mut" => call.told(|| array.try_view_mut()),
+        "OwnedArray::into_list" => call.told(|| array.into_list()),
         "OwnedArray::into_dimensionality" => call.told(|| array.into_dimensionality::<IxDyn>()),
         "ArrayView::map_to_vec" => {
             let lent = array.try_view().ok()?;

@@ -9,7 +9,7 @@ use crate::nd_shape::indexes::indices_iter::IndicesIter;
 /// All indices of a shape, over which a `for` loop iterates in row-major order. ndarray's `Indices`.
 #[derive(Debug)]
 pub struct Indices<D: Lengths> {
-    pub(crate) dim: D,
+    dim: D,
 }
 
 impl<D: Lengths> Indices<D> {

@@ -16,7 +16,7 @@ new-requires g c =
 
 pub returns-clause-count : goal.returns-clause-count
 returns-clause-count g c =
-    ap length c.new.ensures
+    ap length (c.new-2.ensures ∙ c.new.ensures)
     ∙ length-map (view_places RowMajor c.strided.result.now) (item_at_place c.stored.result.now)
     ∙ ap (λ view. length (view_places RowMajor view)) c.strided.ensures.view
     ∙ length-view_places RowMajor c.args.self.now.view

@@ -1,33 +1,14 @@
-//! What the package adds to a source: its own files see fields, iterators are copied and fold by rows, and it is said which index is none.
+//! What the package adds to a source: iterators are copied and fold by rows, and it is said which index is none.
 
 use crate::docs::Contract;
 use crate::erase::Eraser;
-use crate::names::{FOLDED, LENDING, OPENED, POINTERS};
-use crate::tokens::{Fault, Group, Kind, Nesting, Token, Tree, begins_with, length_of_generics, text_of};
+use crate::names::{FOLDED, LENDING, POINTERS};
+use crate::tokens::{Fault, Group, Nesting, Tree, begins_with, length_of_generics, text_of};
 
 /// The body of an `index` that panics where there is no such item.
 const UNWRAPPED: &str = "self.get(&index).unwrap()";
 
 impl Eraser<'_> {
-    /// A struct of the list `OPENED` has fields that all of the package sees.
-    pub(crate) fn opened(&mut self, trees: &[Tree]) -> Result<Option<usize>, Fault> {
-        let [word, name, ..] = trees else {
-            return Ok(None);
-        };
-        if !word.is("struct") || !self.names.is_packed() || !OPENED.contains(&name.first().text) {
-            return Ok(None);
-        }
-        let Some((at, body)) = body_of(trees) else {
-            return Ok(None);
-        };
-        let is_seen = ["pub", "pub(crate)"].iter().any(|word| self.out.trim_end().ends_with(word));
-        self.put(word.first().lead, if is_seen { "struct" } else { "pub(crate) struct" });
-        self.all(&trees[1..at])?;
-        let fields = Group { open: body.open, trees: seen(&body.trees), close: body.close };
-        self.all(&[Tree::Group(fields)])?;
-        Ok(Some(at + 1))
-    }
-
     /// A struct of the list `LENDING` gets a `Clone` that asks nothing of the items which it lends, as one that is derived would.
     pub(crate) fn lending(&mut self, trees: &[Tree]) -> Result<Option<usize>, Fault> {
         let [word, name, ..] = trees else {
@@ -114,27 +95,4 @@ fn names_in<'a>(generics: &[Tree<'a>]) -> Vec<&'a str> {
 fn fields_of<'a>(fields: &[Tree<'a>]) -> Vec<&'a str> {
     let named = fields.windows(2).filter(|two| two[1].is(":") && two[0].word().is_some());
     named.map(|two| two[0].first().text).collect()
-}
-
-/// Fields with `pub(crate)` before each that has a name and isn't `pub` yet.
-fn seen<'a>(fields: &[Tree<'a>]) -> Vec<Tree<'a>> {
-    let mut nesting = Nesting::default();
-    let mut seen = Vec::new();
-    let mut is_first = true;
-    for (at, tree) in fields.iter().enumerate() {
-        let is_nested = nesting.after(tree) > 0;
-        let is_doc = tree.first().kind == Kind::Doc;
-        if is_first && !is_doc {
-            let Token { lead, line, .. } = *tree.first();
-            if fields.get(at + 1).is_some_and(|next| next.is(":")) {
-                seen.push(Tree::Leaf(Token { kind: Kind::Word, lead, text: "pub(crate) ", line }));
-                seen.push(Tree::Leaf(Token { lead: "", ..*tree.first() }));
-                is_first = false;
-                continue;
-            }
-        }
-        seen.push(tree.clone());
-        is_first = is_doc && is_first || tree.is(",") && !is_nested;
-    }
-    seen
 }
