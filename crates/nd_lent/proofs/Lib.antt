@@ -1,4 +1,5 @@
 pub mod AlongAxis
+pub mod AxisLast
 pub mod Backwards
 pub mod BlocksOf
 pub mod Between

@@ -2,6 +2,7 @@ pub mod AlongAxis
 pub mod AnyOrder
 pub mod ArrayOfStep
 pub mod ArrayView
+pub mod AxisLast
 pub mod Backwards
 pub mod Blocks
 pub mod Cells

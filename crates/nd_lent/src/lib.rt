@@ -3,6 +3,7 @@
 
 pub(crate) mod array_view;
 mod array_view_mut;
+mod axis_last;
 mod cells;
 mod indexing;
 pub(crate) mod nearest;

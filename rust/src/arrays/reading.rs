@@ -6,19 +6,6 @@ use crate::nd_base::{Axis, LayoutError, Lengths, ShapeError};
 use crate::nd_dim::Dimension;
 use crate::{ArrayView, ArrayViewMut, AxisChunksIter, IndexedIter, IntoRows, OwnedArray};
 
-/// The view or the array with one of its axes after all others.
-macro_rules! with_last {
-    ($array:expr, $axis:expr) => {{
-        let (mut array, axis) = ($array, $axis);
-        array.swap_axes(axis, axis)?;
-        for after in axis.index() + 1..array.ndim() {
-            array.swap_axes(Axis(after - 1), Axis(after))?;
-        }
-        array
-    }};
-}
-pub(super) use with_last;
-
 /// The array with its axes turned and sorted, so that none has a stride below 0 or below that of the next one.
 macro_rules! in_memory_order {
     ($array:expr) => {{
@@ -165,7 +152,7 @@ macro_rules! reads {
             /// # Ok::<(), LayoutError>(())
             /// ```
             pub fn lanes(&self, axis: Axis) -> Result<IntoRows<$lent, T, D>, ShapeError> {
-                Ok(with_last!(self.view(), axis).into_rows())
+                self.view().into_lanes(axis)
             }
 
             /// An iterator over chunks of so many coordinates of an axis; the last may have fewer. ndarray's `axis_chunks_iter`.

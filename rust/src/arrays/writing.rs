@@ -1,6 +1,6 @@
 //! What may be written of an array of any number of axes.
 
-use super::{MultiSliceArg, check_chunks, with_last};
+use super::{MultiSliceArg, check_chunks};
 use crate::convenience::OUT_OF_MEMORY;
 use crate::nd_base::{Axis, LayoutError, Lengths, ShapeError};
 use crate::nd_dim::Dimension;
@@ -221,7 +221,7 @@ macro_rules! writes {
             /// # Ok::<(), LayoutError>(())
             /// ```
             pub fn lanes_mut(&mut self, axis: Axis) -> Result<LanesMut<'_, T, D>, ShapeError> {
-                Ok(with_last!(self.view_mut(), axis).into_rows())
+                self.view_mut().into_lanes(axis)
             }
 
             /// An iterator over chunks of so many coordinates of an axis, from both ends, each lent to be written, whatever the

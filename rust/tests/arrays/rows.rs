@@ -2,7 +2,7 @@
 
 use crate::{NUMBERS, kind, owned, rows, rows_mut, texts};
 use ndarray_layout::ErrorKind::OutOfBounds;
-use ndarray_layout::{Axis, LentRow, s};
+use ndarray_layout::{ArrayView, ArrayViewMut, Axis, Ix3, IxDyn, LentRow, s};
 
 #[test]
 fn a_row_and_a_column_are_lent() {
@@ -73,4 +73,34 @@ fn rows_that_interleave_are_lent() {
         row.iter_mut().for_each(|text| text.push_str(letter));
     }
     assert_eq!(texts, ["0b", "1b", "2b", "3xa", "4ya", "5za", "6"]);
+}
+
+#[test]
+fn lanes_of_each_axis_come_in_the_order_of_the_others() {
+    let mut numbers: Vec<usize> = (0..24).collect();
+    let array = ArrayView::from_shape((2, 3, 4), &numbers).unwrap();
+    let lanes = |axis| array.view().into_lanes(Axis(axis)).unwrap().map(items);
+    assert!(lanes(0).eq((0..12).map(|first| vec![first, first + 12])));
+    assert!(lanes(1).eq([0, 1, 2, 3, 12, 13, 14, 15].map(|first| vec![first, first + 4, first + 8])));
+    assert!(lanes(2).eq(numbers.chunks(4)));
+    assert_eq!(kind(array.view().into_lanes(Axis(3))), Some(OutOfBounds));
+
+    let array = ArrayView::from_shape(IxDyn(&[2, 1, 3, 2, 2]), &numbers).unwrap();
+    let firsts = [0, 1, 2, 3, 12, 13, 14, 15];
+    assert!(array.lanes(Axis(2)).unwrap().map(items).eq(firsts.map(|first| vec![first, first + 4, first + 8])));
+    assert_eq!((array.lanes(Axis(1)).unwrap().len(), kind(array.lanes(Axis(5)))), (24, Some(OutOfBounds)));
+
+    let mut array = ArrayViewMut::from_shape((2, 3, 4), &mut numbers).unwrap();
+    array.view_mut().into_lanes(Axis(1)).unwrap().for_each(|mut lane| lane[2] = lane[0]);
+    assert!(array.rows().map(items).skip(2).step_by(3).flatten().eq(firsts));
+    assert_eq!(kind(array.into_lanes(Axis(3))), Some(OutOfBounds));
+}
+
+#[test]
+fn an_axis_without_coordinates_has_no_lanes() {
+    let mut none = [0u8; 0];
+    let array = ArrayView::from_shape(Ix3(2, 0, 3), &none).unwrap();
+    assert_eq!([0, 1, 2].map(|axis| array.lanes(Axis(axis)).unwrap().count()), [0; 3]);
+    let mut array = ArrayViewMut::from_shape(Ix3(2, 0, 3), &mut none).unwrap();
+    assert_eq!([0, 1, 2].map(|axis| array.lanes_mut(Axis(axis)).unwrap().count()), [0; 3]);
 }

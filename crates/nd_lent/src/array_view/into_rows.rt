@@ -2,16 +2,20 @@
 ghost use Rattle.std.specs.Iterator.{UpTo, YieldsFirst, YieldsLast, item_count};
 ghost use Rattle.std.specs.Iterator.Runs.{YieldsInOrder};
 ghost use Rattle.std.specs.Iterator.SizeHint.{IsWithinCount};
-ghost use Rattle.std.specs.Prelude.{◌≡◌, ◌-◌, IfSome, List, Some, drop, length, map, take};
+ghost use Rattle.std.specs.Prelude.{◌≡◌, ◌-◌, IfOk, IfSome, List, OnOk, Some, drop, length, map, take};
+ghost use Rattle.std.specs.Result.{result_err};
 ghost use Rattle.ndarray_layout.specs.declared.Order.TheVariants.{RowMajor};
+ghost use Rattle.ndarray_layout.specs.InvertedView.{invert_fault};
 ghost use Rattle.ndarray_layout.specs.Rows.{view_rows};
 ghost use Rattle.ndarray_layout.specs.View.{view_places};
+ghost use Rattle.nd_lent.specs.AxisLast.{axis_last_of};
 ghost use Rattle.nd_lent.specs.Items.{item_at_place};
 ghost use Rattle.nd_lent.specs.LentRow.{RowValue, row_of, rows_items};
 
 use crate::array_view::{ArrayView, LentRow};
+use crate::axis_last::with_axis_last;
 use crate::cells::Reader;
-use ndarray_layout::{Lengths, Order, StridedRows};
+use ndarray_layout::{Axis, Lengths, Order, ShapeError, StridedRows};
 use std::iter::FusedIterator;
 use std::marker::Model;
 
@@ -125,5 +129,30 @@ impl<'a, T, D: Lengths> ArrayView<'a, T, D> {
             reader,
             rows: view.into_rows(Order::RowMajor),
         }
+    }
+
+    /// An iterator over the rows along an axis, in row-major order of the other coordinates, from both ends, each lent for as long as
+    /// the data is. It ends the array.
+    ///
+    /// # Errors
+    ///
+    /// `OutOfBounds` where there is no such axis.
+    ///
+    /// Takes no memory, and time in proportion to the count of axes. A row takes the time of its places (`Strided::into_rows`).
+    ///
+    /// Axis 0 of `[2,2]` over 5 6 7 8: the rows 5 7 and 6 8. ndarray's `lanes`.
+    pub fn into_lanes(self, axis: Axis) -> Result<IntoRows<'a, T, D>, ShapeError>
+        ensures fault { result_err result ≡ invert_fault self.entry.view.shape axis.0 }
+        ensures rows { IfOk result (λ rows. rows ≡ map (row_of self.entry.items)
+            (view_rows RowMajor (axis_last_of axis.0 self.entry.view))) }
+        ensures items { IfOk result (λ rows. rows_items rows
+            ≡ map (item_at_place self.entry.items)
+            (view_places RowMajor (axis_last_of axis.0 self.entry.view))) }
+        ensures in_order { OnOk result (YieldsInOrder
+            (YieldsFirst (λ (left : List (RowValue T)). left)) (λ left. left)) }
+    {
+        let ArrayView { reader, view } = self;
+        let view = with_axis_last(view, axis)?;
+        Ok(ArrayView::of_reader(reader, view).into_rows())
     }
 }

@@ -1,14 +1,18 @@
 //! The rows of a part one after another, each a part of its own, without a list of them.
 ghost use Rattle.std.specs.Iterator.{UpTo, YieldsFirstBy, YieldsLastBy, item_count};
 ghost use Rattle.std.specs.Iterator.SizeHint.{IsWithinCount};
-ghost use Rattle.std.specs.Prelude.{◌≡◌, ◌-◌, IfSome, Some, drop, length, map, take};
+ghost use Rattle.std.specs.Prelude.{◌≡◌, ◌-◌, IfOk, IfSome, Some, drop, length, map, take};
+ghost use Rattle.std.specs.Result.{result_err};
 ghost use Rattle.ndarray_layout.specs.declared.Order.TheVariants.{RowMajor};
+ghost use Rattle.ndarray_layout.specs.InvertedView.{invert_fault};
 ghost use Rattle.ndarray_layout.specs.Rows.{view_rows};
+ghost use Rattle.nd_lent.specs.AxisLast.{axis_last_of};
 ghost use Rattle.nd_lent.specs.Own.{OwnsRows, OwnsRows-prop};
 
 use crate::array_view_mut::ArrayViewMut;
+use crate::axis_last::with_axis_last;
 use crate::cells::Cells;
-use ndarray_layout::{Ix1, Lengths, Order, Strided};
+use ndarray_layout::{Axis, Ix1, Lengths, Order, ShapeError, Strided};
 use std::iter::FusedIterator;
 
 /// The rows of a part that are still to come, along its last axis, in row-major order, from both ends, each a part of its own.
@@ -133,5 +137,28 @@ impl<'a, T: Drop, D: Lengths> ArrayViewMut<'a, T, D> {
             begun: 0,
             end,
         }
+    }
+
+    /// An iterator over the rows along an axis, in row-major order of the other coordinates, from both ends, each a part of its own, as
+    /// those of `into_rows` are. It ends the part.
+    ///
+    /// # Errors
+    ///
+    /// `OutOfBounds` where there is no such axis.
+    ///
+    /// Takes no memory, and time in proportion to the count of axes. A row takes the time of `Strided::nth_row`.
+    ///
+    /// Axis 0 of `[2,2]` over 5 6 7 8: the rows 5 7 and 6 8. ndarray's `lanes_mut`.
+    pub fn into_lanes(self, axis: Axis) -> Result<LanesMut<'a, T, D>, ShapeError>
+        ensures fault { result_err result ≡
+            invert_fault (array_of self.entry).view.shape axis.0 }
+        ensures rows { IfOk result (λ lanes. rows_left lanes
+            ≡ map (row_array (array_of self.entry).items)
+            (view_rows RowMajor (axis_last_of axis.0 (array_of self.entry).view))) }
+        ensures same_right { IfOk result (λ lanes. lanes.cells.name ≡ self.entry.cells.name) }
+    {
+        let ArrayViewMut { cells, view } = self;
+        let view = with_axis_last(view, axis)?;
+        Ok(ArrayViewMut::of_cells(cells, view).into_rows())
     }
 }

@@ -1,9 +1,11 @@
 // Made by `rust/erase` of `crates/nd_lent/src/array_view/into_rows.rt`: edit that.
 //! The rows of an array one after another, lent for as long as the data is: the iterator has the view.
 
+use crate::memory::prelude::Vec;
 use crate::nd_lent::array_view::{ArrayView, LentRow};
+use crate::nd_lent::axis_last::with_axis_last;
 use crate::nd_lent::cells::Reader;
-use crate::ndarray_layout::{Lengths, Order, StridedRows};
+use crate::ndarray_layout::{Axis, Lengths, Order, ShapeError, StridedRows};
 use core::iter::FusedIterator;
 
 /// The rows of an array that are still to come, in row-major order, from both ends, each lent for as long as the data
@@ -150,5 +152,50 @@ impl<'a, T, D: Lengths> ArrayView<'a, T, D> {
     pub fn into_rows(self) -> IntoRows<'a, T, D> {
         let ArrayView { reader, view } = self;
         IntoRows { reader, rows: view.into_rows(Order::RowMajor) }
+    }
+
+    /// An iterator over the rows along an axis, in row-major order of the other coordinates, from both ends, each lent for as long as
+    /// the data is. It ends the array.
+    ///
+    /// Takes no memory, and time in proportion to the count of axes. A row takes the time of its places (`Strided::into_rows`).
+    ///
+    /// Axis 0 of `[2,2]` over 5 6 7 8: the rows 5 7 and 6 8. ndarray's `lanes`.
+    ///
+    /// # Errors
+    ///
+    /// `OutOfBounds` where there is no such axis.
+    ///
+    /// # Examples
+    ///
+    /// ```
+    /// use ndarray_layout::{ArrayView, Axis, ErrorKind, Ix2, LayoutError};
+    ///
+    /// # fn main() -> Result<(), LayoutError> {
+    /// let table = ArrayView::from_shape(Ix2(2, 2), &[5, 6, 7, 8])?;
+    /// let columns = table.duplicate()?.into_lanes(Axis(0))?;
+    /// assert_eq!(columns.map(|column| column.into_iter().sum::<i32>()).collect::<Vec<_>>(), [12, 14]);
+    /// assert_eq!(table.into_lanes(Axis(2)).err().map(|error| error.kind()), Some(ErrorKind::OutOfBounds));
+    /// # Ok(())
+    /// # }
+    /// ```
+    ///
+    /// <details><summary>Contract (proved)</summary>
+    ///
+    /// ```text
+    /// ensures fault: result_err result ≡ invert_fault self.entry.view.shape axis.0
+    /// ensures rows: IfOk result (λ rows. rows ≡ map (row_of self.entry.items)
+    ///     (view_rows RowMajor (axis_last_of axis.0 self.entry.view)))
+    /// ensures items: IfOk result (λ rows. rows_items rows
+    ///     ≡ map (item_at_place self.entry.items)
+    ///     (view_places RowMajor (axis_last_of axis.0 self.entry.view)))
+    /// ensures in_order: OnOk result (YieldsInOrder (YieldsFirst (λ (left : List (RowValue T)). left)) (λ left. left))
+    /// ```
+    /// [How to read it](crate::contracts)
+    /// </details>
+    #[inline]
+    pub fn into_lanes(self, axis: Axis) -> Result<IntoRows<'a, T, D>, ShapeError> {
+        let ArrayView { reader, view } = self;
+        let view = with_axis_last(view, axis)?;
+        Ok(ArrayView::of_reader(reader, view).into_rows())
     }
 }

@@ -2,8 +2,9 @@
 //! The rows of a part one after another, each a part of its own, without a list of them.
 
 use crate::nd_lent::array_view_mut::ArrayViewMut;
+use crate::nd_lent::axis_last::with_axis_last;
 use crate::nd_lent::cells::Cells;
-use crate::ndarray_layout::{Ix1, Lengths, Order, Strided};
+use crate::ndarray_layout::{Axis, Ix1, Lengths, Order, ShapeError, Strided};
 use core::iter::FusedIterator;
 
 /// The rows of a part that are still to come, along its last axis, in row-major order, from both ends, each a part of its own.
@@ -143,5 +144,49 @@ impl<'a, T: Sized, D: Lengths> ArrayViewMut<'a, T, D> {
         let ArrayViewMut { cells, view } = self;
         let end = view.rows(Order::RowMajor).len();
         LanesMut { cells, view, begun: 0, end }
+    }
+
+    /// An iterator over the rows along an axis, in row-major order of the other coordinates, from both ends, each a part of its own, as
+    /// those of `into_rows` are. It ends the part.
+    ///
+    /// Takes no memory, and time in proportion to the count of axes. A row takes the time of `Strided::nth_row`.
+    ///
+    /// Axis 0 of `[2,2]` over 5 6 7 8: the rows 5 7 and 6 8. ndarray's `lanes_mut`.
+    ///
+    /// # Errors
+    ///
+    /// `OutOfBounds` where there is no such axis.
+    ///
+    /// # Examples
+    ///
+    /// ```
+    /// use ndarray_layout::{ArrayViewMut, Axis, Ix2, LayoutError};
+    ///
+    /// # fn main() -> Result<(), LayoutError> {
+    /// let mut items = [5, 6, 7, 8];
+    /// let columns = ArrayViewMut::from_shape(Ix2(2, 2), &mut items)?.into_lanes(Axis(0))?;
+    /// for mut column in columns {
+    ///     column[1] = column[0];
+    /// }
+    /// assert_eq!(items, [5, 6, 5, 6]);
+    /// # Ok(())
+    /// # }
+    /// ```
+    ///
+    /// <details><summary>Contract (proved)</summary>
+    ///
+    /// ```text
+    /// ensures fault: result_err result ≡ invert_fault (array_of self.entry).view.shape axis.0
+    /// ensures rows: IfOk result (λ lanes. rows_left lanes
+    ///     ≡ map (row_array (array_of self.entry).items)
+    ///     (view_rows RowMajor (axis_last_of axis.0 (array_of self.entry).view)))
+    /// ```
+    /// [How to read it](crate::contracts)
+    /// </details>
+    #[inline]
+    pub fn into_lanes(self, axis: Axis) -> Result<LanesMut<'a, T, D>, ShapeError> {
+        let ArrayViewMut { cells, view } = self;
+        let view = with_axis_last(view, axis)?;
+        Ok(ArrayViewMut::of_cells(cells, view).into_rows())
     }
 }
