@@ -39,5 +39,4 @@ pub(crate) use folding::{fold_indexed, fold_items, fold_lent, fold_part_items, f
 pub(crate) use indexing::no_such_index;
 pub use multi_slice::MultiSliceArg;
 pub(crate) use own_items::{has_items, has_own_items};
-use reading::in_memory_order;
 pub(crate) use skipping::{skip, skip_back};

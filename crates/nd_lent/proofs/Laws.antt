@@ -12,6 +12,7 @@ pub mod ItemPlaces
 pub mod Listed
 pub mod Lists
 pub mod Marks
+pub mod MemoryOrder
 pub mod MovedItems
 pub mod Neighbours
 pub mod OwnedViews

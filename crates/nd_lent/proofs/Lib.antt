@@ -14,6 +14,7 @@ pub mod FoldedBack
 pub mod Folding
 pub mod IndexedItems
 pub mod ItemWritten
+pub mod MemoryRange
 pub mod Moved
 pub mod OwnedAlong
 pub mod OwnPlaces

@@ -22,6 +22,7 @@ pub mod Lent
 pub mod LentPlaces
 pub mod LentRow
 pub mod Mapped
+pub mod MemoryOrder
 pub mod Own
 pub mod OwnedAlong
 pub mod Part

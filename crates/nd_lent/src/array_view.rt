@@ -22,6 +22,7 @@ mod indexed_iter;
 mod into_rows;
 mod iterating;
 mod making;
+mod memory_order;
 mod rest_of_items;
 mod row_items;
 mod rows;

@@ -23,6 +23,7 @@ mod items;
 mod making;
 mod mapping;
 mod mapping_into;
+mod memory_order;
 mod pairs;
 mod reading;
 mod rows;

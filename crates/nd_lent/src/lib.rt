@@ -6,6 +6,7 @@ mod array_view_mut;
 mod axis_last;
 mod cells;
 mod indexing;
+mod memory_range;
 pub(crate) mod nearest;
 mod split_views;
 

@@ -6,25 +6,6 @@ use crate::nd_base::{Axis, LayoutError, Lengths, ShapeError};
 use crate::nd_dim::Dimension;
 use crate::{ArrayView, ArrayViewMut, AxisChunksIter, IndexedIter, IntoRows, OwnedArray};
 
-/// The array with its axes turned and sorted, so that none has a stride below 0 or below that of the next one.
-macro_rules! in_memory_order {
-    ($array:expr) => {{
-        let mut array = $array;
-        for end in (0..array.ndim()).rev() {
-            if array.stride_of(Axis(end)) < 0 {
-                let _is_axis = array.invert_axis(Axis(end));
-            }
-            for axis in end + 1..array.ndim() {
-                if array.stride_of(Axis(axis - 1)) < array.stride_of(Axis(axis)) {
-                    let _are_axes = array.swap_axes(Axis(axis - 1), Axis(axis));
-                }
-            }
-        }
-        array
-    }};
-}
-pub(super) use in_memory_order;
-
 /// The reads of one of the types of arrays, by `of_each!`.
 macro_rules! reads {
     ($array:ident [$($of:tt)*] $lent:lifetime $again:ident $setup:expr) => {
@@ -50,29 +31,6 @@ macro_rules! reads {
             #[must_use]
             pub fn view(&self) -> ArrayView<$lent, T, D> {
                 self.$again().expect(OUT_OF_MEMORY)
-            }
-
-            /// The items as they are stored, where none that is no index's lies between them; else `None`. ndarray's
-            /// `as_slice_memory_order`. Not proved.
-            ///
-            /// # Panics
-            ///
-            /// As `view`.
-            ///
-            /// ```
-            /// use ndarray_layout::*;
-            ///
-            #[doc = $setup]
-            /// assert_eq!(array.t().as_slice_memory_order(), Some(&[1, 2, 3, 4, 5, 6][..]));
-            /// # Ok::<(), LayoutError>(())
-            /// ```
-            #[inline]
-            #[must_use]
-            pub fn as_slice_memory_order(&self) -> Option<&$lent [T]>
-            where
-                D: Dimension,
-            {
-                in_memory_order!(self.view()).as_slice()
             }
 
             /// The item of the first index; `None` without one. ndarray's `first`. Not proved.
@@ -219,5 +177,27 @@ impl<'a, T, D: Lengths> ArrayView<'a, T, D> {
     #[must_use]
     pub fn to_slice(&self) -> Option<&'a [T]> {
         self.as_slice()
+    }
+}
+
+impl<T, D: Dimension> OwnedArray<T, D> {
+    /// The items as they are stored, where none that is no index's lies between them; else `None`. ndarray's
+    /// `as_slice_memory_order`. Not proved; that of `view` is.
+    ///
+    /// # Panics
+    ///
+    /// As `view`.
+    ///
+    /// ```
+    /// use ndarray_layout::*;
+    ///
+    /// let array = OwnedArray::from_shape_vec(Ix2(2, 3).f()?, vec![1, 2, 3, 4, 5, 6])?;
+    /// assert_eq!((array.as_slice(), array.as_slice_memory_order()), (None, Some(&[1, 2, 3, 4, 5, 6][..])));
+    /// # Ok::<(), LayoutError>(())
+    /// ```
+    #[inline]
+    #[must_use]
+    pub fn as_slice_memory_order(&self) -> Option<&[T]> {
+        self.view().as_slice_memory_order()
     }
 }

@@ -75,7 +75,7 @@ macro_rules! writes {
             where
                 D: Dimension,
             {
-                super::in_memory_order!(self.view_mut()).into_slice().ok()
+                self.view_mut().into_slice_memory_order().ok()
             }
 
             /// The item of the first index, to be written; `None` without one. ndarray's `first_mut`. Not proved.

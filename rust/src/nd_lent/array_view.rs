@@ -14,6 +14,7 @@ mod copying;
 mod extremes;
 mod indexed_iter;
 mod into_rows;
+mod memory_order;
 mod rest_of_items;
 mod row_items;
 mod searching;

@@ -13,6 +13,7 @@ mod axis_iter;
 mod indexed_iter_mut;
 mod items;
 mod mapping_into;
+mod memory_order;
 mod pairs;
 mod slice_parts;
 mod slices;

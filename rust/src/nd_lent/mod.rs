@@ -22,6 +22,7 @@ mod array_view_mut;
 mod axis_last;
 mod cells;
 mod indexing;
+mod memory_range;
 pub(crate) mod nearest;
 mod split_views;
 

@@ -1,9 +1,12 @@
 //! What arrays say of themselves, and copies of them.
 
+use crate::allocator::failing_at;
 use crate::layouts::{Layout, rounds};
 use crate::{NUMBERS, kind, of_count, owned, rows, rows_mut, texts};
+use ndarray_layout::CanIndexCheckMode::OwnedMutable;
 use ndarray_layout::ErrorKind::IncompatibleShape;
 use ndarray_layout::{ArrayView, ArrayViewMut, Axis, Ix1, Ix2, Ix3, IxDyn, Lengths, OwnedArray, ShapeBuilder};
+use std::ops::Range;
 
 #[test]
 fn shapes_and_strides_are_read() {
@@ -84,6 +87,46 @@ fn arrays_of_other_layouts_and_types_are_equal_by_items() {
     assert!(owned(vec!["0", "1", "2", "3", "4", "6"]) != by_columns);
 }
 
+/// A layout, and the range of the items that it has in the order in which they are stored, where there is one.
+type MemoryRow = (&'static [usize], &'static [isize], usize, Option<Range<usize>>);
+
+const MEMORY_ROWS: [MemoryRow; 14] = [
+    (&[2, 3], &[3, 1], 1, Some(1..7)),
+    (&[3, 2], &[1, 3], 0, Some(0..6)),
+    (&[2, 3], &[-3, -1], 5, Some(0..6)),
+    (&[2, 3], &[-1, 2], 4, Some(3..9)),
+    (&[2, 2], &[3, 1], 0, None),
+    (&[3], &[2], 0, None),
+    (&[2, 3], &[0, 1], 0, None),
+    (&[2, 2], &[1, 1], 0, None),
+    (&[1, 3], &[-7, 1], 2, Some(2..5)),
+    (&[3, 1], &[-1, isize::MIN], 2, Some(0..3)),
+    (&[2, 1, 2, 1, 2, 1, 2], &[1, 5, -2, 0, 4, -9, -8], 11, Some(1..17)),
+    (&[2, 1, 2, 1, 2, 1, 2], &[1, 5, -2, 0, 4, -9, -9], 12, None),
+    (&[0, 3], &[5, -9], 20, Some(0..0)),
+    (&[], &[], 1, Some(1..2)),
+];
+
+#[test]
+fn a_slice_is_lent_in_the_order_of_memory_without_an_allocation() {
+    for (shape, strides, start, range) in MEMORY_ROWS {
+        let layout = Layout { shape: shape.to_vec(), strides: strides.to_vec(), start, count: 20 };
+        let (items, expected) = (Vec::from_iter(0..20), range.map(Vec::from_iter));
+        let array = layout.array(&items);
+        assert_eq!(failing_at(0, || array.as_slice_memory_order()).0, expected.as_deref(), "{layout:?}");
+        let Ok(view) = layout.view(OwnedMutable) else { continue };
+        let mut items = items.clone();
+        let mut array = ArrayViewMut::over(view, &mut items).unwrap();
+        assert_eq!(failing_at(0, || array.as_slice_memory_order()).0, expected.as_deref(), "{layout:?}");
+        assert_eq!(array.as_slice_memory_order_mut().map(|slice| slice.to_vec()), expected, "{layout:?}");
+        match (failing_at(0, || array.into_slice_memory_order()).0, &expected) {
+            (Ok(slice), Some(expected)) => assert_eq!(slice, expected, "{layout:?}"),
+            (Err(array), None) => assert_eq!((array.shape(), array.first()), (shape, Some(&start)), "{layout:?}"),
+            _ => panic!("{layout:?}"),
+        }
+    }
+}
+
 /// Whether places follow one another from the lowest on.
 fn is_block(places: &[usize]) -> bool {
     places.windows(2).all(|pair| pair[0] + 1 == pair[1])
@@ -112,6 +155,10 @@ fn reads_are_the_models() {
             "{layout:?}"
         );
         assert_eq!(array.as_slice_memory_order(), block(&items, &sorted), "{layout:?}");
+        let mut written = items.clone();
+        let mut part = layout.array_mut(&mut written);
+        let slice = part.as_slice_memory_order_mut();
+        assert_eq!(slice.as_deref(), block(&items, &sorted), "{layout:?}");
         assert_eq!(array.to_vec().unwrap(), places, "{layout:?}");
         let doubled = array.map(|item| item * 2).unwrap();
         assert_eq!(doubled.dim().slice(), layout.shape, "{layout:?}");
