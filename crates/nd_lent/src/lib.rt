@@ -8,6 +8,7 @@ mod cells;
 mod indexing;
 mod memory_range;
 pub(crate) mod nearest;
+pub(crate) mod next_index;
 mod split_views;
 
 pub use array_view::{

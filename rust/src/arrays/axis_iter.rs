@@ -4,7 +4,8 @@
 use crate::ArrayView;
 use crate::convenience::{OUT_OF_MEMORY, printed};
 use crate::nd_base::{Axis, ErrorKind, LayoutError, Lengths, from_kind};
-use crate::nd_dim::{Dimension, advance_row_major};
+use crate::nd_dim::Dimension;
+use crate::nd_lent::next_index::take_index;
 use crate::nd_lent::{
     ArrayViewMut, AxisChunksIter, AxisChunksIterMut, AxisIter, AxisIterMut, BlocksIter, IndexedIter, IndexedIterMut,
     TilesMut,

@@ -81,8 +81,7 @@ macro_rules! fold_indexed {
         fn fold<B, F: FnMut(B, Self::Item) -> B>(self, init: B, mut f: F) -> B {
             let (items, dim, mut next) = self.into_items_at();
             items.fold(init, |total, item| {
-                let index = next.duplicate().expect(OUT_OF_MEMORY);
-                let _has_next = advance_row_major(dim.slice(), next.slice_mut());
+                let index = take_index(&dim, &mut next).expect(OUT_OF_MEMORY);
                 f(total, (index.into_pattern(), item))
             })
         }
