@@ -46,7 +46,7 @@ pub enum Form {
 
 impl Form {
     const ALL: [(Form, &'static str); 3] =
-        [(Form::Whole, "whole"), (Form::Padded, "padded rows"), (Form::Turned, "columns")];
+        [(Form::Turned, "columns"), (Form::Whole, "whole"), (Form::Padded, "padded rows")];
 
     /// How many items the array has.
     fn count(self) -> usize {
@@ -99,47 +99,56 @@ fn lending(name: &str, items: usize, theirs: fn(&mut [u8]), ours: fn(&mut [u8]))
     row(name, items, side(theirs), side(ours))
 }
 
-fn rows() -> Vec<Row> {
-    let mut rows = vec![];
-    for (form, name) in Form::ALL {
-        let named = |call: &str| format!("{call}, {name}");
-        rows.push(writing(named("fill"), form, by_hand::fill, by_package::fill));
-        rows.push(writing(named("assign"), form, by_hand::assign, by_package::assign));
-        rows.push(writing(named("map_in_place"), form, by_hand::map_in_place, by_package::map_in_place));
-        rows.push(reading(named("=="), form, by_hand::equal, by_package::equal));
-        rows.push(reading(named("iter().sum()"), form, by_hand::sum, by_package::sum));
-        rows.push(reading(named("iter().copied().collect()"), form, by_hand::collect, by_package::collect));
-        rows.push(reading(named("fold"), form, by_hand::sum, by_package::fold));
-        rows.push(reading(named("a[(i, j)]"), form, by_hand::index, by_package::index));
-    }
-    rows.push(reading("blur by 3x3, rows".into(), Form::Whole, by_hand::blur, by_package::blur_rows));
-    rows.push(reading("blur by 3x3, windows".into(), Form::Whole, by_hand::blur, by_package::blur_windows));
-    rows.push(reading("blur by 3x3, into_windows".into(), Form::Whole, by_hand::blur, by_package::blur_each_window));
+/// The calls that each form of an array has.
+fn calls((form, name): (Form, &str)) -> [Row; 8] {
+    let named = |call: &str| format!("{call}, {name}");
+    [
+        writing(named("fill"), form, by_hand::fill, by_package::fill),
+        writing(named("assign"), form, by_hand::assign, by_package::assign),
+        writing(named("map_in_place"), form, by_hand::map_in_place, by_package::map_in_place),
+        reading(named("=="), form, by_hand::equal, by_package::equal),
+        reading(named("iter().sum()"), form, by_hand::sum, by_package::sum),
+        reading(named("iter().copied().collect()"), form, by_hand::collect, by_package::collect),
+        reading(named("fold"), form, by_hand::sum, by_package::fold),
+        reading(named("a[(i, j)]"), form, by_hand::index, by_package::index),
+    ]
+}
+
+/// Tiles and planes of a picture, lent and filled.
+fn filled() -> [Row; 6] {
     let (tiles, planes) = (PICTURE * PICTURE, PICTURE * PICTURE * 3);
-    rows.push(lending("100 tiles filled, multi_slice_mut", tiles, by_hand::fill_tiles, by_package::fill_tiles));
-    rows.push(lending(
-        "100 tiles filled beside lists of rows, multi_slice_mut",
-        tiles,
-        by_hand::lend_tiles,
-        by_package::fill_tiles,
-    ));
-    rows.push(lending("100 tiles filled, into_tiles", tiles, by_hand::fill_tiles, by_package::fill_each_tile));
-    rows.push(lending(
-        "100 tiles filled beside lists of rows, multi_slice_move",
-        tiles,
-        by_hand::lend_tiles,
-        by_package::fill_part_muts,
-    ));
-    rows.push(lending("three planes filled, multi_slice_mut", planes, by_hand::fill_planes, by_package::fill_planes));
-    rows.push(lending(
-        "three planes filled beside lists of items, multi_slice_mut",
-        planes,
-        by_hand::lend_planes,
-        by_package::fill_planes,
-    ));
+    let (by_rows, by_items) = ("100 tiles filled beside lists of rows", "three planes filled beside lists of items");
+    let slices = |of: &str| format!("{of}, multi_slice_mut");
+    [
+        lending("100 tiles filled, into_tiles", tiles, by_hand::fill_tiles, by_package::fill_each_tile),
+        lending("100 tiles filled, multi_slice_mut", tiles, by_hand::fill_tiles, by_package::fill_tiles),
+        lending(&slices(by_rows), tiles, by_hand::lend_tiles, by_package::fill_tiles),
+        lending(&format!("{by_rows}, multi_slice_move"), tiles, by_hand::lend_tiles, by_package::fill_part_muts),
+        lending("three planes filled, multi_slice_mut", planes, by_hand::fill_planes, by_package::fill_planes),
+        lending(&slices(by_items), planes, by_hand::lend_planes, by_package::fill_planes),
+    ]
+}
+
+/// A blur of a matrix.
+fn blurs() -> [Row; 3] {
+    let blur = |way: &str, ours| reading(format!("blur by 3x3, {way}"), Form::Whole, by_hand::blur, ours);
+    [
+        blur("rows", by_package::blur_rows),
+        blur("windows", by_package::blur_windows),
+        blur("into_windows", by_package::blur_each_window),
+    ]
+}
+
+/// What users ask first comes first: pictures, columns, threads and tiles.
+fn rows() -> Vec<Row> {
+    let [columns, others @ ..] = Form::ALL;
+    let mut rows = pictures::rows();
+    rows.extend(calls(columns));
     rows.extend(parts::rows());
+    rows.extend(filled());
+    rows.extend(blurs());
+    rows.extend(others.into_iter().flat_map(calls));
     rows.extend(ready::rows());
-    rows.extend(pictures::rows());
     rows
 }
 
