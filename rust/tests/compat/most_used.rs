@@ -28,9 +28,9 @@ fn arrays() -> (Array2<i32>, Array2<i32>, Vec<i32>, Array1<i32>, Array3<i32>, Ar
 macro_rules! idioms {
     (
         $a:ident $b:ident $list:ident $one:ident $cube:ident $any:ident
-        $(fn $subject:ident { $($form:ident $code:expr => $value:expr $(, $theirs:literal)?;)* })*
+        $(#[$test:meta] fn $subject:ident { $($form:ident $code:expr => $value:expr $(, $theirs:literal)?;)* })*
     ) => {$(
-        #[test]
+        #[$test]
         fn $subject() -> Tested {
             $({
                 #[allow(unused)]
@@ -45,6 +45,7 @@ macro_rules! idioms {
 idioms! {
     a b list one cube any
 
+    #[test]
     fn arrays_are_made {
         same Array2::<i32>::zeros((2, 3)).len() => 6;
         same Array2::<i32>::zeros((2, 3).f()).shape() => [2, 3];
@@ -67,6 +68,7 @@ idioms! {
         same ArrayD::<i32>::zeros(IxDyn(&[2, 3])).ndim() => 2;
     }
 
+    #[test]
     fn arrays_are_made_of_others {
         same ArrayD::<i32>::zeros(vec![2, 3]).ndim() => 2;
         same Array::from_elem(a.raw_dim(), 7).shape() => [2, 3];
@@ -84,6 +86,7 @@ idioms! {
             "Array2::<i32>::eye(3)";
     }
 
+    #[test]
     fn an_array_is_asked {
         same a.shape() => [2, 3];
         same a.shape()[0] => 2;
@@ -101,6 +104,7 @@ idioms! {
         other a.strided().strides().slice() => [3, 1], "a.strides()";
     }
 
+    #[test]
     fn items_are_read_and_written {
         same a[[1, 2]] => 5;
         same a[(1, 2)] => 5;
@@ -123,6 +127,7 @@ idioms! {
         other a[(1, 2)] => 5, "unsafe { *a.uget((1, 2)) }";
     }
 
+    #[test]
     fn slices_are_taken {
         same a.slice(s![1, ..]).to_vec()? => [3, 4, 5];
         same a.slice(s![.., 1]).to_vec()? => [1, 4];
@@ -151,6 +156,7 @@ idioms! {
         other a.view().split_at(Axis(1), 1)?.1.shape() => [2, 2], "a.slice_axis(Axis(1), Slice::from(1..))";
     }
 
+    #[test]
     fn rows_and_columns_are_taken {
         near a.row(1)?.to_vec()? => [3, 4, 5], "a.row(1)";
         near a.column(1)?.to_vec()? => [1, 4], "a.column(1)";
@@ -170,6 +176,7 @@ idioms! {
         near { for mut row in a.outer_iter_mut()? { row.fill(7); } a[[1, 2]] } => 7, "a.outer_iter_mut()";
     }
 
+    #[test]
     fn parts_are_taken {
         near a.axis_iter(Axis(1))?.map(|column| column[1]).collect::<Vec<_>>() => [3, 4, 5], "a.axis_iter(Axis(1))";
         near a.axis_iter_mut(Axis(1))?.count() => 3, "a.axis_iter_mut(Axis(1))";
@@ -189,6 +196,7 @@ idioms! {
         other one.view().into_windows(&Ix1(2))?.count() => 4, "one.axis_windows(Axis(0), 2)";
     }
 
+    #[test]
     fn items_are_iterated_over {
         same a.iter().sum::<i32>() => 15;
         same a.iter().map(|item| item * 2).collect::<Vec<_>>() => [0, 2, 4, 6, 8, 10];
@@ -208,6 +216,7 @@ idioms! {
         same { for ((row, column), item) in a.indexed_iter_mut() { *item = 10 * row as i32 + column as i32; } a[[1, 2]] } => 12;
     }
 
+    #[test]
     fn items_are_mapped {
         near a.map(|item| item * 2)?[[1, 2]] => 10, "a.map(|item| item * 2)";
         near a.map(|item| item * 2)?[[1, 2]] => 10, "a.mapv(|item| item * 2)";
@@ -236,6 +245,7 @@ idioms! {
         other a.map(|item| item + 1)?[[1, 2]] => 6, "a.mapv_into(|item| item + 1)";
     }
 
+    #[test]
     fn whole_arrays_are_written {
         same { a.fill(7); a[[1, 2]] } => 7;
         near { a.assign(&b.view())?; a } => b, "a.assign(&b)";
@@ -250,6 +260,7 @@ idioms! {
         same { a.clone_from(&b); a } => b;
     }
 
+    #[test]
     fn arrays_are_lent_and_copied {
         same a.view().len() => 6;
         same a.view_mut().len() => 6;
@@ -270,6 +281,7 @@ idioms! {
         near a.t().to_owned().shape() => [3, 2], "a.t().as_standard_layout()";
     }
 
+    #[test]
     fn axes_are_changed {
         near a.view().reshape(&Ix2(3, 2), Order::RowMajor)?[[2, 0]] => 4, "a.to_shape((3, 2))?";
         near a.view().reshape(&Ix1(6), Order::RowMajor)?[4] => 4, "a.to_shape(6)?";
@@ -294,6 +306,7 @@ idioms! {
         other a.slice(s![0, 1])[()] => 1, "a.slice(s![0, 1]).into_scalar()";
     }
 
+    #[test]
     fn arrays_are_compared_and_printed {
         same a == b => true;
         same a != array![[1, 2], [3, 4]] => true;
@@ -308,6 +321,7 @@ idioms! {
         same <Array1<i32> as Default>::default().len() => 0;
     }
 
+    #[test]
     fn numbers_are_computed {
         other a.iter().sum::<i32>() => 15, "a.sum()";
         other a.iter().product::<i32>() => 0, "a.product()";
