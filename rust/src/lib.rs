@@ -23,7 +23,7 @@
 //! | parts that are written at once, each by a thread | [`ArrayViewMut`]: [`multi_slice_mut`](ArrayViewMut::multi_slice_mut), [`split_at`](ArrayViewMut::split_at), [`axis_iter_mut`](ArrayViewMut::axis_iter_mut), [`rows_mut`](ArrayViewMut::rows_mut), [`get_mut`](ArrayViewMut::get_mut), [`fill`](ArrayViewMut::fill) |
 //! | an array that owns its items | [`OwnedArray`]: [`from_shape_vec`](OwnedArray::from_shape_vec), [`get`](OwnedArray::get), [`multi_set`](OwnedArray::multi_set) |
 //! | a part of one of these | [`s!`] and `slice` (of a layout or an owner `sliced`); [`SliceInfoElem`], [`Slice`] and `slice_with` for bounds that are known at run time; [`Fit`] |
-//! | other axes, windows, another shape | the methods of [`Strided`], which [`ArrayView`] and [`ArrayViewMut`] have as well; [`run`] for several [`Step`]s |
+//! | other axes, windows, another shape | the methods of [`Strided`], which [`ArrayView`] has as well, and [`ArrayViewMut`] in part; [`run`] for several [`Step`]s |
 //! | a shape, an index or strides | [`Ix1`](fn@Ix1) to [`Ix6`](fn@Ix6), [`IxDyn`](fn@IxDyn), [`Dim`](fn@Dim); what these can do: [`Dimension`] |
 //! | whether a layout is accepted, and why not | [`accept`], [`CanIndexCheckMode`], [`ErrorKind`], [`LayoutError`] |
 //! | whether two slices share an index | [`Strided::meets`], [`first_intersection`] |

@@ -6,7 +6,7 @@ use std::path::Path;
 const SOURCES: &str = concat!(env!("CARGO_MANIFEST_DIR"), "/rust/src");
 
 /// Private modules of which nothing is re-exported.
-const PRIVATE: &[&str] = &["arrays/cuts", "arrays/line", "arrays/pairs", "num_traits", "sealed", "smallvec"];
+const PRIVATE: &[&str] = &["num_traits", "sealed", "smallvec"];
 
 /// Public modules whose page says it for all that they have.
 const SAID_BY_PAGE: &[&str] = &["memory"];

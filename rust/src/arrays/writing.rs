@@ -114,11 +114,9 @@ macro_rules! writes {
 
             /// An iterator over the items in row-major order, each lent to be written. ndarray's `iter_mut`. Not proved.
             ///
-            /// Takes memory only where the items don't all lie side by side: as much for any layout (`IterMut`).
-            ///
             /// # Panics
             ///
-            /// Where an allocation fails.
+            /// As `view_mut`.
             ///
             /// ```
             /// use ndarray_layout::*;
@@ -178,7 +176,7 @@ macro_rules! writes {
             }
 
             /// An iterator over the rows along the last axis, in row-major order, from both ends, each lent to be written, whatever
-            /// the strides are: several may be used at once, and in threads. It is `into_rows` of `into_part`, which are proved.
+            /// the strides are: several may be used at once, and in threads. It is `into_rows` of `try_view_mut`, which are proved.
             /// ndarray's `rows_mut`. Not proved.
             ///
             /// # Panics
