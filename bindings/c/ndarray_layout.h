@@ -329,7 +329,7 @@ int32_t nd_rows(size_t start, const size_t *shape, size_t shape_len, const ptrdi
 /*
  * Writes how many of the axes that move fastest in an order are one in each of several layouts of a shape, as many as there can
  * be; the length of that axis; and its stride in each layout. Axes are one where the places of each layout are those along the
- * slower axes and this one. A layout without axes has no such axis: `count` 0, `len` 1, and each stride stays as it is.
+ * slower axes and this one. A layout without axes has no such axis: `count` 0, `len` 1, and each stride is unchanged.
  * `strides`: those of one layout after another. `new_strides`: one for each layout.
  *
  * ND_BAD_ARGUMENT for the order, and where there is no layout. ND_INCOMPATIBLE_LAYOUT: not one stride for each length of each
@@ -430,7 +430,7 @@ int32_t nd_broadcast(const size_t *shape, size_t shape_len, const ptrdiff_t *str
  * 0 and changes neither list. Then the axis `into` has the coordinates of both, that of `take` moving slowest, and `take`
  * keeps one coordinate, or none where one of the two has none. One stride serves where one of the two has a length of 0 or 1,
  * or the stride of `take` is the length times the stride of `into`. It is that of `into`, or that of `take` where only the
- * length of `take` is greater than 1. The stride of `take` stays.
+ * length of `take` is greater than 1. The stride of `take` is unchanged.
  *
  * ND_INCOMPATIBLE_LAYOUT and ND_OVERFLOW as of nd_has_overlap; then ND_OUT_OF_BOUNDS where there is no such axis; then
  * ND_UNSUPPORTED for one axis twice.
@@ -448,8 +448,8 @@ int32_t nd_merge_axes(size_t *shape, size_t shape_len, ptrdiff_t *strides, size_
  *
  * ND_INCOMPATIBLE_LAYOUT and ND_OVERFLOW as of nd_has_overlap; then ND_OVERFLOW where `new_shape` is too large; then
  * ND_INCOMPATIBLE_SHAPE where one of the two shapes alone has no index; then ND_INCOMPATIBLE_LAYOUT where two axes would
- * have to step as one and don't; then ND_INCOMPATIBLE_SHAPE where the sizes differ. Two neighbours among the axes longer than
- * 1 step as one where the stride of the slower is the length times the stride of the faster. They have to unless p, the
+ * have to step as one and don't; then ND_INCOMPATIBLE_SHAPE where the sizes differ. Two neighbours among the axes of length
+ * greater than 1 step as one where the stride of the slower is the length times the stride of the faster. They have to unless p, the
  * product of the lengths from the slowest axis to the slower of the two, is the size of `new_shape` or more, or the product of
  * its lengths from its slowest axis to some axis.
  *
@@ -566,8 +566,8 @@ enum {
                                 start; `other`: the start */
     ND_RULE_LENGTH = 10,     /* ND_OUT_OF_BOUNDS: the highest place is past the buffer. `size`: the highest place; `other`:
                                 how long the buffer is */
-    ND_RULE_ALIAS = 11,      /* ND_UNSUPPORTED: the no-alias rule. `axis`: the first whose stride isn't past the reach of
-                                the others whose stride is at most its own; `number`: its stride; `size`: that reach */
+    ND_RULE_ALIAS = 11,      /* ND_UNSUPPORTED: the no-alias rule. `axis`: the first of length greater than 1 whose stride
+                                isn't past the reach of the others whose stride is at most its own; `number`: its stride; `size`: that reach */
     ND_RULE_OTHER_SIZE = 12, /* ND_INCOMPATIBLE_SHAPE: a new shape has another count of indices. `size`: its count;
                                 `other`: that of the layout */
     ND_RULE_COPY = 13,       /* ND_INCOMPATIBLE_LAYOUT: a new shape would take a copy. `axis`: in the order of reading,
@@ -741,12 +741,12 @@ int32_t nd_merge_axes_reason(const size_t *shape, size_t shape_len, size_t take,
 
 /* ---- Statuses -------------------------------------------------------------------------------------------------------- */
 
-/* How many bytes the longest text has, with the 0 that ends it. */
+/* How much room a text needs: none has more bytes, with the 0 that ends it. */
 #define ND_TEXT_SIZE 80
 
 /*
  * Writes what a status means, in English, as ASCII text that ends with a 0, and how many bytes it has without that 0.
- * `text`: room for ND_TEXT_SIZE bytes or more; bytes after the 0 stay as they are.
+ * `text`: room for ND_TEXT_SIZE bytes or more; bytes after the 0 are unchanged.
  *
  * ND_BAD_ARGUMENT: a number that is no status, or less room.
  */
@@ -780,8 +780,8 @@ ND_INLINE const char *nd_status_message(int32_t status) {
 
 /*
  * The functions below are of this header, and not of the library; ndarray_layout_inline.h, ndarray_layout_rows.h,
- * ndarray_layout_bytes.h, ndarray_layout_sharing.h and ndarray_layout_reasons.h, which it includes, have more of them. Each but
- * the two that count makes one call from above with the fields of a layout. It returns the call's status, and after any but
+ * ndarray_layout_bytes.h, ndarray_layout_sharing.h and ndarray_layout_reasons.h, which it includes, have more of them. Each here
+ * but the two that count makes one call from above with the fields of a layout, or several. It returns the call's status, and after any but
  * ND_OK nothing has been written. The layout that is written comes last, and may be the one that is read. ND_BAD_ARGUMENT,
  * before every other status, also says that a layout has more than ND_MAX_AXES axes, or would have.
  *
@@ -899,7 +899,7 @@ ND_CHECKED((1, 5)) int32_t nd_layout_next_index(const nd_layout *layout, size_t 
 }
 
 /* (of this header alone) The product of lengths; 0 where one is 0. */
-ND_INLINE size_t nd_product(const size_t *lengths, size_t count) {
+ND_INLINE ND_WRAPS size_t nd_product(const size_t *lengths, size_t count) {
     size_t product = 1;
     while (count > 0) product *= lengths[--count];
     return product;

@@ -9,6 +9,7 @@
 #include <cstddef>
 #include <initializer_list>
 #include <iterator>
+#include <limits>
 #include <optional>
 #include <stdexcept>
 #include <tuple>
@@ -25,7 +26,7 @@
 namespace nd {
 
 // What a call gives, or else why it refuses: a std::expected, or a class like it before C++23. The calls whose names begin with
-// try_ give one, and throw nothing.
+// try_ give one, and throw nothing but std::bad_alloc.
 #ifdef __cpp_lib_expected
 template <class Value>
 using result = std::expected<Value, fault>;
@@ -249,8 +250,8 @@ public:
 
     // From and to a mapping of std::layout_stride, or of a class like it, over the same elements. A mapping has no start: the
     // pointer is that of the first element. Its strides are 1 or more, and of two axes one has a stride of at least the other's
-    // length times the other's stride: what isn't so is ND_UNSUPPORTED, and ND_OVERFLOW what its type of indices can't hold.
-    // Strides of axes of length 1 become 1.
+    // length times the other's stride: what isn't so is ND_UNSUPPORTED, and ND_OVERFLOW what its type of indices can't hold: a
+    // length, a stride, or how far the elements lie apart. Strides of axes of length 1 become 1.
     template <class Mapping>
     [[nodiscard]] static view from_mapping(T *data, std::size_t len, const Mapping &mapping) {
         nd_layout layout{0, Mapping::extents_type::rank(), {}, {}};
@@ -266,14 +267,18 @@ public:
         using extents = typename Mapping::extents_type;
         using number = typename extents::index_type;
         std::array<number, extents::rank()> lengths{}, strides{};
+        std::size_t span = size() > 0 ? 1 : 0;
         if (axes() != extents::rank()) refuse(ND_INCOMPATIBLE_SHAPE);
         for (std::size_t axis = 0; axis < axes(); axis++) {
-            lengths[axis] = static_cast<number>(view_.layout.shape[axis]);
-            strides[axis] = static_cast<number>(mapped_stride(axis));
-            const bool keeps_length = static_cast<std::size_t>(lengths[axis]) == view_.layout.shape[axis];
-            const bool keeps_stride = static_cast<std::size_t>(strides[axis]) == mapped_stride(axis);
+            const std::size_t len = view_.layout.shape[axis], stride = mapped_stride(axis);
+            lengths[axis] = static_cast<number>(len);
+            strides[axis] = static_cast<number>(stride);
+            if (size() > 0) span += (len - 1) * stride;
+            const bool keeps_length = static_cast<std::size_t>(lengths[axis]) == len;
+            const bool keeps_stride = static_cast<std::size_t>(strides[axis]) == stride;
             if (!keeps_length || !keeps_stride) refuse(ND_OVERFLOW);
         }
+        if (span > static_cast<std::size_t>(std::numeric_limits<number>::max())) refuse(ND_OVERFLOW);
         return {data_ + view_.layout.start, Mapping(extents(lengths), strides)};
     }
 #ifdef __cpp_lib_mdspan
@@ -300,6 +305,7 @@ private:
         for (std::size_t other = 0; other < of.axes; other++) {
             if (size() == 0 && other > axis && of.shape[other] > 0) inner *= of.shape[other];
             if (size() == 0 || other == axis || of.shape[other] == 1) continue;
+            if (of.strides[axis] < 1 || of.strides[other] < 1) refuse(ND_UNSUPPORTED);
             const auto beside = static_cast<std::size_t>(of.strides[other]);
             if (stride < beside * of.shape[other] && beside < stride * of.shape[axis]) refuse(ND_UNSUPPORTED);
         }
@@ -356,7 +362,7 @@ template <class... T>
 }
 
 // Whether an element of one view and one of another, over the same elements, share a byte: where it is so, a loop that copies one
-// to the other reads what it has written.
+// to the other reads what it has written. ND_BAD_ARGUMENT where their data() differ.
 template <class First, class Second>
 [[nodiscard]] bool share_element(const view<First> &first, const view<Second> &second) {
     std::int32_t answer = 0;

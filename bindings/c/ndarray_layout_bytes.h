@@ -52,7 +52,7 @@ ND_CHECKED((7)) int32_t nd_put_bytes(const size_t *shape, size_t shape_len, cons
  *
  * ND_BAD_ARGUMENT: a mode that is none, too many axes, or an `elem_size` of 0. ND_INCOMPATIBLE_LAYOUT: not one stride for each
  * length. ND_OVERFLOW: an `elem_size` past the limit. Then the statuses of nd_check_layout for the bytes of all elements:
- * owned, no two elements may share a byte.
+ * owned, no two elements may share a byte. ND_OUT_OF_MEMORY may come where there are more than three axes.
  *
  * (3), strides (7), from 2, of 4 bytes: fits 20 bytes, with places 2, 9 and 16, and not 19.
  */

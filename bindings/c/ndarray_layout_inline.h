@@ -67,7 +67,7 @@ ND_CHECKED((1, 3)) int nd_put_lists(const nd_view *view, int32_t order, nd_lists
 
 /*
  * Whether the layout of a view, as it stands, fits the view's buffer: nd_check_layout, with its statuses. Over bytes, owned, no
- * two elements may share a byte, and ND_OVERFLOW counts bytes.
+ * two elements may share a byte, ND_OVERFLOW counts bytes, and ND_OUT_OF_MEMORY may come where there are more than three axes.
  *
  * (3), strides (3), over bytes, of 4 bytes: ND_OK read-only, ND_UNSUPPORTED owned.
  */
@@ -129,7 +129,7 @@ ND_CHECKED((7)) int32_t nd_view_from_strides(const size_t *shape, size_t shape_l
  *
  * For an element alone, and loops over two axes. A loop that reads costs what one by hand does that compares each place, and so
  * does one that writes through a view that the function has itself: made there, sliced there, or copied, `const nd_view own =
- * *view;`. Through a pointer to a view that another function has, writes of bytes cost two to three times as much: see cursors
+ * *view;`. Through a pointer to a view that another function has, writes of bytes cost two to four times as much: see cursors
  * below. Where a loop reads many neighbours of each element, as a blur does, rows of slices are several times as fast:
  * nd_view_rows, and the project's bindings/c/examples/blur.c.
  *

@@ -163,25 +163,30 @@ ND_CHECKED((2)) int nd_has_no_room(size_t axes, nd_reason *reason) {
     return axes > ND_MAX_AXES;
 }
 
-/* (of this header alone) Whether that is so, or the layout breaks a rule from wherever it starts. */
-ND_CHECKED((1, 3)) int nd_is_refused(const nd_layout *layout, size_t new_axes, nd_reason *reason) {
-    if (nd_has_no_room(layout->axes > new_axes ? layout->axes : new_axes, reason)) return 1;
+/* (of this header alone) Why there is no room for so many axes, or else why the layout breaks a rule wherever it starts. */
+ND_CHECKED((1, 3)) int32_t nd_reason_of_layout(const nd_layout *layout, size_t new_axes, nd_reason *reason) {
+    if (nd_has_no_room(layout->axes > new_axes ? layout->axes : new_axes, reason)) return ND_OK;
     return nd_layout_start_reason(layout->shape, layout->axes, layout->strides, layout->axes, 1, (size_t)-1, ND_READ_ONLY,
-                                  reason) != ND_OK ||
-           reason->status != ND_OK;
+                                  reason);
 }
 
-/* (of this header alone) Whether that is so from where it starts. */
-ND_CHECKED((1, 3)) int nd_is_refused_from(const nd_layout *layout, size_t new_axes, nd_reason *reason) {
-    if (nd_has_no_room(layout->axes > new_axes ? layout->axes : new_axes, reason)) return 1;
+/* (of this header alone) The same where there are twice as many new axes as the layout has. */
+ND_CHECKED((1, 2)) int32_t nd_reason_of_blocks(const nd_layout *layout, nd_reason *reason) {
+    if (nd_has_no_room(layout->axes, reason)) return ND_OK;
+    return nd_reason_of_layout(layout, 2 * layout->axes, reason);
+}
+
+/* (of this header alone) The same as nd_reason_of_layout from where it starts. */
+ND_CHECKED((1, 3)) int32_t nd_reason_of_layout_from(const nd_layout *layout, size_t new_axes, nd_reason *reason) {
+    if (nd_has_no_room(layout->axes > new_axes ? layout->axes : new_axes, reason)) return ND_OK;
     return nd_check_layout_reason(layout->start, layout->shape, layout->axes, layout->strides, layout->axes, 1, (size_t)-1,
-                                  ND_READ_ONLY, reason) != ND_OK ||
-           reason->status != ND_OK;
+                                  ND_READ_ONLY, reason);
 }
 
 /*
  * Why the calls of these names return their status: ND_RULE_ROOM, then the rules on the layout, then those of the call. Each
- * writes a reason and returns ND_OK, or ND_BAD_ARGUMENT for a mode, an order, a fit or a kind of element.
+ * writes a reason and returns ND_OK; or it writes nothing and returns ND_BAD_ARGUMENT for a mode, an order, a fit or a kind of
+ * element, or ND_OUT_OF_MEMORY, as nd_layout_start_reason does.
  *
  * (2,3) sliced by `0,9`: ND_RULE_INDEX, axis 1, number 9, size 3. (1, .., 1) of 33 axes: ND_BAD_ARGUMENT, ND_RULE_ROOM, size 33.
  */
@@ -193,20 +198,22 @@ ND_CHECKED((1, 4)) int32_t nd_layout_check_reason(const nd_layout *layout, nd_da
 
 ND_CHECKED((1, 5)) int32_t nd_layout_slice_reason(const nd_layout *layout, const nd_slice_elem *elems, size_t elems_len,
                                                   int32_t fit, nd_reason *reason) {
-    nd_reason of_elems;
+    nd_reason of_elems, of_layout;
     size_t elem, axes = 0;
     int32_t status;
     for (elem = 0; elem < elems_len; elem++)
         if (elems[elem].kind != ND_INDEX) axes++;
     if (nd_has_no_room(layout->axes > axes ? layout->axes : axes, reason)) return ND_OK;
     status = nd_slice_reason(layout->shape, layout->axes, elems, elems_len, fit, &of_elems);
-    if (status == ND_OK && !nd_is_refused_from(layout, axes, reason)) *reason = of_elems;
+    if (status == ND_OK) status = nd_reason_of_layout_from(layout, axes, &of_layout);
+    if (status == ND_OK) *reason = of_layout.status != ND_OK ? of_layout : of_elems;
     return status;
 }
 
 ND_CHECKED((1, 4)) int32_t nd_layout_permuted_axes_reason(const nd_layout *layout, const size_t *axes, size_t axes_len,
                                                           nd_reason *reason) {
-    if (nd_is_refused(layout, 0, reason)) return ND_OK;
+    const int32_t status = nd_reason_of_layout(layout, 0, reason);
+    if (status != ND_OK || reason->status != ND_OK) return status;
     return nd_permuted_axes_reason(layout->shape, layout->axes, axes, axes_len, reason);
 }
 
@@ -218,29 +225,34 @@ ND_CHECKED((1, 5)) int32_t nd_layout_reshape_reason(const nd_layout *layout, con
 
 ND_CHECKED((1, 4)) int32_t nd_layout_broadcast_reason(const nd_layout *layout, const size_t *target, size_t target_len,
                                                       nd_reason *reason) {
-    if (nd_is_refused(layout, target_len, reason)) return ND_OK;
+    const int32_t status = nd_reason_of_layout(layout, target_len, reason);
+    if (status != ND_OK || reason->status != ND_OK) return status;
     return nd_broadcast_reason(layout->shape, layout->axes, target, target_len, reason);
 }
 
 ND_CHECKED((1, 4)) int32_t nd_layout_windows_reason(const nd_layout *layout, const size_t *window, size_t window_len,
                                                     nd_reason *reason) {
-    if (nd_is_refused(layout, 2 * layout->axes, reason)) return ND_OK;
+    const int32_t status = nd_reason_of_blocks(layout, reason);
+    if (status != ND_OK || reason->status != ND_OK) return status;
     return nd_windows_reason(layout->shape, layout->axes, window, window_len, reason);
 }
 
 ND_CHECKED((1, 4)) int32_t nd_layout_exact_chunks_reason(const nd_layout *layout, const size_t *chunk, size_t chunk_len,
                                                          nd_reason *reason) {
-    if (nd_is_refused(layout, 2 * layout->axes, reason)) return ND_OK;
+    const int32_t status = nd_reason_of_blocks(layout, reason);
+    if (status != ND_OK || reason->status != ND_OK) return status;
     return nd_exact_chunks_reason(layout->shape, layout->axes, chunk, chunk_len, reason);
 }
 
 ND_CHECKED((1, 4)) int32_t nd_layout_split_at_reason(const nd_layout *layout, size_t axis, size_t index, nd_reason *reason) {
-    if (nd_is_refused_from(layout, 0, reason)) return ND_OK;
+    const int32_t status = nd_reason_of_layout_from(layout, 0, reason);
+    if (status != ND_OK || reason->status != ND_OK) return status;
     return nd_split_at_reason(layout->shape, layout->axes, axis, index, reason);
 }
 
 ND_CHECKED((1, 4)) int32_t nd_layout_merge_axes_reason(const nd_layout *layout, size_t take, size_t into, nd_reason *reason) {
-    if (nd_is_refused(layout, 0, reason)) return ND_OK;
+    const int32_t status = nd_reason_of_layout(layout, 0, reason);
+    if (status != ND_OK || reason->status != ND_OK) return status;
     return nd_merge_axes_reason(layout->shape, layout->axes, take, into, reason);
 }
 
@@ -255,7 +267,8 @@ ND_CHECKED((7)) int32_t nd_view_from_strides_reason(const size_t *shape, size_t 
 
 /*
  * Why nd_view_over_bytes returns its status. Spans, reaches, strides and places count bytes, and so says `unit`. An `elem_size`
- * past the limit is ND_RULE_BYTES, of size 1. ND_BAD_ARGUMENT for a mode that is none, or an `elem_size` of 0.
+ * past the limit is ND_RULE_BYTES, of size 1. ND_BAD_ARGUMENT for a mode that is none, or an `elem_size` of 0; ND_OUT_OF_MEMORY
+ * as nd_layout_start_reason, where there are more than three axes.
  *
  * (3), strides (7), from 2, of 4 bytes, over 19 bytes: ND_OUT_OF_BOUNDS, ND_RULE_LENGTH, size 19, other 19. (3), strides (7), of
  * 8 bytes, owned: ND_UNSUPPORTED, ND_RULE_ALIAS, axis 0, number 7, size 7.

@@ -146,8 +146,9 @@ void unused(void) {
     nd_extents_reach(&sums, &extent, &extent); /* unused */
     nd_views_share_element(&view, &other, &number); /* unused */
     nd_has_no_room(2, &reason); /* unused */
-    nd_is_refused(&layout, 2, &reason); /* unused */
-    nd_is_refused_from(&layout, 2, &reason); /* unused */
+    nd_reason_of_layout(&layout, 2, &reason); /* unused */
+    nd_reason_of_blocks(&layout, &reason); /* unused */
+    nd_reason_of_layout_from(&layout, 2, &reason); /* unused */
     nd_layout_check_reason(&layout, data, 1, &reason); /* unused */
     nd_layout_slice_reason(&layout, elems, 2, 1, &reason); /* unused */
     nd_layout_permuted_axes_reason(&layout, sizes, 2, &reason); /* unused */

@@ -200,6 +200,16 @@ static void test_inline_functions(void) {
     REQUESTS(10, nd_layout_co_broadcast(&view.layout, &other, &written.layouts[0], &written.layouts[1]));
     REQUESTS(2, make_rows(nd_view_rows, &view));
     REQUESTS(2, make_rows(nd_view_joined_rows, &view));
+    REQUESTS(1, nd_layout_check_reason(&view.layout, data, ND_OWNED, &written.reason));
+    REQUESTS(2, nd_layout_slice_reason(&view.layout, LIST(elems), ND_STRICT, &written.reason));
+    REQUESTS(1, nd_layout_permuted_axes_reason(&view.layout, LIST(long_axes), &written.reason));
+    REQUESTS(5, nd_layout_reshape_reason(&view.layout, LIST(regrouped), ND_ROW_MAJOR, &written.reason));
+    REQUESTS(1, nd_layout_broadcast_reason(&view.layout, LIST(target), &written.reason));
+    REQUESTS(1, nd_layout_windows_reason(&view.layout, LIST(ones), &written.reason));
+    REQUESTS(1, nd_layout_exact_chunks_reason(&view.layout, LIST(ones), &written.reason));
+    REQUESTS(1, nd_layout_split_at_reason(&view.layout, 2, 1, &written.reason));
+    REQUESTS(1, nd_layout_merge_axes_reason(&view.layout, 0, 2, &written.reason));
+    REQUESTS(1, nd_view_over_bytes_reason(0, LONG_LAYOUT, 1, 12, ND_OWNED, &written.reason));
 }
 
 /* The calls for one view: over bytes they have an axis more. */

@@ -330,6 +330,11 @@ static void test_mappings() {
     const std::ptrdiff_t great = std::ptrdiff_t{1} << 32; // (of a buffer that isn't there, and isn't read)
     const nd::view<const int> far(numbers.data(), std::size_t{1} << 33, {2, 2}, {great, 1});
     CHECK(refused([&] { (void)far.to_mapping<mapping_like>(); }) == ND_OVERFLOW);
+    const std::size_t wide_side = std::size_t{1} << 16; // (its elements lie 2^32 apart, which no int holds)
+    const nd::view<const int> large(numbers.data(), wide_side * wide_side, {wide_side, wide_side});
+    CHECK(refused([&] { (void)large.to_mapping<mapping_like>(); }) == ND_OVERFLOW);
+    const nd::view<const int> turned(numbers.data(), 12, {3, 4}, {4, -1});
+    CHECK(refused([&] { (void)turned.to_mapping<mapping_like>(); }) == ND_UNSUPPORTED);
 #ifdef __cpp_lib_mdspan
     const auto span = part.to_mdspan<2>();
     CHECK(span.extent(0) == 2 && (span[std::array<std::size_t, 2>{1, 1}]) == 10);

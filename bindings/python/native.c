@@ -177,7 +177,7 @@ static int read_layout(const State *state, PyObject *layout, Layout *read) {
     return said;
 }
 
-/* Sets a field of a layout to a value, which is let go. */
+/* Sets a field of a layout to a value, which is dropped. */
 static int set_field(const State *state, PyObject *layout, int name, PyObject *value) {
     const int status = value == NULL ? -1 : state->set(state->slots[name], layout, value);
     Py_XDECREF(value);
@@ -308,7 +308,7 @@ static PyObject *share_chunk(PyObject *module, PyObject *const *arguments, Py_ss
 
 /* ---- Two arrays ------------------------------------------------------------------------------------------------------ */
 
-/* Reads where an array of NumPy lies in memory; the caller lets the buffer go. */
+/* Reads where an array of NumPy lies in memory; the caller releases the buffer. */
 static int read_array(PyObject *array, Py_buffer *buffer, Layout *read) {
     const size_t most = PTRDIFF_MAX;
     if (PyObject_GetBuffer(array, buffer, PyBUF_STRIDED_RO) < 0) return unusual_or_failed();

@@ -152,7 +152,7 @@ ND_CHECKED((1, 3)) int32_t nd_tensor_from_managed(const DLManagedTensorVersioned
 ND_CHECKED((1, 2, 4, 5, 6)) int32_t nd_tensor_to_dlpack(const nd_view *view, void *buffer, DLDataType dtype, int64_t *shape,
                                                         int64_t *strides, DLTensor *tensor) {
     const DLDevice cpu = {kDLCPU, 0};
-    const size_t bits = (size_t)dtype.bits * dtype.lanes, places = view->data.elem_places;
+    const size_t bits = (size_t)dtype.bits * dtype.lanes, places = view->data.elem_places > 1 ? view->data.elem_places : 1;
     ptrdiff_t steps[ND_MAX_AXES];
     int32_t status = nd_view_check(view, ND_READ_ONLY);
     if (bits == 0 || bits % 8 != 0 || bits / 8 != view->data.place_size * places) return ND_BAD_ARGUMENT;

@@ -29,7 +29,7 @@ def accepted_as(
 ) -> Optional[bool]:
     """Whether a layout may be written, of Python's own integers, in tuples, that are one which is accepted, or `None`.
 
-    Then `_checked` says why not.
+    Then `checked` says why not.
     """
     if type(shape) is not tuple or type(strides) is not tuple or not (writable is None or type(writable) is bool):
         return None

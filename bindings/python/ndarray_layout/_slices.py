@@ -202,7 +202,7 @@ def picked(shape: Numbers, elems: Elems, clamp: bool = False) -> int:
 def basic_key(shape: Numbers, key: Any) -> list[Elem]:
     """A basic slice of NumPy, as `slice_view` takes it: the same coordinates of each axis in the same order.
 
-    A `Slice` among the keys, or alone, stays as it is. Raises `IndexError` and `ValueError` where NumPy does,
+    A `Slice` among the keys, or alone, is unchanged. Raises `IndexError` and `ValueError` where NumPy does,
     `TypeError` for what is no integer, slice, `...` or `None`, and `OverflowError` for a negative length. NumPy takes
     booleans, lists and arrays by other rules.
 

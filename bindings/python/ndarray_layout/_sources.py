@@ -192,7 +192,7 @@ def _row_strides(shape: Lens) -> Lens:
 
 
 def _of_capsule(array: Any) -> Source:
-    """An array of DLPack. The capsule is let go as it came, and then its maker frees what it made for it."""
+    """An array of DLPack. The capsule is dropped as it came, and then its maker frees what it made for it."""
     capsule = array.__dlpack__() if hasattr(array, "__dlpack__") else array
     pointer = ctypes.pythonapi.PyCapsule_GetPointer
     pointer.restype, pointer.argtypes = ctypes.c_void_p, [ctypes.py_object, ctypes.c_char_p]
