@@ -35,7 +35,8 @@ mod skipping;
 mod writing;
 
 pub(crate) use axis_iter::{check_axis, check_chunks};
-pub(crate) use folding::{fold_indexed, fold_items, fold_lent, fold_part_items, fold_places, rfold_lent};
+pub(crate) use folding::{fold_by_rest, fold_indexed, fold_items, fold_lent, rfold_lent};
+pub(crate) use from::fitting;
 pub(crate) use indexing::no_such_index;
 pub use multi_slice::MultiSliceArg;
 pub(crate) use own_items::{has_items, has_own_items};

@@ -16,16 +16,16 @@
 //! ```
 //!
 //! Functions over any `D: Dimension` have what ndarray's have, and bounds of this module alone: its [`Dimension`] isn't the
-//! package's, and a file names one or the other. For a type that is known, as `Ix2`, each is what the other is.
+//! package's, and a file names one or the other. `Ix2` and the other types implement both.
 //!
 //! What differs from ndarray still:
 //!
 //! - `IxDyn::zeros`, by this name, returns a `Result`; `D::zeros` of a generic function doesn't.
 //! - `Slice::new` and `s!` take the step 0. The call that takes the slice panics.
 //! - [`slices_intersect`] looks at each index and each slice before it compares any.
-//! - [`dim_stride_overlap`] is false for each shape with a length of 0, and `min_stride_axis` passes over axes that aren't longer
-//!   than 1.
-//! - [`reshape_dim`] returns an error for a length of 0, where ndarray may panic.
+//! - [`dim_stride_overlap`] is false for each shape with a length of 0, and `min_stride_axis` passes over axes of length 0
+//!   and 1.
+//! - [`reshape_dim`] returns an error where a length of 0 stands beside another one that isn't 1; ndarray may panic there.
 //! - Numbers are computed where ndarray's wrap, and a layout at the ends of `isize` is looked at where ndarray panics.
 
 mod arguments;
@@ -122,5 +122,8 @@ fn of_shapes<T>(result: Result<T, LayoutError>) -> Result<T, ShapeError> {
 /// What a call returns where its arguments fit and no allocation fails.
 #[track_caller]
 fn or_panic<T>(result: Result<T, impl Display>) -> T {
-    result.unwrap_or_else(|error| panic!("{error}"))
+    match result {
+        Ok(value) => value,
+        Err(error) => panic!("{error}"),
+    }
 }

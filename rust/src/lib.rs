@@ -1,7 +1,7 @@
 //! Shapes, signed strides and slices as buffer indices: the layer under n-dimensional arrays, made of proved sources.
 //!
 //! A [`Strided`] view is a shape, a stride for each axis and a start. It is made of an accepted layout, so that each
-//! index lies in the data; slices, broadcasts, permutations and reshapes of it are views of the same data.
+//! index is in bounds; slices, broadcasts, permutations and reshapes of it are views of the same data.
 //!
 //! ```
 //! use ndarray_layout::{CanIndexCheckMode, Strided, new_ix2};
@@ -38,12 +38,12 @@
 //! Rust for each. The docs of a call have its contract folded away, and [`contracts`] says how to read one. What a caller ensures
 //! stands under `Conditions`. Where it is broken, a call panics or returns unspecified values: a loop over
 //! `all_indices(Ix2(1 << 32, 1 << 32))` panics with overflow checks, and ends at once without them. No behaviour is undefined: the
-//! only `unsafe` is proved, and no call that others see has a condition for it.
+//! only `unsafe` is proved, and the calls that have a condition for it test it.
 //!
 //! The file `proved.txt` of the package has the checksums of the sources that the last whole check proved, and its date.
 //!
-//! What the package adds to the sources isn't proved, but tested: [`s!`], `Ix2(..)`, `Clone` and the like. The docs of each
-//! such item say so, or the page of its module, as that of [`memory`].
+//! What the package adds to the sources isn't proved, but tested: [`s!`], `Ix2(..)`, `Clone` and the like, and what [`ArrayView::new`] and
+//! [`ArrayViewMut::new`] ask of a view, on which the `unsafe` rests. The docs of each such item say so, or the page of its module, as that of [`memory`].
 #![no_std]
 #![deny(unsafe_code)]
 

@@ -5,8 +5,8 @@ use crate::nd_dim::{Forward, Reverse};
 use crate::nd_slice::{Grouped, SliceElems, SliceInfo};
 use alloc::vec::Vec;
 
-/// No caller can name it. He could implement a trait for types of his own crate alone and for references to them, so each impl
-/// here is for all types of a form.
+/// No caller can name it. An impl here may be for all types of a form, as `[T; N]`: a caller implements a trait only for types of
+/// the caller's crate and references to them.
 ///
 /// An index that says what it likes would lead out of the data, so this doesn't compile:
 ///

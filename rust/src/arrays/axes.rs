@@ -1,7 +1,7 @@
 //! The arrays along an axis, and the rows and columns of a matrix.
 
-use super::axis_iter::made_of_first_axis;
 use super::check_axis;
+use crate::convenience::OUT_OF_MEMORY;
 use crate::memory::FallibleVec;
 use crate::nd_base::{Axis, Ix1, Ix2, LayoutError, Lengths};
 use crate::nd_dim::product;
@@ -10,7 +10,7 @@ use crate::ndarray_layout::RemoveAxis;
 use crate::{ArrayView, ArrayViewMut, AxisIter, IntoRows, OwnedArray};
 use alloc::vec::Vec;
 
-/// The array of a shape of what a closure makes of rows, one for each index. Errors: those of `ArrayView::map_axis`.
+/// The array of a shape of what a closure makes of rows, one for each index. Errors: out of memory.
 fn mapped_rows<'a, T, U, D: Lengths, S: Lengths>(
     rows: IntoRows<'a, T, D>,
     dim: S,
@@ -64,7 +64,8 @@ macro_rules! axes {
             #[track_caller]
             #[must_use]
             pub fn outer_iter(&self) -> AxisIter<$lent, T, D> {
-                made_of_first_axis(self.axis_iter(Axis(0)))
+                assert!(self.ndim() > 0, "an array without axes has no outer arrays");
+                self.axis_iter(Axis(0)).expect(OUT_OF_MEMORY)
             }
 
             /// What a closure makes of each row along an axis, as a new array without the axis, in row-major order. ndarray's
@@ -73,6 +74,10 @@ macro_rules! axes {
             /// # Errors
             ///
             /// `OutOfBounds` where there is no such axis; then out of memory.
+            ///
+            /// # Panics
+            ///
+            /// As `view`.
             ///
             /// ```
             /// use ndarray_layout::*;
@@ -86,8 +91,7 @@ macro_rules! axes {
             where
                 F: FnMut(ArrayView<$lent, T, Ix1>) -> U,
             {
-                let rows = self.lanes(axis)?;
-                mapped_rows(rows, self.dim().try_remove_axis(axis)?, f)
+                mapped_rows(self.lanes(axis)?, self.dim().try_remove_axis(axis)?, f)
             }
         }
 

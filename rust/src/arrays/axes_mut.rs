@@ -5,7 +5,7 @@ use crate::nd_base::{Axis, ErrorKind, Ix1, Ix2, LayoutError, from_kind};
 use crate::ndarray_layout::RemoveAxis;
 use crate::{ArrayViewMut, AxisIterMut, LanesMut, OwnedArray};
 
-/// The writes of one of the types of arrays along an axis: as `writes!`, with the type of the dimension.
+/// The writes of one of the types of arrays along an axis: as `writes!`, with a second head, for matrices.
 macro_rules! axes_mut {
     ([$($axis_head:tt)*] [$($matrix_head:tt)*] $view:ident $setup:expr, $end:expr) => {
         $($axis_head)* {
@@ -14,7 +14,7 @@ macro_rules! axes_mut {
             ///
             /// # Errors
             ///
-            /// Those of `Strided::index_axis`.
+            /// `OutOfBounds` where there is no such axis or coordinate; then out of memory, never for at most 4 axes.
             ///
             /// ```
             /// use ndarray_layout::*;
@@ -31,9 +31,7 @@ macro_rules! axes_mut {
                 index: usize,
             ) -> Result<ArrayViewMut<'_, T, D::Smaller>, LayoutError> {
                 // (before the array is lent, for which memory may run out)
-                if self.shape().get(axis.index()).is_none_or(|len| index >= *len) {
-                    return Err(LayoutError::Shape(from_kind(ErrorKind::OutOfBounds)));
-                }
+                self.shape().get(axis.index()).filter(|len| index < **len).ok_or(from_kind(ErrorKind::OutOfBounds))?;
                 self.$view()?.index_axis(axis, index)
             }
 

@@ -74,16 +74,6 @@ iterates_forwards! {
     IndexedIterMut Dimension (D::Pattern, &'a mut T), fold_indexed;
 }
 
-/// The first axis of a shape. Panics where there is none, as only an `IxDyn` may have.
-#[track_caller]
-pub(crate) fn made_of_first_axis<T>(made: Result<T, LayoutError>) -> T {
-    match made {
-        Ok(made) => made,
-        Err(LayoutError::Memory(_)) => panic!("{OUT_OF_MEMORY}"),
-        Err(LayoutError::Shape(fault)) => panic!("an array without axes has no outer arrays: {fault}"),
-    }
-}
-
 /// Errors: `OutOfBounds` where a shape has no such axis.
 pub(crate) fn check_axis(shape: &[usize], axis: Axis) -> Result<(), LayoutError> {
     shape.get(axis.index()).map(|_| ()).ok_or(LayoutError::Shape(from_kind(ErrorKind::OutOfBounds)))

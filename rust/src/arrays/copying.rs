@@ -10,14 +10,13 @@ use alloc::vec::{self, Vec};
 /// The row-major array of a shape over a list of as many items. Errors: out of memory.
 fn array_of<T, D: Lengths>(dim: &D, items: Vec<T>) -> Result<OwnedArray<T, D>, AllocError> {
     let shape = StrideShape { dim: dim.duplicate()?, strides: Strides::C };
-    match OwnedArray::from_shape_vec(shape, items) {
-        Ok(array) => Ok(array),
-        Err((LayoutError::Memory(error), _)) => Err(error),
-        Err((LayoutError::Shape(fault), _)) => unreachable!("the shape of an array is accepted: {fault}"),
-    }
+    OwnedArray::from_shape_vec(shape, items).map_err(|(error, _)| match error {
+        LayoutError::Memory(error) => error,
+        LayoutError::Shape(fault) => unreachable!("the shape of an array is accepted: {fault}"),
+    })
 }
 
-/// The copies of one of the types of arrays: the head of the impl, the array lent, and what makes `array` in examples, which is 1 2 3 over
+/// The copies of one of the types of arrays: its name, the lifetime of its items if it has one, the array lent, and what makes `array` in examples, which is 1 2 3 over
 /// 4 5 6.
 macro_rules! copies {
     ($array:ident [$($of:tt)*] $self:ident => $lent:expr, $setup:expr) => {

@@ -40,7 +40,7 @@ pub(crate) use rfold_lent;
 /// Of `Items`.
 macro_rules! fold_items {
     () => {
-        /// What as many calls of `next` return last; rows are left out at once. Not proved.
+        /// What `n + 1` calls of `next` return last; rows are left out at once. Not proved.
         fn nth(&mut self, n: usize) -> Option<T> {
             self.lent.nth(n).copied()
         }
@@ -60,19 +60,6 @@ macro_rules! fold_items {
 }
 pub(crate) use fold_items;
 
-/// Of `IterMut`.
-macro_rules! fold_part_items {
-    () => {
-        crate::arrays::skip!();
-
-        #[inline]
-        fn fold<B, F: FnMut(B, &'a mut T) -> B>(self, init: B, f: F) -> B {
-            self.fold_rest(init, f)
-        }
-    };
-}
-pub(crate) use fold_part_items;
-
 /// Of the iterators over items with their indices.
 macro_rules! fold_indexed {
     () => {
@@ -89,16 +76,16 @@ macro_rules! fold_indexed {
 }
 pub(crate) use fold_indexed;
 
-/// Of `PlacesOf`.
-macro_rules! fold_places {
+/// Of `IterMut` and `PlacesOf`.
+macro_rules! fold_by_rest {
     () => {
         crate::arrays::skip!();
 
         /// What a loop over `next` returns, by `fold_rest`, which is proved.
         #[inline]
-        fn fold<B, F: FnMut(B, usize) -> B>(self, init: B, f: F) -> B {
+        fn fold<B, F: FnMut(B, Self::Item) -> B>(self, init: B, f: F) -> B {
             self.fold_rest(init, f)
         }
     };
 }
-pub(crate) use fold_places;
+pub(crate) use fold_by_rest;

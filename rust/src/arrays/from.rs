@@ -2,15 +2,19 @@
 
 use crate::convenience::OUT_OF_MEMORY;
 use crate::memory::FallibleVec;
-use crate::nd_base::{Ix1, Ix2, LayoutError, Lengths};
+use crate::nd_base::{Ix1, Ix2, Lengths};
 use crate::{ArrayView, ArrayViewMut, Dimension, OwnedArray, Shape, ShapeBuilder};
 use crate::{all_indices, indices_iter_f, size_of_shape_checked};
 use alloc::vec::Vec;
+use core::fmt::Display;
 
-/// A made array. Panics where it isn't.
+/// A made array, or its size. Panics where it isn't.
 #[track_caller]
-fn fitting<A>(made: Result<A, LayoutError>) -> A {
-    made.unwrap_or_else(|fault| panic!("the array is not made: {fault}"))
+pub(crate) fn fitting<A>(made: Result<A, impl Display>) -> A {
+    match made {
+        Ok(made) => made,
+        Err(fault) => panic!("the array is not made: {fault}"),
+    }
 }
 
 /// Conversions: the parameters of each, what is taken, the array, and how it is made.
@@ -29,8 +33,8 @@ macro_rules! conversions {
 }
 
 conversions! {
-    /// The array of one axis of a list. ndarray's `aview1`, and `From` of a list. Panics for more items than an `isize` counts, which only
-    /// those without a size may be.
+    /// The array of one axis of a list. ndarray's `aview1`, and `From` of a list. Panics for more items than an `isize` counts, as only
+    /// items of size 0 can be.
     ///
     /// ```
     /// use ndarray_layout::*;
@@ -44,8 +48,8 @@ conversions! {
     ['a, T, const N: usize] &'a [T; N] => ArrayView<'a, T, Ix1>, items: ArrayView::from(&items[..]);
     /// The array of one axis of a vector. Panics as that of a list.
     ['a, T] &'a Vec<T> => ArrayView<'a, T, Ix1>, items: ArrayView::from(&items[..]);
-    /// The array of one axis of a list, to be written. ndarray's `From` of a list. Panics for more items than an `isize` counts, which
-    /// only those without a size may be.
+    /// The array of one axis of a list, to be written. ndarray's `From` of a list. Panics for more items than an `isize` counts, as
+    /// only items of size 0 can be.
     ///
     /// ```
     /// use ndarray_layout::*;
@@ -60,7 +64,7 @@ conversions! {
     /// The array of one axis of a vector, to be written. Panics as that of a list.
     ['a, T] &'a mut Vec<T> => ArrayViewMut<'a, T, Ix1>, items: ArrayViewMut::from(&mut items[..]);
     /// The array of one axis that owns the items of a list. ndarray's `From` of a list. Panics for more items than an `isize` counts,
-    /// which only those without a size may be.
+    /// as only items of size 0 can be.
     ///
     /// ```
     /// use ndarray_layout::*;
@@ -89,7 +93,7 @@ impl<T> OwnedArray<T, Ix1> {
     ///
     /// # Panics
     ///
-    /// For more items than an `isize` counts, which only those without a size may be.
+    /// For more items than an `isize` counts, as only items of size 0 can be.
     ///
     /// ```
     /// use ndarray_layout::*;
@@ -107,7 +111,7 @@ impl<T> OwnedArray<T, Ix1> {
 #[track_caller]
 fn room<T, D: Dimension>(shape: impl ShapeBuilder<Dim = D>) -> (Shape<D>, usize, Vec<T>) {
     let shape = shape.into_shape_with_order().expect(OUT_OF_MEMORY);
-    let count = size_of_shape_checked(shape.raw_dim()).unwrap_or_else(|fault| panic!("{fault}"));
+    let count = fitting(size_of_shape_checked(shape.raw_dim()));
     (shape, count, Vec::fallible_with_capacity(count).expect(OUT_OF_MEMORY))
 }
 
@@ -116,7 +120,7 @@ impl<T, D: Dimension> OwnedArray<T, D> {
     ///
     /// # Panics
     ///
-    /// Where the size passes `isize`, and where an allocation fails: `from_exact_vec` returns an error instead.
+    /// Where the product of the lengths other than 0 passes `isize`, and where an allocation fails: `from_exact_vec` returns an error instead.
     ///
     /// ```
     /// use ndarray_layout::*;
@@ -139,7 +143,7 @@ impl<T, D: Dimension> OwnedArray<T, D> {
     ///
     /// # Panics
     ///
-    /// Where the size passes `isize`, and where an allocation fails.
+    /// Where the product of the lengths other than 0 passes `isize`, and where an allocation fails.
     ///
     /// ```
     /// use ndarray_layout::*;

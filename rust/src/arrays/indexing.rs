@@ -19,7 +19,7 @@ pub(crate) fn no_such_index<I: fmt::Debug, D: Lengths>(index: I, dim: &D) -> ! {
 ///
 /// # Panics
 ///
-/// Where it is no index of the shape, with both: `get_mut` returns `None`.
+/// Where it is no index of the shape; the message has both. `get_mut` returns `None`.
 ///
 /// ```
 /// use ndarray_layout::*;
@@ -57,7 +57,7 @@ impl<T, D: Lengths, I: NdIndex<D>> IndexMut<I> for ArrayViewMut<'_, T, D> {
 ///
 /// # Panics
 ///
-/// Where the row has no such coordinate, with it and the length.
+/// Where the row has no such coordinate; the message has it and the length.
 ///
 /// ```
 /// use ndarray_layout::*;
@@ -70,6 +70,9 @@ impl<T> Index<usize> for LentRow<'_, T> {
 
     #[track_caller]
     fn index(&self, coordinate: usize) -> &T {
-        self.get(coordinate).unwrap_or_else(|| no_such_index(coordinate, &Ix1(self.len())))
+        match self.get(coordinate) {
+            Some(item) => item,
+            None => no_such_index(coordinate, &Ix1(self.len())),
+        }
     }
 }

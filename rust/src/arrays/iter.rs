@@ -67,7 +67,7 @@ loops! {
     &ArrayView<'a, T, D>: &'a T, ViewIter self => self.view().into_iter();
     /// Iterates over the items in row-major order. Panics where an allocation fails, never for at most 4 axes.
     &'a ArrayViewMut<'_, T, D>: &'a T, ViewIter self => self.view().into_iter();
-    /// Iterates over the items in row-major order, to be written for as long as they are lent. Panics where an allocation fails.
+    /// Iterates over the items in row-major order, to be written for as long as they are lent. Takes no memory.
     ArrayViewMut<'a, T, D>: &'a mut T, IterMut self => self.into_items();
     /// Iterates over the items in row-major order, to be written. Panics where an allocation fails.
     &'a mut ArrayViewMut<'_, T, D>: &'a mut T, IterMut self => self.iter_mut();

@@ -88,7 +88,7 @@
 /// part[0] = 3;
 /// ```
 ///
-/// one of its items is lent to be written, or itself:
+/// one of its items at a time is lent to be written, and it itself once:
 ///
 /// ```compile_fail,E0499
 /// use ndarray_layout::{ArrayViewMut, Ix1};

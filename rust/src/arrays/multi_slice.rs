@@ -11,10 +11,10 @@ use alloc::vec::Vec;
 ///
 /// Sealed: no type outside this package implements it.
 pub trait MultiSliceArg<D: Lengths>: Sealed {
-    /// The parts of the slices, kept as these are.
+    /// The parts that the slices pick: a tuple, an array or a vector, as the slices are.
     type Parts<'a, T: 'a>;
 
-    /// The parts of a part.
+    /// The parts that these slices pick of an array.
     ///
     /// # Errors
     ///

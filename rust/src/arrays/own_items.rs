@@ -20,7 +20,7 @@ pub(crate) fn has_items<D: Lengths>(view: &Strided<D>, len: usize) -> bool {
     shape.contains(&0) || highest().is_some_and(|highest| highest < len)
 }
 
-/// Whether it has that one to itself. Not proved, as `has_items`.
+/// Whether besides no two indices share one. Not proved, as `has_items`.
 #[inline]
 pub(crate) fn has_own_items<D: Lengths>(view: &Strided<D>, len: usize) -> bool {
     lies_in_order(view, len)
@@ -28,7 +28,7 @@ pub(crate) fn has_own_items<D: Lengths>(view: &Strided<D>, len: usize) -> bool {
 }
 
 /// Whether the places of a view rise in row-major order, up to one of so many: each axis steps past all that those after it reach.
-/// Past an `isize` would be where a stride is negative.
+/// A negative stride, read as a `usize`, leads past `isize::MAX`: it is none of these.
 #[inline]
 fn lies_in_order<D: Lengths>(view: &Strided<D>, len: usize) -> bool {
     let (shape, strides) = (view.dim().slice(), view.strides().slice());

@@ -13,7 +13,7 @@ macro_rules! reads {
             /// The array lent again, to be read: that of the items and the view as they are. ndarray's `view` and `reborrow`.
             /// Not proved.
             ///
-            /// Takes no memory, or for more than 4 axes that of the shape and the strides.
+            /// Takes no memory, or for an `IxDyn` of more than 4 axes that of the shape and the strides.
             ///
             /// # Panics
             ///
@@ -162,7 +162,7 @@ macro_rules! reads {
 of_each!(reads);
 
 impl<'a, T, D: Lengths> ArrayView<'a, T, D> {
-    /// `as_slice`, whose result lives as long as the items. ndarray's `to_slice`. Not proved.
+    /// `as_slice`, by ndarray's name: `to_slice`. Not proved.
     ///
     /// ```
     /// use ndarray_layout::*;

@@ -2,7 +2,7 @@
 
 use crate::ArrayViewMut;
 use crate::memory::{AllocError, FallibleVec};
-use crate::nd_base::Lengths;
+use crate::nd_base::{Lengths, Order};
 use alloc::vec::Vec;
 use core::slice;
 
@@ -28,22 +28,14 @@ impl<'a, T, D: Lengths> ArrayViewMut<'a, T, D> {
     /// # }
     /// ```
     pub fn into_row_slices(self) -> Result<Vec<&'a mut [T]>, AllocError> {
-        let len = self.len();
-        let mut left = self.into_rows();
-        match left.next().map(ArrayViewMut::into_slice) {
-            Some(Ok(first)) => {
-                let mut rows = Vec::fallible_with_capacity(1 + left.len())?;
-                rows.push(first);
-                rows.extend(left.filter_map(|row| row.into_slice().ok()));
-                Ok(rows)
-            }
-            Some(Err(first)) => {
-                let mut rows = Vec::fallible_with_capacity(len)?;
-                let others = left.flat_map(ArrayViewMut::into_items);
-                rows.extend(first.into_items().chain(others).map(slice::from_mut));
-                Ok(rows)
-            }
-            None => Ok(Vec::new()),
+        let first = self.strided().nth_row(Order::RowMajor, 0);
+        let are_slices = first.is_none_or(|row| row.stretch(Order::RowMajor).is_some());
+        let count = if are_slices { self.strided().rows(Order::RowMajor).len() } else { self.len() };
+        let mut rows = Vec::fallible_with_capacity(count)?;
+        match are_slices {
+            true => rows.extend(self.into_rows().filter_map(|row| row.into_slice().ok())),
+            false => rows.extend(self.into_items().map(slice::from_mut)),
         }
+        Ok(rows)
     }
 }

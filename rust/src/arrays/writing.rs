@@ -8,15 +8,15 @@ use crate::nd_lent::{IndexedIterMut, IterMut, LanesMut};
 use crate::nd_shape::NdIndex;
 use crate::{ArrayView, ArrayViewMut, AxisChunksIterMut, IntoRows, OwnedArray};
 
-/// The writes of one of the types of arrays: the head of the impl, and what makes `array` of `items` in examples, which is
-/// 1 2 3 over 4 5 6, and `items` of it.
+/// The writes of one of the types of arrays: the head of the impl, the call that lends the array, and what makes `array` of
+/// `items` in examples, which is 1 2 3 over 4 5 6, and `items` of it.
 macro_rules! writes {
     ([$($head:tt)*] $view:ident $setup:expr, $end:expr) => {
         $($head)* {
             /// The array lent again, to be written, for as long as this one isn't used. ndarray's `view_mut` and `reborrow`.
             /// Not proved.
             ///
-            /// Takes no memory, or for more than 4 axes that of the shape and the strides.
+            /// Takes no memory, or for an `IxDyn` of more than 4 axes that of the shape and the strides.
             ///
             /// # Panics
             ///
@@ -42,6 +42,10 @@ macro_rules! writes {
             /// The items in row-major order, to be written, where they lie one after another so; else `None`. ndarray's
             /// `as_slice_mut`. Not proved.
             ///
+            /// # Panics
+            ///
+            /// As `view_mut`.
+            ///
             /// ```
             /// use ndarray_layout::*;
             ///
@@ -59,6 +63,10 @@ macro_rules! writes {
 
             /// The items as they are stored, to be written, where none that is no index's lies between them; else `None`.
             /// ndarray's `as_slice_memory_order_mut`. Not proved.
+            ///
+            /// # Panics
+            ///
+            /// As `view_mut`.
             ///
             /// ```
             /// use ndarray_layout::*;
@@ -80,6 +88,10 @@ macro_rules! writes {
 
             /// The item of the first index, to be written; `None` without one. ndarray's `first_mut`. Not proved.
             ///
+            /// # Panics
+            ///
+            /// As `view_mut`.
+            ///
             /// ```
             /// use ndarray_layout::*;
             ///
@@ -96,6 +108,10 @@ macro_rules! writes {
             }
 
             /// The item of the last index, to be written; `None` without one. ndarray's `last_mut`. Not proved.
+            ///
+            /// # Panics
+            ///
+            /// As `view_mut`.
             ///
             /// ```
             /// use ndarray_layout::*;
@@ -176,7 +192,7 @@ macro_rules! writes {
             }
 
             /// An iterator over the rows along the last axis, in row-major order, from both ends, each lent to be written, whatever
-            /// the strides are: several may be used at once, and in threads. It is `into_rows` of `try_view_mut`, which are proved.
+            /// the strides are: several may be used at once, and in threads. It is `into_rows` of what `view_mut` lends, which is proved.
             /// ndarray's `rows_mut`. Not proved.
             ///
             /// # Panics
@@ -257,15 +273,11 @@ macro_rules! writes {
             /// # Errors
             ///
             /// That of `Strided::slice` for the first slice that doesn't fit; then `Unsupported` where two slices share an index, which
-            /// `Strided::first_intersection` names; then out of memory, which comes before both where this array has more than four axes.
-            /// The items are unchanged.
+            /// `Strided::first_intersection` names; then out of memory, which comes before both where this array is an `IxDyn`
+            /// of more than four axes. The items are unchanged.
             ///
-            /// Takes memory for a list of parts, none for a tuple, and time for each part and for the comparisons of
-            /// `first_intersection_sorted`, which takes memory for more than four slices.
-            ///
-            /// # Panics
-            ///
-            /// Where `ArrayViewMut::new` was given a view of which two indices share an item, or one is past the items.
+            /// Takes memory for a list of parts, of which an array is made too, none for a tuple, and time for each part and for the
+            /// comparisons of `first_intersection_sorted`, which takes memory for more than four slices.
             ///
             /// ```
             /// use ndarray_layout::*;
@@ -347,11 +359,15 @@ impl<T, D: Lengths> OwnedArray<T, D> {
     /// Calls a closure at each item and at that of another array of the same shape, in row-major order. ndarray's `zip_mut_with`, which
     /// broadcasts the other one: `ArrayView::broadcast` comes first. Not proved.
     ///
-    /// Takes no memory. Rows whose items follow one another in both are a loop over two slices.
+    /// Takes the memory of `view_mut`. Rows whose items follow one another in both are a loop over two slices.
     ///
     /// # Errors
     ///
     /// `IncompatibleShape` where the shapes differ; the closure isn't called.
+    ///
+    /// # Panics
+    ///
+    /// As `view_mut`.
     ///
     /// ```
     /// use ndarray_layout::*;

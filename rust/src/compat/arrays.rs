@@ -89,7 +89,7 @@ producers!(ArrayView<'_, T, D>, ArrayViewMut<'_, T, D>, OwnedArray<T, D>);
 ///
 /// # Panics
 ///
-/// Where the size passes `usize`, with overflow checks, and where an allocation fails.
+/// Where an allocation fails. A loop over the result panics where the size passes `usize`, with overflow checks.
 ///
 /// ```
 /// use ndarray_layout::compat::{ArrayView, Ix2, indices_of};

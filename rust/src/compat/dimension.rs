@@ -268,7 +268,7 @@ pub trait Dimension:
     /// ```
     fn next_for_f(&self, index: &mut Self) -> bool;
 
-    /// Whether two lists of strides agree on each axis longer than 1. ndarray's `strides_equivalent`.
+    /// Whether two lists of strides agree on each axis of length greater than 1. ndarray's `strides_equivalent`.
     ///
     /// ```
     /// use ndarray_layout::compat::{Dimension, Ix2};
@@ -360,7 +360,7 @@ pub trait Dimension:
     /// ```
     fn _fastest_varying_stride_order(&self) -> Self;
 
-    /// The axis with the stride of least magnitude. ndarray's `min_stride_axis`.
+    /// The axis with the stride of least magnitude, of those of length greater than 1. ndarray's `min_stride_axis`.
     ///
     /// # Panics
     ///
@@ -378,7 +378,7 @@ pub trait Dimension:
         crate::Dimension::min_stride_axis(self.proved(), strides.proved())
     }
 
-    /// The axis with the stride of greatest magnitude. ndarray's `max_stride_axis`.
+    /// The axis with the stride of greatest magnitude, of those of length greater than 1. ndarray's `max_stride_axis`.
     ///
     /// # Panics
     ///
@@ -433,7 +433,7 @@ pub trait Dimension:
     ///
     /// # Panics
     ///
-    /// Where the axis is past the last one but one, and where an allocation fails.
+    /// Where the axis is greater than the count of axes, and where an allocation fails.
     ///
     /// ```
     /// use ndarray_layout::compat::{Axis, Dimension, Ix2, Ix3};

@@ -77,8 +77,7 @@ impl<D: crate::Dimension> Dimension for D {
     #[inline]
     #[track_caller]
     fn try_remove_axis(&self, axis: Axis) -> D::Smaller {
-        let count = Lengths::ndim(self);
-        assert!(count == 0 || axis.index() < count, "there is no such axis");
+        assert!(Lengths::ndim(self) == 0 || axis.index() < Lengths::ndim(self), "there is no such axis");
         or_panic(crate::Dimension::try_remove_axis(self, axis))
     }
 }

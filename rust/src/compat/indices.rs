@@ -7,7 +7,7 @@ use crate::{Indices, IndicesIterF};
 ///
 /// # Panics
 ///
-/// Where the size passes `usize`, with overflow checks, and where an allocation fails.
+/// Where an allocation fails. A loop over the result panics where the size passes `usize`, with overflow checks.
 ///
 /// ```
 /// use ndarray_layout::compat::{Dimension, IxDyn, indices};

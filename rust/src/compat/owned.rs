@@ -67,7 +67,7 @@ pub trait ArrayExt<A, D: Dimension>: Sized {
     ///
     /// # Panics
     ///
-    /// Where the size passes `isize`, and where an allocation fails.
+    /// Where the product of the lengths other than 0 passes `isize`, and where an allocation fails.
     ///
     /// ```
     /// use ndarray_layout::compat::{Array2, ArrayExt, Ix2, ShapeBuilder};
@@ -83,7 +83,7 @@ pub trait ArrayExt<A, D: Dimension>: Sized {
     ///
     /// # Panics
     ///
-    /// Where an index or a bound is past its axis, at the step 0, and where an allocation fails.
+    /// Where an index or a bound is past its axis, at the step 0, for another count of axes, and where an allocation fails.
     ///
     /// ```
     /// use ndarray_layout::compat::{Array2, ArrayExt, s};
@@ -108,7 +108,6 @@ impl<A, D: crate::Dimension> ArrayExt<A, D> for OwnedArray<A, D> {
 
     #[track_caller]
     fn slice<I: SliceArg<D>>(&self, info: I) -> ArrayView<'_, A, I::OutDim> {
-        let view = or_panic(self.strided().slice(&info, Fit::Strict));
-        or_panic(ArrayView::over(view, self.stored()))
+        ArrayView::new(or_panic(self.strided().slice(&info, Fit::Strict)), self.stored())
     }
 }

@@ -32,22 +32,20 @@ pub trait SliceArg<D: Dimension>: AsRef<[SliceInfoElem]> {
     }
 }
 
-/// What is a slice argument of the package is one by the signatures of this trait.
-macro_rules! slice_arguments {
-    ($([$($generics:tt)*] $slices:ty;)*) => {$(
-        /// Not proved.
-        impl<D: crate::Dimension, $($generics)*> SliceArg<D> for $slices
-        where
-            Self: crate::SliceArg<D, OutDim: Dimension>,
-        {
-            type OutDim = <Self as crate::SliceArg<D>>::OutDim;
-        }
-    )*};
+/// Not proved.
+impl<D: crate::Dimension, T: SliceElems, Din: FixedCount, Dout: FixedCount> SliceArg<D> for SliceInfo<T, Din, Dout>
+where
+    Self: crate::SliceArg<D, OutDim: Dimension>,
+{
+    type OutDim = <Self as crate::SliceArg<D>>::OutDim;
 }
 
-slice_arguments! {
-    [T: SliceElems, Din: FixedCount, Dout: FixedCount] SliceInfo<T, Din, Dout>;
-    [] [SliceInfoElem];
+/// Not proved.
+impl<D: crate::Dimension> SliceArg<D> for [SliceInfoElem]
+where
+    Self: crate::SliceArg<D, OutDim: Dimension>,
+{
+    type OutDim = <Self as crate::SliceArg<D>>::OutDim;
 }
 
 /// Not proved.

@@ -67,7 +67,7 @@ pub fn slice_min_max(axis_len: usize, slice: Slice) -> Option<(usize, usize)> {
 ///
 /// # Panics
 ///
-/// Where an index or a bound is past its axis, and at the step 0. ndarray doesn't look at each.
+/// Where an index or a bound is past its axis, at the step 0, and for another count of axes. ndarray doesn't look at each.
 ///
 /// ```
 /// use ndarray_layout::compat::{Ix2, s, slices_intersect};

@@ -35,12 +35,10 @@ pub fn axes_of<'a, D: Dimension>(dim: &'a D, strides: &'a D) -> Axes<'a> {
 /// assert!(co_broadcast::<Ix1, Ix1, Ix1>(&Ix1(4), &Ix1(5)).is_err());
 /// ```
 #[track_caller]
-pub fn co_broadcast<D1, D2, Output>(shape1: &D1, shape2: &D2) -> Result<Output, ShapeError>
-where
-    D1: Dimension,
-    D2: Dimension,
-    Output: Dimension,
-{
+pub fn co_broadcast<D1: Dimension, D2: Dimension, Output: Dimension>(
+    shape1: &D1,
+    shape2: &D2,
+) -> Result<Output, ShapeError> {
     let count = shape1.ndim().max(shape2.ndim());
     assert!(Output::NDIM.is_none_or(|fixed| fixed == count), "the type has another count of axes");
     of_shapes(crate::co_broadcast(shape1.proved(), shape2.proved())).map(Output::of_proved)
@@ -50,7 +48,7 @@ where
 ///
 /// # Errors
 ///
-/// `IncompatibleShape` for another size, `IncompatibleLayout` where no strides do.
+/// `IncompatibleLayout` where no strides do, as far as the shapes are read; then `IncompatibleShape` for another size.
 ///
 /// # Panics
 ///
@@ -63,11 +61,7 @@ where
 /// assert!(reshape_dim(&Ix2(4, 5), &Ix2(10, 2), &Ix1(20), Order::F).is_err());
 /// ```
 #[track_caller]
-pub fn reshape_dim<D, E>(from: &D, strides: &D, to: &E, order: Order) -> Result<E, ShapeError>
-where
-    D: Dimension,
-    E: Dimension,
-{
+pub fn reshape_dim<D: Dimension, E: Dimension>(from: &D, strides: &D, to: &E, order: Order) -> Result<E, ShapeError> {
     assert_eq!(from.ndim(), strides.ndim(), "a layout has as many strides as axes");
     of_shapes(crate::reshape_dim(from.proved(), strides.proved(), to.proved(), order)).map(E::of_proved)
 }
@@ -112,7 +106,7 @@ pub fn merge_axes<D: Dimension>(dim: &mut D, strides: &mut D, take: Axis, into: 
     crate::merge_axes(dim.proved_mut(), strides.proved_mut(), take, into)
 }
 
-/// Swaps the axis with the stride of least magnitude, of those longer than 1, with the last one. ndarray's
+/// Swaps the axis with the stride of least magnitude, of those of length greater than 1, with the last one. ndarray's
 /// `move_min_stride_axis_to_last`. Not proved.
 ///
 /// ```

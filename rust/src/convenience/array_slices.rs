@@ -38,7 +38,7 @@ impl<'a, T, D: Lengths> ArrayView<'a, T, D> {
 
 impl<'a, T, D: Lengths> ArrayViewMut<'a, T, D> {
     /// The items that a slice argument leaves, to be read for as long as this array isn't written: `Strided::sliced`, with its
-    /// errors. Not proved.
+    /// errors, but out of memory first for an `IxDyn` of more than 4 axes. Not proved.
     ///
     /// ndarray's `slice`, which panics.
     ///
@@ -116,7 +116,8 @@ impl<'a, T, D: Lengths> ArrayViewMut<'a, T, D> {
 }
 
 impl<T, D: Lengths> OwnedArray<T, D> {
-    /// The items that a slice argument leaves, to be read: `Strided::sliced`, with its errors. Not proved.
+    /// The items that a slice argument leaves, to be read: `Strided::sliced`, with its errors, but out of memory first for an `IxDyn`
+    /// of more than 4 axes. Not proved.
     ///
     /// ndarray's `slice`, which panics.
     ///
@@ -134,7 +135,8 @@ impl<T, D: Lengths> OwnedArray<T, D> {
         self.try_view()?.slice_with(&slices, Fit::Strict)
     }
 
-    /// The items that a slice argument leaves, to be written: `Strided::sliced`, with its errors. Not proved.
+    /// The items that a slice argument leaves, to be written: `Strided::sliced`, with its errors, but out of memory first for an
+    /// `IxDyn` of more than 4 axes. Not proved.
     ///
     /// ndarray's `slice_mut`, which panics.
     ///

@@ -1,7 +1,7 @@
 //! Arrays as values that are copied, made by default, iterated over and indexed.
 
 use super::OUT_OF_MEMORY;
-use crate::arrays::no_such_index;
+use crate::arrays::{fitting, no_such_index};
 use crate::memory::{FallibleSlice, FallibleVec};
 use crate::nd_base::{Dim, ErrorKind, LayoutError, Lengths, from_kind};
 use crate::nd_dim::product;
@@ -9,11 +9,6 @@ use crate::nd_shape::{NdIndex, StrideShape, Strides};
 use crate::{ArrayView, Items, OwnedArray};
 use alloc::vec::Vec;
 use core::ops::{Index, IndexMut};
-
-/// The array of a layout that is known to fit the items.
-fn array_of<T, D: Lengths>(shape: StrideShape<D>, items: Vec<T>) -> OwnedArray<T, D> {
-    OwnedArray::from_shape_vec(shape, items).unwrap_or_else(|(fault, _)| panic!("the array is not made: {fault}"))
-}
 
 impl<T, D: Lengths> OwnedArray<T, D> {
     /// The array of a shape and of as many items as it has indices: `from_shape_vec`, whose items may be more, and whose error gives
@@ -39,12 +34,11 @@ impl<T, D: Lengths> OwnedArray<T, D> {
         let (shape, count) = (shape.into(), items.len());
         let may_be_more = shape.strides.is_custom();
         let array = Self::from_shape_vec(shape, items)?;
-        let is_exact = may_be_more || array.len() == count;
-        is_exact.then_some(array).ok_or(LayoutError::Shape(from_kind(ErrorKind::IncompatibleShape)))
+        (may_be_more || array.len() == count).then_some(array).ok_or(from_kind(ErrorKind::IncompatibleShape).into())
     }
 }
 
-/// The array of one or two axes of items between brackets. ndarray's `array!`, of which `vec!` has to be in scope. Not proved.
+/// The array of one or two axes of items between brackets. ndarray's `array!`. The macro `vec!` has to be in scope. Not proved.
 ///
 /// ```
 /// use ndarray_layout::{LayoutError, array};
@@ -78,8 +72,8 @@ macro_rules! array {
 /// ```
 impl<T: Clone, D: Lengths> Clone for OwnedArray<T, D> {
     fn clone(&self) -> Self {
-        let (dim, strides) = (self.dim().clone(), Strides::Custom(self.strided().strides().clone()));
-        array_of(StrideShape { dim, strides }, self.stored().fallible_to_vec().expect(OUT_OF_MEMORY))
+        let shape = StrideShape { dim: self.dim().clone(), strides: Strides::Custom(self.strided().strides().clone()) };
+        fitting(Self::from_exact_vec(shape, self.stored().fallible_to_vec().expect(OUT_OF_MEMORY)))
     }
 }
 
@@ -101,7 +95,7 @@ impl<T: Default, D: Lengths + Default> Default for OwnedArray<T, D> {
         let count = product(dim.slice());
         let mut items = Vec::fallible_with_capacity(count).expect(OUT_OF_MEMORY);
         items.resize_with(count, T::default);
-        array_of(StrideShape { dim, strides: Strides::C }, items)
+        fitting(Self::from_exact_vec(StrideShape { dim, strides: Strides::C }, items))
     }
 }
 
@@ -145,7 +139,7 @@ impl<'a, T: Copy, D: Lengths> IntoIterator for &'a OwnedArray<T, D> {
 ///
 /// # Panics
 ///
-/// Where it is no index of the shape, with both: `get` returns `None`.
+/// Where it is no index of the shape; the message has both. `get` returns `None`.
 impl<T, D: Lengths, I: NdIndex<D>> Index<I> for OwnedArray<T, D> {
     type Output = T;
 
@@ -163,7 +157,7 @@ impl<T, D: Lengths, I: NdIndex<D>> Index<I> for OwnedArray<T, D> {
 ///
 /// # Panics
 ///
-/// Where it is no index of the shape, with both: `get_mut` returns `None`.
+/// Where it is no index of the shape; the message has both. `get_mut` returns `None`.
 impl<T, D: Lengths, I: NdIndex<D>> IndexMut<I> for OwnedArray<T, D> {
     #[inline]
     #[track_caller]

@@ -37,8 +37,8 @@ printed! {
     [D: Dimension] IndicesIterF<D>;
 }
 
-/// Iterator over copies of the indices that a cursor lends: over those of a shape of any number of axes. In place of
-/// ndarray's `IndicesIter` and `IndicesIterF` over `IxDyn`. Not proved.
+/// Iterator over copies of the indices that a cursor lends: over those of a shape of any number of axes. What a `for` loop
+/// over a cursor makes; `IndicesIter` is over `IxDyn` too. Not proved.
 ///
 /// An item takes time in proportion to the count of axes.
 ///
@@ -82,8 +82,7 @@ macro_rules! copies {
             type Item = IxDyn;
 
             fn next(&mut self) -> Option<IxDyn> {
-                let index = self.cursor.next()?;
-                Some(new_ixdyn(index).expect(OUT_OF_MEMORY))
+                self.cursor.next().map(|index| new_ixdyn(index).expect(OUT_OF_MEMORY))
             }
 
             fn size_hint(&self) -> (usize, Option<usize>) {

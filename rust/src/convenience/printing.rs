@@ -32,10 +32,7 @@ fn print_separator(f: &mut Formatter<'_>, ndim: usize, axis: usize) -> fmt::Resu
 
 /// The coordinate of an axis that is printed after another one, where at most so many are; `None` after the last one.
 fn next_shown(coordinate: usize, len: usize, most: usize) -> Option<usize> {
-    let next = coordinate + 1;
-    if len > most && next == most / 2 {
-        return Some(len - most / 2);
-    }
+    let next = if len > most && coordinate + 1 == most / 2 { len - most / 2 } else { coordinate + 1 };
     (next < len).then_some(next)
 }
 
@@ -114,10 +111,8 @@ fn print_array<T: fmt::Debug, D: Lengths>(f: &mut Formatter<'_>, array: &ArrayVi
     let view = array.strided();
     write!(f, ", shape={:?}, strides={:?}", view.dim().slice(), Signed(view.strides().slice()))?;
     write!(f, ", layout={:?}", layout_of(view.dim(), view.strides()))?;
-    match D::NDIM {
-        Some(ndim) => write!(f, ", const ndim={ndim}"),
-        None => write!(f, ", dynamic ndim={}", view.dim().ndim()),
-    }
+    let kind = if D::NDIM.is_some() { "const" } else { "dynamic" };
+    write!(f, ", {kind} ndim={}", view.dim().ndim())
 }
 
 /// What a type of arrays prints, by `{:?}` and by other traits.

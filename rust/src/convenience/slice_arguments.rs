@@ -24,7 +24,7 @@ use core::ops::{Deref, Range, RangeFrom, RangeFull, RangeInclusive, RangeTo, Ran
 ///
 /// # Errors
 ///
-/// None here. The call that takes the slice returns `OutOfBounds` for a bound past its axis and `Unsupported` for a step
+/// None here. The call that takes the slice returns `OutOfBounds` for an index or a bound past its axis and `Unsupported` for a step
 /// of 0, where ndarray panics.
 ///
 /// # Panics

@@ -1,11 +1,12 @@
 //! Where ndarray panics, the call of `compat` does, with what is wrong.
 
 use ndarray_layout::compat::{
-    Array1, ArrayExt, Axis, Dimension, DimensionExt, Ix0, Ix1, Ix2, Ix3, IxDyn, Order, RemoveAxis, Slice,
-    SliceInfoElem, co_broadcast, do_collapse_axis, do_slice, extended_gcd, merge_axes, reshape_dim, s, slice_min_max,
-    slices_intersect, solve_linear_diophantine_eq, to_abs_slice,
+    Array0, Array1, Array2, ArrayExt, Axis, Dimension, DimensionExt, Ix0, Ix1, Ix2, Ix3, IxDyn, Order, RemoveAxis,
+    Slice, SliceInfoElem, co_broadcast, do_collapse_axis, do_slice, extended_gcd, merge_axes, reshape_dim, s,
+    slice_min_max, slices_intersect, solve_linear_diophantine_eq, to_abs_slice,
 };
-use std::panic::{UnwindSafe, catch_unwind};
+use std::cell::RefCell;
+use std::panic::{UnwindSafe, catch_unwind, set_hook, take_hook};
 
 /// What a call says as it panics.
 fn said<T>(call: impl FnOnce() -> T + UnwindSafe) -> String {
@@ -65,5 +66,27 @@ fn a_number_past_its_type() {
     assert_eq!(said(|| extended_gcd(isize::MIN, 0)), "a number is past isize: TryFromIntError(())");
     assert_eq!(said(|| solve_linear_diophantine_eq(0, 6, 3)), "an equation has a factor of 0");
     let said = said(|| Array1::<u64>::zeros(usize::MAX).stored().len());
-    assert_eq!(said, "ShapeError/Overflow: arithmetic overflow");
+    assert_eq!(said, "the array is not made: ShapeError/Overflow: arithmetic overflow");
+}
+
+thread_local! {
+    /// The file in which this thread has panicked last.
+    static FILE: RefCell<String> = RefCell::default();
+}
+
+#[test]
+fn a_panic_names_the_line_that_made_the_call() {
+    let print = take_hook();
+    set_hook(Box::new(move |panic| {
+        FILE.set(panic.location().map_or_else(String::new, |place| place.file().to_string()));
+        print(panic);
+    }));
+    let file_of = |call: fn()| (said(call), FILE.take()).1;
+    assert_eq!(file_of(|| _ = to_abs_slice(4, Slice::new(5, None, 1))), file!());
+    assert_eq!(file_of(|| _ = slices_intersect(&Ix1(4), s![..], s![..9])), file!());
+    assert_eq!(file_of(|| _ = Array1::<u8>::zeros(4).slice(s![4]).len()), file!());
+    assert_eq!(file_of(|| _ = Array1::<u64>::zeros(usize::MAX)), file!());
+    assert_eq!(file_of(|| _ = Array2::<u64>::zeros((2, 3))[(2, 0)]), file!());
+    assert_eq!(file_of(|| Array2::<u64>::zeros((2, 3)).rows().for_each(|row| _ = row[3])), file!());
+    assert_eq!(file_of(|| _ = Array0::from_elem((), 1).into_dyn().outer_iter()), file!());
 }

@@ -27,7 +27,7 @@ impl<'a, T, D: Lengths> Iterator for IterMut<'a, T, D> {
         self.places.size_hint()
     }
 
-    crate::arrays::fold_part_items!();
+    crate::arrays::fold_by_rest!();
 }
 
 impl<'a, T, D: Lengths> DoubleEndedIterator for IterMut<'a, T, D> {

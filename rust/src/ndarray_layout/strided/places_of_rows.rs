@@ -436,7 +436,7 @@ impl<R: RowEnds> Iterator for PlacesOf<R> {
         (left, Some(left))
     }
 
-    crate::arrays::fold_places!();
+    crate::arrays::fold_by_rest!();
 }
 
 impl<R: RowEnds> DoubleEndedIterator for PlacesOf<R> {
