@@ -10,8 +10,11 @@ ANSWERED = re.compile(r"\./proofs/(\S+)/Answers\.antt:\S+ error: `([^`]+)`")
 UNSEEN = re.compile(r"\./proofs/(\S+)/Answers\.antt:\S+ error: \d+ declarations? that depends? on (.*) not checked: (.*?)(?: and \d+ more)?$", re.M)
 SEARCHED = re.compile(r"note: src/\S+ it is not proved that .*?\(`([^`]+)`\)")
 FUNCTION = re.compile(r"fn \w+::(\S+): (.*)")
-# a limit of the prover's own, or of the machine: it has refused nothing then
-LIMIT = re.compile(r"\bran out of (?:time|stack|memory|the (?:steps|memory) that)|outgrew the memory limit|stopped at the step limit|could not tell")
+# a limit of the prover's own, or of the machine, or a name that the proof cites and the body lacks: it has refused nothing then
+LIMIT = re.compile(
+    r"\bran out of (?:time|stack|memory|the (?:steps|memory) that)|outgrew the memory limit|stopped at the step limit|could not tell"
+    r"|error: `[^`]+`: (?:`[^`]+`: )?(?:record|module) `[^`]+` has no "
+)
 
 
 def goals_unseen(folder, function, because, names):
