@@ -447,9 +447,9 @@ int32_t nd_merge_axes(size_t *shape, size_t shape_len, ptrdiff_t *strides, size_
  * ND_COLUMN_MAJOR.
  *
  * ND_INCOMPATIBLE_LAYOUT and ND_OVERFLOW as of nd_has_overlap; then ND_OVERFLOW where `new_shape` is too large; then
- * ND_INCOMPATIBLE_SHAPE where one of the two shapes alone has no index; then ND_INCOMPATIBLE_LAYOUT where two axes would
- * have to step as one and don't; then ND_INCOMPATIBLE_SHAPE where the sizes differ. Two neighbours among the axes of length
- * greater than 1 step as one where the stride of the slower is the length times the stride of the faster. They have to unless p, the
+ * ND_INCOMPATIBLE_SHAPE where one of the two shapes alone has no index; then ND_INCOMPATIBLE_LAYOUT where two axes would have
+ * to step as one and don't; then ND_INCOMPATIBLE_SHAPE where the sizes differ. Two neighbours among the axes of length greater
+ * than 1 step as one where the stride of the slower is the length times the stride of the faster. They have to unless p, the
  * product of the lengths from the slowest axis to the slower of the two, is the size of `new_shape` or more, or the product of
  * its lengths from its slowest axis to some axis.
  *
@@ -567,7 +567,8 @@ enum {
     ND_RULE_LENGTH = 10,     /* ND_OUT_OF_BOUNDS: the highest place is past the buffer. `size`: the highest place; `other`:
                                 how long the buffer is */
     ND_RULE_ALIAS = 11,      /* ND_UNSUPPORTED: the no-alias rule. `axis`: the first of length greater than 1 whose stride
-                                isn't past the reach of the others whose stride is at most its own; `number`: its stride; `size`: that reach */
+                                isn't past the reach of the others whose stride is at most its own; `number`: its stride;
+                                `size`: that reach */
     ND_RULE_OTHER_SIZE = 12, /* ND_INCOMPATIBLE_SHAPE: a new shape has another count of indices. `size`: its count;
                                 `other`: that of the layout */
     ND_RULE_COPY = 13,       /* ND_INCOMPATIBLE_LAYOUT: a new shape would take a copy. `axis`: in the order of reading,
@@ -780,10 +781,10 @@ ND_INLINE const char *nd_status_message(int32_t status) {
 
 /*
  * The functions below are of this header, and not of the library; ndarray_layout_inline.h, ndarray_layout_rows.h,
- * ndarray_layout_bytes.h, ndarray_layout_sharing.h and ndarray_layout_reasons.h, which it includes, have more of them. Each here
- * but the two that count makes one call from above with the fields of a layout, or several. It returns the call's status, and after any but
- * ND_OK nothing has been written. The layout that is written comes last, and may be the one that is read. ND_BAD_ARGUMENT,
- * before every other status, also says that a layout has more than ND_MAX_AXES axes, or would have.
+ * ndarray_layout_bytes.h, ndarray_layout_sharing.h and ndarray_layout_reasons.h, which it includes, have more of them. Each
+ * here but the two that count makes one call from above with the fields of a layout, or several. It returns the call's status,
+ * and after any but ND_OK nothing has been written. The layout that is written comes last, and may be the one that is read.
+ * ND_BAD_ARGUMENT, before every other status, also says that a layout has more than ND_MAX_AXES axes, or would have.
  *
  * ND_MAX_AXES is 32, or what a program defines it as before it includes this header: a number from 4 on, in digits alone. With 4
  * a view takes 104 bytes and an iterator of rows 136, where they take 552 and 808. All files of a program that pass views,

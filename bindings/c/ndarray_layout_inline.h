@@ -67,7 +67,8 @@ ND_CHECKED((1, 3)) int nd_put_lists(const nd_view *view, int32_t order, nd_lists
 
 /*
  * Whether the layout of a view, as it stands, fits the view's buffer: nd_check_layout, with its statuses. Over bytes, owned, no
- * two elements may share a byte, ND_OVERFLOW counts bytes, and ND_OUT_OF_MEMORY may come where there are more than three axes.
+ * two elements may share a byte, ND_OVERFLOW counts bytes, and ND_OUT_OF_MEMORY may come where there are more than three
+ * axes.
  *
  * (3), strides (3), over bytes, of 4 bytes: ND_OK read-only, ND_UNSUPPORTED owned.
  */

@@ -8,7 +8,7 @@ use crate::{all_indices, indices_iter_f, size_of_shape_checked};
 use alloc::vec::Vec;
 use core::fmt::Display;
 
-/// A made array, or its size. Panics where it isn't.
+/// A made array, or its size. Panics where there is an error.
 #[track_caller]
 pub(crate) fn fitting<A>(made: Result<A, impl Display>) -> A {
     match made {
