@@ -6,6 +6,7 @@ ghost use Rattle.nd_base.specs.Size.{is_empty, limit};
 ghost use Rattle.nd_base.specs.Span.{reach as reach_of_axis, span};
 ghost use Rattle.nd_dim.specs.StrideOrder.{IsStrideOrder};
 ghost use Rattle.nd_shape.specs.NoAlias.{satisfies_no_alias_rule, strides_over_others, span_up_to as span_up_to_magnitude, SatisfiesNoAliasRule};
+ghost use Rattle.nd_shape.specs.NoAliasPass.{holds_in_one_pass};
 ghost use Rattle.nd_base.specs.DistinctOffsets.{HasDistinctOffsets};
 ghost use Rattle.nd_base.specs.ValidLayout.{IsValidLayout};
 
@@ -166,6 +167,9 @@ pub fn has_overlap(shape: &[usize], strides: &[usize]) -> bool
     ensures apart { IsFalse result ↔
         (IsTrue (is_empty shape.now) ⊎ SatisfiesNoAliasRule shape.now (all_signed strides.now)) }
     ensures distinct { IsFalse result → HasDistinctOffsets shape.now (all_signed strides.now) }
+    ensures pass { (order : List ℕ) → IsStrideOrder (all_signed strides.now) order →
+        result ≡ (not (is_empty shape.now)
+        && not (holds_in_one_pass shape.now (all_signed strides.now) order)) }
 {
     breaks_no_alias_rule(shape, strides) && !shape.contains(&0)
 }
@@ -188,6 +192,9 @@ pub fn dim_stride_overlap<D: Lengths>(dim: &D, strides: &D) -> bool
         ⊎ SatisfiesNoAliasRule (D.list dim.now) (all_signed (D.list strides.now))) }
     ensures distinct { IsFalse result →
         HasDistinctOffsets (D.list dim.now) (all_signed (D.list strides.now)) }
+    ensures pass { (order : List ℕ) → IsStrideOrder (all_signed (D.list strides.now)) order →
+        result ≡ (not (is_empty (D.list dim.now))
+        && not (holds_in_one_pass (D.list dim.now) (all_signed (D.list strides.now)) order)) }
 {
     has_overlap(dim.slice(), strides.slice())
 }

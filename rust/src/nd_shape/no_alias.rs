@@ -199,6 +199,9 @@ fn breaks_no_alias_rule(shape: &[usize], strides: &[usize]) -> bool {
 /// ensures apart: IsFalse result ↔
 ///     (IsTrue (is_empty shape.now) ⊎ SatisfiesNoAliasRule shape.now (all_signed strides.now))
 /// ensures distinct: IsFalse result → HasDistinctOffsets shape.now (all_signed strides.now)
+/// ensures pass: (order : List ℕ) → IsStrideOrder (all_signed strides.now) order →
+///     result ≡ (not (is_empty shape.now)
+///     && not (holds_in_one_pass shape.now (all_signed strides.now) order))
 /// ```
 /// [How to read it](crate::contracts)
 /// </details>
@@ -231,6 +234,9 @@ pub fn has_overlap(shape: &[usize], strides: &[usize]) -> bool {
 ///     (IsTrue (is_empty (D.list dim.now))
 ///     ⊎ SatisfiesNoAliasRule (D.list dim.now) (all_signed (D.list strides.now)))
 /// ensures distinct: IsFalse result → HasDistinctOffsets (D.list dim.now) (all_signed (D.list strides.now))
+/// ensures pass: (order : List ℕ) → IsStrideOrder (all_signed (D.list strides.now)) order →
+///     result ≡ (not (is_empty (D.list dim.now))
+///     && not (holds_in_one_pass (D.list dim.now) (all_signed (D.list strides.now)) order))
 /// ```
 /// [How to read it](crate::contracts)
 /// </details>
