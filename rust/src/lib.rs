@@ -40,7 +40,8 @@
 //! `all_indices(Ix2(1 << 32, 1 << 32))` panics with overflow checks, and ends at once without them. No behaviour is undefined: the
 //! only `unsafe` is proved, and the calls that have a condition for it test it.
 //!
-//! The file `proved.txt` of the package has the checksums of the sources that the last whole check proved, and its date.
+//! The file `proved.txt` of the package has the checksums of the sources that the last gate proved, and its date. The gate makes the proofs; the
+//! other steps of the check have no part in that file.
 //!
 //! What the package adds to the sources isn't proved, but tested: [`s!`], `Ix2(..)`, `Clone` and the like, and what [`ArrayView::new`] and
 //! [`ArrayViewMut::new`] ask of a view, on which the `unsafe` rests. The docs of each such item say so, or the page of its module, as that of [`memory`].
