@@ -1,5 +1,5 @@
 #!/usr/bin/env -S python3 -B
-"""A ratchet. From a commit to the next no kind of what KINDS counts falls, and lines by hand don't rise, unless the commit's message has a line 'counts: WHY'. It looks at
+"""A ratchet. From a commit to the next no kind of what KINDS counts falls, and none of what FEWER counts rises, unless the commit's message has a line 'counts: WHY'. It looks at
 each commit since the branch left main, on main at the last ones, and counts in what git has of them. In checks/steps.toml stands each check, and each crate that
 has wrong bodies, with all its parts. Prints the counts of the last commit, and what is wrong; its status is 1 where something is.
 
@@ -11,7 +11,6 @@ from rattle_source import TOP, read
 
 LAST = 30  # commits, on main
 STEPS = "checks/steps.toml"
-BY_HAND = "lines by hand in rust/src/"  # these may not rise
 LINE_OF_CODE = r"^\s*(?!//|#\[doc)\S"
 # a kind: the files, and what counts in them: lines with this, or where there is none the file
 KINDS = {
@@ -27,9 +26,13 @@ KINDS = {
     "planted faults": (r"checks/planted\.toml", r"^\["),
     "wrong bodies": (r"(crates|threads)/\w+/wrong/.*\.edit", None),
     "commands of the workflow": (r"\.github/workflows/.*\.yml", r"^ *(- )?run: "),
-    **{BY_HAND + name: (rf"rust/src/{name}(/.*)?\.rs", LINE_OF_CODE) for name in ("arrays", "convenience", "compat")},
 }
-EXPRESSIONS = {kind: (re.compile(files), lines and re.compile(lines, re.M)) for kind, (files, lines) in KINDS.items()}
+FEWER = {
+    **{f"lines by hand in rust/src/{name}": (rf"rust/src/{name}(/.*)?\.rs", LINE_OF_CODE) for name in ("arrays", "convenience", "compat")},
+    "tests that are left out": (r".*\.(rs|rt|py)", r"^\s*(#\[ignore|@unittest\.(skip\(|expected)|self\.skipTest|raise unittest\.SkipTest)"),
+    "steps of the workflow that may fail, or be left out": (r"\.github/workflows/.*\.yml", r"continue-on-error|\|\| *(true|:)|^ *(- )?if:"),
+}
+EXPRESSIONS = {kind: (re.compile(files), lines and re.compile(lines, re.M)) for kind, (files, lines) in {**KINDS, **FEWER}.items()}
 
 
 def git(*words):
@@ -63,7 +66,7 @@ def count_in(kind, blob):
 @functools.cache
 def counts_of(commit):
     """How many there are of each kind in a commit."""
-    found = collections.Counter(dict.fromkeys(KINDS, 0))
+    found = collections.Counter(dict.fromkeys(EXPRESSIONS, 0))
     for line in git("ls-tree", "-r", "-z", commit).split("\0")[:-1]:
         head, _, path = line.partition("\t")
         for kind in kinds_of(path):
@@ -91,7 +94,7 @@ def faults():
         subject, _, text = git("log", "-1", "--format=%s%n%b", commit).partition("\n")
         for kind, now in counts_of(commit).items() if parents and not re.search(r"^counts: \S", text, re.M) else ():
             before = [counts_of(parent)[kind] for parent in parents]
-            if kind.startswith(BY_HAND) and now > max(before) or not kind.startswith(BY_HAND) and now < min(before):
+            if now > max(before) if kind in FEWER else now < min(before):
                 yield f"{commit[:8]} {subject}: {now} {kind}, before it {' and '.join(map(str, before))}: its message says no 'counts: WHY'"
 
 
