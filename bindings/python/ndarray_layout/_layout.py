@@ -81,7 +81,7 @@ class Layout(Views):
 
     Of a buffer or an array it keeps the `itemsize`, the bytes of an element, and their `format`, as `memoryview` has it,
     or `None` where that says another size, as of packed records of ctypes; of a count these are 1 and `None`. Layouts that
-    differ in these alone are equal.
+    differ in the format alone are equal.
 
     >>> layout = Layout.over(6, (2, 3), (-3, 1))
     >>> layout
@@ -102,8 +102,8 @@ class Layout(Views):
     strides: Lens
     length: int
     writable: bool
-    itemsize: int = field(compare=False, repr=False)
-    format: Optional[str] = field(compare=False, repr=False)
+    itemsize: int
+    format: Optional[str] = field(compare=False)
 
     def __init__(
         self,
@@ -128,6 +128,10 @@ class Layout(Views):
         set_writable(self, may_write)
         set_itemsize(self, itemsize)
         set_format(self, format)
+
+    def __repr__(self) -> str:
+        names = ("start", "shape", "strides", "length", "writable", *["itemsize"] * (self.itemsize != 1))
+        return f"{type(self).__qualname__}({', '.join([f'{name}={getattr(self, name)!r}' for name in names])})"
 
     def __reduce__(self) -> tuple[Any, ...]:
         numbers = self.start, self.shape, self.strides, self.length, self.writable, self.itemsize, self.format
