@@ -194,6 +194,58 @@ class Items(unittest.TestCase):
         with self.assertRaisesRegex(ShapeError, "IncompatibleBuffer: NumPy has no dtype for the format 'n'"):
             Layout.over(2, 2).as_array(sizes)
 
+    def test_formats_of_another_size(self):
+        """ctypes says the format of a byte for packed records and for unions, whose dtype is that of their class."""
+        fields = [("a", ctypes.c_uint8), ("b", ctypes.c_uint32)]
+        packed = type("Packed", (ctypes.Structure,), {"_pack_": 1, "_fields_": fields})
+        either = type("Either", (ctypes.Union,), {"_fields_": fields})
+        for kind, itemsize in ((packed, 5), (either, 4)):
+            items = (kind * 3).from_buffer(bytearray(range(3 * itemsize)))
+            with self.assertWarnsRegex(RuntimeWarning, "PEP3118"):  # (NumPy's, of such formats)
+                expected = np.asarray(items)
+            for buffer in (items, memoryview(items)):
+                layout = Layout.over(buffer, 3)
+                self.assertEqual((layout.itemsize, layout.format, Layout.of(memoryview(items)).format), (itemsize, None, None))
+                with self.assertWarnsRegex(RuntimeWarning, "PEP3118"):
+                    made = layout[::-1].as_array(buffer)
+                self.assertEqual((made.dtype, made.tolist()), (expected.dtype, expected[::-1].tolist()))
+                with self.assertRaisesRegex(ShapeError, f"a memoryview can't have items of the format 'B' of {itemsize} bytes"):
+                    layout.as_memoryview(buffer)
+            with self.assertWarns(RuntimeWarning), self.assertRaisesRegex(ShapeError, f"no dtype for the format 'B' of {itemsize} bytes"):
+                Layout.over(2, 2).as_array(memoryview(items)[1:])  # (NumPy reads whole arrays of ctypes alone)
+        bits = type("Bits", (ctypes.Structure,), {"_fields_": [("a", ctypes.c_uint32, 3), ("b", ctypes.c_uint32, 5)]})
+        with self.assertWarns(RuntimeWarning), self.assertRaisesRegex(ShapeError, "NumPy has no dtype for the format"):
+            Layout.over(2, 2).as_array((bits * 2)())
+
+    def test_items_of_another_size(self):
+        """A layout over elements of 8 bytes is one of no other items; that of a count is one of all."""
+        numbers = np.arange(6.0)
+        for layout in (Layout.over(numbers, 6), Layout.of(numbers), Layout(0, (6,), (1,), length=6, itemsize=8)):
+            for call in (layout.as_memoryview, layout.as_array, lambda buffer: layout.as_array(buffer, np.int16)):
+                with self.assertRaises(ShapeError) as caught:
+                    call(bytearray(48) if call is not layout.as_memoryview else array.array("i", range(12)))
+                self.assertEqual((caught.exception.kind, caught.exception.numbers["itemsize"]), ("IncompatibleBuffer", 8))
+            self.assertEqual(layout.as_array(numbers.tobytes(), float).tolist(), numbers.tolist())
+        with self.assertRaisesRegex(ShapeError, "the layout is over elements of 1 bytes, and the buffer has items of 8"):
+            Layout.over(bytes(6), 6).as_array(numbers)
+        self.assertEqual(Layout.over(6, 6).as_array(numbers).tolist(), numbers.tolist())
+
+    def test_gaps(self):
+        """A buffer with gaps has no layout, as it has no array."""
+        for gaps in (np.arange(12)[::2], memoryview(bytes(12))[::-1]):
+            for call in (lambda: Layout.over(gaps, 6), lambda: Layout.over(6, 6).as_array(gaps)):
+                with self.assertRaisesRegex(ShapeError, "isn't contiguous in any order of its axes") as caught:
+                    call()
+                self.assertEqual(caught.exception.kind, "IncompatibleBuffer")
+
+    def test_a_dtype_that_nobody_vouches_for(self):
+        """Only an array of NumPy's has a dtype, whatever attribute a class has: its bytes become no references."""
+        of_bytes = type("OfBytes", (bytearray,), {"dtype": object})(48)
+        of_numbers = np.arange(6).view(type("OfNumbers", (np.ndarray,), {"dtype": object}))
+        for buffer, dtype in ((of_bytes, np.uint8), (of_numbers, np.int64)):
+            self.assertEqual(Layout.over(6, 6).as_array(buffer).dtype, dtype)
+            self.assertRaises(TypeError, Layout.over(6, 6).as_array, buffer, object)
+
     def test_what_numpy_has_not(self):
         """NumPy's own refusals, as errors of this package."""
         for layout in (

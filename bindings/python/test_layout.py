@@ -57,21 +57,22 @@ class Accepted(unittest.TestCase):
         self.assertRaises(IndexError, dataclasses.replace, layout, length=5)
 
     def test_copies(self):
-        layout = Layout.over(6, (2, 3), (-3, 1))[::-1, 1:]
-        for again in (
-            copy.copy(layout),
-            copy.deepcopy(layout),
-            pickle.loads(pickle.dumps(layout)),
-            eval(repr(layout)),
-        ):
-            self.assertEqual(again, layout)
-            self.assertEqual(hash(again), hash(layout))
+        for buffer in (6, memoryview(bytes(48)).cast("d")):
+            layout = Layout.over(buffer, (2, 3), (-3, 1))[::-1, 1:]
+            for again in (
+                copy.copy(layout),
+                copy.deepcopy(layout),
+                pickle.loads(pickle.dumps(layout)),
+                eval(repr(layout)),
+            ):
+                self.assertEqual(again, layout)
+                self.assertEqual(hash(again), hash(layout))
 
     def test_of(self):
         view = memoryview(array.array("i", range(9)))
-        self.assertEqual(Layout.of(view[::-2]), Layout(8, (5,), (-2,), length=9))
+        self.assertEqual(Layout.of(view[::-2]), Layout(8, (5,), (-2,), length=9, itemsize=4))
         self.assertEqual(Layout.of(b"abc"), Layout(0, (3,), (1,), length=3))
-        self.assertEqual(Layout.of(view.cast("B").cast("i", (3, 3))), Layout(0, (3, 3), (3, 1), length=9))
+        self.assertEqual(Layout.of(view.cast("B").cast("i", (3, 3))), Layout(0, (3, 3), (3, 1), length=9, itemsize=4))
 
 
 class Methods(unittest.TestCase):
@@ -309,7 +310,7 @@ class Arrays(unittest.TestCase):
 
     def test_of(self):
         a = np.arange(24, dtype=np.int32).reshape(2, 3, 4)
-        self.assertEqual(Layout.of(a[::-1, 1:, ::2]), Layout(12, (2, 2, 2), (-12, 4, 2), length=19))
+        self.assertEqual(Layout.of(a[::-1, 1:, ::2]), Layout(12, (2, 2, 2), (-12, 4, 2), length=19, itemsize=4))
         self.assertEqual(Layout.of(a[:, :0]).size, 0)
         self.assertRaises(ShapeError, Layout.of, np.broadcast_to(a, (2, 2, 3, 4)), writable=True)
         records = np.zeros(3, [("key", np.int32), ("text", "S3")])
@@ -349,9 +350,9 @@ class Arrays(unittest.TestCase):
 
     def test_of_a_base(self):
         a = np.arange(12).reshape(4, 3)
-        self.assertEqual(Layout.of(a[2:], base=a), Layout(6, (2, 3), (3, 1), length=12))
+        self.assertEqual(Layout.of(a[2:], base=a), Layout(6, (2, 3), (3, 1), length=12, itemsize=8))
         self.assertEqual(Layout.of(a[2:], base=a, writable=True).as_array(a).tolist(), [[6, 7, 8], [9, 10, 11]])
-        self.assertEqual(Layout.of(memoryview(a.ravel())[::-4], base=a), Layout(11, (3,), (-4,), length=12))
+        self.assertEqual(Layout.of(memoryview(a.ravel())[::-4], base=a), Layout(11, (3,), (-4,), length=12, itemsize=8))
         self.assertRaises(IndexError, Layout.of, a, base=a[1:])
         self.assertRaises(IndexError, Layout.of, a, base=a[:3])
         self.assertRaises(IndexError, Layout.of, a, base=np.zeros((4, 3), int))

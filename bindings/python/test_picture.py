@@ -105,11 +105,12 @@ class Schemes(unittest.TestCase):
 
 class Tables(unittest.TestCase):
     def test_numbers(self):
-        shown = Layout.over(memoryview(bytes(24)).cast("i"), (2, 3), writable=True)._repr_html_()
+        layout = Layout.over(memoryview(bytes(24)).cast("i"), (2, 3), writable=True)
+        shown = layout._repr_html_()
         for name, value in (("shape", "(2, 3)"), ("strides", "(3, 1)"), ("bytes", "24, 4 each"), ("format", "i")):
             self.assertIn(f"<tr><th>{name}</th><td>{value}</td></tr>", shown)
         self.assertIn("<td>yes</td>", shown)
-        self.assertIn(Layout.over(6, (2, 3), writable=True).to_svg(), shown)
+        self.assertIn(layout.to_svg(), shown)
 
     def test_formats_are_no_markup(self):
         layout = Layout(0, 1, 1, length=1, format="<script>")

@@ -73,7 +73,7 @@ class DLPack(unittest.TestCase):
         tensor = Tensor(64, (2, 3), (3, 1))
         for of in (tensor, tensor.__dlpack__()):
             layout = Layout.of(of, writable=True)
-            self.assertEqual(layout, Layout(0, (2, 3), (3, 1), length=6, writable=True))
+            self.assertEqual(layout, Layout(0, (2, 3), (3, 1), length=6, writable=True, itemsize=4))
             self.assertEqual((layout.itemsize, layout.format, layout.nbytes), (4, "f", 24))
         self.assertEqual(Layout.of(Tensor(64, (2, 3), None)).strides, (3, 1))
         self.assertEqual(Layout.of(Tensor(64, (), None)).shape, ())

@@ -269,7 +269,7 @@ class Layouts(unittest.TestCase):
         self.assertFalse(nd.share_element(layout, 0, 1))
         self.assertFalse(nd.share_element(layout, (..., 0), (..., slice(1, None))))
         self.assertTrue(nd.share_element(layout, 0, (..., 0)))
-        self.assertEqual(Layout.of(layout[::2]), Layout(0, (2, 6), (12, 1), length=18))
+        self.assertEqual(Layout.of(layout[::2]), Layout(0, (2, 6), (12, 1), length=18, itemsize=4))
         self.assertEqual((Layout.of(layout).itemsize, Layout.of(layout).format), (4, "i"))
 
 

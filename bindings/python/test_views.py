@@ -279,8 +279,10 @@ class Fields(unittest.TestCase):
                 self.assertEqual((same.itemsize, same.format), (8, "d"))
                 self.assertEqual(same.nbytes, same.size * 8)
         self.assertEqual((Layout.over(6, 6).itemsize, Layout.over(6, 6).format, Layout.over(6, 6).nbytes), (1, None, 6))
-        self.assertEqual(whole, Layout.over(6, (2, 3)))
-        self.assertEqual(hash(whole), hash(Layout.over(6, (2, 3))))
+        longs = Layout.over(memoryview(bytes(48)).cast("q"), (2, 3))
+        self.assertEqual((whole, hash(whole)), (longs, hash(longs)))
+        self.assertNotEqual(whole, Layout.over(6, (2, 3)))
+        self.assertEqual(len({whole, longs, Layout.over(6, (2, 3)), Layout.over(memoryview(bytes(24)).cast("f"), (2, 3))}), 3)
         self.assertRaises(OverflowError, Layout, 0, 2, 2**62, length=2**63, itemsize=4)
 
     def test_frozen(self):

@@ -198,6 +198,24 @@ class ChunksOfARegion(unittest.TestCase):
             self.assertRaises(TypeError, call, 9, [0, 1], 2)
 
 
+class OneOrMany(unittest.TestCase):
+    """A tuple of slices is one region of NumPy's, so it is no list of them where the shape has as many axes."""
+
+    def test_tuples(self):
+        halves = slice(0, 3), slice(3, 6)
+        layout = nd.Layout.over(36, (6, 6))
+        for call, name in ((nd.waves, "region"), (nd.first_conflict, "region"), (lambda _, keys: layout.first_intersection(keys), "key")):
+            for tuples in (halves, (0, 1), (..., 0), (slice(0, 3), None, 2), (nd.Slice(0, 3), 1), nd.Slice(0, 3)):
+                text = rf"^{name}s: .* may be one {name} or {len(tuples)}; a list says which, as \[{name}\]$"
+                self.assertRaisesRegex(TypeError, text, call, (6, 6), tuples)
+            self.assertEqual(call((6, 6), [*halves]), call((6, 6), iter(halves)))
+            self.assertEqual(call((6, 6), (halves, 0)), call((6, 6), [halves, 0]))
+            self.assertEqual(call((6, 6), (0, 1, 0)), call((6, 6), [0, 1, 0]))
+            self.assertEqual(call((6, 6), (halves[0],)), call((6, 6), [halves[:1]]))
+        self.assertEqual(nd.waves(6, halves), [[0, 1]])
+        self.assertIsNone(nd.first_conflict(6, halves, chunks=3))
+
+
 class Names(unittest.TestCase):
     """Regions by the names of axes, as xarray has them."""
 

@@ -3,8 +3,11 @@
 from __future__ import annotations
 
 import sys
+from contextlib import suppress
 from numbers import Integral
 from pickle import PickleBuffer
+from struct import calcsize
+from struct import error as StructError
 from types import SimpleNamespace
 from typing import TYPE_CHECKING, Any, Optional
 
@@ -88,11 +91,17 @@ def count_items(buffer: Any) -> tuple[int, int, Optional[str]]:
         number = as_integer(buffer)
         if number is not None:
             return number, 1, None
-    view = shown(buffer)
-    itemsize = view.itemsize
-    if itemsize == 0:
-        raise no_bytes("items of the buffer")
-    return view.nbytes // itemsize, itemsize, view.format
+    view = side_by_side(buffer)
+    return view.nbytes // view.itemsize, view.itemsize, format_of(view, view.itemsize)
+
+
+def format_of(view: memoryview, itemsize: int) -> Optional[str]:
+    """The format of items of so many bytes, or `None` where it says another size, as that of packed records of ctypes does."""
+    try:
+        size = calcsize(view.format)
+    except (StructError, ValueError):  # (of what `struct` has no letter for, as records)
+        size = view.itemsize
+    return view.format if size == itemsize else None
 
 
 def no_bytes(what: str) -> ShapeError:
@@ -138,14 +147,19 @@ def array_over(
 
 
 def dtype_of(buffer: Any, items: memoryview) -> numpy.dtype[Any]:
-    """The dtype of a buffer's items: its own, or that of their format."""
+    """The dtype of a buffer's items: an array's own, else that of their format where it has their size, else NumPy's.
+
+    An attribute `dtype` of another class is nobody's word: bytes that are taken for references end the process.
+    """
     import numpy
 
-    try:
-        kind: numpy.dtype[Any] = numpy.dtype(buffer.dtype if hasattr(buffer, "dtype") else items.format)
-    except TypeError:  # (of what a letter doesn't name, as records)
-        kind = _as_numpy(items).dtype
-    return kind
+    if is_numpys(buffer):
+        return numpy.asarray(buffer).dtype
+    with suppress(TypeError):  # (of what a letter doesn't name, as records)
+        kind = numpy.dtype(items.format)
+        if kind.itemsize == items.itemsize:
+            return kind
+    return _as_numpy(items).dtype
 
 
 def _as_numpy(view: memoryview) -> numpy.ndarray[Any, Any]:
@@ -153,8 +167,9 @@ def _as_numpy(view: memoryview) -> numpy.ndarray[Any, Any]:
 
     try:
         return numpy.asarray(view)
-    except ValueError:
-        raise ShapeError("IncompatibleBuffer", f"NumPy has no dtype for the format {view.format!r}") from None
+    except (TypeError, ValueError, RuntimeError):
+        text = f"NumPy has no dtype for the format {view.format!r} of {view.itemsize} bytes"
+        raise ShapeError("IncompatibleBuffer", text) from None
 
 
 def read_dtype(dtype: Any) -> numpy.dtype[Any]:
@@ -171,7 +186,7 @@ def read_dtype(dtype: Any) -> numpy.dtype[Any]:
 def dtype_as(dtype: Any, buffer: Any, items: memoryview) -> numpy.dtype[Any]:
     """The dtype that items are to have. Raises `TypeError` where bytes would become references, or references bytes."""
     kind = read_dtype(dtype)
-    if not (kind.hasobject or hasattr(buffer, "dtype") or "O" in items.format):
+    if not (kind.hasobject or is_numpys(buffer) or "O" in items.format):
         return kind
     own = dtype_of(buffer, items)
     if own != kind and (own.hasobject or kind.hasobject):

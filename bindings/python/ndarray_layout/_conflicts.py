@@ -12,7 +12,18 @@ from ._boxes import Intervals, Pair, groups_of, pairs_of
 from ._chunks import Chunks
 from ._errors import LayoutError, of_one
 from ._numbers import LIMIT, Numbers, Packed, count_of, entries, flag, one_answer, unsigned
-from ._regions import MAX_PARTS, Blocks, Part, at_position, parts_of_slices, picks_of, picks_of_elems, read_plan, read_store
+from ._regions import (
+    MAX_PARTS,
+    Blocks,
+    Part,
+    at_position,
+    listed_keys,
+    parts_of_slices,
+    picks_of,
+    picks_of_elems,
+    read_plan,
+    read_store,
+)
 from ._slices import SLICE_WITH_END, Elems, intersection
 from ._usual import conflict
 
@@ -42,8 +53,9 @@ def first_conflict(
     the regions so that no two of a group conflict.
 
     Regions are basic keys of NumPy: integers, slices, `...` and `None`. With `dims`, the names of all axes, a region
-    may be a dict of an integer or a slice for a name, as xarray has them. Raises what `basic_key` does, of the first
-    region with an error, and `ShapeError` where `chunks` hasn't one length for each axis, or one is 0, and for a name
+    may be a dict of an integer or a slice for a name, as xarray has them. Raises `TypeError` for a tuple of slices that
+    may be one region of this shape: a list, as `[region]`, is none. Raises what `basic_key` does, of the first region
+    with an error, and `ShapeError` where `chunks` hasn't one length for each axis, or one is 0, and for a name
     that isn't in `dims`. All regions are read before any two are compared.
 
     `chunks` has the length of a chunk along each axis, as Zarr's `chunks` and HDF5's have; a number stands for one
@@ -104,7 +116,7 @@ def first_intersection(shape: Numbers, slices: Iterable[Elems], clamp: bool = Fa
 def first_intersection_of_keys(shape: Numbers, keys: Iterable[Any]) -> Optional[Pair]:
     """`first_intersection` of slices by NumPy's keys."""
     lens, parts, position = read_store(shape, None, None)[0], list[Part](), 0
-    listed = entries(keys, "keys", "slices")
+    listed = listed_keys(keys, len(lens), "key")
     try:
         for position, key in enumerate(listed):
             parts += parts_of_slices(position, picks_of(lens, key))

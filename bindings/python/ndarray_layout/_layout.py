@@ -16,6 +16,7 @@ from ._buffers import (
     count_items,
     dtype_as,
     dtype_of,
+    format_of,
     is_contiguous_array,
     items_before,
     items_of_size,
@@ -78,8 +79,9 @@ class Layout(Views):
     one only to be read. What is made of an accepted layout is accepted: a slice, a reshape or a permutation keeps
     `writable`, and windows and what is broadcast are only to be read. Strides, places and the length count elements.
 
-    Of a buffer or an array it keeps the `itemsize`, the bytes of an element, and their `format`, as `memoryview` has
-    them; of a count these are 1 and `None`. Layouts that differ in these alone are equal.
+    Of a buffer or an array it keeps the `itemsize`, the bytes of an element, and their `format`, as `memoryview` has it,
+    or `None` where that says another size, as of packed records of ctypes; of a count these are 1 and `None`. Layouts that
+    differ in the format alone are equal.
 
     >>> layout = Layout.over(6, (2, 3), (-3, 1))
     >>> layout
@@ -100,8 +102,8 @@ class Layout(Views):
     strides: Lens
     length: int
     writable: bool
-    itemsize: int = field(compare=False, repr=False)
-    format: Optional[str] = field(compare=False, repr=False)
+    itemsize: int
+    format: Optional[str] = field(compare=False)
 
     def __init__(
         self,
@@ -126,6 +128,10 @@ class Layout(Views):
         set_writable(self, may_write)
         set_itemsize(self, itemsize)
         set_format(self, format)
+
+    def __repr__(self) -> str:
+        names = ("start", "shape", "strides", "length", "writable", *["itemsize"] * (self.itemsize != 1))
+        return f"{type(self).__qualname__}({', '.join([f'{name}={getattr(self, name)!r}' for name in names])})"
 
     def __reduce__(self) -> tuple[Any, ...]:
         numbers = self.start, self.shape, self.strides, self.length, self.writable, self.itemsize, self.format
@@ -154,8 +160,8 @@ class Layout(Views):
         The elements of a buffer are its items, in the order of memory: those of `bytes` are bytes, those of an array
         its numbers. Without strides the layout has no gaps, in the order 'C', or 'F' where that is given. Without a
         start its lowest place is 0. Strides count elements: `element_strides` makes such of NumPy's, and `of` reads an
-        array. Raises what `layout_start` and `check_layout` do, and `ShapeError` where items have 0 bytes, or there is
-        an order beside strides.
+        array. Raises what `layout_start` and `check_layout` do, and `ShapeError` where the buffer has gaps or items of 0
+        bytes, or there is an order beside strides.
 
         >>> Layout.over(b"abcdef", (2, 3))
         Layout(start=0, shape=(2, 3), strides=(3, 1), length=6, writable=True)
@@ -365,11 +371,12 @@ class Layout(Views):
     def as_array(self, buffer: Any, dtype: Any = None) -> numpy.ndarray[Any, Any]:
         """A NumPy array of this layout over a buffer, whose items it has without a `dtype`.
 
-        Place k is the k-th item in memory, from the lowest, also where the buffer is an array in another order.
+        The items have the size of the layout's elements; a layout over a count takes those of any size. Place k is the k-th item in memory, from the lowest, also where the buffer is an array in another order.
         A layout that isn't writable gives an array that is only to be read, as `numpy.broadcast_to` does. While the array
         lives the buffer can't be closed or resized: its own methods raise `BufferError`, as after `numpy.frombuffer`.
 
-        Raises `ShapeError` for an array with gaps or backwards, as `a[::2]` and `a[::-1]`, whose `base` may have none, where items have 0 bytes, and where NumPy has no dtype for them or no array of so many axes or bytes;
+        Raises `ShapeError` for an array with gaps or backwards, as `a[::2]` and `a[::-1]`, whose `base` may have none,
+        where items have 0 bytes or another size, and where NumPy has no dtype for them or no array of so many axes or bytes;
         `TypeError` where items would be read or written as objects that are none, or the other way; `IndexError` where
         the buffer has fewer than `length` items.
         """
@@ -382,7 +389,7 @@ class Layout(Views):
         itemsize = kind.itemsize
         if itemsize == 0:
             raise no_bytes(f"items of the dtype {kind}")
-        self._check_room(nbytes // itemsize, itemsize)
+        self._check_items(nbytes // itemsize, itemsize)
         array = array_over(items, kind, self.start * itemsize, self.shape, tuple([stride * itemsize for stride in self.strides]))
         if not self.writable:
             array.flags.writeable = False
@@ -399,17 +406,19 @@ class Layout(Views):
         b'eca'
         """
         items = side_by_side(buffer, in_rows=True)
-        self._check_room(items.nbytes // items.itemsize, items.itemsize)
+        self._check_items(items.nbytes // items.itemsize, items.itemsize)
+        form = format_of(items, items.itemsize) or ""
         try:
-            items = (items if self.writable else items.toreadonly()).cast("B").cast(items.format)
+            items = (items if self.writable else items.toreadonly()).cast("B").cast(form)
         except ValueError:
-            raise ShapeError("IncompatibleBuffer", f"a memoryview can't have items of the format {items.format!r}") from None
+            text = f"a memoryview can't have items of the format {items.format!r} of {items.itemsize} bytes"
+            raise ShapeError("IncompatibleBuffer", text) from None
         if self.ndim == 1:
             return items[Row(self.start, *self.strides, *self.shape).as_slice()]
         self._check_rows()
         stretch = items[self.start : self.start + self.size].cast("B")
         try:
-            return stretch.cast(items.format, self.shape)
+            return stretch.cast(form, self.shape)
         except ValueError as error:  # (of more axes than a `memoryview` has)
             raise ShapeError("IncompatibleBuffer", str(error)) from None
 
@@ -424,11 +433,18 @@ class Layout(Views):
                 text = f"axis {axis}: a memoryview of several axes can't have the stride {stride}, but {wanted} (in elements)"
                 raise ShapeError("IncompatibleBuffer", text, axis, {"stride": stride, "wanted": wanted})
 
-    def _check_room(self, items: int, elem_size: int) -> None:
-        """Raises `IndexError` for fewer items than elements. In more of them lies what was accepted over the elements."""
-        if items < self.length:
-            numbers = {"length": self.length, "items": items}
-            text = f"the layout is over {self.length} elements, and the buffer has {items} of {elem_size} bytes"
+    def _check_items(self, count: int, itemsize: int) -> None:
+        """Raises `ShapeError` for items of another size than the layout's elements, and `IndexError` for fewer of them.
+
+        In more of them lies what was accepted over the elements. Those of a count have no size.
+        """
+        if itemsize != self.itemsize and (self.itemsize > 1 or self.format is not None):
+            numbers = {"itemsize": self.itemsize, "buffer": itemsize}
+            text = f"the layout is over elements of {self.itemsize} bytes, and the buffer has items of {itemsize}"
+            raise ShapeError("IncompatibleBuffer", text, None, numbers)
+        if count < self.length:
+            numbers = {"length": self.length, "items": count}
+            text = f"the layout is over {self.length} elements, and the buffer has {count} of {itemsize} bytes"
             raise OutOfBoundsError("OutOfBounds", text, None, numbers)
 
 

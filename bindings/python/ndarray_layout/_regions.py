@@ -51,7 +51,7 @@ def read_plan(
     parts, max_parts = list[Part](), limit(max_parts, "max_parts")
     alone: Optional[int] = None
     position = -1
-    for position, (region, lengths) in enumerate(_with_blocks(regions, blocks)):
+    for position, (region, lengths) in enumerate(_with_blocks(listed_keys(regions, len(lens), "region"), blocks)):
         key = region if type(region) is tuple or type(region) is slice else at_position("region", position, key_of, region, names)
         picks = at_position("region", position, picks_of, lens, key)
         is_one = chunks is None and len(parts) < max_parts
@@ -111,9 +111,21 @@ def key_of(region: Any, names: Optional[Sequence[Any]]) -> Any:
     return tuple([region.get(name, slice(None)) for name in names])
 
 
-def _with_blocks(regions: Iterable[Any], blocks: Optional[Iterable[Any]]) -> Iterable[tuple[Any, Any]]:
+_ENTRIES = (slice, Slice, Integral, type(None), type(...))
+"""What a key of NumPy has for an axis, for a new one, and for all others."""
+
+
+def listed_keys(keys: Iterable[Any], axes: int, name: str) -> tuple[Any, ...]:
+    """Many keys of NumPy. Raises `TypeError` for a tuple of their entries that would be one key of so many axes."""
+    if isinstance(keys, tuple) and len(keys) > 1 and all(isinstance(entry, _ENTRIES) for entry in keys):
+        if isinstance(keys, Slice) or sum(entry is not None and entry is not Ellipsis for entry in keys) <= axes:
+            text = f"{written(keys)} may be one {name} or {len(keys)}; a list says which, as [{name}]"
+            raise TypeError(f"{name}s: {text}")
+    return entries(keys, f"{name}s", f"{name}s")
+
+
+def _with_blocks(listed: Sequence[Any], blocks: Optional[Iterable[Any]]) -> Iterable[tuple[Any, Any]]:
     """Each region with its blocks, or with `None`."""
-    listed = entries(regions, "regions", "regions")
     if blocks is None:
         return zip(listed, repeat(None))
     of_regions = entries(blocks, "blocks", "blocks")

@@ -13,7 +13,7 @@ from sys import byteorder
 from typing import Any, Callable, NamedTuple, Optional
 
 from ._accepted import lay_over
-from ._buffers import address_of, is_numpys, refuse_scalar, shown, side_by_side
+from ._buffers import address_of, format_of, is_numpys, refuse_scalar, shown, side_by_side
 from ._errors import ShapeError
 from ._frames import WIDEST
 from ._numbers import Lens, as_integer, integer, integers, written
@@ -88,12 +88,12 @@ def read_source(array: Any) -> Source:
     if isinstance(array, memoryview):
         return _of_view(shown(array, "array"))
     if is_numpys(array):
-        return Source(*read_array(array), _format_of(array), lambda: _memory_of_numpys(array))
+        return _of_attributes(array, lambda: _memory_of_numpys(array))
     interface = getattr(array, "__array_interface__", None)  # (once: a picture makes a copy for it)
     if interface is not None:
         return _of_interface(array, interface)
     if hasattr(array, "strides"):
-        return Source(*read_array(array), _format_of(array), lambda: _without_attributes(array).find())
+        return _of_attributes(array, lambda: _without_attributes(array).find())
     return _without_attributes(array)
 
 
@@ -101,6 +101,11 @@ def read_in_memory(array: Any) -> Source:
     """The same of an array whose address is to be read, which a scalar of NumPy hasn't."""
     refuse_scalar(array, "array")
     return read_source(array)
+
+
+def _of_attributes(array: Any, find: Callable[[], Memory]) -> Source:
+    shape, strides, itemsize = read_array(array)
+    return Source(shape, strides, itemsize, _format_of(array, itemsize), find)
 
 
 def _without_attributes(array: Any) -> Source:
@@ -113,7 +118,7 @@ def _without_attributes(array: Any) -> Source:
 def _of_view(view: memoryview) -> Source:
     if view.suboffsets:
         raise ShapeError("IncompatibleBuffer", "a layout has no suboffsets")
-    return Source(*read_array(view), view.format, lambda: Memory(address_of(view), view))  # type: ignore[arg-type]
+    return _of_attributes(view, lambda: Memory(address_of(view), view))
 
 
 def _as_numpys(array: Any) -> Any:
@@ -130,12 +135,12 @@ def _memory_of_numpys(array: Any) -> Memory:
     return Memory(int(array.__array_interface__["data"][0]), array)
 
 
-def _format_of(array: Any) -> Optional[str]:
+def _format_of(array: Any, itemsize: int) -> Optional[str]:
     """The format of an array's items, where it is a buffer that has one, or a `Layout`."""
     if isinstance(array, Fields):
         return array.format
     try:
-        return memoryview(array).format
+        return format_of(memoryview(array), itemsize)
     except (TypeError, BufferError, ValueError):
         return None
 

@@ -72,7 +72,8 @@ def share_keys(array: Any, first: Any, second: Any) -> Optional[bool]:
 
 def conflict(shape: Any, regions: Any, chunks: Any) -> Optional[bool]:
     """Whether two regions of a shape have an index in common, or where there are chunks one of these."""
-    if type(regions) not in (list, tuple) or len(regions) != 2:
+    is_list = type(regions) is list or type(regions) is tuple and tuple in map(type, regions)  # (else it may be one region)
+    if not is_list or len(regions) != 2:
         return None
     first, second = regions
     return intersect(shape, first, second) if chunks is None else share_chunk(shape, first, second, chunks)
