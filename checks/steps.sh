@@ -31,8 +31,3 @@ run_step() { # its name, the tools that it needs, and the command
     echo "check $1: failed, status $status"
     return 1
 }
-
-# Compares what a step has run with what there is: lines `NAME NUMBER` on standard input, with those of a kind in checks/counts.txt.
-compare_counts() { # the kind
-    sort | diff <(sed -n "s/^$1 //p" "$top/checks/counts.txt" | sort) -
-}
