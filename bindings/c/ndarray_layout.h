@@ -571,7 +571,7 @@ enum {
                                 `size`: that reach */
     ND_RULE_OTHER_SIZE = 12, /* ND_INCOMPATIBLE_SHAPE: a new shape has another count of indices. `size`: its count;
                                 `other`: that of the layout */
-    ND_RULE_COPY = 13,       /* ND_INCOMPATIBLE_LAYOUT: a new shape would take a copy. `axis`: in the order of reading,
+    ND_RULE_COPY = 13,       /* ND_INCOMPATIBLE_LAYOUT: a new shape joins axes of other strides. `axis`: in the order of reading,
                                 the first up to which the axes alone can't be read along the new shape: the stride of the
                                 axis of length greater than 1 that is read before it isn't its length times its stride,
                                 and the new shape has no boundary there; `number`: its stride; `size`: its length */

@@ -34,7 +34,7 @@ ND_INLINE ND_USED const char *nd_rule_text(int32_t rule) {
                "with no greater stride (in %u)";
     case ND_RULE_OTHER_SIZE: return "the new shape has %s indices, and the layout has %o";
     case ND_RULE_COPY:
-        return "axis %a: the new shape takes a copy: length %s times stride %n isn't the stride of the axis read before it "
+        return "axis %a: the new shape joins it to the axis read before it, whose stride isn't length %s times stride %n "
                "(in %u)";
     case ND_RULE_MISSING: return "axis %a: it is missing, where each of %o axes has to be once";
     case ND_RULE_COORDINATE: return "axis %a: index %s is out of bounds of length %o";

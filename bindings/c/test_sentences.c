@@ -55,8 +55,8 @@ static void test_texts(void) {
     CHECK(says(ND_RULE_COORDINATE, 0, "axis 1: index 4 is out of bounds of length 6"));
     CHECK(says(ND_RULE_SPLIT, 0, "axis 1: index 6 is past length 4"));
     CHECK(says(ND_RULE_LOWEST, 0, "the lowest place, 4 before the start 6, is below 0 (in elements)"));
-    CHECK(says(ND_RULE_COPY, 0, "axis 1: the new shape takes a copy: length 4 times stride 2 isn't the stride of the axis read "
-                                "before it (in elements)"));
+    CHECK(says(ND_RULE_COPY, 0, "axis 1: the new shape joins it to the axis read before it, whose stride isn't length 4 times "
+                                "stride 2 (in elements)"));
     CHECK(says(ND_RULE_OTHER_LENGTH, 0, "axis 1: view 2 has length 4, and the first one 6"));
     CHECK(says(ND_RULE_ROOM, 0, "a layout would have 4 axes, and there is room for 32"));
     CHECK(says(ND_RULE_ROOM + 1, 0, "a number that is no rule"));

@@ -229,8 +229,8 @@ class Blocks(unittest.TestCase):
         self.assertEqual(nd.first_conflict((10, 6), keys, (4, 2), blocks=[((1,), (3, 3))]), (0, 0))
 
     def test_errors(self):
-        def call(*blocks, keys=[slice(0, 4), slice(4, 10)]):
-            return nd.first_conflict((10, 6), keys, (4, 6), blocks=blocks)
+        def call(*blocks):
+            return nd.first_conflict((10, 6), [slice(0, 4), slice(4, 10)], (4, 6), blocks=blocks)
 
         for blocks, text, axis in (
             ((None,), "1 lists of blocks for 2 regions", None),

@@ -88,14 +88,14 @@ class Texts(unittest.TestCase):
         text = "IncompatibleShape: axis 0: no length times 5 is the size 24"
         self.assert_error(text, {"size": 24, "others": 5}, layout.reshape, (-1, 5))
         refused = (
-            "IncompatibleLayout: axis 1: the new shape takes a copy: length 4 times stride 6 isn't the stride of the axis "
-            "read before it (in elements); shape (6, 4) with strides (1, 6) can't become {} in order 'C', and {}"
+            "IncompatibleLayout: axis 1: the new shape joins it to the axis read before it, whose stride isn't length 4 times "
+            "stride 6 (in elements); {}"
         )
-        text = refused.format("(25,)", "size 24 isn't 25")
+        text = refused.format("shape (6, 4) can't become (25,) by a copy either: size 24 isn't 25")
         numbers = {"stride": 6, "length": 4, "size": 24, "new_size": 25}
         self.assert_error(text, numbers, nd.reshape, (6, 4), (1, 6), (25,))
         self.assert_error(text, numbers, layout.T.reshape, 25)
-        text = refused.format("(24,)", "order='F' can")
+        text = refused.format("shape (6, 4) with strides (1, 6) can't become (24,) in order 'C' without a copy, and order='F' can")
         self.assert_error(text, {"stride": 6, "length": 4}, nd.reshape, (6, 4), (1, 6), 24)
 
     def test_texts_count_bytes(self):

@@ -6,6 +6,7 @@
 import random
 import unittest
 from collections import Counter
+from concurrent.futures import ThreadPoolExecutor
 from itertools import accumulate, chain, combinations, product
 from unittest import mock
 
@@ -32,6 +33,14 @@ def numbers_of(length, chunk):
     if isinstance(chunk, int):
         return [index // chunk for index in range(length)]
     return [number for number, one in enumerate(chunk) for _ in range(one)]
+
+
+def longest_chain(takes):
+    """How many regions follow one another at most, each of which shares an index with the one before it."""
+    chains = []
+    for own in takes:
+        chains.append(1 + max((length for length, other in zip(chains, takes) if own & other), default=0))
+    return max(chains, default=0)
 
 
 class Random:
@@ -65,41 +74,68 @@ class Random:
 
 class Waves(unittest.TestCase):
     def test_plans(self):
-        """Each region is in one wave, no two of a wave conflict, and each conflicts with one of every wave before."""
+        """The order of the regions stays where they share an index, and no two of a wave touch a chunk."""
         draw, seen = Random("waves"), Counter()
         for number in range(PLANS):
             shape = draw.shape()
             chunks = draw.numbers.choice((None, draw.chunks(shape)))
             regions = [draw.region(shape) for _ in range(draw.numbers.choice((0, 1, 3, 6, 14, 25)))]
-            sets = [{*product(*touched(shape, region, chunks or [1] * len(shape)))} for region in regions]
+            takes = [{*product(*touched(shape, region, [1] * len(shape)))} for region in regions]
+            touches = takes if chunks is None else [{*product(*touched(shape, region, chunks))} for region in regions]
             with mock.patch.object(_boxes, "FEW", (1, 2, _boxes.FEW)[number % 3]):
                 with mock.patch.object(_conflicts, "MOST_CUT", (0, _conflicts.MOST_CUT)[number % 2]):
                     waves = nd.waves(shape, regions, chunks)
-            self.check(waves, sets, (shape, regions, chunks))
+            self.check(waves, takes, touches, (shape, regions, chunks))
             seen[min(len(waves), 5)] += 1
         print(f"test_plans: plans by their waves, 5 for more, {dict(sorted(seen.items()))}")
         self.assertGreater(min(seen[number] for number in range(6)), PLANS // 50)
 
-    def check(self, waves, sets, plan):
-        self.assertEqual(sorted(position for wave in waves for position in wave), [*range(len(sets))], plan)
-        for number, wave in enumerate(waves):
+    def check(self, waves, takes, touches, plan):
+        self.assertEqual(sorted(chain(*waves)), [*range(len(takes))], plan)
+        wave_of = {position: number for number, wave in enumerate(waves) for position in wave}
+        for one, other in combinations(range(len(takes)), 2):
+            if takes[one] & takes[other]:
+                self.assertLess(wave_of[one], wave_of[other], plan)
+            elif touches[one] & touches[other]:
+                self.assertNotEqual(wave_of[one], wave_of[other], plan)
+        for before, wave in zip([[], *waves], waves):
             self.assertEqual(wave, sorted(wave))
             self.assertTrue(wave, plan)
-            for one, other in combinations(wave, 2):
-                self.assertFalse(sets[one] & sets[other], (plan, one, other))
-            for position in wave:
-                for earlier in waves[:number]:
-                    self.assertTrue(any(sets[position] & sets[other] for other in earlier), (plan, position))
+            for position in wave if before else ():
+                self.assertTrue(any(touches[position] & touches[other] for other in before), (plan, position))
+        if touches is takes:
+            self.assertEqual(len(waves), longest_chain(takes), plan)
 
     def test_intervals(self):
-        """Along one axis there are as many waves as some chunk has regions."""
+        """Intervals apart from each other are in as many waves as some chunk has of them, in whatever order they come."""
         numbers = random.Random("intervals")
         for _ in range(PLANS):
-            length, chunk = numbers.randint(1, 60), numbers.choice((1, 1, 2, 5))
-            begins = [numbers.randrange(length) for _ in range(numbers.randint(1, 30))]
-            regions = [slice(begin, begin + numbers.choice((1, 2, 5, 20))) for begin in begins]
+            length, chunk = numbers.randint(1, 60), numbers.choice((1, 2, 5, 9))
+            cuts = sorted({0, length, *(numbers.randrange(length) for _ in range(numbers.randint(1, 30)))})
+            regions = [slice(begin, end - (end - begin > 2)) for begin, end in zip(cuts, cuts[1:])]
+            numbers.shuffle(regions)
             most = Counter(number for region in regions for number in touched([length], [region], [chunk])[0])
             self.assertEqual(len(nd.waves(length, regions, chunk)), max(most.values()), (length, regions, chunk))
+
+    @unittest.skipUnless(np, "NumPy is missing")
+    def test_writers(self):
+        """Threads that assign, those of a wave at once, leave what assignments one after another leave."""
+        numbers = random.Random("writers")
+        for number in range(20):
+            shape, chunks = (90, 70), (None, (16, 16))[number % 2]
+            corners = [[sorted(numbers.sample(range(length + 1), 2)) for length in shape] for _ in range(60)]
+            regions = [tuple(slice(*ends, numbers.choice((1, 1, 2, 3))) for ends in corner) for corner in corners]
+            expected, found = np.zeros(shape, int), np.zeros(shape, int)
+            for position, region in enumerate(regions):
+                expected[region] = position
+
+            def write(position):
+                found[regions[position]] = position
+
+            with ThreadPoolExecutor(4) as threads:
+                for wave in nd.waves(shape, regions, chunks):
+                    list(threads.map(write, wave))
+            self.assertEqual(np.count_nonzero(found != expected), 0)
 
     def test_boxes(self):
         """Boxes of which all hang together, along two and three axes: all pairs that share an index are found."""
@@ -114,7 +150,7 @@ class Waves(unittest.TestCase):
             with mock.patch.object(_boxes, "FEW", (1, _boxes.FEW)[number % 2]):
                 waves = nd.waves(shape, boxes)
             if sets is not None:
-                self.check(waves, sets, (shape, boxes))
+                self.check(waves, sets, sets, (shape, boxes))
             for wave in waves:
                 self.assertIsNone(nd.first_conflict(shape, [boxes[position] for position in wave]))
 
@@ -125,14 +161,21 @@ class Waves(unittest.TestCase):
         waves = nd.waves((20_000, 5), rows, chunks=(40, 5))
         self.assertEqual([len(wave) for wave in waves], [500] * 40)
         self.assertEqual(nd.waves((20_000, 5), rows), [[*range(20_000)]])
-        tiles = [(slice(i, i + 12), slice(j, j + 12)) for i in range(0, 1_000, 10) for j in range(0, 1_000, 10)]
-        self.assertEqual([len(wave) for wave in nd.waves((1_002, 1_002), tiles)], [2_500] * 4)
+        self.assertEqual(nd.waves(9, [slice(0, 9)] * 5_000, chunks=4), [[position] for position in range(5_000)])
+        corners = [*product(range(100), repeat=2)]
+        in_rows = [2 * row + column for row, column in corners]  # (each is after that on its left, and that above on its right)
+        for wave_of in (in_rows, [2 * (row % 2) + column % 2 for row, column in corners]):
+            order = sorted(range(10_000), key=wave_of.__getitem__) if max(wave_of) == 3 else range(10_000)
+            tiles = [tuple(slice(10 * at, 10 * at + 12) for at in corners[position]) for position in order]
+            found = nd.waves((1_002, 1_002), tiles)
+            self.assertTrue(all(wave_of[order[at]] == number for number, wave in enumerate(found) for at in wave))
+            self.assertEqual(sum(map(len, found)), 10_000)
 
     def test_steps_that_differ(self):
         """Rows of three steps along one axis: the library says which of those conflict whose stretches overlap."""
         regions = [slice(begin, None, step) for step in (4, 6, 9) for begin in range(step)]
-        waves = nd.waves(36, regions)
-        self.check(waves, [{*range(36)[region]} for region in regions], regions)
+        waves, sets = nd.waves(36, regions), [{*range(36)[region]} for region in regions]
+        self.check(waves, sets, sets, regions)
         self.assertEqual(waves, [[*range(4)], [*range(4, 10)], [*range(10, 19)]])
 
     def test_many_steps_that_differ(self):

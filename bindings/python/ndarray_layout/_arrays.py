@@ -47,7 +47,7 @@ def reshape_without_copy(a: Array, new_shape: Numbers, order: Optional[str] = "C
     Reshaped(order='C', strides=(16, 8, 32))
     >>> reshape_without_copy(Columns, 12)
     Traceback (most recent call last):
-    ndarray_layout.ShapeError: IncompatibleLayout: axis 1: the new shape takes a copy: length 3 times stride 32 isn't the stride of the axis read before it (in bytes); shape (4, 3) with strides (8, 32) can't become (12,) in order 'C', and order='F' can
+    ndarray_layout.ShapeError: IncompatibleLayout: axis 1: the new shape joins it to the axis read before it, whose stride isn't length 3 times stride 32 (in bytes); shape (4, 3) with strides (8, 32) can't become (12,) in order 'C' without a copy, and order='F' can
     >>> reshape_without_copy(Columns, 12, order=None)
     Reshaped(order='F', strides=(8,))
     """

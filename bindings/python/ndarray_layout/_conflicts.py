@@ -50,12 +50,12 @@ def first_conflict(
 
     Exact. It is any pair that conflicts, not the least one. Without `chunks` two regions conflict where they share an
     index; with `chunks`, where each has an index in the same chunk, so that two who write them race. `waves` groups
-    the regions so that no two of a group conflict.
+    the regions so that no two of a group conflict. `regions` is a list: a tuple of slices that may be one region of this
+    shape is a `TypeError`.
 
     Regions are basic keys of NumPy: integers, slices, `...` and `None`. With `dims`, the names of all axes, a region
-    may be a dict of an integer or a slice for a name, as xarray has them. Raises `TypeError` for a tuple of slices that
-    may be one region of this shape: a list, as `[region]`, is none. Raises what `basic_key` does, of the first region
-    with an error, and `ShapeError` where `chunks` hasn't one length for each axis, or one is 0, and for a name
+    may be a dict of an integer or a slice for a name, as xarray has them. Raises what `basic_key` does, of the first
+    region with an error, and `ShapeError` where `chunks` hasn't one length for each axis, or one is 0, and for a name
     that isn't in `dims`. All regions are read before any two are compared.
 
     `chunks` has the length of a chunk along each axis, as Zarr's `chunks` and HDF5's have; a number stands for one

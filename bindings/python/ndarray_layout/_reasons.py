@@ -370,9 +370,10 @@ def _of_new_shape(shape: Lens, strides: Lens, new_shape: Lens, order: int) -> Op
         return None
     broken.axis = axes[broken.axis]
     _count(broken, strides)
-    also = f"shape {few(shape)} with strides {few(strides)} can't become {few(new_shape)} in order {'CF'[order]!r}"
     size, new_size = prod(shape), prod(new_shape)
     if size != new_size:
-        return _told(broken, f"{also}, and size {said(size)} isn't {said(new_size)}", size=size, new_size=new_size)
+        also = f"shape {few(shape)} can't become {few(new_shape)} by a copy either: size {said(size)} isn't {said(new_size)}"
+        return _told(broken, also, size=size, new_size=new_size)
+    also = f"shape {few(shape)} with strides {few(strides)} can't become {few(new_shape)} in order {'CF'[order]!r} without a copy"
     other = library.reshape_reason(*unsigned(lens), *signed(steps), *unsigned(new_shape), 1 - order)
     return _told(broken, f"{also}, and order={'FC'[order]!r} can" if other.rule == Rule.NONE else also)

@@ -28,12 +28,12 @@ _Found = TypeVar("_Found")
 
 
 class Plan(NamedTuple):
-    """All parts of all regions, how many axes and regions there are, and the first region two of whose blocks have an
-    index in the same chunk.
+    """All parts of all regions, how many axes there are, the indices that each region takes along them, and the first
+    region two of whose blocks have an index in the same chunk.
     """
 
     axes: int
-    regions: int
+    picks: list[list[range]]
     parts: list[Part]
     alone: Optional[int]
 
@@ -50,15 +50,16 @@ def read_plan(
     lens, chunk, names = read_store(shape, chunks, dims)
     parts, max_parts = list[Part](), limit(max_parts, "max_parts")
     alone: Optional[int] = None
-    position = -1
+    of_regions: list[list[range]] = []
     for position, (region, lengths) in enumerate(_with_blocks(listed_keys(regions, len(lens), "region"), blocks)):
         key = region if type(region) is tuple or type(region) is slice else at_position("region", position, key_of, region, names)
         picks = at_position("region", position, picks_of, lens, key)
+        of_regions.append(picks)
         is_one = chunks is None and len(parts) < max_parts
         parts += parts_of_slices(position, picks) if is_one else _parts_of(position, picks, chunk, len(parts), max_parts)
         if lengths is not None and at_position("region", position, _blocks_conflict, lens, key, picks, chunk, lengths):
             alone = position if alone is None else alone
-    return Plan(len(lens), position + 1, parts, alone)
+    return Plan(len(lens), of_regions, parts, alone)
 
 
 def read_store(

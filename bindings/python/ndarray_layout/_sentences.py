@@ -28,7 +28,7 @@ SENTENCES: Mapping[Rule, str] = {
     ),
     Rule.OTHER_SIZE: "the new shape has %s indices, and the layout has %o",
     Rule.COPY: (
-        "axis %a: the new shape takes a copy: length %s times stride %n isn't the stride of the axis read before it "
+        "axis %a: the new shape joins it to the axis read before it, whose stride isn't length %s times stride %n "
         "(in %u)"
     ),
     Rule.MISSING: "axis %a: it is missing, where each of %o axes has to be once",

@@ -94,7 +94,7 @@ def reshape(
     (16, 8, 2, 1)
     >>> reshape((4, 4), (8, 1), (2, 8))
     Traceback (most recent call last):
-    ndarray_layout.ShapeError: IncompatibleLayout: axis 1: the new shape takes a copy: length 4 times stride 1 isn't the stride of the axis read before it (in elements); shape (4, 4) with strides (8, 1) can't become (2, 8) in order 'C'
+    ndarray_layout.ShapeError: IncompatibleLayout: axis 1: the new shape joins it to the axis read before it, whose stride isn't length 4 times stride 1 (in elements); shape (4, 4) with strides (8, 1) can't become (2, 8) in order 'C' without a copy
     >>> class Squares: shape, strides, itemsize = (4, 4), (64, 8), 8
     >>> reshape(Squares, (2, 2, 2, 2)), reshape((4, 4), (64, 8), (2, 2, 2, 2), itemsize=8)
     ((128, 64, 16, 8), (128, 64, 16, 8))

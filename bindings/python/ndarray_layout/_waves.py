@@ -3,14 +3,14 @@
 from __future__ import annotations
 
 from collections.abc import Mapping
-from itertools import chain, count, islice
-from typing import Any, Iterable, Optional, Sequence, Union
+from itertools import chain, count, groupby
+from typing import Any, Iterable, NamedTuple, Optional, Sequence, Union
 
 from ._chunks import Chunking, Chunks
 from ._conflicts import conflicts_of, each_compared
 from ._errors import ShapeError
 from ._numbers import Lens, Numbers, written
-from ._regions import MAX_PARTS, Blocks, Part, Plan, key_of, picks_of, read_plan, read_store
+from ._regions import MAX_PARTS, Blocks, Part, Plan, key_of, parts_of_slices, picks_of, read_plan, read_store
 
 
 def waves(
@@ -22,13 +22,17 @@ def waves(
     dims: Optional[Iterable[Any]] = None,
     max_parts: int = MAX_PARTS,
 ) -> list[list[int]]:
-    """The positions of all regions in lists, so that those of one list may be written at once: no two of them conflict.
+    """The positions of all regions in lists. Written list after list, and those of one list at once, the regions leave what
+    they would leave if written one after another, in the order given.
 
-    When two regions conflict is what `first_conflict` says; the arguments are its own. Each region is in one list, and
-    each list ascends. A region is in the first list that has none which conflicts with it and begins before it: so
-    each conflicts with a region of every list before its own. Of intervals along one axis there are no more lists than
-    some index, or chunk, has regions. Of other regions there may be more lists than are needed, and at most one more
-    than a region conflicts with others.
+    No two regions of a list conflict. When two do is what `first_conflict` says; the arguments are its own. A region that
+    shares an index with an earlier one is in a later list than that. Regions that share a chunk alone come in any order.
+    Each region is in one list, and each list ascends.
+
+    Without `chunks` there are as few lists as can be: as many as the longest chain has regions, of which each shares an
+    index with the next, and comes before it in the order given. With `chunks` there are as many lists as some chunk has
+    regions, where these are intervals along one axis that share no index. Of other regions there may be more lists than are
+    needed. Each region conflicts with one of the list before its own.
 
     Raises what `first_conflict` does, and `ShapeError` of the kind 'Unsupported' where two blocks of one region have an
     index in the same chunk: no order of the regions keeps these apart.
@@ -40,6 +44,8 @@ def waves(
 
     >>> waves((6, 6), [slice(0, 3), slice(3, 6), slice(2, 4)])
     [[0, 1], [2]]
+    >>> waves((6, 6), [slice(2, 6), slice(0, 3)])    # row 2 is the second one's
+    [[0], [1]]
     >>> waves((6, 6), [slice(0, 3), slice(3, 6), slice(0, 1)], chunks=(2, 6))
     [[0], [1, 2]]
     """
@@ -47,47 +53,67 @@ def waves(
     if plan.alone is not None:
         text = f"region {plan.alone}: two of its blocks write to one chunk, so it is in no wave; its blocks may be rechunked"
         raise ShapeError("Unsupported", text, None, {"region": plan.alone})
-    alike = _alike(plan)
-    without_index = alike.pop((), [])
-    kinds = sorted(alike.items(), key=lambda kind: [run[0] for run in kind[0][0]])
-    wave_of = _first_fit([len(members) for _, members in kinds], _earlier(plan.axes, [ranges for ranges, _ in kinds]))
-    last = max([number for numbers in wave_of for number in numbers], default=0 if without_index else -1)
-    found: list[list[int]] = [[] for _ in range(last + 1)]
-    for (_, members), numbers in zip(kinds, wave_of):
-        for position, number in zip(members, numbers):
-            found[number].append(position)
-    if without_index:
-        found[0] += without_index
-    return [sorted(wave) for wave in found]
+    wave_of = _waves_of(plan, chunks is not None)
+    found: list[list[int]] = [[] for _ in range(max(wave_of, default=-1) + 1)]
+    for position, number in enumerate(wave_of):
+        found[number].append(position)
+    return found
 
 
-def _alike(plan: Plan) -> dict[tuple[tuple[range, ...], ...], list[int]]:
-    """The positions of the regions by their parts. Those without an index have none."""
-    parts_of: list[list[tuple[range, ...]]] = [[] for _ in range(plan.regions)]
-    for position, ranges in plan.parts:
+class _Kinds(NamedTuple):
+    """Regions that have the same parts, as one kind: the kind of each region, and of each kind where it begins and the
+    kinds that share a number with it, itself among them.
+    """
+
+    of: list[int]
+    begins: list[list[int]]
+    near: list[set[int]]
+
+
+def _kinds_of(axes: int, regions: int, parts: Iterable[Part]) -> _Kinds:
+    parts_of: list[list[tuple[range, ...]]] = [[] for _ in range(regions)]
+    for position, ranges in parts:
         parts_of[position].append(ranges)
-    found: dict[tuple[tuple[range, ...], ...], list[int]] = {}
-    for position, parts in enumerate(parts_of):
-        found.setdefault(tuple(parts), []).append(position)
-    return found
+    numbers: dict[tuple[tuple[range, ...], ...], int] = {}
+    of = [numbers.setdefault(tuple(own), len(numbers)) for own in parts_of]
+    near = [{number} if own else set[int]() for own, number in numbers.items()]
+    each: list[Part] = [(number, ranges) for own, number in numbers.items() for ranges in own]
+    for one, other in conflicts_of(axes, each, each_compared):
+        near[one].add(other)
+        near[other].add(one)
+    return _Kinds(of, [[run[0] for run in own[0]] if own else [] for own in numbers], near)
 
 
-def _earlier(axes: int, kinds: list[tuple[tuple[range, ...], ...]]) -> list[list[int]]:
-    """For each kind of regions those before it that conflict with it."""
-    parts: list[Part] = [(number, ranges) for number, kind in enumerate(kinds) for ranges in kind]
-    earlier: list[list[int]] = [[] for _ in kinds]
-    for one, other in conflicts_of(axes, parts, each_compared):
-        earlier[max(one, other)].append(min(one, other))
-    return earlier
+def _waves_of(plan: Plan, has_chunks: bool) -> list[int]:
+    """The number of the wave of each region."""
+    indices = (part for position, picks in enumerate(plan.picks) for part in parts_of_slices(position, picks))
+    takes = _kinds_of(plan.axes, len(plan.picks), indices)
+    last = [-1] * len(takes.near)
+    waves = [0] * len(plan.picks)
+    for position, kind in enumerate(takes.of):
+        waves[position] = last[kind] = _after(last, takes.near[kind])
+    return _apart(takes, _kinds_of(plan.axes, len(plan.picks), plan.parts), waves) if has_chunks else waves
 
 
-def _first_fit(counts: list[int], earlier: list[list[int]]) -> list[list[int]]:
-    """The numbers of waves for so many regions of each kind: the least that no earlier one has which conflicts with it."""
-    found: list[list[int]] = []
-    for needed, others in zip(counts, earlier):
-        taken = {number for other in {*others} for number in found[other]}
-        found.append(list(islice((number for number in count() if number not in taken), needed)))
-    return found
+def _after(last: list[int], near: Iterable[int]) -> int:
+    """The first wave after the last ones of some kinds."""
+    return max([last[kind] for kind in near], default=-1) + 1
+
+
+def _apart(takes: _Kinds, touches: _Kinds, waves: list[int]) -> list[int]:
+    """The same, with regions apart that touch one chunk. They come wave by wave, and in a wave in the order of where they
+    begin. Each is in the first wave after the regions that it has to follow which has none that touches one of its chunks.
+    """
+    keys = [(wave, touches.begins[kind], kind) for wave, kind in zip(waves, touches.of)]
+    order = sorted([position for position, kind in enumerate(touches.of) if touches.near[kind]], key=keys.__getitem__)
+    last, taken = [-1] * len(takes.near), [set[int]() for _ in touches.near]
+    for (_, _, kind), group in groupby(order, keys.__getitem__):
+        others, number = set[int]().union(*[taken[other] for other in touches.near[kind]]), -1
+        for first, position in sorted([(_after(last, takes.near[takes.of[position]]), position) for position in group]):
+            number = next(free for free in count(max(first, number + 1)) if free not in others)
+            waves[position] = last[takes.of[position]] = number
+            taken[kind].add(number)
+    return waves
 
 
 # ---- The chunks of one region
