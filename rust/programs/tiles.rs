@@ -6,7 +6,9 @@ mod example_tiles_edits;
 
 use example_tiles_edits::{edited, print_picture, read_edits, read_picture};
 use std::error::Error;
+use std::fs::File;
 use std::io::{Read, Write, stdin, stdout};
+use std::os::fd::AsFd;
 use std::process::ExitCode;
 
 fn edit_picture() -> Result<(), Box<dyn Error>> {
@@ -15,9 +17,10 @@ fn edit_picture() -> Result<(), Box<dyn Error>> {
     let words: Vec<&str> = arguments.iter().map(|argument| argument.to_str().unwrap_or_default()).collect();
     let edits = read_edits(&words)?;
     let mut text = Vec::new();
-    stdin().read_to_end(&mut text)?;
+    File::from(stdin().as_fd().try_clone_to_owned()?).read_to_end(&mut text)?;
     let picture = edited(&read_picture(&text)?, &edits)?;
-    stdout().write_all(&print_picture(&picture)?)?;
+    // (a buffer of `stdout` is written at the exit, where a failed write is lost)
+    File::from(stdout().as_fd().try_clone_to_owned()?).write_all(&print_picture(&picture)?)?;
     Ok(())
 }
 
