@@ -5,29 +5,20 @@
 #include <sys/syscall.h>
 #include <unistd.h>
 
-static size_t number(const char *word) {
-    const char *text = getenv(word);
-    return text ? strtoul(text, NULL, 10) : 0;
-}
+static size_t number(const char *word) { return getenv(word) ? strtoul(getenv(word), NULL, 10) : 0; }
 
 #define MOVES(call, pointer) \
     ssize_t call(int file, pointer bytes, size_t count) { \
         static size_t calls; \
         size_t most = number("MOST"); \
-        if (++calls == number(#call)) { \
-            errno = (int)number("ERROR"); \
-            return -1; \
-        } \
+        if (++calls == number(#call)) return errno = (int)number("ERROR"), -1; \
         return syscall(SYS_##call, file, bytes, most && most < count ? most : count); \
     }
 MOVES(read, void *)
 MOVES(write, const void *)
 
+static int is_refused(void) { static size_t requests; return ++requests == number("REFUSED"); }
 void *__libc_malloc(size_t), *__libc_calloc(size_t, size_t), *__libc_realloc(void *, size_t);
-static int is_refused(void) {
-    static size_t requests;
-    return ++requests == number("REFUSED");
-}
 void *malloc(size_t size) { return is_refused() ? NULL : __libc_malloc(size); }
 void *calloc(size_t count, size_t size) { return is_refused() ? NULL : __libc_calloc(count, size); }
 void *realloc(void *old, size_t size) { return is_refused() ? NULL : __libc_realloc(old, size); }

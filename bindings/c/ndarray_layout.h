@@ -40,7 +40,8 @@
  *   - no pointer is null, and each is aligned as its type asks. The library that `bindings/c/build` makes doesn't look at
  *     the pointer of a list whose count is 0, which may be null. The one of `build --proved` doesn't promise this: pass it
  *     the address of anything of the type;
- *   - each count is true: so many numbers can be read, and written where the list is written;
+ *   - each count is true: so many numbers can be read, and written where the list is written. What a call only writes need not have
+ *     a value before; `index` of nd_next_index and the lists of nd_merge_axes are read as well;
  *   - what a call writes, a list or a number, shares no byte with a list that it reads, nor with anything else that it
  *     writes, and no other thread uses it meanwhile. Lists that a call only reads may share bytes. A number that is passed
  *     by its value may be the one that is written: nd_slice(start, .., &start, ..);

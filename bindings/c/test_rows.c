@@ -187,6 +187,7 @@ static void test_joined_in_all(void) {
     CHECK(count == 2 && len == 6 && joined[0] == 1 && joined[1] == 1);
     CHECK(nd_joined_in_all(LIST(cube), strides + 3, 3, 0, joined, 1, &count, &len) == ND_OK && count == 3 && len == 24);
     CHECK(nd_joined_in_all(cube, 0, strides, 0, 0, joined, 2, &count, &len) == ND_OK && count == 0 && len == 1);
+    CHECK(joined[0] == 1 && joined[1] == 1);
 }
 
 int main(void) {

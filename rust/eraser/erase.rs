@@ -27,6 +27,8 @@ pub struct Names<'a> {
     pub examples: &'a [Example],
     /// Whether each function is made `#[inline]`: the kit compiles a program whole, and rustc crate by crate.
     pub inlined: bool,
+    /// Whether C calls its exports.
+    pub exported: bool,
 }
 
 impl Names<'_> {
@@ -63,6 +65,7 @@ pub fn erase(trees: &[Tree], names: &Names) -> Result<Erased, Fault> {
         contract: Contract::default(),
         of_impl: String::new(),
         of_function: String::new(),
+        written: Vec::new(),
         is_unsafe: false,
         in_trait: false,
         replaced: Vec::new(),
@@ -87,6 +90,8 @@ pub(crate) struct Eraser<'a> {
     pub(crate) of_impl: String,
     /// The name of the last function that began.
     pub(crate) of_function: String,
+    /// Its parameters that are only written, if it is of exports.
+    pub(crate) written: Vec<String>,
     /// Whether `unsafe` was left.
     pub(crate) is_unsafe: bool,
     /// Whether that is an item of a sealed trait.
@@ -109,7 +114,7 @@ pub(crate) struct Eraser<'a> {
 type Form<'a> = fn(&mut Eraser<'a>, &[Tree]) -> Result<Option<usize>, Fault>;
 
 impl<'a> Eraser<'a> {
-    const FORMS: [Form<'a>; 33] = [
+    const FORMS: [Form<'a>; 35] = [
         Self::doc,
         Self::clause,
         Self::ghost,
@@ -118,6 +123,8 @@ impl<'a> Eraser<'a> {
         Self::model,
         Self::drop_impl,
         Self::export,
+        Self::written,
+        Self::named_by_kind,
         Self::finality,
         Self::unsafety,
         Self::own_crate,
@@ -173,6 +180,7 @@ impl<'a> Eraser<'a> {
             self.contract.is_function = true;
             self.contract.name = trees[1].first().text.to_string();
             self.of_function.clone_from(&self.contract.name);
+            self.note_written(trees[1].first().text, &trees[2..]);
             self.contract.must_use = self.names.is_packed() && is_public && is_called_for_its_result(&trees[2..]);
         }
     }

@@ -138,9 +138,10 @@ fn write(top: &Path, into: &Path) -> Fallible<()> {
                 package,
                 examples: if is_library { &of_calls } else { &[] },
                 inlined: is_library,
+                exported: *folder == FOR_C,
             };
             let others = if is_library || *folder == FOR_C { &[] } else { ALLOWED_IN_TESTS };
-            for (place, text) in files_of(&source, &names, &attributes("#!", others), *folder == FOR_C)? {
+            for (place, text) in files_of(&source, &names, &attributes("#!", others))? {
                 let file = into.join(folder).join(own).join(place);
                 fs::create_dir_all(file.parent().unwrap_or(into))?;
                 fs::write(file, text)?;
@@ -165,9 +166,17 @@ fn print_code(file: &str) -> Fallible<()> {
 
 /// Prints a crate above the package as one module, and its exports as C calls them.
 fn print_crate(name: &str, folder: &Path) -> Fallible<()> {
-    let names =
-        Names { own: name, module: "", beside: &[], library: LAYER, package: "::ndarray_layout", examples: &[], inlined: false };
-    let body = module_of(&folder.join("lib.rt"), folder, &names, true)?;
+    let names = Names {
+        own: name,
+        module: "",
+        beside: &[],
+        library: LAYER,
+        package: "::ndarray_layout",
+        examples: &[],
+        inlined: false,
+        exported: true,
+    };
+    let body = module_of(&folder.join("lib.rt"), folder, &names)?;
     println!("{}pub mod {name} {{\n{body}\n}}", attributes("#", ALLOWED_IN_TESTS));
     Ok(())
 }

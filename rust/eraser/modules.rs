@@ -1,7 +1,7 @@
 //! The sources of a crate as plain Rust: a file for each of them, or one text.
 
 use crate::erase::{Erased, Names, erase};
-use crate::names::{IN_ORDER, MEMORY, MEMORY_MODULE};
+use crate::names::{IN_ORDER, MEMORY, MEMORY_MODULE, UNWRITTEN};
 use crate::{exports, tokens};
 use std::error::Error;
 use std::fs;
@@ -20,10 +20,10 @@ struct Plain {
 }
 
 impl Plain {
-    fn read(file: &Path, names: &Names, exported: bool) -> Fallible<Plain> {
+    fn read(file: &Path, names: &Names) -> Fallible<Plain> {
         let source = fs::read_to_string(file).map_err(|error| format!("{}: {error}", file.display()))?;
         let plain = tokens::trees_of(&source).and_then(|(trees, rest)| {
-            let exports = if exported { exports::flat(&trees)? } else { String::new() };
+            let exports = if names.exported { exports::flat(&trees)? } else { String::new() };
             Ok(Plain { erased: erase(&trees, names)?, rest: format!("{rest}{exports}") })
         });
         plain.map_err(|fault| format!("{}:{fault}", file.display()).into())
@@ -57,47 +57,50 @@ impl Plain {
         text.replacen(&run, &in_order, 1)
     }
 
-    /// The import of what it uses of the package's `memory`; nothing where it uses nothing.
-    fn memory(&self, package: &str) -> String {
+    /// The imports of what it uses of the package's `memory`, and of what the exports have beside it; nothing where it uses nothing.
+    fn imports(&self, names: &Names) -> String {
         let is_part = |letter: char| letter.is_alphanumeric() || letter == '_';
         let words: Vec<&str> = self.erased.text.split(|letter| !is_part(letter)).collect();
         let used = MEMORY.iter().filter(|(_, calls)| calls.iter().any(|call| words.contains(call)));
-        let used: Vec<&str> = used.map(|(name, _)| *name).collect();
-        match &used[..] {
+        let memory = (format!("{}::{MEMORY_MODULE}", names.package), used.map(|(name, _)| *name).collect());
+        let used = UNWRITTEN.iter().filter(|name| names.exported && words.contains(name));
+        let unwritten = ("crate::unwritten".to_string(), used.copied().collect());
+        let line = |(module, used): (String, Vec<&str>)| match &used[..] {
             [] => String::new(),
-            _ => format!("use {package}::{MEMORY_MODULE}::{{{}}};\n", used.join(", ")),
-        }
+            _ => format!("use {module}::{{{}}};\n", used.join(", ")),
+        };
+        [memory, unwritten].map(line).concat()
     }
 }
 
 /// A file as plain Rust, with the files of its modules in place of their names, and with its exports as C calls them.
-pub fn module_of(file: &Path, folder: &Path, names: &Names, exported: bool) -> Fallible<String> {
-    let plain = Plain::read(file, names, exported)?;
-    plain.text(&plain.memory(names.package), |name| {
-        let body = module_of(&folder.join(format!("{name}.rt")), &folder.join(name), names, exported)?;
+pub fn module_of(file: &Path, folder: &Path, names: &Names) -> Fallible<String> {
+    let plain = Plain::read(file, names)?;
+    plain.text(&plain.imports(names), |name| {
+        let body = module_of(&folder.join(format!("{name}.rt")), &folder.join(name), names)?;
         Ok(format!(" {{\n{body}\n}}"))
     })
 }
 
 /// The files of a crate as plain Rust, with its exports as C calls them if it has some, each with its place in the folder of the
 /// crate. The first is the crate's own, which begins with these attributes.
-pub fn files_of(folder: &Path, names: &Names, attributes: &str, exported: bool) -> Fallible<Vec<(PathBuf, String)>> {
+pub fn files_of(folder: &Path, names: &Names, attributes: &str) -> Fallible<Vec<(PathBuf, String)>> {
     let (mut files, mut left) = (Vec::new(), vec![PathBuf::new()]);
     while let Some(module) = left.pop() {
         let is_root = module.as_os_str().is_empty();
         let source = if is_root { PathBuf::from("lib.rt") } else { module.with_extension("rt") };
         let first = module.iter().next().and_then(|name| name.to_str()).unwrap_or_default();
-        let plain = Plain::read(&folder.join(&source), &Names { module: first, ..*names }, exported)?;
+        let plain = Plain::read(&folder.join(&source), &Names { module: first, ..*names })?;
         let head = if is_root { format!("{attributes}\n") } else { String::new() };
         let head = if plain.erased.is_unsafe { format!("{ALLOWED_UNSAFE}\n{head}") } else { head };
-        let added = format!("{head}{}", plain.memory(names.package));
+        let added = format!("{head}{}", plain.imports(names));
         let text = plain.text(&added, |name| {
             left.push(module.join(name));
             Ok(";".to_string())
         })?;
         let text = if is_root { text } else { plain.with_modules_in_order(&text) };
         // (each export stands in a module that is private in the source)
-        let text = if exported { text.replace("\nmod ", "\npub mod ") } else { text };
+        let text = if names.exported { text.replace("\nmod ", "\npub mod ") } else { text };
         let of = format!("// Made by `rust/erase` of `crates/{}/src/{}`: edit that.\n", names.own, source.display());
         let place = if is_root { PathBuf::from("mod.rs") } else { module.with_extension("rs") };
         files.push((place, of + &text));

@@ -195,6 +195,22 @@ pub const UNSAFE: &[(&str, &str, &str)] = &[
     ),
 ];
 
+/// What functions of exports read that their caller lends to be written: the function and the parameter. C has written it before.
+pub const READ_TOO: &[(&str, &str)] =
+    &[("nd_merge_axes", "shape"), ("nd_merge_axes", "strides"), ("nd_next_index", "index"), ("step", "index")];
+
+/// What functions of exports hand on to a call of the layer that writes the whole list: the function, the list, and what that call gets.
+pub const ZEROED: &[(&str, &str, &str)] = &[
+    ("nd_joined_in_all", "new_strides", "if shape.is_empty() { &mut [] } else { zeroed(new_strides) }"),
+    ("write_common_shape", "common", "zeroed(common)"),
+];
+
+/// Fields of what C passes that it has written if the kind names them.
+pub const NAMED_BY_KIND: &[&str] = &["has_end", "start", "end", "step"];
+
+/// What exports use for all that may hold nothing yet: `bindings/c/exports/unwritten.rs`.
+pub const UNWRITTEN: &[&str] = &["MaybeUninit", "as_unwritten", "zeroed"];
+
 /// Modules whose conditions keep `unsafe` sound, each with its crate.
 pub const SOUND_BY_CONDITIONS: &[(&str, &str)] =
     &[("nd_lent", "array_view"), ("nd_lent", "cells"), ("nd_lent", "array_view_mut")];

@@ -4,6 +4,7 @@
 #![allow(clippy::too_many_arguments, clippy::redundant_closure)]
 
 mod heap;
+mod unwritten;
 
 pub mod ndarray_layout_c;
 

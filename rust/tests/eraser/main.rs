@@ -56,6 +56,7 @@ const NAMES: Names = Names {
     package: "crate",
     examples: &[],
     inlined: false,
+    exported: false,
 };
 
 /// What is left of a source, or what is said of it.
@@ -302,15 +303,59 @@ fn an_export_takes_what_c_passes() {
     );
     assert!(
         text.contains(
-            "fn f(n: usize, a: *const u8, a_count: usize, b: *mut i32, b_count: usize, c: *mut usize) -> i32"
+            "fn f(n: usize, a: *const u8, a_count: usize, b: *mut MaybeUninit<i32>, b_count: usize, c: *mut MaybeUninit<usize>) -> i32"
         )
     );
     let a = "if a_count == 0 { &[] } else { ::core::slice::from_raw_parts(a, a_count) }";
     let b = "if b_count == 0 { &mut [] } else { ::core::slice::from_raw_parts_mut(b, b_count) }";
     assert!(text.contains(&format!("super::f(n, {a}, {b}, &mut *c)")));
+    assert!(
+        of("extern \"C\" fn nd_next_index(index: &mut [u8]) -> i32 {}")
+            .contains("(index: *mut u8, index_count: usize)")
+    );
     assert_eq!(of("pub fn f() -> i32 { 0 }"), "");
     assert_eq!(of("extern \"C\" fn f(a: &u8) -> i32 {}"), "1: `a` is a parameter that C can't pass");
     assert_eq!(of("extern \"C\" fn f() {}"), "1: `)` is followed by no result");
+}
+
+#[test]
+fn what_an_export_only_writes_may_hold_nothing_before() {
+    const ROWS: &[(&str, &str)] = &[
+        (
+            "extern \"C\" fn f(a: &mut [u8], b: &mut usize) { *b = a.len(); a[0] = g(b); a[1..].copy_from_slice(h()); k(a, b) }",
+            "fn f(a: &mut [MaybeUninit<u8>], b: &mut MaybeUninit<usize>) { b.write( a.len()); a[0].write( g(b)); a[1..].copy_from_slice(as_unwritten(h())); k(a, b) }",
+        ),
+        (
+            "fn f<'a>(a: &mut u8, b: &'a u8) { if *b == 1 { *a = 2; } }",
+            "fn f<'a>(a: &mut MaybeUninit<u8>, b: &'a u8) { if *b == 1 { a.write( 2); } }",
+        ),
+        (
+            "fn f(a: &mut u8) {} fn g(a: u8) { c[0] = a; b[0] = 1; }",
+            "fn f(a: &mut MaybeUninit<u8>) {} fn g(a: u8) { c[0] = a; b[0] = 1; }",
+        ),
+        (
+            "fn nd_next_index(index: &mut [u8], has_next: &mut i32) { index[0] = 1; *has_next = 1; }",
+            "fn nd_next_index(index: &mut [u8], has_next: &mut MaybeUninit<i32>) { index[0] = 1; has_next.write( 1); }",
+        ),
+        (
+            "fn write_common_shape(common: &mut [u8]) { f(common.len(), common); g(common, 1) }",
+            "fn write_common_shape(common: &mut [MaybeUninit<u8>]) { f(common.len(), zeroed(common)); g(zeroed(common), 1) }",
+        ),
+        ("fn f(a: &mut u8) { *a = 1 }", "1: `=` is followed by no `;`"),
+        ("fn f(a: &mut u8) { g(*a); }", "1: `a` is read, and neither C nor this function has written it"),
+        ("fn f(a: &mut [u8]) { g(a[0]) }", "1: `a` is read, and neither C nor this function has written it"),
+        (
+            "pub struct RawElem { pub kind: i32, pub start: isize } fn f(raw: &RawElem) -> S { S { start: raw.start, kind: raw.kind } }",
+            "pub struct RawElem { pub kind: i32, pub start: MaybeUninit<isize> } fn f(raw: &RawElem) -> S { S { start: unsafe { raw.start.assume_init() }, kind: raw.kind } }",
+        ),
+    ];
+    let names = Names { exported: true, ..NAMES };
+    for (source, expected) in ROWS {
+        let text = trees_of(source).and_then(|(trees, _)| erase(&trees, &names));
+        let text = text.map_or_else(|fault| fault.to_string(), |erased| erased.text);
+        assert_eq!(text.split_whitespace().collect::<Vec<_>>().join(" "), *expected, "{source}");
+        assert!(!line(source).contains("MaybeUninit"), "{source}");
+    }
 }
 
 #[test]
@@ -410,14 +455,14 @@ fn a_file_is_a_module() {
     fs::create_dir_all(folder.join("a")).expect("a folder");
     fs::write(folder.join("a.rt"), "mod b;\nuse super::c;\nfn f(x: Vec<u8>) {}\n").expect("a file");
     fs::write(folder.join("a/b.rt"), "fn g() {}\n").expect("a file");
-    let text = module_of(&folder.join("lib.rt"), &folder, &NAMES, false).expect("known forms");
+    let text = module_of(&folder.join("lib.rt"), &folder, &NAMES).expect("known forms");
     let import = "use crate::memory::prelude::{Vec};";
     let b = "mod b {\n\n\nfn g() {}\n\n}";
     let a = format!("{{\n\n\n{import}\n{b}\nuse super::c;\nfn f(x: Vec<u8>) {{}}\n\n}}");
     let string = "const S: &str = \"\n//! text\nmod b;\n\";\n";
     assert_eq!(text, format!("//! The docs.\n\n\n\npub mod a {a}\n{string}"));
 
-    let files = files_of(&folder, &NAMES, "#![allow(a)]\n", false).expect("known forms");
+    let files = files_of(&folder, &NAMES, "#![allow(a)]\n").expect("known forms");
     let made = |of: &str| format!("// Made by `rust/erase` of `crates/upper/src/{of}`: edit that.\n");
     let root = format!("{}//! The docs.\n\n#![allow(a)]\n\n\n\npub mod a;\n{string}", made("lib.rt"));
     let a = format!("{}\n\n{import}\nmod b;\nuse super::c;\nfn f(x: Vec<u8>) {{}}\n", made("a.rt"));
@@ -435,9 +480,9 @@ fn modules_stand_in_an_order_of_use() {
     for name in ["blocks", "constructors", "rows"] {
         fs::write(folder.join("a").join(format!("{name}.rt")), "").expect("a file");
     }
-    let files = files_of(&folder, &NAMES, "", false).expect("known forms");
+    let files = files_of(&folder, &NAMES, "").expect("known forms");
     assert!(files[1].1.ends_with("\nmod constructors;\nmod rows;\nmod blocks;\nuse a::b;\n"), "{}", files[1].1);
-    let exported = files_of(&folder, &NAMES, "", true).expect("known forms");
+    let exported = files_of(&folder, &Names { exported: true, ..NAMES }, "").expect("known forms");
     assert!(exported[0].1.ends_with("\npub mod a;\n"), "{}", exported[0].1);
     fs::remove_dir_all(folder).expect("a folder");
 }
@@ -446,7 +491,7 @@ fn modules_stand_in_an_order_of_use() {
 fn a_fault_names_the_file() {
     let folder = file_of("fault", "mod a;\n");
     fs::write(folder.join("a.rt"), "\nfn f() { dyn {} }\n").expect("a file");
-    let fault = module_of(&folder.join("lib.rt"), &folder, &NAMES, false).expect_err("no form");
+    let fault = module_of(&folder.join("lib.rt"), &folder, &NAMES).expect_err("no form");
     let expected = format!("{}:2: `dyn` is no form that can be erased", folder.join("a.rt").display());
     assert_eq!(fault.to_string(), expected);
     fs::remove_dir_all(folder).expect("a folder");

@@ -28,11 +28,11 @@ macro_rules! compare {
             &$statuses,
             $arguments,
             {
-                use crate::erased::*;
+                use crate::exports::erased::*;
                 $made
             },
             {
-                use crate::proved::*;
+                use crate::exports::proved::*;
                 $made
             },
         )

@@ -17,7 +17,7 @@ mod model;
 #[path = "../../../../rust/tests/random/numbers.rs"]
 mod numbers;
 #[deny(dead_code)]
-mod proved;
+mod exports;
 mod reasons;
 mod shapes;
 mod slices;
@@ -27,22 +27,13 @@ use std::collections::BTreeSet;
 
 #[path = "../../exports/ndarray_layout_c/mod.rs"]
 pub mod ndarray_layout_c;
+#[path = "../../exports/unwritten.rs"]
+mod unwritten;
 
-/// The exports of the package.
-mod erased {
-    pub use crate::ndarray_layout_c::elements::RawElem;
-    pub use crate::ndarray_layout_c::reasons::Reason;
-    pub use crate::ndarray_layout_c::{
-        axis_reasons::*, block_reasons::*, blocks::*, broadcast_reasons::*, diagonals::*, index_reasons::*, indices::*,
-        intersections::*, joined_layouts::*, layout_reasons::*, layouts::*, permute_reasons::*, reshape_reasons::*,
-        rows::*, shapes::*, slice_reasons::*, slices::*, splits::*, status_texts::*, stretches::*, version::*,
-    };
-}
-
-/// (a call of `proved` that no test makes is dead code, which is an error)
+/// (a call of `exports` that no test makes is dead code, which is an error)
 #[test]
 fn each_call_of_the_header_is_compared() {
     let header = include_str!("../../ndarray_layout.h");
     let calls = header.lines().filter_map(|line| line.strip_prefix("int32_t ")?.split('(').next());
-    assert_eq!(calls.collect::<BTreeSet<_>>(), BTreeSet::from_iter(proved::CALLS.iter().copied()));
+    assert_eq!(calls.collect::<BTreeSet<_>>(), BTreeSet::from_iter(exports::CALLS.iter().copied()));
 }

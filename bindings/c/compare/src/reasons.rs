@@ -3,8 +3,8 @@
 use crate::arguments::{axes, axis, buffer_len, index, other_shape, target};
 use crate::blocks::block;
 use crate::compare::*;
-use crate::erased::Reason;
 use crate::model::layouts::{LIMIT, is_empty, low_and_high, product_without_zeros, size, span};
+use crate::ndarray_layout_c::reasons::Reason;
 use crate::numbers::Numbers;
 use crate::slices::{Elem, elems, raw};
 use std::collections::BTreeMap;
@@ -63,11 +63,11 @@ macro_rules! compare_reasons {
             &$rules,
             $arguments,
             {
-                use crate::erased::*;
+                use crate::exports::erased::*;
                 $made
             },
             {
-                use crate::proved::*;
+                use crate::exports::proved::*;
                 $made
             },
             $model,

@@ -1,9 +1,10 @@
 //! Slices of a layout, and of a shape.
 
 use crate::compare::*;
-use crate::erased::RawElem;
+use crate::ndarray_layout_c::elements::RawElem;
 use crate::numbers::Numbers;
 use ndarray_layout::SliceInfoElem;
+use std::mem::MaybeUninit;
 
 /// An element as C gives it.
 #[derive(Debug)]
@@ -46,10 +47,10 @@ pub fn elems(numbers: &mut Numbers, shape: &[usize]) -> Vec<Elem> {
 pub fn raw(elems: &[Elem]) -> Vec<RawElem> {
     let raw = |elem: &Elem| RawElem {
         kind: elem.kind,
-        has_end: elem.has_end,
-        start: elem.start,
-        end: elem.end,
-        step: elem.step,
+        has_end: MaybeUninit::new(elem.has_end),
+        start: MaybeUninit::new(elem.start),
+        end: MaybeUninit::new(elem.end),
+        step: MaybeUninit::new(elem.step),
     };
     elems.iter().map(raw).collect()
 }

@@ -3,6 +3,7 @@
 
 use crate::ndarray_layout_c::reasons::{AXIS, Reason, SAME_AXIS, SPLIT, no_reason, of_axis};
 use crate::ndarray_layout_c::statuses::{OK, OUT_OF_BOUNDS, UNSUPPORTED};
+use crate::unwritten::MaybeUninit;
 
 /// There is no such axis.
 ///
@@ -47,8 +48,8 @@ fn split_reason(shape: &[usize], axis: usize, index: usize) -> Reason {
 /// ```
 /// [How to read it](ndarray_layout::contracts)
 /// </details>
-pub fn nd_split_at_reason(shape: &[usize], axis: usize, index: usize, reason: &mut Reason) -> i32 {
-    *reason = split_reason(shape, axis, index);
+pub fn nd_split_at_reason(shape: &[usize], axis: usize, index: usize, reason: &mut MaybeUninit<Reason>) -> i32 {
+    reason.write(split_reason(shape, axis, index));
     OK
 }
 
@@ -85,8 +86,8 @@ fn axes_reason(shape: &[usize], take: usize, into: usize) -> Reason {
 /// ```
 /// [How to read it](ndarray_layout::contracts)
 /// </details>
-pub fn nd_merge_axes_reason(shape: &[usize], take: usize, into: usize, reason: &mut Reason) -> i32 {
-    *reason = axes_reason(shape, take, into);
+pub fn nd_merge_axes_reason(shape: &[usize], take: usize, into: usize, reason: &mut MaybeUninit<Reason>) -> i32 {
+    reason.write(axes_reason(shape, take, into));
     OK
 }
 
@@ -102,7 +103,7 @@ pub mod exported {
         shape_count: usize,
         axis: usize,
         index: usize,
-        reason: *mut Reason,
+        reason: *mut MaybeUninit<Reason>,
     ) -> i32 {
         unsafe {
             super::nd_split_at_reason(
@@ -123,7 +124,7 @@ pub mod exported {
         shape_count: usize,
         take: usize,
         into: usize,
-        reason: *mut Reason,
+        reason: *mut MaybeUninit<Reason>,
     ) -> i32 {
         unsafe {
             super::nd_merge_axes_reason(

@@ -5,6 +5,7 @@ use crate::ndarray_layout_c::blocks::Blocks;
 use crate::ndarray_layout_c::reasons::{CHUNK, COUNT, EMPTY, Reason, SIZE, WINDOW, no_reason, of_axis, of_list};
 use crate::ndarray_layout_c::sizes::{times, times_lengths};
 use crate::ndarray_layout_c::statuses::{INCOMPATIBLE_SHAPE, OK, OVERFLOW, UNSUPPORTED};
+use crate::unwritten::MaybeUninit;
 
 /// How many blocks of a length an axis has.
 ///
@@ -130,8 +131,8 @@ fn blocks_reason(blocks: Blocks, shape: &[usize], block: &[usize]) -> Reason {
 /// ```
 /// [How to read it](ndarray_layout::contracts)
 /// </details>
-pub fn nd_windows_reason(shape: &[usize], window: &[usize], reason: &mut Reason) -> i32 {
-    *reason = blocks_reason(Blocks::Windows, shape, window);
+pub fn nd_windows_reason(shape: &[usize], window: &[usize], reason: &mut MaybeUninit<Reason>) -> i32 {
+    reason.write(blocks_reason(Blocks::Windows, shape, window));
     OK
 }
 
@@ -146,8 +147,8 @@ pub fn nd_windows_reason(shape: &[usize], window: &[usize], reason: &mut Reason)
 /// ```
 /// [How to read it](ndarray_layout::contracts)
 /// </details>
-pub fn nd_exact_chunks_reason(shape: &[usize], chunk: &[usize], reason: &mut Reason) -> i32 {
-    *reason = blocks_reason(Blocks::Chunks, shape, chunk);
+pub fn nd_exact_chunks_reason(shape: &[usize], chunk: &[usize], reason: &mut MaybeUninit<Reason>) -> i32 {
+    reason.write(blocks_reason(Blocks::Chunks, shape, chunk));
     OK
 }
 
@@ -163,7 +164,7 @@ pub mod exported {
         shape_count: usize,
         window: *const usize,
         window_count: usize,
-        reason: *mut Reason,
+        reason: *mut MaybeUninit<Reason>,
     ) -> i32 {
         unsafe {
             super::nd_windows_reason(
@@ -183,7 +184,7 @@ pub mod exported {
         shape_count: usize,
         chunk: *const usize,
         chunk_count: usize,
-        reason: *mut Reason,
+        reason: *mut MaybeUninit<Reason>,
     ) -> i32 {
         unsafe {
             super::nd_exact_chunks_reason(

@@ -3,6 +3,7 @@
 
 use crate::ndarray_layout_c::lists::{view, write_axes};
 use crate::ndarray_layout_c::statuses::{BAD_ARGUMENT, OUT_OF_MEMORY, status_of};
+use crate::unwritten::MaybeUninit;
 use ::ndarray_layout::{IxDyn, LayoutError, Strided, new_ixdyn};
 
 /// Which blocks of a shape are taken of a layout: all windows, or the chunks side by side.
@@ -73,8 +74,8 @@ fn write_blocks(
     shape: &[usize],
     strides: &[usize],
     block: &[usize],
-    new_shape: &mut [usize],
-    new_strides: &mut [usize],
+    new_shape: &mut [MaybeUninit<usize>],
+    new_strides: &mut [MaybeUninit<usize>],
 ) -> i32 {
     if new_shape.len() != 2 * shape.len() || new_strides.len() != 2 * shape.len() {
         return BAD_ARGUMENT;
@@ -115,8 +116,8 @@ pub fn nd_windows(
     shape: &[usize],
     strides: &[usize],
     window: &[usize],
-    new_shape: &mut [usize],
-    new_strides: &mut [usize],
+    new_shape: &mut [MaybeUninit<usize>],
+    new_strides: &mut [MaybeUninit<usize>],
 ) -> i32 {
     write_blocks(Blocks::Windows, shape, strides, window, new_shape, new_strides)
 }
@@ -150,8 +151,8 @@ pub fn nd_exact_chunks(
     shape: &[usize],
     strides: &[usize],
     chunk: &[usize],
-    new_shape: &mut [usize],
-    new_strides: &mut [usize],
+    new_shape: &mut [MaybeUninit<usize>],
+    new_strides: &mut [MaybeUninit<usize>],
 ) -> i32 {
     write_blocks(Blocks::Chunks, shape, strides, chunk, new_shape, new_strides)
 }
@@ -170,9 +171,9 @@ pub mod exported {
         strides_count: usize,
         window: *const usize,
         window_count: usize,
-        new_shape: *mut usize,
+        new_shape: *mut MaybeUninit<usize>,
         new_shape_count: usize,
-        new_strides: *mut usize,
+        new_strides: *mut MaybeUninit<usize>,
         new_strides_count: usize,
     ) -> i32 {
         unsafe {
@@ -205,9 +206,9 @@ pub mod exported {
         strides_count: usize,
         chunk: *const usize,
         chunk_count: usize,
-        new_shape: *mut usize,
+        new_shape: *mut MaybeUninit<usize>,
         new_shape_count: usize,
-        new_strides: *mut usize,
+        new_strides: *mut MaybeUninit<usize>,
         new_strides_count: usize,
     ) -> i32 {
         unsafe {

@@ -4,6 +4,7 @@
 use crate::ndarray_layout_c::reasons::{COMMON, COUNT, Reason, SIZE, STRETCH, TARGET, no_reason, of_axis, of_list};
 use crate::ndarray_layout_c::sizes::times_lengths;
 use crate::ndarray_layout_c::statuses::{INCOMPATIBLE_SHAPE, OK, OVERFLOW};
+use crate::unwritten::MaybeUninit;
 
 /// The length of an axis of a shape, padded with lengths of 1 in front up to so many axes.
 ///
@@ -71,8 +72,8 @@ fn co_broadcast_reason(first: &[usize], second: &[usize]) -> Reason {
 /// ```
 /// [How to read it](ndarray_layout::contracts)
 /// </details>
-pub fn nd_co_broadcast_reason(first: &[usize], second: &[usize], reason: &mut Reason) -> i32 {
-    *reason = co_broadcast_reason(first, second);
+pub fn nd_co_broadcast_reason(first: &[usize], second: &[usize], reason: &mut MaybeUninit<Reason>) -> i32 {
+    reason.write(co_broadcast_reason(first, second));
     OK
 }
 
@@ -129,8 +130,8 @@ fn broadcast_reason(shape: &[usize], target: &[usize]) -> Reason {
 /// ```
 /// [How to read it](ndarray_layout::contracts)
 /// </details>
-pub fn nd_broadcast_reason(shape: &[usize], target: &[usize], reason: &mut Reason) -> i32 {
-    *reason = broadcast_reason(shape, target);
+pub fn nd_broadcast_reason(shape: &[usize], target: &[usize], reason: &mut MaybeUninit<Reason>) -> i32 {
+    reason.write(broadcast_reason(shape, target));
     OK
 }
 
@@ -146,7 +147,7 @@ pub mod exported {
         first_count: usize,
         second: *const usize,
         second_count: usize,
-        reason: *mut Reason,
+        reason: *mut MaybeUninit<Reason>,
     ) -> i32 {
         unsafe {
             super::nd_co_broadcast_reason(
@@ -166,7 +167,7 @@ pub mod exported {
         shape_count: usize,
         target: *const usize,
         target_count: usize,
-        reason: *mut Reason,
+        reason: *mut MaybeUninit<Reason>,
     ) -> i32 {
         unsafe {
             super::nd_broadcast_reason(

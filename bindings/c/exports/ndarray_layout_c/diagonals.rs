@@ -3,6 +3,7 @@
 
 use crate::ndarray_layout_c::lists::view;
 use crate::ndarray_layout_c::statuses::{OK, OUT_OF_MEMORY, status_of};
+use crate::unwritten::MaybeUninit;
 use ::ndarray_layout::{IxDyn, LayoutError, Lengths, Strided, signed};
 
 /// Writes the length and the stride of the diagonal of a view.
@@ -15,11 +16,11 @@ use ::ndarray_layout::{IxDyn, LayoutError, Lengths, Strided, signed};
 /// ```
 /// [How to read it](ndarray_layout::contracts)
 /// </details>
-fn write_diagonal(view: &Strided<IxDyn>, len: &mut usize, stride: &mut isize) {
+fn write_diagonal(view: &Strided<IxDyn>, len: &mut MaybeUninit<usize>, stride: &mut MaybeUninit<isize>) {
     let diagonal = view.diag();
     let (lens, strides) = (diagonal.dim(), diagonal.strides());
-    *len = lens.slice()[0];
-    *stride = signed(strides.slice()[0]);
+    len.write(lens.slice()[0]);
+    stride.write(signed(strides.slice()[0]));
 }
 
 /// Writes the length and the stride of the diagonal of a layout, whose start stays.
@@ -37,7 +38,12 @@ fn write_diagonal(view: &Strided<IxDyn>, len: &mut usize, stride: &mut isize) {
 /// ```
 /// [How to read it](ndarray_layout::contracts)
 /// </details>
-pub fn nd_diag(shape: &[usize], strides: &[usize], len: &mut usize, stride: &mut isize) -> i32 {
+pub fn nd_diag(
+    shape: &[usize],
+    strides: &[usize],
+    len: &mut MaybeUninit<usize>,
+    stride: &mut MaybeUninit<isize>,
+) -> i32 {
     match view(shape, strides) {
         Ok(view) => {
             write_diagonal(&view, len, stride);
@@ -60,8 +66,8 @@ pub mod exported {
         shape_count: usize,
         strides: *const usize,
         strides_count: usize,
-        len: *mut usize,
-        stride: *mut isize,
+        len: *mut MaybeUninit<usize>,
+        stride: *mut MaybeUninit<isize>,
     ) -> i32 {
         unsafe {
             super::nd_diag(

@@ -1,6 +1,7 @@
 // Made by `rust/erase` of `crates/ndarray_layout_c/src/elements.rt`: edit that.
 //! The elements of a slice, as C gives them.
 
+use crate::unwritten::MaybeUninit;
 use ::ndarray_layout::SliceInfoElem;
 use ::ndarray_layout::memory::AllocError;
 use ::ndarray_layout::memory::prelude::{FallibleVec, Vec};
@@ -13,10 +14,10 @@ pub(crate) const FEW: usize = 4;
 #[repr(C)]
 pub struct RawElem {
     pub kind: i32,
-    pub has_end: i32,
-    pub start: isize,
-    pub end: isize,
-    pub step: isize,
+    pub has_end: MaybeUninit<i32>,
+    pub start: MaybeUninit<isize>,
+    pub end: MaybeUninit<isize>,
+    pub step: MaybeUninit<isize>,
 }
 
 /// Whether the kind of an element has a meaning.
@@ -56,11 +57,15 @@ pub(crate) fn are_elems(raws: &[RawElem]) -> bool {
 /// </details>
 fn elem_named(raw: &RawElem) -> SliceInfoElem {
     if raw.kind == 0 {
-        let end = if raw.has_end == 0 { None } else { Some(raw.end) };
-        return SliceInfoElem::Slice { start: raw.start, end, step: raw.step };
+        let end = if unsafe { raw.has_end.assume_init() } == 0 { None } else { Some(unsafe { raw.end.assume_init() }) };
+        return SliceInfoElem::Slice {
+            start: unsafe { raw.start.assume_init() },
+            end,
+            step: unsafe { raw.step.assume_init() },
+        };
     }
     if raw.kind == 1 {
-        return SliceInfoElem::Index(raw.start);
+        return SliceInfoElem::Index(unsafe { raw.start.assume_init() });
     }
     SliceInfoElem::NewAxis
 }

@@ -3,6 +3,7 @@
 
 use crate::ndarray_layout_c::reasons::{COORDINATE, COORDINATES, COUNT, Reason, no_reason, of_axis, of_list};
 use crate::ndarray_layout_c::statuses::{OK, OUT_OF_BOUNDS};
+use crate::unwritten::MaybeUninit;
 
 /// Whether the coordinate of an axis is none of it.
 ///
@@ -52,8 +53,8 @@ fn index_reason(shape: &[usize], index: &[usize]) -> Reason {
 /// ```
 /// [How to read it](ndarray_layout::contracts)
 /// </details>
-pub fn nd_index_reason(shape: &[usize], index: &[usize], reason: &mut Reason) -> i32 {
-    *reason = index_reason(shape, index);
+pub fn nd_index_reason(shape: &[usize], index: &[usize], reason: &mut MaybeUninit<Reason>) -> i32 {
+    reason.write(index_reason(shape, index));
     OK
 }
 
@@ -69,7 +70,7 @@ pub mod exported {
         shape_count: usize,
         index: *const usize,
         index_count: usize,
-        reason: *mut Reason,
+        reason: *mut MaybeUninit<Reason>,
     ) -> i32 {
         unsafe {
             super::nd_index_reason(

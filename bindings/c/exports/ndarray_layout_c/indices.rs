@@ -4,6 +4,7 @@
 use crate::ndarray_layout_c::arguments::{answer_of, is_choice, order_named};
 use crate::ndarray_layout_c::lists::view_from;
 use crate::ndarray_layout_c::statuses::{BAD_ARGUMENT, OK, OUT_OF_BOUNDS, OUT_OF_MEMORY, status_of};
+use crate::unwritten::MaybeUninit;
 use ::ndarray_layout::{
     ErrorKind, IxDyn, LayoutError, Lengths, Order, Strided, advance_column_major, advance_row_major, from_kind,
     is_index, new_ixdyn, product,
@@ -40,14 +41,14 @@ fn step(shape: &[usize], index: &mut [usize], order: Order) -> bool {
 /// ```
 /// [How to read it](ndarray_layout::contracts)
 /// </details>
-pub fn nd_next_index(shape: &[usize], index: &mut [usize], order: i32, has_next: &mut i32) -> i32 {
+pub fn nd_next_index(shape: &[usize], index: &mut [usize], order: i32, has_next: &mut MaybeUninit<i32>) -> i32 {
     if !is_choice(order) {
         return BAD_ARGUMENT;
     }
     if !is_index(shape, index) {
         return OUT_OF_BOUNDS;
     }
-    *has_next = answer_of(step(shape, index, order_named(order)));
+    has_next.write(answer_of(step(shape, index, order_named(order))));
     OK
 }
 
@@ -97,10 +98,16 @@ fn place_of(start: usize, shape: &[usize], strides: &[usize], index: &[usize]) -
 /// ```
 /// [How to read it](ndarray_layout::contracts)
 /// </details>
-pub fn nd_place(start: usize, shape: &[usize], strides: &[usize], index: &[usize], place: &mut usize) -> i32 {
+pub fn nd_place(
+    start: usize,
+    shape: &[usize],
+    strides: &[usize],
+    index: &[usize],
+    place: &mut MaybeUninit<usize>,
+) -> i32 {
     match place_of(start, shape, strides, index) {
         Ok(found) => {
-            *place = found;
+            place.write(found);
             OK
         }
         Err(LayoutError::Shape(error)) => status_of(error.kind()),
@@ -123,9 +130,9 @@ pub fn nd_place(start: usize, shape: &[usize], strides: &[usize], index: &[usize
 /// ```
 /// [How to read it](ndarray_layout::contracts)
 /// </details>
-fn fill_places(view: &Strided<IxDyn>, order: Order, places: &mut [usize]) {
+fn fill_places(view: &Strided<IxDyn>, order: Order, places: &mut [MaybeUninit<usize>]) {
     for (at, place) in view.iter_places(order).enumerate() {
-        places[at] = place;
+        places[at].write(place);
     }
 }
 
@@ -140,7 +147,7 @@ fn fill_places(view: &Strided<IxDyn>, order: Order, places: &mut [usize]) {
 /// ```
 /// [How to read it](ndarray_layout::contracts)
 /// </details>
-fn write_places(view: &Strided<IxDyn>, order: Order, places: &mut [usize]) -> i32 {
+fn write_places(view: &Strided<IxDyn>, order: Order, places: &mut [MaybeUninit<usize>]) -> i32 {
     if places.len() != product(view.dim().slice()) {
         return BAD_ARGUMENT;
     }
@@ -165,7 +172,13 @@ fn write_places(view: &Strided<IxDyn>, order: Order, places: &mut [usize]) -> i3
 /// ```
 /// [How to read it](ndarray_layout::contracts)
 /// </details>
-pub fn nd_places(start: usize, shape: &[usize], strides: &[usize], order: i32, places: &mut [usize]) -> i32 {
+pub fn nd_places(
+    start: usize,
+    shape: &[usize],
+    strides: &[usize],
+    order: i32,
+    places: &mut [MaybeUninit<usize>],
+) -> i32 {
     if !is_choice(order) {
         return BAD_ARGUMENT;
     }
@@ -189,7 +202,7 @@ pub mod exported {
         index: *mut usize,
         index_count: usize,
         order: i32,
-        has_next: *mut i32,
+        has_next: *mut MaybeUninit<i32>,
     ) -> i32 {
         unsafe {
             super::nd_next_index(
@@ -213,7 +226,7 @@ pub mod exported {
         strides_count: usize,
         index: *const usize,
         index_count: usize,
-        place: *mut usize,
+        place: *mut MaybeUninit<usize>,
     ) -> i32 {
         unsafe {
             super::nd_place(
@@ -237,7 +250,7 @@ pub mod exported {
         strides: *const usize,
         strides_count: usize,
         order: i32,
-        places: *mut usize,
+        places: *mut MaybeUninit<usize>,
         places_count: usize,
     ) -> i32 {
         unsafe {

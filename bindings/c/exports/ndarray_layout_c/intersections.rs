@@ -5,6 +5,7 @@ use crate::ndarray_layout_c::arguments::{answer_of, fit_named, is_choice};
 use crate::ndarray_layout_c::elements::{FEW, RawElem, are_elems, few_elems, many_elems};
 use crate::ndarray_layout_c::lists::own_view;
 use crate::ndarray_layout_c::statuses::{BAD_ARGUMENT, OK, OUT_OF_MEMORY, status_of};
+use crate::unwritten::{MaybeUninit, as_unwritten};
 use ::ndarray_layout::memory::AllocError;
 use ::ndarray_layout::memory::prelude::{FallibleVec, Vec};
 use ::ndarray_layout::{Fit, IxDyn, LayoutError, SliceInfoElem, Strided};
@@ -152,9 +153,9 @@ fn shape_intersection(
 /// ```
 /// [How to read it](ndarray_layout::contracts)
 /// </details>
-fn write_pair(found: Option<(usize, usize)>, pair: &mut [usize]) -> i32 {
+fn write_pair(found: Option<(usize, usize)>, pair: &mut [MaybeUninit<usize>]) -> i32 {
     if let Some((first, second)) = found {
-        pair.copy_from_slice(&[first, second]);
+        pair.copy_from_slice(as_unwritten(&[first, second]));
     }
     answer_of(found.is_some())
 }
@@ -186,8 +187,8 @@ pub fn nd_first_intersection(
     elems: &[RawElem],
     counts: &[usize],
     fit: i32,
-    pair: &mut [usize],
-    found: &mut i32,
+    pair: &mut [MaybeUninit<usize>],
+    found: &mut MaybeUninit<i32>,
 ) -> i32 {
     if !is_choice(fit) || !are_elems(elems) || pair.len() != 2 {
         return BAD_ARGUMENT;
@@ -197,7 +198,7 @@ pub fn nd_first_intersection(
     }
     match shape_intersection(shape, elems, counts, fit_named(fit)) {
         Ok(both) => {
-            *found = write_pair(both, pair);
+            found.write(write_pair(both, pair));
             OK
         }
         Err(LayoutError::Shape(error)) => status_of(error.kind()),
@@ -220,9 +221,9 @@ pub mod exported {
         counts: *const usize,
         counts_count: usize,
         fit: i32,
-        pair: *mut usize,
+        pair: *mut MaybeUninit<usize>,
         pair_count: usize,
-        found: *mut i32,
+        found: *mut MaybeUninit<i32>,
     ) -> i32 {
         unsafe {
             super::nd_first_intersection(

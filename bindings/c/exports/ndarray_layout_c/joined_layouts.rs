@@ -3,6 +3,7 @@
 
 use crate::ndarray_layout_c::arguments::{is_choice, order_named};
 use crate::ndarray_layout_c::statuses::{BAD_ARGUMENT, OK, status_of};
+use crate::unwritten::{MaybeUninit, zeroed};
 use ::ndarray_layout::{ErrorKind, ShapeError, joined_in_all, span_of_lengths};
 
 /// Tests one of several layouts of a shape, of which the strides stand one after another.
@@ -84,9 +85,9 @@ pub fn nd_joined_in_all(
     shape: &[usize],
     strides: &[usize],
     order: i32,
-    new_strides: &mut [usize],
-    count: &mut usize,
-    len: &mut usize,
+    new_strides: &mut [MaybeUninit<usize>],
+    count: &mut MaybeUninit<usize>,
+    len: &mut MaybeUninit<usize>,
 ) -> i32 {
     if !is_choice(order) || new_strides.is_empty() {
         return BAD_ARGUMENT;
@@ -94,9 +95,14 @@ pub fn nd_joined_in_all(
     match layouts_fault(shape, strides, new_strides.len()) {
         Some(kind) => status_of(kind),
         None => {
-            let joined = joined_in_all(order_named(order), shape, strides, new_strides);
-            *count = joined.0;
-            *len = joined.1;
+            let joined = joined_in_all(
+                order_named(order),
+                shape,
+                strides,
+                if shape.is_empty() { &mut [] } else { zeroed(new_strides) },
+            );
+            count.write(joined.0);
+            len.write(joined.1);
             OK
         }
     }
@@ -115,10 +121,10 @@ pub mod exported {
         strides: *const usize,
         strides_count: usize,
         order: i32,
-        new_strides: *mut usize,
+        new_strides: *mut MaybeUninit<usize>,
         new_strides_count: usize,
-        count: *mut usize,
-        len: *mut usize,
+        count: *mut MaybeUninit<usize>,
+        len: *mut MaybeUninit<usize>,
     ) -> i32 {
         unsafe {
             super::nd_joined_in_all(

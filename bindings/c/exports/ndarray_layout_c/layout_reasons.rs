@@ -9,6 +9,7 @@ use crate::ndarray_layout_c::reasons::{
 use crate::ndarray_layout_c::statuses::{
     BAD_ARGUMENT, INCOMPATIBLE_LAYOUT, OK, OUT_OF_BOUNDS, OUT_OF_MEMORY, OVERFLOW,
 };
+use crate::unwritten::MaybeUninit;
 use ::ndarray_layout::memory::AllocError;
 use ::ndarray_layout::{CanIndexCheckMode, low_span, new_ixdyn, size_of_shape_checked, span_of_lengths};
 
@@ -152,7 +153,7 @@ fn write_reason(
     elem_size: usize,
     len: usize,
     mode: i32,
-    reason: &mut Reason,
+    reason: &mut MaybeUninit<Reason>,
 ) -> i32 {
     if !is_choice(mode) {
         return BAD_ARGUMENT;
@@ -160,7 +161,7 @@ fn write_reason(
     let mode = mode_named(mode);
     match layout_reason(start, shape, strides, elem_size, len, mode) {
         Ok(found) => {
-            *reason = found;
+            reason.write(found);
             OK
         }
         Err(_) => OUT_OF_MEMORY,
@@ -189,7 +190,7 @@ pub fn nd_layout_start_reason(
     elem_size: usize,
     len: usize,
     mode: i32,
-    reason: &mut Reason,
+    reason: &mut MaybeUninit<Reason>,
 ) -> i32 {
     write_reason(None, shape, strides, elem_size, len, mode, reason)
 }
@@ -217,7 +218,7 @@ pub fn nd_check_layout_reason(
     elem_size: usize,
     len: usize,
     mode: i32,
-    reason: &mut Reason,
+    reason: &mut MaybeUninit<Reason>,
 ) -> i32 {
     write_reason(Some(start), shape, strides, elem_size, len, mode, reason)
 }
@@ -237,7 +238,7 @@ pub mod exported {
         elem_size: usize,
         len: usize,
         mode: i32,
-        reason: *mut Reason,
+        reason: *mut MaybeUninit<Reason>,
     ) -> i32 {
         unsafe {
             super::nd_layout_start_reason(
@@ -264,7 +265,7 @@ pub mod exported {
         elem_size: usize,
         len: usize,
         mode: i32,
-        reason: *mut Reason,
+        reason: *mut MaybeUninit<Reason>,
     ) -> i32 {
         unsafe {
             super::nd_check_layout_reason(

@@ -4,6 +4,7 @@
 use crate::ndarray_layout_c::arguments::{answer_of, is_choice, mode_named};
 use crate::ndarray_layout_c::lists::layout;
 use crate::ndarray_layout_c::statuses::{BAD_ARGUMENT, OK, OUT_OF_MEMORY, status_of};
+use crate::unwritten::{MaybeUninit, as_unwritten};
 use ::ndarray_layout::{
     CanIndexCheckMode, Dimension, IxDyn, LayoutError, Lengths, Order, Strided, accept, default_strides,
     fortran_strides, has_overlap, is_layout_c, is_layout_f, low_span, new_ixdyn, size_of_shape_checked,
@@ -29,7 +30,7 @@ pub fn nd_layout_start(
     elem_size: usize,
     len: usize,
     mode: i32,
-    start: &mut usize,
+    start: &mut MaybeUninit<usize>,
 ) -> i32 {
     if !is_choice(mode) {
         return BAD_ARGUMENT;
@@ -37,7 +38,7 @@ pub fn nd_layout_start(
     if let Err(error) = accept(elem_size, len, shape, strides, mode_named(mode)) {
         return status_of(error.kind());
     }
-    *start = low_span(shape, strides);
+    start.write(low_span(shape, strides));
     OK
 }
 
@@ -112,11 +113,11 @@ pub fn nd_check_layout(
 /// ```
 /// [How to read it](ndarray_layout::contracts)
 /// </details>
-pub fn nd_has_overlap(shape: &[usize], strides: &[usize], answer: &mut i32) -> i32 {
+pub fn nd_has_overlap(shape: &[usize], strides: &[usize], answer: &mut MaybeUninit<i32>) -> i32 {
     if let Err(error) = span_of_lengths(1, shape, strides) {
         return status_of(error.kind());
     }
-    *answer = answer_of(has_overlap(shape, strides));
+    answer.write(answer_of(has_overlap(shape, strides)));
     OK
 }
 
@@ -158,13 +159,13 @@ fn own_strides(shape: &[usize], order: Order) -> Result<IxDyn, LayoutError> {
 /// ```
 /// [How to read it](ndarray_layout::contracts)
 /// </details>
-fn write_own_strides(shape: &[usize], strides: &mut [usize], order: Order) -> i32 {
+fn write_own_strides(shape: &[usize], strides: &mut [MaybeUninit<usize>], order: Order) -> i32 {
     if strides.len() != shape.len() {
         return BAD_ARGUMENT;
     }
     match own_strides(shape, order) {
         Ok(own) => {
-            strides.copy_from_slice(own.slice());
+            strides.copy_from_slice(as_unwritten(own.slice()));
             OK
         }
         Err(LayoutError::Shape(error)) => status_of(error.kind()),
@@ -186,7 +187,7 @@ fn write_own_strides(shape: &[usize], strides: &mut [usize], order: Order) -> i3
 /// ```
 /// [How to read it](ndarray_layout::contracts)
 /// </details>
-pub fn nd_default_strides(shape: &[usize], strides: &mut [usize]) -> i32 {
+pub fn nd_default_strides(shape: &[usize], strides: &mut [MaybeUninit<usize>]) -> i32 {
     write_own_strides(shape, strides, Order::RowMajor)
 }
 
@@ -204,7 +205,7 @@ pub fn nd_default_strides(shape: &[usize], strides: &mut [usize]) -> i32 {
 /// ```
 /// [How to read it](ndarray_layout::contracts)
 /// </details>
-pub fn nd_fortran_strides(shape: &[usize], strides: &mut [usize]) -> i32 {
+pub fn nd_fortran_strides(shape: &[usize], strides: &mut [MaybeUninit<usize>]) -> i32 {
     write_own_strides(shape, strides, Order::ColumnMajor)
 }
 
@@ -223,10 +224,10 @@ pub fn nd_fortran_strides(shape: &[usize], strides: &mut [usize]) -> i32 {
 /// ```
 /// [How to read it](ndarray_layout::contracts)
 /// </details>
-pub fn nd_is_contiguous(shape: &[usize], strides: &[usize], answer: &mut i32) -> i32 {
+pub fn nd_is_contiguous(shape: &[usize], strides: &[usize], answer: &mut MaybeUninit<i32>) -> i32 {
     match layout(shape, strides) {
         Ok((dim, strides)) => {
-            *answer = answer_of(IxDyn::is_contiguous(&dim, &strides));
+            answer.write(answer_of(IxDyn::is_contiguous(&dim, &strides)));
             OK
         }
         Err(LayoutError::Shape(error)) => status_of(error.kind()),
@@ -266,10 +267,10 @@ fn is_layout_in(order: Order, dim: &IxDyn, strides: &IxDyn) -> bool {
 /// ```
 /// [How to read it](ndarray_layout::contracts)
 /// </details>
-fn write_is_layout(order: Order, shape: &[usize], strides: &[usize], answer: &mut i32) -> i32 {
+fn write_is_layout(order: Order, shape: &[usize], strides: &[usize], answer: &mut MaybeUninit<i32>) -> i32 {
     match layout(shape, strides) {
         Ok((dim, strides)) => {
-            *answer = answer_of(is_layout_in(order, &dim, &strides));
+            answer.write(answer_of(is_layout_in(order, &dim, &strides)));
             OK
         }
         Err(LayoutError::Shape(error)) => status_of(error.kind()),
@@ -291,7 +292,7 @@ fn write_is_layout(order: Order, shape: &[usize], strides: &[usize], answer: &mu
 /// ```
 /// [How to read it](ndarray_layout::contracts)
 /// </details>
-pub fn nd_is_layout_c(shape: &[usize], strides: &[usize], answer: &mut i32) -> i32 {
+pub fn nd_is_layout_c(shape: &[usize], strides: &[usize], answer: &mut MaybeUninit<i32>) -> i32 {
     write_is_layout(Order::RowMajor, shape, strides, answer)
 }
 
@@ -309,7 +310,7 @@ pub fn nd_is_layout_c(shape: &[usize], strides: &[usize], answer: &mut i32) -> i
 /// ```
 /// [How to read it](ndarray_layout::contracts)
 /// </details>
-pub fn nd_is_layout_f(shape: &[usize], strides: &[usize], answer: &mut i32) -> i32 {
+pub fn nd_is_layout_f(shape: &[usize], strides: &[usize], answer: &mut MaybeUninit<i32>) -> i32 {
     write_is_layout(Order::ColumnMajor, shape, strides, answer)
 }
 
@@ -328,7 +329,7 @@ pub mod exported {
         elem_size: usize,
         len: usize,
         mode: i32,
-        start: *mut usize,
+        start: *mut MaybeUninit<usize>,
     ) -> i32 {
         unsafe {
             super::nd_layout_start(
@@ -377,7 +378,7 @@ pub mod exported {
         shape_count: usize,
         strides: *const usize,
         strides_count: usize,
-        answer: *mut i32,
+        answer: *mut MaybeUninit<i32>,
     ) -> i32 {
         unsafe {
             super::nd_has_overlap(
@@ -395,7 +396,7 @@ pub mod exported {
     pub unsafe extern "C" fn nd_default_strides(
         shape: *const usize,
         shape_count: usize,
-        strides: *mut usize,
+        strides: *mut MaybeUninit<usize>,
         strides_count: usize,
     ) -> i32 {
         unsafe {
@@ -413,7 +414,7 @@ pub mod exported {
     pub unsafe extern "C" fn nd_fortran_strides(
         shape: *const usize,
         shape_count: usize,
-        strides: *mut usize,
+        strides: *mut MaybeUninit<usize>,
         strides_count: usize,
     ) -> i32 {
         unsafe {
@@ -433,7 +434,7 @@ pub mod exported {
         shape_count: usize,
         strides: *const usize,
         strides_count: usize,
-        answer: *mut i32,
+        answer: *mut MaybeUninit<i32>,
     ) -> i32 {
         unsafe {
             super::nd_is_contiguous(
@@ -453,7 +454,7 @@ pub mod exported {
         shape_count: usize,
         strides: *const usize,
         strides_count: usize,
-        answer: *mut i32,
+        answer: *mut MaybeUninit<i32>,
     ) -> i32 {
         unsafe {
             super::nd_is_layout_c(
@@ -473,7 +474,7 @@ pub mod exported {
         shape_count: usize,
         strides: *const usize,
         strides_count: usize,
-        answer: *mut i32,
+        answer: *mut MaybeUninit<i32>,
     ) -> i32 {
         unsafe {
             super::nd_is_layout_f(

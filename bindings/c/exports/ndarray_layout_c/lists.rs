@@ -2,6 +2,7 @@
 //! Lists of numbers as the layer's values: layouts, and views of them.
 
 use crate::ndarray_layout_c::statuses::{BAD_ARGUMENT, OK};
+use crate::unwritten::{MaybeUninit, as_unwritten};
 use ::ndarray_layout::{
     CanIndexCheckMode, IxDyn, LayoutError, Lengths, StrideShape, Strided, Strides, new_ixdyn, span_of_lengths,
 };
@@ -104,12 +105,16 @@ pub(crate) fn own_view(shape: &[usize]) -> Result<Strided<IxDyn>, LayoutError> {
 /// ```
 /// [How to read it](ndarray_layout::contracts)
 /// </details>
-pub(crate) fn write_axes(view: &Strided<IxDyn>, shape: &mut [usize], strides: &mut [usize]) -> i32 {
+pub(crate) fn write_axes(
+    view: &Strided<IxDyn>,
+    shape: &mut [MaybeUninit<usize>],
+    strides: &mut [MaybeUninit<usize>],
+) -> i32 {
     let (dim, kept) = (view.dim(), view.strides());
     if shape.len() != dim.ndim() || strides.len() != dim.ndim() {
         return BAD_ARGUMENT;
     }
-    shape.copy_from_slice(dim.slice());
-    strides.copy_from_slice(kept.slice());
+    shape.copy_from_slice(as_unwritten(dim.slice()));
+    strides.copy_from_slice(as_unwritten(kept.slice()));
     OK
 }

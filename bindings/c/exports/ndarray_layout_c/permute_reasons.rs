@@ -3,6 +3,7 @@
 
 use crate::ndarray_layout_c::reasons::{AXES, COUNT, MISSING, Reason, no_reason, of_axis, of_list};
 use crate::ndarray_layout_c::statuses::{INCOMPATIBLE_SHAPE, OK};
+use crate::unwritten::MaybeUninit;
 
 /// Whether an axis is listed.
 ///
@@ -50,8 +51,8 @@ fn permute_reason(shape: &[usize], axes: &[usize]) -> Reason {
 /// ```
 /// [How to read it](ndarray_layout::contracts)
 /// </details>
-pub fn nd_permuted_axes_reason(shape: &[usize], axes: &[usize], reason: &mut Reason) -> i32 {
-    *reason = permute_reason(shape, axes);
+pub fn nd_permuted_axes_reason(shape: &[usize], axes: &[usize], reason: &mut MaybeUninit<Reason>) -> i32 {
+    reason.write(permute_reason(shape, axes));
     OK
 }
 
@@ -67,7 +68,7 @@ pub mod exported {
         shape_count: usize,
         axes: *const usize,
         axes_count: usize,
-        reason: *mut Reason,
+        reason: *mut MaybeUninit<Reason>,
     ) -> i32 {
         unsafe {
             super::nd_permuted_axes_reason(

@@ -6,6 +6,7 @@ use crate::ndarray_layout_c::layout_reasons::layout_reason;
 use crate::ndarray_layout_c::lists::view;
 use crate::ndarray_layout_c::reasons::{COPY, OTHER_SIZE, Reason, SIZE, no_reason, of_axis};
 use crate::ndarray_layout_c::statuses::{BAD_ARGUMENT, INCOMPATIBLE_SHAPE, OK, OUT_OF_MEMORY, OVERFLOW, status_of};
+use crate::unwritten::MaybeUninit;
 use ::ndarray_layout::memory::AllocError;
 use ::ndarray_layout::{
     CanIndexCheckMode, ErrorKind, IxDyn, LayoutError, Order, Strided, new_ixdyn, signed, size_of_shape_checked,
@@ -242,14 +243,14 @@ pub fn nd_reshape_reason(
     strides: &[usize],
     new_shape: &[usize],
     order: i32,
-    reason: &mut Reason,
+    reason: &mut MaybeUninit<Reason>,
 ) -> i32 {
     if !is_choice(order) {
         return BAD_ARGUMENT;
     }
     match reshape_reason(shape, strides, new_shape, order_named(order)) {
         Ok(found) => {
-            *reason = found;
+            reason.write(found);
             OK
         }
         Err(_) => OUT_OF_MEMORY,
@@ -271,7 +272,7 @@ pub mod exported {
         new_shape: *const usize,
         new_shape_count: usize,
         order: i32,
-        reason: *mut Reason,
+        reason: *mut MaybeUninit<Reason>,
     ) -> i32 {
         unsafe {
             super::nd_reshape_reason(

@@ -4,6 +4,7 @@
 use crate::ndarray_layout_c::arguments::{is_choice, order_named};
 use crate::ndarray_layout_c::lists::view_from;
 use crate::ndarray_layout_c::statuses::{BAD_ARGUMENT, OK, OUT_OF_MEMORY, status_of};
+use crate::unwritten::MaybeUninit;
 use ::ndarray_layout::{IxDyn, LayoutError, Lengths, Order, Strided, signed};
 
 /// Of a list with an item for each axis, that of the axis that moves fastest in an order, or this one where there is no axis.
@@ -41,9 +42,9 @@ fn fastest_item(order: Order, items: &[usize], other: usize) -> usize {
 /// ```
 /// [How to read it](ndarray_layout::contracts)
 /// </details>
-fn fill_starts(view: &Strided<IxDyn>, order: Order, starts: &mut [usize]) {
+fn fill_starts(view: &Strided<IxDyn>, order: Order, starts: &mut [MaybeUninit<usize>]) {
     for (at, row) in view.rows(order).enumerate() {
-        starts[at] = row.start;
+        starts[at].write(row.start);
     }
 }
 
@@ -62,13 +63,19 @@ fn fill_starts(view: &Strided<IxDyn>, order: Order, starts: &mut [usize]) {
 /// ```
 /// [How to read it](ndarray_layout::contracts)
 /// </details>
-fn write_rows(view: &Strided<IxDyn>, order: Order, starts: &mut [usize], stride: &mut isize, len: &mut usize) -> i32 {
+fn write_rows(
+    view: &Strided<IxDyn>,
+    order: Order,
+    starts: &mut [MaybeUninit<usize>],
+    stride: &mut MaybeUninit<isize>,
+    len: &mut MaybeUninit<usize>,
+) -> i32 {
     if starts.len() != view.rows(order).len() {
         return BAD_ARGUMENT;
     }
     fill_starts(view, order, starts);
-    *stride = signed(fastest_item(order, view.strides().slice(), 0));
-    *len = fastest_item(order, view.dim().slice(), 1);
+    stride.write(signed(fastest_item(order, view.strides().slice(), 0)));
+    len.write(fastest_item(order, view.dim().slice(), 1));
     OK
 }
 
@@ -99,9 +106,9 @@ pub fn nd_rows(
     shape: &[usize],
     strides: &[usize],
     order: i32,
-    starts: &mut [usize],
-    stride: &mut isize,
-    len: &mut usize,
+    starts: &mut [MaybeUninit<usize>],
+    stride: &mut MaybeUninit<isize>,
+    len: &mut MaybeUninit<usize>,
 ) -> i32 {
     if !is_choice(order) {
         return BAD_ARGUMENT;
@@ -127,10 +134,10 @@ pub mod exported {
         strides: *const usize,
         strides_count: usize,
         order: i32,
-        starts: *mut usize,
+        starts: *mut MaybeUninit<usize>,
         starts_count: usize,
-        stride: *mut isize,
-        len: *mut usize,
+        stride: *mut MaybeUninit<isize>,
+        len: *mut MaybeUninit<usize>,
     ) -> i32 {
         unsafe {
             super::nd_rows(

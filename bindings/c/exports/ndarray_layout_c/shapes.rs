@@ -7,6 +7,7 @@ use crate::ndarray_layout_c::lists::{view, write_axes};
 use crate::ndarray_layout_c::statuses::{
     BAD_ARGUMENT, INCOMPATIBLE_SHAPE, OK, OUT_OF_BOUNDS, OUT_OF_MEMORY, UNSUPPORTED, status_of,
 };
+use crate::unwritten::{MaybeUninit, as_unwritten, zeroed};
 use ::ndarray_layout::memory::AllocError;
 use ::ndarray_layout::memory::prelude::{FallibleVec, Vec};
 use ::ndarray_layout::{
@@ -27,14 +28,14 @@ use ::ndarray_layout::{
 /// ```
 /// [How to read it](ndarray_layout::contracts)
 /// </details>
-fn write_common_shape(longer: &[usize], shorter: &[usize], common: &mut [usize]) -> i32 {
+fn write_common_shape(longer: &[usize], shorter: &[usize], common: &mut [MaybeUninit<usize>]) -> i32 {
     if common.len() != longer.len() {
         return BAD_ARGUMENT;
     }
     if !have_common_shape(longer, shorter) {
         return INCOMPATIBLE_SHAPE;
     }
-    fill_common_shape(longer, shorter, common);
+    fill_common_shape(longer, shorter, zeroed(common));
     OK
 }
 
@@ -51,7 +52,7 @@ fn write_common_shape(longer: &[usize], shorter: &[usize], common: &mut [usize])
 /// ```
 /// [How to read it](ndarray_layout::contracts)
 /// </details>
-pub fn nd_co_broadcast(first: &[usize], second: &[usize], common: &mut [usize]) -> i32 {
+pub fn nd_co_broadcast(first: &[usize], second: &[usize], common: &mut [MaybeUninit<usize>]) -> i32 {
     if first.len() < second.len() {
         write_common_shape(second, first, common)
     } else {
@@ -84,7 +85,13 @@ pub fn nd_co_broadcast(first: &[usize], second: &[usize], common: &mut [usize]) 
 /// ```
 /// [How to read it](ndarray_layout::contracts)
 /// </details>
-pub fn nd_merge_axes(shape: &mut [usize], strides: &mut [usize], take: usize, into: usize, merged: &mut i32) -> i32 {
+pub fn nd_merge_axes(
+    shape: &mut [usize],
+    strides: &mut [usize],
+    take: usize,
+    into: usize,
+    merged: &mut MaybeUninit<i32>,
+) -> i32 {
     if let Err(error) = span_of_lengths(1, shape, strides) {
         return status_of(error.kind());
     }
@@ -94,7 +101,7 @@ pub fn nd_merge_axes(shape: &mut [usize], strides: &mut [usize], take: usize, in
     if take == into {
         return UNSUPPORTED;
     }
-    *merged = answer_of(merge_fitting(shape, strides, take, into));
+    merged.write(answer_of(merge_fitting(shape, strides, take, into)));
     OK
 }
 
@@ -144,13 +151,18 @@ fn broadcast(shape: &[usize], strides: &[usize], target: &[usize]) -> Result<Str
 /// ```
 /// [How to read it](ndarray_layout::contracts)
 /// </details>
-pub fn nd_broadcast(shape: &[usize], strides: &[usize], target: &[usize], new_strides: &mut [usize]) -> i32 {
+pub fn nd_broadcast(
+    shape: &[usize],
+    strides: &[usize],
+    target: &[usize],
+    new_strides: &mut [MaybeUninit<usize>],
+) -> i32 {
     if new_strides.len() != target.len() {
         return BAD_ARGUMENT;
     }
     match broadcast(shape, strides, target) {
         Ok(view) => {
-            new_strides.copy_from_slice(view.strides().slice());
+            new_strides.copy_from_slice(as_unwritten(view.strides().slice()));
             OK
         }
         Err(LayoutError::Shape(error)) => status_of(error.kind()),
@@ -172,13 +184,18 @@ pub fn nd_broadcast(shape: &[usize], strides: &[usize], target: &[usize], new_st
 /// ```
 /// [How to read it](ndarray_layout::contracts)
 /// </details>
-fn write_reshaped(view: &Strided<IxDyn>, order: Order, new_shape: &[usize], new_strides: &mut [usize]) -> i32 {
+fn write_reshaped(
+    view: &Strided<IxDyn>,
+    order: Order,
+    new_shape: &[usize],
+    new_strides: &mut [MaybeUninit<usize>],
+) -> i32 {
     let Ok(new_shape) = new_ixdyn(new_shape) else {
         return OUT_OF_MEMORY;
     };
     match view.reshape(&new_shape, order) {
         Ok(reshaped) => {
-            new_strides.copy_from_slice(reshaped.strides().slice());
+            new_strides.copy_from_slice(as_unwritten(reshaped.strides().slice()));
             OK
         }
         Err(LayoutError::Shape(error)) => status_of(error.kind()),
@@ -213,7 +230,7 @@ pub fn nd_reshape(
     strides: &[usize],
     new_shape: &[usize],
     order: i32,
-    new_strides: &mut [usize],
+    new_strides: &mut [MaybeUninit<usize>],
 ) -> i32 {
     if !is_choice(order) || new_strides.len() != new_shape.len() {
         return BAD_ARGUMENT;
@@ -316,8 +333,8 @@ pub fn nd_permuted_axes(
     shape: &[usize],
     strides: &[usize],
     axes: &[usize],
-    new_shape: &mut [usize],
-    new_strides: &mut [usize],
+    new_shape: &mut [MaybeUninit<usize>],
+    new_strides: &mut [MaybeUninit<usize>],
 ) -> i32 {
     if new_shape.len() != shape.len() || new_strides.len() != shape.len() {
         return BAD_ARGUMENT;
@@ -341,7 +358,7 @@ pub mod exported {
         first_count: usize,
         second: *const usize,
         second_count: usize,
-        common: *mut usize,
+        common: *mut MaybeUninit<usize>,
         common_count: usize,
     ) -> i32 {
         unsafe {
@@ -364,7 +381,7 @@ pub mod exported {
         strides_count: usize,
         take: usize,
         into: usize,
-        merged: *mut i32,
+        merged: *mut MaybeUninit<i32>,
     ) -> i32 {
         unsafe {
             super::nd_merge_axes(
@@ -388,7 +405,7 @@ pub mod exported {
         strides_count: usize,
         target: *const usize,
         target_count: usize,
-        new_strides: *mut usize,
+        new_strides: *mut MaybeUninit<usize>,
         new_strides_count: usize,
     ) -> i32 {
         unsafe {
@@ -417,7 +434,7 @@ pub mod exported {
         new_shape: *const usize,
         new_shape_count: usize,
         order: i32,
-        new_strides: *mut usize,
+        new_strides: *mut MaybeUninit<usize>,
         new_strides_count: usize,
     ) -> i32 {
         unsafe {
@@ -446,9 +463,9 @@ pub mod exported {
         strides_count: usize,
         axes: *const usize,
         axes_count: usize,
-        new_shape: *mut usize,
+        new_shape: *mut MaybeUninit<usize>,
         new_shape_count: usize,
-        new_strides: *mut usize,
+        new_strides: *mut MaybeUninit<usize>,
         new_strides_count: usize,
     ) -> i32 {
         unsafe {

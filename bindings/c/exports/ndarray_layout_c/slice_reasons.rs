@@ -7,6 +7,7 @@ use crate::ndarray_layout_c::reasons::{BOUND, COUNT, INDEX, Reason, SLICE, STEP,
 use crate::ndarray_layout_c::statuses::{
     BAD_ARGUMENT, INCOMPATIBLE_SHAPE, OK, OUT_OF_BOUNDS, OUT_OF_MEMORY, UNSUPPORTED,
 };
+use crate::unwritten::MaybeUninit;
 use ::ndarray_layout::memory::AllocError;
 use ::ndarray_layout::{AxisElems, Fit, Slice, SliceInfoElem, in_ndim_of, resolve_elem, to_abs_slice};
 
@@ -120,13 +121,13 @@ fn reason_of_raws(shape: &[usize], raws: &[RawElem], fit: Fit) -> Result<Reason,
 /// ```
 /// [How to read it](ndarray_layout::contracts)
 /// </details>
-pub fn nd_slice_reason(shape: &[usize], elems: &[RawElem], fit: i32, reason: &mut Reason) -> i32 {
+pub fn nd_slice_reason(shape: &[usize], elems: &[RawElem], fit: i32, reason: &mut MaybeUninit<Reason>) -> i32 {
     if !is_choice(fit) || !are_elems(elems) {
         return BAD_ARGUMENT;
     }
     match reason_of_raws(shape, elems, fit_named(fit)) {
         Ok(found) => {
-            *reason = found;
+            reason.write(found);
             OK
         }
         Err(_) => OUT_OF_MEMORY,
@@ -146,7 +147,7 @@ pub mod exported {
         elems: *const RawElem,
         elems_count: usize,
         fit: i32,
-        reason: *mut Reason,
+        reason: *mut MaybeUninit<Reason>,
     ) -> i32 {
         unsafe {
             super::nd_slice_reason(

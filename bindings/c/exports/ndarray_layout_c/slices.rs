@@ -5,6 +5,7 @@ use crate::ndarray_layout_c::arguments::{answer_of, fit_named, is_choice};
 use crate::ndarray_layout_c::elements::{FEW, RawElem, are_elems, few_elems, many_elems};
 use crate::ndarray_layout_c::lists::{own_view, view_from, write_axes};
 use crate::ndarray_layout_c::statuses::{BAD_ARGUMENT, OK, OUT_OF_MEMORY, status_of};
+use crate::unwritten::MaybeUninit;
 use ::ndarray_layout::{Fit, IxDyn, LayoutError, Lengths, SliceInfoElem, Strided};
 
 /// How many indices a slice leaves of a shape.
@@ -51,13 +52,13 @@ fn picked(shape: &[usize], raws: &[RawElem], fit: Fit) -> Result<usize, LayoutEr
 /// ```
 /// [How to read it](ndarray_layout::contracts)
 /// </details>
-pub fn nd_picked(shape: &[usize], elems: &[RawElem], fit: i32, count: &mut usize) -> i32 {
+pub fn nd_picked(shape: &[usize], elems: &[RawElem], fit: i32, count: &mut MaybeUninit<usize>) -> i32 {
     if !is_choice(fit) || !are_elems(elems) {
         return BAD_ARGUMENT;
     }
     match picked(shape, elems, fit_named(fit)) {
         Ok(picked) => {
-            *count = picked;
+            count.write(picked);
             OK
         }
         Err(LayoutError::Shape(error)) => status_of(error.kind()),
@@ -117,15 +118,15 @@ fn write_slice(
     view: &Strided<IxDyn>,
     raws: &[RawElem],
     fit: Fit,
-    new_start: &mut usize,
-    new_shape: &mut [usize],
-    new_strides: &mut [usize],
+    new_start: &mut MaybeUninit<usize>,
+    new_shape: &mut [MaybeUninit<usize>],
+    new_strides: &mut [MaybeUninit<usize>],
 ) -> i32 {
     match sliced(view, raws, fit) {
         Ok(slice) => {
             let status = write_axes(&slice, new_shape, new_strides);
             if status == OK {
-                *new_start = slice.start();
+                new_start.write(slice.start());
             }
             status
         }
@@ -171,9 +172,9 @@ pub fn nd_slice(
     strides: &[usize],
     elems: &[RawElem],
     fit: i32,
-    new_start: &mut usize,
-    new_shape: &mut [usize],
-    new_strides: &mut [usize],
+    new_start: &mut MaybeUninit<usize>,
+    new_shape: &mut [MaybeUninit<usize>],
+    new_strides: &mut [MaybeUninit<usize>],
 ) -> i32 {
     if !is_choice(fit) || !are_elems(elems) {
         return BAD_ARGUMENT;
@@ -266,13 +267,19 @@ fn shape_intersects(shape: &[usize], first: &[RawElem], second: &[RawElem], fit:
 /// ```
 /// [How to read it](ndarray_layout::contracts)
 /// </details>
-pub fn nd_slices_intersect(shape: &[usize], first: &[RawElem], second: &[RawElem], fit: i32, answer: &mut i32) -> i32 {
+pub fn nd_slices_intersect(
+    shape: &[usize],
+    first: &[RawElem],
+    second: &[RawElem],
+    fit: i32,
+    answer: &mut MaybeUninit<i32>,
+) -> i32 {
     if !is_choice(fit) || !are_elems(first) || !are_elems(second) {
         return BAD_ARGUMENT;
     }
     match shape_intersects(shape, first, second, fit_named(fit)) {
         Ok(intersect) => {
-            *answer = answer_of(intersect);
+            answer.write(answer_of(intersect));
             OK
         }
         Err(LayoutError::Shape(error)) => status_of(error.kind()),
@@ -293,7 +300,7 @@ pub mod exported {
         elems: *const RawElem,
         elems_count: usize,
         fit: i32,
-        count: *mut usize,
+        count: *mut MaybeUninit<usize>,
     ) -> i32 {
         unsafe {
             super::nd_picked(
@@ -318,10 +325,10 @@ pub mod exported {
         elems: *const RawElem,
         elems_count: usize,
         fit: i32,
-        new_start: *mut usize,
-        new_shape: *mut usize,
+        new_start: *mut MaybeUninit<usize>,
+        new_shape: *mut MaybeUninit<usize>,
         new_shape_count: usize,
-        new_strides: *mut usize,
+        new_strides: *mut MaybeUninit<usize>,
         new_strides_count: usize,
     ) -> i32 {
         unsafe {
@@ -358,7 +365,7 @@ pub mod exported {
         second: *const RawElem,
         second_count: usize,
         fit: i32,
-        answer: *mut i32,
+        answer: *mut MaybeUninit<i32>,
     ) -> i32 {
         unsafe {
             super::nd_slices_intersect(

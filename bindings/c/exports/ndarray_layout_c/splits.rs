@@ -3,6 +3,7 @@
 
 use crate::ndarray_layout_c::lists::view_from;
 use crate::ndarray_layout_c::statuses::{BAD_ARGUMENT, OK, OUT_OF_MEMORY, status_of};
+use crate::unwritten::{MaybeUninit, as_unwritten};
 use ::ndarray_layout::{Axis, IxDyn, LayoutError, Lengths, Strided};
 
 /// The parts of a layout below a coordinate of an axis, and from it on.
@@ -83,9 +84,9 @@ pub fn nd_split_at(
     strides: &[usize],
     axis: usize,
     index: usize,
-    new_starts: &mut [usize],
-    new_shapes: &mut [usize],
-    new_strides: &mut [usize],
+    new_starts: &mut [MaybeUninit<usize>],
+    new_shapes: &mut [MaybeUninit<usize>],
+    new_strides: &mut [MaybeUninit<usize>],
 ) -> i32 {
     let ndim = shape.len();
     if new_starts.len() != 2 || new_shapes.len() != 2 * ndim || new_strides.len() != ndim {
@@ -93,10 +94,10 @@ pub fn nd_split_at(
     }
     match parts(start, shape, strides, axis, index) {
         Ok((first, second)) => {
-            new_starts.copy_from_slice(&[first.start(), second.start()]);
-            new_shapes[..ndim].copy_from_slice(first.dim().slice());
-            new_shapes[ndim..].copy_from_slice(second.dim().slice());
-            new_strides.copy_from_slice(first.strides().slice());
+            new_starts.copy_from_slice(as_unwritten(&[first.start(), second.start()]));
+            new_shapes[..ndim].copy_from_slice(as_unwritten(first.dim().slice()));
+            new_shapes[ndim..].copy_from_slice(as_unwritten(second.dim().slice()));
+            new_strides.copy_from_slice(as_unwritten(first.strides().slice()));
             OK
         }
         Err(LayoutError::Shape(error)) => status_of(error.kind()),
@@ -119,11 +120,11 @@ pub mod exported {
         strides_count: usize,
         axis: usize,
         index: usize,
-        new_starts: *mut usize,
+        new_starts: *mut MaybeUninit<usize>,
         new_starts_count: usize,
-        new_shapes: *mut usize,
+        new_shapes: *mut MaybeUninit<usize>,
         new_shapes_count: usize,
-        new_strides: *mut usize,
+        new_strides: *mut MaybeUninit<usize>,
         new_strides_count: usize,
     ) -> i32 {
         unsafe {

@@ -2,6 +2,7 @@
 //! What statuses mean, as text.
 
 use crate::ndarray_layout_c::statuses::{BAD_ARGUMENT, OK};
+use crate::unwritten::{MaybeUninit, as_unwritten};
 
 /// How many bytes the longest text has room in, with the 0 that ends it.
 const TEXT_SIZE: usize = 80;
@@ -59,9 +60,9 @@ fn text_of(status: i32) -> &'static [u8] {
 /// ```
 /// [How to read it](ndarray_layout::contracts)
 /// </details>
-fn write_text(bytes: &[u8], text: &mut [u8]) {
-    text[bytes.len()] = 0;
-    text[..bytes.len()].copy_from_slice(bytes);
+fn write_text(bytes: &[u8], text: &mut [MaybeUninit<u8>]) {
+    text[bytes.len()].write(0);
+    text[..bytes.len()].copy_from_slice(as_unwritten(bytes));
 }
 
 /// Writes what a status means, with a 0 after it, and how many bytes that has.
@@ -79,13 +80,13 @@ fn write_text(bytes: &[u8], text: &mut [u8]) {
 /// ```
 /// [How to read it](ndarray_layout::contracts)
 /// </details>
-pub fn nd_status_text(status: i32, text: &mut [u8], used: &mut usize) -> i32 {
+pub fn nd_status_text(status: i32, text: &mut [MaybeUninit<u8>], used: &mut MaybeUninit<usize>) -> i32 {
     let bytes = text_of(status);
     if bytes.is_empty() || text.len() < TEXT_SIZE {
         return BAD_ARGUMENT;
     }
     write_text(bytes, text);
-    *used = bytes.len();
+    used.write(bytes.len());
     OK
 }
 
@@ -96,7 +97,12 @@ pub mod exported {
     ///
     /// Each pointer is aligned and leads to as many items as its count says. That of an empty list isn't looked at.
     #[unsafe(no_mangle)]
-    pub unsafe extern "C" fn nd_status_text(status: i32, text: *mut u8, text_count: usize, used: *mut usize) -> i32 {
+    pub unsafe extern "C" fn nd_status_text(
+        status: i32,
+        text: *mut MaybeUninit<u8>,
+        text_count: usize,
+        used: *mut MaybeUninit<usize>,
+    ) -> i32 {
         unsafe {
             super::nd_status_text(
                 status,

@@ -4,6 +4,7 @@
 use crate::ndarray_layout_c::arguments::{answer_of, is_choice, order_named};
 use crate::ndarray_layout_c::lists::view_from;
 use crate::ndarray_layout_c::statuses::{BAD_ARGUMENT, OK, OUT_OF_MEMORY, status_of};
+use crate::unwritten::MaybeUninit;
 use ::ndarray_layout::{IxDyn, LayoutError, Order, Strided};
 
 /// Writes the first place of a view and the one after its last, where its places follow one another in an order, and returns the
@@ -21,11 +22,16 @@ use ::ndarray_layout::{IxDyn, LayoutError, Order, Strided};
 /// ```
 /// [How to read it](ndarray_layout::contracts)
 /// </details>
-fn write_stretch(view: &Strided<IxDyn>, order: Order, first: &mut usize, end: &mut usize) -> i32 {
+fn write_stretch(
+    view: &Strided<IxDyn>,
+    order: Order,
+    first: &mut MaybeUninit<usize>,
+    end: &mut MaybeUninit<usize>,
+) -> i32 {
     let stretch = view.stretch(order);
     if let Some(places) = &stretch {
-        *first = places.start;
-        *end = places.end;
+        first.write(places.start);
+        end.write(places.end);
     }
     answer_of(stretch.is_some())
 }
@@ -60,16 +66,16 @@ pub fn nd_stretch(
     shape: &[usize],
     strides: &[usize],
     order: i32,
-    first: &mut usize,
-    end: &mut usize,
-    found: &mut i32,
+    first: &mut MaybeUninit<usize>,
+    end: &mut MaybeUninit<usize>,
+    found: &mut MaybeUninit<i32>,
 ) -> i32 {
     if !is_choice(order) {
         return BAD_ARGUMENT;
     }
     match view_from(start, shape, strides) {
         Ok(view) => {
-            *found = write_stretch(&view, order_named(order), first, end);
+            found.write(write_stretch(&view, order_named(order), first, end));
             OK
         }
         Err(LayoutError::Shape(error)) => status_of(error.kind()),
@@ -91,9 +97,9 @@ pub mod exported {
         strides: *const usize,
         strides_count: usize,
         order: i32,
-        first: *mut usize,
-        end: *mut usize,
-        found: *mut i32,
+        first: *mut MaybeUninit<usize>,
+        end: *mut MaybeUninit<usize>,
+        found: *mut MaybeUninit<i32>,
     ) -> i32 {
         unsafe {
             super::nd_stretch(

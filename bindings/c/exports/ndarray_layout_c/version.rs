@@ -2,6 +2,7 @@
 //! The version of the library.
 
 use crate::ndarray_layout_c::statuses::OK;
+use crate::unwritten::MaybeUninit;
 
 /// Writes the three numbers of the library's version.
 ///
@@ -13,10 +14,10 @@ use crate::ndarray_layout_c::statuses::OK;
 /// ```
 /// [How to read it](ndarray_layout::contracts)
 /// </details>
-pub fn nd_version(major: &mut i32, minor: &mut i32, patch: &mut i32) -> i32 {
-    *major = 0;
-    *minor = 1;
-    *patch = 0;
+pub fn nd_version(major: &mut MaybeUninit<i32>, minor: &mut MaybeUninit<i32>, patch: &mut MaybeUninit<i32>) -> i32 {
+    major.write(0);
+    minor.write(1);
+    patch.write(0);
     OK
 }
 
@@ -27,7 +28,11 @@ pub mod exported {
     ///
     /// Each pointer is aligned and leads to as many items as its count says. That of an empty list isn't looked at.
     #[unsafe(no_mangle)]
-    pub unsafe extern "C" fn nd_version(major: *mut i32, minor: *mut i32, patch: *mut i32) -> i32 {
+    pub unsafe extern "C" fn nd_version(
+        major: *mut MaybeUninit<i32>,
+        minor: *mut MaybeUninit<i32>,
+        patch: *mut MaybeUninit<i32>,
+    ) -> i32 {
         unsafe { super::nd_version(&mut *major, &mut *minor, &mut *patch) }
     }
 }

@@ -1,28 +1,29 @@
-//! The exports of the proved library, each in a function with the parameters of the package's.
+//! The exports of the library, whose names have a suffix, and those of the package, each in a function over slices.
 
-use crate::erased::{RawElem, Reason};
+use crate::ndarray_layout_c::elements::RawElem;
+use crate::ndarray_layout_c::reasons::Reason;
 
-/// Functions over lists, each of which calls C's function of its name in the library: a list is a pointer and a count there.
+/// Functions over lists, each of which calls C's function of its name: a list is a pointer and a count there.
 macro_rules! exports {
-    (@$name:ident [$($taken:tt)*] [$($declared:tt)*] [$($passed:tt)*] $list:ident: &[$item:ty], $($rest:tt)*) => {
-        exports!(@$name [$($taken)* $list: &[$item],] [$($declared)* _: *const $item, _: usize,]
+    (@$name:ident $suffix:tt [$($taken:tt)*] [$($declared:tt)*] [$($passed:tt)*] $list:ident: &[$item:ty], $($rest:tt)*) => {
+        exports!(@$name $suffix [$($taken)* $list: &[$item],] [$($declared)* _: *const $item, _: usize,]
             [$($passed)* $list.as_ptr(), $list.len(),] $($rest)*);
     };
-    (@$name:ident [$($taken:tt)*] [$($declared:tt)*] [$($passed:tt)*] $list:ident: &mut [$item:ty], $($rest:tt)*) => {
-        exports!(@$name [$($taken)* $list: &mut [$item],] [$($declared)* _: *mut $item, _: usize,]
+    (@$name:ident $suffix:tt [$($taken:tt)*] [$($declared:tt)*] [$($passed:tt)*] $list:ident: &mut [$item:ty], $($rest:tt)*) => {
+        exports!(@$name $suffix [$($taken)* $list: &mut [$item],] [$($declared)* _: *mut $item, _: usize,]
             [$($passed)* $list.as_mut_ptr(), $list.len(),] $($rest)*);
     };
-    (@$name:ident [$($taken:tt)*] [$($declared:tt)*] [$($passed:tt)*] $place:ident: &mut $item:ty, $($rest:tt)*) => {
-        exports!(@$name [$($taken)* $place: &mut $item,] [$($declared)* _: *mut $item,] [$($passed)* $place,] $($rest)*);
+    (@$name:ident $suffix:tt [$($taken:tt)*] [$($declared:tt)*] [$($passed:tt)*] $place:ident: &mut $item:ty, $($rest:tt)*) => {
+        exports!(@$name $suffix [$($taken)* $place: &mut $item,] [$($declared)* _: *mut $item,] [$($passed)* $place,] $($rest)*);
     };
-    (@$name:ident [$($taken:tt)*] [$($declared:tt)*] [$($passed:tt)*] $number:ident: $type:ty, $($rest:tt)*) => {
-        exports!(@$name [$($taken)* $number: $type,] [$($declared)* _: $type,] [$($passed)* $number,] $($rest)*);
+    (@$name:ident $suffix:tt [$($taken:tt)*] [$($declared:tt)*] [$($passed:tt)*] $number:ident: $type:ty, $($rest:tt)*) => {
+        exports!(@$name $suffix [$($taken)* $number: $type,] [$($declared)* _: $type,] [$($passed)* $number,] $($rest)*);
     };
-    (@$name:ident [$($taken:tt)*] [$($declared:tt)*] [$($passed:tt)*]) => {
+    (@$name:ident ($($suffix:tt)*) [$($taken:tt)*] [$($declared:tt)*] [$($passed:tt)*]) => {
         pub fn $name($($taken)*) -> i32 {
             #[link(name = "ndarray_layout", kind = "static")]
             unsafe extern "C" {
-                #[link_name = concat!(stringify!($name), env!("ND_SUFFIX"))]
+                #[link_name = concat!(stringify!($name), $($suffix)*)]
                 fn $name($($declared)*) -> i32;
             }
             // SAFETY: each list is a slice with its own count; what is written is borrowed for the call alone.
@@ -33,7 +34,15 @@ macro_rules! exports {
         /// The name of each.
         pub const CALLS: &[&str] = &[$(stringify!($name)),*];
 
-        $(exports!(@$name [] [] [] $($parameters)*,);)*
+        pub mod proved {
+            use super::*;
+            $(exports!(@$name (env!("ND_SUFFIX")) [] [] [] $($parameters)*,);)*
+        }
+
+        pub mod erased {
+            use super::*;
+            $(exports!(@$name ("") [] [] [] $($parameters)*,);)*
+        }
     };
 }
 
