@@ -23,7 +23,7 @@ KINDS = {
     "examples": (r"(rust|rust/over_image/src|bindings/\w+)/(examples|bin)/.*\.(rs|py|c)", None),
     "steps of the check": (STEPS, r"^.* = \{ run = "),
     "parts of steps": (r"checks/\w+", r"^ *(run|run_both|report|answers|ends|step|run_step) \S"),
-    "planted faults": (r"checks/planted\.toml", r"^\["),
+    "planted faults": (r"checks/planted\.toml", r"^ *\[\""),
     "wrong bodies": (r"(crates|threads)/\w+/wrong/.*\.edit", None),
     "commands of the workflow": (r"\.github/workflows/.*\.yml", r"^ *(- )?run: "),
 }
