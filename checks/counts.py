@@ -16,7 +16,7 @@ LINE_OF_CODE = r"^\s*(?!//|#\[doc)\S"
 KINDS = {
     "tests of Rust": (r"(rust|crates)/.*\.r[st]", r"^\s*#\[test\]"),
     "fences of examples in docs of Rust": (r"rust/src/.*\.rs", r"^\s*//[/!] *```"),
-    "rows of tests": (r"rust/tests/rows/.*\.rs|crates/\w+_tests/src/.*\.rt|.*/refused_calls\.txt", r"^[^ /#].* => "),
+    "rows of tests": (r"rust/tests/rows/.*\.rs|crates/\w+_tests/src/.*\.rt|rust/tests/refused/calls\.txt|checks/refused_calls\.txt", r"^[^ /#].* => "),
     "tests of Python": (r"bindings/python/\w+\.py", r"^ +def test"),
     "lines of examples of Python": (r"bindings/python/.*\.(py|md)", r"^\s*>>> "),
     "checks in tests of C": (r"bindings/c/\w+\.(c|cpp|h)", r"\bCHECK\("),
