@@ -9,6 +9,7 @@ import mmap
 import os
 import subprocess
 import sys
+import tempfile
 import unittest
 import warnings
 from pathlib import Path
@@ -105,6 +106,16 @@ class Held(unittest.TestCase):
         self.assertEqual(held.tobytes(), b"abc")
         self.assertRaises(BufferError, memory.clear)
         self.assertRaises(ShapeError, Layout.over(3, 3).as_array, view)
+
+    def test_owners_that_cannot_be_held(self):
+        """The page names two whose memory goes without an error. (what is left of it is not read)"""
+        items = (ctypes.c_char * 4096)()
+        with tempfile.TemporaryFile() as file:
+            mapped = np.memmap(file, np.uint8, "w+", shape=4096)
+            for buffer, end in ((items, lambda: ctypes.resize(items, 1 << 20)), (mapped, mapped._mmap.close)):
+                made = Layout.over(buffer, 4096).as_array(buffer)
+                end()
+                self.assertEqual(made.shape, (4096,))
 
     def test_memoryviews(self):
         for layout in (Layout.over(4, 4)[::-2], Layout.over(4, (2, 2)), Layout.over(4, ())):

@@ -13,6 +13,7 @@ import sys
 import traceback
 import unittest
 from collections import Counter
+from types import SimpleNamespace
 
 import ndarray_layout as nd
 from ndarray_layout import Layout, Slice, _layout, _usual, _views
@@ -62,6 +63,13 @@ class Number:
         if isinstance(self.number, Exception):
             raise self.number
         return self.number
+
+
+class Interrupted:
+    """What is interrupted when its index is asked for."""
+
+    def __index__(self):
+        raise KeyboardInterrupt
 
 
 def outcome(call, arguments):
@@ -227,24 +235,92 @@ class BesideCtypes(unittest.TestCase):
 class Alone(unittest.TestCase):
     """What the module itself does."""
 
+    SLOTS = tuple(vars(_usual.Fields)[name] for name in _usual.FIELDS)
+
     def test_nothing_is_kept(self):
-        a, numbers = np.zeros((6, 5, 4), "i4"), random.Random("kept")
-        layout, keys = Named.over(a, a.shape), [(1, ..., slice(None, None, -1)), 2**70, (0, 0, 9), slice(0, "a"), (slice(2), None)]
-        watched = Named, layout, layout.format, a, a.dtype, np.ndarray, *keys
-        for _ in range(2):  # (what is made once is made in the first round)
-            before = [*map(sys.getrefcount, watched)]
-            for _ in range(1000):
-                key = numbers.choice(keys)
-                _native.sliced(layout, key)
-                _native.intersect(layout.shape, key, numbers.choice(keys))
-                _native.share_chunk(layout.shape, key, 0, (2, 2, 2))
-                _native.share(a, a[1:], np.ndarray)
-                _native.share_keys(a, key, 0, np.ndarray)
-                _native.share_place(layout, layout)
-            key = None
-            gc.collect()
-            after = [*map(sys.getrefcount, watched)]
-        self.assertEqual(before, after)
+        """1,000 calls keep no argument, no field of a layout and no object of their own, however they end."""
+        for name, *arguments in self.calls():
+            call, layouts = getattr(_native, name), [one for one in arguments if isinstance(one, Layout)]
+            fields = [getattr(layout, field, None) for layout in layouts for field in _usual.FIELDS]
+            watched = [value for value in (*arguments, *fields) if type(value) is not int or value > 256]  # (Python shares the others)
+            for _ in range(2):  # (what is made once is made in the first round)
+                before, blocks = [*map(sys.getrefcount, watched)], sys.getallocatedblocks()
+                for _ in range(1000):
+                    try:
+                        call(*arguments)
+                    except (TypeError, AttributeError, ImportError, KeyboardInterrupt):
+                        pass
+                after, more = [*map(sys.getrefcount, watched)], sys.getallocatedblocks() - blocks
+            self.assertEqual(before, after, (name, arguments))
+            self.assertLess(more, 500, (name, arguments))
+
+    def calls(self):
+        """Calls of each function with usual arguments, with each that isn't usual, and with those that raise an error."""
+        a = np.zeros((6, 5, 4), "i4")
+        interface = {"version": 3, "typestr": "|u1", "shape": (0,), "data": (2**63, False)}
+        nowhere = np.asarray(SimpleNamespace(__array_interface__=interface))  # (at an address without 63 bits)
+        layout = Named(1000, (6, 5, 4), (20, 4, 1), length=2000, itemsize=4, format="format of items")
+        keys = [(1, ..., slice(None, None, -1)), 2**70, (0, 0, 9), slice(0, "a"), (slice(2), None), (..., ...), (0,) * 4, [0], (None,) * 2000]
+        for key in (*keys, slice(Interrupted(), None)):
+            yield "sliced", layout, key
+            yield "intersect", layout.shape, 0, key
+            yield "share_chunk", layout.shape, key, 0, (2, 2, 2)
+            yield "share_keys", a, key, 0, np.ndarray
+        for shape in ([6, 5, 4], (6, -5, 4), (6, 2**70, 4), (6, "5", 4), (1,) * 40, (6, 0, 4), (6, 5)):
+            yield "intersect", shape, 0, 0
+            yield "share_chunk", layout.shape, 0, 1, shape
+        for count in range(len(self.SLOTS)):
+            yield "sliced", self.part_of(layout, count), 0
+            yield "share_place", layout, self.part_of(layout, count)
+        for one, other in ((a, a[1:]), (a, a[:0]), (a, 5), (5, a), (a, nowhere), (nowhere, a), (a, a.view(np.recarray))):
+            yield "share", one, other, np.ndarray
+        yield "share_keys", nowhere, 0, 1, np.ndarray
+        yield "share_place", layout, layout
+        yield "share_place", layout, (1, 2)
+        for path, slots in (("/nowhere.so", self.SLOTS), (str(_usual.library_path), self.SLOTS[:1]), (b"/nowhere.so", self.SLOTS), (1, ())):
+            yield "bind", path, slots
+
+    def part_of(self, layout, count):
+        """A layout whose first fields alone are set."""
+        part = Named.__new__(Named)
+        for slot in self.SLOTS[:count]:
+            slot.__set__(part, slot.__get__(layout))
+        return part
+
+    def test_keys_and_axes_past_the_room(self):
+        """There is room for 32 entries of a key and for 32 axes: with more of either no function answers, and ctypes does."""
+        a, none = np.zeros((1,) * 32), (None,)
+        for entries in (33, 100, 2_000):
+            for key in (none * entries, (*none * entries, 0), (..., *none * entries)):
+                self.assertIsNone(_native.sliced(Layout.over(9, 9), key))
+                self.assertIsNone(_native.intersect((9,), 0, key))
+                self.assertIsNone(_native.share_chunk((9,), key, 0, (2,)))
+                self.assertIsNone(_native.share_keys(a[(0,) * 31], key, 0, np.ndarray))
+        ones, wide = (1,) * 40, Layout.over(1, (1,) * 40)
+        deep = memoryview(b"a").cast("B", ones)
+        self.assertIsNone(_native.share(deep, deep, memoryview))
+        self.assertIsNone(_native.share_keys(deep, 0, 0, memoryview))
+        self.assertIsNone(_native.sliced(wide, 0))
+        self.assertIsNone(_native.share_place(wide, wide))
+        self.assertIsNone(_native.intersect(ones, 0, 0))
+        self.assertIsNone(_native.share_chunk(ones, 0, 0, ones))
+        self.assertIsNone(_native.sliced(Layout.over(1, (1,) * 32), (...,) * 32))
+        for axes, left in ((1, 32), (20, 40), (32, 64)):  # (of which the first has room: as many axes as entries)
+            found = _native.sliced(Layout.over(1, (1,) * axes), none * (left - axes))
+            self.assertEqual(found and found.shape, (1,) * left if left <= 32 else None)
+        self.assertEqual(Layout.over(9, 9)[none * 100].shape, (1,) * 100 + (9,))
+        self.assertIs(_native.share(a, a, np.ndarray), True)
+        self.assertIs(_native.share_keys(a, none * 32, 0, np.ndarray), True)
+
+    def test_counts_that_differ(self):
+        """No strides and no chunks are read past those that are there."""
+        for chunks in ((), (6, 5), (6, 5, 4, 1)):
+            self.assertIsNone(_native.share_chunk((6, 5, 4), 0, 1, chunks))
+        for strides in ((), (3,), (3, 1, 1)):
+            layout = Layout.over(6, (2, 3))
+            vars(_usual.Fields)["strides"].__set__(layout, strides)
+            self.assertIsNone(_native.sliced(layout, 0))
+            self.assertIsNone(_native.share_place(layout, Layout.over(6, 6)))
 
     def test_arguments_of_another_count(self):
         for name in ("sliced", "intersect", "share_chunk", "share", "share_keys", "share_place"):

@@ -272,7 +272,21 @@ class Checked:
         self.assertRaises(ctypes.ArgumentError, library.has_overlap, *nothing, *nothing, b"    ")
 
 
+NAMES = """
+    Array Elem Elems Layout LayoutError NegativeIndexError Numbers OutOfBoundsError OutOfMemoryError Reshaped Row
+    ShapeError SizeOverflowError Slice View aligned basic_key broadcast broadcast_shapes check_layout chunks_of
+    default_strides element_strides exact_chunks first_conflict first_intersection fortran_strides has_distinct_places
+    has_overlap is_contiguous is_layout_c is_layout_f joined_rows lay_over layout_start merge_axes next_index
+    permuted_axes picked place places reshape reshape_without_copy rows share_element shares_memory slice_view
+    slices_intersect split_at waves windows
+"""
+
+
 class Version(unittest.TestCase):
+    def test_names(self):
+        """What `import *` gives, and `help` lists: a name that goes breaks callers."""
+        self.assertEqual(nd.__all__, NAMES.split())
+
     def test_library(self):
         library.check_version(nd.__version__)
         with self.assertRaisesRegex(ImportError, rf"is of version {nd.__version__}, and this package of 0\.0\.9"):

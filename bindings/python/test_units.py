@@ -170,11 +170,6 @@ class EachCall(unittest.TestCase):
         takes = {call for call in functions if {"shape", "strides"} <= {*inspect.signature(call).parameters}}
         self.assertEqual(takes, {*CALLS})
 
-    def test_each_name_is_exported(self):
-        """But for what the module itself calls."""
-        names = {name for name, value in vars(nd).items() if name[0] != "_" and not inspect.ismodule(value)}
-        self.assertEqual(names - {*nd.__all__}, {"FunctionType", "check_version", "modules", "shown_once"})
-
     def test_arrays(self):
         """An array, a buffer and a `Layout` stand in the place of the shape and strides of each call."""
         buffer = array("i", range(6))
