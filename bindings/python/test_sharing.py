@@ -127,6 +127,17 @@ class BesideNumpy(unittest.TestCase):
         self.assertGreater(seen["against the rule, not shared"], ARRAYS // 10)
         self.assertGreater(seen["against the rule, shared"], ARRAYS // 10)
 
+    def test_items_of_no_bytes(self):
+        """They share none, also by keys. NumPy says so of them alone, and not of some beside other items."""
+        base = np.zeros(24, np.uint8)
+        nothing = np.ndarray((3,), "V0", base, 0, (8,))
+        for keys in product((slice(0, 2), slice(1, 3), slice(None)), repeat=2):
+            parts = [nothing[key] for key in keys]
+            self.assertEqual([nd.share_element(nothing, *keys), nd.share_element(*parts), np.shares_memory(*parts)], [False] * 3)
+        self.assertRaises(IndexError, nd.share_element, nothing, 0, 3)
+        self.assertFalse(nd.share_element(nothing, base) or nd.shares_memory(base, nothing))
+        self.assertTrue(np.shares_memory(nothing, base))
+
     def strided(self, numbers, base):
         dtype = numbers.choice((np.uint8, np.int32, np.float64))
         shape = tuple(numbers.choice((0, 1, 2, 3, 4, 5, 6, 2, 3)) for _ in range(numbers.randint(1, 4)))

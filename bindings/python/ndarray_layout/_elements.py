@@ -42,7 +42,7 @@ def share_element(a: Any, first: Any, second: Any = _NOTHING, max_work: Optional
     What shows a copy of its memory, as a picture of PIL does, shares none. NumPy is needed for the address of a buffer.
     Raises `TypeError` for a scalar of NumPy, which is a copy: `x[k]` is one, and `x[k, ...]` an array. Raises
     `ShapeError` for memory of other devices, and `IndexError` where an array leaves the buffer that it names as its
-    `data`.
+    `data`. Items of 0 bytes share none, where NumPy says of some that they share bytes of other items.
 
     Two layouts are of one buffer, and share an element where they share a place. Raises `ShapeError` where they are of
     another length or item size: of two buffers. `Layout.of(x)` has its own lowest element at place 0, so
@@ -81,7 +81,7 @@ def share_element(a: Any, first: Any, second: Any = _NOTHING, max_work: Optional
         return _share_byte((shape, strides, itemsize), first, second, max_work)
     keys, answer = (*packed_key(shape, first), *packed_key(shape, second)), one_answer()
     library.slices_intersect(*unsigned(shape), *keys, False, answer)
-    return bool(answer[0])
+    return bool(answer[0]) and itemsize > 0
 
 
 def shares_memory(a: Any, b: Any, max_work: Optional[int] = MAX_WORK) -> bool:

@@ -128,15 +128,21 @@ def chunks_of(
 
     >>> chunks_of((8, 6), (slice(3, 7), 5), chunks=(2, 3))
     (range(1, 4), range(1, 2))
-    >>> chunks_of(9, slice(None, None, 4), chunks=((1, 2, 1, 5),)), chunks_of((), (), ())
-    (((0, 3),), ())
+    >>> chunks_of(9, slice(None, None, 4), chunks=((1, 2, 1, 5),))
+    (range(0, 4, 3),)
+    >>> chunks_of(9, slice(None, None, 4), chunks=((1, 2, 1, 1, 4),)), chunks_of((), (), ())
+    (((0, 3, 4),), ())
     """
     _, picks, chunk, _ = _read(shape, region, chunks, dims)
     return tuple([_numbers(along.touched(run)) for along, run in zip(chunk, picks)])
 
 
 def _numbers(ranges: list[range]) -> Sequence[int]:
-    return ranges[0] if len(ranges) == 1 else tuple(sorted(chain(*ranges))) if ranges else range(0)
+    if len(ranges) < 2:
+        return ranges[0] if ranges else range(0)
+    numbers = sorted(chain(*ranges))
+    evenly = range(numbers[0], numbers[-1] + 1, numbers[1] - numbers[0])
+    return evenly if len(evenly) == len(numbers) and [*evenly] == numbers else tuple(numbers)
 
 
 def aligned(
