@@ -4,7 +4,7 @@ The crate in ffi/ is a static library in Rattle above this repository's crates. 
 `.rt` or `.antt` file outside of crates. Where the kit is there it is proved, with each crate below it that isn't built yet. Everywhere it is
 compiled by rustc without its contracts, on the Rust package.
 """
-import argparse, contextlib, os, shutil, subprocess, sys, tempfile, time
+import argparse, contextlib, hashlib, os, re, shutil, subprocess, sys, tempfile, time
 
 HERE = os.path.dirname(os.path.abspath(__file__))
 TOP = os.path.dirname(HERE)
@@ -184,7 +184,7 @@ def show_table(name, head, rows, is_for_page):
     """Shows the table that a script makes: in columns, or as Markdown on the page, between the two comments with the script's name."""
     if is_for_page:
         lines = (head, ["---", *["---:"] * (len(head) - 1)], *rows)
-        write_between(f"<!-- bench/{name} -->", f"<!-- /bench/{name} -->", "\n".join(map("|".join, lines)))
+        write_between(name, "\n".join(map("|".join, lines)))
         return
     widths = [max(map(len, column)) for column in zip(head, *rows)]
     for cells in (head, *rows):
@@ -192,12 +192,18 @@ def show_table(name, head, rows, is_for_page):
         print("  ".join([first, *others]))
 
 
-def write_between(begin, end, text):
-    """Puts a text between two lines of docs/PERFORMANCE.md."""
+def sum_of_table(text):
+    """What stands after a table of the page, so that it is seen where a number of it isn't what was measured."""
+    return hashlib.sha256(text.strip().encode()).hexdigest()[:16]
+
+
+def write_between(name, text):
+    """Puts a table between the two lines of docs/PERFORMANCE.md that have its name."""
     with open(PAGE, encoding="utf-8") as file:
-        before, begun, rest = file.read().partition(begin)
-    _, ended, after = rest.partition(end)
-    if not begun or not ended:
-        raise NotBuilt(f"{PAGE} has no lines {begin} and {end}")
+        page = file.read()
+    made = f"<!-- bench/{name} -->\n\n{text}\n\n<!-- /bench/{name} {sum_of_table(text)} -->"
+    page, count = re.subn(rf"<!-- bench/{name} -->.*?<!-- /bench/{name}(?: \w+)? -->", lambda _: made, page, flags=re.S)
+    if count != 1:
+        raise NotBuilt(f"{PAGE} has no lines of bench/{name}")
     with open(PAGE, "w", encoding="utf-8") as file:
-        file.write(f"{before}{begin}\n\n{text}\n\n{end}{after}")
+        file.write(page)

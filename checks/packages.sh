@@ -17,8 +17,9 @@ has_packages() {
     has NumPy && has headers && has venv && has pytest && has dask && has zarr && has Chromium && has cmark-gfm && has image && has rayon
 }
 install_packages() {
-    apt-get -qq update
-    apt-get -qq install -y --no-install-recommends python3-{numpy,dev,venv,pytest,dask,zarr} cmark-gfm librust-{image,rayon}-dev
-    apt-get -qq install -y --no-install-recommends chromium-headless-shell || apt-get -qq install -y --no-install-recommends chromium
+    local apt=(apt-get -qq -o DPkg::Lock::Timeout=600)
+    "${apt[@]}" update
+    "${apt[@]}" install -y --no-install-recommends python3-{numpy,dev,venv,pytest,dask,zarr} cmark-gfm librust-{image,rayon}-dev
+    "${apt[@]}" install -y --no-install-recommends chromium-headless-shell || "${apt[@]}" install -y --no-install-recommends chromium
 }
 has_packages || [ "$(id -u)" -ne 0 ] || install_packages >"$room/apt" 2>&1 || cat "$room/apt"

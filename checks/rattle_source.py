@@ -6,8 +6,8 @@ import os, pathlib, re, subprocess
 
 TOP = str(pathlib.Path(__file__).resolve().parents[1])
 PARTS = ("src", "specs", "proofs")
-MEMORY = 7000  # megabytes: what a proof may take
-AT_ONCE = 5000  # what each of those that are made at once is taken to need
+# what is kept on this machine of earlier checks, outside each clone
+CACHE = os.path.join(os.environ.get("XDG_CACHE_HOME") or os.path.expanduser("~/.cache"), "pahluode")
 
 
 def read(path):
@@ -29,11 +29,6 @@ def read_list():
     return {head.split()[0]: libraries.replace(",", " ").split() for head, _, libraries in lines if head.strip()}
 
 
-def counted(kind):
-    """How many there are of a kind, by name: lines `KIND NAME NUMBER` of checks/counts.txt."""
-    return {name: int(number) for name, number in re.findall(rf"^{kind} (.+) (\d+)$", read("checks/counts.txt"), re.M)}
-
-
 def crates_below(name):
     """A crate and all that it depends on, each after the libraries that it uses."""
     crates = read_list()
@@ -47,7 +42,11 @@ def sums_of(name, *made):
     return subprocess.check_output(["sha256sum", *paths], cwd=TOP, text=True)
 
 
-def jobs():
-    """How many proofs this machine can make at once: one a processor, as memory holds."""
-    free = int(re.search(r"MemAvailable: *(\d+)", pathlib.Path("/proc/meminfo").read_text())[1]) * 1024 // 10**6
-    return max(1, min(len(os.sched_getaffinity(0)), free // AT_ONCE))
+def library(name):
+    """The folder of a crate's proved library: in a check where the gate put it once it was proved, else where the gate or `rt check` left it."""
+    return f"{os.environ['PROVED']}/{name}" if os.environ.get("PROVED") else f"{TOP}/crates/{name}/out/rlib"
+
+
+def free_memory():
+    """How many megabytes are free."""
+    return int(re.search(r"MemAvailable: *(\d+)", pathlib.Path("/proc/meminfo").read_text())[1]) * 1024 // 10**6

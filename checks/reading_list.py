@@ -95,15 +95,13 @@ def all_words():
     return found
 
 
-def figures():
+def counts_of_words():
     """How many words and lines of definitions there are, and how many of them the clauses name."""
-    words, first = all_words(), named_by_the_promise()[0]
-    lines, first_lines = (sum(len(definitions_in(path)[word]) for path, word in part) for part in (words, first))
-    return f"{len(words)} words, {lines} lines; the clauses name {len(first)} of them, {first_lines} lines"
+    return [count for part in (all_words(), named_by_the_promise()[0]) for count in (len(part), sum(len(definitions_in(path)[word]) for path, word in part))]
 
 
 if __name__ == "__main__":
     first, ghosts = named_by_the_promise()
     for title, part in (("the clauses name:", first), ("these are made of:", all_words()[len(first) :])):
         print(title, *(f"  {word}  {path}, {len(definitions_in(path)[word])}" for path, word in part), "", sep="\n")
-    print("values are seen as:", *(f"  {name}  {path}" for path, name in ghosts), "", figures(), sep="\n")
+    print("values are seen as:", *(f"  {name}  {path}" for path, name in ghosts), "", "{} words, {} lines; the clauses name {} of them, {} lines".format(*counts_of_words()), sep="\n")

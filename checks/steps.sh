@@ -1,37 +1,33 @@
-# How the checks that are bash run their steps. Each of them reads this file first: `. checks/steps.sh`.
+# How the checks that are bash run their parts. Each of them reads this file first: `. checks/steps.sh`.
 
 # (a command in `$(..)` that fails ends it there too)
 shopt -s inherit_errexit
 top=$(cd "$(dirname "${BASH_SOURCE[0]}")/.." && pwd)
 
-# The folder of what a check writes, which goes when it ends.
+# The folder of what a check writes, which goes when it ends. Its status is 77 where a tool is missing and nothing has failed.
 room=$(mktemp -d)
-trap 'rm -rf "$room"' EXIT
+lacking=0
+trap 'status=$? && rm -rf "$room" && exit "$((status == 0 && lacking > 0 ? 77 : status))"' EXIT
 
 # Whether a tool is there. A check may have a `has_TOOL` of its own.
 has() {
     if declare -F "has_$1" >/dev/null; then "has_$1"; else command -v "$1" >/dev/null; fi
 }
 
-# Runs a step in a shell of its own, up to the first command that fails, also in a pipe. Says how the step ended, with the end of what it
-# printed where it failed; or that it was skipped, since a tool is missing. It is called plainly: bash goes on after a command that fails
-# wherever the caller stands in a condition (`if`, `!`, `&&`, `||`). A step that is called so has failed.
+# Runs a part in a shell of its own, up to the first command that fails, also in a pipe. Says how it ended, with the end of what it printed where it failed; or
+# that it was skipped, since a tool is missing. It is called plainly: bash goes on after a command that fails wherever the caller stands in a condition (`if`,
+# `!`, `&&`, `||`). A part that is called so has failed.
 run_step() { # its name, the tools that it needs, and the command
     local tool status
     for tool in $2; do
-        has "$tool" || { echo "check $1: skipped, no $tool"; return; }
+        has "$tool" || { lacking=$((lacking + 1)) && echo "check $1: skipped, no $tool"; return; }
     done
     (set -e; false; :)
     if [ $? -eq 0 ]; then echo "check $1: failed, bash would go on after a command that fails"; return 1; fi
     (set -eo pipefail; $3) >"$room/log" 2>&1 </dev/null
     status=$?
-    if [ "$status" -eq 0 ]; then echo "check $1: passed"; return; fi
+    if [ "$status" -eq 0 ]; then echo "check $1: passed, $SECONDS s"; return; fi
     tail -n 100 "$room/log"
     echo "check $1: failed, status $status"
     return 1
-}
-
-# Compares what a step has run with what there is: lines `NAME NUMBER` on standard input, with those of a kind in checks/counts.txt.
-compare_counts() { # the kind
-    sort | diff <(sed -n "s/^$1 //p" "$top/checks/counts.txt" | sort) -
 }

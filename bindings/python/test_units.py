@@ -221,7 +221,7 @@ class EachCall(unittest.TestCase):
 
     def test_texts(self):
         for text, named in (("elements", {}), ("bytes", {"itemsize": 1})):
-            with self.assertRaisesRegex(ShapeError, rf"axis 1: .* length 2 times stride 12 isn't .* \(in {text}\);"):
+            with self.assertRaisesRegex(ShapeError, rf"axis 1: .* isn't length 2 times stride 12 \(in {text}\);"):
                 nd.reshape((2, 2), (12, 12), 4, **named)
             with self.assertRaisesRegex(ShapeError, rf"stride 2 isn't past 2, the reach of the axes .* \(in {text}\)"):
                 nd.layout_start((2, 2), (2, 2), length=99, writable=True, **named)

@@ -4,7 +4,8 @@ The wheel holds the package, the shared library that `bindings/c/build` makes by
 it the extension module `_native`; NDARRAY_LAYOUT_PURE=1 in the environment leaves that out. With NDARRAY_LAYOUT_PROVED=1
 in the environment, or the setting `proved`, it holds the proved library of `bindings/c/proved`, which `build --proved`
 makes where the one that is there isn't of the sources as they are. With the setting `checked`, which `build_wheel` of this
-repository gives, it is a release: it holds `checked.txt` beside METADATA, and is refused where that isn't of these sources.
+repository gives, it is a release: it holds the record of the whole check as `checked.txt`, beside METADATA, and is refused where
+the check hasn't passed on what is committed.
 The tarball holds all that pip makes the wheel of.
 """
 
@@ -27,7 +28,7 @@ TOP = HERE.parent.parent
 LIBRARY = "libndarray_layout.so"
 NATIVE = "_native.abi3.so"
 LACKING = 3  # (the status of `build_native` where a compiler, headers or Python 3.11 are missing)
-SOURCES = "bindings/c bindings/python rust Cargo.toml Cargo.lock checked.txt proved.txt LICENSE* NOTICE".split()
+SOURCES = "bindings/c bindings/python rust Cargo.toml Cargo.lock proved.txt LICENSE* NOTICE".split()
 MADE = (1980, 1, 1, 0, 0, 0)  # (the first moment that a zip file can state: the same files make the same wheel)
 
 Settings = Optional[Mapping[str, Any]]
@@ -60,11 +61,10 @@ def build_editable(
 
 def build_sdist(sdist_directory: str, config_settings: Settings = None) -> str:
     """Makes the tarball of what is committed, in a folder, and returns its name. pip builds what it holds by cargo."""
-    if "checked" in (config_settings or {}):
-        _record()
+    record = _record() if "checked" in (config_settings or {}) else []
     name = f"ndarray_layout-{version()}"
     stated = (HERE / "pyproject.toml").read_text().replace('path = ["backend"]', 'path = ["bindings/python/backend"]')
-    added = ("pyproject.toml", stated), ("PKG-INFO", _metadata(_licenses()))
+    added = ("pyproject.toml", stated), ("PKG-INFO", _metadata(_licenses())), *((path, text.decode()) for path, text in record)
     words = ["git", "archive", f"--prefix={name}/", "-o", str(Path(sdist_directory).resolve() / f"{name}.tar.gz")]
     words += [f"--add-virtual-file={name}/{path}:{text}" for path, text in added]
     subprocess.run([*words, "HEAD", "--", *SOURCES], cwd=TOP, check=True)
@@ -76,11 +76,11 @@ def _is_proved(settings: Settings) -> bool:
 
 
 def _record() -> Files:
-    """The record of the whole check, where it is of what is committed, and nothing else stands here."""
-    for words in ["checks/record.py", "--release"], ["rust/erase", "--check"]:
-        if subprocess.run([TOP / words[0], *words[1:]], stdout=sys.stderr).returncode != 0:
-            raise SystemExit("no wheel is made")
-    return [("checked.txt", (TOP / "checked.txt").read_bytes())]
+    """The record of the whole check, where it has passed on what is committed, and nothing else stands here."""
+    record = subprocess.run([TOP / "checks/record.py", "--release"], stdout=subprocess.PIPE)
+    if record.returncode != 0 or subprocess.run([TOP / "rust/erase", "--check"], stdout=sys.stderr).returncode != 0:
+        raise SystemExit("no wheel is made")
+    return [("checked.txt", record.stdout)]
 
 
 def _library(proved: bool) -> Path:

@@ -17,6 +17,7 @@ fn arrays_of_an_axis_are_read() {
     );
     assert_eq!(array.outer_iter().rev().filter_map(|row| row.first()).collect::<Vec<_>>(), ["3", "0"]);
     assert_eq!(format!("{:?}", array.outer_iter()), "AxisIter { left: 2, .. }");
+    assert_eq!(ArrayView::from_shape(Ix1(6), &NUMBERS).unwrap().outer_iter().len(), 6);
     assert_eq!(owned(texts.clone()).outer_iter().nth(1).and_then(|row| row.last().cloned()), Some("5".to_string()));
     assert_eq!(owned(NUMBERS.to_vec()).index_axis(Axis(1), 2).unwrap().to_vec().unwrap(), [2, 5]);
     assert_eq!(rows_mut(&mut numbers).axis_iter(Axis(0)).unwrap().len(), 2);

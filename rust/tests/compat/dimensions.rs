@@ -18,6 +18,13 @@ fn a_shape_has_a_size_and_strides() {
 }
 
 #[test]
+fn one_axis_is_the_first_and_the_last() {
+    let mut line = Ix1(4);
+    line.set_last_elem(6);
+    assert_eq!((line, line.min_stride_axis(&Ix1(2)), line.max_stride_axis(&Ix1(2))), (Ix1(6), Axis(0), Axis(0)));
+}
+
+#[test]
 fn a_list_is_read_and_written() {
     let mut shape = Ix3(3, 4, 5);
     shape.set_last_elem(6);

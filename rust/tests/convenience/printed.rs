@@ -67,6 +67,7 @@ fn of_many_items_the_first_and_the_last_are_printed() -> Result<(), LayoutError>
     assert!(printed(Ix1(500))?.contains(", 299, 300, "));
     let lines: Vec<String> = printed(Ix2(60, 10))?.lines().map(String::from).collect();
     assert_eq!((lines.len(), lines[5].as_str()), (11, " ...,"));
+    assert!(printed(Ix2(60, 11))?.starts_with("[[0, 1, 2, 3, 4, 5, 6, 7, 8, 9, 10],\n"));
     assert!(lines[6].starts_with(" [550, 551, ") && lines[4].ends_with(" 48, 49],"));
     let blocks = printed(IxDyn(&[7, 10, 10]))?;
     assert!(blocks.contains("  [290, 291, 292, 293, 294, 295, 296, 297, 298, 299]],\n\n ...,\n\n [[400, "));

@@ -4,8 +4,11 @@ use crate::numbers::Numbers;
 use ndarray_layout::{CanIndexCheckMode, ErrorKind, Fit, LayoutError, Order};
 use std::collections::BTreeMap;
 use std::fmt::Debug;
+use std::panic::resume_unwind;
+use std::thread::scope;
 
 pub const CALLS: usize = 100_000;
+const THREADS: usize = 4;
 pub const MODES: [CanIndexCheckMode; 2] = [CanIndexCheckMode::ReadOnly, CanIndexCheckMode::OwnedMutable];
 pub const ORDERS: [Order; 2] = [Order::RowMajor, Order::ColumnMajor];
 pub const FITS: [Fit; 2] = [Fit::Strict, Fit::Clamp];
@@ -29,24 +32,36 @@ impl Tally {
     }
 }
 
-/// Calls a function with 100,000 sets of arguments, and compares each result with the model's.
+/// Calls a function with 100,000 sets of arguments, in several threads, and compares each result with the model's.
 pub fn compare<A: Debug, T: PartialEq + Debug, E: Into<LayoutError>>(
     call: &str,
     outcomes: &[&str],
-    mut arguments: impl FnMut(&mut Numbers) -> A,
-    ours: impl Fn(&A) -> Vec<Result<T, E>>,
-    model: impl Fn(&A) -> Result<T, ErrorKind>,
+    arguments: impl Fn(&mut Numbers) -> A + Sync,
+    ours: impl Fn(&A) -> Vec<Result<T, E>> + Sync,
+    model: impl Fn(&A) -> Result<T, ErrorKind> + Sync,
 ) {
-    let mut numbers = Numbers::new(call.len() as u64 * 1_000_003);
-    let mut tally = Tally::default();
-    for _ in 0..CALLS {
-        let arguments = arguments(&mut numbers);
-        let expected = model(&arguments);
-        for result in ours(&arguments) {
-            assert_eq!(result.map_err(kind_of), expected, "{call} of {arguments:?}");
+    let tally_of = &|thread: usize| {
+        let mut numbers = Numbers::new((call.len() + thread) as u64 * 1_000_003);
+        let mut tally = Tally::default();
+        for _ in 0..CALLS / THREADS {
+            let arguments = arguments(&mut numbers);
+            let expected = model(&arguments);
+            for result in ours(&arguments) {
+                assert_eq!(result.map_err(kind_of), expected, "{call} of {arguments:?}");
+            }
+            tally.count(&expected);
         }
-        tally.count(&expected);
-    }
+        tally
+    };
+    let mut tally = Tally::default();
+    scope(|scope| {
+        let threads: Vec<_> = (0..THREADS).map(|thread| scope.spawn(move || tally_of(thread))).collect();
+        for thread in threads {
+            for (name, count) in thread.join().unwrap_or_else(|panic| resume_unwind(panic)).0 {
+                *tally.0.entry(name).or_default() += count;
+            }
+        }
+    });
     tally.has(call, outcomes);
 }
 

@@ -13,7 +13,7 @@ use ndarray_layout::{
     dim_stride_overlap, fortran_strides, from_kind, is_index, is_layout_c, is_layout_f, low_span, new_ixdyn,
     offset_from_low_addr_ptr_to_logical_ptr, size_of_shape_checked, span_of_lengths,
 };
-use std::cell::Cell;
+use std::sync::atomic::{AtomicUsize, Ordering::Relaxed};
 
 const LAYOUT: [&str; 3] = ["Ok", "IncompatibleLayout", "Overflow"];
 const ACCEPTED: [&str; 5] = ["Ok", "IncompatibleLayout", "Overflow", "OutOfBounds", "Unsupported"];
@@ -84,10 +84,10 @@ fn accepted_starts_are_the_models() {
 /// A question about a layout that is asked where it is valid.
 fn compare_answer(
     call: &str,
-    ours: impl Fn(&[usize], &[isize]) -> Vec<bool>,
-    model: impl Fn(&[usize], &[isize]) -> bool,
+    ours: impl Fn(&[usize], &[isize]) -> Vec<bool> + Sync,
+    model: impl Fn(&[usize], &[isize]) -> bool + Sync,
 ) {
-    let yes = Cell::new(0);
+    let yes = AtomicUsize::new(0);
     compare(
         call,
         &LAYOUT,
@@ -99,12 +99,12 @@ fn compare_answer(
         |(shape, strides)| {
             layouts::check_valid(shape, strides)?;
             let answer = model(shape, strides);
-            yes.set(yes.get() + usize::from(answer));
+            yes.fetch_add(usize::from(answer), Relaxed);
             Ok(answer)
         },
     );
-    println!("{call}: {} yes", yes.get());
-    assert!((1_000..CALLS - 1_000).contains(&yes.get()), "{call}: {} yes", yes.get());
+    println!("{call}: {} yes", yes.load(Relaxed));
+    assert!((1_000..CALLS - 1_000).contains(&yes.load(Relaxed)), "{call}: {} yes", yes.load(Relaxed));
 }
 
 #[test]

@@ -9,7 +9,7 @@ use ndarray_layout::{
     Axis, ErrorKind, IxDyn, LayoutError, Lengths, Order, ShapeError, co_broadcast, fill_common_shape, from_kind,
     have_common_shape, reshape_dim,
 };
-use std::cell::Cell;
+use std::sync::atomic::{AtomicUsize, Ordering::Relaxed};
 
 /// The common shape of two, whose types fix the count of axes or don't.
 fn common<A: Lengths, B: Lengths>(first: &[usize], second: &[usize]) -> Result<Vec<usize>, LayoutError> {
@@ -109,7 +109,7 @@ fn merged_axes_are_the_models() {
         let (take, into) = (arguments::axis(numbers, &shape), arguments::axis(numbers, &shape));
         (shape, strides, take, into)
     };
-    let merges = Cell::new(0);
+    let merges = AtomicUsize::new(0);
     compare(
         "merge_axes",
         &["Ok", "IncompatibleLayout", "Overflow", "OutOfBounds", "Unsupported"],
@@ -119,12 +119,12 @@ fn merged_axes_are_the_models() {
             layouts::check_valid(shape, strides)?;
             let (mut new_shape, mut new_strides) = (shape.clone(), strides.clone());
             let answer = model::merge_axes(&mut new_shape, &mut new_strides, *take, *into)?;
-            merges.set(merges.get() + usize::from(answer));
+            merges.fetch_add(usize::from(answer), Relaxed);
             Ok((answer, new_shape, new_strides))
         },
     );
-    println!("merge_axes: {} merged", merges.get());
-    assert!(merges.get() > 10_000, "{} merged", merges.get());
+    println!("merge_axes: {} merged", merges.load(Relaxed));
+    assert!(merges.load(Relaxed) > 10_000, "{} merged", merges.load(Relaxed));
 }
 
 /// The strides of a layout of another shape. By a call on the view, and by ndarray's function where it may be called.

@@ -10,7 +10,7 @@ use ndarray_layout::{
     Fit, IxDyn, LayoutError, Lengths, SliceInfoElem, StrideShape, Strided, Strides, check_slice, first_intersection,
     first_intersection_sorted, slices_intersect,
 };
-use std::cell::Cell;
+use std::sync::atomic::{AtomicUsize, Ordering::Relaxed};
 
 const SLICE: [&str; 5] = ["Ok", "Overflow", "IncompatibleShape", "OutOfBounds", "Unsupported"];
 
@@ -112,19 +112,19 @@ fn intersections_are_the_models() {
             return (shape, first, second, fit, expected);
         }
     };
-    let yes = Cell::new(0);
+    let yes = AtomicUsize::new(0);
     compare(
         "slices_intersect",
         &SLICE,
         arguments,
         |(shape, first, second, fit, _)| of_types!(Some(shape.len()), D => intersect::<D>(shape, first, second, *fit)),
         |(.., expected)| {
-            yes.set(yes.get() + usize::from(*expected == Ok(true)));
+            yes.fetch_add(usize::from(*expected == Ok(true)), Relaxed);
             *expected
         },
     );
-    println!("slices_intersect: {} yes", yes.get());
-    assert!((10_000..CALLS - 10_000).contains(&yes.get()), "{} yes", yes.get());
+    println!("slices_intersect: {} yes", yes.load(Relaxed));
+    assert!((10_000..CALLS - 10_000).contains(&yes.load(Relaxed)), "{} yes", yes.load(Relaxed));
 }
 
 /// Whether two of many slices of a shape share an index, by the view and by the functions. The two that they return do.
@@ -185,7 +185,7 @@ fn first_intersections_are_the_models() {
         }
         (shape, slices, numbers.pick(&FITS))
     };
-    let yes = Cell::new(0);
+    let yes = AtomicUsize::new(0);
     compare(
         "first_intersection",
         &["Ok", "IncompatibleShape", "OutOfBounds", "Unsupported"],
@@ -198,10 +198,10 @@ fn first_intersections_are_the_models() {
             };
             let some =
                 slices.iter().enumerate().any(|(at, one)| slices[at + 1..].iter().any(|other| meets(one, other)));
-            yes.set(yes.get() + usize::from(some));
+            yes.fetch_add(usize::from(some), Relaxed);
             Ok(some)
         },
     );
-    println!("first_intersection: {} yes", yes.get());
-    assert!((10_000..CALLS - 10_000).contains(&yes.get()), "{} yes", yes.get());
+    println!("first_intersection: {} yes", yes.load(Relaxed));
+    assert!((10_000..CALLS - 10_000).contains(&yes.load(Relaxed)), "{} yes", yes.load(Relaxed));
 }

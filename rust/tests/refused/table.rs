@@ -1,4 +1,4 @@
-//! The rows of `checks/refused_calls.txt`, which says how they are read.
+//! The rows of `rust/tests/refused/calls.txt`, which says how they are read.
 
 use std::fs;
 
@@ -11,7 +11,7 @@ pub struct Row {
 
 /// All rows.
 pub fn rows() -> Vec<Row> {
-    let path = concat!(env!("CARGO_MANIFEST_DIR"), "/checks/refused_calls.txt");
+    let path = concat!(env!("CARGO_MANIFEST_DIR"), "/rust/tests/refused/calls.txt");
     let table = fs::read_to_string(path).expect("the table can be read");
     let table = table.replace("\n    ", " else ");
     table.lines().filter(|line| !line.is_empty() && !line.starts_with('#')).map(Row::read).collect()

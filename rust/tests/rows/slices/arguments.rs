@@ -42,11 +42,13 @@ fn elements_in_lists_and_arrays() {
 // The indices of an axis of 10,000 coordinates as arguments, from the first one on and once more the first.
 #[test]
 fn ten_thousand_arguments() {
-    let mut slices: Vec<[SliceInfoElem; 1]> = (0..10_000).chain([0]).map(|index| [Index(index)]).collect();
-    assert_eq!(first_intersection(&Ix1(10_000), &slices[1..], Fit::Strict), Ok(None));
-    assert_eq!(first_intersection(&Ix1(10_000), &slices, Fit::Strict), Ok(Some((0, 10_000))));
-    slices.reverse();
-    assert_eq!(first_intersection(&Ix1(10_000), &slices[1..], Fit::Strict), Ok(None));
+    let slices: Vec<[SliceInfoElem; 1]> = (0..10_000).chain([0]).map(|index| [Index(index)]).collect();
+    let reversed: Vec<_> = slices.iter().rev().copied().collect();
+    std::thread::scope(|scope| {
+        for (part, pair) in [(&slices[1..], None), (&slices, Some((0, 10_000))), (&reversed[1..], None)] {
+            scope.spawn(move || assert_eq!(first_intersection(&Ix1(10_000), part, Fit::Strict), Ok(pair)));
+        }
+    });
 }
 
 /// Tiles of the length 2 along each of `axes` axes, `2^bits` along each, in Morton order: the bits of a tile's number are those

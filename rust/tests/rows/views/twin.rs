@@ -146,8 +146,13 @@ fn all_small_layouts() {
     let lengths = [1, 2, 3, 4].map(|len| Axis { len, stride: 0 });
     let shapes: Vec<Axes> = (0..4).flat_map(|count| Axes::each(count, &lengths)).collect();
     let axes: Vec<Axis> = (-4..=4).flat_map(|stride| lengths.map(|axis| Axis { stride, ..axis })).collect();
-    for from in (0..4).flat_map(|count| Axes::each(count, &axes)) {
-        assert_reshapes(&from, Order::C, &shapes);
-        assert_reshapes(&from, Order::F, &shapes);
-    }
+    let layouts: Vec<Axes> = (0..4).flat_map(|count| Axes::each(count, &axes)).collect();
+    std::thread::scope(|scope| {
+        for part in layouts.chunks(layouts.len().div_ceil(4)) {
+            for order in [Order::C, Order::F] {
+                let shapes = &shapes;
+                scope.spawn(move || part.iter().for_each(|from| assert_reshapes(from, order, shapes)));
+            }
+        }
+    });
 }
