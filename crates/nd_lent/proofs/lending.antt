@@ -11,9 +11,9 @@ pub mod Parted
 pub mod Passed
 pub mod Places
 pub mod Read
-pub mod ReadCrosses
 pub mod SameName
 pub mod Shared
+pub mod Steps
 pub mod Stretch
 pub mod Taken
 pub mod Where

@@ -1,20 +1,18 @@
--- Cells may cross threads as their items may.
-use Rattle.std.specs.Prelude.{Bool, true, false, List, [], ◌∷◌, ◌++◌}
-use base.Fraction.{full_share}
-use base.Fml.{Lft, Fml, ftrue}
+-- Cells may cross threads as their items may, and a reader as a `&` to an item may.
 use base.Shift.{Keyless}
-use denote.Exit.{Exit, unchanged, leaves, hidden, under}
-use denote.Memory.{mem}
-use denote.Param.Send.{IsSend, IsSync, Quiet, AllSend, part_keyless, owning_send, struct_send, struct_sync, sendable}
-use denote.RattleType.{RattleType}
-use denote.RawPtr.{Ptr, block_ptr, null_ptr, block_of, count_of, in_block, lies_at, ◌+ₚ◌}
-use denote.Ref.{NamedLft}
+use denote.Exit.{Exit, hidden, leaves, unchanged, under}
+use denote.Param.Send.{AllSend, IsSend, IsSync, Quiet, owning_send, part_keyless, sendable, struct_send, struct_sync}
+use denote.RawPtr.{in_block}
+use denote.Struct.Owning.{fields, shape, to}
 use denote.Struct.Struct.{exits_of}
-use denote.Struct.Owning.{shape, fields, to}
+use Rattle.std.specs.Prelude.{Bool, List, false, true, [], ◌++◌, ◌∷◌}
 use Rattle.nd_lent.specs.Cells.{cell_if, cells_where, lent_if, lent_where}
 use Rattle.nd_lent.specs.contracts.cells.Cells as C-type
+use Rattle.nd_lent.specs.contracts.cells.Reader as R-type
+use Rattle.nd_lent.proofs.lending.Steps.{Fml, Lft, NamedLft, Ptr, RattleType, block_of, block_ptr, count_of, ftrue, full_share, lies_at}
+use Rattle.nd_lent.proofs.lending.Steps.{mem, null_ptr, ◌+ₚ◌}
 
-pub quiet : {D X : Type 0} (f : D → X) (e : Exit X) → Quiet e → Quiet (hidden (under f e))
+quiet : {D X : Type 0} (f : D → X) (e : Exit X) → Quiet e → Quiet (hidden (under f e))
 quiet f unchanged q = λ x w. tt
 quiet f (leaves L l S s r₀) q = λ d. q (f d)
 
@@ -47,7 +45,7 @@ lent_keyless : (R : RattleType) → IsSync R → (p : Ptr) (mine : Bool) (x : R.
 lent_keyless R s p true x κ = (inside p ftrue tt, s.shared x (block_of p) (count_of p) κ)
 lent_keyless R s p false x κ = tt
 
-pub seen_keyless : (R : RattleType) → IsSync R → (p : Ptr) (marks : List Bool) (items : List R.Denot) (κ : Lft)
+seen_keyless : (R : RattleType) → IsSync R → (p : Ptr) (marks : List Bool) (items : List R.Denot) (κ : Lft)
     → Keyless (lent_where R p marks items κ)
 seen_keyless R s p [] items κ = tt
 seen_keyless R s p (m ∷ marks) [] κ = tt
@@ -60,5 +58,22 @@ cells_sync κ V s =
       shared = λ d b o l. (
         (struct_sync (shape O) (search sendable, (search sendable, tt))).shared (to O d) b o l,
         ((tt, (tt, (tt, tt))), seen_keyless V s d.first d.marks d.items (l ++ κ.lft)),
+      );
+    }
+
+pub reader_send : (κ : NamedLft) (V : RattleType) → IsSync V → IsSend (R-type.the_row κ V)
+reader_send κ V s =
+    let O = R-type.the_type κ V in
+    let all : AllSend (fields O) = (search sendable, (search sendable, tt)) in
+    owning_send O all (λ d. ((tt, (tt, (tt, tt))), seen_keyless V s d.first d.marks d.items κ.lft))
+    (λ k. quiet (to O) (exits_of k (fields O)) ((struct_send (shape O) all).leaving k))
+
+pub reader_sync : (κ : NamedLft) (V : RattleType) → IsSync V → IsSync (R-type.the_row κ V)
+reader_sync κ V s =
+    let O = R-type.the_type κ V in
+    record {
+      shared = λ d b o l. (
+        (struct_sync (shape O) (search sendable, (search sendable, tt))).shared (to O d) b o l,
+        ((tt, (tt, (tt, tt))), seen_keyless V s d.first d.marks d.items κ.lft),
       );
     }

@@ -1,31 +1,17 @@
 -- A part is taken of cells, and put back, after which they have their name again. Assumes `Logic`.
-use mathlib.Core.Path.{◌≡◌, refl, sym, ap, subst, ◌∙◌}
-use Prim.Native.Nat.{zero, suc}
-use native.Mathlib.Omega.{arith}
-use mathlib.Core.Bool.{Bool, true, false}
-use mathlib.Core.List.{List, [], ◌∷◌}
-use lib.Dec.{T}
-use lib.ListN.{length}
-use seplogic.Ra.Ura.{Ura}
-use base.Logic.{SProp, ent, sep, emp, ex, upd, via, id⊢, mono_l, upd_i, upd_mono, upd_trans, upd_frame}
-use base.Stored.{Gv, gnum, num, coded_list}
-use base.Fml.{Lft, GName, Share, Fml, ftrue, fsep, fex, feq, fwand, fupd, fdead, flft, fobs, fauth, fres, fbor, fseps}
-use types.Logic.{Logic, sem}
-use types.Kit.{‵, raw, ◌⊛◌, given, later, ◌$◌, ◌∵◌, !, qed, by, move, keep, use0, use1, use2, use3, drop, split, split3, join}
-use types.Kit.{fsplit, fsplit3, fjoin, fpick, fpack, feq_i, feq_l}
-use types.Kit.{learn, rewrite, assume, await, updating, group, show, now as at_once, done}
+use base.Logic.{mono_l, upd_frame, upd_i, upd_mono, upd_trans}
+use base.Stored.{Gv, gnum, num}
 use types.Merge.{bor_combine}
-use types.Mut.{open_ref}
-use types.Tokens.{name_new, name_set, name_agree, res_agree, bor_open, obor_alter}
-use types.SemTy.{SemTy, Body}
-use denote.RattleType.{RattleType}
-use denote.RawPtr.{Ptr}
-use denote.Slice.{Room}
-use denote.Shadow.{pure_l, pure_i}
-use denote.Steps.{nothing}
-use Rattle.nd_lent.specs.Cells.{CellsWhere, cells_where, known, holds_cells, are_within, without, chosen_of}
+use types.Tokens.{name_agree, name_new, name_set, res_agree}
+use Rattle.nd_lent.specs.Cells.{CellsWhere, are_within, cells_where, chosen_of, holds_cells, known, without}
 use Rattle.nd_lent.specs.Slot.{side, slot}
-use Rattle.nd_lent.proofs.lending.Where.{where_cut, where_joined, where_counted, within-length, without-length}
+use Rattle.nd_lent.proofs.lending.Where.{where_counted, where_cut, where_joined, within-length, without-length}
+use Rattle.nd_lent.proofs.lending.Steps
+use Steps.{Bool, Borrowed as Body, Fml, GName, Lft, List, Logic, Ptr, RattleType, Room, SProp, SemTy, Share, T, Ura, ap, arith, assume}
+use Steps.{at_once, await, bor_open, by, coded_list, done, drop, emp, ent, ex, false, fauth, fbor, fdead, feq, feq_i, feq_l, fex, fjoin}
+use Steps.{flft, fobs, fpack, fpick, fres, fsep, fseps, fsplit, fsplit3, ftrue, fupd, fwand, given, group, id⊢, join, keep, later, learn}
+use Steps.{length, move, nothing, obor_alter, open_ref, pure_i, pure_l, qed, raw, refl, rewrite, sem, sep, show, split, split3, subst, suc}
+use Steps.{sym, true, upd, updating, use0, use1, use2, use3, via, zero, !, [], ‵, ◌$◌, ◌∙◌, ◌∵◌, ◌∷◌, ◌≡◌, ◌⊛◌}
 
 chosen_self : {A : Type 0} (chosen : List Bool) (z : List A) → length z ≡ length chosen → z ≡ chosen_of chosen z z
 chosen_self [] [] e = refl

@@ -1,21 +1,8 @@
 -- One of some elements of a slice is taken out, and another item is put back. Assumes `Logic`.
-use mathlib.Core.Path.{◌≡◌}
-use Prim.Native.Nat.{ℕ, zero, suc, ◌+◌}
-use native.Mathlib.Omega.{arith}
-use mathlib.Core.Bool.{Bool, true, false}
-use mathlib.Core.List.{List, [], ◌∷◌}
-use lib.Dec.{T}
-use lib.ListN.{length, get_or, set}
-use seplogic.Ra.Ura.{Ura}
-use base.Logic.{ent, sep, never_e}
-use base.Fml.{Fml, ftrue, fsep}
-use types.Logic.{Logic, sem}
-use types.Kit.{‵, ◌⊛◌, ◌$◌, ◌∵◌, !, qed, move, use1, use2, split, fsplit, fjoin, done}
-use denote.Index.{place as nth}
-use denote.Memory.{mem}
-use denote.RattleType.{RattleType}
-use denote.RawPtr.{block_ptr}
 use Rattle.nd_lent.specs.Cells.{cell_if, cells_where}
+use Rattle.nd_lent.proofs.lending.Steps
+use Steps.{Bool, Fml, List, Logic, RattleType, T, Ura, arith, block_ptr, done, ent, false, fjoin, fsep, fsplit, ftrue, get_or, length, mem}
+use Steps.{move, never_e, nth, qed, sem, sep, set, split, suc, true, use1, use2, zero, !, [], ‵, ℕ, ◌$◌, ◌+◌, ◌∵◌, ◌∷◌, ◌≡◌, ◌⊛◌}
 
 -- what is left without the element at a place
 abbrev pub others : (V : RattleType) → ℕ → ℕ → ℕ → List Bool → List V.Denot → Fml

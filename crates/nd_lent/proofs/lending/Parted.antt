@@ -1,25 +1,11 @@
 -- The right to some elements is cut in two: those that are chosen, and the others. Assumes `Logic`.
-use mathlib.Core.Path.{sym, ◌∙◌}
-use mathlib.Core.Bool.{Bool}
-use mathlib.Core.List.{List, [], ◌∷◌}
-use lib.Dec.{T}
-use seplogic.Ra.Ura.{Ura}
-use base.Logic.{SProp, ent, sep, emp, ex}
-use base.Fml.{Lft, GName, Share, flft, fobs, fbor}
-use types.Logic.{Logic, sem}
-use types.Kit.{‵, raw, ◌⊛◌, some, later, ◌$◌, ◌∵◌, !, qed, by, move, keep, use1, split, split3, pick, fsplit3, fjoin, await, group}
-use types.Kit.{updating, show, now as at_once, done}
-use types.Mut.{open_ref}
-use types.SemTy.{SemTy, Body as Borrowed}
 use types.Follow.{takes_two}
-use denote.Array.{Array}
-use denote.Follow.{both_by, follows_both}
-use denote.RattleType.{RattleType}
-use denote.RawPtr.{Ptr}
-use denote.Shadow.{pure_l, pure_i}
-use denote.Steps.{nothing}
-use Rattle.nd_lent.specs.Cells.{CellsWhere, known, holds_cells, are_within, without, chosen_of}
+use Rattle.nd_lent.specs.Cells.{CellsWhere, are_within, chosen_of, holds_cells, known, without}
 use Rattle.nd_lent.proofs.lending.Where.{where_cut, where_joined, within-length, without-length}
+use Rattle.nd_lent.proofs.lending.Steps
+use Steps.{Array, Bool, Borrowed, GName, Lft, List, Logic, Ptr, RattleType, SProp, SemTy, Share, T, Ura, at_once, await, both_by, by, done}
+use Steps.{emp, ent, ex, fbor, fjoin, flft, fobs, follows_both, fsplit3, group, keep, later, move, nothing, open_ref, pick, pure_i, pure_l}
+use Steps.{qed, raw, sem, sep, show, some, split, split3, sym, updating, use1, !, [], ‵, ◌$◌, ◌∙◌, ◌∵◌, ◌∷◌, ◌⊛◌}
 
 module _ {M : Type 1} {𝓤 : Ura M} (𝓛 : Logic 𝓤) (V : RattleType) (κ : Lft) (q : Share) (p : Ptr) (γ : GName) (chosen marks : List Bool)
     (items : List V.Denot)

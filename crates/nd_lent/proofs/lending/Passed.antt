@@ -1,11 +1,6 @@
 -- A value that is passed on: its one machine value has the type of its parameter. Assumes nothing.
-use mathlib.Core.Path.{◌≡◌, refl}
-use mathlib.Core.Bool.{Bool, true, false, ◌&&◌}
-use mathlib.Core.List.{List, [], ◌∷◌}
-use lib.Dec.{T}
-use mir.Val.{Val}
-use denote.Steps.{only}
 use denote.Struct.Members.{Lone}
+use Rattle.nd_lent.proofs.lending.Steps.{Bool, List, T, Val, false, only, refl, true, [], ◌&&◌, ◌∷◌, ◌≡◌}
 
 pub both_hold : (x y : Bool) → T x → T y → T (x && y)
 both_hold true y p q = q

@@ -3,29 +3,17 @@
 --     Lends-held      a borrow of what can be copied gives it for its own time
 --     all_lent        what a `&` to a slice holds is a `&` to all of them
 --     row_lent        of a stretch that is marked it is what a `&` to a slice holds
-use mathlib.Core.Path.{◌≡◌}
-use Prim.Native.Nat.{ℕ, zero, suc, ◌+◌, ◌≤◌}
-use native.Mathlib.Omega.{arith}
-use mathlib.Core.Bool.{Bool, true, false}
-use mathlib.Core.List.{List, [], ◌∷◌}
-use lib.Dec.{T}
-use lib.ListN.{length, replicate, take, drop as drop_l}
-use seplogic.Ra.Ura.{Ura}
-use base.Logic.{ent, emp, sep, wand, id⊢, apply∗}
-use base.Fml.{Lft, Fml, ftrue, fbor}
-use types.Logic.{Logic, sem, lfts}
-use types.Kit.{‵, ◌⊛◌, raw, later, await, ◌$◌, ◌∵◌, !, qed, by, move, use0, use1, use2, drop, split, fsplit, fjoin, updating, now, done}
-use denote.Index.{place as nth}
-use denote.Memory.{mem, shared_of}
-use denote.RattleType.{RattleType, RowLaws}
-use denote.RawPtr.{Ptr, block_ptr}
-use denote.Sharing.{ShrLaws, said, held}
-use denote.SharingLaws.{beside_shr_laws, said_shr_laws, contraction}
+use base.Logic.{apply∗, wand}
+use denote.SharingLaws.{beside_shr_laws, contraction, said_shr_laws}
 use denote.Slice.{elements_shared}
 use denote.Struct.Lending.{Lends}
-use Rattle.nd_lent.specs.Cells.{are_within, span_of, known, lent_where}
+use Rattle.nd_lent.specs.Cells.{are_within, known, lent_where, span_of}
 use Rattle.nd_lent.specs.Reader.{reads_cells}
 use Rattle.nd_lent.proofs.lending.Shared.{lent_where_laws}
+use Rattle.nd_lent.proofs.lending.Steps
+use Steps.{Bool, Fml, Lft, List, Logic, Ptr, RattleType, RowLaws, ShrLaws, T, Ura, arith, at_once, await, block_ptr, by, done, drop, drop_l}
+use Steps.{emp, ent, false, fbor, fjoin, fsplit, ftrue, held, id⊢, later, length, lfts, mem, move, nth, qed, raw, replicate, said, sem, sep}
+use Steps.{shared_of, split, suc, take, true, updating, use0, use1, use2, zero, !, [], ‵, ℕ, ◌$◌, ◌+◌, ◌∵◌, ◌∷◌, ◌≡◌, ◌≤◌, ◌⊛◌}
 
 pub reads_laws : (V : RattleType) → RowLaws V → (p : Ptr) (marks : List Bool) (items : List V.Denot)
     → ShrLaws (reads_cells V p marks items)
@@ -42,7 +30,7 @@ module _ {M : Type 1} {𝓤 : Ura M} (𝓛 : Logic 𝓤) where
       updating ! $ use2 𝓛 (later (‵ (t κ') ⊛ raw (wand 𝓤 (sem 𝓛 (t κ')) Back))) (𝓛.more.bor_acc_by κ ts (t κ') sp) $ await ! tt $ split ! $
       use1 𝓛 (‵ (t κ') ⊛ ‵ (t κ')) (contraction 𝓛 t laws κ') $ split ! $ move ! (0 ∷ 2 ∷ []) $
       use2 𝓛 (later (‵ (fbor κ (t κ')) ⊛ raw (lfts 𝓛 ts))) (apply∗ 𝓤 (sem 𝓛 (t κ')) Back) $ await ! tt $ split ! $ drop ! $
-      move ! (1 ∷ 0 ∷ []) $ now ! $ done !)
+      move ! (1 ∷ 0 ∷ []) $ at_once ! $ done !)
 
 module _ {M : Type 1} {𝓤 : Ura M} (𝓛 : Logic 𝓤) (V : RattleType) (b : ℕ) (κ : Lft) where
   pub all_lent : (xs : List V.Denot) (o : ℕ)

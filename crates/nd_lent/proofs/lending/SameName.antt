@@ -1,25 +1,14 @@
 -- What a borrow holds is replaced by what holds as much, under the same name. Assumes `Logic`.
-use mathlib.Core.Path.{◌≡◌, refl}
-use Prim.Native.Nat.{ℕ}
-use mathlib.Core.Bool.{true}
-use mathlib.Core.List.{List, [], ◌∷◌}
-use lib.ListN.{length}
-use seplogic.Ra.Ura.{Ura}
-use base.Logic.{ent, sep, emp, id⊢, upd_i}
+use base.Logic.{upd_i}
 use base.Stored.{Coded}
-use base.Fml.{Lft, GName, Share, Fml, ftrue, fsep, fex, fwand, fupd, fdead, flft, fauth, fbor, fseps}
-use types.Logic.{Logic, sem}
-use types.Kit.{‵, raw, ◌⊛◌, given, ◌$◌, ◌∵◌, !, qed, by, move, keep, use0, use1, split, fsplit, fsplit3, fjoin, fpick, fpack, feq_i, feq_l}
-use types.Kit.{learn, rewrite, assume, suffices, updating, now as at_once, done}
-use types.Tokens.{bor_open, obor_alter}
-use types.SemTy.{SemTy, Arr, cells, Body}
-use denote.Memory.{mem}
-use denote.RattleType.{RattleType}
-use denote.RawPtr.{block_ptr}
-use denote.Steps.{nothing}
 use Rattle.std.specs.Prelude.{replicate}
 use Rattle.nd_lent.specs.Cells.{CellsWhere, cells_where}
-use Rattle.nd_lent.proofs.lending.Where.{where_of_all, all_of_where}
+use Rattle.nd_lent.proofs.lending.Where.{all_of_where, where_of_all}
+use Rattle.nd_lent.proofs.lending.Steps
+use Steps.{Arr, Borrowed as Body, Fml, GName, Lft, List, Logic, RattleType, SemTy, Share, Ura, assume, at_once, block_ptr, bor_open, by}
+use Steps.{cells, done, emp, ent, fauth, fbor, fdead, feq_i, feq_l, fex, fjoin, flft, fpack, fpick, fsep, fseps, fsplit, fsplit3, ftrue}
+use Steps.{fupd, fwand, given, id⊢, keep, learn, length, mem, move, nothing, obor_alter, qed, raw, refl, rewrite, sem, sep, split, suffices}
+use Steps.{true, updating, use0, use1, !, [], ‵, ℕ, ◌$◌, ◌∵◌, ◌∷◌, ◌≡◌, ◌⊛◌}
 
 module _ {M : Type 1} {𝓤 : Ura M} (𝓛 : Logic 𝓤) (D : Type 0) (c : Coded D) (γ : GName) where
   open 𝓛 use {H, A}

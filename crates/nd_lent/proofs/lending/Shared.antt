@@ -1,31 +1,16 @@
 -- Some elements of a slice, seen through a `&`. Assumes `Logic`.
 --     lent_where_laws      what such a `&` holds can be copied, and used for a shorter time
 --     cells_lent           a borrow of the right to them becomes what a `&` to it holds
-use mathlib.Core.Path.{◌≡◌}
-use Prim.Native.Nat.{ℕ, zero, suc, ◌+◌}
-use native.Mathlib.Omega.{arith}
-use lib.Dec.{T}
-use lib.ListN.{length, get_or}
-use denote.Index.{place as nth}
-use mathlib.Core.Bool.{Bool, true, false}
-use mathlib.Core.List.{List, [], ◌∷◌, ◌++◌}
-use seplogic.Ra.Ura.{Ura}
-use base.Logic.{ent, sep}
-use base.Fml.{Lft, GName, Fml, Incl, Incl-trans, ftrue, fsep, fobs, fbor}
-use contract.BorrowLft.{meet_⊑_left, meet_⊑_right, ⊑_meet}
-use ghost.Rules.{span}
-use types.Logic.{Logic, sem, lfts}
-use types.Kit.{‵, ◌⊛◌, raw, later, await, ◌$◌, ◌∵◌, !, qed, by, keep, use1, use2, drop, fsplit, updating, now, done}
-use types.SemTy.{Body}
-use denote.Memory.{mem, shared_of}
-use denote.RattleType.{RattleType, RowLaws}
-use denote.RawPtr.{Ptr, block_ptr, ◌+ₚ◌}
 use denote.Shares.{Shares, peels}
-use base.Stored.{coded_list}
-use denote.Sharing.{ShrLaws, said, beside, within}
-use denote.SharingLaws.{nothing_shr_laws, beside_shr_laws}
-use denote.Struct.Lending.{lent_at_shr_laws, Lends, Lends-lies, Lends-nothing, Lends-said, Lends-both}
-use Rattle.nd_lent.specs.Cells.{cell_if, cells_where, CellsWhere, known, holds_cells, lent_if, lent_where}
+use denote.SharingLaws.{beside_shr_laws, nothing_shr_laws}
+use denote.Struct.Lending.{Lends, Lends-both, Lends-lies, Lends-nothing, Lends-said, lent_at_shr_laws}
+use ghost.Rules.{span}
+use Rattle.nd_lent.specs.Cells.{CellsWhere, cell_if, cells_where, holds_cells, known, lent_if, lent_where}
+use Rattle.nd_lent.proofs.lending.Steps
+use Steps.{Bool, Borrowed as Body, Fml, GName, Incl, Incl-trans, Lft, List, Logic, Ptr, RattleType, RowLaws, ShrLaws, T, Ura, arith}
+use Steps.{at_once, await, beside, block_ptr, by, coded_list, done, drop, ent, false, fbor, fobs, fsep, fsplit, ftrue, get_or, keep, later}
+use Steps.{length, lfts, meet_⊑_left, meet_⊑_right, mem, nth, qed, raw, said, sem, sep, shared_of, suc, true, updating, use1, use2, within}
+use Steps.{zero, !, [], ‵, ℕ, ⊑_meet, ◌$◌, ◌++◌, ◌+ₚ◌, ◌+◌, ◌∵◌, ◌∷◌, ◌≡◌, ◌⊛◌}
 
 module _ (V : RattleType) (L : RowLaws V) where
   lent_if_laws : (p : Ptr) (mine : Bool) (x : V.Denot) → ShrLaws (lent_if V p mine x)
@@ -70,7 +55,7 @@ module _ {M : Type 1} {𝓤 : Ura M} (𝓛 : Logic 𝓤) (V : RattleType) (l : L
       use2 𝓛 (later (‵ (fbor (κ ++ κ') (cells_where V p marks items)) ⊛ raw (lfts 𝓛 ts)))
       (peels 𝓛 (CellsWhere V p marks) (κ ++ κ') κ' ts sm name items 0 0 (meet_⊑_right κ κ')) $ await ! tt $
       use1 𝓛 (later (‵ (lent_where V p marks items (κ ++ κ')) ⊛ raw (lfts 𝓛 ts)))
-      (where_lent 𝓛 V l s p marks items (κ ++ κ') ts (Incl-trans inc (meet_⊑_right κ' l)) sm) $ await ! tt $ now ! $ done !)
+      (where_lent 𝓛 V l s p marks items (κ ++ κ') ts (Incl-trans inc (meet_⊑_right κ' l)) sm) $ await ! tt $ at_once ! $ done !)
 
   pub cells_lent : Lends 𝓛 (holds_cells κ' V name p marks items)
       (beside (said (known V p marks items)) (within κ' (lent_where V p marks items))) (κ' ++ l)

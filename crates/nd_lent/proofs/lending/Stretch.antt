@@ -1,23 +1,10 @@
 -- A stretch of the elements that have a mark is taken out, and put back with other items. Assumes `Logic`.
-use mathlib.Core.Path.{◌≡◌}
-use Prim.Native.Nat.{ℕ, zero, suc, ◌+◌, ◌≤◌}
-use native.Mathlib.Omega.{arith}
-use mathlib.Core.Bool.{Bool, true, false}
-use mathlib.Core.List.{List, [], ◌∷◌}
-use lib.Dec.{T}
-use lib.ListN.{length, take, drop as drop_l}
-use seplogic.Ra.Ura.{Ura}
-use base.Logic.{ent, sep, id⊢, never_e, via, snd∗}
-use base.Fml.{Fml, ftrue, ffalse, fsep}
-use types.Logic.{Logic, sem}
-use types.Kit.{‵, ◌⊛◌, ◌$◌, ◌∵◌, !, qed, by, move, drop, use1, use2, split, fsplit, fjoin, done}
-use types.SemTy.{cells}
-use denote.Index.{place as nth}
-use denote.Memory.{mem}
-use denote.RattleType.{RattleType}
-use denote.RawPtr.{block_ptr}
-use denote.Steps.{nothing}
-use Rattle.nd_lent.specs.Cells.{cell_if, cells_where, are_within, without, span_of, written_at}
+use Rattle.nd_lent.specs.Cells.{are_within, cell_if, cells_where, span_of, without, written_at}
+use Rattle.nd_lent.proofs.lending.Where.{cut_here, join_here, never_right}
+use Rattle.nd_lent.proofs.lending.Steps
+use Steps.{Bool, Fml, List, Logic, RattleType, T, Ura, arith, block_ptr, by, cells, done, drop, drop_l, ent, false, ffalse, fjoin, fsep}
+use Steps.{fsplit, ftrue, id⊢, length, mem, move, never_e, nothing, nth, qed, sem, sep, split, suc, take, true, use1, use2, zero, !, [], ‵}
+use Steps.{ℕ, ◌$◌, ◌+◌, ◌∵◌, ◌∷◌, ◌≡◌, ◌≤◌, ◌⊛◌}
 
 module _ {M : Type 1} {𝓤 : Ura M} (𝓛 : Logic 𝓤) (V : RattleType) (b : ℕ) where
   abbrev s : ℕ
@@ -29,16 +16,11 @@ module _ {M : Type 1} {𝓤 : Ura M} (𝓛 : Logic 𝓤) (V : RattleType) (b : �
   abbrev row_at : List V.Denot → ℕ → Fml
   row_at xs o = cells (mem V) xs b o
 
-  -- the head stays where it is, or goes into the row
+  -- the head stays where it is
   module _ (F P Q R : Fml) (rest : ent 𝓤 (sem 𝓛 P) (sep 𝓤 (sem 𝓛 Q) (sem 𝓛 R))) where
     head_stays : ent 𝓤 (sem 𝓛 (fsep F P)) (sep 𝓤 (sem 𝓛 Q) (sem 𝓛 (fsep F R)))
     head_stays = qed 𝓛 (‵ (fsep F P) ∷ []) ∵ fsplit ! $ move ! (1 ∷ []) $ use1 𝓛 (‵ Q ⊛ ‵ R) rest $ split ! $ move ! (2 ∷ 1 ∷ []) $
-        fjoin ! $
-        move ! (1 ∷ []) $ done !
-
-    head_goes : ent 𝓤 (sem 𝓛 (fsep F P)) (sep 𝓤 (sem 𝓛 (fsep F Q)) (sem 𝓛 (fsep ftrue R)))
-    head_goes = qed 𝓛 (‵ (fsep F P) ∷ []) ∵ fsplit ! $ move ! (1 ∷ []) $ use1 𝓛 (‵ Q ⊛ ‵ R) rest $ split ! $ move ! (2 ∷ 0 ∷ []) $ fjoin ! $
-        move ! (1 ∷ []) $ nothing ! $ fjoin ! $ move ! (1 ∷ []) $ done !
+        fjoin ! $ move ! (1 ∷ []) $ done !
 
   head_kept : (F P Q : Fml) → ent 𝓤 (sem 𝓛 P) (sem 𝓛 Q) → ent 𝓤 (sem 𝓛 (fsep F P)) (sem 𝓛 (fsep F Q))
   head_kept F P Q rest = qed 𝓛 (‵ (fsep F P) ∷ []) ∵ fsplit ! $ move ! (1 ∷ []) $ use1 𝓛 (‵ Q) rest $ move ! (1 ∷ 0 ∷ []) $ fjoin ! $ done !
@@ -63,12 +45,11 @@ module _ {M : Type 1} {𝓤 : Ura M} (𝓛 : Logic 𝓤) (V : RattleType) (b : �
       (where_at (without (span_of start len marks) marks) xs (o + s)) (stretch_out start len marks xs (o + s) h)
   stretch_out zero (suc len) (false ∷ marks) (x ∷ xs) o h = absurd h
   stretch_out zero (suc len) (true ∷ marks) (x ∷ xs) o h =
-      head_goes (cell_if V (block_ptr b o) true x) (where_at marks xs (o + s)) (row_at (take len xs) (o + s))
+      cut_here 𝓛 V (cell_if V (block_ptr b o) true x) (where_at marks xs (o + s)) (row_at (take len xs) (o + s))
       (where_at (without (span_of zero len marks) marks) xs (o + s)) (stretch_out zero len marks xs (o + s) h)
   stretch_out zero zero (true ∷ marks) (x ∷ xs) o h =
       head_stays (cell_if V (block_ptr b o) true x) (where_at marks xs (o + s)) ftrue
-      (where_at (without (span_of zero zero marks) marks) xs (o + s))
-      (stretch_out zero zero marks xs (o + s) h)
+      (where_at (without (span_of zero zero marks) marks) xs (o + s)) (stretch_out zero zero marks xs (o + s) h)
   stretch_out zero zero (false ∷ marks) (x ∷ xs) o h =
       head_stays ftrue (where_at marks xs (o + s)) ftrue (where_at (without (span_of zero zero marks) marks) xs (o + s))
       (stretch_out zero zero marks xs (o + s) h)
@@ -85,18 +66,11 @@ module _ {M : Type 1} {𝓤 : Ura M} (𝓛 : Logic 𝓤) (V : RattleType) (b : �
   none_out (false ∷ marks) (x ∷ xs) o =
       head_kept ftrue (where_at (without (span_of 0 0 marks) marks) xs (o + s)) (where_at marks xs (o + s)) (none_out marks xs (o + s))
 
-  -- the head comes from where it stayed, or out of the row
+  -- the head comes from where it stayed
   module _ (F P Q R : Fml) (rest : ent 𝓤 (sep 𝓤 (sem 𝓛 Q) (sem 𝓛 R)) (sem 𝓛 P)) where
     from_stay : ent 𝓤 (sep 𝓤 (sem 𝓛 Q) (sem 𝓛 (fsep F R))) (sem 𝓛 (fsep F P))
     from_stay = qed 𝓛 (‵ Q ∷ ‵ (fsep F R) ∷ []) ∵ move ! (1 ∷ []) $ fsplit ! $ move ! (2 ∷ 1 ∷ []) $ use2 𝓛 (‵ P) rest $
         move ! (1 ∷ 0 ∷ []) $ fjoin ! $ done !
-
-    from_row : ent 𝓤 (sep 𝓤 (sem 𝓛 (fsep F Q)) (sem 𝓛 (fsep ftrue R))) (sem 𝓛 (fsep F P))
-    from_row = qed 𝓛 (‵ (fsep F Q) ∷ ‵ (fsep ftrue R) ∷ []) ∵ fsplit ! $ move ! (2 ∷ []) $ fsplit ! $ drop ! $ move ! (2 ∷ 0 ∷ []) $
-        use2 𝓛 (‵ P) rest $ move ! (1 ∷ 0 ∷ []) $ fjoin ! $ done !
-
-  right_never : (P Q : Fml) → ent 𝓤 (sep 𝓤 (sem 𝓛 P) (sem 𝓛 ffalse)) (sem 𝓛 Q)
-  right_never P Q = via 𝓤 _ (snd∗ 𝓤 (sem 𝓛 P) (sem 𝓛 ffalse)) (never_e 𝓤 (sem 𝓛 Q))
 
   pub stretch_in : (start len : ℕ) (marks : List Bool) (ws xs : List V.Denot) (o : ℕ) → T (are_within (span_of start len marks) marks)
       → length ws ≡ len → start + len ≤ length marks
@@ -105,10 +79,10 @@ module _ {M : Type 1} {𝓤 : Ura M} (𝓛 : Logic 𝓤) (V : RattleType) (b : �
   stretch_in (suc start) len [] ws xs o h e l = absurd (let no : ⊥ = omega arith in no)
   stretch_in zero (suc len) [] ws xs o h e l = absurd (let no : ⊥ = omega arith in no)
   stretch_in zero zero [] ws [] o h e l = qed 𝓛 (‵ (row_at ws o) ∷ ‵ ftrue ∷ []) ∵ drop ! $ done !
-  stretch_in zero zero [] ws (x ∷ xs) o h e l = right_never (row_at ws o) (where_at [] (written_at 0 ws (x ∷ xs)) o)
-  stretch_in (suc start) len (m ∷ marks) ws [] o h e l = right_never (row_at ws (nth s (o + s) start)) ffalse
-  stretch_in zero (suc len) (m ∷ marks) ws [] o h e l = right_never (row_at ws o) ffalse
-  stretch_in zero zero (m ∷ marks) ws [] o h e l = right_never (row_at ws o) ffalse
+  stretch_in zero zero [] ws (x ∷ xs) o h e l = never_right 𝓛 V (row_at ws o) (where_at [] (written_at 0 ws (x ∷ xs)) o)
+  stretch_in (suc start) len (m ∷ marks) ws [] o h e l = never_right 𝓛 V (row_at ws (nth s (o + s) start)) ffalse
+  stretch_in zero (suc len) (m ∷ marks) ws [] o h e l = never_right 𝓛 V (row_at ws o) ffalse
+  stretch_in zero zero (m ∷ marks) ws [] o h e l = never_right 𝓛 V (row_at ws o) ffalse
   stretch_in (suc start) len (true ∷ marks) ws (x ∷ xs) o h e l =
       from_stay (cell_if V (block_ptr b o) true x) (where_at marks (written_at start ws xs) (o + s)) (row_at ws (nth s (o + s) start))
       (where_at (without (span_of start len marks) marks) xs (o + s)) (stretch_in start len marks ws xs (o + s) h e (omega arith))
@@ -118,8 +92,9 @@ module _ {M : Type 1} {𝓤 : Ura M} (𝓛 : Logic 𝓤) (V : RattleType) (b : �
   stretch_in zero (suc len) (false ∷ marks) ws (x ∷ xs) o h e l = absurd h
   stretch_in zero (suc len) (true ∷ marks) [] (x ∷ xs) o h e l = absurd (let never : zero ≡ suc len = e in let no : ⊥ = omega arith in no)
   stretch_in zero (suc len) (true ∷ marks) (w ∷ ws) (x ∷ xs) o h e l =
-      from_row (cell_if V (block_ptr b o) true w) (where_at marks (written_at zero ws xs) (o + s)) (row_at ws (o + s))
-      (where_at (without (span_of zero len marks) marks) xs (o + s)) (stretch_in zero len marks ws xs (o + s) h (omega arith) (omega arith))
+      join_here 𝓛 V (cell_if V (block_ptr b o) true w) (where_at marks (written_at zero ws xs) (o + s)) (row_at ws (o + s))
+      (where_at (without (span_of zero len marks) marks) xs (o + s))
+      (stretch_in zero len marks ws xs (o + s) h (omega arith) (omega arith)) ftrue
   stretch_in zero zero (m ∷ marks) [] (x ∷ xs) o h e l =
       qed 𝓛 (‵ ftrue ∷ ‵ (where_at (without (span_of zero zero (m ∷ marks)) (m ∷ marks)) (x ∷ xs) o) ∷ []) ∵ drop ! $
       by ! (none_out (m ∷ marks) (x ∷ xs) o)

@@ -1,37 +1,17 @@
 -- A stretch of elements is lent as a slice for as long as the whole, and the right to the others stays. Assumes `Logic`.
-use mathlib.Core.Path.{◌≡◌, refl, sym, ◌∙◌}
-use Prim.Native.Nat.{ℕ, ◌+◌, ◌*◌, ◌≤◌, ◌<◌, ◌^◌}
-use native.Mathlib.Omega.{arith}
-use native.Mathlib.Nat.{mul-le-mul_right}
-use mathlib.Core.Bool.{Bool}
-use mathlib.Core.List.{List, [], ◌∷◌}
-use lib.Dec.{T}
-use lib.ListN.{length, length-drop, take, drop as drop_l}
-use seplogic.Ra.Ura.{Ura}
-use mir.Syntax.{Lifetime}
-use base.Logic.{SProp, ent, sep, emp, ex}
-use base.Fml.{Lft, GName, Share, flft, fobs, fbor}
-use types.Logic.{Logic, sem}
-use types.Kit.{‵, raw, ◌⊛◌, some, later, ◌$◌, ◌∵◌, !, qed, move, keep, use1, use2, split, split3, pick, rewrite, fsplit, fsplit3, fjoin}
-use types.Kit.{feq_l, feq_i, await}
-use types.Kit.{group, updating, show, now as at_once, done}
-use types.Mut.{open_ref}
-use types.SemTy.{SemTy, Arr, cells, Body as Borrowed}
-use types.Follow.{takes_two}
 use borrow.Table.Elements.{length-take-le}
-use denote.Array.{Array}
-use denote.Follow.{both_by, follows_both}
 use denote.FollowSlice.{slice_of}
-use denote.Index.{place as nth}
-use denote.Memory.{mem}
-use denote.RattleType.{RattleType}
-use denote.RawPtr.{Ptr, block_ptr}
-use denote.Shadow.{shadow, pure_l, pure_i}
-use denote.Slice.{MutSlice, Room, slice_val}
-use denote.Steps.{nothing}
-use Rattle.nd_lent.specs.Cells.{CellsWhere, cells_where, known, holds_cells, are_within, without, span_of, written_at}
-use Rattle.nd_lent.proofs.lending.Stretch.{stretch_out, stretch_in}
+use lib.ListN.{length-drop}
+use types.Follow.{takes_two}
+use Rattle.nd_lent.specs.Cells.{CellsWhere, are_within, cells_where, holds_cells, known, span_of, without, written_at}
+use Rattle.nd_lent.proofs.lending.Stretch.{stretch_in, stretch_out}
 use Rattle.nd_lent.proofs.lending.Where.{without-length}
+use Rattle.nd_lent.proofs.lending.Steps
+use Steps.{Arr, Array, Bool, Borrowed, GName, Lft, Lifetime, List, Logic, MutSlice, Ptr, RattleType, Room, SProp, SemTy, Share, T, Ura}
+use Steps.{arith, at_once, await, block_ptr, both_by, cells, done, drop_l, emp, ent, ex, fbor, feq_i, feq_l, fjoin, flft, fobs}
+use Steps.{follows_both, fsplit, fsplit3, group, keep, later, length, mem, move, mul-le-mul_right, nothing, nth, open_ref, pick, pure_i}
+use Steps.{pure_l, qed, raw, refl, rewrite, sem, sep, shadow, show, slice_val, some, split, split3, sym, take, updating, use1, use2, !, []}
+use Steps.{‵, ℕ, ◌$◌, ◌*◌, ◌+◌, ◌<◌, ◌^◌, ◌∙◌, ◌∵◌, ◌∷◌, ◌≡◌, ◌≤◌, ◌⊛◌}
 
 module _ {M : Type 1} {𝓤 : Ura M} (𝓛 : Logic 𝓤) (V : RattleType) (ℓ : Lifetime) (κ : Lft) (q : Share) (p : Ptr) (γ : GName)
     (marks : List Bool) (items : List V.Denot)

@@ -1,25 +1,12 @@
 -- Some elements of a slice. Assumes `Logic`.
 --     where_of_all, all_of_where      all elements of a slice are the cells where each has a mark, and the other way
 --     where_cut, where_joined         cells are those at some of the marks and those at the others, and the other way with items of both
-use mathlib.Core.Path.{◌≡◌, refl, ap}
-use Prim.Native.Nat.{ℕ, zero, suc, ◌+◌}
-use mathlib.Core.Bool.{Bool, true, false}
-use mathlib.Core.List.{List, [], ◌∷◌}
-use lib.ListN.{length}
-use seplogic.Ra.Ura.{Ura}
-use base.Logic.{ent, sep, emp, id⊢, guard, guard_i, never_e, via, fst∗, snd∗}
-use base.Fml.{Fml, ftrue, ffalse, fsep}
-use base.Fraction.{full_share}
-use types.Logic.{Logic, sem}
-use types.Kit.{‵, ◌⊛◌, given, ◌$◌, ◌∵◌, !, qed, move, keep, drop, use1, use2, split, fsplit, fjoin, learn, check, done}
-use types.SemTy.{cells}
-use denote.Memory.{mem}
-use denote.RattleType.{RattleType}
-use denote.RawPtr.{Ptr, block_ptr, lies_at, ◌+ₚ◌}
-use denote.Steps.{nothing}
 use Rattle.std.specs.Prelude.{replicate}
-use lib.Dec.{T}
-use Rattle.nd_lent.specs.Cells.{cell_if, cells_where, are_within, without, chosen_of}
+use Rattle.nd_lent.specs.Cells.{are_within, cell_if, cells_where, chosen_of, without}
+use Rattle.nd_lent.proofs.lending.Steps
+use Steps.{Bool, Fml, List, Logic, Ptr, RattleType, T, Ura, ap, block_ptr, cells, check, done, drop, emp, ent, false, ffalse, fjoin, fsep}
+use Steps.{fsplit, fst∗, ftrue, full_share, given, guard, guard_i, id⊢, keep, learn, length, lies_at, mem, move, never_e, nothing, qed}
+use Steps.{refl, sem, sep, snd∗, split, suc, true, use1, use2, via, zero, !, [], ‵, ℕ, ◌$◌, ◌+ₚ◌, ◌+◌, ◌∵◌, ◌∷◌, ◌≡◌, ◌⊛◌}
 
 module _ {M : Type 1} {𝓤 : Ura M} (𝓛 : Logic 𝓤) (V : RattleType) where
   pub where_of_all : (xs : List V.Denot) (b o : ℕ)
@@ -42,7 +29,7 @@ module _ {M : Type 1} {𝓤 : Ura M} (𝓛 : Logic 𝓤) (V : RattleType) where
 
   -- one cell beside a row that is cut: it goes with the first part or with the second
   module _ (F P Q R : Fml) (rest : ent 𝓤 (sem 𝓛 P) (sep 𝓤 (sem 𝓛 Q) (sem 𝓛 R))) where
-    cut_here : ent 𝓤 (sem 𝓛 (fsep F P)) (sep 𝓤 (sem 𝓛 (fsep F Q)) (sem 𝓛 (fsep ftrue R)))
+    pub cut_here : ent 𝓤 (sem 𝓛 (fsep F P)) (sep 𝓤 (sem 𝓛 (fsep F Q)) (sem 𝓛 (fsep ftrue R)))
     cut_here = qed 𝓛 (‵ (fsep F P) ∷ []) ∵ fsplit ! $ move ! (1 ∷ []) $ use1 𝓛 (‵ Q ⊛ ‵ R) rest $ split ! $ move ! (2 ∷ 0 ∷ []) $ fjoin ! $
         move ! (1 ∷ []) $ nothing ! $ fjoin ! $ move ! (1 ∷ []) $ done !
 
@@ -51,7 +38,7 @@ module _ {M : Type 1} {𝓤 : Ura M} (𝓛 : Logic 𝓤) (V : RattleType) where
         move ! (2 ∷ 1 ∷ []) $ fjoin ! $ move ! (1 ∷ []) $ done !
 
   module _ (F P Q R : Fml) (rest : ent 𝓤 (sep 𝓤 (sem 𝓛 Q) (sem 𝓛 R)) (sem 𝓛 P)) where
-    join_here : (G : Fml) → ent 𝓤 (sep 𝓤 (sem 𝓛 (fsep F Q)) (sem 𝓛 (fsep G R))) (sem 𝓛 (fsep F P))
+    pub join_here : (G : Fml) → ent 𝓤 (sep 𝓤 (sem 𝓛 (fsep F Q)) (sem 𝓛 (fsep G R))) (sem 𝓛 (fsep F P))
     join_here G = qed 𝓛 (‵ (fsep F Q) ∷ ‵ (fsep G R) ∷ []) ∵ fsplit ! $ move ! (2 ∷ []) $ fsplit ! $ move ! (3 ∷ 1 ∷ []) $
         use2 𝓛 (‵ P) rest $ move ! (2 ∷ 0 ∷ []) $ fjoin ! $ keep ! (0 ∷ []) $ done !
 
@@ -87,7 +74,7 @@ module _ {M : Type 1} {𝓤 : Ura M} (𝓛 : Logic 𝓤) (V : RattleType) where
   never_left : (P Q : Fml) → ent 𝓤 (sep 𝓤 (sem 𝓛 ffalse) (sem 𝓛 P)) (sem 𝓛 Q)
   never_left P Q = via 𝓤 _ (fst∗ 𝓤 (sem 𝓛 ffalse) (sem 𝓛 P)) (never_e 𝓤 (sem 𝓛 Q))
 
-  never_right : (P Q : Fml) → ent 𝓤 (sep 𝓤 (sem 𝓛 P) (sem 𝓛 ffalse)) (sem 𝓛 Q)
+  pub never_right : (P Q : Fml) → ent 𝓤 (sep 𝓤 (sem 𝓛 P) (sem 𝓛 ffalse)) (sem 𝓛 Q)
   never_right P Q = via 𝓤 _ (snd∗ 𝓤 (sem 𝓛 P) (sem 𝓛 ffalse)) (never_e 𝓤 (sem 𝓛 Q))
 
   abbrev now : List Bool → List V.Denot → Ptr → Fml
