@@ -1,9 +1,12 @@
+pub mod Again
 pub mod CellLends
 pub mod Crosses
 pub mod Held
-pub mod HeldReader
 pub mod HeldSlot
+pub mod Item
+pub mod Lends
 pub mod Lent
+pub mod OfSlice
 pub mod One
 pub mod PartHeld
 pub mod PartLends
@@ -12,8 +15,10 @@ pub mod Passed
 pub mod Places
 pub mod Read
 pub mod SameName
+pub mod Seen
 pub mod Shared
 pub mod Steps
 pub mod Stretch
 pub mod Taken
+pub mod Walk
 pub mod Where

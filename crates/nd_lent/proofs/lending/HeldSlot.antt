@@ -1,31 +1,30 @@
 -- A value of `Taken`: its machine value and what it holds. Assumes `Logic`.
-use mathlib.Core.Path.{◌≡◌, refl, ◌∙◌}
-use mathlib.Core.List.{List, [], ◌∷◌, ◌++◌}
-use seplogic.Ra.Ura.{Ura}
-use mir.Val.{Val, vstruct, vcons, vnil, of_list}
-use base.Logic.{ent, emp}
-use types.Logic.{Logic, sem}
-use types.Kit.{Goal, Seq, Step, step, Item, ‵, ◌$◌, use0, drop, move, fsplit, fjoin, fpick, fpack, feq_l, feq_i}
-use denote.RattleType.{RattleType, Valss}
-use denote.Ref.{NamedLft}
-use denote.Shadow.{makes_shadow}
-use denote.Steps.{nothing}
-use denote.Struct.Struct.{Struct, within}
-use denote.Struct.Tuple.{Tuple, tuple_type}
 use denote.Struct.Declared as Declared
 use denote.Struct.Owning.{shape}
+use denote.Struct.Struct.{Struct, within}
+use denote.Struct.Tuple.{Tuple, tuple_type}
+use mir.Syntax.{tcons, tnil, ty_ptr, ty_struct}
 use Rattle.nd_lent.specs.Slot.{holds_slot}
+use Rattle.nd_lent.specs.contracts.cells.taken.Taken as T-type
 use Rattle.nd_lent.specs.declared.cells.Cells.{Cells}
 use Rattle.nd_lent.specs.declared.cells.taken.Taken.{Taken}
-use Rattle.nd_lent.specs.contracts.cells.taken.Taken as T-type
-use Rattle.nd_lent.proofs.lending.Held.{It, word}
-use denote.RawPtr.{Ptr}
+use Rattle.nd_lent.proofs.lending.Held.{It, word, word_typed}
+use Rattle.nd_lent.proofs.lending.Steps
+use Steps.{Goal, Item, List, Logic, NamedLft, Ptr, RattleType, Seq, Step, T, Ura, Val, Valss, WT, block_ptr, drop, emp, ent, feq_i, feq_l}
+use Steps.{fjoin, fpack, fpick, fsplit, has_ty, makes_shadow, move, nothing, null_ptr, of_list, refl, sem, step, use0, vcons, vnil, vstruct}
+use Steps.{[], ‵, ◌$◌, ◌++◌, ◌∙◌, ◌∷◌, ◌≡◌}
 
 abbrev pub mark_word : Val
 mark_word = vstruct (vcons (vstruct vnil) vnil)
 
 abbrev pub pair_word : Ptr → Val
 pair_word p = vstruct (vcons (word p) (vcons mark_word vnil))
+
+-- (the types' names don't count)
+pub pair_typed : (p : Ptr) → T (has_ty (ty_struct [] (tcons (ty_struct [] (tcons ty_ptr (tcons (ty_struct [] tnil) tnil)))
+    (tcons (ty_struct [] (tcons (ty_struct [] tnil) tnil)) tnil))) (pair_word p)) × WT (pair_word p)
+pair_typed (block_ptr b o) = (tt, ((tt, (tt, tt)), ((tt, tt), tt)))
+pair_typed null_ptr = (tt, ((word_typed null_ptr).1, ((tt, tt), tt)))
 
 module _ (κ : NamedLft) (R : RattleType) where
   abbrev pub Ticket : RattleType

@@ -2,30 +2,25 @@
 --     Bound                what the type of the view's shape brings
 --     part_word p us       the machine value of a part whose first element lies at p, and whose view is us
 --     part_had             a proof's step: of a value to its machine value and to what it holds.        part_made     the other way
-use Prim.Native.Nat.{ℕ}
-use mathlib.Core.Path.{◌≡◌, refl, ◌∙◌}
-use mathlib.Core.List.{List, [], ◌∷◌, ◌++◌}
-use seplogic.Ra.Ura.{Ura}
-use mir.Val.{Val, vstruct, of_list}
-use types.Logic.{Logic}
-use types.Kit.{Goal, Seq, Step, step, Item, ‵, ◌$◌, drop, move, fsplit, fjoin, fpick, fpack, feq_l, feq_i}
-use denote.RattleType.{RattleType, Valss}
-use denote.RawPtr.{Ptr}
-use denote.Ref.{NamedLft}
-use denote.Steps.{nothing}
+--     part_opened          the same through a `&mut`, which is open then
+use base.Fml.{fobor}
 use denote.Struct.Declared.{shape}
 use denote.Struct.Field.{Field}
 use denote.Struct.Struct.{within}
-use Rattle.std.specs.declared.cmp.PartialEq as eq
-use Rattle.std.specs.declared.ops.Index as index
-use Rattle.std.specs.declared.fmt.Debug as debug
+use Rattle.ndarray_layout.specs.contracts.strided.Strided as V-type
 use Rattle.ndarray_layout.specs.declared.FixedCount as fixed
 use Rattle.ndarray_layout.specs.declared.Lengths as lengths
-use Rattle.ndarray_layout.specs.contracts.strided.Strided as V-type
-use Rattle.nd_lent.specs.Cells.{holds_cells}
-use Rattle.nd_lent.specs.declared.array_view_mut.ArrayViewMut.{ArrayViewMut}
+use Rattle.std.specs.declared.cmp.PartialEq as eq
+use Rattle.std.specs.declared.fmt.Debug as debug
+use Rattle.std.specs.declared.ops.Index as index
+use Rattle.nd_lent.specs.Cells.{holds_cells, known}
 use Rattle.nd_lent.specs.contracts.array_view_mut.ArrayViewMut as P-type
-use Rattle.nd_lent.proofs.lending.Held.{word, cells_had, cells_made}
+use Rattle.nd_lent.specs.declared.array_view_mut.ArrayViewMut.{ArrayViewMut}
+use Rattle.nd_lent.proofs.lending.Held.{cells_had, cells_made, word}
+use Rattle.nd_lent.proofs.lending.Steps
+use Steps.{Borrowed, Goal, Item, Lft, List, Logic, MutBor, MutRef, NamedLft, Ptr, RattleType, Seq, Share, Soaks, Step, Ura, Val, Valss}
+use Steps.{cell_at, drop, fauth, feq_i, feq_l, fjoin, flft, fobs, fpack, fpick, fsplit, fsplit3, full_share, mem, move, named, nothing}
+use Steps.{of_list, opens, pure_i, pure_l, refl, rewrite, shadow, step, vstruct, [], ‵, ℕ, ◌$◌, ◌++◌, ◌∙◌, ◌∷◌, ◌≡◌}
 
 -- what the type of the view's shape brings
 pub record Bound (D : Type 0) : Type 1 where
@@ -71,3 +66,20 @@ module _ {M : Type 1} {𝓤 : Ura M} {𝓛 : Logic 𝓤} {K : Type 0} {Γ : List
   part_had t κ R D g p vs k = fpick t (λ vss. fsplit t $ feq_l t (λ e. fsplit t $ cells_had t κ R p.cells vss.0 (λ is.
       move t (1 ∷ []) $ fsplit t $ move t (1 ∷ []) $ drop t $ move t (1 ∷ 0 ∷ []) $
       k vss.1.0 (e ∙ (λ i. vstruct (of_list (is i ++ (vss.1.0 ++ []))) ∷ [])))))
+
+module _ {M : Type 1} {𝓤 : Ura M} {𝓛 : Logic 𝓤} {K : Type 0} {Γ : List (Item 𝓤)} {G : Goal 𝓤 𝓛.H} where
+  -- [the machine value; what it holds; what the view owns; the open borrow; its name]
+  pub part_opened : K → Soaks G → {κ : Lft} {q : Share} {vs : List Val} (a : NamedLft) (V D : RattleType) (g : Bound D.Denot)
+      (self : MutBor (Part V.Denot D.Denot g))
+      → let p = self.now in let c = p.cells in let Self = ItsPart a V D g in let b = self.ref_ptr.0 in let o = self.ref_ptr.1 in
+      let γ = self.ghost_name in
+      ((us : List Val) → shadow (known V c.first c.marks c.items) → Seq K 𝓛 (‵ (cell_at full_share Self.mir (part_word c.first us ∷ []) b o)
+      ∷ ‵ (holds_cells a.lft V c.name c.first c.marks c.items) ∷ ‵ ((ItsView D g).own_val p.view us)
+      ∷ ‵ (fobor κ q (Borrowed (mem Self) b o γ)) ∷ ‵ (fobs γ (Self.coded.code p)) ∷ ‵ (fauth γ (Self.coded.code p)) ∷ Γ) G)
+      → Seq K 𝓛 (‵ ((MutRef (named 0) κ Self).own_val self vs) ∷ ‵ (flft κ q) ∷ Γ) G
+  part_opened t z a V D g self k = let p = self.now in let c = p.cells in let Self = ItsPart a V D g in
+      let b = self.ref_ptr.0 in let o = self.ref_ptr.1 in
+      fsplit3 t $ drop t $ move t (0 ∷ 1 ∷ 2 ∷ []) $ opens t z Self {h = p} b o (λ vs. move t (1 ∷ []) $ part_had t a V D g p vs (λ us told.
+      fsplit t $ pure_l t (known V c.first c.marks c.items) (λ k₀.
+      pure_i t (known V c.first c.marks c.items) (tt, (tt, (tt, tt))) k₀ $ fjoin t $
+      move t (2 ∷ 0 ∷ 1 ∷ []) $ rewrite t 0 (λ (ws : List Val). ‵ (cell_at full_share Self.mir ws b o)) told refl $ k us k₀)))

@@ -1,142 +1,42 @@
 -- `all_of` hands a slice's borrow on as the cells at all its places, under its name. Assumes `Logic`.
-use mathlib.Core.Path.{◌≡◌, refl, sym}
-use Prim.Native.Nat.{ℕ}
-use mathlib.Core.Bool.{Bool, true}
-use mathlib.Core.List.{List, [], ◌∷◌}
-use lib.ListN.{length}
-use seplogic.Ra.Ura.{Ura}
-use mir.Syntax.{Fn, named, a_type}
-use mir.MapTy.{inst_fn}
-use mir.Val.{Val}
-use base.Logic.{SProp, ent, emp, via, fst∗}
-use base.Fml.{Lft, GName, Share, ftrue, flft, fobs, fbor}
-use prog.Wp.{Calls, Loops, WpFn, Tables}
-use types.Logic.{Logic}
-use contract.Monad.{fact}
-use contract.Running.{tables, tables_of}
-use sound.WpLaws.{WpFn-mono}
-use types.Kit.{‵, ◌⊛◌, later, ◌$◌, ◌∵◌, !, qed, move, keep, use2, drop, split, join, rewrite, fsplit, fsplit3, fjoin, await, suffices, done}
-use types.Part.{whole, sub, agg}
-use types.Run.{addr, stop, fld, hop, from, and_then, no_more, returns, enter}
-use types.ByLocal.{alloc_all, pass_all, free_all, look_at, look_in_at, get, sets}
-use types.SemTy.{Body as Borrowed}
-use denote.Exit.{no}
-use denote.RattleType.{RattleType, owns}
-use denote.RawPtr.{Ptr, block_ptr}
-use denote.Builtin.{SliceRefMutOf}
 use denote.FollowSlice.{heres_id}
-use denote.Param.{param, layouts}
-use denote.Ref.{MutBor, NamedLft}
-use denote.Shadow.{pure_l, pure_i}
-use denote.Signature.{plain, mut_slice_of, named_lft}
-use denote.Slice.{MutSlice, room, slice_val, mut_slice_vals, mut_slice_Tells}
-use denote.Steps.{nothing}
-use denote.Triple.Carry.{spared}
-use denote.Triple.Clauses.{Clauses, Ended, closing}
-use denote.Triple.Entry.{on_entry}
-use denote.Triple.Spec.{Meets, triple_of}
-use denote.Triple.Table.{entered, run_framed}
-use denote.Triple.Walked.{says, Stays, stay_dropped, walk_of, ends_at, walked, Goes-spent_slice, walk_Meets}
-use Rattle.std.specs.Prelude.{replicate}
-use Rattle.std.proofs.lemmas.List.{length-replicate}
+use denote.Slice.{mut_slice_Tells, mut_slice_vals}
+use lib.ListN.{length-replicate}
+use mir.Syntax.{mut}
 use Rattle.nd_lent.specs.Cells.{known}
+use Rattle.nd_lent.specs.contracts.cells.Cells.{struct}
+use Rattle.nd_lent.specs.contracts.cells.Cells.all_of as f
 use Rattle.nd_lent.specs.declared.cells.Cells.{Cells}
-use Rattle.nd_lent.specs.contracts.cells.Cells.all_of.Key.{name as #self}
-use Rattle.nd_lent.proofs.cells.Cells.all_of.Statement as stated
 use Rattle.nd_lent.proofs.cells.Cells.all_of.Code as code
-use Rattle.nd_lent.proofs.lending.Held.{It, word, word_typed, cells_made}
+use Rattle.nd_lent.proofs.cells.Cells.all_of.Statement.{statement}
+use Rattle.nd_lent.proofs.lending.Held.{It, cells_made, word}
+use Rattle.nd_lent.proofs.lending.OfSlice.{all_taken}
 use Rattle.nd_lent.proofs.lending.SameName.{All, Apart, to_cells}
+use Rattle.nd_lent.proofs.lending.Walk.{all_dropped, ends, quiet, shown_free}
+use Rattle.nd_lent.proofs.lending.Steps
+use Steps.{Bool, Borrowed, List, MutRef, MutSlice, Ptr, RattleType, a_type, at_once, await, block_ptr, done, drop, emp, fact_i, fbor, fjoin}
+use Steps.{flft, fobs, fsplit, fsplit3, inst_fn, join, later, layouts, length, move, named, named_lft, owns, pure_i, qed, raw, refl}
+use Steps.{replicate, rewrite, sem, sep, split, sym, tables, toks, true, updating, use2, !, [], ‵, ℕ, ◌$◌, ◌∵◌, ◌∷◌, ◌⊛◌}
 
-module _ (Y : RattleType) where
-  abbrev R : RattleType
-  R = param 0 Y
-
-  abbrev fn' : Fn
-  fn' = inst_fn (layouts (a_type ∷ []) (Y, tt)) code.function
-
-  abbrev at : Lft → NamedLft
-  at κ = named_lft 1 0 tt (κ, tt)
-
-  abbrev ended : Ended
-  ended = record {
-    signature = record {
-      lifetimes = 1;
-      outlives = [];
-      params = SliceRefMutOf (0 ∷ []) tt (plain (λ _. R)) (λ _. tt) ∷ [];
-      result = plain (λ κs. It (at κs.0) R);
-    };
-    kept = (no, tt);
-  }
-
-  abbrev stayed : Stays ended.signature.params ended.kept
-  stayed = (stay_dropped (mut_slice_of (0 ∷ []) tt (plain (λ _. R))) no, tt)
-
-  abbrev Gives : MutBor (List Y.Denot) → Cells Y.Denot → Type 0
-  Gives xs r = (r.name ≡ xs.ghost_name) × (r.items ≡ xs.now) × (r.marks ≡ replicate (length xs.now) true)
-
-  abbrev spec : {M : Type 1} {𝓤 : Ura M} (𝓛 : Logic 𝓤) → Clauses 𝓤 ended
-  spec {𝓤 = 𝓤} 𝓛 κs a = record {
-    ghost = Unit {0};
-    requires = λ _. emp 𝓤;
-    ensures = λ _ r w. fact 𝓤 (Gives a.0 r);
-  }
-
-module _ (Y : RattleType) {M : Type 1} {𝓤 : Ura M} (𝓛 : Logic 𝓤) (C : Calls 𝓤 𝓛.H) (Λ : Loops 𝓤 𝓛.H)
-    (κ : Lft) (q : Share) (b o : ℕ) (γ : GName) (xs : List Y.Denot) where
-  open 𝓛 use {H, A}
-
-  abbrev items : MutBor (List Y.Denot)
-  items = record { ref_ptr = (b, o); ghost_name = γ; now = xs }
-
-  abbrev bound : (walk_of 𝓛 (ended Y) (stayed Y) (spec Y 𝓛)).Ghost
-  bound = (((κ, tt), (q, tt), tt, (items, tt), (mut_slice_vals items, tt)), tt)
-
-  abbrev Post : Val → SProp 𝓤
-  Post = (walk_of 𝓛 (ended Y) (stayed Y) (spec Y 𝓛)).post bound
-
-  walk : ent 𝓤 (on_entry 𝓛 (ended Y).signature (κ, tt) (q, tt) (items, tt) (mut_slice_vals items, tt))
-      (WpFn 𝓤 H C Λ (fn' Y) (slice_val (b, o) (length xs) ∷ []) Post)
-  walk =
-      let V : RattleType = R Y in
-      let p : Ptr = block_ptr b o in
-      let r : Cells Y.Denot = record { first = p; mark = record {}; name = γ; marks = replicate (length xs) true; items = xs } in
-      qed 𝓛 ((‵ (flft κ q) ⊛ ‵ ftrue) ∷ ‵ (owns (MutSlice (named 0) κ V ∷ []) (items, tt) (mut_slice_vals items, tt)) ∷ []) ∵
-      split ! $ move ! (2 ∷ []) $ fsplit ! $ fsplit3 ! $ fsplit ! $ drop ! $
-      pure_l ! (room V (length xs)) (λ rm.
-      -- [the slice's name, its borrow; true; the token; true]
-      enter ! C Λ (fn' Y) (slice_val (b, o) (length xs) ∷ []) _ $
-      alloc_all ! (λ l. pass_all ! refl ((tt, (tt, (record { fits = rm.0 }, tt))), tt) $
-      rewrite ! 0 (λ (zs : List Y.Denot). ‵ (fobs γ ((All 𝓛 V κ q (length xs) b o γ).coded.code zs))) (heres_id V xs) refl $
-      move ! (1 ∷ 3 ∷ []) $
-      use2 𝓛 (later (‵ (fbor κ (Borrowed (Apart 𝓛 V κ q (length xs) b o γ) 0 0 γ)) ⊛ ‵ (flft κ q))) (to_cells 𝓛 V κ q (length xs) b o γ) $
-      await ! tt $ split ! $ move ! (2 ∷ 0 ∷ []) $ fjoin ! $
-      pure_i ! (known V p (replicate (length xs) true) xs) (tt, (tt, (tt, tt)))
-      (refl, (sym (length-replicate {A = Bool} (length xs) true), rm)) $ fjoin ! $
-      cells_made ! (at Y κ) V r $
-      -- [the cells; the token; true; true]
-      sets ! (addr ! (from ! (fld ! refl (hop ! (look_in_at ! 1 (sub ! 0 refl (whole !))) (stop !))))) refl (tt, tt) $
-      sets ! (agg ! (no_more !)) refl (tt, tt) $
-      sets ! (agg ! (and_then ! (get ! refl) (and_then ! (get ! refl) (no_more !)))) refl (word_typed (at Y κ) V p) $
-      returns ! (look_at ! 0 refl) $ free_all ! refl $ keep ! (0 ∷ 1 ∷ []) $
-      suffices ! _ (ends_at 𝓛 (ended Y) (stayed Y) (spec Y 𝓛) bound (word p) r (tt, tt) (tt, tt)) $ says ! (refl, refl, refl) $
-      nothing ! $ nothing ! $ fjoin ! $ join ! $ nothing ! $ move ! (2 ∷ 0 ∷ []) $ join ! $ join ! $ done !))
-
-meets : (Y : RattleType) {M : Type 1} {𝓤 : Ura M} (𝓛 : Logic 𝓤) (𝓣 : Tables 𝓤 𝓛.H)
-    → Meets 𝓛 (ended Y).signature (WpFn 𝓤 𝓛.H 𝓣.C 𝓣.Λ (fn' Y)) (closing 𝓛 (ended Y) (spec Y 𝓛))
-meets Y {𝓤 = 𝓤} 𝓛 𝓣 =
-    walk_Meets 𝓛 (ended Y) (stayed Y) (Goes-spent_slice 𝓛 1 (0 ∷ []) tt (plain (λ _. R Y)), tt)
-    (spec Y 𝓛) (WpFn 𝓤 𝓛.H 𝓣.C 𝓣.Λ (fn' Y)) (WpFn-mono 𝓤 𝓛.H 𝓛.laws 𝓣 (fn' Y))
-    (walked 𝓛 (ended Y) (stayed Y) (spec Y 𝓛) (WpFn 𝓤 𝓛.H 𝓣.C 𝓣.Λ (fn' Y)) (λ κs. (mut_slice_vals, tt))
-    (λ κs. (mut_slice_Tells (named 0) κs.0 (R Y), tt))
-    (λ κs qs bounds a g are. via 𝓤 (on_entry 𝓛 (ended Y).signature κs qs a (mut_slice_vals a.0, tt)) (fst∗ 𝓤 _ (emp 𝓤))
-    (walk Y 𝓛 𝓣.C 𝓣.Λ κs.0 qs.0 a.0.ref_ptr.0 a.0.ref_ptr.1 a.0.ghost_name a.0.now)))
-
-pub all_of_spec : {M : Type 1} → stated.statement M
-unfolding tables_of
-all_of_spec 𝓤 𝓛 𝓜 𝓡 wired X L y =
-    let 𝓣 : Tables 𝓤 𝓛.H = tables_of 𝓤 𝓛.H 𝓜 (tables 𝓤 𝓛.H 𝓜 𝓡 𝓡.env) in
-    let k = #self (layouts (a_type ∷ []) (X, tt)) in
-    spared 𝓛 (ended X).signature (𝓡.run (𝓡.env k)) (run_framed 𝓤 𝓛.H 𝓜 𝓡 (𝓡.env k)) 1 (X.lives, tt) (closing 𝓛 (ended X) (spec X 𝓛))
-    (entered 𝓤 𝓛.H (triple_of 𝓛 (ended X).signature (closing 𝓛 (ended X) (spec X 𝓛))) 𝓣.C 𝓣.Λ k (fn' X)
-    (code.unfolded 𝓤 𝓛.H 𝓜 𝓡 wired (X, tt)) (meets X 𝓛 𝓣))
-    ((y.0.0, y.0.1, tt, y.0.3, y.0.4), y.1)
+pub all_of_spec : {M : Type 1} → statement M
+all_of_spec 𝓤 𝓛 𝓜 𝓡 wired X L =
+    let T = f.ended X in let c = f.clauses X 𝓛 𝓜.mem 𝓡.returns in let 𝓣 = tables 𝓤 𝓛.H 𝓜 𝓡 𝓡.env in
+    let args = layouts (a_type ∷ []) (X, tt) in
+    shown_free 𝓛 T (all_dropped T) (quiet 𝓛 T.signature.params T.kept ((λ κs x w. refl), tt)) c 𝓜 𝓡
+    (f.Key.name args) (inst_fn args code.function) (code.unfolded 𝓤 𝓛.H 𝓜 𝓡 wired (X, tt)) 1 (λ κs. κs.1) (X.lives, tt)
+    (λ κs. (mut_slice_vals, tt)) (λ κs. (mut_slice_Tells (named 0) κs.0 (f.T-row X), tt)) (ends 𝓛 T c) (λ y. refl)
+    (λ κs qs bounds a g are out. let V : RattleType = f.T-row X in let at = named_lft 2 0 tt κs in let κ = κs.0 in let q = qs.0 in
+    let γ = a.0.ghost_name in let b = a.0.ref_ptr.0 in let o = a.0.ref_ptr.1 in let xs : List V.Denot = a.0.now in
+    let p : Ptr = block_ptr b o in let rm = are.0.0.1 in let n : ℕ = length xs in
+    let cells : Cells V.Denot = record { first = p; mark = record {}; name = γ; marks = replicate n true; items = xs } in
+    all_taken (struct at V).name V (MutRef (named 0) κ V) mut 𝓛 𝓣.C 𝓣.Λ b o n rm.0 _ _
+    (sep 𝓤 (toks 𝓛 2 κs qs) (sep 𝓤 (sem 𝓛 ((It at V).own_val cells (word p ∷ []))) (emp 𝓤)))
+    (qed 𝓛 ((‵ (flft κ q) ⊛ raw (toks 𝓛 1 κs.1 qs.1)) ∷ ‵ (owns (MutSlice (named 0) κ V ∷ []) (a.0, tt) (mut_slice_vals a.0, tt)) ∷ []) ∵
+    updating ! $ split ! $ move ! (2 ∷ []) $ fsplit ! $ fsplit3 ! $ drop ! $
+    -- [the slice's name, its borrow; true; the token; the others]
+    rewrite ! 0 (λ (zs : List V.Denot). ‵ (fobs γ ((All 𝓛 V κ q n b o γ).coded.code zs))) (heres_id V xs) refl $ move ! (1 ∷ 3 ∷ []) $
+    use2 𝓛 (later (‵ (fbor κ (Borrowed (Apart 𝓛 V κ q n b o γ) 0 0 γ)) ⊛ ‵ (flft κ q))) (to_cells 𝓛 V κ q n b o γ) $
+    await ! tt $ split ! $ move ! (2 ∷ 0 ∷ []) $ fjoin ! $
+    pure_i ! (known V p cells.marks xs) (tt, (tt, (tt, tt))) (refl, (sym (length-replicate {A = Bool} n true), rm)) $ fjoin ! $
+    cells_made ! at V cells $ at_once ! $ move ! (1 ∷ 3 ∷ []) $ join ! $ done !)
+    (out (word p) cells (tt, tt) (emp 𝓤) (fact_i 𝓤 _ _ (refl, refl, refl))))

@@ -1,194 +1,66 @@
 -- `item_mut` lends one of the cells. Assumes `Logic`.
-use mathlib.Core.Path.{◌≡◌, refl, sym, ap, subst, ◌∙◌}
-use Prim.Native.Nat.{ℕ, ◌+◌, ◌*◌, ◌<◌, ◌≤◌, ◌^◌}
-use native.Mathlib.Omega.{arith}
-use native.Mathlib.Nat.{mul-le-mul_right}
-use mathlib.Core.Bool.{Bool, false}
-use mathlib.Core.List.{List, [], ◌∷◌}
-use lib.Dec.{T}
-use lib.ListN.{length, get_or}
-use seplogic.Ra.Ura.{Ura}
-use mir.Syntax.{Fn, Body, named, a_type, w64, seq, assign, place, rv_opd, copy, return}
-use mir.MapTy.{inst_fn}
-use mir.Val.{Val, vptr, vint}
-use base.Fraction.{full_share}
-use base.Logic.{SProp, ent, sep}
-use base.Fml.{Lft, GName, Share, ftrue, flft}
-use prog.Wp.{Env, Calls, Loops, WpFn, Tables}
-use types.Logic.{Logic, sem}
-use contract.Lifetimes.{AllOutlive}
-use contract.Monad.{fact}
-use contract.Running.{tables, tables_of}
-use sound.WpLaws.{WpFn-mono}
-use types.Kit.{‵, ◌⊛◌, some, later, at_ret, ◌$◌, ◌∵◌, !, qed, move, keep, use1, drop, split3, join, pick, rewrite}
-use types.Kit.{fsplit, fsplit3, fjoin, await, suffices, frame, group, done}
-use types.Part.{whole, sub, look_in}
-use types.Run.{addr, bin, load, of_opd, stop, fld, size_word, first, blocks, exec, returns, enter}
-use types.ByLocal.{alloc_all, pass_all, free_all, look_at, get, through, sets, sets_last, env, is}
-use denote.Builtin.{RefMutOf, usize}
-use denote.Exit.{yes, no}
-use denote.Index.{place as nth, place_is}
-use denote.Memory.{mem, cell_at}
-use denote.Param.{param, layouts}
-use denote.Plain.{uint_vals, uint_Tells}
-use denote.RattleType.{RattleType, owns}
-use denote.RawPtr.{Ptr, block_of, count_of}
-use denote.Ref.{MutBor, MutRef, NamedLft, mut_vals, mut_Tells}
-use denote.Shadow.{pure_l, pure_i}
-use denote.Signature.{plain, mut_ref_to, named_lft}
-use denote.Steps.{nothing, opens, closes}
-use denote.Triple.Carry.{spared}
-use denote.Triple.Clauses.{Clauses, Ended, closing}
-use denote.Triple.Entry.{on_entry}
-use denote.Triple.Spec.{Meets, triple_of}
-use denote.Triple.Table.{entered, run_framed}
-use denote.Triple.Walked.{says, needs, Stays, stay_dropped, walk_of, ends_at, walked, Goes-dropped, Goes-spent_ref, walk_Meets}
-use Rattle.std.specs.Prelude.{IsTrue}
-use Rattle.nd_lent.specs.Cells.{known}
-use Rattle.nd_lent.specs.LendingCells.{LendsCell}
-use Rattle.nd_lent.specs.declared.cells.Cells.{Cells}
-use Rattle.nd_lent.specs.contracts.cells.Cells.item_mut.Key.{name as #self}
-use Rattle.nd_lent.proofs.cells.Cells.item_mut.Statement as stated
-use Rattle.nd_lent.proofs.cells.Cells.item_mut.Code as code
-use Rattle.nd_lent.proofs.lending.Held.{It, word, cells_had, cells_made}
-use Rattle.nd_lent.proofs.lending.CellLends.{lends}
-use Rattle.nd_lent.proofs.lending.Places.{uncapped, marked_below, first_item}
-use Rattle.std.specs.Prelude.{Some, slice_get}
 use Rattle.std.proofs.lemmas.Option.{slice_get-get_or}
-
-module _ (Y : RattleType) where
-  abbrev R : RattleType
-  R = param 0 Y
-
-  abbrev fn' : Fn
-  fn' = inst_fn (layouts (a_type ∷ []) (Y, tt)) code.function
-
-  abbrev at : Lft → Lft → NamedLft
-  at κ κ' = named_lft 2 1 tt (κ, (κ', tt))
-
-  abbrev ended : Ended
-  ended = record {
-    signature = record {
-      lifetimes = 2;
-      outlives = record { long = 1; long_ok = tt; short = named 0; short_ok = tt } ∷ [];
-      params = RefMutOf (0 ∷ []) tt (plain (λ κs. It (named_lft 2 1 tt κs) R)) (λ _. tt) ∷ plain (λ _. usize) ∷ [];
-      result = RefMutOf (0 ∷ []) tt (plain (λ _. R)) (λ _. tt);
-    };
-    kept = (no, (yes, tt));
-  }
-
-  abbrev stayed : Stays ended.signature.params ended.kept
-  stayed = (
-    stay_dropped (mut_ref_to (0 ∷ []) tt (plain (λ κs. It (named_lft 2 1 tt κs) R))) no,
-    (stay_dropped (plain (λ _. usize)) yes, tt),
-  )
-
-  abbrev Says : Cells Y.Denot → ℕ → Y.Denot → Type 0
-  Says c i item = (slice_get c.items i ≡ Some item) × (length c.items ≡ length c.marks)
-
-  abbrev spec : {M : Type 1} {𝓤 : Ura M} (𝓛 : Logic 𝓤) → Clauses 𝓤 ended
-  spec {𝓤 = 𝓤} 𝓛 κs a = record {
-    ghost = Unit {0};
-    requires = λ _. fact 𝓤 (IsTrue (get_or a.0.now.marks a.1.0 false));
-    ensures = λ _ r w. sep 𝓤 (sem 𝓛 (LendsCell R a.0 a.1.0 r)) (fact 𝓤 (Says a.0.now a.1.0 r.now));
-  }
+use Rattle.std.specs.Prelude.{IsTrue, false}
+use Rattle.nd_lent.specs.LendingCells.{LendsCell}
+use Rattle.nd_lent.specs.contracts.cells.Cells.item_mut as f
+use Rattle.nd_lent.specs.declared.cells.Cells.{Cells}
+use Rattle.nd_lent.proofs.cells.Cells.item_mut.Code as code
+use Rattle.nd_lent.proofs.cells.Cells.item_mut.Statement.{statement}
+use Rattle.nd_lent.proofs.lending.CellLends.{Seat, back, out, with_all}
+use Rattle.nd_lent.proofs.lending.Held.{It, cells_made, opened, word}
+use Rattle.nd_lent.proofs.lending.Lends.{lends_one}
+use Rattle.nd_lent.proofs.lending.Places.{first_item, marked_below, place_fits, times_size}
+use Rattle.nd_lent.proofs.lending.Walk.{all_dropped, ends, quiet, shown}
+use Rattle.nd_lent.proofs.lending.Steps
+use Steps.{Body, Bool, GName, List, MutBor, MutRef, Ptr, RattleType, T, Val, Valss, a_type, addr, alloc_all, ap, arith, assign, at_ret}
+use Steps.{await, bin, block_of, blocks, by, cell_at, closes, copy, count_of, done, drop, enter, env, exec, first, fld, flft, free_all}
+use Steps.{fsplit, full_share, get, get_or, group, inst_fn, join, keep, later, layouts, length, load, look_at, look_in, mem, move}
+use Steps.{mut_Tells, mut_vals, named, named_lft, nth, of_opd, owns, param, pass_all, pick, place, place_is, qed, raw, refl, return}
+use Steps.{returns, rewrite, rv_opd, says, sem, seq, sets, sets_last, some, split, split3, stop, sub, subst, sym, tables, through, toks}
+use Steps.{uint_Tells, uint_vals, use1, usize, vint, vptr, w64, walk_of, whole, !, [], ‵, ℕ, ◌$◌, ◌*◌, ◌+◌, ◌<◌, ◌^◌, ◌∵◌, ◌∷◌, ◌⊛◌}
 
 abbrev rest : Body
 rest = seq (assign (place 0 []) (rv_opd (copy (place 3 [])))) return
 
-module _ (Y : RattleType) {M : Type 1} {𝓤 : Ura M} (𝓛 : Logic 𝓤) (C : Calls 𝓤 𝓛.H) (Λ : Loops 𝓤 𝓛.H)
-    (κ κ' : Lft) (q q' : Share) (b o : ℕ)
-    (γ : GName) (c : Cells Y.Denot) (i : ℕ)
-    (within' : AllOutlive 2 (ended Y).signature.outlives (κ, (κ', tt))) where
-  open 𝓛 use {H, A}
-
-  abbrev self : MutBor (Cells Y.Denot)
-  self = record { ref_ptr = (b, o); ghost_name = γ; now = c }
-
-  abbrev Self : RattleType
-  Self = It (at Y κ κ') (R Y)
-
-  abbrev bound : (walk_of 𝓛 (ended Y) (stayed Y) (spec Y 𝓛)).Ghost
-  bound = (((κ, (κ', tt)), (q, (q', tt)), within', (self, (i, tt)), (mut_vals self, (vint w64 i ∷ [], tt))), tt)
-
-  abbrev Post : Val → SProp 𝓤
-  Post = (walk_of 𝓛 (ended Y) (stayed Y) (spec Y 𝓛)).post bound
-
-  walk : i < 2 ^ 64 → IsTrue (get_or c.marks i false)
-      → ent 𝓤 (on_entry 𝓛 (ended Y).signature (κ, (κ', tt)) (q, (q', tt)) (self, (i, tt)) (mut_vals self, (vint w64 i ∷ [], tt)))
-      (WpFn 𝓤 H C Λ (fn' Y) (vptr b o ∷ vint w64 i ∷ []) Post)
-  walk gi asked =
-      let mine : T (get_or c.marks i false) = subst (λ (y : Bool). T y) (sym asked) tt in
-      let V : RattleType = R Y in
-      let s : ℕ = (mem V).size in
-      let hb : ℕ = block_of c.first in
-      let ho : ℕ = count_of c.first in
-      qed 𝓛 ((‵ (flft κ q) ⊛ ‵ (flft κ' q') ⊛ ‵ ftrue) ∷ ‵
-      (owns (MutRef (named 0) κ Self ∷ usize ∷ []) (self, (i, tt)) (mut_vals self, (vint w64 i ∷ [], tt))) ∷ []) ∵
-      enter ! C Λ (fn' Y) (vptr b o ∷ vint w64 i ∷ []) _ $
-      alloc_all ! (λ l. pass_all ! refl ((tt, tt), ((tt, record { fits = gi }), tt)) $
-      let En : Env 𝓤 H = env (fn' Y).locals l in
-      move ! (1 ∷ []) $ fsplit ! $ fsplit3 ! $ drop ! $ move ! (3 ∷ []) $ split3 ! $ move ! (3 ∷ 4 ∷ 0 ∷ []) $
-      opens ! tt Self {h = c} b o (λ vs. move ! (1 ∷ []) $ cells_had ! (at Y κ κ') V c vs (λ told. fsplit ! $
-      pure_l ! (known V c.first c.marks c.items) (λ k.
-      pure_i ! (known V c.first c.marks c.items) (tt, (tt, (tt, tt))) k $ fjoin ! $ move ! (1 ∷ []) $
-      let lies = marked_below i c.marks mine in
-      let below : i < length c.items = omega (arith, lies, k.1.0) in
-      let fits : length c.items * s < 2 ^ 63 = k.1.1.1 in
-      let small : i * s ≤ length c.items * s = mul-le-mul_right s (omega arith) in
-      let fs : i * s < 2 ^ 64 = omega arith in
-      let Cell = λ (us : List Val). ‵ (cell_at full_share Self.mir us b o) in
-      rewrite ! 0 Cell (told ∙ ap (λ (p : Ptr). word p ∷ []) k.0) refl $
-      -- [the struct; what it holds; the open borrow, its name; the token of 'a; true; what the number owns]
-      first ! $ blocks ! $
-      sets ! (of_opd ! (load ! (through ! refl (fld ! refl (stop !))) (look_in ! 0 (sub ! 0 refl (whole !))))) refl (tt, tt) $
-      sets ! (is ! (bin ! (get ! refl) (size_word !) (record { fits = subst (λ (n : ℕ). n < 2 ^ 64) (sym (uncapped i s fs)) fs }))
-      (ap (vint w64) (uncapped i s fs))) refl (tt, record { fits = fs }) $
-      sets ! (bin ! (get ! refl) (get ! refl) tt) refl (tt, tt) $
-      sets_last ! (addr ! (through ! refl (stop !))) refl (tt, tt) $
-      exec ! C Λ En rest (at_ret En Post) $
-      sets ! (of_opd ! (get ! refl)) refl (tt, tt) $
-      rewrite ! 0 Cell (ap (λ (p : Ptr). word p ∷ []) (sym k.0)) refl $ move ! (1 ∷ []) $
-      cells_made ! (at Y κ κ') V c $
-      move ! (1 ∷ 0 ∷ 2 ∷ 3 ∷ 4 ∷ []) $
-      closes ! tt Self c (word c.first ∷ []) b o $ group ! 3 $
-      let d : Y.Denot = first_item i c.items below in
-      let now : Y.Denot = get_or c.items i d in
-      use1 𝓛 (later (some (λ (γ' : GName). ‵
-      ((MutRef (named 0) κ V).own_val (record { ref_ptr = (hb, nth s ho i); ghost_name = γ'; now = now }) (vptr hb (nth s ho i) ∷ []))
-      ⊛ ‵ (flft κ q) ⊛ ‵ (LendsCell V self i (record { ref_ptr = (hb, nth s ho i); ghost_name = γ'; now = now })))))
-      (lends 𝓛 (at Y κ κ') V κ within'.0 q b o γ c k (named 0) i mine hb ho k.0 d) $ await ! tt $ pick ! (λ γ'.
-      let r : ℕ → MutBor Y.Denot = λ z. record { ref_ptr = (hb, z); ghost_name = γ'; now = now } in
-      split3 ! $ rewrite ! 0 (λ (z : ℕ). ‵ ((MutRef (named 0) κ V).own_val (r z) (vptr hb z ∷ []))) (place_is s ho i) refl $
-      -- [the reference; the token; what follows; the token of 'a]
-      returns ! (look_at ! 0 refl) $ free_all ! refl $ keep ! (0 ∷ 1 ∷ 2 ∷ 3 ∷ []) $
-      suffices ! _ (ends_at 𝓛 (ended Y) (stayed Y) (spec Y 𝓛) bound (vptr hb (i * s + ho)) (r (i * s + ho))
-      (tt, (tt, tt)) (tt, (tt, tt))) $
-      nothing ! $ nothing ! $ fjoin ! $ nothing ! $ fjoin ! $ join ! $ nothing ! $ move ! (4 ∷ 0 ∷ []) $ join ! $ move ! (2 ∷ 0 ∷ []) $
-      join ! $ join ! $ frame ! $
-      says ! (slice_get-get_or c.items i d below, k.1.0) $ done !)))))
-
-meets : (Y : RattleType) {M : Type 1} {𝓤 : Ura M} (𝓛 : Logic 𝓤) (𝓣 : Tables 𝓤 𝓛.H)
-    → Meets 𝓛 (ended Y).signature (WpFn 𝓤 𝓛.H 𝓣.C 𝓣.Λ (fn' Y)) (closing 𝓛 (ended Y) (spec Y 𝓛))
-meets Y {𝓤 = 𝓤} 𝓛 𝓣 =
-    walk_Meets 𝓛 (ended Y) (stayed Y) (
-      Goes-spent_ref 𝓛 2 (0 ∷ []) tt (plain (λ κs. It (named_lft 2 1 tt κs) (R Y))),
-      (Goes-dropped 𝓛 2 (plain (λ _. usize)) yes (λ κs x f. refl), tt),
-    )
-    (spec Y 𝓛) (WpFn 𝓤 𝓛.H 𝓣.C 𝓣.Λ (fn' Y)) (WpFn-mono 𝓤 𝓛.H 𝓛.laws 𝓣 (fn' Y))
-    (walked 𝓛 (ended Y) (stayed Y) (spec Y 𝓛) (WpFn 𝓤 𝓛.H 𝓣.C 𝓣.Λ (fn' Y))
-    (λ κs. (mut_vals, (uint_vals w64, tt)))
-    (λ κs. (mut_Tells (named 0) κs.0 (It (named_lft 2 1 tt κs) (R Y)), (uint_Tells w64, tt)))
-    (λ κs qs bounds a gh are. needs 𝓤 (IsTrue (get_or a.0.now.marks a.1.0 false)) _
-    (walk Y 𝓛 𝓣.C 𝓣.Λ κs.0 κs.1.0 qs.0 qs.1.0 a.0.ref_ptr.0 a.0.ref_ptr.1 a.0.ghost_name a.0.now a.1.0 bounds are.1.0.1)))
-
-pub item_mut_spec : {M : Type 1} → stated.statement M
-unfolding tables_of
-item_mut_spec 𝓤 𝓛 𝓜 𝓡 wired X L y =
-    let 𝓣 : Tables 𝓤 𝓛.H = tables_of 𝓤 𝓛.H 𝓜 (tables 𝓤 𝓛.H 𝓜 𝓡 𝓡.env) in
-    let k = #self (layouts (a_type ∷ []) (X, tt)) in
-    spared 𝓛 (ended X).signature (𝓡.run (𝓡.env k)) (run_framed 𝓤 𝓛.H 𝓜 𝓡 (𝓡.env k)) 1 (X.lives, tt)
-    (closing 𝓛 (ended X) (spec X 𝓛))
-    (entered 𝓤 𝓛.H (triple_of 𝓛 (ended X).signature (closing 𝓛 (ended X) (spec X 𝓛))) 𝓣.C 𝓣.Λ k (fn' X)
-    (code.unfolded 𝓤 𝓛.H 𝓜 𝓡 wired (X, tt)) (meets X 𝓛 𝓣))
-    ((y.0.0, y.0.1, (y.0.2.0, tt), y.0.3, y.0.4), y.1)
+pub item_mut_spec : {M : Type 1} → statement M
+item_mut_spec 𝓤 𝓛 𝓜 𝓡 wired X L =
+    let T' = f.ended X in let c = f.clauses X 𝓛 𝓜.mem 𝓡.returns in let 𝓣 = tables 𝓤 𝓛.H 𝓜 𝓡 𝓡.env in
+    let args = layouts (a_type ∷ []) (X, tt) in let fn = inst_fn args code.function in let V : RattleType = param 0 X in
+    shown 𝓛 T' (all_dropped T') (quiet 𝓛 T'.signature.params T'.kept ((λ κs x w. refl), ((λ κs x w. refl), tt))) c 𝓜 𝓡
+    (f.Key.name args) fn (code.unfolded 𝓤 𝓛.H 𝓜 𝓡 wired (X, tt)) 1 (λ κs. κs.1.1) (X.lives, tt)
+    (λ κs. (mut_vals, (uint_vals w64, tt))) (λ κs. (mut_Tells (named 0) κs.0 (It (named_lft 3 1 tt κs) V), (uint_Tells w64, tt)))
+    (ends 𝓛 T' c) (λ y. IsTrue (get_or y.0.3.0.now.marks y.0.3.1.0 false)) (λ y. refl) (λ κs qs bounds a g are marked exits.
+    let at = named_lft 3 1 tt κs in let κ = κs.0 in let q = qs.0 in let Rest = toks 𝓛 2 κs.1 qs.1 in let Self = It at V in
+    let b = a.0.ref_ptr.0 in let o = a.0.ref_ptr.1 in let γ = a.0.ghost_name in let cells : Cells V.Denot = a.0.now in let i : ℕ = a.1.0 in
+    let mine : T (get_or cells.marks i false) = subst (λ (y : Bool). T y) (sym marked) tt in
+    let ns : Valss (usize ∷ []) = (vint w64 i ∷ [], tt) in let vs = vptr b o ∷ vint w64 i ∷ [] in
+    let Post = (walk_of 𝓛 T' (all_dropped T') c).post ((κs, qs, bounds, a, (mut_vals a.0, ns)), g) in
+    let s : ℕ = (mem V).size in let hb : ℕ = block_of cells.first in let ho : ℕ = count_of cells.first in
+    qed 𝓛 ((‵ (flft κ q) ⊛ raw Rest) ∷ ‵ (owns (MutRef (named 0) κ Self ∷ usize ∷ []) a (mut_vals a.0, ns)) ∷ []) ∵
+    split ! $ move ! (2 ∷ []) $ fsplit ! $ move ! (1 ∷ []) $ drop ! $
+    -- [the reference; its token; the others]
+    enter ! 𝓣.C 𝓣.Λ fn vs Post $ alloc_all ! (λ l. pass_all ! refl ((tt, tt), ((tt, record { fits = are.1.0.1 }), tt)) $
+    opened ! tt at V a.0 (λ k.
+    let below : i < length cells.items = let lies = marked_below i cells.marks mine in omega (arith, lies, k.1.0) in
+    let fs : i * s < 2 ^ 64 = place_fits i (length cells.items) s (omega (arith, below)) k.1.1.1 in
+    let Cell = λ (us : List Val). ‵ (cell_at full_share Self.mir us b o) in
+    rewrite ! 0 Cell (ap (λ (p : Ptr). word p ∷ []) k.0) refl $ first ! $ blocks ! $
+    sets ! (of_opd ! (load ! (through ! refl (fld ! refl (stop !))) (look_in ! 0 (sub ! 0 refl (whole !))))) refl (tt, tt) $
+    sets ! (times_size ! i (get ! refl) fs) refl (tt, record { fits = fs }) $
+    sets ! (bin ! (get ! refl) (get ! refl) tt) refl (tt, tt) $
+    sets_last ! (addr ! (through ! refl (stop !))) refl (tt, tt) $
+    exec ! 𝓣.C 𝓣.Λ (env fn.locals l) rest (at_ret (env fn.locals l) Post) $
+    sets ! (of_opd ! (get ! refl)) refl (tt, tt) $
+    rewrite ! 0 Cell (ap (λ (p : Ptr). word p ∷ []) (sym k.0)) refl $ move ! (1 ∷ []) $ cells_made ! at V cells $
+    move ! (1 ∷ 0 ∷ 2 ∷ 3 ∷ 4 ∷ []) $ closes ! tt Self cells (word cells.first ∷ []) b o $ group ! 3 $
+    let d : V.Denot = first_item i cells.items below in
+    let r : GName → ℕ → MutBor V.Denot = λ γ' z. record { ref_ptr = (hb, z); ghost_name = γ'; now = get_or cells.items i d } in
+    use1 𝓛 (later (some (λ (γ' : GName). ‵ ((MutRef (named 0) κ V).own_val (r γ' (nth s ho i)) (vptr hb (nth s ho i) ∷ []))
+    ⊛ ‵ (flft κ q) ⊛ ‵ (LendsCell V a.0 i (r γ' (nth s ho i))))))
+    (lends_one 𝓛 Self V κ at.lft bounds.0 q b o γ cells.name cells.first cells.marks cells cells.items (with_all 𝓛 at V b o cells)
+    (Seat 𝓛 at V b o cells) (out 𝓛 at V b o cells) (back 𝓛 at V b o cells) k (named 0) i mine hb ho k.0 d) $ await ! tt $ pick ! (λ γ'.
+    split3 ! $ rewrite ! 0 (λ (z : ℕ). ‵ ((MutRef (named 0) κ V).own_val (r γ' z) (vptr hb z ∷ []))) (place_is s ho i) refl $
+    -- [the reference; the token; what follows; the others]
+    returns ! (look_at ! 0 refl) $ free_all ! refl $ keep ! (1 ∷ 3 ∷ 0 ∷ 2 ∷ []) $ join ! $
+    by ! (exits (vptr hb (i * s + ho)) (r γ' (i * s + ho)) (tt, (tt, tt)) (sem 𝓛 (LendsCell V a.0 i (r γ' (nth s ho i))))
+    (qed 𝓛 (‵ (LendsCell V a.0 i (r γ' (nth s ho i))) ∷ []) ∵ says ! (slice_get-get_or cells.items i d below, k.1.0) $ done !))))))

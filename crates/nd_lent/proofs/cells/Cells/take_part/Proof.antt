@@ -1,197 +1,54 @@
 -- `take_part` hands out the cells that are chosen, and leaves the others. Assumes `Logic`.
-use mathlib.Core.Path.{◌≡◌, refl, sym, subst}
-use Prim.Native.Nat.{ℕ}
-use mathlib.Core.Bool.{Bool}
-use mathlib.Core.List.{List, [], ◌∷◌}
-use lib.Dec.{T}
-use seplogic.Ra.Ura.{Ura}
-use mir.Syntax.{Fn, named, a_type}
-use mir.MapTy.{inst_fn}
-use mir.Val.{Val, vptr}
-use base.Fraction.{full_share}
-use base.Logic.{SProp, ent, sep}
-use base.Fml.{Fml, Lft, GName, Share, ftrue, flft, fobs, fbor}
-use prog.Wp.{Calls, Loops, WpFn, Tables}
-use types.Logic.{Logic, sem}
-use contract.Lifetimes.{AllOutlive}
-use contract.Monad.{fact}
-use contract.Running.{tables, tables_of}
-use sound.WpLaws.{WpFn-mono}
-use types.Kit.{‵, ◌⊛◌, some, later, ◌$◌, ◌∵◌, !, qed, by, move, keep, use2, drop, split, split3, join, pick, rewrite}
-use types.Kit.{fsplit, fsplit3, fjoin, fjoin3, feq_i, await, suffices, frame, done}
-use types.Part.{agg, whole, sub, look_in}
-use types.Run.{and_then, no_more, load, of_opd, stop, fld, returns, enter}
-use types.SemTy.{Body as Borrowed}
-use types.ByLocal.{alloc_all, pass_all, free_all, look_at, get, through, sets}
-use denote.Array.{Array}
-use denote.Builtin.{RefOf, RefMutOf}
-use denote.Exit.{yes}
-use denote.Follow.{follows_both}
-use denote.Memory.{mem, cell_at}
-use denote.Param.{param, layouts}
-use denote.RattleType.{RattleType, owns}
-use denote.Ref.{Bor, MutBor, MutRef, NamedLft, ShrRef, mut_vals, mut_Tells, shr_vals, shr_Tells}
-use denote.Shadow.{pure_l, pure_i}
-use denote.Signature.{plain, named_lft}
-use denote.Steps.{nothing, opens, closes}
-use denote.Triple.Carry.{spared}
-use denote.Triple.Clauses.{Clauses, Ended, closing}
-use denote.Triple.Entry.{on_entry}
-use denote.Triple.Spec.{Meets, triple_of}
-use denote.Triple.Table.{entered, run_framed}
-use denote.Triple.Walked.{says, needs, Stays, stay_dropped, stay_ref, walk_of, ends_at, walked, Goes-dropped, Goes-ref, walk_Meets}
 use Rattle.std.specs.Prelude.{IsTrue}
-use Rattle.nd_lent.specs.Cells.{are_within, chosen_of, known, without, holds_cells}
+use Rattle.nd_lent.specs.Cells.{are_within, chosen_of, holds_cells, without}
+use Rattle.nd_lent.specs.contracts.cells.Cells.take_part as f
 use Rattle.nd_lent.specs.declared.cells.Cells.{Cells}
-use Rattle.nd_lent.specs.contracts.cells.Cells.take_part.Key.{name as #self}
-use Rattle.nd_lent.proofs.cells.Cells.take_part.Statement as stated
 use Rattle.nd_lent.proofs.cells.Cells.take_part.Code as code
-use Rattle.nd_lent.proofs.lending.Held.{It, word, word_typed, ptr_typed, cells_had, cells_made}
+use Rattle.nd_lent.proofs.cells.Cells.take_part.Statement.{statement}
+use Rattle.nd_lent.proofs.lending.Held.{It, cells_made, opened, ptr_typed, word, word_typed}
 use Rattle.nd_lent.proofs.lending.Parted.{parted}
+use Rattle.nd_lent.proofs.lending.Walk.{first_ends, first_stays, quiet, shown, tail}
+use Rattle.nd_lent.proofs.lending.Steps
+use Steps.{Array, Bool, GName, Goes-ref, List, MutRef, RattleType, ShrRef, T, Val, a_type, agg, alloc_all, and_then, await, by, closes}
+use Steps.{done, drop, enter, feq_i, fjoin3, fld, flft, follows_both, free_all, fsplit, get, group, inst_fn, keep, later, layouts, load}
+use Steps.{look_at, look_in, move, mut_Tells, mut_vals, named, named_lft, no_more, of_opd, owns, param, pass_all, pick, plain, qed, raw}
+use Steps.{refl, returns, says, sem, sets, shr_Tells, shr_vals, some, split, split3, stop, sub, subst, sym, tables, through, toks, use2}
+use Steps.{vptr, whole, !, [], ‵, ◌$◌, ◌∵◌, ◌∷◌, ◌⊛◌}
 
-module _ (Y Z : RattleType) where
-  abbrev R : RattleType
-  R = param 0 Y
-
-  abbrev By : RattleType
-  By = param 1 Z
-
-  abbrev fn' : Fn
-  fn' = inst_fn (layouts (a_type ∷ a_type ∷ []) (Y, (Z, tt))) code.function
-
-  abbrev at : Lft → Lft → Lft → NamedLft
-  at κ κ' κ'' = named_lft 3 1 tt (κ, (κ', (κ'', tt)))
-
-  abbrev ended : Ended
-  ended = record {
-    signature = record {
-      lifetimes = 3;
-      outlives = record { long = 1; long_ok = tt; short = named 0; short_ok = tt } ∷ [];
-      params = RefMutOf (0 ∷ []) tt (plain (λ κs. It (named_lft 3 1 tt κs) R)) (λ _. tt)
-          ∷ RefOf (2 ∷ []) tt (plain (λ _. By)) (λ _. tt) ∷ [];
-      result = plain (λ κs. It (named_lft 3 1 tt κs) R);
-    };
-    kept = (yes, (yes, tt));
-  }
-
-  abbrev stayed : Stays ended.signature.params ended.kept
-  stayed = (
-    stay_ref (0 ∷ []) tt (plain (λ κs. It (named_lft 3 1 tt κs) R)),
-    (stay_dropped (RefOf (2 ∷ []) tt (plain (λ _. By)) (λ _. tt)) yes, tt),
-  )
-
-  abbrev Gives : Cells Y.Denot → List Bool → Cells Y.Denot → Cells Y.Denot → Type 0
-  Gives c chosen one other = (one.items ≡ c.items) × (other.items ≡ c.items) × (one.marks ≡ chosen) × (other.marks ≡ without chosen c.marks)
-
-  abbrev spec : {M : Type 1} {𝓤 : Ura M} (𝓛 : Logic 𝓤) → Clauses 𝓤 ended
-  spec {𝓤 = 𝓤} 𝓛 κs a = record {
-    ghost = List Bool;
-    requires = λ chosen. fact 𝓤 (IsTrue (are_within chosen a.0.now.marks));
-    ensures = λ chosen r w. sep 𝓤
-        (sem 𝓛 (follows_both (Array R 0) (Array R 0) (Array R 0) a.0.now.name r.name w.0.now.name (chosen_of chosen)))
-        (fact 𝓤 (Gives a.0.now chosen r w.0.now));
-  }
-
-module _ (Y Z : RattleType) {M : Type 1} {𝓤 : Ura M} (𝓛 : Logic 𝓤) (κ κ' κ'' : Lft) (q q' q'' : Share) (b o : ℕ) (γ : GName)
-    (c : Cells Y.Denot) (by_value : Bor Z.Denot) (chosen : List Bool)
-    (within' : AllOutlive 3 (ended Y Z).signature.outlives (κ, (κ', (κ'', tt)))) where
-  open 𝓛 use {H, A}
-
-  abbrev self : MutBor (Cells Y.Denot)
-  self = record { ref_ptr = (b, o); ghost_name = γ; now = c }
-
-  abbrev V : RattleType
-  V = R Y Z
-
-  abbrev here : NamedLft
-  here = at Y Z κ κ' κ''
-
-  abbrev Self : RattleType
-  Self = It here V
-
-  abbrev bound : (walk_of 𝓛 (ended Y Z) (stayed Y Z) (spec Y Z 𝓛)).Ghost
-  bound = (
-    ((κ, (κ', (κ'', tt))), (q, (q', (q'', tt))), within', (self, (by_value, tt)), (mut_vals self, (shr_vals by_value, tt))),
-    chosen,
-  )
-
-  abbrev Post : Val → SProp 𝓤
-  Post = (walk_of 𝓛 (ended Y Z) (stayed Y Z) (spec Y Z 𝓛)).post bound
-
-  abbrev Fol : Cells Y.Denot → Cells Y.Denot → Fml
-  Fol one other = follows_both (Array V 0) (Array V 0) (Array V 0) c.name one.name other.name (chosen_of chosen)
-
-  exits : (one other : Cells Y.Denot) (v : Val) → Gives Y Z c chosen one other
-      → ent 𝓤 (sep 𝓤 (A.obs γ (Self.coded.code other)) (sep 𝓤 (A.bor κ (Borrowed (mem Self) b o γ)) (sep 𝓤 (A.lft κ q) (sep 𝓤 (A.lft κ' q')
-      (sep 𝓤 (A.lft κ'' q'') (sep 𝓤 (sem 𝓛 (Self.own_val one (v ∷ []))) (sem 𝓛 (Fol one other)))))))) (Post v)
-  exits one other v given =
-      qed 𝓛 (‵ (fobs γ (Self.coded.code other)) ∷ ‵ (fbor κ (Borrowed (mem Self) b o γ)) ∷ ‵ (flft κ q) ∷ ‵ (flft κ' q') ∷ ‵ (flft κ'' q'')
-      ∷ ‵ (Self.own_val one (v ∷ [])) ∷ ‵ (Fol one other) ∷ []) ∵
-      suffices ! _ (ends_at 𝓛 (ended Y Z) (stayed Y Z) (spec Y Z 𝓛) bound v one (other, (tt, tt)) (tt, (tt, tt))) $
-      nothing ! $ move ! (5 ∷ 0 ∷ []) $ join ! $ move ! (4 ∷ 0 ∷ []) $ join ! $ move ! (3 ∷ 0 ∷ []) $ join ! $ move ! (1 ∷ 2 ∷ []) $
-      feq_i ! (List Val) (vptr b o ∷ []) (vptr b o ∷ []) refl $ fjoin3 ! $
-      nothing ! $ nothing ! $ fjoin ! $ move ! (1 ∷ 0 ∷ []) $ fjoin ! $
-      move ! (0 ∷ 2 ∷ []) $ join ! $ move ! (1 ∷ 0 ∷ []) $ join ! $ frame ! $ says ! given $ done !
-
-  module _ (C : Calls 𝓤 H) (Λ : Loops 𝓤 H) where
-    walk : IsTrue (are_within chosen c.marks)
-        → ent 𝓤 (on_entry 𝓛 (ended Y Z).signature (κ, (κ', (κ'', tt))) (q, (q', (q'', tt))) (self, (by_value, tt))
-        (mut_vals self, (shr_vals by_value, tt)))
-        (WpFn 𝓤 H C Λ (fn' Y Z) (vptr b o ∷ vptr by_value.ref_ptr.0 by_value.ref_ptr.1 ∷ []) Post)
-    walk h =
-        qed 𝓛 ((‵ (flft κ q) ⊛ ‵ (flft κ' q') ⊛ ‵ (flft κ'' q'') ⊛ ‵ ftrue) ∷ ‵
-        (owns (MutRef (named 0) κ Self ∷ ShrRef (named 2) κ'' (By Y Z) ∷ []) (self, (by_value, tt))
-        (mut_vals self, (shr_vals by_value, tt))) ∷ []) ∵
-        enter ! C Λ (fn' Y Z) (vptr b o ∷ vptr by_value.ref_ptr.0 by_value.ref_ptr.1 ∷ []) _ $
-        alloc_all ! (λ l. pass_all ! refl ((tt, tt), ((tt, tt), tt)) $
-        move ! (1 ∷ []) $ fsplit ! $ fsplit3 ! $ drop ! $ move ! (3 ∷ []) $ split3 ! $ move ! (3 ∷ 4 ∷ 0 ∷ []) $
-        opens ! tt Self {h = c} b o (λ vs. move ! (1 ∷ []) $ cells_had ! here V c vs (λ told. fsplit ! $
-        pure_l ! (known V c.first c.marks c.items) (λ k.
-        pure_i ! (known V c.first c.marks c.items) (tt, (tt, (tt, tt))) k $ fjoin ! $ move ! (1 ∷ []) $
-        let Cell = λ (us : List Val). ‵ (cell_at full_share Self.mir us b o) in
-        rewrite ! 0 Cell told refl $
-        -- [the struct; what it holds; the open borrow, its name; the token of 'a; the other token and true; what is owned of the value]
-        sets ! (of_opd ! (load ! (through ! refl (fld ! refl (stop !))) (look_in ! 0 (sub ! 0 refl (whole !))))) refl
-        (ptr_typed c.first) $
-        sets ! (agg ! (no_more !)) refl (tt, tt) $
-        sets ! (agg ! (and_then ! (get ! refl) (and_then ! (get ! refl) (no_more !)))) refl (word_typed here V c.first) $
-        move ! (1 ∷ 5 ∷ []) $
-        let left : List Bool = without chosen c.marks in
-        use2 𝓛 (later (some (λ (γs : GName × GName). ‵ (holds_cells κ' V γs.0 c.first chosen c.items)
-        ⊛ ‵ (holds_cells κ' V γs.1 c.first left c.items) ⊛ ‵ (flft κ' q')
-        ⊛ ‵ (follows_both (Array V 0) (Array V 0) (Array V 0) c.name γs.0 γs.1 (chosen_of chosen)))))
-        (parted 𝓛 V κ' q' c.first c.name chosen c.marks c.items (subst (λ (y : Bool). T y) (sym h) tt)) $ await ! tt $ pick ! (λ γs.
-        let one : Cells Y.Denot = record { first = c.first; mark = record {}; name = γs.0; marks = chosen; items = c.items } in
-        let other : Cells Y.Denot = record { first = c.first; mark = record {}; name = γs.1; marks = left; items = c.items } in
-        -- [the chosen ones; the others; the token of 'a, and what follows; the struct; the open borrow, its name]
-        split3 ! $ move ! (2 ∷ []) $ split ! $ move ! (3 ∷ 0 ∷ 2 ∷ 1 ∷ []) $
-        cells_made ! here V other $ move ! (4 ∷ 0 ∷ 5 ∷ 6 ∷ 7 ∷ []) $ closes ! tt Self other (word c.first ∷ []) b o $
-        -- [the name; the borrow; its token; the token of 'a; the chosen ones; what follows; the other token and true]
-        move ! (4 ∷ []) $ cells_made ! here V one $ move ! (6 ∷ []) $ split ! $
-        returns ! (look_at ! 0 refl) $ free_all ! refl $ keep ! (3 ∷ 4 ∷ 5 ∷ 6 ∷ 0 ∷ 2 ∷ 7 ∷ []) $
-        by ! (exits one other (word c.first) (refl, refl, refl, refl)))))))
-
-meets : (Y Z : RattleType) {M : Type 1} {𝓤 : Ura M} (𝓛 : Logic 𝓤) (𝓣 : Tables 𝓤 𝓛.H)
-    → Meets 𝓛 (ended Y Z).signature (WpFn 𝓤 𝓛.H 𝓣.C 𝓣.Λ (fn' Y Z)) (closing 𝓛 (ended Y Z) (spec Y Z 𝓛))
-meets Y Z {𝓤 = 𝓤} 𝓛 𝓣 =
-    walk_Meets 𝓛 (ended Y Z) (stayed Y Z) (
-      Goes-ref 𝓛 3 0 tt (plain (λ κs. It (named_lft 3 1 tt κs) (R Y Z))),
-      (Goes-dropped 𝓛 3 (RefOf (2 ∷ []) tt (plain (λ _. By Y Z)) (λ _. tt)) yes (λ κs x f. refl), tt),
-    )
-    (spec Y Z 𝓛) (WpFn 𝓤 𝓛.H 𝓣.C 𝓣.Λ (fn' Y Z)) (WpFn-mono 𝓤 𝓛.H 𝓛.laws 𝓣 (fn' Y Z))
-    (walked 𝓛 (ended Y Z) (stayed Y Z) (spec Y Z 𝓛) (WpFn 𝓤 𝓛.H 𝓣.C 𝓣.Λ (fn' Y Z)) (λ κs. (mut_vals, (shr_vals, tt)))
-    (λ κs. (mut_Tells (named 0) κs.0 (It (named_lft 3 1 tt κs) (R Y Z)), (shr_Tells (named 2) κs.1.1.0 (By Y Z), tt)))
-    (λ κs qs bounds a chosen are. needs 𝓤 (IsTrue (are_within chosen a.0.now.marks)) _
-    (walk Y Z 𝓛 κs.0 κs.1.0 κs.1.1.0 qs.0 qs.1.0 qs.1.1.0 a.0.ref_ptr.0 a.0.ref_ptr.1 a.0.ghost_name a.0.now a.1.0 chosen bounds
-    𝓣.C 𝓣.Λ)))
-
-pub take_part_spec : {M : Type 1} → stated.statement M
-unfolding tables_of
-take_part_spec 𝓤 𝓛 𝓜 𝓡 wired X W L LW y =
-    let 𝓣 : Tables 𝓤 𝓛.H = tables_of 𝓤 𝓛.H 𝓜 (tables 𝓤 𝓛.H 𝓜 𝓡 𝓡.env) in
-    let k = #self (layouts (a_type ∷ a_type ∷ []) (X, (W, tt))) in
-    spared 𝓛 (ended X W).signature (𝓡.run (𝓡.env k)) (run_framed 𝓤 𝓛.H 𝓜 𝓡 (𝓡.env k)) 2 (X.lives, (W.lives, tt))
-    (closing 𝓛 (ended X W) (spec X W 𝓛))
-    (entered 𝓤 𝓛.H (triple_of 𝓛 (ended X W).signature (closing 𝓛 (ended X W) (spec X W 𝓛))) 𝓣.C 𝓣.Λ k (fn' X W)
-    (code.unfolded 𝓤 𝓛.H 𝓜 𝓡 wired (X, (W, tt))) (meets X W 𝓛 𝓣))
-    ((y.0.0, y.0.1, (y.0.2.0, tt), y.0.3, y.0.4), y.1)
+pub take_part_spec : {M : Type 1} → statement M
+take_part_spec 𝓤 𝓛 𝓜 𝓡 wired X W L LW =
+    let T' = f.ended X W in let c = f.clauses X W 𝓛 𝓜.mem 𝓡.returns in let 𝓣 = tables 𝓤 𝓛.H 𝓜 𝓡 𝓡.env in
+    let args = layouts (a_type ∷ a_type ∷ []) (X, (W, tt)) in let fn = inst_fn args code.function in let V : RattleType = param 0 X in
+    let s = plain (λ κs. It (named_lft 5 1 tt κs) V) in let ss = tail T'.signature.params in let ks = T'.kept.1 in
+    shown 𝓛 T' (first_stays 𝓛 T' s tt ss ks) (Goes-ref 𝓛 5 0 tt s, quiet 𝓛 ss ks ((λ κs x w. refl), tt)) c 𝓜 𝓡
+    (f.Key.name args) fn (code.unfolded 𝓤 𝓛.H 𝓜 𝓡 wired (X, (W, tt))) 2 (λ κs. κs.1.1.1) (X.lives, (W.lives, tt))
+    (λ κs. (mut_vals, (shr_vals, tt)))
+    (λ κs. (mut_Tells (named 0) κs.0 (It (named_lft 5 1 tt κs) V), (shr_Tells (named 2) κs.1.1.0 (param 1 W), tt)))
+    (first_ends 𝓛 T' s tt ss ks c) (λ y. IsTrue (are_within y.1 y.0.3.0.now.marks)) (λ y. refl) (λ κs qs bounds a chosen are h out.
+    let at = named_lft 5 1 tt κs in let κ = κs.0 in let κ' = at.lft in let q' = qs.1.0 in let Rest = toks 𝓛 3 κs.1.1 qs.1.1 in
+    let cells : Cells V.Denot = a.0.now in let left : List Bool = without chosen cells.marks in
+    let vs = vptr a.0.ref_ptr.0 a.0.ref_ptr.1 ∷ vptr a.1.0.ref_ptr.0 a.1.0.ref_ptr.1 ∷ [] in
+    let Both = λ (γs : GName × GName). follows_both (Array V 0) (Array V 0) (Array V 0) cells.name γs.0 γs.1 (chosen_of chosen) in
+    let Held = owns (MutRef (named 0) κ (It at V) ∷ ShrRef (named 2) κs.1.1.0 (param 1 W) ∷ []) a (mut_vals a.0, (shr_vals a.1.0, tt)) in
+    qed 𝓛 ((‵ (flft κ qs.0) ⊛ ‵ (flft κ' q') ⊛ raw Rest) ∷ ‵ Held ∷ []) ∵
+    split3 ! $ move ! (3 ∷ []) $ fsplit ! $ move ! (1 ∷ []) $ drop ! $
+    -- [the reference; its token; the token of 'a; the others]
+    enter ! 𝓣.C 𝓣.Λ fn vs _ $ alloc_all ! (λ l. pass_all ! refl ((tt, tt), ((tt, tt), tt)) $ opened ! tt at V a.0 (λ k.
+    sets ! (of_opd ! (load ! (through ! refl (fld ! refl (stop !))) (look_in ! 0 (sub ! 0 refl (whole !))))) refl (ptr_typed cells.first) $
+    sets ! (agg ! (no_more !)) refl (tt, tt) $
+    sets ! (agg ! (and_then ! (get ! refl) (and_then ! (get ! refl) (no_more !)))) refl (word_typed cells.first) $
+    move ! (1 ∷ 5 ∷ []) $
+    use2 𝓛 (later (some (λ (γs : GName × GName). ‵ (holds_cells κ' V γs.0 cells.first chosen cells.items)
+    ⊛ ‵ (holds_cells κ' V γs.1 cells.first left cells.items) ⊛ ‵ (flft κ' q') ⊛ ‵ (Both γs))))
+    (parted 𝓛 V κ' q' cells.first cells.name chosen cells.marks cells.items (subst (λ (y : Bool). T y) (sym h) tt)) $
+    await ! tt $ pick ! (λ γs.
+    let one : Cells V.Denot = record cells { name = γs.0; marks = chosen } in
+    let other : Cells V.Denot = record cells { name = γs.1; marks = left } in
+    -- [the chosen ones; the others; the token of 'a, and what follows; the struct; the open borrow, its name; the other tokens]
+    split3 ! $ cells_made ! at V one $ move ! (1 ∷ []) $ cells_made ! at V other $ move ! (3 ∷ 0 ∷ 4 ∷ 5 ∷ 6 ∷ []) $
+    closes ! tt (It at V) other (word cells.first ∷ []) a.0.ref_ptr.0 a.0.ref_ptr.1 $
+    feq_i ! (List Val) (mut_vals a.0) (mut_vals a.0) refl $ fjoin3 ! $ move ! (3 ∷ []) $ split ! $
+    -- [the token of 'a; what follows; the reference; its token; the chosen ones; the other tokens]
+    returns ! (look_at ! 0 refl) $ free_all ! refl $ keep ! (3 ∷ 0 ∷ 5 ∷ 2 ∷ 4 ∷ 1 ∷ []) $ group ! 3 $
+    by ! (out (word cells.first) one other (tt, tt) (sem 𝓛 (Both γs))
+    (qed 𝓛 (‵ (Both γs) ∷ []) ∵ says ! (refl, refl, refl, refl) $ done !))))))

@@ -1,131 +1,36 @@
 -- `of_slice` lends all elements of a slice. Assumes `Logic`.
-use mathlib.Core.Path.{◌≡◌, refl, sym}
-use Prim.Native.Nat.{ℕ}
-use mathlib.Core.Bool.{Bool, true}
-use mathlib.Core.List.{List, [], ◌∷◌}
-use lib.ListN.{length, replicate, length-replicate}
-use seplogic.Ra.Ura.{Ura}
-use mir.Syntax.{Fn, named, a_type}
-use mir.MapTy.{inst_fn}
-use mir.Val.{Val}
-use base.Logic.{SProp, ent, emp, via, fst∗}
-use base.Fml.{Lft, Share, ftrue, flft}
-use prog.Wp.{Calls, Loops, WpFn, Tables}
-use types.Logic.{Logic}
-use contract.Monad.{fact}
-use contract.Running.{tables, tables_of}
-use sound.WpLaws.{WpFn-mono}
-use types.Kit.{‵, ◌⊛◌, ◌$◌, ◌∵◌, !, qed, move, keep, use1, drop, split, join, fsplit, fjoin, suffices, done}
-use types.Part.{whole, sub, agg}
-use types.Run.{addr, stop, fld, hop, from, and_then, no_more, returns, enter}
-use types.ByLocal.{alloc_all, pass_all, free_all, look_at, look_in_at, get, sets}
-use denote.Builtin.{SliceRefOf}
-use denote.Exit.{yes}
-use denote.Opens.{unhide}
-use denote.Param.{param, layouts}
-use denote.RattleType.{RattleType, owns}
-use denote.RawPtr.{Ptr, block_ptr}
-use denote.Ref.{Bor, NamedLft}
-use denote.Shadow.{pure_l, pure_i}
-use denote.Signature.{plain, named_lft}
-use denote.Slice.{ShrSlice, slice_val, room, shr_slice_vals, shr_slice_Tells}
-use denote.Steps.{nothing}
-use denote.Triple.Carry.{spared}
-use denote.Triple.Clauses.{Clauses, Ended, closing}
-use denote.Triple.Entry.{on_entry}
-use denote.Triple.Spec.{Meets, triple_of}
-use denote.Triple.Table.{entered, run_framed}
-use denote.Triple.Walked.{says, Stays, stay_dropped, walk_of, ends_at, walked, Goes-dropped, walk_Meets}
+use denote.Slice.{ShrSlice, shr_slice_Tells, shr_slice_vals}
+use lib.ListN.{length-replicate}
+use mir.Syntax.{imm}
 use Rattle.nd_lent.specs.Cells.{known, lent_where}
+use Rattle.nd_lent.specs.contracts.cells.Reader.{struct}
+use Rattle.nd_lent.specs.contracts.cells.Reader.of_slice as f
 use Rattle.nd_lent.specs.declared.cells.Reader.{Reader}
-use Rattle.nd_lent.specs.contracts.cells.Reader.of_slice.Key.{name as #self}
-use Rattle.nd_lent.proofs.cells.Reader.of_slice.Statement as stated
 use Rattle.nd_lent.proofs.cells.Reader.of_slice.Code as code
-use Rattle.nd_lent.proofs.lending.Held.{word}
-use Rattle.nd_lent.proofs.lending.HeldReader.{It, reader_made, reader_typed}
+use Rattle.nd_lent.proofs.cells.Reader.of_slice.Statement.{statement}
+use Rattle.nd_lent.proofs.lending.Held.{Reading, reader_made, word}
+use Rattle.nd_lent.proofs.lending.OfSlice.{all_taken}
 use Rattle.nd_lent.proofs.lending.Read.{all_lent}
+use Rattle.nd_lent.proofs.lending.Walk.{all_dropped, ends, quiet, shown_free}
+use Rattle.nd_lent.proofs.lending.Steps
+use Steps.{Bool, List, Ptr, RattleType, ShrRef, a_type, at_once, block_ptr, done, drop, emp, fact_i, fjoin, fsplit, inst_fn, layouts}
+use Steps.{length, move, named, named_lft, owns, pure_i, qed, raw, refl, replicate, sem, sep, sym, tables, toks, true, unhide, updating}
+use Steps.{use1, !, [], ‵, ◌$◌, ◌∵◌, ◌∷◌}
 
-module _ (Y : RattleType) where
-  abbrev R : RattleType
-  R = param 0 Y
-
-  abbrev fn' : Fn
-  fn' = inst_fn (layouts (a_type ∷ []) (Y, tt)) code.function
-
-  abbrev at : Lft → NamedLft
-  at κ = named_lft 1 0 tt (κ, tt)
-
-  abbrev ended : Ended
-  ended = record {
-    signature = record {
-      lifetimes = 1;
-      outlives = [];
-      params = SliceRefOf (0 ∷ []) tt (plain (λ _. R)) (λ _. tt) ∷ [];
-      result = plain (λ κs. It (at κs.0) R);
-    };
-    kept = (yes, tt);
-  }
-
-  abbrev stayed : Stays ended.signature.params ended.kept
-  stayed = (stay_dropped (SliceRefOf (0 ∷ []) tt (plain (λ _. R)) (λ _. tt)) yes, tt)
-
-  abbrev Gives : List Y.Denot → Reader Y.Denot → Type 0
-  Gives xs r = (r.items ≡ xs) × (r.marks ≡ replicate (length xs) true)
-
-  abbrev spec : {M : Type 1} (𝓤 : Ura M) → Clauses 𝓤 ended
-  spec 𝓤 κs a = record { ghost = Unit {0}; requires = λ _. emp 𝓤; ensures = λ _ r w. fact 𝓤 (Gives a.0.now r) }
-
-module _ (Y : RattleType) {M : Type 1} {𝓤 : Ura M} (𝓛 : Logic 𝓤) (C : Calls 𝓤 𝓛.H) (Λ : Loops 𝓤 𝓛.H)
-    (κ : Lft) (q : Share) (b o : ℕ) (xs : List Y.Denot) where
-  open 𝓛 use {H, A}
-
-  abbrev items : Bor (List Y.Denot)
-  items = record { ref_ptr = (b, o); now = xs }
-
-  abbrev bound : (walk_of 𝓛 (ended Y) (stayed Y) (spec Y 𝓤)).Ghost
-  bound = (((κ, tt), (q, tt), tt, (items, tt), (shr_slice_vals items, tt)), tt)
-
-  abbrev Post : Val → SProp 𝓤
-  Post = (walk_of 𝓛 (ended Y) (stayed Y) (spec Y 𝓤)).post bound
-
-  walk : ent 𝓤 (on_entry 𝓛 (ended Y).signature (κ, tt) (q, tt) (items, tt) (shr_slice_vals items, tt))
-      (WpFn 𝓤 H C Λ (fn' Y) (slice_val (b, o) (length xs) ∷ []) Post)
-  walk =
-      let V : RattleType = R Y in
-      let p : Ptr = block_ptr b o in
-      let marks : List Bool = replicate (length xs) true in
-      let r : Reader Y.Denot = record { first = p; mark = record {}; marks = marks; items = xs } in
-      qed 𝓛 ((‵ (flft κ q) ⊛ ‵ ftrue) ∷ ‵ (owns (ShrSlice (named 0) κ V ∷ []) (items, tt) (shr_slice_vals items, tt)) ∷ []) ∵
-      split ! $ move ! (2 ∷ []) $ fsplit ! $ fsplit ! $ fsplit ! $ drop ! $ pure_l ! (room V (length xs)) (λ rm.
-      -- [a `&` to each element; true; the token; true]
-      enter ! C Λ (fn' Y) (slice_val (b, o) (length xs) ∷ []) _ $
-      alloc_all ! (λ l. pass_all ! refl ((tt, (tt, (record { fits = rm.0 }, tt))), tt) $
-      unhide ! $ use1 𝓛 (‵ (lent_where V p marks xs κ)) (all_lent 𝓛 V b κ xs o) $
-      pure_i ! (known V p marks xs) (tt, (tt, (tt, tt))) (refl, (sym (length-replicate {A = Bool} (length xs) true), rm)) $ fjoin ! $
-      reader_made ! (at Y κ) V r $
-      -- [the reader; true; the token; true]
-      sets ! (addr ! (from ! (fld ! refl (hop ! (look_in_at ! 1 (sub ! 0 refl (whole !))) (stop !))))) refl (tt, tt) $
-      sets ! (agg ! (no_more !)) refl (tt, tt) $
-      sets ! (agg ! (and_then ! (get ! refl) (and_then ! (get ! refl) (no_more !)))) refl (reader_typed (at Y κ) V p) $
-      returns ! (look_at ! 0 refl) $ free_all ! refl $ keep ! (0 ∷ 2 ∷ []) $
-      suffices ! _ (ends_at 𝓛 (ended Y) (stayed Y) (spec Y 𝓤) bound (word p) r (tt, tt) (tt, tt)) $ says ! (refl, refl) $
-      nothing ! $ nothing ! $ fjoin ! $ join ! $ nothing ! $ move ! (2 ∷ 0 ∷ []) $ join ! $ join ! $ done !))
-
-meets : (Y : RattleType) {M : Type 1} {𝓤 : Ura M} (𝓛 : Logic 𝓤) (𝓣 : Tables 𝓤 𝓛.H)
-    → Meets 𝓛 (ended Y).signature (WpFn 𝓤 𝓛.H 𝓣.C 𝓣.Λ (fn' Y)) (closing 𝓛 (ended Y) (spec Y 𝓤))
-meets Y {𝓤 = 𝓤} 𝓛 𝓣 =
-    walk_Meets 𝓛 (ended Y) (stayed Y) (Goes-dropped 𝓛 1 (SliceRefOf (0 ∷ []) tt (plain (λ _. R Y)) (λ _. tt)) yes (λ κs x f. refl), tt)
-    (spec Y 𝓤) (WpFn 𝓤 𝓛.H 𝓣.C 𝓣.Λ (fn' Y)) (WpFn-mono 𝓤 𝓛.H 𝓛.laws 𝓣 (fn' Y))
-    (walked 𝓛 (ended Y) (stayed Y) (spec Y 𝓤) (WpFn 𝓤 𝓛.H 𝓣.C 𝓣.Λ (fn' Y)) (λ κs. (shr_slice_vals, tt))
-    (λ κs. (shr_slice_Tells (named 0) κs.0 (R Y), tt))
-    (λ κs qs bounds a g are. via 𝓤 _ (fst∗ 𝓤 _ (emp 𝓤)) (walk Y 𝓛 𝓣.C 𝓣.Λ κs.0 qs.0 a.0.ref_ptr.0 a.0.ref_ptr.1 a.0.now)))
-
-pub of_slice_spec : {M : Type 1} → stated.statement M
-unfolding tables_of
-of_slice_spec 𝓤 𝓛 𝓜 𝓡 wired X L y =
-    let 𝓣 : Tables 𝓤 𝓛.H = tables_of 𝓤 𝓛.H 𝓜 (tables 𝓤 𝓛.H 𝓜 𝓡 𝓡.env) in
-    let k = #self (layouts (a_type ∷ []) (X, tt)) in
-    spared 𝓛 (ended X).signature (𝓡.run (𝓡.env k)) (run_framed 𝓤 𝓛.H 𝓜 𝓡 (𝓡.env k)) 1 (X.lives, tt) (closing 𝓛 (ended X) (spec X 𝓤))
-    (entered 𝓤 𝓛.H (triple_of 𝓛 (ended X).signature (closing 𝓛 (ended X) (spec X 𝓤))) 𝓣.C 𝓣.Λ k (fn' X)
-    (code.unfolded 𝓤 𝓛.H 𝓜 𝓡 wired (X, tt)) (meets X 𝓛 𝓣))
-    ((y.0.0, y.0.1, tt, y.0.3, y.0.4), y.1)
+pub of_slice_spec : {M : Type 1} → statement M
+of_slice_spec 𝓤 𝓛 𝓜 𝓡 wired X L =
+    let T = f.ended X in let c = f.clauses X 𝓛 𝓜.mem 𝓡.returns in let 𝓣 = tables 𝓤 𝓛.H 𝓜 𝓡 𝓡.env in
+    let args = layouts (a_type ∷ []) (X, tt) in
+    shown_free 𝓛 T (all_dropped T) (quiet 𝓛 T.signature.params T.kept ((λ κs x w. refl), tt)) c 𝓜 𝓡
+    (f.Key.name args) (inst_fn args code.function) (code.unfolded 𝓤 𝓛.H 𝓜 𝓡 wired (X, tt)) 1 (λ κs. κs.1) (X.lives, tt)
+    (λ κs. (shr_slice_vals, tt)) (λ κs. (shr_slice_Tells (named 0) κs.0 (f.T-row X), tt)) (ends 𝓛 T c) (λ y. refl)
+    (λ κs qs bounds a g are out. let V : RattleType = f.T-row X in let at = named_lft 2 0 tt κs in let Q = ShrRef (named 0) κs.0 V in
+    let b = a.0.ref_ptr.0 in let o = a.0.ref_ptr.1 in let xs : List V.Denot = a.0.now in let p : Ptr = block_ptr b o in
+    let rm = are.0.0.1 in let r : Reader V.Denot = record { first = p; mark = record {}; marks = replicate (length xs) true; items = xs } in
+    all_taken (struct at V).name V Q imm 𝓛 𝓣.C 𝓣.Λ b o (length xs) rm.0 _ _
+    (sep 𝓤 (toks 𝓛 2 κs qs) (sep 𝓤 (sem 𝓛 ((Reading at V).own_val r (word p ∷ []))) (emp 𝓤)))
+    (qed 𝓛 (raw (toks 𝓛 2 κs qs) ∷ ‵ (owns (ShrSlice (named 0) κs.0 V ∷ []) (a.0, tt) (shr_slice_vals a.0, tt)) ∷ []) ∵
+    updating ! $ at_once ! $ move ! (1 ∷ []) $ fsplit ! $ fsplit ! $ drop ! $ unhide ! $
+    use1 𝓛 (‵ (lent_where V p r.marks xs κs.0)) (all_lent 𝓛 V b κs.0 xs o) $
+    pure_i ! (known V p r.marks xs) (tt, (tt, (tt, tt))) (refl, (sym (length-replicate {A = Bool} (length xs) true), rm)) $ fjoin ! $
+    reader_made ! at V r $ move ! (2 ∷ 0 ∷ 1 ∷ []) $ done !) (out (word p) r (tt, tt) (emp 𝓤) (fact_i 𝓤 _ _ (refl, refl))))
