@@ -181,17 +181,17 @@ pub const UNSAFE: &[(&str, &str, &str)] = &[
     (
         "nd_lent",
         "item_mut",
-        "the place has a mark, which the caller ensures; so it is one of the slice that was lent (`new`), and no other `Cells` has its mark (`all` of `take_part`). While the result is in use the part is borrowed, so nothing else reads or writes the element.",
+        "the place has a mark, which the caller ensures; so it is one of the slice that was lent (`all_of`), and no other `Cells` has its mark (`all` of `take_part`). While the result is in use the part is borrowed, so nothing else reads or writes the element.",
     ),
     (
         "nd_lent",
         "get",
-        "the place has a mark, which the caller ensures; so it is one of the slice that was lent (`new`), and no other `Cells` has its mark (`all` of `take_part`). While the result is in use this one is borrowed, so nothing writes the element.",
+        "the place has a mark, which the caller ensures; so it is one of the slice that was lent (`all_of`), and no other `Cells` has its mark (`all` of `take_part`). While the result is in use this one is borrowed, so nothing writes the element.",
     ),
     (
         "nd_lent",
         "take_slice",
-        "each of these places has a mark, which the caller ensures, and has none afterwards (`all`, here). So they are those of the slice that was lent (`new`), and no call of this `Cells` or of another reads or writes them again.",
+        "each of these places has a mark, which the caller ensures, and has none afterwards (`all`, here). So they are those of the slice that was lent (`all_of`), and no call of this `Cells` or of another reads or writes them again.",
     ),
 ];
 

@@ -38,7 +38,8 @@
 //! Rust for each. The docs of a call have its contract folded away, and [`contracts`] says how to read one. What a caller ensures
 //! stands under `Conditions`. Where it is broken, a call panics or returns unspecified values: a loop over
 //! `all_indices(Ix2(1 << 32, 1 << 32))` panics with overflow checks, and ends at once without them. No behaviour is undefined: the
-//! only `unsafe` is proved, and the calls that have a condition for it test it.
+//! only `unsafe` is proved, but for a `NonNull::as_ref` or `as_mut` in each of its six blocks, and the calls that have a condition for it
+//! test it.
 //!
 //! The file `proved.txt` of the package has the checksums of the sources that the last gate proved, and its date. The gate makes the proofs; the
 //! other steps of the check have no part in that file.

@@ -55,8 +55,8 @@ impl<'a, T> Cells<'a, T> {
     /// </details>
     #[inline]
     pub(in crate::nd_lent) fn get(&self, place: usize) -> &T {
-        // SAFETY: the place has a mark, which the caller ensures; so it is one of the slice that was lent (`new`), and
-        // no other `Cells` has its mark (`all` of `take_part`). While the result is in use this one is borrowed, so
+        // SAFETY: the place has a mark, which the caller ensures; so it is one of the slice that was lent (`all_of`),
+        // and no other `Cells` has its mark (`all` of `take_part`). While the result is in use this one is borrowed, so
         // nothing writes the element.
         unsafe { core::ptr::NonNull::from(&*self.first.add(place)).as_ref() }
     }
@@ -96,8 +96,8 @@ impl<'a, T> Cells<'a, T> {
     /// </details>
     #[inline]
     pub(in crate::nd_lent) fn item_mut(&mut self, place: usize) -> &mut T {
-        // SAFETY: the place has a mark, which the caller ensures; so it is one of the slice that was lent (`new`), and
-        // no other `Cells` has its mark (`all` of `take_part`). While the result is in use the part is borrowed, so
+        // SAFETY: the place has a mark, which the caller ensures; so it is one of the slice that was lent (`all_of`),
+        // and no other `Cells` has its mark (`all` of `take_part`). While the result is in use the part is borrowed, so
         // nothing else reads or writes the element.
         unsafe { core::ptr::NonNull::from(&mut *self.first.add(place)).as_mut() }
     }
@@ -147,8 +147,8 @@ impl<'a, T> Cells<'a, T> {
     #[inline]
     pub(in crate::nd_lent) fn take_slice(&mut self, start: usize, len: usize) -> &'a mut [T] {
         // SAFETY: each of these places has a mark, which the caller ensures, and has none afterwards (`all`, here). So
-        // they are those of the slice that was lent (`new`), and no call of this `Cells` or of another reads or writes
-        // them again.
+        // they are those of the slice that was lent (`all_of`), and no call of this `Cells` or of another reads or
+        // writes them again.
         unsafe { core::ptr::NonNull::from(from_raw_parts_mut(self.first.add(start), len)).as_mut() }
     }
 }
@@ -241,8 +241,8 @@ impl<'a, T, D: Lengths> ArrayViewMut<'a, T, D> {
     /// </details>
     #[inline]
     pub(in crate::nd_lent) fn item_mut(&mut self, place: usize) -> &mut T {
-        // SAFETY: the place has a mark, which the caller ensures; so it is one of the slice that was lent (`new`), and
-        // no other `Cells` has its mark (`all` of `take_part`). While the result is in use the part is borrowed, so
+        // SAFETY: the place has a mark, which the caller ensures; so it is one of the slice that was lent (`all_of`),
+        // and no other `Cells` has its mark (`all` of `take_part`). While the result is in use the part is borrowed, so
         // nothing else reads or writes the element.
         unsafe { core::ptr::NonNull::from(&mut *self.cells.first.add(place)).as_mut() }
     }

@@ -102,6 +102,19 @@ fn files_with(words: &[&str]) -> BTreeSet<String> {
 }
 
 #[test]
+fn comments_of_unsafe_name_what_is_there() {
+    let source = fs::read_to_string("rust/src/nd_lent/cells.rs").expect("a file");
+    let comments: String = source.lines().map(str::trim).filter(|line| line.starts_with("// ")).collect();
+    let is_name = |word: &&str| word.chars().all(|letter| letter.is_alphanumeric() || letter == '_');
+    for name in comments.split('`').skip(1).step_by(2).filter(is_name) {
+        let forms = ["fn NAME(", "fn NAME<", "struct NAME<", "ensures NAME:"].map(|form| form.replace("NAME", name));
+        assert!(forms.iter().any(|form| source.contains(form)), "a comment names `{name}`");
+    }
+    let blocks = ["unsafe {", "unsafe { core::ptr::NonNull::from("].map(|form| source.matches(form).count());
+    assert_eq!(blocks, [6, 6], "docs/PROVED.md tells of six blocks");
+}
+
+#[test]
 fn one_file_of_the_package_has_unsafe() {
     assert_eq!(files_with(&["unsafe", "no_mangle", "asm"]), BTreeSet::from(["nd_lent/cells.rs".to_string()]));
     let allowing = BTreeSet::from(["lib.rs".to_string(), "nd_lent/cells.rs".to_string()]);
