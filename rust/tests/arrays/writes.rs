@@ -5,6 +5,8 @@ use crate::numbers::Numbers;
 use crate::{NUMBERS, kind, of_count, owned, rows, rows_mut, texts};
 use ndarray_layout::ErrorKind::IncompatibleShape;
 use ndarray_layout::{ArrayView, Axis, Ix1, Ix2, IxDyn, LayoutError, Order, OwnedArray, StrideShape, Strides};
+use std::cell::Cell;
+use std::panic::{AssertUnwindSafe, catch_unwind};
 use std::rc::Rc;
 
 #[test]
@@ -182,5 +184,32 @@ fn a_list_of_the_items_is_row_major_and_has_no_spare_one() {
         assert!(list.iter().map(|item| **item).eq(places));
         let owners = |place| if place < 120 { 2 } else { 1 };
         assert!(items.iter().map(Rc::strong_count).eq((0..122).map(owners)));
+    }
+}
+
+/// An item that counts how often it was dropped, and may panic then.
+struct Counted<'a> {
+    drops: &'a Cell<usize>,
+    panics: bool,
+}
+
+impl Drop for Counted<'_> {
+    fn drop(&mut self) {
+        self.drops.set(self.drops.get() + 1);
+        assert!(!self.panics, "an item that panics");
+    }
+}
+
+#[test]
+fn each_item_is_dropped_once_where_a_spare_one_panics() {
+    let takes: [fn(OwnedArray<Counted<'_>, Ix2>); 2] =
+        [|array| drop(array.into_iter()), |array| drop(array.into_list())];
+    for (strides, take) in [Strides::C, Strides::F].into_iter().flat_map(|strides| takes.map(|take| (strides, take))) {
+        let drops: [Cell<usize>; 9] = Default::default();
+        let items = drops.iter().enumerate().map(|(place, drops)| Counted { drops, panics: place == 7 });
+        let array = OwnedArray::from_shape_vec(StrideShape { dim: Ix2(2, 3), strides }, items.collect());
+        let array = array.unwrap_or_else(|_| panic!("six items and three spare ones"));
+        assert!(catch_unwind(AssertUnwindSafe(|| take(array))).is_err());
+        assert_eq!(drops.map(Cell::into_inner), [1; 9], "{strides:?}");
     }
 }

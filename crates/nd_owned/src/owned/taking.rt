@@ -61,7 +61,10 @@ fn items_in_order<T: Drop, D: Lengths>(
     let taken = Vec::with_capacity(alloc, view.len())?;
     let mut left = all_left(alloc, items)?;
     let places = view.iter_places(Order::RowMajor);
-    Ok(take_items(taken, left.as_mut_slice(), places))
+    let list = take_items(taken, left.as_mut_slice(), places);
+    // Before the result is made: if a spare item panics as it is dropped, the list is dropped too.
+    drop(left);
+    Ok(list)
 }
 
 /// The items of a list, of which each may be taken.

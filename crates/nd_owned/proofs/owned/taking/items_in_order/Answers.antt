@@ -10,20 +10,20 @@ use Rattle.nd_owned.specs.private.Left.{left_at}
 use Rattle.nd_owned.proofs.Left.{all_own, all_there}
 use Rattle.nd_owned.proofs.owned.taking.items_in_order.Goals as goal
 
-pub take_items-requires-clause-left : goal.take_items-requires-clause-left
-take_items-requires-clause-left g c =
+pub take_items-list-requires-clause-left : goal.take_items-list-requires-clause-left
+take_items-list-requires-clause-left g c =
     let items = c.args.items.items in
     let within = subst (All (IsInBounds (length items))) (sym c.iter_places-places.ensures.items)
     (places_lie_within (length items) RowMajor c.args.view.now c.requires.within) in
     rw (c.as_mut_slice.ensures.value) (all_there items c.in_ok-left.ensures c.iter_places-places.result within)
 
-pub take_items-requires-clause-distinct : goal.take_items-requires-clause-distinct
-take_items-requires-clause-distinct g c =
+pub take_items-list-requires-clause-distinct : goal.take_items-list-requires-clause-distinct
+take_items-list-requires-clause-distinct g c =
     subst (AllPairs (λ one other. one ≢ other)) (sym c.iter_places-places.ensures.items)
     (AllPairs-view_places RowMajor c.args.view.now c.requires.distinct)
 
-pub take_items-requires-clause-room : goal.take_items-requires-clause-room
-take_items-requires-clause-room g c = omega (
+pub take_items-list-requires-clause-room : goal.take_items-list-requires-clause-room
+take_items-list-requires-clause-room g c = omega (
   arith,
   ap length c.iter_places-places.ensures.items,
   length-view_places RowMajor c.args.view.now,
@@ -35,7 +35,7 @@ take_items-requires-clause-room g c = omega (
 pub returns : goal.returns
 returns g c =
     let items = c.args.items.items in
-    let taken = rw (c.as_mut_slice.ensures.value) at c.take_items.ensures in
+    let taken = rw (c.as_mut_slice.ensures.value) at c.take_items-list.ensures in
     taken ∙ ap (λ items. map Some items ++ map (left_at c.in_ok-left.left.items) c.iter_places-places.result) c.in_ok-taken.ensures.items
     ∙ all_own items c.in_ok-left.ensures c.iter_places-places.result
     ∙ ap (map (item_at_place items)) c.iter_places-places.ensures.items
