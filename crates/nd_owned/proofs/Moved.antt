@@ -14,7 +14,6 @@ use Rattle.ndarray_layout.specs.declared.Slice.{Slice}
 use Rattle.ndarray_layout.specs.declared.SliceInfoElem.{SliceInfoElem}
 use Rattle.ndarray_layout.specs.declared.SliceInfoElem.TheVariants as elem
 use Rattle.ndarray_layout.specs.AxisFault.{IndexFits, SliceFits, index_fault, slice_fault}
-use Rattle.ndarray_layout.specs.AxisElems.{axis_elems}
 use Rattle.ndarray_layout.specs.Indices.{indices_in, is_index}
 use Rattle.ndarray_layout.specs.Offset.{offset_of}
 use Rattle.ndarray_layout.specs.Picks.{between, picks}
@@ -35,6 +34,7 @@ use Rattle.ndarray_layout.proofs.Laws.SlicedView.{start-slice_of}
 use Rattle.ndarray_layout.proofs.Laws.Times.{times_sum}
 use Rattle.ndarray_layout.proofs.Laws.View.{no_places}
 use Rattle.nd_owned.specs.Moved.{moved, moves, moves_along}
+use Rattle.nd_owned.specs.private.MovedRows.{IsOffset}
 
 -- ---- what a range picks, so many coordinates further on
 module _ (step : ℤ) (start stop end by : ℕ) (moves_on : 0 < magnitude step) (same : stop ≡ max start end) where
@@ -93,6 +93,17 @@ module _ (len by : ℕ) (start : ℤ) (end : Option ℤ) (step : ℤ) (fits : Sl
         step_moves = fits.step_moves;
       })
 
+  by_below : 0 < length (picks Strict len old) → by < len
+  by_below some =
+      let under : by < len - max first last + 1 = below in
+      omega (
+        arith,
+        under,
+        start_below Strict len old fits,
+        end_below Strict len old fits,
+        between_within step first last 0 moves_on some,
+      )
+
   new_count : length (picks Strict len new) ≡ length (picks Strict len old)
   new_count = as_many step first (max first last) last by moves_on refl
 
@@ -120,13 +131,14 @@ module _ (len by : ℕ) (index : ℤ) (fits : IndexFits len index) (below : by <
 
 -- ---- an argument, moved
 -- what one that fits is then
-pub record MovesTo (elems others : List SliceInfoElem) (shape : List ℕ) (steps : List ℤ) (further : ℤ) : Type 0 where
+pub record MovesTo (elems others : List SliceInfoElem) (shape index : List ℕ) (steps : List ℤ) : Type 0 where
   pub count : in_count others ≡ in_count elems
   pub fits : first_fault Strict shape others ≡ None
   pub lens : sliced_shape Strict others shape ≡ sliced_shape Strict elems shape
   pub strides : sliced_strides Strict others shape steps ≡ sliced_strides Strict elems shape steps
+  pub here : 0 < size (sliced_shape Strict elems shape) → is_index shape index ≡ true
   pub offset : 0 < size (sliced_shape Strict elems shape)
-      → sliced_offset Strict others shape steps ≡ sliced_offset Strict elems shape steps +ℤ further
+      → sliced_offset Strict others shape steps ≡ sliced_offset Strict elems shape steps +ℤ offset_of steps index
 
 of_product : (a b : ℕ) → 0 < a * b → (0 < a) × (0 < b)
 of_product zero b some = absurd (omega (arith, some))
@@ -138,9 +150,9 @@ none_else others first second = ap (λ fault. option_or fault others) first ∙ 
 
 moves_to : (elems : List SliceInfoElem) (shape index : List ℕ) (strides : List ℤ) → in_count elems ≡ length shape
     → first_fault Strict shape elems ≡ None → length shape ≡ length strides → is_index (moves elems shape) index ≡ true
-    → MovesTo elems (moved shape index elems) shape strides (offset_of strides index)
+    → MovesTo elems (moved shape index elems) shape index strides
 moves_to [] [] [] strides counts none same here =
-    record { count = refl; fits = refl; lens = refl; strides = refl; offset = λ some. refl }
+    record { count = refl; fits = refl; lens = refl; strides = refl; here = λ some. refl; offset = λ some. refl }
 moves_to [] [] (by ∷ index) strides counts none same here = absurd (cc)
 moves_to [] (len ∷ shape) index strides counts none same here = absurd (omega (arith, counts))
 moves_to (elem.NewAxis ∷ elems) shape index strides counts none same here =
@@ -150,6 +162,7 @@ moves_to (elem.NewAxis ∷ elems) shape index strides counts none same here =
       fits = others.fits;
       lens = ap (λ lens. 1 ∷ lens) others.lens;
       strides = ap (λ strides. pos 0 ∷ strides) others.strides;
+      here = λ some. others.here (of_product 1 (size (sliced_shape Strict elems shape)) some).1;
       offset = λ some. others.offset (of_product 1 (size (sliced_shape Strict elems shape)) some).1;
     }
 moves_to (elem.Slice start end step ∷ elems) [] index strides counts none same here = absurd (omega (arith, counts))
@@ -168,6 +181,10 @@ moves_to (elem.Slice start end step ∷ elems) (len ∷ shape) (by ∷ index) (s
       lens = ap (λ n. n ∷ sliced_shape Strict (moved shape index elems) shape) count ∙ ap (λ lens. picked ∷ lens) others.lens;
       strides = ap (λ n. picked_stride n stride step ∷ sliced_strides Strict (moved shape index elems) shape strides) count
           ∙ ap (λ strides. picked_stride picked stride step ∷ strides) others.strides;
+      here = λ some.
+          let each = of_product picked (size (sliced_shape Strict elems shape)) some in
+          and_from (nat_lt by len) (is_index shape index) (lt-ltb by len (by_below len by start end step parts.0 below each.0))
+          (others.here each.1);
       offset = λ some.
           let each = of_product picked (size (sliced_shape Strict elems shape)) some in
           omega (arith, ints, new_offset len by start end step parts.0 below stride each.0, others.offset each.1);
@@ -185,40 +202,11 @@ moves_to (elem.Index i ∷ elems) (len ∷ shape) (by ∷ index) (stride ∷ str
       fits = none_else (first_fault Strict shape (moved shape index elems)) (index_fits len by i parts.0 below) others.fits;
       lens = others.lens;
       strides = others.strides;
+      here = λ some.
+          and_from (nat_lt by len) (is_index shape index) (lt-ltb by len (omega (arith, below, (coordinate_below len i parts.0).1)))
+          (others.here some);
       offset = λ some. omega (arith, ints, index_offset len by i parts.0 below stride, others.offset some);
     }
-
--- ---- by what it can be moved
--- there is an element for each axis
-pub count_of_axes : (elems : List SliceInfoElem) (shape : List ℕ) → in_count elems ≡ length shape
-    → length (axis_elems shape elems) ≡ length shape
-count_of_axes [] shape counts = counts
-count_of_axes (elem.NewAxis ∷ elems) shape counts = count_of_axes elems shape counts
-count_of_axes (elem.Slice start end step ∷ elems) [] counts = absurd (omega (arith, counts))
-count_of_axes (elem.Slice start end step ∷ elems) (len ∷ shape) counts = omega (arith, count_of_axes elems shape (omega (arith, counts)))
-count_of_axes (elem.Index i ∷ elems) [] counts = absurd (omega (arith, counts))
-count_of_axes (elem.Index i ∷ elems) (len ∷ shape) counts = omega (arith, count_of_axes elems shape (omega (arith, counts)))
-
--- an index that a slice can be moved by is one of the shape
-pub index_of_shape : (elems : List SliceInfoElem) (shape index : List ℕ) → in_count elems ≡ length shape
-    → is_index (moves elems shape) index ≡ true → is_index shape index ≡ true
-index_of_shape [] [] index counts here = here
-index_of_shape [] (len ∷ shape) index counts here = absurd (omega (arith, counts))
-index_of_shape (elem.NewAxis ∷ elems) shape index counts here = index_of_shape elems shape index counts here
-index_of_shape (elem.Slice start end step ∷ elems) [] index counts here = absurd (omega (arith, counts))
-index_of_shape (elem.Slice start end step ∷ elems) (len ∷ shape) [] counts here = absurd (cc)
-index_of_shape (elem.Slice start end step ∷ elems) (len ∷ shape) (by ∷ index) counts here =
-    let split = and_parts (nat_lt by (moves_along (len, elem.Slice start end step))) (is_index (moves elems shape) index) here in
-    let below = ltb-true by (moves_along (len, elem.Slice start end step)) split.0 in
-    and_from (nat_lt by len) (is_index shape index) (lt-ltb by len (omega (arith, below)))
-    (index_of_shape elems shape index (omega (arith, counts)) split.1)
-index_of_shape (elem.Index i ∷ elems) [] index counts here = absurd (omega (arith, counts))
-index_of_shape (elem.Index i ∷ elems) (len ∷ shape) [] counts here = absurd (cc)
-index_of_shape (elem.Index i ∷ elems) (len ∷ shape) (by ∷ index) counts here =
-    let split = and_parts (nat_lt by (moves_along (len, elem.Index i))) (is_index (moves elems shape) index) here in
-    let below = ltb-true by (moves_along (len, elem.Index i)) split.0 in
-    and_from (nat_lt by len) (is_index shape index) (lt-ltb by len (omega (arith, below)))
-    (index_of_shape elems shape index (omega (arith, counts)) split.1)
 
 -- ---- the slice of a view, moved
 module _ (view : View) (elems : List SliceInfoElem) (index : List ℕ) (v : IsView view)
@@ -227,10 +215,7 @@ module _ (view : View) (elems : List SliceInfoElem) (index : List ℕ) (v : IsVi
   abbrev others : List SliceInfoElem
   others = moved view.shape index elems
 
-  abbrev offset : ℤ
-  offset = offset_of view.strides index
-
-  moving : MovesTo elems others view.shape view.strides offset
+  moving : MovesTo elems others view.shape index view.strides
   moving =
       let parts = elements_of_no_fault Strict view.shape elems none in
       moves_to elems view.shape index view.strides parts.0 parts.1 v.valid.same_count here
@@ -245,10 +230,15 @@ module _ (view : View) (elems : List SliceInfoElem) (index : List ℕ) (v : IsVi
   pub moved_shape : sliced_shape Strict (moved view.shape index elems) view.shape ≡ sliced_shape Strict elems view.shape
   moved_shape = moving.lens
 
+  -- where it picks something, the index is one of the shape
+  pub moved_here : 0 < size (sliced_shape Strict elems view.shape) → is_index view.shape index ≡ true
+  moved_here = moving.here
+
   -- each of its places lies as far from that of the slice
-  pub moved_places : view_places RowMajor (slice_of Strict (moved view.shape index elems) view)
-      ≡ map (λ place. place +ℤ offset_of view.strides index) (view_places RowMajor (slice_of Strict elems view))
-  moved_places = by (size (sliced_shape Strict elems view.shape)) refl
+  pub moved_places : (offset : ℤ) → IsOffset (record { view = view; elems = elems }) index offset
+      → view_places RowMajor (slice_of Strict (moved view.shape index elems) view)
+      ≡ map (λ place. place +ℤ offset) (view_places RowMajor (slice_of Strict elems view))
+  moved_places offset is = by (size (sliced_shape Strict elems view.shape)) refl
     where
       by : (n : ℕ) → size (sliced_shape Strict elems view.shape) ≡ n
           → view_places RowMajor (slice_of Strict others view)
@@ -260,7 +250,7 @@ module _ (view : View) (elems : List SliceInfoElem) (index : List ℕ) (v : IsVi
           let begins = start-slice_of Strict elems view v none in
           let begins_there = start-slice_of Strict others view v moved_fits in
           let start : pos (slice_of Strict others view).start ≡ pos (slice_of Strict elems view).start +ℤ offset =
-          omega (arith, ints, begins, begins_there, moving.offset (omega (arith, some))) in
+          omega (arith, ints, begins, begins_there, is (omega (arith, some)), moving.offset (omega (arith, some))) in
           let lens = sliced_shape Strict elems view.shape in
           let steps = sliced_strides Strict elems view.shape view.strides in
           let indices = indices_in RowMajor lens in

@@ -41,6 +41,11 @@ place_of (pos n) within = (omega (arith, ints), omega (arith, ints, within))
 place_of (negsuc n) within = absurd within
 
 -- ---- rows
+-- no rows have no places
+pub no_places_of_none : (rows : List Row) → length rows ≡ 0 → length (rows_places rows) ≡ 0
+no_places_of_none [] none = refl
+no_places_of_none (row ∷ rows) none = absurd (omega (arith, none))
+
 pub moved_rows_places : (offset : ℤ) (rows : List Row) → All (CanMove offset) rows
     → rows_places (moved_rows offset rows) ≡ map (λ place. place +ℤ offset) (rows_places rows)
 moved_rows_places offset [] can = refl

@@ -18,10 +18,10 @@ pub record Ready : Type 0 where
   pub view : View
   pub elems : List SliceInfoElem
 
--- along an axis of length len, by how many coordinates an element that fits can be moved, 0 among them: as many as lie from the last
--- one of its range to the end of the axis
+-- along an axis of length len, by how many coordinates an element that fits can be moved, 0 among them: until its range ends where the
+-- axis does
 abbrev pub moves_along : ℕ × SliceInfoElem → ℕ
-moves_along axis = axis.0 - ((elem_range Strict axis.0 axis.1).1 - 1)
+moves_along axis = axis.0 - (elem_range Strict axis.0 axis.1).1 + 1
 
 -- the same of each axis of a shape
 abbrev pub moves : List SliceInfoElem → List ℕ → List ℕ
@@ -68,8 +68,22 @@ tile = record {
 two_by_three_moves : moves tile.elems tile.view.shape ≡ 2 ∷ 3 ∷ []
 two_by_three_moves = refl
 
+of_no_coordinates : moves (elem.Slice (pos 0) None (pos 1) ∷ []) (0 ∷ []) ≡ 1 ∷ []
+of_no_coordinates = refl
+
+of_empty_ranges : moves (elem.Slice (pos 2) (Some (pos 2)) (pos 1) ∷ elem.Slice (pos 0) (Some (pos 0)) (negsuc 0) ∷ []) (5 ∷ 5 ∷ [])
+    ≡ 4 ∷ 6 ∷ []
+of_empty_ranges = refl
+
+of_index : moves (elem.NewAxis ∷ elem.Index (negsuc 3) ∷ elem.Index (negsuc 0) ∷ []) (4 ∷ 4 ∷ []) ≡ 4 ∷ 1 ∷ []
+of_index = refl
+
 last_move : ready_at tile (1 ∷ 2 ∷ []) ≡ elem.Slice (pos 1) (Some (pos 4)) (pos 1) ∷ elem.Slice (pos 2) (Some (pos 5)) (negsuc 0) ∷ []
 last_move = refl
+
+empty_range_at_the_end : moved (5 ∷ []) (5 ∷ []) (elem.Slice (pos 0) (Some (pos 0)) (pos 1) ∷ [])
+    ≡ elem.Slice (pos 5) (Some (pos 5)) (pos 1) ∷ []
+empty_range_at_the_end = refl
 
 past_the_last_move : move_fault tile (2 ∷ 0 ∷ []) ≡ Some OutOfBounds
 past_the_last_move = refl

@@ -6,7 +6,6 @@ ghost use Rattle.ndarray_layout.specs.declared.Fit.TheVariants.{Strict};
 ghost use Rattle.ndarray_layout.specs.declared.Order.TheVariants.{RowMajor};
 ghost use Rattle.ndarray_layout.specs.AxisElems.{axis_elems};
 ghost use Rattle.ndarray_layout.specs.Indices.{is_index as is_index_of_shape};
-ghost use Rattle.ndarray_layout.specs.Offset.{offset_of};
 ghost use Rattle.ndarray_layout.specs.Rows.{rows_places};
 ghost use Rattle.ndarray_layout.specs.ShapeFault.{shape_fault};
 ghost use Rattle.ndarray_layout.specs.Signed.{all_signed};
@@ -14,6 +13,7 @@ ghost use Rattle.ndarray_layout.specs.SliceFault.{argument_fault};
 ghost use Rattle.ndarray_layout.specs.SlicedView.{slice_of};
 ghost use Rattle.ndarray_layout.specs.View.{view_places};
 ghost use Rattle.nd_owned.specs.Moved.{moves};
+ghost use Rattle.nd_owned.specs.private.MovedRows.{IsOffset};
 
 use ndarray_layout::{
     AxisElems, Fit, IxDyn, LayoutError, Lengths, Order, Row, ShapeError, SliceElems, SliceInfoElem,
@@ -46,14 +46,17 @@ impl<D: Lengths> Model for ReadySlice<D> {
     ghost invariant = { λ ready. AreReady ready.view ready.elems.items (D.list ready.moves) ready.rows.items ready.count };
 }
 
-/// By how many coordinates a slice of a shape can be moved along each axis. Errors: that of the first element with one, where
-/// there is one for each axis; then out of memory.
-fn moves_of<D: Lengths>(alloc: Global, dim: &D, elems: &[SliceInfoElem]) -> Result<D, LayoutError>
-    requires { argument_fault Strict (D.list dim.now) elems.now ≡ None }
+/// By how many coordinates a slice of a view can be moved along each axis. Errors: out of memory.
+fn moves_of<D: Lengths>(
+    alloc: Global,
+    view: &Strided<D>,
+    elems: &[SliceInfoElem],
+) -> Result<D, LayoutError>
+    requires { argument_fault Strict view.now.shape elems.now ≡ None }
     ensures fault { shape_fault result ≡ None }
-    ensures moves { IfOk result (λ counts. D.list counts ≡ moves elems.now (D.list dim.now)) }
+    ensures moves { IfOk result (λ counts. D.list counts ≡ moves elems.now view.now.shape) }
 {
-    let shape = dim.slice();
+    let shape = view.dim().slice();
     let mut counts = D::zeros(alloc, shape.len())?;
     write_moves(counts.slice_mut(), shape, elems)?;
     Ok(counts)
@@ -65,6 +68,7 @@ fn write_moves(
     shape: &[usize],
     elems: &[SliceInfoElem],
 ) -> Result<(), ShapeError>
+    requires lens_fit { All (λ len. len < 2 ^ 63) shape.now }
     requires fits { argument_fault Strict shape.now elems.now ≡ None }
     requires room { length counts.old ≡ length (axis_elems shape.now elems.now) }
     ensures fault { IsOk result }
@@ -72,7 +76,7 @@ fn write_moves(
 {
     for (axis, (len, elem)) in AxisElems::new(shape, elems).enumerate() {
         let range = resolve_elem(len, elem, Fit::Strict)?;
-        counts[axis] = len - range.end.saturating_sub(1);
+        counts[axis] = len - range.end + 1;
     }
     Ok(())
 }
@@ -113,7 +117,7 @@ impl<D: Lengths> ReadySlice<D> {
         let part: Strided<IxDyn> = view.slice(alloc, slices, Fit::Strict)?;
         let count = part.len();
         let rows = list_rows(alloc, &part)?;
-        let moves = moves_of(alloc, view.dim(), slices.elems())?;
+        let moves = moves_of(alloc, view, slices.elems())?;
         let elems = Vec::from_slice(alloc, slices.elems())?;
         let view = view.duplicate(alloc)?;
         Ok(ReadySlice {
@@ -135,10 +139,13 @@ impl<D: Lengths> ReadySlice<D> {
         self.elems.as_slice()
     }
 
-    /// By how many coordinates the slice can be moved along each axis, 0 among them: as many as lie from the last one of its range to
-    /// the end of the axis.
+    /// By how many coordinates the slice can be moved along each axis, 0 among them.
     ///
-    /// Of `..2,..2` on `[3,4]`: `[2,3]`, so by 0 or 1 along the first axis. What ndarray's `windows` has as its shape.
+    /// Where its range stops before `end` on an axis of `len` coordinates, that is `len - end + 1`, also where it picks nothing. An
+    /// index has the range of its one coordinate.
+    ///
+    /// Of `..2,..2` on `[3,4]`: `[2,3]`, so by 0 or 1 along the first axis. Of `..` on `[0]`: `[1]`, so by 0 alone. What ndarray's
+    /// `windows` has as its shape.
     #[inline]
     pub fn moves(&self) -> &D
         ensures { D.list result.now ≡ moves self.now.elems self.now.view.shape }
@@ -158,15 +165,19 @@ impl<D: Lengths> ReadySlice<D> {
             && are_same_strides(own, other)
     }
 
-    /// How far the slice moves by an index, in elements; `None` where it can't be moved so.
+    /// How far the slice moves by an index, in elements, or 0 where it picks nothing; `None` where it can't be moved so.
     #[inline(always)]
     pub(crate) fn offset(&self, by: &D) -> Option<isize>
         ensures found { IsSome result
             ↔ IsTrue (is_index_of_shape (moves self.now.elems self.now.view.shape) (D.list by.now)) }
-        ensures offset { IfSome result (λ offset. offset ≡ offset_of self.now.view.strides (D.list by.now)) }
+        ensures offset { IfSome result (λ offset. IsOffset self.now (D.list by.now) offset) }
     {
         if !is_index(self.moves.slice(), by.slice()) {
             return None;
+        }
+        // (then `by` may be no index of the shape, and its offset no `isize`)
+        if self.rows.is_empty() {
+            return Some(0);
         }
         Some(index_offset(by.slice(), self.view.strides().slice()))
     }

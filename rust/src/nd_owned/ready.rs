@@ -20,21 +20,20 @@ pub struct ReadySlice<D: Lengths> {
     count: usize,
 }
 
-/// By how many coordinates a slice of a shape can be moved along each axis. Errors: that of the first element with one, where
-/// there is one for each axis; then out of memory.
+/// By how many coordinates a slice of a view can be moved along each axis. Errors: out of memory.
 ///
 /// <details><summary>Contract (proved)</summary>
 ///
 /// ```text
-/// requires argument_fault Strict (D.list dim.now) elems.now ≡ None
+/// requires argument_fault Strict view.now.shape elems.now ≡ None
 /// ensures fault: shape_fault result ≡ None
-/// ensures moves: IfOk result (λ counts. D.list counts ≡ moves elems.now (D.list dim.now))
+/// ensures moves: IfOk result (λ counts. D.list counts ≡ moves elems.now view.now.shape)
 /// ```
 /// [How to read it](crate::contracts)
 /// </details>
 #[inline]
-fn moves_of<D: Lengths>(dim: &D, elems: &[SliceInfoElem]) -> Result<D, LayoutError> {
-    let shape = dim.slice();
+fn moves_of<D: Lengths>(view: &Strided<D>, elems: &[SliceInfoElem]) -> Result<D, LayoutError> {
+    let shape = view.dim().slice();
     let mut counts = D::zeros(shape.len())?;
     write_moves(counts.slice_mut(), shape, elems)?;
     Ok(counts)
@@ -45,6 +44,7 @@ fn moves_of<D: Lengths>(dim: &D, elems: &[SliceInfoElem]) -> Result<D, LayoutErr
 /// <details><summary>Contract (proved)</summary>
 ///
 /// ```text
+/// requires lens_fit: All (λ len. len < 2 ^ 63) shape.now
 /// requires fits: argument_fault Strict shape.now elems.now ≡ None
 /// requires room: length counts.old ≡ length (axis_elems shape.now elems.now)
 /// ensures fault: IsOk result
@@ -56,7 +56,7 @@ fn moves_of<D: Lengths>(dim: &D, elems: &[SliceInfoElem]) -> Result<D, LayoutErr
 fn write_moves(counts: &mut [usize], shape: &[usize], elems: &[SliceInfoElem]) -> Result<(), ShapeError> {
     for (axis, (len, elem)) in AxisElems::new(shape, elems).enumerate() {
         let range = resolve_elem(len, elem, Fit::Strict)?;
-        counts[axis] = len - range.end.saturating_sub(1);
+        counts[axis] = len - range.end + 1;
     }
     Ok(())
 }
@@ -113,7 +113,7 @@ impl<D: Lengths> ReadySlice<D> {
         let part: Strided<IxDyn> = view.slice(slices, Fit::Strict)?;
         let count = part.len();
         let rows = list_rows(&part)?;
-        let moves = moves_of(view.dim(), slices.elems())?;
+        let moves = moves_of(view, slices.elems())?;
         let elems = Vec::fallible_from_slice(slices.elems())?;
         let view = view.duplicate()?;
         Ok(ReadySlice { view, elems, moves, rows, count })
@@ -148,10 +148,13 @@ impl<D: Lengths> ReadySlice<D> {
         self.elems.as_slice()
     }
 
-    /// By how many coordinates the slice can be moved along each axis, 0 among them: as many as lie from the last one of its range to
-    /// the end of the axis.
+    /// By how many coordinates the slice can be moved along each axis, 0 among them.
     ///
-    /// Of `..2,..2` on `[3,4]`: `[2,3]`, so by 0 or 1 along the first axis. What ndarray's `windows` has as its shape.
+    /// Where its range stops before `end` on an axis of `len` coordinates, that is `len - end + 1`, also where it picks nothing. An
+    /// index has the range of its one coordinate.
+    ///
+    /// Of `..2,..2` on `[3,4]`: `[2,3]`, so by 0 or 1 along the first axis. Of `..` on `[0]`: `[1]`, so by 0 alone. What ndarray's
+    /// `windows` has as its shape.
     ///
     /// # Examples
     ///
@@ -162,6 +165,8 @@ impl<D: Lengths> ReadySlice<D> {
     /// let table = OwnedArray::from_shape_vec(Ix2(3, 4), (0..12).collect())?;
     /// assert_eq!(table.ready(&s![..2, ..2])?.moves(), &Ix2(2, 3));
     /// assert_eq!(table.ready(&s![-1, ..;-1])?.moves(), &Ix2(1, 1));
+    /// let empty = OwnedArray::from_shape_vec(Ix2(3, 0), Vec::<u8>::new())?;
+    /// assert_eq!(empty.ready(&s![..2, ..])?.moves(), &Ix2(2, 1));
     /// # Ok(())
     /// # }
     /// ```
@@ -195,14 +200,14 @@ impl<D: Lengths> ReadySlice<D> {
         self.view.start() == view.start() && self.view.dim().equal(view.dim()) && are_same_strides(own, other)
     }
 
-    /// How far the slice moves by an index, in elements; `None` where it can't be moved so.
+    /// How far the slice moves by an index, in elements, or 0 where it picks nothing; `None` where it can't be moved so.
     ///
     /// <details><summary>Contract (proved)</summary>
     ///
     /// ```text
     /// ensures found: IsSome result
     ///     ↔ IsTrue (is_index_of_shape (moves self.now.elems self.now.view.shape) (D.list by.now))
-    /// ensures offset: IfSome result (λ offset. offset ≡ offset_of self.now.view.strides (D.list by.now))
+    /// ensures offset: IfSome result (λ offset. IsOffset self.now (D.list by.now) offset)
     /// ```
     /// [How to read it](crate::contracts)
     /// </details>
@@ -210,6 +215,10 @@ impl<D: Lengths> ReadySlice<D> {
     pub(crate) fn offset(&self, by: &D) -> Option<isize> {
         if !is_index(self.moves.slice(), by.slice()) {
             return None;
+        }
+        // (then `by` may be no index of the shape, and its offset no `isize`)
+        if self.rows.is_empty() {
+            return Some(0);
         }
         Some(index_offset(by.slice(), self.view.strides().slice()))
     }

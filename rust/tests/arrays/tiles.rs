@@ -81,10 +81,53 @@ fn slices_that_pick_nothing() {
     assert_eq!(table.items_of(&none, &Ix2(0, 2)).unwrap(), []);
     table.set_items_of(&none, &Ix2(0, 2), &[]).unwrap();
     assert_eq!(table.items_of(&none, &Ix2(0, 3)), Err(error(ErrorKind::OutOfBounds)));
-    let empty = array(Ix2(3, 0), 0);
+    let mut empty = array(Ix2(3, 0), 0);
     let rows = empty.ready(&s![..2, ..]).unwrap();
-    assert_eq!(rows.moves(), &Ix2(2, 0));
-    assert_eq!(empty.items_of(&rows, &Ix2(0, 0)), Err(error(ErrorKind::OutOfBounds)));
+    assert_eq!(rows.moves(), &Ix2(2, 1));
+    assert_eq!(empty.items_of(&rows, &Ix2(1, 0)).unwrap(), []);
+    empty.set_items_of(&rows, &Ix2(1, 0), &[]).unwrap();
+    assert_eq!(empty.set_items_of(&rows, &Ix2(1, 0), &[7]), Err(shape_error(ErrorKind::IncompatibleShape)));
+    assert_eq!(empty.items_of(&rows, &Ix2(0, 1)), Err(error(ErrorKind::OutOfBounds)));
+    // Twice the stride is no `isize`.
+    let two = OwnedArray::from_shape_vec(Ix1(2).strides(Ix1(1 << 62)).unwrap(), vec![(); (1 << 62) + 1]).unwrap();
+    let none = two.ready(&s![..0]).unwrap();
+    assert_eq!((none.moves(), two.items_of(&none, &Ix1(2)).unwrap()), (&Ix1(3), vec![]));
+}
+
+/// Each range of an axis, by a step.
+fn ranges(len: usize) -> impl Iterator<Item = (usize, usize, isize)> {
+    let ends = (0..=len).flat_map(move |start| (0..=len).map(move |end| (start, end)));
+    ends.flat_map(|(start, end)| [(start, end, 1), (start, end, -2)])
+}
+
+#[test]
+fn a_slice_moves_by_all_by_which_it_fits() {
+    for (height, width) in (0..3).flat_map(|height| (0..4).map(move |width| (height, width))) {
+        let mut table = array(Ix2(height, width), height * width);
+        for ((top, bottom, down), (left, right, along)) in
+            ranges(height).flat_map(|rows| ranges(width).map(move |columns| (rows, columns)))
+        {
+            let ready = table.ready(&s![top..bottom;down, left..right;along]).unwrap();
+            for (row, column) in (0..height + 2).flat_map(|row| (0..width + 2).map(move |column| (row, column))) {
+                let (bottom, right) = (bottom.max(top), right.max(left));
+                let moved = s![top + row..bottom + row;down, left + column..right + column;along];
+                let items = table.items(&moved);
+                assert_eq!(table.items_of(&ready, &Ix2(row, column)), items, "{moved:?} of {height} by {width}");
+                let written = table.set_items_of(&ready, &Ix2(row, column), items.as_deref().unwrap_or_default());
+                assert_eq!(written.map_err(LayoutError::from), items.map(drop), "{moved:?} of {height} by {width}");
+            }
+        }
+    }
+}
+
+#[test]
+fn an_index_moves_to_each_one_after_it() {
+    let line = array(Ix1(4), 4);
+    for (index, by) in (-4..4).flat_map(|index| (0..6).map(move |by| (index, by))) {
+        let ready = line.ready(&s![index]).unwrap();
+        let items = line.items(&s![(index + 4) % 4 + by]);
+        assert_eq!(line.items_of(&ready, &Ix1(by as usize)), items, "{index} by {by}");
+    }
 }
 
 #[test]

@@ -5,13 +5,15 @@ use Rattle.ndarray_layout.specs.declared.Fit.TheVariants.{Strict}
 use Rattle.ndarray_layout.specs.declared.Order.TheVariants.{RowMajor}
 use Rattle.ndarray_layout.specs.declared.Row.{Row}
 use Rattle.ndarray_layout.specs.declared.SliceInfoElem.{SliceInfoElem}
+use Rattle.ndarray_layout.specs.Offset.{offset_of}
 use Rattle.ndarray_layout.specs.Rows.{rows_places}
 use Rattle.ndarray_layout.specs.Signed.{magnitude}
-use Rattle.ndarray_layout.specs.Size.{limit}
+use Rattle.ndarray_layout.specs.Size.{limit, size}
 use Rattle.ndarray_layout.specs.SliceFault.{argument_fault}
+use Rattle.ndarray_layout.specs.SlicedLayout.{sliced_shape}
 use Rattle.ndarray_layout.specs.SlicedView.{slice_of}
 use Rattle.ndarray_layout.specs.View.{IsPlace, View, view_places}
-use Rattle.nd_owned.specs.Moved.{moves}
+use Rattle.nd_owned.specs.Moved.{Ready, moves}
 
 -- a row at an offset from another one
 abbrev pub moved_row : ℤ → Row → Row
@@ -24,6 +26,11 @@ moved_rows offset rows = map (moved_row offset) rows
 -- a row that begins at a place, before and after
 abbrev pub CanMove : ℤ → Row → Type 0
 CanMove offset row = (row.start ≤ limit) × IsPlace (pos row.start +ℤ offset)
+
+-- how far the items of a slice lie from those of the slice moved by an index: any number where there are none
+abbrev pub IsOffset : Ready → List ℕ → ℤ → Type 0
+IsOffset ready index offset =
+    0 < size (sliced_shape Strict ready.elems ready.view.shape) → offset ≡ offset_of ready.view.strides index
 
 -- a slice fits a view, and rows have its places
 pub record AreReady (view : View) (elems : List SliceInfoElem) (counts : List ℕ) (rows : List Row) (places_in_all : ℕ)

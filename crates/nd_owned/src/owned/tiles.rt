@@ -4,7 +4,6 @@ ghost use Rattle.ndarray_layout.specs.declared.ErrorKind.TheVariants.{Incompatib
 ghost use Rattle.ndarray_layout.specs.declared.Fit.TheVariants.{Strict};
 ghost use Rattle.ndarray_layout.specs.declared.Order.TheVariants.{RowMajor};
 ghost use Rattle.ndarray_layout.specs.Indices.{is_index};
-ghost use Rattle.ndarray_layout.specs.Offset.{offset_of};
 ghost use Rattle.ndarray_layout.specs.ShapeFault.{shape_fault};
 ghost use Rattle.ndarray_layout.specs.Size.{size};
 ghost use Rattle.ndarray_layout.specs.SlicedLayout.{sliced_shape};
@@ -14,6 +13,7 @@ ghost use Rattle.ndarray_layout.specs.View.{view_places};
 ghost use Rattle.nd_lent.specs.Items.{item_at_place};
 ghost use Rattle.nd_owned.specs.Moved.{move_fault, moves, ready_at, set_fault};
 ghost use Rattle.nd_owned.specs.MultiSet.{IsWritten, KeepsOthers};
+ghost use Rattle.nd_owned.specs.private.MovedRows.{IsOffset};
 ghost use Rattle.std.specs.Result.{result_err};
 
 use crate::owned::OwnedArray;
@@ -48,8 +48,8 @@ impl<T: Drop, D: Lengths> OwnedArray<T, D> {
     }
 }
 
-/// How far a slice moves by an index on a layout. Errors: `IncompatibleLayout` where it was checked on another layout, then
-/// `OutOfBounds`.
+/// How far a slice moves by an index on a layout, or 0 where it picks nothing. Errors: `IncompatibleLayout` where it was checked on
+/// another layout, then `OutOfBounds`.
 #[inline(always)]
 fn offset_on<D: Lengths>(
     ready: &ReadySlice<D>,
@@ -60,7 +60,7 @@ fn offset_on<D: Lengths>(
     ensures fault { ready.now.view ≡ view.now → result_err result ≡ move_fault ready.now (D.list by.now) }
     ensures same { OnOk result (ready.now.view ≡ view.now) }
     ensures index { OnOk result (IsTrue (is_index (moves ready.now.elems ready.now.view.shape) (D.list by.now))) }
-    ensures offset { IfOk result (λ offset. offset ≡ offset_of ready.now.view.strides (D.list by.now)) }
+    ensures offset { IfOk result (λ offset. IsOffset ready.now (D.list by.now) offset) }
 {
     if !ready.is_of(view) {
         return Err(from_kind(ErrorKind::IncompatibleLayout));

@@ -54,8 +54,8 @@ impl<T: Sized, D: Lengths> OwnedArray<T, D> {
     }
 }
 
-/// How far a slice moves by an index on a layout. Errors: `IncompatibleLayout` where it was checked on another layout, then
-/// `OutOfBounds`.
+/// How far a slice moves by an index on a layout, or 0 where it picks nothing. Errors: `IncompatibleLayout` where it was checked on
+/// another layout, then `OutOfBounds`.
 ///
 /// <details><summary>Contract (proved)</summary>
 ///
@@ -64,7 +64,7 @@ impl<T: Sized, D: Lengths> OwnedArray<T, D> {
 /// ensures fault: ready.now.view ≡ view.now → result_err result ≡ move_fault ready.now (D.list by.now)
 /// ensures same: OnOk result (ready.now.view ≡ view.now)
 /// ensures index: OnOk result (IsTrue (is_index (moves ready.now.elems ready.now.view.shape) (D.list by.now)))
-/// ensures offset: IfOk result (λ offset. offset ≡ offset_of ready.now.view.strides (D.list by.now))
+/// ensures offset: IfOk result (λ offset. IsOffset ready.now (D.list by.now) offset)
 /// ```
 /// [How to read it](crate::contracts)
 /// </details>

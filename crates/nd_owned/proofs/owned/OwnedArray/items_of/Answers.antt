@@ -23,14 +23,15 @@ read_moved_rows-requires g c =
     let index : List ℕ = g.D.Lengths.list c.args.by.now in
     let f : FitsSigned w64 c.in_ok-offset.offset = search rules in
     let same = c.in_ok-offset.ensures.same in
-    let are : AreMoved ready.view ready.elems c.rows.result.now index = record {
+    let are : AreMoved ready.view ready.elems c.rows.result.now index c.in_ok-offset.offset = record {
       is_view = subst IsView (sym same) c.self.invariant.is_view;
       fits = c.rows.ensures.fits;
       places = c.rows.ensures.places;
       some = c.rows.ensures.some;
       here = c.in_ok-offset.ensures.index;
+      far = c.in_ok-offset.ensures.offset;
     } in
-    rw (to_z-of_z w64 c.in_ok-offset.offset f ∙ c.in_ok-offset.ensures.offset, c.as_slice.ensures.value) (record {
+    rw (to_z-of_z w64 c.in_ok-offset.offset f, c.as_slice.ensures.value) (record {
       starts = can_move are;
       in_bounds = in_bounds_there are (subst (LiesWithin (length c.self.inside.items.items)) (sym same) c.self.invariant.within);
       count = c.count.ensures ∙ sym (ap length c.rows.ensures.places) ∙ sym (as_many_there are);
@@ -44,17 +45,18 @@ returns-clause-items g c =
     let same = c.in_ok-offset.ensures.same in
     let rows = c.rows.result.now in
     let got = item_at_place c.as_slice.result.now in
-    let are : AreMoved ready.view ready.elems rows index = record {
+    let are : AreMoved ready.view ready.elems rows index c.in_ok-offset.offset = record {
       is_view = subst IsView (sym same) c.self.invariant.is_view;
       fits = c.rows.ensures.fits;
       places = c.rows.ensures.places;
       some = c.rows.ensures.some;
       here = c.in_ok-offset.ensures.index;
+      far = c.in_ok-offset.ensures.offset;
     } in
     let made : map Some c.in_ok-items.items.items
     ≡ map (item_at_place c.self.inside.items.items) (view_places RowMajor (slice_of Strict (ready_at ready index) c.self.inside.view)) =
     c.in_ok-items.ensures.items
-    ∙ ap (λ n. map got (rows_places (moved_rows n rows))) (to_z-of_z w64 c.in_ok-offset.offset f ∙ c.in_ok-offset.ensures.offset)
+    ∙ ap (λ n. map got (rows_places (moved_rows n rows))) (to_z-of_z w64 c.in_ok-offset.offset f)
     ∙ ap (map got) (places_there are)
     ∙ ap (λ items. map (item_at_place items) (view_places RowMajor (slice_of Strict (ready_at ready index) ready.view)))
     c.as_slice.ensures.value

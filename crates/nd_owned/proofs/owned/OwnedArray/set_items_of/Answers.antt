@@ -22,14 +22,15 @@ write_moved_rows-requires g c =
     let index : List ℕ = g.D.Lengths.list c.args.by.now in
     let f : FitsSigned w64 c.in_ok-offset.offset = search rules in
     let same = c.in_ok-offset.ensures.same in
-    let are : AreMoved ready.view ready.elems c.rows.result.now index = record {
+    let are : AreMoved ready.view ready.elems c.rows.result.now index c.in_ok-offset.offset = record {
       is_view = subst IsView (sym same) c.self.invariant.is_view;
       fits = c.rows.ensures.fits;
       places = c.rows.ensures.places;
       some = c.rows.ensures.some;
       here = c.in_ok-offset.ensures.index;
+      far = c.in_ok-offset.ensures.offset;
     } in
-    rw (to_z-of_z w64 c.in_ok-offset.offset f ∙ c.in_ok-offset.ensures.offset, c.as_mut_slice.ensures.value) (record {
+    rw (to_z-of_z w64 c.in_ok-offset.offset f, c.as_mut_slice.ensures.value) (record {
       starts = can_move are;
       in_bounds = in_bounds_there are (subst (LiesWithin (length c.self.inside.items.items)) (sym same) c.self.invariant.within);
       count = omega (arith, as_many_there are, ap length c.rows.ensures.places, c.count.ensures, c.if-count-items.false);
@@ -61,16 +62,17 @@ returns-clause-written g c =
     let stored = c.write_moved_rows.new.stored in
     let f : FitsSigned w64 c.in_ok-offset.offset = search rules in
     let same = c.in_ok-offset.ensures.same in
-    let are : AreMoved ready.view ready.elems c.rows.result.now index = record {
+    let are : AreMoved ready.view ready.elems c.rows.result.now index c.in_ok-offset.offset = record {
       is_view = subst IsView (sym same) c.self.invariant.is_view;
       fits = c.rows.ensures.fits;
       places = c.rows.ensures.places;
       some = c.rows.ensures.some;
       here = c.in_ok-offset.ensures.index;
+      far = c.in_ok-offset.ensures.offset;
     } in
     let now : take items.len (stored ++ drop (length stored) items.items) ≡ stored =
     take_at stored (drop (length stored) items.items) items.len (c.write_moved_rows.auto.stored ∙ c.as_mut_slice.ensures.len) in
-    let left = rw (to_z-of_z w64 c.in_ok-offset.offset f ∙ c.in_ok-offset.ensures.offset, c.as_mut_slice.ensures.value)
+    let left = rw (to_z-of_z w64 c.in_ok-offset.offset f, c.as_mut_slice.ensures.value)
     at c.write_moved_rows.ensures in
     let made : HasWritten (write_places c.self.inside.view write) write.items items.items stored =
     written_there write.items items.items stored are same c.self.invariant.distinct left in
@@ -87,16 +89,17 @@ returns-clause-others g c =
     let stored = c.write_moved_rows.new.stored in
     let f : FitsSigned w64 c.in_ok-offset.offset = search rules in
     let same = c.in_ok-offset.ensures.same in
-    let are : AreMoved ready.view ready.elems c.rows.result.now index = record {
+    let are : AreMoved ready.view ready.elems c.rows.result.now index c.in_ok-offset.offset = record {
       is_view = subst IsView (sym same) c.self.invariant.is_view;
       fits = c.rows.ensures.fits;
       places = c.rows.ensures.places;
       some = c.rows.ensures.some;
       here = c.in_ok-offset.ensures.index;
+      far = c.in_ok-offset.ensures.offset;
     } in
     let now : take items.len (stored ++ drop (length stored) items.items) ≡ stored =
     take_at stored (drop (length stored) items.items) items.len (c.write_moved_rows.auto.stored ∙ c.as_mut_slice.ensures.len) in
-    let left = rw (to_z-of_z w64 c.in_ok-offset.offset f ∙ c.in_ok-offset.ensures.offset, c.as_mut_slice.ensures.value)
+    let left = rw (to_z-of_z w64 c.in_ok-offset.offset f, c.as_mut_slice.ensures.value)
     at c.write_moved_rows.ensures in
     let made : HasWritten (write_places c.self.inside.view write) write.items items.items stored =
     written_there write.items items.items stored are same c.self.invariant.distinct left in
