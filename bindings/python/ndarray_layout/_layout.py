@@ -371,7 +371,8 @@ class Layout(Views):
     def as_array(self, buffer: Any, dtype: Any = None) -> numpy.ndarray[Any, Any]:
         """A NumPy array of this layout over a buffer, whose items it has without a `dtype`.
 
-        The items have the size of the layout's elements; a layout over a count takes those of any size. Place k is the k-th item in memory, from the lowest, also where the buffer is an array in another order.
+        The items have the size of the layout's elements, and any size where that is over a count. Place k is the k-th item in
+        memory, from the lowest, also where the buffer is an array in another order.
         A layout that isn't writable gives an array that is only to be read, as `numpy.broadcast_to` does. While the array
         lives the buffer can't be closed or resized: its own methods raise `BufferError`, as after `numpy.frombuffer`.
 
