@@ -240,7 +240,7 @@ pub const CHECKED: &[(&str, &str, &str, &str, &str)] = &[
         "new",
         "crate::arrays::has_own_items(&view, items.len())",
         "two indices of the view share an item, or one is past the items",
-        "This call panics where two indices have one item, or one lies past the items. Where the rule of owned mode does not show that none have, it takes memory and time for a sort of the places.",
+        "This call panics where two indices have one item, or one lies past the items. It takes memory only where the no-alias rule is broken: 8 bytes for each index, for a sort of the places, and panics where the allocation fails.",
     ),
 ];
 

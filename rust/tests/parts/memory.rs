@@ -2,6 +2,7 @@
 
 use crate::allocator::failing_at;
 use crate::{NUMBERS, rows_mut};
+use ndarray_layout::CanIndexCheckMode::ReadOnly;
 use ndarray_layout::{
     ArrayView, ArrayViewMut, Axis, Fit, Ix1, Ix2, IxDyn, LayoutError, Lengths, OwnedArray, Strided, new_dim, s,
 };
@@ -171,4 +172,13 @@ fn an_axis_among_many_takes_memory_for_views() {
         assert!(part.into_dimensionality::<Ix1>().is_err());
         Ok(())
     });
+}
+
+#[test]
+fn a_view_takes_memory_for_its_places_where_the_no_alias_rule_is_broken_alone() {
+    for (lens, strides, expected) in [(Ix2(2, 3), Ix2(1, 2), 0), (Ix2(3, 2), Ix2(2, 3), 1), (Ix2(3, 0), Ix2(0, 0), 0)] {
+        let view = Strided::from_parts(0, lens, strides, 1, 8, ReadOnly).expect("a view of eight items");
+        let (_, made) = failing_at(usize::MAX, || ArrayViewMut::new(view, &mut [0_u8; 8]).len());
+        assert_eq!(made, expected, "{lens:?}");
+    }
 }

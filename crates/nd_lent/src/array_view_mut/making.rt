@@ -35,7 +35,7 @@ impl<'a, T, D: Lengths> ArrayViewMut<'a, T, D> {
 
     /// The part of all indices of a view. The caller ensures that each index has an item to itself, as `Strided::from_shape`, `new` and
     /// `from_parts` check it in owned mode; `over` checks it. Once the part and all that is made of it are gone, the items are what they
-    /// hold. Takes no memory.
+    /// hold.
     ///
     /// `[2]`, `[-1]` from 1 over 7 8 9: (0) is 8, (1) is 7, and 9 is no part of it. The project's own.
     pub fn new(view: Strided<D>, items: &'a mut [T]) -> Self

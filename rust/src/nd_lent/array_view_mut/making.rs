@@ -23,7 +23,7 @@ impl<'a, T, D: Lengths> ArrayViewMut<'a, T, D> {
     }
 
     /// The part of all indices of a view. Once the part and all that is made of it are gone, the items are what they
-    /// hold. Takes no memory.
+    /// hold.
     ///
     /// `[2]`, `[-1]` from 1 over 7 8 9: (0) is 8, (1) is 7, and 9 is no part of it. The project's own.
     ///
@@ -31,8 +31,8 @@ impl<'a, T, D: Lengths> ArrayViewMut<'a, T, D> {
     ///
     /// The caller ensures that each index has an item to itself, as `Strided::from_shape`, `new` and `from_parts` check
     /// it in owned mode; `over` checks it. This call panics where two indices have one item, or one lies past the
-    /// items. Where the rule of owned mode does not show that none have, it takes memory and time for a sort of the
-    /// places.
+    /// items. It takes memory only where the no-alias rule is broken: 8 bytes for each index, for a sort of the places,
+    /// and panics where the allocation fails.
     ///
     /// # Examples
     ///
