@@ -7,7 +7,8 @@ use crate::tokens::{Fault, Group, Token, Tree, begins_with, fault, text_of};
 const PART: &str = "ArrayViewMut";
 
 impl Eraser<'_> {
-    /// `let mut WHOLE = Whole::new(ITEMS);` and `WHOLE.end(PART);` go, and `WHOLE.lend(VIEW)` becomes `ArrayViewMut::new(VIEW, ITEMS)`.
+    /// `let mut WHOLE = Whole::new(ITEMS);` and `WHOLE.end(PART);` go, `WHOLE.lend(VIEW)` becomes `ArrayViewMut::new(VIEW, ITEMS)`, and
+    /// `WHOLE.lend_items()` becomes `ITEMS`.
     pub(crate) fn whole(&mut self, trees: &[Tree]) -> Result<Option<usize>, Fault> {
         let (name, items) = &self.whole;
         match trees {
@@ -20,10 +21,14 @@ impl Eraser<'_> {
                 Ok(Some(10))
             }
             [whole, dot, call, Tree::Group(given), ..] if !name.is_empty() && whole.is(name) && dot.is(".") => {
+                let items = items.clone();
                 match call.first().text {
                     "end" => Ok(Some(5)),
+                    "lend_items" => {
+                        self.put(whole.first().lead, &items);
+                        Ok(Some(4))
+                    }
                     "lend" => {
-                        let items = items.clone();
                         self.put(whole.first().lead, &format!("{PART}::new("));
                         self.all(&given.trees)?;
                         self.put(", ", &format!("{items})"));

@@ -8,6 +8,7 @@ ghost use Rattle.ndarray_layout.specs.ShapeBuilder.{strides_list};
 ghost use Rattle.ndarray_layout.specs.Signed.{all_signed};
 ghost use Rattle.ndarray_layout.specs.Span.{low_span};
 ghost use Rattle.ndarray_layout.specs.View.{view_of};
+ghost use Rattle.nd_lent.specs.Items.{view_from_0};
 ghost use Rattle.nd_owned.specs.HasItems.{HasItemsOf};
 ghost use Rattle.nd_owned.specs.Lent.{array_of};
 ghost use Rattle.nd_owned.specs.Mapped.{row_major_items};
@@ -15,7 +16,9 @@ ghost use Rattle.nd_owned.specs.Owned.{IsOwned, item_at};
 ghost use Rattle.nd_owned.specs.WrittenPart.{HasWrittenPart};
 
 use nd_owned::{ArrayViewMut, OwnedArray, Whole};
-use ndarray_layout::{CanIndexCheckMode, Ix2, LayoutError, Lengths, StrideShape, Strided};
+use ndarray_layout::{
+    CanIndexCheckMode, Ix2, LayoutError, Lengths, ShapeError, StrideShape, Strided,
+};
 use std::alloc::{AllocError, Global};
 
 /// Paints each pixel of a picture, whose pixels lie in a list by the strides of its shape. The list's other pixels are
@@ -49,9 +52,49 @@ fn paint_view<D: Lengths>(view: Strided<D>, pixels: &mut [u8], pixel: u8)
         (record { items = pixels.new; view = view }) }
 {
     let mut whole = Whole::new(pixels);
-    let mut picture = whole.lend(view);
+    let mut picture = ArrayViewMut::new(view, whole.lend_items());
     picture.fill(pixel);
     whole.end(picture);
+}
+
+/// Paints each pixel of any view over pixels, in which no two indices may have one pixel. The list's other pixels are unchanged.
+/// Errors: those of `ArrayViewMut::over`.
+pub fn paint_over<D: Lengths>(
+    view: Strided<D>,
+    pixels: &mut [u8],
+    pixel: u8,
+) -> Result<(), ShapeError>
+    ensures { OnOk result (HasItemsOf (λ index. Some pixel)
+        (record { items = pixels.old; view = view })
+        (record { items = pixels.new; view = view })) }
+{
+    let mut whole = Whole::new(pixels);
+    let mut picture = ArrayViewMut::over(view, whole.lend_items())?;
+    picture.fill(pixel);
+    whole.end(picture);
+    Ok(())
+}
+
+/// Paints each pixel of a picture, as `paint` does, by one call that checks the shape and lends the pixels. Errors: those of
+/// `ArrayViewMut::from_shape`.
+pub fn paint_shape<D: Lengths>(
+    alloc: Global,
+    pixels: &mut [u8],
+    shape: StrideShape<D>,
+    pixel: u8,
+) -> Result<(), LayoutError>
+    ensures { OnOk result (
+        let lens = D.list shape.dim in
+        let view = view_from_0 lens (strides_list D.list lens shape.strides) in
+        HasItemsOf (λ index. Some pixel)
+        (record { items = pixels.old; view = view })
+        (record { items = pixels.new; view = view })) }
+{
+    let mut whole = Whole::new(pixels);
+    let mut picture = ArrayViewMut::from_shape(alloc, shape, whole.lend_items())?;
+    picture.fill(pixel);
+    whole.end(picture);
+    Ok(())
 }
 
 /// Paints a part of a picture, whose pixels lie in a list by a view, and returns whether it did: it doesn't where the part isn't one

@@ -35,7 +35,7 @@ pub use flips::flip;
 pub use foreign::from_bytes;
 pub use histograms::histogram;
 pub use items::count_dark_pixels;
-pub use lent::{brighten, paint, paint_owned, paint_part};
+pub use lent::{brighten, paint, paint_over, paint_owned, paint_part, paint_shape};
 pub use lights::lighten;
 pub use parts::separate_places;
 pub use pastes::paste;

@@ -152,6 +152,10 @@ fn a_whole_becomes_the_call_that_lends_it() {
             "fn f() { let mut whole = Whole::new(items); let mut part = whole.lend(view); part.g(); whole.end(part); }",
             "fn f() { let mut part = ArrayViewMut::new(view, items); part.g(); }",
         ),
+        (
+            "let mut whole = Whole::new(items); let part = ArrayViewMut::over(view, whole.lend_items())?; whole.end(part);",
+            "let part = ArrayViewMut::over(view, items)?;",
+        ),
         ("use lower::Whole; use lower::A;", "use crate::lower::ArrayViewMut; use crate::lower::A;"),
         ("use lower::{A, Whole};", "use crate::lower::{A, ArrayViewMut};"),
         ("use lower::{ArrayViewMut, Whole};", "use crate::lower::{ArrayViewMut,};"),

@@ -1,8 +1,10 @@
 //! Writes to pictures.
 
-use crate::example_callers::{brighten, flip, paint, paint_owned, with_two_parts, write_parts};
+use crate::example_callers::{
+    brighten, flip, paint, paint_over, paint_owned, paint_shape, with_two_parts, write_parts,
+};
 use crate::{Hundreds, Layout, Listed, Places, SIX_AXES, pixels, strides};
-use ndarray_layout::CanIndexCheckMode::OwnedMutable;
+use ndarray_layout::CanIndexCheckMode::{OwnedMutable, ReadOnly};
 use ndarray_layout::{
     ArrayView, ArrayViewMut, Axis, Ix2, IxDyn, OwnedArray, ShapeBuilder, SliceInfoElem, Strided, s, unsigned,
 };
@@ -53,6 +55,11 @@ fn a_picture_is_painted_and_spare_pixels_are_not() {
     assert_eq!(pixels, [9, 9, 9, 3, 9, 9, 9, 7]);
     assert!(paint(&mut pixels, (2, 4).strides((5, 1)).unwrap(), 8).is_err());
     assert_eq!(pixels, [9, 9, 9, 3, 9, 9, 9, 7]);
+    assert!(paint_shape(&mut pixels, (2, 3).strides((4, 1)).unwrap(), 6).is_ok());
+    assert_eq!(pixels, [6, 6, 6, 3, 6, 6, 6, 7]);
+    let view = |row, column| Strided::from_parts(0, Ix2(2, 3), Ix2(row, column), 1, 8, ReadOnly).unwrap();
+    assert!(paint_over(view(4, 1), &mut pixels, 5).is_ok() && paint_over(view(1, 1), &mut pixels, 4).is_err());
+    assert_eq!(pixels, [5, 5, 5, 3, 5, 5, 5, 7]);
 }
 
 #[test]

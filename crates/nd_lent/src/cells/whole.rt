@@ -8,8 +8,9 @@ use ndarray_layout::{Lengths, Strided};
 use std::mem::replace;
 use std::slice::from_raw_parts_mut;
 
-/// A slice whose items are lent as a part. A proof knows what the slice holds once the part has come back, as `end` says; of a
-/// part that `ArrayViewMut::new` makes, and that is dropped, it doesn't.
+/// A slice whose items are lent as a part. A proof knows what the slice holds once the part has come back, as `end` says. It knows
+/// this of each part of all items, made by `lend`, or of `lend_items` by `ArrayViewMut::new`, `over` or `from_shape`; of one that is
+/// made of the slice itself, or that is dropped, it doesn't.
 ///
 /// `[2]`, `[-1]` from 1 over 7 8 9: 5 written at (0) of the part that it lends makes the slice 7 5 9. The project's own.
 pub struct Whole<'a, T> {
@@ -40,9 +41,20 @@ impl<'a, T> Whole<'a, T> {
         Whole { items, len }
     }
 
-    /// The part of all its items, by a view of them. It has no items then, until `end` gives them back. The caller ensures that
-    /// each index of the view has an item to itself, as `Strided::from_shape`, `new` and `from_parts` check it in owned mode.
-    /// Takes no memory.
+    /// All its items, of which `ArrayViewMut::new`, `over` or `from_shape` makes a part. It has none then, until `end` takes the part
+    /// back; an error of `over` or `from_shape` takes the items with it. Takes no memory.
+    ///
+    /// Of 7 8 9: these three, and none is left. The project's own.
+    pub fn lend_items(&mut self) -> &'a mut [T]
+        ensures items { result.now ≡ self.old.items.now }
+        ensures len { self.new.len ≡ self.old.len }
+        ensures same_right { result.ghost_name ≡ self.old.items.ghost_name }
+    {
+        replace(&mut self.items, &mut [])
+    }
+
+    /// The part of all its items, by a view of them: `ArrayViewMut::new` over `lend_items`. The caller ensures that each index of the
+    /// view has an item to itself, as `Strided::from_shape`, `new` and `from_parts` check it in owned mode. Takes no memory.
     ///
     /// `[2]`, `[-1]` from 1 over 7 8 9: (0) of the part is 8, (1) is 7. The project's own.
     pub fn lend<D: Lengths>(&mut self, view: Strided<D>) -> ArrayViewMut<'a, T, D>
@@ -53,17 +65,17 @@ impl<'a, T> Whole<'a, T> {
         ensures marks { result.cells.marks ≡ replicate (length self.old.items.now) true }
         ensures same_right { result.cells.name ≡ self.old.items.ghost_name }
     {
-        let items = replace(&mut self.items, &mut []);
-        ArrayViewMut::new(view, items)
+        ArrayViewMut::new(view, self.lend_items())
     }
 
-    /// The part comes back: the slice holds what the part and all that was made of it left. The caller ensures that it is the
-    /// part of all items, as `lend` returned it, or as `set` and `replace` left it. Takes no memory.
+    /// The part comes back: the slice holds what the part and all that was made of it left. The caller ensures that it is the part of
+    /// all items, as `lend` made it, or as it was made of `lend_items`, or as `set`, `fill` and the like left it. Takes no memory.
     ///
     /// `[2]`, `[-1]` from 1 over 7 8 9 with 5 set at (0): 7 5 9. The project's own.
     pub fn end<D: Lengths>(&mut self, part: ArrayViewMut<'a, T, D>)
         requires marks { part.cells.marks ≡ replicate self.old.len true }
         ensures items { self.new.items.now ≡ (array_of part.entry).items }
+        ensures len { self.new.len ≡ self.old.len }
         ensures same_right { self.new.items.ghost_name ≡ part.entry.cells.name }
     {
         self.items = part.into_cells().finish(self.len);
@@ -79,9 +91,8 @@ impl<'a, T> Whole<'a, T> {
         ensures marks { result.cells.marks ≡ replicate (length self.old.items.now) true }
         ensures same_right { result.cells.name ≡ self.old.items.ghost_name }
     {
-        let items = replace(&mut self.items, &mut []);
         Rest {
-            cells: Cells::all_of(items),
+            cells: Cells::all_of(self.lend_items()),
         }
     }
 
@@ -91,6 +102,7 @@ impl<'a, T> Whole<'a, T> {
     pub fn close(&mut self, rest: Rest<'a, T>)
         requires marks { rest.cells.marks ≡ replicate self.old.len true }
         ensures items { self.new.items.now ≡ rest.entry.cells.items }
+        ensures len { self.new.len ≡ self.old.len }
         ensures same_right { self.new.items.ghost_name ≡ rest.entry.cells.name }
     {
         let Rest { cells } = rest;

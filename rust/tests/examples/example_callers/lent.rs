@@ -3,7 +3,7 @@
 
 use ::ndarray_layout::memory::AllocError;
 use ::ndarray_layout::nd_owned::{ArrayViewMut, OwnedArray};
-use ::ndarray_layout::{CanIndexCheckMode, Ix2, LayoutError, Lengths, StrideShape, Strided};
+use ::ndarray_layout::{CanIndexCheckMode, Ix2, LayoutError, Lengths, ShapeError, StrideShape, Strided};
 
 /// Paints each pixel of a picture, whose pixels lie in a list by the strides of its shape. The list's other pixels are
 /// unchanged. Errors: those of `Strided::from_shape`; then all pixels are unchanged.
@@ -44,6 +44,45 @@ pub fn paint<D: Lengths>(pixels: &mut [u8], shape: StrideShape<D>, pixel: u8) ->
 fn paint_view<D: Lengths>(view: Strided<D>, pixels: &mut [u8], pixel: u8) {
     let mut picture = ArrayViewMut::new(view, pixels);
     picture.fill(pixel);
+}
+
+/// Paints each pixel of any view over pixels, in which no two indices may have one pixel. The list's other pixels are unchanged.
+/// Errors: those of `ArrayViewMut::over`.
+///
+/// <details><summary>Contract (proved)</summary>
+///
+/// ```text
+/// ensures OnOk result (HasItemsOf (λ index. Some pixel)
+///     (record { items = pixels.old; view = view })
+///     (record { items = pixels.new; view = view }))
+/// ```
+/// [How to read it](ndarray_layout::contracts)
+/// </details>
+pub fn paint_over<D: Lengths>(view: Strided<D>, pixels: &mut [u8], pixel: u8) -> Result<(), ShapeError> {
+    let mut picture = ArrayViewMut::over(view, pixels)?;
+    picture.fill(pixel);
+    Ok(())
+}
+
+/// Paints each pixel of a picture, as `paint` does, by one call that checks the shape and lends the pixels. Errors: those of
+/// `ArrayViewMut::from_shape`.
+///
+/// <details><summary>Contract (proved)</summary>
+///
+/// ```text
+/// ensures OnOk result (
+///     let lens = D.list shape.dim in
+///     let view = view_from_0 lens (strides_list D.list lens shape.strides) in
+///     HasItemsOf (λ index. Some pixel)
+///     (record { items = pixels.old; view = view })
+///     (record { items = pixels.new; view = view }))
+/// ```
+/// [How to read it](ndarray_layout::contracts)
+/// </details>
+pub fn paint_shape<D: Lengths>(pixels: &mut [u8], shape: StrideShape<D>, pixel: u8) -> Result<(), LayoutError> {
+    let mut picture = ArrayViewMut::from_shape(shape, pixels)?;
+    picture.fill(pixel);
+    Ok(())
 }
 
 /// Paints a part of a picture, whose pixels lie in a list by a view, and returns whether it did: it doesn't where the
