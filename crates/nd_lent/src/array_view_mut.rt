@@ -198,7 +198,7 @@ impl<'a, T: Drop, D: Lengths> ArrayViewMut<'a, T, D> {
     }
 
     /// The items as a slice, for as long as the whole is lent, where their places follow one another in row-major order; else the
-    /// part.
+    /// part. That the items keep what is written is tested, and in no clause.
     ///
     /// `[2]`, `[1]` from 1 over 7 8 9: 8 9. ndarray's `into_slice`.
     pub fn into_slice(self) -> Result<&'a mut [T], Self>
@@ -220,7 +220,7 @@ impl<'a, T: Drop, D: Lengths> ArrayViewMut<'a, T, D> {
     }
 
     /// The parts of the coordinates below `index` on an axis, and of those from `index` on; both may be used at once, and in
-    /// threads, whatever the strides are.
+    /// threads, whatever the strides are. That the items keep what is written is tested, and in no clause.
     ///
     /// # Errors
     ///

@@ -343,7 +343,7 @@ impl<'a, T: Sized, D: Lengths> ArrayViewMut<'a, T, D> {
     }
 
     /// The items as a slice, for as long as the whole is lent, where their places follow one another in row-major order; else the
-    /// part.
+    /// part. That the items keep what is written is tested, and in no clause.
     ///
     /// `[2]`, `[1]` from 1 over 7 8 9: 8 9. ndarray's `into_slice`.
     ///
@@ -389,7 +389,7 @@ impl<'a, T: Sized, D: Lengths> ArrayViewMut<'a, T, D> {
     }
 
     /// The parts of the coordinates below `index` on an axis, and of those from `index` on; both may be used at once, and in
-    /// threads, whatever the strides are.
+    /// threads, whatever the strides are. That the items keep what is written is tested, and in no clause.
     ///
     /// Columns of `[2,2]`, `[2,1]` from 0 over 7 8 9 10, at 1: one part has 7 9, the other 8 10. ndarray's `split_at`.
     ///

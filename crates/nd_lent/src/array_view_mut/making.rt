@@ -34,8 +34,8 @@ impl<'a, T, D: Lengths> ArrayViewMut<'a, T, D> {
     }
 
     /// The part of all indices of a view. The caller ensures that each index has an item to itself, as `Strided::from_shape`, `new` and
-    /// `from_parts` check it in owned mode; `over` checks it. Once the part and all that is made of it are gone, the items are what they
-    /// hold.
+    /// `from_parts` check it in owned mode; `over` checks it. That the items keep what is written is tested, and in no clause. A proof
+    /// knows it where a `Whole` lends them (`lend_items`) and takes the part back (`end`).
     ///
     /// `[2]`, `[-1]` from 1 over 7 8 9: (0) is 8, (1) is 7, and 9 is no part of it. The project's own.
     pub fn new(view: Strided<D>, items: &'a mut [T]) -> Self
@@ -53,7 +53,8 @@ impl<'a, T: Drop, D: Lengths> ArrayViewMut<'a, T, D> {
     ghost use Rattle.nd_lent.specs.Lent.{array_of};
 
     /// The part of all indices of a view over items, where each index has one of them to itself. The items may be fewer than
-    /// those that the view was made for.
+    /// those that the view was made for. That the items keep what is written is tested, and in no clause. A proof knows it where a
+    /// `Whole` lends them (`lend_items`) and takes the part back (`end`).
     ///
     /// # Errors
     ///
@@ -82,7 +83,9 @@ impl<'a, T: Drop, D: Lengths> ArrayViewMut<'a, T, D> {
 
     /// The part of a shape, by its own strides or by given ones, over items.
     ///
-    /// The lowest place of the layout is 0, the first item. Items past the layout, or between its places, are no part of it.
+    /// The lowest place of the layout is 0, the first item. Items past the layout, or between its places, are no part of it. That the
+    /// items keep what is written is tested, and in no clause. A proof knows it where a `Whole` lends them (`lend_items`) and takes the
+    /// part back (`end`).
     ///
     /// # Errors
     ///

@@ -31,7 +31,7 @@ impl<'a, T: Drop, D: Lengths> ArrayViewMut<'a, T, D> {
     ghost use Rattle.nd_lent.specs.SlicePartsLeft.{parts_left, slices_left};
 
     /// The parts that slices pick, to be lent one after another, without a list of them: `multi_slice_move`, for parts of several
-    /// types. The items that no slice picks are in none.
+    /// types. The items that no slice picks are in none. That the items keep what is written is tested, and in no clause.
     ///
     /// # Errors
     ///

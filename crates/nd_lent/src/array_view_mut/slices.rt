@@ -125,7 +125,8 @@ fn parts_of_slices<'a, T: Drop, D: Lengths, S: SliceElems, E: Lengths>(
 
 impl<'a, T: Drop, D: Lengths> ArrayViewMut<'a, T, D> {
     /// The parts that slices pick, all lent at once, each to be sliced again: a thread of its own may write each, whatever the
-    /// strides are. The items that no slice picks are in none. The type `E` of their shapes may fix a count of axes.
+    /// strides are. The items that no slice picks are in none. The type `E` of their shapes may fix a count of axes. That the items
+    /// keep what is written is tested, and in no clause.
     ///
     /// # Errors
     ///

@@ -22,8 +22,7 @@ impl<'a, T, D: Lengths> ArrayViewMut<'a, T, D> {
         ArrayViewMut { cells: Cells::all_of(items), view }
     }
 
-    /// The part of all indices of a view. Once the part and all that is made of it are gone, the items are what they
-    /// hold.
+    /// The part of all indices of a view. That the items keep what is written is tested, and in no clause.
     ///
     /// `[2]`, `[-1]` from 1 over 7 8 9: (0) is 8, (1) is 7, and 9 is no part of it. The project's own.
     ///
@@ -69,8 +68,8 @@ impl<'a, T, D: Lengths> ArrayViewMut<'a, T, D> {
 }
 
 impl<'a, T: Sized, D: Lengths> ArrayViewMut<'a, T, D> {
-    /// The part of all indices of a view over items, where each index has one of them to itself. The items may be fewer than
-    /// those that the view was made for.
+    /// The part of all indices of a view over items, where each index has one of them to itself. The items may be fewer
+    /// than those that the view was made for. That the items keep what is written is tested, and in no clause.
     ///
     /// Takes no memory, and time by the square of the count of axes at most.
     ///
@@ -119,7 +118,8 @@ impl<'a, T: Sized, D: Lengths> ArrayViewMut<'a, T, D> {
 
     /// The part of a shape, by its own strides or by given ones, over items.
     ///
-    /// The lowest place of the layout is 0, the first item. Items past the layout, or between its places, are no part of it.
+    /// The lowest place of the layout is 0, the first item. Items past the layout, or between its places, are no part
+    /// of it. That the items keep what is written is tested, and in no clause.
     ///
     /// `[2]` with the stride `[-1]` over 7 8 9: (0) is 8, (1) is 7. ndarray's `from_shape`.
     ///

@@ -44,7 +44,7 @@ impl<'a, T: Sized, D: Dimension> ArrayViewMut<'a, T, D> {
     }
 
     /// The items as they are stored, from the lowest place on, for as long as the whole is lent, where their places are consecutive
-    /// numbers; else the part. Without an index it is an empty slice.
+    /// numbers; else the part. Without an index it is an empty slice. That the items keep what is written is tested, and in no clause.
     ///
     /// Takes no memory, and time in proportion to the square of the count of axes at most.
     ///

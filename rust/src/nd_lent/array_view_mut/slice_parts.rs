@@ -18,7 +18,7 @@ pub struct SliceParts<'a, 's, T, D: Lengths> {
 
 impl<'a, T: Sized, D: Lengths> ArrayViewMut<'a, T, D> {
     /// The parts that slices pick, to be lent one after another, without a list of them: `multi_slice_move`, for parts of several
-    /// types. The items that no slice picks are in none.
+    /// types. The items that no slice picks are in none. That the items keep what is written is tested, and in no clause.
     ///
     /// Takes the time and the memory of the comparisons of `first_intersection_sorted`: for up to 4 slices no memory.
     ///

@@ -144,7 +144,8 @@ fn parts_of_slices<'a, T: Sized, D: Lengths, S: SliceElems, E: Lengths>(
 
 impl<'a, T: Sized, D: Lengths> ArrayViewMut<'a, T, D> {
     /// The parts that slices pick, all lent at once, each to be sliced again: a thread of its own may write each, whatever the
-    /// strides are. The items that no slice picks are in none. The type `E` of their shapes may fix a count of axes.
+    /// strides are. The items that no slice picks are in none. The type `E` of their shapes may fix a count of axes. That the items
+    /// keep what is written is tested, and in no clause.
     ///
     /// Takes memory for the list, and nothing else for up to 4 slices where `E` fixes the count of axes or each leaves at most 4.
     /// Takes time for each slice, and for the comparisons of `first_intersection_sorted`, which takes memory too: if that fails,
