@@ -69,7 +69,7 @@ impl<'a, T> Whole<'a, T> {
     }
 
     /// The part comes back: the slice holds what the part and all that was made of it left. The caller ensures that it is the part of
-    /// all items, as `lend` made it, or as it was made of `lend_items`, or as `set`, `fill` and the like left it. Takes no memory.
+    /// all items, as it was made of what `lend` or `lend_items` lent, or as `set`, `fill` and the like left it. Takes no memory.
     ///
     /// `[2]`, `[-1]` from 1 over 7 8 9 with 5 set at (0): 7 5 9. The project's own.
     pub fn end<D: Lengths>(&mut self, part: ArrayViewMut<'a, T, D>)
