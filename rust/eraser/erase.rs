@@ -29,6 +29,8 @@ pub struct Names<'a> {
     pub inlined: bool,
     /// Whether C calls its exports.
     pub exported: bool,
+    /// Whether C need not have written what it lends them to write.
+    pub unwritten: bool,
 }
 
 impl Names<'_> {

@@ -19,7 +19,7 @@ impl Eraser<'_> {
 
     /// Notes which parameters of a function are only written.
     pub(crate) fn note_written(&mut self, function: &str, head: &[Tree]) {
-        let parameters = head.iter().find_map(|tree| tree.group("(")).filter(|_| self.names.exported);
+        let parameters = head.iter().find_map(|tree| tree.group("(")).filter(|_| self.names.unwritten);
         let parameters = items_of(parameters.map_or(&[], |group| &group.trees));
         let written = parameters.filter(|parameter| is_only_written(function, parameter));
         self.written = written.map(|parameter| parameter[0].first().text.to_string()).collect();
@@ -82,9 +82,9 @@ impl Eraser<'_> {
         };
         let (lead, text) = (first.first().lead, first.first().text);
         let is_declared = symbol.is(":") && is_field(first) && (last.is("i32") || last.is("isize"));
-        if self.names.exported && is_declared && self.bracket == "{" {
+        if self.names.unwritten && is_declared && self.bracket == "{" {
             self.put(lead, &format!("{text}: {}", unwritten(last)));
-        } else if self.names.exported && text == "raw" && symbol.is(".") && is_field(last) {
+        } else if self.names.unwritten && text == "raw" && symbol.is(".") && is_field(last) {
             self.put(lead, &format!("unsafe {{ raw.{}.assume_init() }}", last.first().text));
         } else {
             return Ok(None);
@@ -107,20 +107,20 @@ fn unwritten(ty: &Tree) -> String {
 }
 
 /// A module of functions that take what C passes: one for each `extern "C" fn` of a source, in whose module it stands.
-pub fn flat(trees: &[Tree]) -> Result<String, Fault> {
+pub fn flat(trees: &[Tree], unwritten: bool) -> Result<String, Fault> {
     let mut text = String::new();
     for at in 0..trees.len() {
         let [word, abi, keyword, name, Tree::Group(parameters), result @ ..] = &trees[at..] else {
             continue;
         };
         if word.is("extern") && abi.first().kind == Kind::Literal && keyword.is("fn") {
-            text += &function(name.first().text, parameters, result)?;
+            text += &function(name.first().text, parameters, result, unwritten)?;
         }
     }
     Ok(if text.is_empty() { text } else { format!("\npub mod exported {{\nuse super::*;\n\n{text}}}\n") })
 }
 
-fn function(name: &str, parameters: &Group, result: &[Tree]) -> Result<String, Fault> {
+fn function(name: &str, parameters: &Group, result: &[Tree], unwritten: bool) -> Result<String, Fault> {
     let [minus, arrow, result, ..] = result else {
         return Err(fault(&parameters.close, "is followed by no result"));
     };
@@ -130,7 +130,7 @@ fn function(name: &str, parameters: &Group, result: &[Tree]) -> Result<String, F
     let (mut taken, mut passed) = (Vec::new(), Vec::new());
     let kept = without_memory(&parameters.trees);
     for parameter in items_of(&kept) {
-        let (declared, value) = passed_by_c(name, parameter)?;
+        let (declared, value) = passed_by_c(name, parameter, unwritten)?;
         taken.push(declared);
         passed.push(value);
     }
@@ -141,11 +141,12 @@ fn function(name: &str, parameters: &Group, result: &[Tree]) -> Result<String, F
 }
 
 /// A parameter of a function as C passes it, and the value that is made of it.
-fn passed_by_c(function: &str, parameter: &[Tree]) -> Result<(String, String), Fault> {
+fn passed_by_c(function: &str, parameter: &[Tree], unwritten: bool) -> Result<(String, String), Fault> {
     let name = parameter[0].first().text;
     let unknown = || fault(parameter[0].first(), "is a parameter that C can't pass");
     let is_written = |ty: &[Tree]| ty.first().is_some_and(|word| word.is("mut"));
-    let item = |text: String| if is_only_written(function, parameter) { format!("MaybeUninit<{text}>") } else { text };
+    let is_unwritten = unwritten && is_only_written(function, parameter);
+    let item = |text: String| if is_unwritten { format!("MaybeUninit<{text}>") } else { text };
     match &parameter[1..] {
         [colon, amp, ty @ ..] if colon.is(":") && amp.is("&") => {
             let (kind, empty, call) = match is_written(ty) {

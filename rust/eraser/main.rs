@@ -139,6 +139,7 @@ fn write(top: &Path, into: &Path) -> Fallible<()> {
                 examples: if is_library { &of_calls } else { &[] },
                 inlined: is_library,
                 exported: *folder == FOR_C,
+                unwritten: *folder == FOR_C,
             };
             let others = if is_library || *folder == FOR_C { &[] } else { ALLOWED_IN_TESTS };
             for (place, text) in files_of(&source, &names, &attributes("#!", others))? {
@@ -175,6 +176,7 @@ fn print_crate(name: &str, folder: &Path) -> Fallible<()> {
         examples: &[],
         inlined: false,
         exported: true,
+        unwritten: false,
     };
     let body = module_of(&folder.join("lib.rt"), folder, &names)?;
     println!("{}pub mod {name} {{\n{body}\n}}", attributes("#", ALLOWED_IN_TESTS));

@@ -23,7 +23,7 @@ impl Plain {
     fn read(file: &Path, names: &Names) -> Fallible<Plain> {
         let source = fs::read_to_string(file).map_err(|error| format!("{}: {error}", file.display()))?;
         let plain = tokens::trees_of(&source).and_then(|(trees, rest)| {
-            let exports = if names.exported { exports::flat(&trees)? } else { String::new() };
+            let exports = if names.exported { exports::flat(&trees, names.unwritten)? } else { String::new() };
             Ok(Plain { erased: erase(&trees, names)?, rest: format!("{rest}{exports}") })
         });
         plain.map_err(|fault| format!("{}:{fault}", file.display()).into())
@@ -63,7 +63,7 @@ impl Plain {
         let words: Vec<&str> = self.erased.text.split(|letter| !is_part(letter)).collect();
         let used = MEMORY.iter().filter(|(_, calls)| calls.iter().any(|call| words.contains(call)));
         let memory = (format!("{}::{MEMORY_MODULE}", names.package), used.map(|(name, _)| *name).collect());
-        let used = UNWRITTEN.iter().filter(|name| names.exported && words.contains(name));
+        let used = UNWRITTEN.iter().filter(|name| names.unwritten && words.contains(name));
         let unwritten = ("crate::unwritten".to_string(), used.copied().collect());
         let line = |(module, used): (String, Vec<&str>)| match &used[..] {
             [] => String::new(),

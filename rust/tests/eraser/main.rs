@@ -57,6 +57,7 @@ const NAMES: Names = Names {
     examples: &[],
     inlined: false,
     exported: false,
+    unwritten: false,
 };
 
 /// What is left of a source, or what is said of it.
@@ -298,7 +299,7 @@ fn a_derived_error_is_written_out() {
 
 #[test]
 fn an_export_takes_what_c_passes() {
-    let of = |source: &str| match trees_of(source).and_then(|(trees, _)| exports::flat(&trees)) {
+    let of = |source: &str| match trees_of(source).and_then(|(trees, _)| exports::flat(&trees, true)) {
         Ok(text) => text,
         Err(fault) => fault.to_string(),
     };
@@ -353,7 +354,7 @@ fn what_an_export_only_writes_may_hold_nothing_before() {
             "pub struct RawElem { pub kind: i32, pub start: MaybeUninit<isize> } fn f(raw: &RawElem) -> S { S { start: unsafe { raw.start.assume_init() }, kind: raw.kind } }",
         ),
     ];
-    let names = Names { exported: true, ..NAMES };
+    let names = Names { exported: true, unwritten: true, ..NAMES };
     for (source, expected) in ROWS {
         let text = trees_of(source).and_then(|(trees, _)| erase(&trees, &names));
         let text = text.map_or_else(|fault| fault.to_string(), |erased| erased.text);
