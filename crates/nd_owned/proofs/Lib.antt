@@ -1,5 +1,6 @@
 pub mod EvenRows
 pub mod Faults
+pub mod FewRows
 pub mod Left
 pub mod Moved
 pub mod MovedRows

@@ -2,4 +2,5 @@ pub mod PickedView
 pub mod EvenRows
 pub mod Left
 pub mod MovedRows
+pub mod OneOrMany
 pub mod Written

@@ -1,11 +1,12 @@
 //! A slice that was checked once on a layout, to be moved along the axes.
 ghost use Rattle.std.specs.List.{All};
 ghost use Rattle.std.specs.Option.{IsSome};
-ghost use Rattle.std.specs.Prelude.{◌≡◌, ◌↔◌, ◌<◌, ◌^◌, ℕ, IfOk, IfSome, IsOk, IsTrue, None, length, slice_index};
+ghost use Rattle.std.specs.Prelude.{◌≡◌, ◌↔◌, ◌<◌, ◌≤◌, ◌^◌, ℕ, IfOk, IfSome, IsOk, IsTrue, None, length, slice_index};
 ghost use Rattle.ndarray_layout.specs.declared.Fit.TheVariants.{Strict};
 ghost use Rattle.ndarray_layout.specs.declared.Order.TheVariants.{RowMajor};
 ghost use Rattle.ndarray_layout.specs.AxisElems.{axis_elems};
 ghost use Rattle.ndarray_layout.specs.Indices.{is_index as is_index_of_shape};
+ghost use Rattle.ndarray_layout.specs.Memory.{NeedsNoMemory};
 ghost use Rattle.ndarray_layout.specs.Rows.{rows_places};
 ghost use Rattle.ndarray_layout.specs.ShapeFault.{shape_fault};
 ghost use Rattle.ndarray_layout.specs.Signed.{all_signed};
@@ -14,7 +15,9 @@ ghost use Rattle.ndarray_layout.specs.SlicedView.{slice_of};
 ghost use Rattle.ndarray_layout.specs.View.{view_places};
 ghost use Rattle.nd_owned.specs.Moved.{moves};
 ghost use Rattle.nd_owned.specs.private.MovedRows.{IsOffset};
+ghost use Rattle.nd_owned.specs.private.OneOrMany.{items_of};
 
+use crate::one_or_many::OneOrMany;
 use ndarray_layout::{
     AxisElems, Fit, IxDyn, LayoutError, Lengths, Order, Row, ShapeError, SliceElems, SliceInfoElem,
     Strided, index_offset, is_index, resolve_elem,
@@ -27,23 +30,24 @@ use std::marker::Model;
 #[derive(Drop)]
 pub struct ReadySlice<D: Lengths> {
     view: Strided<D>,
-    elems: Vec<SliceInfoElem>,
+    elems: OneOrMany<SliceInfoElem>,
     // By how many coordinates along each axis it can be moved, 0 among them.
     moves: D,
     // The rows of the slice where it wasn't moved, and how many places they have.
-    rows: Vec<Row>,
+    rows: OneOrMany<Row>,
     count: usize,
 }
 
 impl<D: Lengths> Model for ReadySlice<D> {
     ghost use Rattle.nd_owned.specs.Moved.{Ready};
     ghost use Rattle.nd_owned.specs.private.MovedRows.{AreReady};
+    ghost use Rattle.nd_owned.specs.private.OneOrMany.{items_of};
 
     ghost Value = { Ready };
 
-    ghost view = { λ ready. record { view = ready.view; elems = ready.elems.items } };
+    ghost view = { λ ready. record { view = ready.view; elems = items_of ready.elems } };
 
-    ghost invariant = { λ ready. AreReady ready.view ready.elems.items (D.list ready.moves) ready.rows.items ready.count };
+    ghost invariant = { λ ready. AreReady ready.view (items_of ready.elems) (D.list ready.moves) (items_of ready.rows) ready.count };
 }
 
 /// By how many coordinates a slice of a view can be moved along each axis. Errors: out of memory.
@@ -55,6 +59,7 @@ fn moves_of<D: Lengths>(
     requires { argument_fault Strict view.now.shape elems.now ≡ None }
     ensures fault { shape_fault result ≡ None }
     ensures moves { IfOk result (λ counts. D.list counts ≡ moves elems.now view.now.shape) }
+    ensures memory { NeedsNoMemory D.NDIM (length view.now.shape) → IsOk result }
 {
     let shape = view.dim().slice();
     let mut counts = D::zeros(alloc, shape.len())?;
@@ -81,16 +86,27 @@ fn write_moves(
     Ok(())
 }
 
-/// The longest rows that the axes of a view allow, one after another.
-fn list_rows<D: Lengths>(alloc: Global, view: &Strided<D>) -> Result<Vec<Row>, AllocError>
-    ensures places { IfOk result (λ v. rows_places v.items ≡ view_places RowMajor view.now) }
-    ensures some { IfOk result (λ v. All (λ row. 0 < row.len) v.items) }
+/// The longest rows that the axes of a view allow, one after another. Errors: out of memory, never where there is at most one axis, so at
+/// most one row.
+fn list_rows<D: Lengths>(alloc: Global, view: &Strided<D>) -> Result<OneOrMany<Row>, AllocError>
+    ensures places { IfOk result (λ list. rows_places (items_of list) ≡ view_places RowMajor view.now) }
+    ensures some { IfOk result (λ list. All (λ row. 0 < row.len) (items_of list)) }
+    ensures memory { length view.now.shape ≤ 1 → IsOk result }
 {
-    let mut rows = Vec::new(alloc);
-    for row in view.joined_rows(Order::RowMajor) {
-        rows.push(row)?;
+    let mut left = view.joined_rows(Order::RowMajor);
+    let count = left.len();
+    let Some(first) = left.next() else {
+        return Ok(OneOrMany::Many(Vec::new(alloc)));
+    };
+    if count == 1 {
+        return Ok(OneOrMany::One(first));
     }
-    Ok(rows)
+    let mut rows = Vec::with_capacity(alloc, count)?;
+    rows.push_reserved(first);
+    for row in left {
+        rows.push_reserved(row);
+    }
+    Ok(OneOrMany::Many(rows))
 }
 
 /// Whether two lists of strides stand for the same numbers.
@@ -104,7 +120,7 @@ fn are_same_strides(one: &[usize], other: &[usize]) -> bool
 }
 
 impl<D: Lengths> ReadySlice<D> {
-    /// The slice on a layout. Errors: those of `check_slice` on the shape, then out of memory.
+    /// The slice on a layout. Errors: those of `check_slice` on the shape, then out of memory, never of a slice of at most one element.
     pub(crate) fn new<S: SliceElems>(
         alloc: Global,
         view: &Strided<D>,
@@ -113,12 +129,14 @@ impl<D: Lengths> ReadySlice<D> {
         ensures fault { shape_fault result ≡ argument_fault Strict view.now.shape (S.list slices.now) }
         ensures layout { IfOk result (λ ready. ready.view ≡ view.now) }
         ensures slice { IfOk result (λ ready. ready.elems ≡ S.list slices.now) }
+        ensures memory { argument_fault Strict view.now.shape (S.list slices.now) ≡ None
+            → length (S.list slices.now) ≤ 1 → IsOk result }
     {
         let part: Strided<IxDyn> = view.slice(alloc, slices, Fit::Strict)?;
         let count = part.len();
         let rows = list_rows(alloc, &part)?;
         let moves = moves_of(alloc, view, slices.elems())?;
-        let elems = Vec::from_slice(alloc, slices.elems())?;
+        let elems = OneOrMany::copy_of(alloc, slices.elems())?;
         let view = view.duplicate(alloc)?;
         Ok(ReadySlice {
             view,
@@ -184,13 +202,13 @@ impl<D: Lengths> ReadySlice<D> {
 
     /// The rows of the slice where it wasn't moved.
     #[inline(always)]
-    pub(crate) fn rows(&self) -> &[Row]
+    pub(crate) fn rows(&self) -> &OneOrMany<Row>
         ensures fits { argument_fault Strict self.now.view.shape self.now.elems ≡ None }
-        ensures places { rows_places result.now
+        ensures places { rows_places (items_of result.now)
             ≡ view_places RowMajor (slice_of Strict self.now.elems self.now.view) }
-        ensures some { All (λ row. 0 < row.len) result.now }
+        ensures some { All (λ row. 0 < row.len) (items_of result.now) }
     {
-        self.rows.as_slice()
+        &self.rows
     }
 
     /// How many items it picks.

@@ -21,6 +21,7 @@
 mod even_rows;
 mod iterating;
 mod multi_set;
+mod one_or_many;
 mod owned;
 mod picked_view;
 mod ready;

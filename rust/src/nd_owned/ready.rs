@@ -3,6 +3,7 @@
 
 use crate::memory::AllocError;
 use crate::memory::prelude::{FallibleVec, Vec};
+use crate::nd_owned::one_or_many::OneOrMany;
 use crate::ndarray_layout::{
     AxisElems, Fit, IxDyn, LayoutError, Lengths, Order, Row, ShapeError, SliceElems, SliceInfoElem, Strided,
     index_offset, is_index, resolve_elem,
@@ -12,11 +13,11 @@ use crate::ndarray_layout::{
 /// many tiles of one shape.
 pub struct ReadySlice<D: Lengths> {
     view: Strided<D>,
-    elems: Vec<SliceInfoElem>,
+    elems: OneOrMany<SliceInfoElem>,
     // By how many coordinates along each axis it can be moved, 0 among them.
     moves: D,
     // The rows of the slice where it wasn't moved, and how many places they have.
-    rows: Vec<Row>,
+    rows: OneOrMany<Row>,
     count: usize,
 }
 
@@ -28,6 +29,7 @@ pub struct ReadySlice<D: Lengths> {
 /// requires argument_fault Strict view.now.shape elems.now ≡ None
 /// ensures fault: shape_fault result ≡ None
 /// ensures moves: IfOk result (λ counts. D.list counts ≡ moves elems.now view.now.shape)
+/// ensures memory: NeedsNoMemory D.NDIM (length view.now.shape) → IsOk result
 /// ```
 /// [How to read it](crate::contracts)
 /// </details>
@@ -61,23 +63,34 @@ fn write_moves(counts: &mut [usize], shape: &[usize], elems: &[SliceInfoElem]) -
     Ok(())
 }
 
-/// The longest rows that the axes of a view allow, one after another.
+/// The longest rows that the axes of a view allow, one after another. Errors: out of memory, never where there is at most one axis, so at
+/// most one row.
 ///
 /// <details><summary>Contract (proved)</summary>
 ///
 /// ```text
-/// ensures places: IfOk result (λ v. rows_places v.items ≡ view_places RowMajor view.now)
-/// ensures some: IfOk result (λ v. All (λ row. 0 < row.len) v.items)
+/// ensures places: IfOk result (λ list. rows_places (items_of list) ≡ view_places RowMajor view.now)
+/// ensures some: IfOk result (λ list. All (λ row. 0 < row.len) (items_of list))
+/// ensures memory: length view.now.shape ≤ 1 → IsOk result
 /// ```
 /// [How to read it](crate::contracts)
 /// </details>
 #[inline]
-fn list_rows<D: Lengths>(view: &Strided<D>) -> Result<Vec<Row>, AllocError> {
-    let mut rows = Vec::new();
-    for row in view.joined_rows(Order::RowMajor) {
-        rows.fallible_push(row)?;
+fn list_rows<D: Lengths>(view: &Strided<D>) -> Result<OneOrMany<Row>, AllocError> {
+    let mut left = view.joined_rows(Order::RowMajor);
+    let count = left.len();
+    let Some(first) = left.next() else {
+        return Ok(OneOrMany::Many(Vec::new()));
+    };
+    if count == 1 {
+        return Ok(OneOrMany::One(first));
     }
-    Ok(rows)
+    let mut rows = Vec::fallible_with_capacity(count)?;
+    rows.push_reserved(first);
+    for row in left {
+        rows.push_reserved(row);
+    }
+    Ok(OneOrMany::Many(rows))
 }
 
 /// Whether two lists of strides stand for the same numbers.
@@ -97,7 +110,7 @@ fn are_same_strides(one: &[usize], other: &[usize]) -> bool {
 }
 
 impl<D: Lengths> ReadySlice<D> {
-    /// The slice on a layout. Errors: those of `check_slice` on the shape, then out of memory.
+    /// The slice on a layout. Errors: those of `check_slice` on the shape, then out of memory, never of a slice of at most one element.
     ///
     /// <details><summary>Contract (proved)</summary>
     ///
@@ -105,6 +118,8 @@ impl<D: Lengths> ReadySlice<D> {
     /// ensures fault: shape_fault result ≡ argument_fault Strict view.now.shape (S.list slices.now)
     /// ensures layout: IfOk result (λ ready. ready.view ≡ view.now)
     /// ensures slice: IfOk result (λ ready. ready.elems ≡ S.list slices.now)
+    /// ensures memory: argument_fault Strict view.now.shape (S.list slices.now) ≡ None
+    ///     → length (S.list slices.now) ≤ 1 → IsOk result
     /// ```
     /// [How to read it](crate::contracts)
     /// </details>
@@ -114,7 +129,7 @@ impl<D: Lengths> ReadySlice<D> {
         let count = part.len();
         let rows = list_rows(&part)?;
         let moves = moves_of(view, slices.elems())?;
-        let elems = Vec::fallible_from_slice(slices.elems())?;
+        let elems = OneOrMany::copy_of(slices.elems())?;
         let view = view.duplicate()?;
         Ok(ReadySlice { view, elems, moves, rows, count })
     }
@@ -229,14 +244,15 @@ impl<D: Lengths> ReadySlice<D> {
     ///
     /// ```text
     /// ensures fits: argument_fault Strict self.now.view.shape self.now.elems ≡ None
-    /// ensures places: rows_places result.now ≡ view_places RowMajor (slice_of Strict self.now.elems self.now.view)
-    /// ensures some: All (λ row. 0 < row.len) result.now
+    /// ensures places: rows_places (items_of result.now)
+    ///     ≡ view_places RowMajor (slice_of Strict self.now.elems self.now.view)
+    /// ensures some: All (λ row. 0 < row.len) (items_of result.now)
     /// ```
     /// [How to read it](crate::contracts)
     /// </details>
     #[inline(always)]
-    pub(crate) fn rows(&self) -> &[Row] {
-        self.rows.as_slice()
+    pub(crate) fn rows(&self) -> &OneOrMany<Row> {
+        &self.rows
     }
 
     /// How many items it picks.

@@ -1,9 +1,11 @@
 //! Many parts of one shape: a slice that is checked once, and moved along the axes.
-ghost use Rattle.std.specs.Prelude.{◌≡◌, Some, None, IfOk, IsTrue, IsOk, OnErr, OnOk, [], ◌∷◌, length, map};
+ghost use Rattle.std.specs.List.{All, AllPairs};
+ghost use Rattle.std.specs.Prelude.{◌≡◌, ◌≢◌, ◌≤◌, Some, None, IfOk, IsTrue, IsOk, OnErr, OnOk, [], ◌∷◌, length, map};
 ghost use Rattle.ndarray_layout.specs.declared.ErrorKind.TheVariants.{IncompatibleLayout};
 ghost use Rattle.ndarray_layout.specs.declared.Fit.TheVariants.{Strict};
 ghost use Rattle.ndarray_layout.specs.declared.Order.TheVariants.{RowMajor};
 ghost use Rattle.ndarray_layout.specs.Indices.{is_index};
+ghost use Rattle.ndarray_layout.specs.Rows.{rows_places};
 ghost use Rattle.ndarray_layout.specs.ShapeFault.{shape_fault};
 ghost use Rattle.ndarray_layout.specs.Size.{size};
 ghost use Rattle.ndarray_layout.specs.SlicedLayout.{sliced_shape};
@@ -11,27 +13,34 @@ ghost use Rattle.ndarray_layout.specs.SlicedView.{slice_of};
 ghost use Rattle.ndarray_layout.specs.SliceFault.{argument_fault};
 ghost use Rattle.ndarray_layout.specs.View.{view_places};
 ghost use Rattle.nd_lent.specs.Items.{item_at_place};
+ghost use Rattle.nd_lent.specs.LentRow.{places_of};
 ghost use Rattle.nd_owned.specs.Moved.{move_fault, moves, ready_at, set_fault};
 ghost use Rattle.nd_owned.specs.MultiSet.{IsWritten, KeepsOthers};
-ghost use Rattle.nd_owned.specs.private.MovedRows.{IsOffset};
+ghost use Rattle.nd_owned.specs.private.MovedRows.{CanMove, IsOffset, moved_rows};
+ghost use Rattle.nd_owned.specs.private.OneOrMany.{items_of};
+ghost use Rattle.nd_owned.specs.private.Written.{AreInBounds, HasWritten};
 ghost use Rattle.std.specs.Result.{result_err};
 
+use crate::one_or_many::OneOrMany;
 use crate::owned::OwnedArray;
 use crate::ready::ReadySlice;
 use crate::rows::{read_moved_rows, write_moved_rows};
-use ndarray_layout::{ErrorKind, LayoutError, Lengths, ShapeError, SliceElems, Strided, from_kind};
-use std::alloc::Global;
+use ndarray_layout::{
+    ErrorKind, LayoutError, Lengths, Row, ShapeError, SliceElems, Strided, from_kind,
+};
+use std::alloc::{AllocError, Global};
+use std::slice;
 
 impl<T: Drop, D: Lengths> OwnedArray<T, D> {
     /// A slice that is checked once on the layout of the array, for many tiles of one shape: `items_of` and `set_items_of` move it
     /// along the axes, and check no more than by how many coordinates.
     ///
-    /// Takes memory for the rows of the slice, and time for each of them. It lends nothing of the array, and arrays of the same
-    /// layout may share it.
+    /// Takes memory for the elements and the rows of the slice where there are several, and time for each row. It lends nothing of the
+    /// array, and arrays of the same layout may share it.
     ///
     /// # Errors
     ///
-    /// Those of `check_slice` on the shape, then out of memory.
+    /// Those of `check_slice` on the shape, then out of memory; never where the slice has at most one element, as `..2` on `[4]`.
     ///
     /// `..2,..2` on `[3,4]` can be moved by (0,0) to (1,2). The project's own, in place of ndarray's `windows`, which lends.
     pub fn ready<S: SliceElems>(
@@ -43,6 +52,7 @@ impl<T: Drop, D: Lengths> OwnedArray<T, D> {
             argument_fault Strict self.now.view.shape (S.list slices.now) }
         ensures layout { IfOk result (λ ready. ready.view ≡ self.now.view) }
         ensures slice { IfOk result (λ ready. ready.elems ≡ S.list slices.now) }
+        ensures memory { shape_fault result ≡ None → length (S.list slices.now) ≤ 1 → IsOk result }
     {
         ReadySlice::new(alloc, self.strided(), slices)
     }
@@ -68,6 +78,46 @@ fn offset_on<D: Lengths>(
     match ready.offset(by) {
         Some(offset) => Ok(offset),
         None => Err(from_kind(ErrorKind::OutOfBounds)),
+    }
+}
+
+/// Copies of the items at the places of rows that lie at an offset from these, as `read_moved_rows` makes them; a single row takes no
+/// loop.
+#[inline(always)]
+fn read_moved<T: Copy>(
+    alloc: Global,
+    rows: &OneOrMany<Row>,
+    offset: isize,
+    count: usize,
+    stored: &[T],
+) -> Result<Vec<T>, AllocError>
+    requires starts { All (CanMove offset) (items_of rows.now) }
+    requires in_bounds { All (λ row. AreInBounds (length stored.now) (places_of row))
+        (moved_rows offset (items_of rows.now)) }
+    requires count { count ≡ length (rows_places (moved_rows offset (items_of rows.now))) }
+    ensures items { IfOk result (λ v. map Some v.items
+        ≡ map (item_at_place stored.now) (rows_places (moved_rows offset (items_of rows.now)))) }
+    ensures memory { count ≡ 0 → IsOk result }
+{
+    match rows {
+        OneOrMany::One(row) => read_moved_rows(alloc, slice::from_ref(row), offset, count, stored),
+        OneOrMany::Many(rows) => read_moved_rows(alloc, rows.as_slice(), offset, count, stored),
+    }
+}
+
+/// Writes an item at each place of rows that lie at an offset from these, as `write_moved_rows` does; a single row takes no loop.
+#[inline(always)]
+fn write_moved<T: Copy>(stored: &mut [T], rows: &OneOrMany<Row>, offset: isize, items: &[T])
+    requires starts { All (CanMove offset) (items_of rows.now) }
+    requires in_bounds { All (λ row. AreInBounds (length stored.old) (places_of row))
+        (moved_rows offset (items_of rows.now)) }
+    requires count { length (rows_places (moved_rows offset (items_of rows.now))) ≡ length items.now }
+    ensures { AllPairs (λ one other. one ≢ other) (rows_places (moved_rows offset (items_of rows.now))) →
+        HasWritten (rows_places (moved_rows offset (items_of rows.now))) items.now stored.old stored.new }
+{
+    match rows {
+        OneOrMany::One(row) => write_moved_rows(stored, slice::from_ref(row), offset, items),
+        OneOrMany::Many(rows) => write_moved_rows(stored, rows.as_slice(), offset, items),
     }
 }
 
@@ -98,7 +148,7 @@ impl<T: Copy, D: Lengths> OwnedArray<T, D> {
             → size (sliced_shape Strict ready.now.elems self.now.view.shape) ≡ 0 → IsOk result }
     {
         let offset = offset_on(ready, &self.view, by)?;
-        let items = read_moved_rows(
+        let items = read_moved(
             alloc,
             ready.rows(),
             offset,
@@ -145,7 +195,7 @@ impl<T: Copy, D: Lengths> OwnedArray<T, D> {
         if ready.count() != items.len() {
             return Err(from_kind(ErrorKind::IncompatibleShape));
         }
-        write_moved_rows(self.items.as_mut_slice(), ready.rows(), offset, items);
+        write_moved(self.items.as_mut_slice(), ready.rows(), offset, items);
         Ok(())
     }
 }

@@ -1,24 +1,27 @@
 // Made by `rust/erase` of `crates/nd_owned/src/owned/tiles.rt`: edit that.
 //! Many parts of one shape: a slice that is checked once, and moved along the axes.
 
+use crate::memory::AllocError;
 use crate::memory::prelude::Vec;
+use crate::nd_owned::one_or_many::OneOrMany;
 use crate::nd_owned::owned::OwnedArray;
 use crate::nd_owned::ready::ReadySlice;
 use crate::nd_owned::rows::{read_moved_rows, write_moved_rows};
-use crate::ndarray_layout::{ErrorKind, LayoutError, Lengths, ShapeError, SliceElems, Strided, from_kind};
+use crate::ndarray_layout::{ErrorKind, LayoutError, Lengths, Row, ShapeError, SliceElems, Strided, from_kind};
+use core::slice;
 
 impl<T: Sized, D: Lengths> OwnedArray<T, D> {
     /// A slice that is checked once on the layout of the array, for many tiles of one shape: `items_of` and `set_items_of` move it
     /// along the axes, and check no more than by how many coordinates.
     ///
-    /// Takes memory for the rows of the slice, and time for each of them. It lends nothing of the array, and arrays of the same
-    /// layout may share it.
+    /// Takes memory for the elements and the rows of the slice where there are several, and time for each row. It lends nothing of the
+    /// array, and arrays of the same layout may share it.
     ///
     /// `..2,..2` on `[3,4]` can be moved by (0,0) to (1,2). The project's own, in place of ndarray's `windows`, which lends.
     ///
     /// # Errors
     ///
-    /// Those of `check_slice` on the shape, then out of memory.
+    /// Those of `check_slice` on the shape, then out of memory; never where the slice has at most one element, as `..2` on `[4]`.
     ///
     /// # Examples
     ///
@@ -45,6 +48,7 @@ impl<T: Sized, D: Lengths> OwnedArray<T, D> {
     /// ensures fault: shape_fault result ≡ argument_fault Strict self.now.view.shape (S.list slices.now)
     /// ensures layout: IfOk result (λ ready. ready.view ≡ self.now.view)
     /// ensures slice: IfOk result (λ ready. ready.elems ≡ S.list slices.now)
+    /// ensures memory: shape_fault result ≡ None → length (S.list slices.now) ≤ 1 → IsOk result
     /// ```
     /// [How to read it](crate::contracts)
     /// </details>
@@ -76,6 +80,52 @@ fn offset_on<D: Lengths>(ready: &ReadySlice<D>, view: &Strided<D>, by: &D) -> Re
     match ready.offset(by) {
         Some(offset) => Ok(offset),
         None => Err(from_kind(ErrorKind::OutOfBounds)),
+    }
+}
+
+/// Copies of the items at the places of rows that lie at an offset from these, as `read_moved_rows` makes them; a single row takes no
+/// loop.
+///
+/// <details><summary>Contract (proved)</summary>
+///
+/// ```text
+/// requires starts: All (CanMove offset) (items_of rows.now)
+/// requires in_bounds: All (λ row. AreInBounds (length stored.now) (places_of row))
+///     (moved_rows offset (items_of rows.now))
+/// requires count: count ≡ length (rows_places (moved_rows offset (items_of rows.now)))
+/// ensures items: IfOk result (λ v. map Some v.items
+///     ≡ map (item_at_place stored.now) (rows_places (moved_rows offset (items_of rows.now))))
+/// ensures memory: count ≡ 0 → IsOk result
+/// ```
+/// [How to read it](crate::contracts)
+/// </details>
+#[inline(always)]
+fn read_moved<T: Copy>(rows: &OneOrMany<Row>, offset: isize, count: usize, stored: &[T]) -> Result<Vec<T>, AllocError> {
+    match rows {
+        OneOrMany::One(row) => read_moved_rows(slice::from_ref(row), offset, count, stored),
+        OneOrMany::Many(rows) => read_moved_rows(rows.as_slice(), offset, count, stored),
+    }
+}
+
+/// Writes an item at each place of rows that lie at an offset from these, as `write_moved_rows` does; a single row takes no loop.
+///
+/// <details><summary>Contract (proved)</summary>
+///
+/// ```text
+/// requires starts: All (CanMove offset) (items_of rows.now)
+/// requires in_bounds: All (λ row. AreInBounds (length stored.old) (places_of row))
+///     (moved_rows offset (items_of rows.now))
+/// requires count: length (rows_places (moved_rows offset (items_of rows.now))) ≡ length items.now
+/// ensures AllPairs (λ one other. one ≢ other) (rows_places (moved_rows offset (items_of rows.now))) →
+///     HasWritten (rows_places (moved_rows offset (items_of rows.now))) items.now stored.old stored.new
+/// ```
+/// [How to read it](crate::contracts)
+/// </details>
+#[inline(always)]
+fn write_moved<T: Copy>(stored: &mut [T], rows: &OneOrMany<Row>, offset: isize, items: &[T]) {
+    match rows {
+        OneOrMany::One(row) => write_moved_rows(stored, slice::from_ref(row), offset, items),
+        OneOrMany::Many(rows) => write_moved_rows(stored, rows.as_slice(), offset, items),
     }
 }
 
@@ -123,7 +173,7 @@ impl<T: Copy, D: Lengths> OwnedArray<T, D> {
     #[inline]
     pub fn items_of(&self, ready: &ReadySlice<D>, by: &D) -> Result<Vec<T>, LayoutError> {
         let offset = offset_on(ready, &self.view, by)?;
-        let items = read_moved_rows(ready.rows(), offset, ready.count(), self.items.as_slice())?;
+        let items = read_moved(ready.rows(), offset, ready.count(), self.items.as_slice())?;
         Ok(items)
     }
 
@@ -181,7 +231,7 @@ impl<T: Copy, D: Lengths> OwnedArray<T, D> {
         if ready.count() != items.len() {
             return Err(from_kind(ErrorKind::IncompatibleShape));
         }
-        write_moved_rows(self.items.as_mut_slice(), ready.rows(), offset, items);
+        write_moved(self.items.as_mut_slice(), ready.rows(), offset, items);
         Ok(())
     }
 }

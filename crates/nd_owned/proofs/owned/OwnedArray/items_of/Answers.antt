@@ -13,17 +13,18 @@ use Rattle.ndarray_layout.specs.View.{IsView, LiesWithin, view_places}
 use Rattle.ndarray_layout.proofs.Laws.View.{length-view_places}
 use Rattle.nd_lent.specs.Items.{item_at_place}
 use Rattle.nd_owned.specs.Moved.{ready_at}
+use Rattle.nd_owned.specs.private.OneOrMany.{items_of}
 use Rattle.nd_owned.specs.private.MovedRows.{moved_rows}
 use Rattle.nd_owned.proofs.Tiles.{AreMoved, as_many_there, can_move, in_bounds_there, places_there}
 use Rattle.nd_owned.proofs.owned.OwnedArray.items_of.Goals as goal
 
-pub read_moved_rows-requires : goal.read_moved_rows-requires
-read_moved_rows-requires g c =
+pub read_moved-requires : goal.read_moved-requires
+read_moved-requires g c =
     let ready = c.args.ready.now in
     let index : List ℕ = g.D.Lengths.list c.args.by.now in
     let f : FitsSigned w64 c.in_ok-offset.offset = search rules in
     let same = c.in_ok-offset.ensures.same in
-    let are : AreMoved ready.view ready.elems c.rows.result.now index c.in_ok-offset.offset = record {
+    let are : AreMoved ready.view ready.elems (items_of c.rows.result.now) index c.in_ok-offset.offset = record {
       is_view = subst IsView (sym same) c.self.invariant.is_view;
       fits = c.rows.ensures.fits;
       places = c.rows.ensures.places;
@@ -43,7 +44,7 @@ returns-clause-items g c =
     let index : List ℕ = g.D.Lengths.list c.args.by.now in
     let f : FitsSigned w64 c.in_ok-offset.offset = search rules in
     let same = c.in_ok-offset.ensures.same in
-    let rows = c.rows.result.now in
+    let rows = items_of c.rows.result.now in
     let got = item_at_place c.as_slice.result.now in
     let are : AreMoved ready.view ready.elems rows index c.in_ok-offset.offset = record {
       is_view = subst IsView (sym same) c.self.invariant.is_view;

@@ -11,18 +11,19 @@ use Rattle.ndarray_layout.specs.View.{IsView, LiesWithin}
 use Rattle.ndarray_layout.proofs.Laws.View.{length-view_places}
 use Rattle.nd_owned.specs.Moved.{ready_at}
 use Rattle.nd_owned.specs.MultiSet.{Write, write_places}
+use Rattle.nd_owned.specs.private.OneOrMany.{items_of}
 use Rattle.nd_owned.specs.private.Written.{HasWritten}
 use Rattle.nd_owned.proofs.Slices.{one_kept}
 use Rattle.nd_owned.proofs.Tiles.{AreMoved, as_many_there, can_move, in_bounds_there, set_fault_there, written_there}
 use Rattle.nd_owned.proofs.owned.OwnedArray.set_items_of.Goals as goal
 
-pub write_moved_rows-requires : goal.write_moved_rows-requires
-write_moved_rows-requires g c =
+pub write_moved-requires : goal.write_moved-requires
+write_moved-requires g c =
     let ready = c.args.ready.now in
     let index : List ℕ = g.D.Lengths.list c.args.by.now in
     let f : FitsSigned w64 c.in_ok-offset.offset = search rules in
     let same = c.in_ok-offset.ensures.same in
-    let are : AreMoved ready.view ready.elems c.rows.result.now index c.in_ok-offset.offset = record {
+    let are : AreMoved ready.view ready.elems (items_of c.rows.result.now) index c.in_ok-offset.offset = record {
       is_view = subst IsView (sym same) c.self.invariant.is_view;
       fits = c.rows.ensures.fits;
       places = c.rows.ensures.places;
@@ -59,10 +60,10 @@ returns-clause-written g c =
     let index : List ℕ = g.D.Lengths.list c.args.by.now in
     let write : Write g.row.T.Denot = record { slice = ready_at ready index; items = c.args.items.now } in
     let items = c.self.inside.items in
-    let stored = c.write_moved_rows.new.stored in
+    let stored = c.write_moved.new.stored in
     let f : FitsSigned w64 c.in_ok-offset.offset = search rules in
     let same = c.in_ok-offset.ensures.same in
-    let are : AreMoved ready.view ready.elems c.rows.result.now index c.in_ok-offset.offset = record {
+    let are : AreMoved ready.view ready.elems (items_of c.rows.result.now) index c.in_ok-offset.offset = record {
       is_view = subst IsView (sym same) c.self.invariant.is_view;
       fits = c.rows.ensures.fits;
       places = c.rows.ensures.places;
@@ -71,9 +72,9 @@ returns-clause-written g c =
       far = c.in_ok-offset.ensures.offset;
     } in
     let now : take items.len (stored ++ drop (length stored) items.items) ≡ stored =
-    take_at stored (drop (length stored) items.items) items.len (c.write_moved_rows.auto.stored ∙ c.as_mut_slice.ensures.len) in
+    take_at stored (drop (length stored) items.items) items.len (c.write_moved.auto.stored ∙ c.as_mut_slice.ensures.len) in
     let left = rw (to_z-of_z w64 c.in_ok-offset.offset f, c.as_mut_slice.ensures.value)
-    at c.write_moved_rows.ensures in
+    at c.write_moved.ensures in
     let made : HasWritten (write_places c.self.inside.view write) write.items items.items stored =
     written_there write.items items.items stored are same c.self.invariant.distinct left in
     let whole = subst (λ new. HasWritten (write_places c.args.self.now.view write) write.items c.args.self.now.items new) (sym now)
@@ -86,10 +87,10 @@ returns-clause-others g c =
     let index : List ℕ = g.D.Lengths.list c.args.by.now in
     let write : Write g.row.T.Denot = record { slice = ready_at ready index; items = c.args.items.now } in
     let items = c.self.inside.items in
-    let stored = c.write_moved_rows.new.stored in
+    let stored = c.write_moved.new.stored in
     let f : FitsSigned w64 c.in_ok-offset.offset = search rules in
     let same = c.in_ok-offset.ensures.same in
-    let are : AreMoved ready.view ready.elems c.rows.result.now index c.in_ok-offset.offset = record {
+    let are : AreMoved ready.view ready.elems (items_of c.rows.result.now) index c.in_ok-offset.offset = record {
       is_view = subst IsView (sym same) c.self.invariant.is_view;
       fits = c.rows.ensures.fits;
       places = c.rows.ensures.places;
@@ -98,9 +99,9 @@ returns-clause-others g c =
       far = c.in_ok-offset.ensures.offset;
     } in
     let now : take items.len (stored ++ drop (length stored) items.items) ≡ stored =
-    take_at stored (drop (length stored) items.items) items.len (c.write_moved_rows.auto.stored ∙ c.as_mut_slice.ensures.len) in
+    take_at stored (drop (length stored) items.items) items.len (c.write_moved.auto.stored ∙ c.as_mut_slice.ensures.len) in
     let left = rw (to_z-of_z w64 c.in_ok-offset.offset f, c.as_mut_slice.ensures.value)
-    at c.write_moved_rows.ensures in
+    at c.write_moved.ensures in
     let made : HasWritten (write_places c.self.inside.view write) write.items items.items stored =
     written_there write.items items.items stored are same c.self.invariant.distinct left in
     let whole = subst (λ new. HasWritten (write_places c.args.self.now.view write) write.items c.args.self.now.items new) (sym now)
