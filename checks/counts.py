@@ -1,13 +1,10 @@
 #!/usr/bin/env -S python3 -B
-"""A ratchet. From a commit to the next no kind of what KINDS counts falls, and none of what FEWER counts rises, unless the commit's message has a line 'counts: WHY'. It looks at
-each commit since the branch left main, on main at the last ones, and counts in what git has of them. In checks/steps.toml stands each check, and each crate that
-has wrong bodies, with all its parts. Prints the counts of the last commit, and what is wrong; its status is 1 where something is.
+"""A ratchet. From a commit to the next no kind of what KINDS counts falls, and none of what FEWER counts rises, unless the commit's message has a line 'counts:
+WHY'. It looks at each commit since the branch left main, on main at the last ones, and counts in what git has of them. In checks/steps.toml stands each check,
+and each crate that has wrong bodies, with all its parts."""
+import collections, functools, os, pathlib, re, subprocess
 
-usage: checks/counts.py
-"""
-import collections, functools, os, pathlib, re, subprocess, sys
-
-from rattle_source import TOP, read
+from rattle_source import TOP, finish, read, said_by
 
 LAST = 30  # commits, on main
 STEPS = "checks/steps.toml"
@@ -20,9 +17,10 @@ KINDS = {
     "tests of Python": (r"bindings/python/\w+\.py", r"^ +def test"),
     "lines of examples of Python": (r"bindings/python/.*\.(py|md)", r"^\s*>>> "),
     "checks in tests of C": (r"bindings/c/\w+\.(c|cpp|h)", r"\bCHECK\("),
+    "examples in the header for C": (r"bindings/c/ndarray_layout\.h", r"^ \* {4}nd_\w+\(.*\) == "),
     "examples": (r"(rust|rust/over_image/src|bindings/\w+)/(examples|bin)/.*\.(rs|py|c)", None),
     "steps of the check": (STEPS, r"^.* = \{ run = "),
-    "parts of steps": (r"checks/\w+", r"^ *(run|run_both|report|answers|ends|step|run_step) \S"),
+    "parts of steps": (r"checks/\w+", r"^ *(run|run_both|report|answers|ends|run_step) \S"),
     "planted faults": (r"checks/planted\.toml", r"^ *\[\""),
     "wrong bodies": (r"(crates|threads)/\w+/wrong/.*\.edit", None),
     "commands of the workflow": (r"\.github/workflows/.*\.yml", r"^ *(- )?run: "),
@@ -35,42 +33,32 @@ FEWER = {
 EXPRESSIONS = {kind: (re.compile(files), lines and re.compile(lines, re.M)) for kind, (files, lines) in {**KINDS, **FEWER}.items()}
 
 
-def git(*words):
-    return subprocess.check_output(["git", *words], cwd=TOP, text=True)
-
-
 @functools.cache
 def blobs():
     """What prints each blob that it is told."""
     return subprocess.Popen(["git", "cat-file", "--batch"], cwd=TOP, stdin=subprocess.PIPE, stdout=subprocess.PIPE)
 
 
-def text_of(blob):
-    blobs().stdin.write(f"{blob}\n".encode())
-    blobs().stdin.flush()
-    size = int(blobs().stdout.readline().split()[2])
-    return blobs().stdout.read(size + 1).decode(errors="replace")
-
-
 @functools.cache
-def kinds_of(path):
-    return [kind for kind, (files, _) in EXPRESSIONS.items() if files.fullmatch(path)]
-
-
-@functools.cache
-def count_in(kind, blob):
-    lines = EXPRESSIONS[kind][1]
-    return len(lines.findall(text_of(blob))) if lines else 1
+def counts_in(path, blob):
+    """How many there are in a file, of each kind that counts in it."""
+    kinds = {kind: lines for kind, (files, lines) in EXPRESSIONS.items() if files.fullmatch(path)}
+    text = ""
+    if any(kinds.values()):
+        blobs().stdin.write(f"{blob}\n".encode())
+        blobs().stdin.flush()
+        size = int(blobs().stdout.readline().split()[2])
+        text = blobs().stdout.read(size + 1).decode(errors="replace")
+    return {kind: len(lines.findall(text)) if lines else 1 for kind, lines in kinds.items()}
 
 
 @functools.cache
 def counts_of(commit):
     """How many there are of each kind in a commit."""
     found = collections.Counter(dict.fromkeys(EXPRESSIONS, 0))
-    for line in git("ls-tree", "-r", "-z", commit).split("\0")[:-1]:
+    for line in said_by("git", "ls-tree", "-r", "-z", commit).split("\0")[:-1]:
         head, _, path = line.partition("\t")
-        for kind in kinds_of(path):
-            found[kind] += count_in(kind, head.split()[2])
+        found.update(counts_in(path, head.split()[2]))
     return found
 
 
@@ -80,18 +68,13 @@ def tests():
     return ", ".join(f"{count[kind]} {kind}" for kind in KINDS if "tests" in kind)
 
 
-def commits():
-    """The commits to look at, each with its parents, that have this check."""
-    base = subprocess.run(["git", "merge-base", "HEAD", "origin/main"], cwd=TOP, stdout=subprocess.PIPE, stderr=subprocess.DEVNULL, text=True).stdout.strip()
-    is_main = not base or base == git("rev-parse", "HEAD").strip()
-    for line in git("rev-list", "--parents", *([f"--max-count={LAST}", "HEAD"] if is_main else [f"{base}..HEAD"])).splitlines():
-        commit, *parents = line.split()
-        yield commit, [parent for parent in parents if git("ls-tree", parent, "checks/counts.py")]
-
-
 def faults():
-    for commit, parents in commits():
-        subject, _, text = git("log", "-1", "--format=%s%n%b", commit).partition("\n")
+    base = said_by("git", "merge-base", "HEAD", "origin/main", check=False, stderr=subprocess.DEVNULL).strip()
+    is_main = not base or base == said_by("git", "rev-parse", "HEAD").strip()
+    for line in said_by("git", "rev-list", "--parents", *([f"--max-count={LAST}", "HEAD"] if is_main else [f"{base}..HEAD"])).splitlines():
+        commit, *parents = line.split()
+        parents = [parent for parent in parents if said_by("git", "ls-tree", parent, "checks/counts.py")]  # (which have this check)
+        subject, _, text = said_by("git", "log", "-1", "--format=%s%n%b", commit).partition("\n")
         for kind, now in counts_of(commit).items() if parents and not re.search(r"^counts: \S", text, re.M) else ():
             before = [counts_of(parent)[kind] for parent in parents]
             if now > max(before) if kind in FEWER else now < min(before):
@@ -111,6 +94,5 @@ def not_listed():
 
 
 if __name__ == "__main__":
-    found = [*faults(), *not_listed()]
-    print(*(f"{count:6}  {kind}" for kind, count in counts_of("HEAD").items()), *found, sep="\n")
-    sys.exit(bool(found))
+    print(*(f"{count:6}  {kind}" for kind, count in counts_of("HEAD").items()), sep="\n")
+    finish([*faults(), *not_listed()])

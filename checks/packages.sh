@@ -1,21 +1,12 @@
-# What the checks need of Debian's packages: NumPy, Python's headers, pytest, Dask, Zarr, Chromium, cmark-gfm, which makes HTML of pages, and the
-# sources of Rust's image and rayon. They are installed where they are missing and root runs this. A check reads this file after steps.sh; `python` is
-# a Python that has NumPy.
-
-# NumPy may be another Python's than the first on the path: Debian's, for which it is a package.
-find_numpy() { for python in python3 /usr/bin/python3; do "$python" -c 'import numpy' 2>/dev/null && return; done; }
-has_NumPy() { find_numpy; }
+# What the checks need of Debian's packages. They are installed where they are missing and root runs this. A check reads this file after steps.sh;
+# `python` is a Python that has NumPy: it may be another than the first on the path, Debian's.
+has_NumPy() { for python in python3 /usr/bin/python3; do "$python" -c 'import numpy' 2>/dev/null && return; done; }
 has_headers() { [ -f "$("$python" -c 'import sysconfig; print(sysconfig.get_path("include"))')/Python.h" ]; }
 has_venv() { "$python" -m ensurepip --version >/dev/null 2>&1; }
-has_pytest() { "$python" -c 'import pytest' 2>/dev/null; }
-has_dask() { "$python" -c 'import dask' 2>/dev/null; }
-has_zarr() { "$python" -c 'import zarr' 2>/dev/null; }
+has_modules() { "$python" -c 'import pytest, dask, zarr' 2>/dev/null; }
 has_Chromium() { command -v chromium-headless-shell chromium chromium-browser google-chrome >/dev/null; }
-has_image() { compgen -G '/usr/share/cargo/registry/image-[0-9]*' >/dev/null; }
-has_rayon() { compgen -G '/usr/share/cargo/registry/rayon-[0-9]*' >/dev/null; }
-has_packages() {
-    has NumPy && has headers && has venv && has pytest && has dask && has zarr && has Chromium && has cmark-gfm && has image && has rayon
-}
+has_crates() { compgen -G '/usr/share/cargo/registry/image-[0-9]*' >/dev/null && compgen -G '/usr/share/cargo/registry/rayon-[0-9]*' >/dev/null; }
+has_packages() { has NumPy && has headers && has venv && has modules && has Chromium && has cmark-gfm && has crates; }
 install_packages() {
     local apt=(apt-get -qq -o DPkg::Lock::Timeout=600)
     "${apt[@]}" update

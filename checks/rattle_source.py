@@ -1,8 +1,5 @@
-"""What the checks and bench/ share: the files of the repository, the crates that crates.txt lists, and their sources.
-
-crates.txt has a line `NAME: LIBRARY ..` for each crate. A library with no line of its own is one of the kit. A `#` begins a comment.
-"""
-import os, pathlib, re, subprocess
+"""What the checks, the tools and bench/ share: the files of the repository, and the crates that crates.txt lists, each after its libraries."""
+import os, pathlib, re, subprocess, sys
 
 TOP = str(pathlib.Path(__file__).resolve().parents[1])
 PARTS = ("src", "specs", "proofs")
@@ -16,11 +13,27 @@ def read(path):
     return file.read_text(encoding="utf-8") if file.is_file() else ""
 
 
+def said_by(*words, **how):
+    """What a command prints, at the top of the repository."""
+    return subprocess.run(words, **{"cwd": TOP, "check": True, "stdout": subprocess.PIPE, "text": True, **how}).stdout
+
+
+def files(*patterns):
+    """The files that git knows or would add, of some patterns, sorted."""
+    found = said_by("git", "ls-files", "-z", "--cached", "--others", "--exclude-standard", "--", *patterns).split("\0")
+    return sorted({path for path in found if os.path.isfile(os.path.join(TOP, path))})
+
+
+def finish(found):
+    """Prints what a check has found wrong, and ends it by its status."""
+    print(*found, sep="\n", end="\n" * bool(found))
+    sys.exit(bool(found))
+
+
 def sources(*crates, parts=("src",)):
     """The paths of the sources of some crates, sorted: their code, or what stands in other parts of their folders."""
     folders = (pathlib.Path(TOP, "crates", crate, part) for crate in crates for part in parts)
-    files = (file for folder in folders for file in folder.rglob("*") if file.suffix in (".rt", ".antt"))
-    return sorted(str(file.relative_to(TOP)) for file in files)
+    return sorted(str(file.relative_to(TOP)) for folder in folders for file in folder.rglob("*") if file.suffix in (".rt", ".antt"))
 
 
 def read_list():
@@ -38,15 +51,9 @@ def crates_below(name):
 
 def sums_of(name, *made):
     """The checksums of crates.txt, of the sources of a crate and of those below it, and of what was made of them."""
-    paths = ["crates.txt", *sources(*crates_below(name), parts=PARTS), *made]
-    return subprocess.check_output(["sha256sum", *paths], cwd=TOP, text=True)
+    return said_by("sha256sum", "crates.txt", *sources(*crates_below(name), parts=PARTS), *made)
 
 
 def library(name):
     """The folder of a crate's proved library: in a check where the gate put it once it was proved, else where the gate or `rt check` left it."""
     return f"{os.environ['PROVED']}/{name}" if os.environ.get("PROVED") else f"{TOP}/crates/{name}/out/rlib"
-
-
-def free_memory():
-    """How many megabytes are free."""
-    return int(re.search(r"MemAvailable: *(\d+)", pathlib.Path("/proc/meminfo").read_text())[1]) * 1024 // 10**6

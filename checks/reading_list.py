@@ -1,16 +1,13 @@
 #!/usr/bin/env -S python3 -B
-"""Prints what a reader has to know of the promise in docs/PROVED.md: the words that the clauses of its calls name; then the words
-that these are made of; and the ghost members of the sources that say what the clauses see a value as. Beside each word stand its
-file and the lines of its definition, without comments and examples.
-
-usage: checks/reading_list.py
-"""
+"""Prints what a reader has to know of the promise in docs/PROVED.md: the words that the clauses of its calls name, also by the ghost members of the sources
+that say what the clauses see a value as; then the words that these are made of. Beside each stand its file and the lines of its definition, without
+comments and examples."""
 import collections, functools, re, sys
 
-from rattle_source import read, sources
+from rattle_source import crates_below, read, sources
 
 PAGE = "docs/PROVED.md"
-SOURCES = sources("nd_base", "nd_dim", "nd_shape", "nd_slice", "ndarray_layout", "nd_lent", "nd_owned", "ndl_session")
+SOURCES = sources(*crates_below("nd_owned"), "ndl_session")
 COMMENT = re.compile(r"^ *(?://|--).*", re.M)
 IMPORT = re.compile(r"\buse Rattle\.(\w+)\.specs\.([\w.]+)\.\{(.*?)\}", re.S)
 NO_CODE = re.compile(r"^-- examples?\b.*|^ *--.*?\n|^(?:pub )?use .*?\n|^ *\n", re.M | re.S)
@@ -22,11 +19,11 @@ GHOST = re.compile(r"^    ghost (?!use)(\w+)\b.*?(?=^$|^    \S|^\})", re.M | re.
 # each `impl` and each public trait of the sources, as (path, trait, type, text); a trait's type is None
 BLOCKS = [(path, found[1] or found[2], found[3], found[0]) for path in SOURCES for found in BLOCK.finditer(read(path))]
 TRAITS = {"Model", *(trait for _, trait, target, _ in BLOCKS if not target)}
-# what clauses see a value as: by the name of a trait's member, and by that of a type for its model, each → [(path, name, text)]
+# what clauses see a value as: by the name of a trait's member, and by that of a type for its model, each → [(path, text)]
 GHOSTS = collections.defaultdict(list)
 for path, trait, target, text in BLOCKS:
     for member in GHOST.finditer(text) if target and trait in TRAITS else []:
-        GHOSTS[target if trait == "Model" else member[1]].append((path, member[1], member[0]))
+        GHOSTS[target if trait == "Model" else member[1]].append((path, member[0]))
 
 
 def source_of(call):
@@ -73,35 +70,32 @@ def words_in(path, text):
 
 @functools.cache
 def named_by_the_promise():
-    """The words that the calls of the promise name, those of the first call first; and the ghost members that these calls stand on."""
+    """The words that the calls of the promise name, those of the first call first, and the ghost members that these calls stand on."""
     section = read(PAGE).partition("Of the layer as a whole:\n")[2].partition("\n\nSo code above")[0]
-    words, ghosts = [], []
+    words = []
     for path, text in map(source_of, re.findall(r"`([\w:]+)`", section)):
-        found = [ghost for name in dict.fromkeys(map("".join, MEMBER.findall(text))) for ghost in GHOSTS.get(name, [])]
         words += words_in(path, text)
-        for place, _, member in found:
-            words += words_in(place, member)
-        ghosts += [(place, name) for place, name, _ in found]
-    return list(dict.fromkeys(words)), list(dict.fromkeys(ghosts))
+        for name in dict.fromkeys(map("".join, MEMBER.findall(text))):
+            words += [word for place, member in GHOSTS.get(name, []) for word in words_in(place, member)]
+    return list(dict.fromkeys(words))
 
 
 @functools.cache
 def all_words():
     """Those words, and then the words that they are made of."""
-    found = [*named_by_the_promise()[0]]
+    found = [*named_by_the_promise()]
     for path, word in found:
-        made_of = dict.fromkeys(words_in(path, "\n".join(definitions_in(path)[word])))
-        found += [one for one in made_of if one not in found]
+        found += [one for one in dict.fromkeys(words_in(path, "\n".join(definitions_in(path)[word]))) if one not in found]
     return found
 
 
-def counts_of_words():
-    """How many words and lines of definitions there are, and how many of them the clauses name."""
-    return [count for part in (all_words(), named_by_the_promise()[0]) for count in (len(part), sum(len(definitions_in(path)[word]) for path, word in part))]
+def counts_of(words):
+    """How many words there are, and how many lines their definitions have."""
+    return len(words), sum(len(definitions_in(path)[word]) for path, word in words)
 
 
 if __name__ == "__main__":
-    first, ghosts = named_by_the_promise()
-    for title, part in (("the clauses name:", first), ("these are made of:", all_words()[len(first) :])):
+    named = named_by_the_promise()
+    for title, part in (("the clauses name:", named), ("these are made of:", all_words()[len(named) :])):
         print(title, *(f"  {word}  {path}, {len(definitions_in(path)[word])}" for path, word in part), "", sep="\n")
-    print("values are seen as:", *(f"  {name}  {path}" for path, name in ghosts), "", "{} words, {} lines; the clauses name {} of them, {} lines".format(*counts_of_words()), sep="\n")
+    print("{} words, {} lines; the clauses name {} of them, {} lines".format(*counts_of(all_words()), *counts_of(named)))

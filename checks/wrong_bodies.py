@@ -1,9 +1,8 @@
-"""The wrong bodies of crates/NAME/wrong, as the checks that list and try them read them, and what is wrong with one in itself.
+"""The wrong bodies of crates/NAME/wrong, as the checks that list and try them read them. A file NAME.edit is one. Its line 'refused by: FUNCTION GOAL' names
+the public call and the goal, that of a clause, which has to be left open. Then come a file of the crate and, as often as need be, what stands once in it
+and what is put in its place, each text in a line.
 
-A file NAME.edit is one wrong body. Its line 'refused by: FUNCTION GOAL' names the public call and the goal, that of a clause, which has to be
-left open. Then come a file of the crate and, as often as need be, what stands once in it and what is put in its place, each text in a line.
-
-usage: python3 checks/wrong_bodies.py FOLDER <SAID     prints, a line each, a function and a goal that the prover refuses, by what it says of the crate in a folder
+usage: python3 checks/wrong_bodies.py FOLDER <SAID     prints the functions and goals that the prover refuses, by what it says of the crate in a folder
 """
 import dataclasses, pathlib, re, sys
 
@@ -24,37 +23,27 @@ UNSEEN = re.compile(r"\./proofs/(\S+)/Answers\.antt:\S+ error: \d+ declarations?
 SEARCHED = re.compile(r"note: src/\S+ it is not proved that .*?\(`([^`]+)`\)")
 VERDICT = re.compile(r"fn \w+::(\S+): (.*)")
 # a limit of the prover's own, or of the machine, or a name that the proof cites and the body lacks: it has refused nothing then
-LIMIT = re.compile(
-    r"\bran out of (?:time|stack|memory|the (?:steps|memory) that)|outgrew the memory limit|stopped at the step limit|could not tell"
-    r"|error: `[^`]+`: (?:`[^`]+`: )?(?:record|module) `[^`]+` has no "
-)
+LIMIT = r"\bran out of (?:time|stack|memory|the (?:steps|memory) that)|outgrew the memory limit|stopped at the step limit|could not tell"
+LIMIT = re.compile(LIMIT + r"|error: `[^`]+`: (?:`[^`]+`: )?(?:record|module) `[^`]+` has no ")
 
 
 @dataclasses.dataclass(frozen=True)
 class Edit:
     """A wrong body: its file, the function that has it, the goal that refuses it, and its changes, each a file, an old text and a new one."""
-
     path: str
     function: str
     goal: str
     changes: tuple
-
-    @property
-    def crate(self):
-        return self.path.split("/")[1]
-
-    @property
-    def name(self):
-        return pathlib.PurePath(self.path).stem
+    crate = property(lambda self: self.path.split("/")[1])
+    name = property(lambda self: pathlib.PurePath(self.path).stem)
 
 
 def read_edit(path):
     """The edit that a file has. A `ValueError` says what it lacks."""
     lines = [LINE.fullmatch(line) for line in read(path).splitlines()]
-    if not path.endswith(".edit") or not all(lines) or not IN_ORDER.fullmatch("".join(f"{line[1]} " for line in lines)):
-        raise ValueError(f"{path}: an edit is NAME.edit, with lines 'refused by', 'file', 'old' and 'new'")
-    if len(lines[0][2].split()) != 2:
-        raise ValueError(f"{path}: 'refused by' names a function and a goal")
+    in_order = path.endswith(".edit") and all(lines) and IN_ORDER.fullmatch("".join(f"{line[1]} " for line in lines))
+    if not in_order or len(lines[0][2].split()) != 2:
+        raise ValueError(f"{path}: an edit is NAME.edit, with lines 'refused by', a function and a goal, 'file', 'old' and 'new'")
     told, changes = {}, []
     for word, text in (line.groups() for line in lines):
         told[word] = text
@@ -64,14 +53,11 @@ def read_edit(path):
 
 
 def faults_of(edit):
-    """What is wrong with an edit in itself, whatever the prover says of it: it changes nothing, or what isn't there, or what is no code; or what
-    refuses it is no promise of a public call."""
+    """What is wrong with an edit in itself: it changes nothing, or what isn't there, or what is no code; or what refuses it is no promise of a public call."""
     texts = [read(f"crates/{edit.crate}/{file}") if file.startswith("src/") else "" for file, _, _ in edit.changes]
     for text, (file, old, new) in zip(texts, edit.changes):
-        if not old or text.count(old) != 1:
-            yield f"{edit.path}: what it replaces doesn't stand once in src/, in {file}"
-        if old.split() == new.split():
-            yield f"{edit.path}: the new text is the old one"
+        if not old or text.count(old) != 1 or old.split() == new.split():
+            yield f"{edit.path}: what it replaces doesn't stand once in src/, in {file}, or is the new text"
     if not PROMISE.fullmatch(edit.goal):
         yield f"{edit.path}: {edit.goal} is the goal of no clause"
     if not any(is_in_call(edit, text.partition(old)[0]) for text, (_, old, _) in zip(texts, edit.changes)):
@@ -96,40 +82,35 @@ def read_edits():
     edits, faults = [], []
     for path in sorted(str(file.relative_to(TOP)) for file in pathlib.Path(TOP).glob("crates/*/wrong/*")):
         try:
-            found = [*faults_of(edit := read_edit(path))]
-            edits += [] if found else [edit]
+            edits.append(read_edit(path))
         except ValueError as error:
-            found = [str(error)]
-        faults += found
-    return edits, faults
-
-
-def goals_unseen(folder, function, because, names):
-    """The goals of a function whose proof was not looked at, and none of those that they rest on is another goal."""
-    text = pathlib.Path(folder, "proofs", *function.split("::"), "Answers.antt").read_text(encoding="utf-8")
-    is_lemma = not any(f"pub {name} : goal.{name}\n" in text for name in re.findall(r"`([^`]+)`", because))
-    return {(function, goal) for goal in re.findall(r"[\w-]+(?=,| \(|$)", names) if is_lemma}
+            faults.append(str(error))
+    wrong = {edit: found for edit in edits if (found := [*faults_of(edit)])}
+    return [edit for edit in edits if edit not in wrong], [*faults, *(fault for found in wrong.values() for fault in found)]
 
 
 def refused_goals(folder, said):
-    """The goals that the prover has refused of the crate in a folder, as pairs of a function and a goal; and each function that it has left
-    unproved for another reason than that it calls one such. What it says of a goal that it searches for stands above its line on the function."""
+    """The goals that the prover has refused of the crate in a folder, as pairs of a function and a goal; and each function that it has left unproved for
+    another reason than that it calls one such. What it says of a goal that it searches for stands above its line on the function."""
     goals, wrong, searched = set(), set(), []
     for text in SAID.findall(said):
-        is_refusal = not LIMIT.search(text)
-        if found := ANSWERED.match(text):
-            function = found[1].replace("/", "::")
-            goals |= {(function, found[2])} if is_refusal else set()
+        found = set()
+        if told := ANSWERED.match(text):
+            function = told[1].replace("/", "::")
+            found = {(function, told[2])}
             wrong.add(function)
-        elif found := UNSEEN.match(text):
-            goals |= goals_unseen(folder, found[1].replace("/", "::"), *found.groups()[1:]) if is_refusal else set()
-        elif found := SEARCHED.match(text):
-            searched += [found[1]] if is_refusal else []
-        elif found := VERDICT.match(text):
-            function, how = found.groups()
-            goals |= {(function, goal) for goal in searched} if is_refusal else set()
-            wrong |= {function} if searched or not how.startswith("proved") and "it calls" not in how else set()
+        elif told := UNSEEN.match(text):
+            # goals whose proof was not looked at, where none of what they rest on is another goal
+            text_of_proof = pathlib.Path(folder, "proofs", told[1], "Answers.antt").read_text(encoding="utf-8")
+            is_lemma = not any(f"pub {name} : goal.{name}\n" in text_of_proof for name in re.findall(r"`([^`]+)`", told[2]))
+            found = {(told[1].replace("/", "::"), goal) for goal in re.findall(r"[\w-]+(?=,| \(|$)", told[3]) if is_lemma}
+        elif told := SEARCHED.match(text):
+            searched += [] if LIMIT.search(text) else [told[1]]
+        elif told := VERDICT.match(text):
+            found = {(told[1], goal) for goal in searched}
+            wrong |= {told[1]} if searched or not told[2].startswith("proved") and "it calls" not in told[2] else set()
             searched = []
+        goals |= set() if LIMIT.search(text) else found
     return goals, wrong
 
 

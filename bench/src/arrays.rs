@@ -1,5 +1,4 @@
-//! Calls of arrays beside loops over slices, as one writes them by hand and as rustc compiles them. The items, 160 KB, lie in the
-//! second cache.
+//! Calls of arrays beside loops over slices, as one writes them by hand and as rustc compiles them: what `users` lacks.
 //!
 //! usage: arrays time ROUNDS ROUND_MS [WORD]   the nanoseconds of each side, where a name has WORD
 
@@ -28,63 +27,16 @@ std::arch::global_asm!(
     ".popsection"
 );
 
-/// How many rows and columns an array has, and how many items of a row are read where rows are padded.
+/// How many rows and columns an array has.
 pub const SIDE: usize = 200;
-pub const PADDED: usize = 190;
 
 /// How long the side of a picture of tiles is, and that of a tile.
 pub const PICTURE: usize = 100;
 pub const TILE: usize = 10;
 
-/// How an array of the items lies: all of them row by row; without the last items of each row; column by column.
-#[derive(Clone, Copy)]
-pub enum Form {
-    Whole,
-    Padded,
-    Turned,
-}
-
-impl Form {
-    const ALL: [(Form, &'static str); 3] =
-        [(Form::Turned, "columns"), (Form::Whole, "whole"), (Form::Padded, "padded rows")];
-
-    /// How many items the array has.
-    fn count(self) -> usize {
-        if let Form::Padded = self { SIDE * PADDED } else { SIDE * SIDE }
-    }
-}
-
 /// The items of an array.
-pub fn items() -> Vec<u32> {
+fn items() -> Vec<u32> {
     (0..(SIDE * SIDE) as u32).map(|number| number.wrapping_mul(2_654_435_761) >> 8).collect()
-}
-
-/// A sum that says what the items are.
-pub fn told(items: &[u32]) -> usize {
-    items.iter().enumerate().map(|(place, item)| (place + 1).wrapping_mul(*item as usize)).fold(0, usize::wrapping_add)
-}
-
-/// A call of both sides on items that each pass may change; the sum over what is left.
-fn writing(name: String, form: Form, theirs: fn(Form, &mut [u32]), ours: fn(Form, &mut [u32])) -> Row {
-    let side = |call: fn(Form, &mut [u32])| {
-        move |passes| {
-            let mut items = items();
-            (0..passes).for_each(|_| call(black_box(form), black_box(&mut items)));
-            told(&items)
-        }
-    };
-    row(name, form.count(), side(theirs), side(ours))
-}
-
-/// A call of both sides that reads the items; the sum over its results.
-fn reading(name: String, form: Form, theirs: fn(Form, &[u32]) -> usize, ours: fn(Form, &[u32]) -> usize) -> Row {
-    let side = |call: fn(Form, &[u32]) -> usize| {
-        move |passes| {
-            let items = items();
-            (0..passes).map(|_| call(black_box(form), black_box(&items))).fold(0, usize::wrapping_add)
-        }
-    };
-    row(name, form.count(), side(theirs), side(ours))
 }
 
 /// A call of both sides that lends the tiles of a picture; the sum over what is left.
@@ -97,21 +49,6 @@ fn lending(name: &str, items: usize, theirs: fn(&mut [u8]), ours: fn(&mut [u8]))
         }
     };
     row(name, items, side(theirs), side(ours))
-}
-
-/// The calls that each form of an array has.
-fn calls((form, name): (Form, &str)) -> [Row; 8] {
-    let named = |call: &str| format!("{call}, {name}");
-    [
-        writing(named("fill"), form, by_hand::fill, by_package::fill),
-        writing(named("assign"), form, by_hand::assign, by_package::assign),
-        writing(named("map_in_place"), form, by_hand::map_in_place, by_package::map_in_place),
-        reading(named("=="), form, by_hand::equal, by_package::equal),
-        reading(named("iter().sum()"), form, by_hand::sum, by_package::sum),
-        reading(named("iter().copied().collect()"), form, by_hand::collect, by_package::collect),
-        reading(named("fold"), form, by_hand::sum, by_package::fold),
-        reading(named("a[(i, j)]"), form, by_hand::index, by_package::index),
-    ]
 }
 
 /// Tiles and planes of a picture, lent and filled.
@@ -129,25 +66,25 @@ fn filled() -> [Row; 6] {
     ]
 }
 
-/// A blur of a matrix.
-fn blurs() -> [Row; 3] {
-    let blur = |way: &str, ours| reading(format!("blur by 3x3, {way}"), Form::Whole, by_hand::blur, ours);
-    [
-        blur("rows", by_package::blur_rows),
-        blur("windows", by_package::blur_windows),
-        blur("into_windows", by_package::blur_each_window),
-    ]
+/// A blur of a matrix; the sum over its results.
+fn blur(way: &str, ours: fn(&[u32]) -> usize) -> Row {
+    let side = |call: fn(&[u32]) -> usize| {
+        move |passes| {
+            let items = items();
+            (0..passes).map(|_| call(black_box(&items))).fold(0, usize::wrapping_add)
+        }
+    };
+    row(format!("blur by 3x3, {way}"), SIDE * SIDE, side(by_hand::blur), side(ours))
 }
 
-/// What users ask first comes first: pictures, columns, threads and tiles.
+/// What users ask first comes first: pictures, threads and tiles.
 fn rows() -> Vec<Row> {
-    let [columns, others @ ..] = Form::ALL;
     let mut rows = pictures::rows();
-    rows.extend(calls(columns));
     rows.extend(parts::rows());
     rows.extend(filled());
-    rows.extend(blurs());
-    rows.extend(others.into_iter().flat_map(calls));
+    rows.push(blur("rows", by_package::blur_rows));
+    rows.push(blur("windows", by_package::blur_windows));
+    rows.push(blur("into_windows", by_package::blur_each_window));
     rows.extend(ready::rows());
     rows
 }

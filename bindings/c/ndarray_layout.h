@@ -55,6 +55,9 @@
  * Numbers of slices have signs. An unsigned one past the limit becomes negative in `nd_slice_elem`, as C converts it: (size_t)-1 is
  * the bound -1, which counts from the end. Compare what comes of a file with the length first, or with the limit.
  *
+ * Examples. `==` stands between a call and what it writes, where it returns ND_OK, or else the status. A list is in parentheses, and
+ * its count isn't said again. Of a reason stand the fields that aren't 0. A test runs these lines.
+ *
  * Sanitizers. The address, undefined and integer sanitizers of a program take these headers as they are. The memory sanitizer
  * doesn't see what the libraries write, which aren't compiled with it: after a call, `__msan_unpoison` of what it wrote says so.
  *
@@ -223,7 +226,9 @@ typedef struct nd_slice_elem {
  * or the span times `elem_size` is greater than the limit. ND_OUT_OF_BOUNDS: the span is `len` or more; for a layout without
  * an index, more than `len`. ND_UNSUPPORTED: owned, there is an index, and the no-alias rule is broken.
  *
- * (3), strides (-1), over 3 elements: 2. (2,0), strides (-3,-1), over 3: 3. (0,3), strides (1,PTRDIFF_MAX): ND_OVERFLOW.
+ *    nd_layout_start((3), (-1), 1, 3, ND_READ_ONLY) == 2
+ *    nd_layout_start((2,0), (-3,-1), 1, 3, ND_READ_ONLY) == 3
+ *    nd_layout_start((0,3), (1,PTRDIFF_MAX), 1, 3, ND_READ_ONLY) == ND_OVERFLOW
  */
 int32_t nd_layout_start(const size_t *shape, size_t shape_len, const ptrdiff_t *strides, size_t strides_len,
                         size_t elem_size, size_t len, int32_t mode, size_t *start) ND_USED;
@@ -234,8 +239,10 @@ int32_t nd_layout_start(const size_t *shape, size_t shape_len, const ptrdiff_t *
  * The statuses of nd_layout_start, in their order; ND_OUT_OF_BOUNDS where the lowest place is below 0, or the highest is `len`
  * or more, or past the limit. Without an index the highest may be `len`.
  *
- * (3), strides (-1), over 5 elements: ND_OK from 4, ND_OUT_OF_BOUNDS from 1. (0), strides (1), over 5: ND_OK from 5,
- * ND_OUT_OF_BOUNDS from 6.
+ *    nd_check_layout(4, (3), (-1), 1, 5, ND_READ_ONLY) == ND_OK
+ *    nd_check_layout(1, (3), (-1), 1, 5, ND_READ_ONLY) == ND_OUT_OF_BOUNDS
+ *    nd_check_layout(5, (0), (1), 1, 5, ND_READ_ONLY) == ND_OK
+ *    nd_check_layout(6, (0), (1), 1, 5, ND_READ_ONLY) == ND_OUT_OF_BOUNDS
  */
 int32_t nd_check_layout(size_t start, const size_t *shape, size_t shape_len, const ptrdiff_t *strides, size_t strides_len,
                         size_t elem_size, size_t len, int32_t mode) ND_USED;
@@ -246,7 +253,8 @@ int32_t nd_check_layout(size_t start, const size_t *shape, size_t shape_len, con
  *
  * ND_INCOMPATIBLE_LAYOUT and ND_OVERFLOW as of nd_layout_start with an element of one byte.
  *
- * (2,3), strides (3,1): 0. (3,2), strides (2,3): 1.
+ *    nd_has_overlap((2,3), (3,1)) == 0
+ *    nd_has_overlap((3,2), (2,3)) == 1
  */
 int32_t nd_has_overlap(const size_t *shape, size_t shape_len, const ptrdiff_t *strides, size_t strides_len,
                        int32_t *answer) ND_USED;
@@ -257,7 +265,8 @@ int32_t nd_has_overlap(const size_t *shape, size_t shape_len, const ptrdiff_t *s
  *
  * ND_OVERFLOW: the product of the lengths that are not 0 is greater than the limit.
  *
- * (3,4,5): (20,5,1), and (1,3,12).
+ *    nd_default_strides((3,4,5)) == (20,5,1)
+ *    nd_fortran_strides((3,4,5)) == (1,3,12)
  */
 int32_t nd_default_strides(const size_t *shape, size_t shape_len, ptrdiff_t *strides, size_t strides_len) ND_USED;
 int32_t nd_fortran_strides(const size_t *shape, size_t shape_len, ptrdiff_t *strides, size_t strides_len) ND_USED;
@@ -271,7 +280,13 @@ int32_t nd_fortran_strides(const size_t *shape, size_t shape_len, ptrdiff_t *str
  *
  * The statuses of nd_has_overlap.
  *
- * (2,3), strides (-3,1): 1, 0, 0. (2,2), strides (1,1): 0, 0, 0. (0,3), strides (3,1): 1, 1, 1; strides (9,9): 0, 1, 1.
+ *    nd_is_contiguous((2,3), (-3,1)) == 1
+ *    nd_is_layout_c((2,3), (-3,1)) == 0
+ *    nd_is_contiguous((2,2), (1,1)) == 0
+ *    nd_is_contiguous((0,3), (9,9)) == 0
+ *    nd_is_contiguous((0,3), (3,1)) == 1
+ *    nd_is_layout_c((0,3), (9,9)) == 1
+ *    nd_is_layout_f((0,3), (9,9)) == 1
  */
 int32_t nd_is_contiguous(const size_t *shape, size_t shape_len, const ptrdiff_t *strides, size_t strides_len,
                          int32_t *answer) ND_USED;
@@ -288,7 +303,9 @@ int32_t nd_is_layout_f(const size_t *shape, size_t shape_len, const ptrdiff_t *s
  * Those of nd_check_layout, read-only, for a buffer of bytes at all places up to the limit; then ND_OUT_OF_BOUNDS where the
  * list is no index of the shape: not one coordinate for each axis, or one that is not less than its length.
  *
- * From 3, (2,3), strides (-3,1): (1,2) lies at 2. From 0, (2,2), strides (1,1): (0,1) and (1,0) lie at 1.
+ *    nd_place(3, (2,3), (-3,1), (1,2)) == 2
+ *    nd_place(0, (2,2), (1,1), (0,1)) == 1
+ *    nd_place(0, (2,2), (1,1), (1,0)) == 1
  */
 int32_t nd_place(size_t start, const size_t *shape, size_t shape_len, const ptrdiff_t *strides, size_t strides_len,
                  const size_t *index, size_t index_len, size_t *place) ND_USED;
@@ -299,7 +316,9 @@ int32_t nd_place(size_t start, const size_t *shape, size_t shape_len, const ptrd
  *
  * ND_OUT_OF_BOUNDS: `index` is no index of the shape.
  *
- * (2,3): (0,2) becomes (1,0) in row-major order, (1,2) in column-major order.
+ *    nd_next_index((2,3), (0,2), ND_ROW_MAJOR) == (1,0), 1
+ *    nd_next_index((2,3), (0,2), ND_COLUMN_MAJOR) == (1,2), 1
+ *    nd_next_index((2,3), (1,2), ND_ROW_MAJOR) == (0,0), 0
  */
 int32_t nd_next_index(const size_t *shape, size_t shape_len, size_t *index, size_t index_len, int32_t order,
                       int32_t *has_next) ND_USED;
@@ -309,7 +328,8 @@ int32_t nd_next_index(const size_t *shape, size_t shape_len, size_t *index, size
  *
  * ND_BAD_ARGUMENT for the order; then those of nd_place for the layout; then ND_BAD_ARGUMENT for another count of places.
  *
- * From 3, (2,3), strides (-3,1): 3 4 5 0 1 2 in row-major order, 3 0 4 1 5 2 in column-major order.
+ *    nd_places(3, (2,3), (-3,1), ND_ROW_MAJOR) == (3,4,5,0,1,2)
+ *    nd_places(3, (2,3), (-3,1), ND_COLUMN_MAJOR) == (3,0,4,1,5,2)
  */
 int32_t nd_places(size_t start, const size_t *shape, size_t shape_len, const ptrdiff_t *strides, size_t strides_len,
                   int32_t order, size_t *places, size_t places_len) ND_USED;
@@ -321,8 +341,8 @@ int32_t nd_places(size_t start, const size_t *shape, size_t shape_len, const ptr
  *
  * ND_BAD_ARGUMENT for the order; then those of nd_place for the layout; then ND_BAD_ARGUMENT for another count of starts.
  *
- * From 3, (2,3), strides (-3,1): 3 0, stride 1, length 3, in row-major order; 3 4 5, stride -3, length 2, in column-major
- * order.
+ *    nd_rows(3, (2,3), (-3,1), ND_ROW_MAJOR) == (3,0), 1, 3
+ *    nd_rows(3, (2,3), (-3,1), ND_COLUMN_MAJOR) == (3,4,5), -3, 2
  */
 int32_t nd_rows(size_t start, const size_t *shape, size_t shape_len, const ptrdiff_t *strides, size_t strides_len,
                 int32_t order, size_t *starts, size_t starts_len, ptrdiff_t *stride, size_t *len) ND_USED;
@@ -336,7 +356,8 @@ int32_t nd_rows(size_t start, const size_t *shape, size_t shape_len, const ptrdi
  * ND_BAD_ARGUMENT for the order, and where there is no layout. ND_INCOMPATIBLE_LAYOUT: not one stride for each length of each
  * layout. ND_OVERFLOW as of nd_has_overlap, for any of them.
  *
- * (4,2,3), strides (12,3,1) and (6,3,1), row-major: count 2, length 6, strides 1 and 1; the second alone: 3, 24 and 1.
+ *    nd_joined_in_all((4,2,3), (12,3,1,6,3,1), ND_ROW_MAJOR) == (1,1), 2, 6
+ *    nd_joined_in_all((4,2,3), (6,3,1), ND_ROW_MAJOR) == (1), 3, 24
  */
 int32_t nd_joined_in_all(const size_t *shape, size_t shape_len, const ptrdiff_t *strides, size_t strides_len, int32_t order,
                          ptrdiff_t *new_strides, size_t new_strides_len, size_t *count, size_t *len) ND_USED;
@@ -353,8 +374,10 @@ int32_t nd_joined_in_all(const size_t *shape, size_t shape_len, const ptrdiff_t 
  * neither on it nor its length and is not to be clamped, ND_UNSUPPORTED for a step of 0; then ND_BAD_ARGUMENT for another
  * count of what is written.
  *
- * From 5, (4), strides (3), by `1..` with a step of -2: from 14, (2), strides (-6); by `2..3`: from 11, (1), strides (0); by
- * `3..1`: from 5, (0), strides (0).
+ *    nd_slice(5, (4), (3), (ND_FROM_BY(1, -2)), ND_STRICT) == 14, (2), (-6)
+ *    nd_slice(5, (4), (3), (ND_RANGE(2, 3)), ND_STRICT) == 11, (1), (0)
+ *    nd_slice(5, (4), (3), (ND_RANGE(3, 1)), ND_STRICT) == 5, (0), (0)
+ *    nd_slice(5, (4), (3), (ND_INDEX(4)), ND_STRICT) == ND_OUT_OF_BOUNDS
  */
 int32_t nd_slice(size_t start, const size_t *shape, size_t shape_len, const ptrdiff_t *strides, size_t strides_len,
                  const nd_slice_elem *elems, size_t elems_len, int32_t fit, size_t *new_start, size_t *new_shape,
@@ -367,7 +390,8 @@ int32_t nd_slice(size_t start, const size_t *shape, size_t shape_len, const ptrd
  * ND_OVERFLOW: the product of the lengths that are not 0 is greater than the limit; then those of nd_slice for `first`, then
  * for `second`.
  *
- * (2,3), the first row and the last column: 1. The first row and the last row: 0.
+ *    nd_slices_intersect((2,3), (ND_INDEX(0), ND_ALL), (ND_ALL, ND_INDEX(-1)), ND_STRICT) == 1
+ *    nd_slices_intersect((2,3), (ND_INDEX(0), ND_ALL), (ND_INDEX(-1), ND_ALL), ND_STRICT) == 0
  */
 int32_t nd_slices_intersect(const size_t *shape, size_t shape_len, const nd_slice_elem *first, size_t first_len,
                             const nd_slice_elem *second, size_t second_len, int32_t fit, int32_t *answer) ND_USED;
@@ -385,8 +409,8 @@ int32_t nd_slices_intersect(const size_t *shape, size_t shape_len, const nd_slic
  * ND_BAD_ARGUMENT, first, also where the counts don't add up to that of the elements. ND_OVERFLOW as of nd_slices_intersect;
  * then those of nd_slice for the elements of the first slice with one.
  *
- * (2,3), the first row, the last row and the last column: 1, and 0 2. The two rows alone: 0. (4), by `2..4`, `1..3` and
- * `0..2`: 1, and 1 2.
+ *    nd_first_intersection((4), (ND_RANGE(2, 4), ND_RANGE(1, 3), ND_RANGE(0, 2)), (1,1,1), ND_STRICT) == (1,2), 1
+ *    nd_first_intersection((4), (ND_RANGE(2, 4), ND_RANGE(0, 2)), (1,1), ND_STRICT) == (0,0), 0
  */
 int32_t nd_first_intersection(const size_t *shape, size_t shape_len, const nd_slice_elem *elems, size_t elems_len,
                               const size_t *counts, size_t counts_len, int32_t fit, size_t *pair, size_t pair_len,
@@ -397,7 +421,7 @@ int32_t nd_first_intersection(const size_t *shape, size_t shape_len, const nd_sl
  *
  * ND_OVERFLOW as of nd_slices_intersect; then those of nd_slice for the elements.
  *
- * (4), by `1..` with a step of -2: 2.
+ *    nd_picked((4), (ND_FROM_BY(1, -2)), ND_STRICT) == 2
  */
 int32_t nd_picked(const size_t *shape, size_t shape_len, const nd_slice_elem *elems, size_t elems_len, int32_t fit,
                   size_t *count) ND_USED;
@@ -409,7 +433,7 @@ int32_t nd_picked(const size_t *shape, size_t shape_len, const nd_slice_elem *el
  *
  * ND_INCOMPATIBLE_SHAPE: they have none.
  *
- * (4,1) and (3): (4,3).
+ *    nd_co_broadcast((4,1), (3)) == (4,3)
  */
 int32_t nd_co_broadcast(const size_t *first, size_t first_len, const size_t *second, size_t second_len, size_t *common,
                         size_t common_len) ND_USED;
@@ -421,7 +445,7 @@ int32_t nd_co_broadcast(const size_t *first, size_t first_len, const size_t *sec
  * ND_INCOMPATIBLE_LAYOUT and ND_OVERFLOW as of nd_has_overlap; then ND_INCOMPATIBLE_SHAPE where `target` is not the shape
  * that both have in common; then ND_OVERFLOW where it is too large.
  *
- * (1,4), strides (9,-1), to (2,3,4): (0,0,-1).
+ *    nd_broadcast((1,4), (9,-1), (2,3,4)) == (0,0,-1)
  */
 int32_t nd_broadcast(const size_t *shape, size_t shape_len, const ptrdiff_t *strides, size_t strides_len,
                      const size_t *target, size_t target_len, ptrdiff_t *new_strides, size_t new_strides_len) ND_USED;
@@ -436,7 +460,8 @@ int32_t nd_broadcast(const size_t *shape, size_t shape_len, const ptrdiff_t *str
  * ND_INCOMPATIBLE_LAYOUT and ND_OVERFLOW as of nd_has_overlap; then ND_OUT_OF_BOUNDS where there is no such axis; then
  * ND_UNSUPPORTED for one axis twice.
  *
- * Axis 0 into axis 1 of (2,3), strides (3,1): (1,6), strides (3,1). Of (2,0), strides (3,1): (0,0), strides (3,3).
+ *    nd_merge_axes((2,3), (3,1), 0, 1) == (1,6), (3,1), 1
+ *    nd_merge_axes((2,0), (3,1), 0, 1) == (0,0), (3,3), 1
  */
 int32_t nd_merge_axes(size_t *shape, size_t shape_len, ptrdiff_t *strides, size_t strides_len, size_t take, size_t into,
                       int32_t *merged) ND_USED;
@@ -454,9 +479,14 @@ int32_t nd_merge_axes(size_t *shape, size_t shape_len, ptrdiff_t *strides, size_
  * product of the lengths from the slowest axis to the slower of the two, is the size of `new_shape` or more, or the product of
  * its lengths from its slowest axis to some axis.
  *
- * (2,3), strides (3,1), to (3,2): (2,1) in row-major order, ND_INCOMPATIBLE_LAYOUT in column-major order. Strides (4,1), in
- * row-major order, p is 2: to (5) ND_INCOMPATIBLE_LAYOUT, to (2,4) or (2) ND_INCOMPATIBLE_SHAPE. (4,3), strides (3,1), to
- * (1,2,1,2,3): (1,6,6,3,1).
+ *    nd_reshape((2,3), (3,1), (3,2), ND_ROW_MAJOR) == (2,1)
+ *    nd_reshape((2,3), (3,1), (3,2), ND_COLUMN_MAJOR) == ND_INCOMPATIBLE_LAYOUT
+ *    nd_reshape((2,3), (4,1), (5), ND_ROW_MAJOR) == ND_INCOMPATIBLE_LAYOUT
+ *    nd_reshape((2,3), (4,1), (2,4), ND_ROW_MAJOR) == ND_INCOMPATIBLE_SHAPE
+ *    nd_reshape((2,3), (4,1), (2), ND_ROW_MAJOR) == ND_INCOMPATIBLE_SHAPE
+ *    nd_reshape((4,3), (3,1), (1,2,1,2,3), ND_ROW_MAJOR) == (1,6,6,3,1)
+ *
+ * Of strides (4,1), whose axes don't step as one, p is 2.
  */
 int32_t nd_reshape(const size_t *shape, size_t shape_len, const ptrdiff_t *strides, size_t strides_len,
                    const size_t *new_shape, size_t new_shape_len, int32_t order, ptrdiff_t *new_strides,
@@ -469,7 +499,7 @@ int32_t nd_reshape(const size_t *shape, size_t shape_len, const ptrdiff_t *strid
  * ND_INCOMPATIBLE_LAYOUT and ND_OVERFLOW as of nd_has_overlap; then ND_INCOMPATIBLE_SHAPE where `axes` doesn't have each
  * axis once.
  *
- * (2,3,4), strides (12,4,1), by (2,0,1): (4,2,3), strides (1,12,4).
+ *    nd_permuted_axes((2,3,4), (12,4,1), (2,0,1)) == (4,2,3), (1,12,4)
  */
 int32_t nd_permuted_axes(const size_t *shape, size_t shape_len, const ptrdiff_t *strides, size_t strides_len,
                          const size_t *axes, size_t axes_len, size_t *new_shape, size_t new_shape_len,
@@ -483,7 +513,7 @@ int32_t nd_permuted_axes(const size_t *shape, size_t shape_len, const ptrdiff_t 
  * ND_INCOMPATIBLE_LAYOUT and ND_OVERFLOW as of nd_has_overlap; then ND_INCOMPATIBLE_SHAPE where `window` has not one length
  * for each axis; then ND_UNSUPPORTED for a length of 0; then ND_OVERFLOW where what is written is too large.
  *
- * (4), strides (1), by (2): (3,2), strides (1,1).
+ *    nd_windows((4), (1), (2)) == (3,2), (1,1)
  */
 int32_t nd_windows(const size_t *shape, size_t shape_len, const ptrdiff_t *strides, size_t strides_len,
                    const size_t *window, size_t window_len, size_t *new_shape, size_t new_shape_len,
@@ -495,7 +525,7 @@ int32_t nd_windows(const size_t *shape, size_t shape_len, const ptrdiff_t *strid
  *
  * The statuses of nd_windows, in their order.
  *
- * (5), strides (1), by (2): (2,2), strides (2,1).
+ *    nd_exact_chunks((5), (1), (2)) == (2,2), (2,1)
  */
 int32_t nd_exact_chunks(const size_t *shape, size_t shape_len, const ptrdiff_t *strides, size_t strides_len,
                         const size_t *chunk, size_t chunk_len, size_t *new_shape, size_t new_shape_len,
@@ -509,8 +539,9 @@ int32_t nd_exact_chunks(const size_t *shape, size_t shape_len, const ptrdiff_t *
  *
  * Those of nd_place for the layout; then ND_OUT_OF_BOUNDS where there is no such axis, or `index` is greater than its length.
  *
- * From 0, (2,3), strides (3,1), axis 1 at 1: from 0, (2,1), and from 1, (2,2), strides (3,1). From 3, (2,0), strides (-3,-1),
- * axis 0 at 1: from 3, (1,0), and from 0, (1,0); at 2: from 3, (2,0), and from 3, (0,0).
+ *    nd_split_at(0, (2,3), (3,1), 1, 1) == (0,1), (2,1,2,2), (3,1)
+ *    nd_split_at(3, (2,0), (-3,-1), 0, 1) == (3,0), (1,0,1,0), (-3,-1)
+ *    nd_split_at(3, (2,0), (-3,-1), 0, 2) == (3,3), (2,0,0,0), (-3,-1)
  */
 int32_t nd_split_at(size_t start, const size_t *shape, size_t shape_len, const ptrdiff_t *strides, size_t strides_len,
                     size_t axis, size_t index, size_t *new_starts, size_t new_starts_len, size_t *new_shapes,
@@ -523,7 +554,7 @@ int32_t nd_split_at(size_t start, const size_t *shape, size_t shape_len, const p
  *
  * ND_INCOMPATIBLE_LAYOUT and ND_OVERFLOW as of nd_has_overlap.
  *
- * (2,3), strides (3,1): length 2, stride 4.
+ *    nd_diag((2,3), (3,1)) == 2, 4
  */
 int32_t nd_diag(const size_t *shape, size_t shape_len, const ptrdiff_t *strides, size_t strides_len, size_t *len,
                 ptrdiff_t *stride) ND_USED;
@@ -535,7 +566,8 @@ int32_t nd_diag(const size_t *shape, size_t shape_len, const ptrdiff_t *strides,
  *
  * Those of nd_place for the layout.
  *
- * From 4, (2,3), strides (3,1), row-major: 1, from 4 to 10; column-major: 0.
+ *    nd_stretch(4, (2,3), (3,1), ND_ROW_MAJOR) == 4, 10, 1
+ *    nd_stretch(4, (2,3), (3,1), ND_COLUMN_MAJOR) == 0, 0, 0
  */
 int32_t nd_stretch(size_t start, const size_t *shape, size_t shape_len, const ptrdiff_t *strides, size_t strides_len,
                    int32_t order, size_t *first, size_t *end, int32_t *found) ND_USED;
@@ -633,9 +665,10 @@ typedef struct nd_reason {
  *
  * ND_BAD_ARGUMENT: another `fit`, or a kind of element without a meaning.
  *
- * (2,3,5) by `0,..,9`: ND_OUT_OF_BOUNDS, ND_RULE_INDEX, axis 2, number 9, size 5. (4) by `9..;0`: ND_RULE_BOUND, axis 0,
- * number 9, size 4; ND_CLAMPED: ND_UNSUPPORTED, ND_RULE_STEP, axis 0, size 4. (2,3) by `0`: ND_INCOMPATIBLE_SHAPE,
- * ND_RULE_COUNT, ND_LIST_SLICE, size 1, other 2.
+ *    nd_slice_reason((2,3,5), (ND_INDEX(0), ND_ALL, ND_INDEX(9)), ND_STRICT) == ND_OUT_OF_BOUNDS, ND_RULE_INDEX, axis 2, number 9, size 5
+ *    nd_slice_reason((4), (ND_FROM_BY(9, 0)), ND_STRICT) == ND_OUT_OF_BOUNDS, ND_RULE_BOUND, number 9, size 4
+ *    nd_slice_reason((4), (ND_FROM_BY(9, 0)), ND_CLAMPED) == ND_UNSUPPORTED, ND_RULE_STEP, size 4
+ *    nd_slice_reason((2,3), (ND_INDEX(0)), ND_STRICT) == ND_INCOMPATIBLE_SHAPE, ND_RULE_COUNT, ND_LIST_SLICE, size 1, other 2
  */
 int32_t nd_slice_reason(const size_t *shape, size_t shape_len, const nd_slice_elem *elems, size_t elems_len, int32_t fit,
                         nd_reason *reason) ND_USED;
@@ -645,8 +678,8 @@ int32_t nd_slice_reason(const size_t *shape, size_t shape_len, const nd_slice_el
  *
  * ND_BAD_ARGUMENT: another `mode`.
  *
- * (3), strides (-1), over 2 elements: ND_OUT_OF_BOUNDS, ND_RULE_LENGTH, size 2, other 2. (3,2), strides (2,3), over 8, owned:
- * ND_UNSUPPORTED, ND_RULE_ALIAS, axis 1, number 3, size 4.
+ *    nd_layout_start_reason((3), (-1), 1, 2, ND_READ_ONLY) == ND_OUT_OF_BOUNDS, ND_RULE_LENGTH, size 2, other 2
+ *    nd_layout_start_reason((3,2), (2,3), 1, 8, ND_OWNED) == ND_UNSUPPORTED, ND_RULE_ALIAS, axis 1, number 3, size 4
  */
 int32_t nd_layout_start_reason(const size_t *shape, size_t shape_len, const ptrdiff_t *strides, size_t strides_len,
                                size_t elem_size, size_t len, int32_t mode, nd_reason *reason) ND_USED;
@@ -657,8 +690,8 @@ int32_t nd_layout_start_reason(const size_t *shape, size_t shape_len, const ptrd
  *
  * ND_BAD_ARGUMENT: another `mode`.
  *
- * (3), strides (-1), over 5 elements, from 1: ND_OUT_OF_BOUNDS, ND_RULE_LOWEST, size 2, other 1; from 6: ND_RULE_LENGTH, size 6,
- * other 5.
+ *    nd_check_layout_reason(1, (3), (-1), 1, 5, ND_READ_ONLY) == ND_OUT_OF_BOUNDS, ND_RULE_LOWEST, size 2, other 1
+ *    nd_check_layout_reason(6, (3), (-1), 1, 5, ND_READ_ONLY) == ND_OUT_OF_BOUNDS, ND_RULE_LENGTH, size 6, other 5
  */
 int32_t nd_check_layout_reason(size_t start, const size_t *shape, size_t shape_len, const ptrdiff_t *strides,
                                size_t strides_len, size_t elem_size, size_t len, int32_t mode, nd_reason *reason) ND_USED;
@@ -670,8 +703,11 @@ int32_t nd_check_layout_reason(size_t start, const size_t *shape, size_t shape_l
  *
  * ND_BAD_ARGUMENT: another `order`. Takes the time of nd_reshape for each axis, where there is a reason of strides.
  *
- * (4,4), strides (8,1), along (2,8), row-major: ND_INCOMPATIBLE_LAYOUT, ND_RULE_COPY, axis 1, number 1, size 4, as 4 times 1
- * isn't 8; along (2,2,2,2): ND_OK. (2,3), strides (3,1), along (4): ND_INCOMPATIBLE_SHAPE, ND_RULE_OTHER_SIZE, size 4, other 6.
+ *    nd_reshape_reason((4,4), (8,1), (2,8), ND_ROW_MAJOR) == ND_INCOMPATIBLE_LAYOUT, ND_RULE_COPY, axis 1, number 1, size 4
+ *    nd_reshape_reason((4,4), (8,1), (2,2,2,2), ND_ROW_MAJOR) == ND_OK
+ *    nd_reshape_reason((2,3), (3,1), (4), ND_ROW_MAJOR) == ND_INCOMPATIBLE_SHAPE, ND_RULE_OTHER_SIZE, size 4, other 6
+ *
+ * The first one is refused as 4 times 1 isn't 8.
  */
 int32_t nd_reshape_reason(const size_t *shape, size_t shape_len, const ptrdiff_t *strides, size_t strides_len,
                           const size_t *new_shape, size_t new_shape_len, int32_t order, nd_reason *reason) ND_USED;
@@ -680,8 +716,8 @@ int32_t nd_reshape_reason(const size_t *shape, size_t shape_len, const ptrdiff_t
  * Writes why a list of axes is no order of the axes of a shape: of nd_permuted_axes after the rules on the layout. Always
  * ND_OK. ND_RULE_MISSING comes before ND_RULE_COUNT.
  *
- * (2,3,4) by (0,2,2): ND_INCOMPATIBLE_SHAPE, ND_RULE_MISSING, axis 1, size 3, other 3. (2,3) by (1,0,1): ND_RULE_COUNT,
- * ND_LIST_AXES, size 3, other 2.
+ *    nd_permuted_axes_reason((2,3,4), (0,2,2)) == ND_INCOMPATIBLE_SHAPE, ND_RULE_MISSING, axis 1, size 3, other 3
+ *    nd_permuted_axes_reason((2,3), (1,0,1)) == ND_INCOMPATIBLE_SHAPE, ND_RULE_COUNT, ND_LIST_AXES, size 3, other 2
  */
 int32_t nd_permuted_axes_reason(const size_t *shape, size_t shape_len, const size_t *axes, size_t axes_len,
                                 nd_reason *reason) ND_USED;
@@ -690,8 +726,8 @@ int32_t nd_permuted_axes_reason(const size_t *shape, size_t shape_len, const siz
  * Writes why a list is no index of a shape: of nd_place after the rules on the layout, and of nd_next_index. Always ND_OK.
  * ND_RULE_COUNT comes before ND_RULE_COORDINATE.
  *
- * (2,3) by (1,3): ND_OUT_OF_BOUNDS, ND_RULE_COORDINATE, axis 1, size 3, other 3; by (2): ND_RULE_COUNT, ND_LIST_INDEX, size 1,
- * other 2.
+ *    nd_index_reason((2,3), (1,3)) == ND_OUT_OF_BOUNDS, ND_RULE_COORDINATE, axis 1, size 3, other 3
+ *    nd_index_reason((2,3), (2)) == ND_OUT_OF_BOUNDS, ND_RULE_COUNT, ND_LIST_INDEX, size 1, other 2
  */
 int32_t nd_index_reason(const size_t *shape, size_t shape_len, const size_t *index, size_t index_len,
                         nd_reason *reason) ND_USED;
@@ -699,7 +735,7 @@ int32_t nd_index_reason(const size_t *shape, size_t shape_len, const size_t *ind
 /*
  * Writes why two shapes have no common one. Always ND_OK.
  *
- * (4,2,5) and (3,1): ND_INCOMPATIBLE_SHAPE, ND_RULE_COMMON, axis 1, size 2, other 3.
+ *    nd_co_broadcast_reason((4,2,5), (3,1)) == ND_INCOMPATIBLE_SHAPE, ND_RULE_COMMON, axis 1, size 2, other 3
  */
 int32_t nd_co_broadcast_reason(const size_t *first, size_t first_len, const size_t *second, size_t second_len,
                                nd_reason *reason) ND_USED;
@@ -708,8 +744,8 @@ int32_t nd_co_broadcast_reason(const size_t *first, size_t first_len, const size
  * Writes why a layout of a shape can't be broadcast to another: of nd_broadcast after the rules on the layout. Always ND_OK.
  * ND_RULE_COUNT comes before ND_RULE_STRETCH, and then ND_RULE_SIZE of `target`.
  *
- * (1,4) to (2,5,3): ND_INCOMPATIBLE_SHAPE, ND_RULE_STRETCH, axis 2, size 4, other 3; to (4): ND_RULE_COUNT, ND_LIST_TARGET,
- * size 1, other 2.
+ *    nd_broadcast_reason((1,4), (2,5,3)) == ND_INCOMPATIBLE_SHAPE, ND_RULE_STRETCH, axis 2, size 4, other 3
+ *    nd_broadcast_reason((1,4), (4)) == ND_INCOMPATIBLE_SHAPE, ND_RULE_COUNT, ND_LIST_TARGET, size 1, other 2
  */
 int32_t nd_broadcast_reason(const size_t *shape, size_t shape_len, const size_t *target, size_t target_len,
                             nd_reason *reason) ND_USED;
@@ -718,8 +754,10 @@ int32_t nd_broadcast_reason(const size_t *shape, size_t shape_len, const size_t 
  * Write why the windows of a shape, or its chunks, can't be taken: of nd_windows and nd_exact_chunks after the rules on the
  * layout. Always ND_OK. ND_RULE_COUNT comes before ND_RULE_EMPTY, and then ND_RULE_SIZE of the counts of blocks and the block.
  *
- * (4,4), windows (2,0): ND_UNSUPPORTED, ND_RULE_EMPTY, ND_LIST_WINDOW, axis 1; (0): ND_INCOMPATIBLE_SHAPE, ND_RULE_COUNT,
- * ND_LIST_WINDOW, size 1, other 2. (2^33) by (2^32): windows ND_OVERFLOW, ND_RULE_SIZE; chunks ND_OK.
+ *    nd_windows_reason((4,4), (2,0)) == ND_UNSUPPORTED, ND_RULE_EMPTY, ND_LIST_WINDOW, axis 1
+ *    nd_windows_reason((4,4), (0)) == ND_INCOMPATIBLE_SHAPE, ND_RULE_COUNT, ND_LIST_WINDOW, size 1, other 2
+ *    nd_windows_reason((0x200000000), (0x100000000)) == ND_OVERFLOW, ND_RULE_SIZE
+ *    nd_exact_chunks_reason((0x200000000), (0x100000000)) == ND_OK
  */
 int32_t nd_windows_reason(const size_t *shape, size_t shape_len, const size_t *window, size_t window_len,
                           nd_reason *reason) ND_USED;
@@ -729,7 +767,8 @@ int32_t nd_exact_chunks_reason(const size_t *shape, size_t shape_len, const size
 /*
  * Writes why a shape can't be split along an axis: of nd_split_at after the rules on the layout. Always ND_OK.
  *
- * (2,3) along axis 1 at 4: ND_OUT_OF_BOUNDS, ND_RULE_SPLIT, axis 1, size 3, other 4; along axis 2: ND_RULE_AXIS, axis 2, size 2.
+ *    nd_split_at_reason((2,3), 1, 4) == ND_OUT_OF_BOUNDS, ND_RULE_SPLIT, axis 1, size 3, other 4
+ *    nd_split_at_reason((2,3), 2, 0) == ND_OUT_OF_BOUNDS, ND_RULE_AXIS, axis 2, size 2
  */
 int32_t nd_split_at_reason(const size_t *shape, size_t shape_len, size_t axis, size_t index, nd_reason *reason) ND_USED;
 
@@ -737,7 +776,8 @@ int32_t nd_split_at_reason(const size_t *shape, size_t shape_len, size_t axis, s
  * Writes why an axis can't be merged into another: of nd_merge_axes after the rules on the layout. Always ND_OK. ND_RULE_AXIS
  * of `take` comes before that of `into`, and then ND_RULE_SAME_AXIS. That no stride has the coordinates of both is no error.
  *
- * (2,3), 1 into 2: ND_OUT_OF_BOUNDS, ND_RULE_AXIS, axis 2, size 2; 1 into 1: ND_UNSUPPORTED, ND_RULE_SAME_AXIS, axis 1.
+ *    nd_merge_axes_reason((2,3), 1, 2) == ND_OUT_OF_BOUNDS, ND_RULE_AXIS, axis 2, size 2
+ *    nd_merge_axes_reason((2,3), 1, 1) == ND_UNSUPPORTED, ND_RULE_SAME_AXIS, axis 1
  */
 int32_t nd_merge_axes_reason(const size_t *shape, size_t shape_len, size_t take, size_t into, nd_reason *reason) ND_USED;
 

@@ -2,8 +2,8 @@
 
 use crate::docs::Contract;
 use crate::erase::Eraser;
-use crate::names::{FOLDED, LENDING, POINTERS};
-use crate::tokens::{Fault, Group, Nesting, Tree, begins_with, length_of_generics, text_of};
+use crate::names::{EXTENSIONS, FOLDED, LENDING, POINTERS};
+use crate::tokens::{Fault, Group, Nesting, Token, Tree, begins_with, length_of_generics, text_of};
 
 /// The body of an `index` that panics where there is no such item.
 const UNWRAPPED: &str = "self.get(&index).unwrap()";
@@ -59,6 +59,26 @@ impl Eraser<'_> {
         Ok(Some(at + 1))
     }
 
+    /// A trait of the list `EXTENSIONS` goes, and `impl TRAIT for TYPE` becomes an impl of the type, with calls that others see.
+    pub(crate) fn extension(&mut self, trees: &[Tree]) -> Result<Option<usize>, Fault> {
+        let Some((at, body)) = body_of(trees).filter(|_| trees[0].is("impl") || begins_with(trees, &["pub", "trait"]))
+        else {
+            return Ok(None);
+        };
+        let Some(name) = trees[..at].iter().position(|tree| EXTENSIONS.contains(&tree.first().text)) else {
+            return Ok(None);
+        };
+        let Some(of_type) = trees[name..at].iter().position(|tree| tree.is("for")) else {
+            self.contract.undocument(&mut self.out);
+            self.contract = Contract::at(self.out.len());
+            return Ok(Some(at + 1));
+        };
+        let calls = body.trees.iter().flat_map(published).collect();
+        let calls = Tree::Group(Group { open: body.open, trees: calls, close: body.close });
+        self.all(&[&trees[..name], &trees[name + of_type + 1..at], &[calls]].concat())?;
+        Ok(Some(at + 1))
+    }
+
     /// `fn index` that unwraps what `get` returns names the index and the shape where it panics.
     pub(crate) fn index_method(&mut self, trees: &[Tree]) -> Result<Option<usize>, Fault> {
         let (true, Some((at, body))) = (begins_with(trees, &["fn", "index"]), body_of(trees)) else {
@@ -73,6 +93,17 @@ impl Eraser<'_> {
         self.put(" ", &format!("{{\n        match self.get(&index) {{ Some(item) => item, {none} }}\n    }}"));
         self.contract = Contract::at(self.out.len());
         Ok(Some(at + 1))
+    }
+}
+
+/// A word of the body of an impl, with `pub` before `fn`.
+fn published<'a>(tree: &Tree<'a>) -> Vec<Tree<'a>> {
+    match tree {
+        Tree::Leaf(word) if word.text == "fn" => {
+            let leaf = |lead, text| Tree::Leaf(Token { lead, text, ..*word });
+            vec![leaf(word.lead, "pub"), leaf(" ", "fn")]
+        }
+        other => vec![other.clone()],
     }
 }
 

@@ -59,6 +59,11 @@ impl Contract {
         Contract { start, docs, is_documented: true, indent: indent.to_string(), ..Contract::default() }
     }
 
+    /// Takes the documentation away again, of an item that goes.
+    pub fn undocument(&self, out: &mut String) {
+        out.truncate(self.docs);
+    }
+
     /// Adds a clause, from its keyword to its fact. Those that only proofs of callers need are left out.
     pub fn add(&mut self, clause: &[Tree]) {
         let Some((fact, head)) = clause.split_last() else {

@@ -7,7 +7,10 @@ use crate::docs::{Contract, indexes, is_called_for_its_result};
 use crate::errors;
 use crate::examples::Example;
 use crate::library::without_memory;
-use crate::names::{ATTRIBUTES, DERIVED, DERIVES, LEFT_OUT, OPEN, PRINTED, REFUSED, SEALED, SOUND_BY_CONDITIONS};
+use crate::names::{
+    ATTRIBUTES, DERIVED, DERIVES, EXTENSIONS, IN_ROOM, LEFT_OUT, OPEN, PRINTED, REFUSED, ROOM, SEALED,
+    SOUND_BY_CONDITIONS,
+};
 use crate::proofs;
 use crate::tokens::{Fault, Group, Kind, Token, Tree, begins_with, fault, length_of_generics, text_of};
 
@@ -39,10 +42,20 @@ impl Names<'_> {
         self.package == "crate"
     }
 
+    /// Where the crate of the source stands in the package.
+    pub(crate) fn place(&self) -> String {
+        place_of(self.own)
+    }
+
     /// Whether the conditions of its calls keep `unsafe` sound.
     pub(crate) fn is_sound_by_conditions(&self) -> bool {
         SOUND_BY_CONDITIONS.contains(&(self.own, self.module))
     }
+}
+
+/// Where a crate stands in the package.
+pub(crate) fn place_of(own: &str) -> String {
+    if IN_ROOM.contains(&own) { format!("{ROOM}::{own}") } else { own.to_string() }
 }
 
 /// A source as plain Rust.
@@ -69,6 +82,7 @@ pub fn erase(trees: &[Tree], names: &Names) -> Result<Erased, Fault> {
         of_function: String::new(),
         written: Vec::new(),
         is_unsafe: false,
+        is_hidden: false,
         in_trait: false,
         replaced: Vec::new(),
         bracket: "",
@@ -96,6 +110,8 @@ pub(crate) struct Eraser<'a> {
     pub(crate) written: Vec<String>,
     /// Whether `unsafe` was left.
     pub(crate) is_unsafe: bool,
+    /// Whether the item at hand is hidden from users.
+    pub(crate) is_hidden: bool,
     /// Whether that is an item of a sealed trait.
     pub(crate) in_trait: bool,
     /// What is replaced in the impl at hand.
@@ -116,7 +132,7 @@ pub(crate) struct Eraser<'a> {
 type Form<'a> = fn(&mut Eraser<'a>, &[Tree]) -> Result<Option<usize>, Fault>;
 
 impl<'a> Eraser<'a> {
-    const FORMS: [Form<'a>; 35] = [
+    const FORMS: [Form<'a>; 37] = [
         Self::doc,
         Self::clause,
         Self::ghost,
@@ -124,6 +140,8 @@ impl<'a> Eraser<'a> {
         Self::attribute,
         Self::model,
         Self::drop_impl,
+        Self::extension,
+        Self::hidden,
         Self::export,
         Self::written,
         Self::named_by_kind,
@@ -175,7 +193,7 @@ impl<'a> Eraser<'a> {
     pub(crate) fn note(&mut self, trees: &[Tree]) {
         self.note_impl(trees);
         let is_named = trees.get(1).and_then(Tree::word).is_some();
-        self.contract.is_public |= is_named && trees[0].is("pub");
+        self.contract.is_public |= is_named && trees[0].is("pub") && !self.is_unseen(&trees[1..]);
         self.contract.is_indexing |= trees[0].is("impl") && indexes(trees);
         if is_named && trees[0].is("fn") {
             let is_public = self.contract.is_public || self.in_trait;
@@ -257,12 +275,16 @@ impl<'a> Eraser<'a> {
             return Ok(None);
         };
         let last = &trees[end - 1];
-        let is_item = |tree: &Tree| LEFT_OUT.iter().any(|(.., items)| items.contains(&tree.first().text));
+        let is_handed_on = begins_with(trees, &["pub", "use"]);
+        let is_item = |tree: &Tree| {
+            let name = tree.first().text;
+            EXTENSIONS.contains(&name) || is_handed_on && LEFT_OUT.iter().any(|(.., items)| items.contains(&name))
+        };
         let is_left_out = match last {
             name if trees[0].is("mod") && end == 2 => {
                 LEFT_OUT.iter().any(|(own, module, _)| *own == self.names.own && name.is(module))
             }
-            _ if !begins_with(trees, &["pub", "use"]) => false,
+            _ if !is_handed_on && !trees[0].is("use") => false,
             Tree::Group(list) => {
                 let kept = list.trees.split_inclusive(|tree| tree.is(",")).filter(|item| !is_item(&item[0]));
                 let kept: Vec<Tree> = kept.flatten().cloned().collect();
@@ -307,6 +329,7 @@ impl<'a> Eraser<'a> {
         let name = group.trees.first().and_then(Tree::word).unwrap_or_default();
         match name {
             "tactic" => {}
+            "doc" => self.is_hidden = true,
             "unsafe" if is_no_mangle(group) => {}
             "derive" if self.prints_memory(&derived(group), &trees[at + 1..]) => {
                 return Err(fault(&group.open, "opens a derive that prints an allocator"));
@@ -542,10 +565,8 @@ fn derived<'a>(attribute: &Group<'a>) -> Vec<&'a str> {
 
 /// The names in a derive, without `Debug` for a struct of the list `PRINTED`, and with those of the list `DERIVED`.
 fn in_package<'a>(names: Vec<&'a str>, item: &[Tree]) -> Vec<&'a str> {
-    let name = match item {
-        [_, word, name, ..] if word.is("struct") || word.is("enum") => name.first().text,
-        _ => "",
-    };
+    let mut words = item.iter().skip_while(|tree| !tree.is("struct") && !tree.is("enum"));
+    let name = words.nth(1).map_or("", |name| name.first().text);
     let kept = names.into_iter().filter(|derived| *derived != "Debug" || !PRINTED.contains(&name));
     let added = DERIVED.iter().filter(|(of, _)| *of == name).flat_map(|(_, names)| *names);
     kept.chain(added.copied()).collect()

@@ -1,6 +1,6 @@
 //! The forms that name the kit's library: its modules, its memory and its macros.
 
-use crate::erase::Eraser;
+use crate::erase::{Eraser, place_of};
 use crate::names::{
     DROPPED, DROPPED_MODULES, FALLIBLE, FALLIBLE_WITH_MEMORY, KIT, MACROS, MODULES, MOVED, UNKNOWN_FALLIBLE,
 };
@@ -102,7 +102,7 @@ impl Eraser<'_> {
             return Ok(None);
         };
         let path = match root {
-            "crate" => format!("crate::{}", self.names.own),
+            "crate" => format!("crate::{}", self.names.place()),
             "std" => {
                 let path = self.path_of(next.first(), item_after(&trees[4..]))?;
                 self.put(first.first().lead, &path);
@@ -116,7 +116,11 @@ impl Eraser<'_> {
             // (the package itself has all that this crate has for callers)
             "ndarray_layout" if self.names.package != "crate" => self.names.package.to_string(),
             _ if self.names.library.contains(&root) || KIT.contains(&root) => {
-                format!("{}::{root}", self.names.package)
+                format!(
+                    "{}::{}",
+                    self.names.package,
+                    if self.names.is_packed() { place_of(root) } else { root.to_string() }
+                )
             }
             _ => return Ok(None),
         };

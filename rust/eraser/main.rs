@@ -20,14 +20,14 @@ mod tokens;
 mod unsafety;
 mod wholes;
 
-use erase::Names;
+use erase::{Names, place_of};
 use examples::examples_in;
 use modules::{Fallible, files_of, module_of};
 use std::path::Path;
 use std::{env, fs};
 
 /// The crates of the layer, lowest first.
-const LAYER: &[&str] = &["nd_base", "nd_dim", "nd_shape", "nd_slice", "ndarray_layout", "nd_lent", "nd_owned"];
+const LAYER: &[&str] = &["nd_base", "nd_dim", "nd_shape", "nd_slice", "ndarray_layout", "nd_access", "nd_items", "nd_loops", "nd_lent", "nd_owned"];
 
 /// The libraries of programs.
 const PROGRAMS: &[&str] = &["ndl_session", "example_tiles_edits"];
@@ -143,7 +143,7 @@ fn write(top: &Path, into: &Path) -> Fallible<()> {
             };
             let others = if is_library || *folder == FOR_C { &[] } else { ALLOWED_IN_TESTS };
             for (place, text) in files_of(&source, &names, &attributes("#!", others))? {
-                let file = into.join(folder).join(own).join(place);
+                let file = into.join(folder).join(place_of(own).replace("::", "/")).join(place);
                 fs::create_dir_all(file.parent().unwrap_or(into))?;
                 fs::write(file, text)?;
             }

@@ -128,14 +128,16 @@ pub const SEALED: &[&str] = &[
 /// results are only handed back.
 pub const OPEN: &[&str] = &[
     "AreLengths",
+    "ByNumber",
     "Convert",
     "EqualTo",
     "IntoDimension",
     "IterOrder",
     "Numbers",
-    "RowEnds",
     "ShapeArg",
     "ShapeBuilder",
+    "SlowerAxes",
+    "Views",
 ];
 
 /// Words that may not be left: those of contracts, of the kit's memory and runtime, and those whose meaning differs.
@@ -173,23 +175,28 @@ pub const REFUSED: &[&str] = &[
 /// A comment of the source that begins with `SAFETY:` tells it as well.
 pub const UNSAFE: &[(&str, &str, &str)] = &[
     (
-        "nd_lent",
+        "nd_access",
         "Send",
         "no other `Cells` has a mark that this one has (`all` of `all_of` and of `take_part`), so it is sent as a `&mut [T]` of its elements would be.",
     ),
-    ("nd_lent", "Sync", "what is shared only reads (`get`), as a `&[T]` of its elements would."),
+    ("nd_access", "Sync", "what is shared only reads (`get`), as a `&[T]` of its elements would."),
     (
-        "nd_lent",
+        "nd_access",
         "item_mut",
         "the place has a mark, which the caller ensures; so it is one of the slice that was lent (`all_of`), and no other `Cells` has its mark (`all` of `take_part`). While the result is in use the part is borrowed, so nothing else reads or writes the element.",
     ),
     (
         "nd_lent",
+        "item_mut",
+        "as `item_mut` of `Cells`: the place has a mark, which the caller ensures, and while the result is in use the part is borrowed.",
+    ),
+    (
+        "nd_access",
         "get",
         "the place has a mark, which the caller ensures; so it is one of the slice that was lent (`all_of`), and no other `Cells` has its mark (`all` of `take_part`). While the result is in use this one is borrowed, so nothing writes the element.",
     ),
     (
-        "nd_lent",
+        "nd_access",
         "take_slice",
         "each of these places has a mark, which the caller ensures, and has none afterwards (`all`, here). So they are those of the slice that was lent (`all_of`), and no call of this `Cells` or of another reads or writes them again.",
     ),
@@ -212,11 +219,32 @@ pub const NAMED_BY_KIND: &[&str] = &["has_end", "start", "end", "step"];
 pub const UNWRITTEN: &[&str] = &["MaybeUninit", "as_unwritten", "zeroed"];
 
 /// Modules whose conditions keep `unsafe` sound, each with its crate.
-pub const SOUND_BY_CONDITIONS: &[(&str, &str)] =
-    &[("nd_lent", "array_view"), ("nd_lent", "cells"), ("nd_lent", "array_view_mut")];
+pub const SOUND_BY_CONDITIONS: &[(&str, &str)] = &[
+    ("nd_access", "cells"),
+    ("nd_access", "row_items"),
+    ("nd_access", "rows"),
+    ("nd_items", "indexed_iter"),
+    ("nd_items", "indexed_iter_mut"),
+    ("nd_items", "into_rows"),
+    ("nd_items", "items"),
+    ("nd_items", "iterating"),
+    ("nd_items", "view_iter"),
+    ("nd_lent", "array_view"),
+    ("nd_lent", "array_view_mut"),
+];
 
-/// Calls of these modules that are not public, which files of `rust/src` make. None has a condition.
-pub const SEEN: &[&str] = &["into_items_at", "into_list"];
+/// Crates that hand on rights to items, or take them: they are modules of one module, `ROOM`, and what they hide from users no other file of the package sees.
+pub const IN_ROOM: &[&str] = &["nd_access", "nd_items", "nd_loops", "nd_lent", "nd_owned"];
+pub const ROOM: &str = "lent";
+
+/// Types and traits of these crates that no user can name.
+pub const UNNAMED: &[&str] = &["Cells", "Reader", "RowByRow"];
+
+/// Calls that these crates hide, which files of `rust/src` make. None has a condition.
+pub const SEEN: &[&str] = &["into_items_at", "into_list", "list_by_index", "try_item", "try_item_mut"];
+
+/// Traits by which a crate has calls of a type that another one has: in the package they are calls of that type, without a trait.
+pub const EXTENSIONS: &[&str] = &["IntoArray", "RowParts"];
 
 /// Calls of these modules that others see, whose condition the package checks, since no proof of its callers does: the type, the call,
 /// what is asserted, what the panic says, and what the docs say of it.
@@ -248,7 +276,9 @@ pub const CHECKED: &[(&str, &str, &str, &str, &str)] = &[
 /// check, keeps `unsafe` sound there. Plain Rust needs none of it, for once the parts are gone the items are what they left. And `one_type`, whose
 /// impl `rust/src/arrays/equal_to.rs` has for two types.
 pub const LEFT_OUT: &[(&str, &str, &[&str])] = &[
-    ("nd_lent", "one_type", &[]),
+    ("nd_access", "finishing", &[]),
+    ("nd_access", "lending", &[]),
+    ("nd_loops", "one_type", &[]),
     ("nd_lent", "rest", &["Rest", "Taken"]),
     ("nd_lent", "whole", &["Whole"]),
     ("example_callers", "planes", &["paint_plane", "paint_planes"]),
@@ -259,18 +289,21 @@ pub const LEFT_OUT: &[(&str, &str, &[&str])] = &[
 /// Types of which the package derives more than their sources do, where no list has to be copied.
 pub const DERIVED: &[(&str, &[&str])] = &[
     ("CanIndexCheckMode", &["Debug", "Eq"]),
+    ("CountedPlaces", &["Clone"]),
     ("Forward", &["Debug"]),
+    ("KeptAxes", &["Clone"]),
     ("LayoutError", &["Clone", "PartialEq"]),
     ("PlacesOf", &["Clone"]),
     ("Reverse", &["Debug"]),
+    ("RowsOf", &["Clone"]),
     ("SplitViews", &["Debug"]),
     ("Stopped", &["Clone"]),
+    ("Stretch", &["Clone"]),
     ("Strided", &["Clone", "PartialEq", "Eq"]),
-    ("StridedRows", &["Clone"]),
 ];
 
 /// Iterators and rows over items that they lend, which the package copies, whether items are copied or not.
-pub const LENDING: &[&str] = &["LentRow", "Reader", "RestOfItems", "RowItems", "ViewIter"];
+pub const LENDING: &[&str] = &["LentRow", "Reader", "RowItems", "ViewIter"];
 
 /// Those of them that are a pointer and no more: they are `Copy` as well.
 pub const POINTERS: &[&str] = &["LentRow", "Reader"];
@@ -328,6 +361,7 @@ pub const OF_PROOFS: &[&str] = &["cells.marks", "cells.name", "ghost_name", "nam
 
 /// How a condition begins that says of a closure alone where it may be called: no `unsafe` rests on that, as a closure may panic.
 pub const OF_CLOSURES: &[&str] = &[
+    "CallableAtIndices ",
     "CallableInFold ",
     "CallableInForEach ",
     "CallableOnAllAt ",
@@ -345,6 +379,10 @@ pub const OF_CLOSURES: &[&str] = &[
 
 /// A word of a condition that the docs of a source don't tell, and what is said of it.
 pub const CONDITIONS: &[(&str, &str)] = &[
+    (
+        "CallableAtIndices",
+        "The function may be called with any index of the shape, whatever it was called with before. Where it panics, so does this call.",
+    ),
     (
         "CallableInFold",
         "The function may be called with any item of the array, after any result that it has returned. Where it panics, so does this call.",

@@ -1,7 +1,7 @@
 //! What keeps the package sound: where `unsafe` stays, with the words that say why, and conditions that are checked.
 
 use crate::erase::Eraser;
-use crate::names::{CHECKED, SEEN, UNSAFE};
+use crate::names::{CHECKED, IN_ROOM, ROOM, SEEN, UNNAMED, UNSAFE};
 use crate::paragraphs::Paragraphs;
 use crate::tokens::{Fault, Tree, fault, length_of_generics};
 
@@ -51,6 +51,28 @@ impl Eraser<'_> {
         Ok(Some(2))
     }
 
+    /// Whether no user of the package sees what stands after `pub`: it is hidden, or stands in a crate or a type that no user can name.
+    pub(crate) fn is_unseen(&self, item: &[Tree]) -> bool {
+        let is_at_top = self.bracket.is_empty();
+        let is_unnamed = match item {
+            [word, ..] if is_at_top && word.is("fn") => true,
+            [word, name, ..] if is_at_top && word.is("trait") => UNNAMED.contains(&name.first().text),
+            _ => UNNAMED.contains(&self.of_impl.as_str()),
+        };
+        self.is_hidden || (IN_ROOM.contains(&self.names.own) && is_unnamed)
+    }
+
+    /// `pub` after `#[doc(hidden)]`: what crates hand on to one another, and no user sees.
+    pub(crate) fn hidden(&mut self, trees: &[Tree]) -> Result<Option<usize>, Fault> {
+        let is_seen = matches!(trees, [_, word, name, ..] if word.is("fn") && SEEN.contains(&name.first().text));
+        if !trees[0].is("pub") || !std::mem::take(&mut self.is_hidden) {
+            return Ok(None);
+        }
+        let seen = if is_seen { "crate".to_string() } else { format!("in crate::{ROOM}") };
+        self.put(trees[0].first().lead, &format!("pub({seen})"));
+        Ok(Some(1))
+    }
+
     /// What all of a crate sees, in a module whose conditions keep `unsafe` sound, the crate's module sees alone: no other file of the package,
     /// but for the calls of `SEEN`.
     pub(crate) fn own_crate(&mut self, trees: &[Tree]) -> Result<Option<usize>, Fault> {
@@ -63,7 +85,7 @@ impl Eraser<'_> {
         if !is_of_crate || is_seen || !self.names.is_packed() || !self.names.is_sound_by_conditions() {
             return Ok(None);
         }
-        self.put(word.first().lead, &format!("pub(in crate::{})", self.names.own));
+        self.put(word.first().lead, &format!("pub(in crate::{})", self.names.place()));
         Ok(Some(2))
     }
 

@@ -65,14 +65,21 @@ pub mod nd_base;
 #[doc(hidden)]
 pub mod nd_dim;
 #[doc(hidden)]
-pub mod nd_lent;
-#[doc(hidden)]
-pub mod nd_owned;
-#[doc(hidden)]
 pub mod nd_shape;
 #[doc(hidden)]
 pub mod nd_slice;
 mod ndarray_layout;
+
+// Rights to items, which these modules hand on to one another: no other file of the package sees how.
+mod lent {
+    mod nd_access;
+    pub(crate) mod nd_items;
+    pub mod nd_lent;
+    pub(crate) mod nd_loops;
+    pub mod nd_owned;
+}
+#[doc(hidden)]
+pub use crate::lent::{nd_lent, nd_owned};
 
 mod arrays;
 pub mod compat;
@@ -118,8 +125,8 @@ pub use crate::convenience::*;
 #[doc(inline)]
 pub use crate::memory::AllocError;
 pub use crate::nd_lent::{
-    AxisChunksIter, AxisChunksIterMut, AxisIter, AxisIterMut, BlocksIter, IndexedIter, IndexedIterMut, IterMut,
-    LanesMut, SliceParts, TilesMut,
+    Arrays, AxisChunksIter, AxisChunksIterMut, AxisIter, AxisIterMut, BlocksIter, IndexedIter, IndexedIterMut, IterMut,
+    LanesMut, Parts, SliceParts, TilesMut,
 };
 pub use crate::nd_owned::{
     ArrayView, ArrayViewMut, EqualTo, IntoRows, Items, Iter, LentRow, LentRows, OwnedArray, ReadySlice, RowItems,

@@ -1,82 +1,17 @@
 //! The same by the package.
 
 use super::by_hand::wrapping;
-use super::{Form, PADDED, PICTURE, SIDE, TILE};
-use ndarray_layout::{ArrayView, ArrayViewMut, CanIndexCheckMode, Ix2, Ix3, Ix4, SliceInfoElem, Strided, s};
+use super::{PICTURE, SIDE, TILE};
+use ndarray_layout::{ArrayView, ArrayViewMut, Ix2, Ix3, Ix4, SliceInfoElem, s};
 
-fn layout(form: Form) -> Strided<Ix2> {
-    let (shape, strides) = match form {
-        Form::Whole => (Ix2(SIDE, SIDE), Ix2(SIDE, 1)),
-        Form::Padded => (Ix2(SIDE, PADDED), Ix2(SIDE, 1)),
-        Form::Turned => (Ix2(SIDE, SIDE), Ix2(1, SIDE)),
-    };
-    Strided::new(shape, strides, size_of::<u32>(), SIDE * SIDE, CanIndexCheckMode::OwnedMutable).expect("a layout")
-}
-
-fn array(form: Form, items: &[u32]) -> ArrayView<'_, u32, Ix2> {
-    ArrayView::over(layout(form), items).expect("room for the layout")
-}
-
-fn array_mut(form: Form, items: &mut [u32]) -> ArrayViewMut<'_, u32, Ix2> {
-    ArrayViewMut::over(layout(form), items).expect("room for the layout")
-}
-
-#[inline(never)]
-pub fn fill(form: Form, items: &mut [u32]) {
-    array_mut(form, items).fill(7);
-}
-
-#[inline(never)]
-pub fn assign(form: Form, items: &mut [u32]) {
-    let first: [u32; SIDE] = std::array::from_fn(|at| items[at]);
-    let mut array = array_mut(form, items);
-    let line = Strided::new(*array.dim(), Ix2(0, 1), size_of::<u32>(), SIDE, CanIndexCheckMode::ReadOnly);
-    let source = ArrayView::over(line.expect("a layout"), &first).expect("room for the layout");
-    array.assign(&source).expect("the same shape");
-}
-
-#[inline(never)]
-pub fn map_in_place(form: Form, items: &mut [u32]) {
-    array_mut(form, items).map_in_place(|item| *item = item.wrapping_add(1));
-}
-
-#[inline(never)]
-pub fn equal(form: Form, items: &[u32]) -> usize {
-    usize::from(array(form, items) == array(form, std::hint::black_box(items)))
-}
-
-#[inline(never)]
-pub fn sum(form: Form, items: &[u32]) -> usize {
-    array(form, items).iter().fold(0, wrapping) as usize
-}
-
-#[inline(never)]
-pub fn fold(form: Form, items: &[u32]) -> usize {
-    array(form, items).fold(0, wrapping) as usize
-}
-
-#[inline(never)]
-pub fn collect(form: Form, items: &[u32]) -> usize {
-    let list: Vec<u32> = std::hint::black_box(array(form, items).iter().copied().collect());
-    list[list.len() / 2] as usize
-}
-
-#[inline(never)]
-pub fn index(form: Form, items: &[u32]) -> usize {
-    let array = array(form, items);
-    let mut sum = 0u32;
-    for i in 0..array.dim()[0] {
-        for j in 0..array.dim()[1] {
-            sum = sum.wrapping_add(array[(i, j)]);
-        }
-    }
-    sum as usize
+fn array(items: &[u32]) -> ArrayView<'_, u32, Ix2> {
+    ArrayView::from_shape(Ix2(SIDE, SIDE), items).expect("an array")
 }
 
 /// The means of each item and its eight neighbours, by the slices of three rows.
 #[inline(never)]
-pub fn blur_rows(form: Form, items: &[u32]) -> usize {
-    let array = array(form, items);
+pub fn blur_rows(items: &[u32]) -> usize {
+    let array = array(items);
     let rows: Vec<&[u32]> = array.rows().map(|row| row.as_slice()).collect::<Option<_>>().expect("rows without gaps");
     let mut sum = 0u32;
     for three in rows.windows(3) {
@@ -90,8 +25,8 @@ pub fn blur_rows(form: Form, items: &[u32]) -> usize {
 
 /// The same by the rows of all windows, three for each.
 #[inline(never)]
-pub fn blur_windows(form: Form, items: &[u32]) -> usize {
-    let windows: ArrayView<'_, u32, Ix4> = array(form, items).windows(&Ix2(3, 3)).expect("windows");
+pub fn blur_windows(items: &[u32]) -> usize {
+    let windows: ArrayView<'_, u32, Ix4> = array(items).windows(&Ix2(3, 3)).expect("windows");
     let mut rows = windows.rows();
     let mut sum = 0u32;
     while let Some(above) = rows.next() {
@@ -104,8 +39,8 @@ pub fn blur_windows(form: Form, items: &[u32]) -> usize {
 
 /// The same, where each window is an array of its own.
 #[inline(never)]
-pub fn blur_each_window(form: Form, items: &[u32]) -> usize {
-    let windows = array(form, items).into_windows(&Ix2(3, 3)).expect("windows");
+pub fn blur_each_window(items: &[u32]) -> usize {
+    let windows = array(items).into_windows(&Ix2(3, 3)).expect("windows");
     let mean = |window: ArrayView<'_, u32, Ix2>| {
         (0..3).flat_map(|i| (0..3).map(move |j| (i, j))).fold(0, |sum, index| wrapping(sum, &window[index])) / 9
     };

@@ -113,37 +113,15 @@ fn read_to_write(items: &mut [u32], indices: &[(usize, usize)]) {
     black_box(sum);
 }
 
-#[inline(never)]
-fn number_columns(items: &mut [u32]) {
-    let mut number = 0;
-    for column in 0..SIDE {
-        for row in 0..SIDE {
-            items[row * SIDE + column] = number;
-            number += 1;
-        }
-    }
-}
-
-#[inline(never)]
-fn number_items(items: &mut [u32]) {
-    let mut number = 0;
-    for item in table(items).reversed_axes().into_items() {
-        *item = number;
-        number += 1;
-    }
-}
-
 pub fn rows() -> Vec<Row> {
     let planes = ("three planes of 2000x2000 by threads beside raw pointers", BIG * BIG * 3, BIG * BIG * 3);
     let lent = ("100 tiles lent beside their comparison, multi_slice_move", 1, PICTURE * PICTURE);
     let found = ("get_mut of a part beside get", 10_000, SIDE * SIDE);
-    let iterated = ("items of a transposed part", SIDE * SIDE, SIDE * SIDE);
     let (slices, places) = (tiles(), indices());
     let (theirs, read_places) = (slices.clone(), places.clone());
     vec![
         writing(planes, planes_by_pointers, planes_by_parts),
         writing(lent, move |items| compare_tiles(items, &theirs), move |items| lend_tiles(items, &slices)),
         writing(found, move |items| read(items, &read_places), move |items| read_to_write(items, &places)),
-        writing(iterated, number_columns, number_items),
     ]
 }

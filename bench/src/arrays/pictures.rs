@@ -1,4 +1,4 @@
-//! Pictures of three axes, and what is cut out of them, beside loops over slices.
+//! Crops of a batch of pictures, and pictures of three axes whose items lie in another order, beside loops over slices.
 
 use super::timing::{Row, row};
 use ndarray_layout::{ArrayView, ArrayViewMut, CanIndexCheckMode, Ix2, Ix3, Ix4, Lengths, Strided};
@@ -17,47 +17,34 @@ const ITEMS: usize = HIGH * ROW;
 /// How a view of the picture's items lies.
 #[derive(Clone, Copy, PartialEq)]
 pub enum Form {
-    Whole,
-    Crop,
     Crops,
-    Plane,
     Turned,
     Transposed,
     Columns,
 }
 
-use Form::{Columns, Crop, Crops, Plane, Transposed, Turned, Whole};
+use Form::{Columns, Crops, Transposed, Turned};
 
 impl Form {
-    const ALL: [(Form, &'static str); 7] = [
-        (Whole, "a picture"),
-        (Crop, "a crop"),
+    const ALL: [(Form, &'static str); 4] = [
         (Crops, "ten crops"),
-        (Plane, "a plane"),
         (Turned, "a picture backwards"),
         (Transposed, "a picture transposed"),
         (Columns, "columns of bytes"),
     ];
 
-    /// Whether what comes next in row-major order comes next in memory.
-    fn is_forwards(self) -> bool {
-        matches!(self, Whole | Crop | Crops | Plane)
-    }
-
     fn count(self) -> usize {
         match self {
-            Crop => (HIGH - 2 * BORDER) * (WIDE - 2 * BORDER) * COLOURS,
             Crops => PICTURES * (HIGH / PICTURES - 2 * BORDER) * (WIDE - 2 * BORDER) * COLOURS,
-            Plane => HIGH * WIDE,
-            Whole | Turned | Transposed | Columns => ITEMS,
+            Turned | Transposed | Columns => ITEMS,
         }
     }
+}
 
-    /// The rows that a crop, or each of ten, has of a picture.
-    fn has_row(self, row: usize) -> bool {
-        let high = if self == Crops { HIGH / PICTURES } else { HIGH };
-        (BORDER..high - BORDER).contains(&(row % high))
-    }
+/// The rows that each of ten crops has of a picture.
+fn has_row(row: usize) -> bool {
+    let high = HIGH / PICTURES;
+    (BORDER..high - BORDER).contains(&(row % high))
 }
 
 /// A layout of these lengths and strides from a start.
@@ -69,27 +56,14 @@ fn view<D: Lengths>(start: usize, shape: D, strides: D) -> Strided<D> {
 macro_rules! with_layout {
     ($form:expr, $layout:ident => $call:expr) => {{
         let steps = Ix3(ROW, COLOURS, 1);
-        let (high, wide) = (HIGH - 2 * BORDER, WIDE - 2 * BORDER);
         match $form {
-            Whole => {
-                let $layout = view(0, Ix3(HIGH, WIDE, COLOURS), steps);
-                $call
-            }
-            Crop => {
-                let $layout = view(BORDER * (ROW + COLOURS), Ix3(high, wide, COLOURS), steps);
-                $call
-            }
             Crops => {
-                let (each, high) = (HIGH / PICTURES, HIGH / PICTURES - 2 * BORDER);
+                let (each, high, wide) = (HIGH / PICTURES, HIGH / PICTURES - 2 * BORDER, WIDE - 2 * BORDER);
                 let $layout = view(
                     BORDER * (ROW + COLOURS),
                     Ix4(PICTURES, high, wide, COLOURS),
                     Ix4(each * ROW, ROW, COLOURS, 1),
                 );
-                $call
-            }
-            Plane => {
-                let $layout = view(1, Ix2(HIGH, WIDE), Ix2(ROW, COLOURS));
                 $call
             }
             Turned => {
@@ -116,9 +90,7 @@ mod by_hand {
     #[inline(always)]
     pub fn each(form: Form, items: &[u8], mut f: impl FnMut(&u8)) {
         match form {
-            Whole => items.iter().for_each(f),
-            Crop | Crops => rows(form, items).for_each(|row| row.iter().for_each(&mut f)),
-            Plane => items[1..].iter().step_by(COLOURS).for_each(f),
+            Crops => rows(items).for_each(|row| row.iter().for_each(&mut f)),
             Turned => items.iter().rev().for_each(f),
             Transposed => (0..WIDE).for_each(|pixel| {
                 items.chunks_exact(ROW).for_each(|row| row[pixel * COLOURS..][..COLOURS].iter().for_each(&mut f));
@@ -131,31 +103,29 @@ mod by_hand {
     #[inline(always)]
     pub fn each_mut(form: Form, items: &mut [u8], mut f: impl FnMut(&mut u8)) {
         match form {
-            Crop | Crops => rows_mut(form, items).for_each(|row| row.iter_mut().for_each(&mut f)),
-            Plane => items[1..].iter_mut().step_by(COLOURS).for_each(f),
-            Whole | Turned | Transposed | Columns => items.iter_mut().for_each(f),
+            Crops => rows_mut(items).for_each(|row| row.iter_mut().for_each(&mut f)),
+            Turned | Transposed | Columns => items.iter_mut().for_each(f),
         }
     }
 
     /// The rows of crops.
     #[inline(always)]
-    fn rows(form: Form, items: &[u8]) -> impl Iterator<Item = &[u8]> {
-        let rows = items.chunks_exact(ROW).enumerate().filter(move |(row, _)| form.has_row(*row));
+    fn rows(items: &[u8]) -> impl Iterator<Item = &[u8]> {
+        let rows = items.chunks_exact(ROW).enumerate().filter(|(row, _)| has_row(*row));
         rows.map(|(_, row)| &row[BORDER * COLOURS..ROW - BORDER * COLOURS])
     }
 
     #[inline(always)]
-    fn rows_mut(form: Form, items: &mut [u8]) -> impl Iterator<Item = &mut [u8]> {
-        let rows = items.chunks_exact_mut(ROW).enumerate().filter(move |(row, _)| form.has_row(*row));
+    fn rows_mut(items: &mut [u8]) -> impl Iterator<Item = &mut [u8]> {
+        let rows = items.chunks_exact_mut(ROW).enumerate().filter(|(row, _)| has_row(*row));
         rows.map(|(_, row)| &mut row[BORDER * COLOURS..ROW - BORDER * COLOURS])
     }
 
     #[inline(never)]
     pub fn fill(form: Form, items: &mut [u8]) {
         match form {
-            Crop | Crops => rows_mut(form, items).for_each(|row| row.fill(7)),
-            Plane => each_mut(form, items, |item| *item = 7),
-            Whole | Turned | Transposed | Columns => items.fill(7),
+            Crops => rows_mut(items).for_each(|row| row.fill(7)),
+            Turned | Transposed | Columns => items.fill(7),
         }
     }
 
@@ -167,14 +137,8 @@ mod by_hand {
     #[inline(never)]
     pub fn assign(form: Form, items: &mut [u8], others: &[u8]) {
         match form {
-            Crop | Crops => {
-                rows_mut(form, items).zip(rows(form, others)).for_each(|(row, other)| row.copy_from_slice(other))
-            }
-            Plane => {
-                let others = others[1..].iter().step_by(COLOURS);
-                items[1..].iter_mut().step_by(COLOURS).zip(others).for_each(|(item, other)| *item = *other);
-            }
-            Whole | Turned | Transposed | Columns => items.copy_from_slice(others),
+            Crops => rows_mut(items).zip(rows(others)).for_each(|(row, other)| row.copy_from_slice(other)),
+            Turned | Transposed | Columns => items.copy_from_slice(others),
         }
     }
 
@@ -182,26 +146,18 @@ mod by_hand {
     pub fn zip_mut_with(form: Form, items: &mut [u8], others: &[u8]) {
         let add = |(item, other): (&mut u8, &u8)| *item = item.wrapping_add(*other);
         match form {
-            Crop | Crops => {
-                rows_mut(form, items)
-                    .zip(rows(form, others))
-                    .for_each(|(row, other)| row.iter_mut().zip(other).for_each(add));
+            Crops => {
+                rows_mut(items).zip(rows(others)).for_each(|(row, other)| row.iter_mut().zip(other).for_each(add));
             }
-            Plane => items[1..].iter_mut().step_by(COLOURS).zip(others[1..].iter().step_by(COLOURS)).for_each(add),
-            Whole | Turned | Transposed | Columns => items.iter_mut().zip(others).for_each(add),
+            Turned | Transposed | Columns => items.iter_mut().zip(others).for_each(add),
         }
     }
 
     #[inline(never)]
     pub fn equal(form: Form, items: &[u8], others: &[u8]) -> usize {
         usize::from(match form {
-            Crop | Crops => rows(form, items).zip(rows(form, others)).all(|(row, other)| row == other),
-            Plane => items[1..]
-                .iter()
-                .step_by(COLOURS)
-                .zip(others[1..].iter().step_by(COLOURS))
-                .all(|(item, other)| item == other),
-            Whole | Turned | Transposed | Columns => items == others,
+            Crops => rows(items).zip(rows(others)).all(|(row, other)| row == other),
+            Turned | Transposed | Columns => items == others,
         })
     }
 
@@ -329,22 +285,23 @@ pub fn rows() -> Vec<Row> {
         let (fill, fills): (fn(_, &mut _, &_), fn(_, &mut _, &_)) =
             (|form, items, _| by_hand::fill(form, items), |form, items, _| by_package::fill(form, items));
         rows.push(writing(named("fill"), form, fill, fills));
-        rows.push(writing(named("assign"), form, by_hand::assign, by_package::assign));
+        rows.push(reading(named("sum"), form, by_hand::sum, by_package::total));
         let map: fn(_, &mut _, &_) = |form, items, _| by_hand::map_in_place(form, items);
-        if form.is_forwards() {
+        if form == Crops {
             let maps: fn(_, &mut _, &_) = |form, items, _| by_package::map_in_place(form, items);
             rows.push(writing(named("map_in_place"), form, map, maps));
+            rows.push(writing(named("assign"), form, by_hand::assign, by_package::assign));
             rows.push(writing(named("zip_mut_with"), form, by_hand::zip_mut_with, by_package::zip_mut_with));
+            rows.push(reading(named("=="), form, by_hand::equal, by_package::equal));
+            rows.push(reading(named("fold"), form, by_hand::sum, by_package::fold));
+            rows.push(reading(named("iter().sum()"), form, by_hand::sum, by_package::sum));
         } else {
+            let zips = by_package::zip_mut_with_nearest;
             let maps: fn(_, &mut _, &_) = |form, items, _| by_package::map_in_place_nearest(form, items);
             rows.push(writing(named("map_in_place_nearest"), form, map, maps));
             rows.push(reading(named("fold_nearest"), form, by_hand::sum, by_package::fold_nearest));
-            rows.push(writing(named("zip_mut_with_nearest"), form, by_hand::zip_mut_with, by_package::zip_mut_with_nearest));
+            rows.push(writing(named("zip_mut_with_nearest"), form, by_hand::zip_mut_with, zips));
         }
-        rows.push(reading(named("=="), form, by_hand::equal, by_package::equal));
-        rows.push(reading(named("sum"), form, by_hand::sum, by_package::total));
-        rows.push(reading(named("fold"), form, by_hand::sum, by_package::fold));
-        rows.push(reading(named("iter().sum()"), form, by_hand::sum, by_package::sum));
     }
     rows
 }

@@ -2,8 +2,7 @@
 ghost use Rattle.std.specs.Prelude.{◌≡◌, IsOk, OnOk, length};
 ghost use Rattle.ndarray_layout.specs.InvertedView.{invert_source};
 ghost use Rattle.nd_owned.specs.HasItems.{HasItemsOf};
-ghost use Rattle.nd_owned.specs.Lent.{array_of};
-ghost use Rattle.nd_owned.specs.Rights.{right_of};
+ghost use Rattle.nd_owned.specs.Lent.{access_of, array_of};
 ghost use Rattle.nd_owned.specs.Owned.{IsOwned, item_at};
 
 use nd_owned::{ArrayViewMut, Whole};
@@ -16,7 +15,7 @@ fn swap_rows(alloc: Global, picture: &mut ArrayViewMut<'_, u8, Ix2>) -> Result<(
     ensures flipped { OnOk result (HasItemsOf
         (λ index. item_at (array_of picture.old) (invert_source 0 (array_of picture.old).view.shape index))
         (array_of picture.old) (array_of picture.new)) }
-    ensures same_right { right_of picture.new.cells ≡ right_of picture.old.cells }
+    ensures same_right { access_of picture.new ≡ access_of picture.old }
 {
     let (rows, columns) = picture.strided().dim().into_pattern();
     for (row, column) in all_indices(alloc, (rows / 2, columns))? {

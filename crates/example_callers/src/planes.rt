@@ -3,8 +3,7 @@ ghost use Rattle.std.specs.Prelude.{◌≡◌, ℕ, List, OnOk, IsOk, Some, leng
 ghost use Rattle.ndarray_layout.specs.SharePlace.{SharePlace};
 ghost use Rattle.nd_lent.specs.HasItems.{HasItemsOf};
 ghost use Rattle.nd_lent.specs.Items.{IsOwned};
-ghost use Rattle.nd_lent.specs.Lent.{array_of};
-ghost use Rattle.nd_lent.specs.Rights.{right_of};
+ghost use Rattle.nd_lent.specs.Lent.{access_of, array_of};
 
 use nd_lent::{ArrayViewMut, Whole};
 use ndarray_layout::{Axis, Ix2, Ix3, LayoutError, Strided};
@@ -17,7 +16,7 @@ const PLANES: Axis = Axis(2);
 pub fn paint_plane(part: &mut ArrayViewMut<'_, u8, Ix2>, pixel: u8)
     ensures painted { HasItemsOf (λ index. Some pixel) (array_of part.old) (array_of part.new) }
     ensures count { length (array_of part.new).items ≡ length (array_of part.old).items }
-    ensures same_right { right_of part.new.cells ≡ right_of part.old.cells }
+    ensures same_right { access_of part.new ≡ access_of part.old }
 {
     part.fill(pixel);
 }

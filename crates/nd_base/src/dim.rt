@@ -171,6 +171,10 @@ impl<const N: usize> Lengths for Dim<[usize; N]> {
         Ok(*self)
     }
 
+    fn copied(&self) -> Option<Self> {
+        Some(*self)
+    }
+
     ghost eq_of_lists = { λ d e. slice_eq-Decides unsigned_Decides (lengths d) (lengths e) _ refl };
 
     ghost list_of_with_list = { λ d xs h. refl };

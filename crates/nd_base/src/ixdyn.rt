@@ -112,6 +112,10 @@ impl Lengths for Dim<IxDynImpl> {
         new_ixdyn(alloc, self.slice())
     }
 
+    fn copied(&self) -> Option<Self> {
+        None
+    }
+
     ghost eq_of_lists = { λ d e. slice_eq-Decides unsigned_Decides (lengths d) (lengths e) _ refl };
 
     ghost list_of_with_list = { λ d xs h.

@@ -1,5 +1,5 @@
 //! What all dimension types share: a value stands for its list of lengths and for nothing else.
-ghost use Rattle.std.specs.Prelude.{◌≡◌, ℕ, ◌<◌, ◌↔◌, List, length, replicate, IsTrue, IsOk, IfOk, Option, Some, slice_get};
+ghost use Rattle.std.specs.Prelude.{◌≡◌, ℕ, ◌<◌, ◌↔◌, List, length, replicate, IsTrue, IsOk, IfOk, IfSome, Option, Some, slice_get};
 ghost use Rattle.std.specs.Bool.{Decides};
 ghost use Rattle.std.specs.Borrow.{Lends, sem, Array, u64 as word};
 ghost use Rattle.nd_base.specs.Lengths.{IsCount};
@@ -81,6 +81,14 @@ pub trait Lengths: FixedCount + Eq + Debug + IndexMut<usize, Output = usize> + D
         Self: Sized,
         ensures list { IfOk result (λ d. list d ≡ list self.now) }
         ensures memory { NeedsNoMemory Self.NDIM (length (list self.now)) → IsOk result };
+
+    /// A copy of the list where the type fixes its count, which takes no memory; else `None`.
+    ///
+    /// Takes time in proportion to the count of axes. In place of ndarray's `Copy`.
+    fn copied(&self) -> Option<Self>
+    where
+        Self: Sized,
+        ensures list { IfSome result (λ d. list d ≡ list self.now) };
 
     // `==` says whether both lists are equal.
     ghost eq_of_lists: { (d e : Self) → Decides (Self.PartialEq.eq d e) (list d ≡ list e) };

@@ -9,14 +9,14 @@ use Rattle.std.proofs.lemmas.Simd.{map-map}
 use Rattle.ndarray_layout.specs.declared.Order.TheVariants.{RowMajor}
 use Rattle.ndarray_layout.specs.Indices.{is_index}
 use Rattle.ndarray_layout.specs.View.{place_at, view_places}
-use Rattle.nd_lent.specs.AnyOrder.{CallsMakeArrayInSomeOrder}
-use Rattle.nd_lent.specs.HasItems.{HasItemsOf, KeepsSpare}
-use Rattle.nd_lent.specs.Mapped.{CallsMake}
-use Rattle.nd_lent.specs.Items.{ArrayValue, item_at, item_at_place}
-use Rattle.nd_lent.specs.Written.{Maps}
-use Rattle.nd_lent.proofs.Sets.{All-indices, AreIndices, has_items, places_moved}
-pub use Rattle.nd_lent.proofs.Laws.MapsTo.{acted, callable_at_first, callable_at_others}
-use Rattle.nd_lent.proofs.Laws.IndexItems.{items_at}
+use Rattle.nd_loops.specs.AnyOrder.{CallsMakeArrayInSomeOrder}
+use Rattle.nd_access.specs.HasItems.{HasItemsOf, KeepsSpare}
+use Rattle.nd_access.specs.Mapped.{CallsMake}
+use Rattle.nd_access.specs.Items.{ArrayValue, item_at, item_at_place}
+use Rattle.nd_access.specs.Written.{Maps}
+use Rattle.nd_access.proofs.Laws.Sets.{All-indices, AreIndices, has_items, places_moved}
+pub use Rattle.nd_access.proofs.Laws.MapsTo.{acted, callable_at_first, callable_at_others}
+use Rattle.nd_access.proofs.Laws.IndexItems.{items_at}
 
 -- ---- all places of an array, in some order of its indices
 abbrev pub changed : {T : Type 0} → ArrayValue T → List T → ArrayValue T

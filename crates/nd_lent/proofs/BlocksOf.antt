@@ -9,11 +9,11 @@ use Rattle.ndarray_layout.specs.View.{View}
 use Rattle.ndarray_layout.specs.WindowsView.{window_views, windows_fault}
 use Rattle.ndarray_layout.proofs.Laws.BlockStarts.{All-blocks, HasBlocks-chunks, HasBlocks-windows, IsViewOf-block}
 use Rattle.nd_lent.specs.Blocks.{array_over, arrays_of}
-use Rattle.nd_lent.specs.Items.{ArrayValue}
-use Rattle.nd_lent.specs.Read.{IsRead}
-use Rattle.nd_lent.proofs.BothEnds.{all_second}
-use Rattle.nd_lent.proofs.Laws.Lists.{all_first}
-use Rattle.nd_lent.proofs.Read.{read_view}
+use Rattle.nd_access.specs.Items.{ArrayValue}
+use Rattle.nd_access.specs.Read.{IsRead}
+use Rattle.nd_access.proofs.Laws.BothEnds.{all_second}
+use Rattle.nd_access.proofs.Laws.Lists.{all_first}
+use Rattle.nd_access.proofs.Laws.Read.{read_view}
 
 pub windows_read : {marks : List Bool} {count : ℕ} {view : View} (window : List ℕ) → IsRead marks count view
     → windows_fault None view.shape window ≡ None → {views : List View} → views ≡ window_views window view

@@ -1,6 +1,7 @@
 -- Chunks along an axis: each is a view of some coordinates of its own, which are those of the split before it and the one after it.
 use Rattle.std.proofs.Common.{◌≡◌, ℕ, ◌+◌, ◌-◌, ◌*◌, ◌<◌, ◌≤◌, Bool, List, None, length, get_or, min, set}
 use Rattle.std.proofs.Common.{add-one, ap, sym, subst, ◌∙◌, arith}
+use Rattle.std.specs.List.{All}
 use Rattle.std.proofs.Math.Nat.{min-le_left, min-le_right, mul-le-mul_right, suc-mul}
 use Rattle.std.proofs.lemmas.Grind.{div_ceil_times}
 use Rattle.std.proofs.lemmas.List.{get_or-set_same, length-set}
@@ -9,11 +10,12 @@ use Rattle.ndarray_layout.specs.SplitView.{first_part_of, second_part_of, second
 use Rattle.ndarray_layout.specs.View.{IsView, View}
 use Rattle.ndarray_layout.proofs.Laws.IsIndex.{coordinate_of_index, length_of_index}
 use Rattle.ndarray_layout.proofs.Laws.SplitView.{Descends-first_part_of, Descends-second_part_of, no_fault_of_cut}
-use Rattle.nd_lent.specs.Cells.{without}
-use Rattle.nd_lent.specs.ChunksAlong.{chunk_count, chunk_view}
-use Rattle.nd_lent.specs.OwnedAlong.{OwnsBetween}
-use Rattle.nd_lent.specs.Part.{IsPart, marks_of}
-use Rattle.nd_lent.proofs.OwnedAlong.{LieBetween, between_is_part, others_left}
+use Rattle.nd_access.specs.Part.{IsPart}
+use Rattle.nd_access.specs.Read.{IsRead}
+use Rattle.nd_lent.specs.ChunksAlong.{chunk_count, chunk_view, chunk_views_along}
+use Rattle.nd_lent.specs.private.Chunks.{HasChunks}
+use Rattle.nd_lent.specs.private.OwnedViews.{OwnsEach}
+use Rattle.nd_lent.proofs.AlongAxis.{LieBetween, own_made, read_made}
 
 -- so many more
 pub one_more : (number size : ℕ) → (number + 1) * size ≡ number * size + size
@@ -84,45 +86,30 @@ module _ (axis size number : ℕ) (view : View) (there : axis < length view.shap
           omega (arith, moved, below, few, min-le_left size left, one_more number size),
         )
 
--- ---- a chunk of coordinates that a right has to itself
-module _ {marks : List Bool} {view : View} {axis : ℕ} (size begun end : ℕ)
-    (own : OwnsBetween marks view axis (begun * size) (end * size))
-    (there : axis < length view.shape) (number : ℕ) (low : begun ≤ number) (high : number < end)
-    (some : number * size < get_or view.shape axis 0) {part : View} (is : part ≡ chunk_view axis size number view) where
-  kept : Descends (second_source axis (number * size)) view part
-  kept = subst (Descends (second_source axis (number * size)) view) (sym is)
-      (Descends-chunk_view axis size number view there some own.is_view)
+-- ---- all chunks
+module _ {view : View} (axis size : ℕ) (is : IsView view) (has : HasChunks view.shape axis size) where
+  abbrev at : ℕ → View
+  at number = chunk_view axis size number view
 
-  lie : LieBetween (second_source axis (number * size)) part axis (number * size) ((number + 1) * size)
-  lie = subst (λ (v : View). LieBetween (second_source axis (number * size)) v axis (number * size) ((number + 1) * size)) (sym is)
-      (lie_in_chunk axis size number view there some own.is_view)
+  abbrev source : ℕ → List ℕ → List ℕ
+  source number = second_source axis (number * size)
 
-  after : begun * size ≤ number * size
-  after = up_to size low
+  begins : (number : ℕ) → number < chunk_count view.shape axis size → number * size < get_or view.shape axis 0
+  begins number below = has_coordinate view.shape axis size number has.some below
 
-  before : (number + 1) * size ≤ end * size
-  before = up_to size (omega (arith, high))
+  kept_at : (number : ℕ) → number < chunk_count view.shape axis size → Descends (source number) view (at number)
+  kept_at number below = Descends-chunk_view axis size number view has.there (begins number below) is
 
-  -- it is a part
-  pub chunk_is_part : IsPart marks part
-  chunk_is_part = between_is_part own kept (number * size) ((number + 1) * size) after before lie
+  pub chunks_read : {marks : List Bool} {items : ℕ} → IsRead marks items view → {views : List View}
+      → views ≡ chunk_views_along axis size view → All (IsRead marks items) views
+  chunks_read {marks} {items} read are =
+      subst (All (IsRead marks items)) (sym are) (read_made axis at (chunk_count view.shape axis size) source kept_at read)
 
-  -- and those after it, or before it, are left
-  pub after_left : OwnsBetween (without (marks_of (length marks) part) marks) view axis ((number + 1) * size) (end * size)
-  after_left = others_left own kept (number * size) ((number + 1) * size) after before lie ((number + 1) * size) (end * size)
-      (omega (arith, after, one_more number size)) (omega arith)
-      (λ at above below from to. let no : ⊥ = omega (arith, above, to) in no)
-
-  pub before_left : OwnsBetween (without (marks_of (length marks) part) marks) view axis (begun * size) (number * size)
-  before_left = others_left own kept (number * size) ((number + 1) * size) after before lie (begun * size) (number * size) (omega arith)
-      (omega (arith, before, one_more number size))
-      (λ at above below from to. let no : ⊥ = omega (arith, below, from) in no)
-
--- a chunk has as many axes
-pub as_many_axes : (axis size number : ℕ) (view : View) → length (chunk_view axis size number view).shape ≡ length view.shape
-as_many_axes axis size number view =
-    let left = get_or view.shape axis 0 - number * size in
-    length-set (set view.shape axis left) axis (min size left) ∙ length-set view.shape axis left
+  pub chunks_own : {marks : List Bool} → IsPart marks view → {views : List View} → views ≡ chunk_views_along axis size view
+      → OwnsEach marks views
+  chunks_own {marks} part are = subst (OwnsEach marks) (sym are)
+      (own_made axis at (chunk_count view.shape axis size) source kept_at (λ number. number * size) (λ j k ordered. up_to size ordered)
+      (λ number below. lie_in_chunk axis size number view has.there (begins number below) is) part)
 
 -- ---- a chunk as it is cut: a view, the rest of it from a coordinate on, and so many coordinates of that
 module _ (axis size number : ℕ) {view whole rest : View} {len count : ℕ} (same : whole ≡ view)

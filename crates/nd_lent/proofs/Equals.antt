@@ -11,7 +11,7 @@ use Rattle.std.proofs.lemmas.Cmp.{upto}
 use Rattle.std.proofs.lemmas.List.{append-nil, append_assoc}
 use Rattle.std.proofs.lemmas.List.Elements.{All-cons, All-nil, All-push, All-weaker}
 use Rattle.nd_lent.specs.Extremes.{HasNoEqualAfter, HasNoEqualBefore}
-use Rattle.nd_lent.specs.Lending.{lends}
+use Rattle.nd_access.specs.Lending.{lends}
 use Rattle.nd_lent.specs.private.Picked.{better_of}
 use Rattle.nd_lent.proofs.Extremes.{less_is_greater, picks_less}
 use Rattle.nd_lent.proofs.Laws.Folds.{IsKept, after_fold}

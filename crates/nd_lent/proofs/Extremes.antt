@@ -13,7 +13,7 @@ use Rattle.std.specs.Ordering.{is_gt, is_lt, ord_max, ord_min, ordering_reverse}
 use Rattle.std.proofs.lemmas.Cmp.{upto}
 use Rattle.std.proofs.lemmas.List.Elements.{All-cons, All-nil}
 use Rattle.nd_lent.specs.Extremes.{IsFirstOf}
-use Rattle.nd_lent.specs.Lending.{lends}
+use Rattle.nd_access.specs.Lending.{lends}
 use Rattle.nd_lent.specs.private.Picked.{better_of}
 use Rattle.nd_lent.proofs.Laws.Folds.{IsKept, after_fold}
 

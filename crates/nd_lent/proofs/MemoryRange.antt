@@ -9,13 +9,13 @@ use Rattle.ndarray_layout.specs.Size.{is_empty, size}
 use Rattle.ndarray_layout.specs.View.{View, IsView}
 use Rattle.ndarray_layout.proofs.Laws.IsIndex.{nonempty_from_index}
 use Rattle.ndarray_layout.proofs.Laws.Size.{size_of_empty, size_of_nonempty}
-use Rattle.nd_lent.specs.Cells.{are_within, span_of}
-use Rattle.nd_lent.specs.Items.{ArrayValue}
+use Rattle.nd_access.specs.Cells.{are_within, span_of}
+use Rattle.nd_access.specs.Items.{ArrayValue}
 use Rattle.nd_lent.specs.MemoryOrder.{items_in_memory_order}
-use Rattle.nd_lent.specs.Part.{has_mark, AreMarked}
+use Rattle.nd_access.specs.Part.{has_mark, AreMarked}
 use Rattle.nd_lent.specs.SplitItems.{lowest}
 use Rattle.nd_lent.proofs.Laws.MemoryOrder.{index_in_memory}
-use Rattle.nd_lent.proofs.SliceOfPart.{mark_in_bounds, span_within}
+use Rattle.nd_access.proofs.Laws.SliceOfPart.{mark_in_bounds, span_within}
 
 -- ---- without an index
 no_index : (shape index : List ℕ) → is_empty shape ≡ true → is_index shape index ≡ true → ⊥

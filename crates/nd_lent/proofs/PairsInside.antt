@@ -17,16 +17,16 @@ use Rattle.ndarray_layout.specs.Indices.{indices_in}
 use Rattle.ndarray_layout.specs.Size.{size}
 use Rattle.ndarray_layout.specs.View.{place_at, view_places}
 use Rattle.ndarray_layout.proofs.Laws.View.{length-view_places}
-use Rattle.nd_lent.specs.AnyOrder.{CallsMakeArrayInSomeOrder, InAnyOrder}
-use Rattle.nd_lent.specs.HasItems.{HasItemsOf}
-use Rattle.nd_lent.specs.Items.{ArrayValue, item_at, item_at_place}
-use Rattle.nd_lent.specs.Mapped.{CallsMake, Makes, gives, row_major_items}
-use Rattle.nd_lent.specs.Written.{Maps}
-use Rattle.nd_lent.specs.Zipped.{CallableOnEachPair, CalledAtPair, pairs_of}
-use Rattle.nd_lent.specs.private.Pairs.{ZipsAt, view_pairs}
+use Rattle.nd_loops.specs.AnyOrder.{CallsMakeArrayInSomeOrder, InAnyOrder}
+use Rattle.nd_access.specs.HasItems.{HasItemsOf}
+use Rattle.nd_access.specs.Items.{ArrayValue, item_at, item_at_place}
+use Rattle.nd_access.specs.Mapped.{CallsMake, Makes, gives, row_major_items}
+use Rattle.nd_access.specs.Written.{Maps}
+use Rattle.nd_access.specs.Zipped.{CallableOnEachPair, CalledAtPair, pairs_of}
+use Rattle.nd_access.specs.Pairs.{ZipsAt, view_pairs}
 use Rattle.nd_lent.proofs.ArrayMaps.{changed, made_in_some_order, mapped, ran_over}
-use Rattle.nd_lent.proofs.Laws.IndexItems.{items_in}
-use Rattle.nd_lent.proofs.Permuted.{made_of_permuted}
+use Rattle.nd_access.proofs.Laws.IndexItems.{items_in}
+use Rattle.nd_access.proofs.Laws.Permuted.{made_of_permuted}
 
 -- ---- the second items of pairs
 second_is : {X Y : Type 0} (x : Option X) (y : Option Y) {both : X × Y} → option_zip x y ≡ Some both → y ≡ Some both.1

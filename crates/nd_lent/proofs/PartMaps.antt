@@ -14,16 +14,16 @@ use Rattle.ndarray_layout.specs.Indices.{indices_in, is_index}
 use Rattle.ndarray_layout.specs.View.{place_at, view_places}
 use Rattle.ndarray_layout.proofs.Laws.Indices.{Contains-indices_in}
 use Rattle.ndarray_layout.proofs.Laws.Lists.{Contains-map}
-use Rattle.nd_lent.specs.AnyOrder.{CallsMakeArrayInSomeOrder}
-use Rattle.nd_lent.specs.HasItems.{HasItemsOf, KeepsSpare}
-use Rattle.nd_lent.specs.Items.{ArrayValue, item_at, item_at_place}
-use Rattle.nd_lent.specs.Mapped.{ActsAsAtMut, Makes, CallsMake, row_major_items}
-use Rattle.nd_lent.specs.Written.{Maps}
-use Rattle.nd_lent.specs.private.MapsTo.{MapsAt}
+use Rattle.nd_loops.specs.AnyOrder.{CallsMakeArrayInSomeOrder}
+use Rattle.nd_access.specs.HasItems.{HasItemsOf, KeepsSpare}
+use Rattle.nd_access.specs.Items.{ArrayValue, item_at, item_at_place}
+use Rattle.nd_access.specs.Mapped.{ActsAsAtMut, Makes, CallsMake, row_major_items}
+use Rattle.nd_access.specs.Written.{Maps}
+use Rattle.nd_access.specs.MapsTo.{MapsAt}
 use Rattle.nd_lent.proofs.ArrayMaps.{made_in_some_order, mapped as all_mapped, spare as all_spare}
-use Rattle.nd_lent.proofs.Moved.{AreMoved, all_moved}
+use Rattle.nd_loops.proofs.Laws.Moved.{AreMoved, all_moved}
 use Rattle.nd_lent.proofs.Laws.FlatItems.{item_of_index}
-use Rattle.nd_lent.proofs.Laws.IndexItems.{items_in}
+use Rattle.nd_access.proofs.Laws.IndexItems.{items_in}
 pub use Rattle.nd_lent.proofs.ArrayMaps.{changed}
 
 -- a call is made at no item that is missing

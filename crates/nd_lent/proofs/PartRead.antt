@@ -3,9 +3,9 @@ use Rattle.std.proofs.Common.{◌≡◌, ℕ, ℤ, pos, negsuc, Bool, List, true
 use Rattle.std.proofs.lemmas.Bool.{false≢true}
 use Rattle.ndarray_layout.specs.Bounds.{IsInBounds}
 use Rattle.ndarray_layout.specs.View.{View, place_at}
-use Rattle.nd_lent.specs.Part.{has_mark, IsPart}
-use Rattle.nd_lent.specs.Read.{IsRead}
-use Rattle.nd_lent.proofs.SliceOfPart.{mark_in_bounds}
+use Rattle.nd_access.specs.Part.{has_mark, IsPart}
+use Rattle.nd_access.specs.Read.{IsRead}
+use Rattle.nd_access.proofs.Laws.SliceOfPart.{mark_in_bounds}
 
 marked_in_bounds : (marks : List Bool) (place : ℤ) → has_mark marks place ≡ true → IsInBounds (length marks) place
 marked_in_bounds marks (pos place) h = mark_in_bounds marks place h

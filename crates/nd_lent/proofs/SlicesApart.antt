@@ -17,13 +17,13 @@ use Rattle.ndarray_layout.specs.SlicesSharePlace.{SlicesSharePlace}
 use Rattle.ndarray_layout.specs.View.{View, IsView}
 use Rattle.ndarray_layout.proofs.Laws.SharePlace.{intersect_of_shared_place}
 use Rattle.ndarray_layout.proofs.Laws.SlicedView.{Descends-slice_of}
-use Rattle.nd_lent.specs.Items.{ArrayValue}
+use Rattle.nd_access.specs.Items.{ArrayValue}
 use Rattle.nd_lent.proofs.Laws.Faults.{slices_fit}
-use Rattle.nd_lent.proofs.Laws.Lists.{pairs_head, pairs_tail}
-use Rattle.nd_lent.specs.Cells.{without}
-use Rattle.nd_lent.specs.Part.{AreMarked, IsPart, marks_of}
+use Rattle.nd_access.proofs.Laws.Lists.{pairs_head, pairs_tail}
+use Rattle.nd_access.specs.Cells.{without}
+use Rattle.nd_access.specs.Part.{AreMarked, IsPart, marks_of}
 use Rattle.nd_lent.specs.Slices.{AreApartInPlace, IsFaultOfSlices, IsSharingFault, view_slices_fault}
-use Rattle.nd_lent.proofs.Laws.Marks.{marked_step, part_of_others, part_of_own}
+use Rattle.nd_access.proofs.Laws.Marks.{marked_step, part_of_others}
 
 -- the error of slices is that of the first one with an error
 pub fault_of_first : (count : Option ℕ) (shape : List ℕ) (slices : List (List SliceInfoElem)) {kind : ErrorKind}
@@ -83,12 +83,10 @@ module _ {marks : List Bool} {view picked : View} {left others : List (List Slic
     apart = pairs_tail (λ one other. SlicesSharePlace Strict view one other → ⊥) slice others both.apart;
   }
 
--- the part that has the marks of its own places
-pub own_part : (marks : List Bool) {own : List Bool} {view picked : View} {source : List ℕ → List ℕ} → Descends source view picked
-    → HasDistinctPlaces view → AreMarked marks picked → own ≡ marks_of (length marks) picked → IsPart own picked
-own_part marks {picked = picked} kept distinct marked same =
-    subst (λ m. IsPart m picked) (sym same)
-    (record { is_view = kept.is_view; marked = part_of_own marks picked marked; distinct = kept.distinct distinct })
+-- so it is a part
+pub own_part : {marks : List Bool} {view picked : View} {source : List ℕ → List ℕ} → Descends source view picked → HasDistinctPlaces view
+    → AreMarked marks picked → IsPart marks picked
+own_part kept distinct marked = record { is_view = kept.is_view; marked = marked; distinct = kept.distinct distinct }
 
 -- at first no part is made
 pub parts_begin : {A B X : Type 0} (f : A → X) (g : B → X) {made : List A} (all : List B) → made ≡ []

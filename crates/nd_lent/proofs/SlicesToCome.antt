@@ -18,14 +18,14 @@ use Rattle.ndarray_layout.specs.ShapeFault.{shape_fault}
 use Rattle.ndarray_layout.specs.SliceFault.{argument_fault, out_count}
 use Rattle.ndarray_layout.specs.SlicedView.{slice_of, view_slice_fault}
 use Rattle.ndarray_layout.specs.View.{View}
-use Rattle.nd_lent.specs.Cells.{without}
-use Rattle.nd_lent.specs.Items.{ArrayValue}
-use Rattle.nd_lent.specs.Part.{IsPart, marks_of}
+use Rattle.nd_access.specs.Cells.{without}
+use Rattle.nd_access.specs.Items.{ArrayValue}
+use Rattle.nd_access.specs.Part.{IsPart, marks_of}
 use Rattle.nd_lent.specs.SlicePartsLeft.{next_slice_fault}
 use Rattle.nd_lent.specs.Slices.{AreApartInPlace, slice_array, view_slices_fault}
 use Rattle.nd_lent.specs.private.SlicesLeft.{HasSlices}
 use Rattle.nd_lent.proofs.Laws.Faults.{both_none, view_slices_fit}
-use Rattle.nd_lent.proofs.Laws.Lists.{next}
+use Rattle.nd_access.proofs.Laws.Lists.{next}
 use Rattle.nd_lent.proofs.SlicesApart.{AreLeft, left_at_first, left_by_one, next_marked}
 
 pub to_come : {marks : List Bool} {view : View} {slices : List (List SliceInfoElem)} → IsPart marks view

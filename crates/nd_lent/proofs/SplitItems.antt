@@ -1,10 +1,9 @@
 -- A view over the items from one on: each place is that much lower.
-use Rattle.std.proofs.Common.{◌≡◌, ℕ, ◌+◌, ◌-◌, ◌*◌, ◌<◌, ◌≤◌, ℤ, pos, negsuc, ◌+ℤ◌, ◌≤ℤ◌, ◌<ℤ◌, true, false, None, Some, Option, inl, inr}
+use Rattle.std.proofs.Common.{◌≡◌, ℕ, ◌+◌, ◌-◌, ◌*◌, ◌<◌, ◌≤◌, ℤ, pos, negsuc, ◌+ℤ◌, ◌≤ℤ◌, ◌<ℤ◌, true, false, None}
 use Rattle.std.proofs.Common.{List, []}
 use Rattle.std.proofs.Common.{◌∷◌, length, take, drop, min, refl, sym, ap, subst, ◌∙◌, arith, eq-eqb}
 use Prim.Native.Nat.{zero, suc}
-use Rattle.std.specs.Prelude.{slice_get, ◌⊎◌, IfOk, Result, Ok, Err}
-use Rattle.std.specs.Option.{option_or}
+use Rattle.std.specs.Prelude.{slice_get, IfOk, Result, Ok, Err}
 use Rattle.std.proofs.lemmas.Bool.{le-ltb}
 use Rattle.std.proofs.lemmas.Int.{ints}
 use Rattle.ndarray_layout.specs.declared.CanIndexCheckMode.TheVariants.{ReadOnly}
@@ -23,7 +22,7 @@ use Rattle.ndarray_layout.proofs.Laws.Flipped.{least_offset}
 use Rattle.ndarray_layout.proofs.Laws.IsIndex.{nonempty_from_index}
 use Rattle.ndarray_layout.proofs.Laws.Offset.{offset_bounds}
 use Rattle.ndarray_layout.specs.Descends.{Descends}
-use Rattle.nd_lent.specs.Items.{ArrayValue, IsOwned, item_at_place}
+use Rattle.nd_access.specs.Items.{ArrayValue, IsOwned, item_at_place}
 use Rattle.nd_lent.proofs.Laws.OwnedViews.{owned_descendant}
 use Rattle.nd_lent.specs.SplitItems.{IsMoved, ShowsPartOf, highest, lowest}
 
@@ -80,12 +79,6 @@ distinct_moved {by} {old} {new} moved distinct index other here there same =
 pub if_ok : {X E : Type 0} (result : Result X E) {P Q : X → Type 0} → ((x : X) → P x → Q x) → IfOk result P → IfOk result Q
 if_ok (Ok x) brings known = brings x known
 if_ok (Err e) brings known = tt
-
--- ---- parts with items of their own
-pub unmoved : {old new : View} → new ≡ old → IsMoved 0 old new
-unmoved {old} {new} same =
-    let start : new.start ≡ old.start = ap (λ view. view.start) same in
-    record { shape = ap (λ view. view.shape) same; strides = ap (λ view. view.strides) same; start = omega (arith, start) }
 
 -- some item is at the lowest place
 pub lowest_within : {count : ℕ} {view : View} → IsView view → is_empty view.shape ≡ false → LiesWithin count view → lowest view < count
@@ -181,13 +174,3 @@ module _ {T : Type 0} {by len : ℕ} {source : List ℕ → List ℕ} {whole par
 
   pub upper_shown : part.items ≡ drop by whole.items → ShowsPartOf source whole part
   upper_shown items = shown (λ z w below same. ap (λ xs. item_at_place xs z) items ∙ item_of_upper whole.items by len z w below same)
-
--- what has been split has no fault
-pub no_split_fault : {X : Type 0} (fault others : Option X) → (None ≡ option_or fault others) ⊎ ⊥ → fault ≡ None
-no_split_fault None others none = refl
-no_split_fault {X} (Some x) others some =
-    elim some [
-      | inl same ↦
-          let wrong : None ≡ Some x = same in cc
-      | inr wrong ↦ absurd wrong
-    ]

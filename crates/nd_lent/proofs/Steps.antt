@@ -4,7 +4,9 @@ use Rattle.std.specs.Prelude.{OnOk}
 use Rattle.ndarray_layout.specs.Descends.{Descends}
 use Rattle.ndarray_layout.specs.View.{View}
 use Rattle.nd_lent.specs.ArrayOfStep.{IsArrayOfStep, ShowsItemsOf}
-use Rattle.nd_lent.specs.Items.{ArrayValue, item_at_place}
+use Rattle.nd_access.specs.Items.{ArrayValue, item_at_place}
+pub use Rattle.nd_access.proofs.Laws.Marks.{part_descendant}
+pub use Rattle.nd_access.proofs.Laws.Read.{read_step, read_view}
 
 -- each index of the view shows the item of its source
 pub shown : {T : Type 0} (items : List T) {source : List ℕ → List ℕ} {old new : View} → Descends source old new

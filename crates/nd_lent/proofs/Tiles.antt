@@ -22,11 +22,11 @@ use Rattle.ndarray_layout.proofs.Laws.Indices.{All-indices_in, AllPairs-indices_
 use Rattle.ndarray_layout.proofs.Laws.IsIndex.{length_of_index}
 use Rattle.ndarray_layout.proofs.Laws.SharePlace.{share_place_symmetric}
 use Rattle.nd_lent.specs.Blocks.{AreApart}
-use Rattle.nd_lent.specs.Cells.{without}
-use Rattle.nd_lent.specs.Part.{IsPart, has_mark, marks_of}
+use Rattle.nd_access.specs.Cells.{without}
+use Rattle.nd_access.specs.Part.{IsPart, has_mark, marks_of}
 use Rattle.nd_lent.specs.private.OwnedViews.{OwnsEach}
-use Rattle.nd_lent.proofs.BothEnds.{all_second}
-use Rattle.nd_lent.proofs.Laws.Lists.{all_first, pairs_first, pairs_second}
+use Rattle.nd_access.proofs.Laws.BothEnds.{all_second}
+use Rattle.nd_access.proofs.Laws.Lists.{all_first, pairs_first, pairs_second}
 use Rattle.nd_lent.proofs.Laws.PartsApart.{others_are_parts}
 
 -- ---- lists

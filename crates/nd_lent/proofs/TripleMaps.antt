@@ -7,16 +7,16 @@ use Rattle.std.proofs.lemmas.Simd.{map-map, zip2_of_maps}
 use Rattle.ndarray_layout.specs.declared.Order.TheVariants.{RowMajor}
 use Rattle.ndarray_layout.specs.Indices.{indices_in}
 use Rattle.ndarray_layout.specs.View.{place_at, view_places}
-use Rattle.nd_lent.specs.HasItems.{HasItemsOf}
-use Rattle.nd_lent.specs.Items.{ArrayValue, item_at, item_at_place}
-use Rattle.nd_lent.specs.Mapped.{CallsMake, row_major_items}
-use Rattle.nd_lent.specs.Written.{Maps}
-use Rattle.nd_lent.specs.ZippedTwo.{row_major_triples, triple_at, triples_of, zipped_two_at}
-use Rattle.nd_lent.specs.private.Triples.{view_triples}
-use Rattle.nd_lent.proofs.Laws.IndexItems.{items_in}
-use Rattle.nd_lent.proofs.Laws.MapsTo.{acted}
+use Rattle.nd_access.specs.HasItems.{HasItemsOf}
+use Rattle.nd_access.specs.Items.{ArrayValue, item_at, item_at_place}
+use Rattle.nd_access.specs.Mapped.{CallsMake, row_major_items}
+use Rattle.nd_access.specs.Written.{Maps}
+use Rattle.nd_loops.specs.ZippedTwo.{row_major_triples, triple_at, triples_of, zipped_two_at}
+use Rattle.nd_loops.specs.Triples.{view_triples}
+use Rattle.nd_access.proofs.Laws.IndexItems.{items_in}
+use Rattle.nd_access.proofs.Laws.MapsTo.{acted}
 use Rattle.nd_lent.proofs.PartMaps.{changed}
-use Rattle.nd_lent.proofs.Sets.{has_items}
+use Rattle.nd_access.proofs.Laws.Sets.{has_items}
 
 -- ---- items that are given for each index
 module _ {F X T : Type 0} (call : F → X → T → F → Type 0) (old : ArrayValue T) (new : List T) (at : List ℕ → Option X) where

@@ -2,15 +2,17 @@
 use Rattle.std.specs.Prelude.{◌≡◌, ℕ, pos, List, [], ◌∷◌, map, slice_index, refl}
 use Rattle.std.specs.List.{range_with_len}
 use Rattle.ndarray_layout.specs.IndexedView.{indexed_of}
-use Rattle.nd_lent.specs.Items.{ArrayValue}
+use Rattle.ndarray_layout.specs.View.{View}
+use Rattle.nd_access.specs.Items.{ArrayValue}
+use Rattle.nd_lent.specs.Blocks.{arrays_of}
 
--- the array at a coordinate of an axis, without the axis: the same items
-abbrev pub array_at : {T : Type 0} → ℕ → ArrayValue T → ℕ → ArrayValue T
-array_at axis array index = record { items = array.items; view = indexed_of axis index array.view }
+-- their views, one for each coordinate, from the first on, without the axis
+abbrev pub views_along : ℕ → View → List View
+views_along axis view = map (λ index. indexed_of axis index view) (range_with_len 0 (slice_index view.shape axis))
 
--- one for each coordinate, from the first on
+-- the arrays: the same items
 abbrev pub arrays_along : {T : Type 0} → ℕ → ArrayValue T → List (ArrayValue T)
-arrays_along axis array = map (array_at axis array) (range_with_len 0 (slice_index array.view.shape axis))
+arrays_along axis array = arrays_of array.items (views_along axis array.view)
 
 -- examples
 abbrev two_rows : ArrayValue ℕ

@@ -5,7 +5,7 @@ use Rattle.std.proofs.lemmas.Bool.{both_ways}
 use Rattle.ndarray_layout.specs.Descends.{IsViewOf}
 use Rattle.ndarray_layout.specs.Indices.{is_index}
 use Rattle.ndarray_layout.specs.View.{View}
-use Rattle.nd_lent.specs.Items.{ArrayValue, item_at}
+use Rattle.nd_access.specs.Items.{ArrayValue, item_at}
 
 -- the same items, and each index of the new view has the item of the index of the old one that it stands for, its source
 pub record ShowsItemsOf {T : Type 0} (source : List ℕ → List ℕ) (old new : ArrayValue T) : Type 0 where

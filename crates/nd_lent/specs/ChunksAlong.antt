@@ -7,7 +7,8 @@ use Rattle.ndarray_layout.specs.declared.ErrorKind.{ErrorKind}
 use Rattle.ndarray_layout.specs.declared.ErrorKind.TheVariants.{OutOfBounds, Unsupported}
 use Rattle.ndarray_layout.specs.SplitView.{first_part_of, second_part_of}
 use Rattle.ndarray_layout.specs.View.{View}
-use Rattle.nd_lent.specs.Items.{ArrayValue}
+use Rattle.nd_access.specs.Items.{ArrayValue}
+use Rattle.nd_lent.specs.Blocks.{arrays_of}
 
 -- there is such an axis, and a chunk has a coordinate
 abbrev pub axis_chunks_fault : List ℕ → ℕ → ℕ → Option ErrorKind
@@ -20,17 +21,17 @@ chunk_view axis size number view =
     let start = number * size in
     first_part_of axis (min size (slice_index view.shape axis - start)) (second_part_of axis start view)
 
--- that chunk of an array: the same items
-abbrev pub chunk_at : {T : Type 0} → (axis size : ℕ) → ArrayValue T → (number : ℕ) → ArrayValue T
-chunk_at axis size array number = record { items = array.items; view = chunk_view axis size number array.view }
-
 -- how many chunks there are: the last one may have fewer coordinates
 abbrev pub chunk_count : (shape : List ℕ) (axis size : ℕ) → ℕ
 chunk_count shape axis size = div_ceil (slice_index shape axis) size
 
--- all chunks, from the first on
+-- the views of all chunks, from the first on
+abbrev pub chunk_views_along : (axis size : ℕ) → View → List View
+chunk_views_along axis size view = map (λ number. chunk_view axis size number view) (range_with_len 0 (chunk_count view.shape axis size))
+
+-- the chunks: the same items
 abbrev pub chunks_along : {T : Type 0} → (axis size : ℕ) → ArrayValue T → List (ArrayValue T)
-chunks_along axis size array = map (chunk_at axis size array) (range_with_len 0 (chunk_count array.view.shape axis size))
+chunks_along axis size array = arrays_of array.items (chunk_views_along axis size array.view)
 
 -- examples
 abbrev three_rows : ArrayValue ℕ

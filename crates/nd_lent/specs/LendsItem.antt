@@ -8,7 +8,7 @@ use denote.RattleType.{RattleType}
 use mir.Syntax.{named}
 use Rattle.nd_lent.specs.declared.array_view_mut.ArrayViewMut.{ArrayViewMut}
 use Rattle.nd_lent.specs.contracts.array_view_mut.ArrayViewMut.{the_row}
-use Rattle.nd_lent.specs.Items.{with_item}
+use Rattle.nd_access.specs.Items.{with_item}
 use Rattle.nd_lent.specs.Lent.{array_of}
 
 -- a part with other items

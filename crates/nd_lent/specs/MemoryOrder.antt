@@ -1,7 +1,7 @@
 -- The items of an array as they are stored.
 use Rattle.std.specs.Prelude.{◌≡◌, ℕ, pos, negsuc, List, [], ◌∷◌, take, drop, refl}
 use Rattle.ndarray_layout.specs.Size.{size}
-use Rattle.nd_lent.specs.Items.{ArrayValue}
+use Rattle.nd_access.specs.Items.{ArrayValue}
 use Rattle.nd_lent.specs.SplitItems.{lowest}
 
 -- the items from the lowest place of the view on, as many as it has indices

@@ -6,7 +6,7 @@ use Rattle.ndarray_layout.specs.declared.SliceInfoElem.{SliceInfoElem}
 use Rattle.ndarray_layout.specs.declared.SliceInfoElem.TheVariants as elem
 use Rattle.ndarray_layout.specs.SliceFault.{out_count}
 use Rattle.nd_lent.specs.declared.array_view_mut.slice_parts.SliceParts.{SliceParts}
-use Rattle.nd_lent.specs.Items.{ArrayValue}
+use Rattle.nd_access.specs.Items.{ArrayValue}
 use Rattle.nd_lent.specs.Slices.{slice_array}
 
 -- the slices, the next one first

@@ -13,7 +13,7 @@ use Rattle.ndarray_layout.specs.IntersectingPair.{AreApart, SomeIntersect}
 use Rattle.ndarray_layout.specs.SlicesSharePlace.{SlicesSharePlace}
 use Rattle.ndarray_layout.specs.SlicedView.{slice_of, view_slice_fault}
 use Rattle.ndarray_layout.specs.View.{View}
-use Rattle.nd_lent.specs.Items.{ArrayValue}
+use Rattle.nd_access.specs.Items.{ArrayValue}
 
 -- the error, or none, of slices that fit: Unsupported where two share an index, and none where no two do
 abbrev pub IsSharingFault : List ℕ → List (List SliceInfoElem) → Option ErrorKind → Type 0

@@ -13,7 +13,7 @@ use Rattle.ndarray_layout.specs.Size.{is_empty}
 use Rattle.ndarray_layout.specs.Span.{high_span, low_span}
 use Rattle.ndarray_layout.specs.SplitView.{first_part_of, second_part_of, split_fault}
 use Rattle.ndarray_layout.specs.View.{View}
-use Rattle.nd_lent.specs.Items.{ArrayValue, item_at}
+use Rattle.nd_access.specs.Items.{ArrayValue, item_at}
 
 -- the lowest place of a view with an index
 abbrev pub lowest : View → ℕ

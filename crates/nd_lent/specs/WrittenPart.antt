@@ -3,8 +3,8 @@ use Rattle.std.specs.Prelude.{◌≡◌, ℕ, pos, true, Option, Some, List, [],
 use Rattle.std.proofs.Common.{◌≢◌, ap, eq-eqb}
 use Rattle.std.proofs.lemmas.Bool.{both_ways}
 use Rattle.ndarray_layout.specs.Indices.{is_index}
-use Rattle.nd_lent.specs.HasItems.{KeepsSpare}
-use Rattle.nd_lent.specs.Items.{ArrayValue, item_at}
+use Rattle.nd_access.specs.HasItems.{KeepsSpare}
+use Rattle.nd_access.specs.Items.{ArrayValue, item_at}
 
 -- an index of the array is that of no index of the part
 abbrev pub IsOutside : (List ℕ → List ℕ) → List ℕ → List ℕ → Type 0

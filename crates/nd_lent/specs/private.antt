@@ -1,13 +1,5 @@
 pub mod Chunks
-pub mod Coordinates
-pub mod Folded
-pub mod OwnedRows
 pub mod OwnedViews
-pub mod Pairs
 pub mod Picked
-pub mod Pushed
-pub mod MapsTo
-pub mod Searched
 pub mod SlicesLeft
-pub mod Summed
-pub mod Triples
+pub mod Times

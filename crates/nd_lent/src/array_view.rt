@@ -7,10 +7,11 @@ ghost use Rattle.ndarray_layout.specs.Memory.{NeedsNoMemory};
 ghost use Rattle.ndarray_layout.specs.Size.{size};
 ghost use Rattle.ndarray_layout.specs.Stretch.{IsStretch};
 ghost use Rattle.ndarray_layout.specs.View.{view_places};
-ghost use Rattle.nd_lent.specs.ArrayView.{HasItems};
-ghost use Rattle.nd_lent.specs.Items.{item_at, item_at_place};
-ghost use Rattle.nd_lent.specs.Read.{IsRead};
+ghost use Rattle.nd_access.specs.ArrayView.{HasItems};
+ghost use Rattle.nd_access.specs.Items.{item_at, item_at_place};
+ghost use Rattle.nd_access.specs.Read.{IsRead};
 
+mod arrays;
 mod axis_chunks;
 mod axis_iter;
 mod blocks_iter;
@@ -18,37 +19,23 @@ mod comparing;
 mod copying;
 mod extremes;
 mod folding;
-mod indexed_iter;
-mod into_rows;
-mod iterating;
+mod items;
 mod making;
 mod memory_order;
-mod rest_of_items;
-mod row_items;
 mod rows;
 mod searching;
 mod steps;
-mod summing;
 mod totals;
-mod view_iter;
 
-use crate::cells::Reader;
+pub use arrays::Arrays;
 pub use axis_chunks::AxisChunksIter;
 pub use axis_iter::AxisIter;
 pub use blocks_iter::BlocksIter;
-pub use comparing::EqualTo;
-pub use indexed_iter::IndexedIter;
-pub use into_rows::IntoRows;
-pub use iterating::Iter;
+use nd_access::Reader;
 use ndarray_layout::{Lengths, NdIndex, Order, Strided};
-pub(crate) use rest_of_items::RestOfItems;
-pub use row_items::RowItems;
-pub(crate) use rows::{is_contiguous, place_in_row};
-pub use rows::{LentRow, LentRows};
+pub use rows::IntoArray;
 use std::alloc::{AllocError, Global};
 use std::marker::Model;
-pub use totals::Unsigned;
-pub use view_iter::ViewIter;
 
 /// Items of any type that are kept elsewhere and lent, with a view that has a place among them for each index. Two indices
 /// may have one item, as after a broadcast. Items at no place of the view are spare ones, and no call reads them.
@@ -63,8 +50,8 @@ pub struct ArrayView<'a, T, D: Lengths> {
 
 impl<'a, T, D: Lengths> Model for ArrayView<'a, T, D> {
     ghost use Rattle.std.specs.Prelude.{length};
-    ghost use Rattle.nd_lent.specs.Items.{ArrayValue};
-    ghost use Rattle.nd_lent.specs.Read.{IsRead};
+    ghost use Rattle.nd_access.specs.Items.{ArrayValue};
+    ghost use Rattle.nd_access.specs.Read.{IsRead};
 
     ghost Value = { ArrayValue T };
 

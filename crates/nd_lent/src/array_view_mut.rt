@@ -10,21 +10,22 @@ ghost use Rattle.ndarray_layout.specs.Size.{size};
 ghost use Rattle.ndarray_layout.specs.SplitView.{first_part_of, second_part_of, second_source, split_fault};
 ghost use Rattle.ndarray_layout.specs.Stretch.{IsStretch};
 ghost use Rattle.ndarray_layout.specs.View.{view_places};
-ghost use Rattle.nd_lent.specs.Items.{IsOwned};
-ghost use Rattle.nd_lent.specs.Cells.{without};
-ghost use Rattle.nd_lent.specs.Part.{IsPart, IsPart-prop, marks_of};
+ghost use Rattle.nd_access.specs.Items.{IsOwned};
+ghost use Rattle.nd_access.specs.Cells.{without};
+ghost use Rattle.nd_access.specs.Part.{IsPart, IsPart-prop, marks_of};
 ghost use Rattle.nd_lent.specs.SplitItems.{ShowsPartOf};
 
 mod axes;
 mod axis_chunks;
 mod axis_iter;
-mod indexed_iter_mut;
+mod borrowing;
 mod items;
 mod making;
 mod mapping;
 mod mapping_into;
 mod memory_order;
 mod pairs;
+mod parts;
 mod reading;
 mod rows;
 mod slice_parts;
@@ -34,12 +35,12 @@ mod tiles;
 mod triples;
 mod writing;
 
-use crate::cells::Cells;
 pub use axis_chunks::AxisChunksIterMut;
 pub use axis_iter::AxisIterMut;
-pub use indexed_iter_mut::IndexedIterMut;
-pub use items::IterMut;
+pub use items::RowParts;
+use nd_access::Cells;
 use ndarray_layout::{Axis, LayoutError, Lengths, NdIndex, Order, Strided};
+pub use parts::Parts;
 pub use rows::LanesMut;
 pub use slice_parts::SliceParts;
 use std::alloc::Global;
@@ -58,18 +59,17 @@ pub struct ArrayViewMut<'a, T, D: Lengths> {
 }
 
 impl<'a, T: Drop, D: Lengths> ArrayViewMut<'a, T, D> {
-    ghost use Rattle.nd_lent.specs.Items.{item_at, item_at_place, with_item};
+    ghost use Rattle.nd_access.specs.Items.{item_at, item_at_place, with_item};
     ghost use Rattle.nd_lent.specs.LendsItem.{LendsItemIf};
-    ghost use Rattle.nd_lent.specs.Lent.{array_of};
-    ghost use Rattle.nd_lent.specs.Rights.{right_of};
+    ghost use Rattle.nd_lent.specs.Lent.{access_of, array_of};
+    ghost use Rattle.nd_access.specs.Rights.{right_of};
 
     /// The part of all indices of a view. The caller ensures that each index has a place to itself, which has a mark.
     fn of_cells(cells: Cells<'a, T>, view: Strided<D>) -> Self
         requires { IsPart cells.marks view }
         ensures items { (array_of result).items ≡ cells.entry.items }
         ensures view { (array_of result).view ≡ view }
-        ensures same_right { result.cells.name ≡ cells.entry.name }
-        ensures same_marks { result.cells.marks ≡ cells.entry.marks }
+        ensures keeps_access { access_of result ≡ right_of cells.entry }
     {
         ArrayViewMut { cells, view }
     }
@@ -83,7 +83,7 @@ impl<'a, T: Drop, D: Lengths> ArrayViewMut<'a, T, D> {
         ensures left { cells.new.marks ≡
             without (marks_of (length cells.old.marks) view) cells.old.marks }
     {
-        let taken = cells.take_part(&view);
+        let taken = cells.take_view(&view);
         ArrayViewMut { cells: taken, view }
     }
 
@@ -91,7 +91,7 @@ impl<'a, T: Drop, D: Lengths> ArrayViewMut<'a, T, D> {
     pub fn strided(&self) -> &Strided<D>
         ensures view { result.now ≡ (array_of self.now).view }
         ensures owned { IsOwned (length (array_of self.now).items) (array_of self.now).view }
-        ensures part { IsPart self.now.cells.marks (array_of self.now).view }
+        ensures part { IsPart (access_of self.now).marks (array_of self.now).view }
     {
         // (each mark has an item: for the proof alone)
         let _shared = self.cells.shared();
@@ -161,9 +161,7 @@ impl<'a, T: Drop, D: Lengths> ArrayViewMut<'a, T, D> {
             is_index (array_of self.old).view.shape (I.index_list index.now) }
         ensures written { array_of self.new ≡
             with_item (array_of self.old) (I.index_list index.now) item }
-        ensures same_right { self.new.cells.name ≡ self.old.cells.name }
-        ensures same_marks { self.new.cells.marks ≡ self.old.cells.marks }
-        ensures same_right_of { right_of self.new.cells ≡ right_of self.old.cells }
+        ensures keeps_access { access_of self.new ≡ access_of self.old }
     {
         match self.view.place(index) {
             Some(place) => {
@@ -187,9 +185,7 @@ impl<'a, T: Drop, D: Lengths> ArrayViewMut<'a, T, D> {
         ensures handed_back { IfErr result (λ given. given ≡ item) }
         ensures written { array_of self.new ≡
             with_item (array_of self.old) (I.index_list index.now) item }
-        ensures same_right { self.new.cells.name ≡ self.old.cells.name }
-        ensures same_marks { self.new.cells.marks ≡ self.old.cells.marks }
-        ensures same_right_of { right_of self.new.cells ≡ right_of self.old.cells }
+        ensures keeps_access { access_of self.new ≡ access_of self.old }
     {
         match self.view.place(index) {
             Some(place) => Ok(replace(self.item_mut(place), item)),
@@ -207,7 +203,7 @@ impl<'a, T: Drop, D: Lengths> ArrayViewMut<'a, T, D> {
             map (item_at_place (array_of self.entry).items)
             (view_places RowMajor (array_of self.entry).view)) }
         ensures kept { IfErr result (λ part. array_of part ≡ array_of self.entry) }
-        ensures same_right { IfErr result (λ part. part.cells.name ≡ self.entry.cells.name) }
+        ensures keeps_access { IfErr result (λ part. access_of part ≡ access_of self.entry) }
     {
         let ArrayViewMut { cells, view } = self;
         match view.stretch(Order::RowMajor) {
@@ -252,7 +248,7 @@ impl<'a, T: Drop, D: Lengths> ArrayViewMut<'a, T, D> {
         let ArrayViewMut { cells, view } = self;
         let (first, second) = view.split_at(alloc, axis, index)?;
         let mut cells = cells;
-        let one = cells.take_part(&first);
+        let one = cells.take_view(&first);
         Ok((
             ArrayViewMut {
                 cells: one,

@@ -2,7 +2,7 @@
 ghost use Rattle.std.specs.Prelude.{◌≡◌, Some, IsTrue};
 ghost use Rattle.ndarray_layout.specs.Indices.{is_index};
 ghost use Rattle.nd_lent.specs.Lent.{array_of};
-ghost use Rattle.nd_lent.specs.Items.{item_at};
+ghost use Rattle.nd_access.specs.Items.{item_at};
 
 use crate::array_view::ArrayView;
 use crate::array_view_mut::ArrayViewMut;

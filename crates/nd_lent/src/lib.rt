@@ -1,23 +1,25 @@
 //! Items that are kept elsewhere, lent as an array or in parts, to be read or written by the places of a layout.
 #![tactic(auto)]
 
-pub(crate) mod array_view;
+mod array_view;
 mod array_view_mut;
 mod axis_last;
-mod cells;
 mod indexing;
 mod memory_range;
-pub(crate) mod nearest;
-pub(crate) mod next_index;
+mod rest;
 mod split_views;
+mod views;
+mod whole;
 
-pub use array_view::{
-    ArrayView, AxisChunksIter, AxisIter, BlocksIter, EqualTo, IndexedIter, IntoRows, Iter, LentRow,
-    LentRows, RowItems, Unsigned, ViewIter,
-};
+pub use array_view::{ArrayView, Arrays, AxisChunksIter, AxisIter, BlocksIter, IntoArray};
 pub use array_view_mut::{
-    ArrayViewMut, AxisChunksIterMut, AxisIterMut, IndexedIterMut, IterMut, LanesMut, SliceParts,
-    TilesMut,
+    ArrayViewMut, AxisChunksIterMut, AxisIterMut, LanesMut, Parts, RowParts, SliceParts, TilesMut,
 };
-pub use cells::{Rest, Taken, Whole};
+pub use nd_access::{LentRow, LentRows, RowItems, Taken};
+pub use nd_items::{IndexedIter, IndexedIterMut, IntoRows, Iter, IterMut, ViewIter};
+pub use nd_loops::{EqualTo, Unsigned};
+pub use rest::Rest;
 pub use split_views::SplitViews;
+pub use views::Views;
+pub use views::numbered::Numbered;
+pub use whole::Whole;

@@ -3,10 +3,11 @@ ghost use Rattle.std.specs.Option.{IsSome};
 ghost use Rattle.std.specs.Prelude.{◌≡◌, ◌↔◌, ◌+◌, ◌<◌, ◌≤◌, Bool, IfSome, IsTrue, List, length};
 ghost use Rattle.ndarray_layout.specs.OneInterval.{FillsInterval};
 ghost use Rattle.ndarray_layout.specs.Size.{size};
-ghost use Rattle.nd_lent.specs.Cells.{are_within, span_of};
-ghost use Rattle.nd_lent.specs.Part.{AreMarked};
+ghost use Rattle.nd_access.specs.Cells.{are_within, span_of};
+ghost use Rattle.nd_access.specs.Part.{AreMarked};
 ghost use Rattle.nd_lent.specs.SplitItems.{lowest};
 
+use nd_access::is_contiguous;
 use ndarray_layout::{Dimension, Strided, offset_from_low_addr_ptr_to_logical_ptr};
 
 /// The lowest place of a view, and how many places it has, where no two indices alias and the places are consecutive numbers; else

@@ -6,7 +6,7 @@ ghost use Rattle.ndarray_layout.specs.Size.{is_empty};
 ghost use Rattle.ndarray_layout.specs.Span.{low_span};
 ghost use Rattle.ndarray_layout.specs.SplitView.{first_part_of, second_part_of, split_fault};
 ghost use Rattle.ndarray_layout.specs.View.{IsView, LiesWithin};
-ghost use Rattle.nd_lent.specs.Items.{IsOwned};
+ghost use Rattle.nd_access.specs.Items.{IsOwned};
 ghost use Rattle.nd_lent.specs.SplitItems.{IsMemory, IsMoved, highest, lowest, split_items_fault};
 
 use ndarray_layout::{

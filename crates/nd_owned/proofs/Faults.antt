@@ -2,11 +2,10 @@
 use Rattle.std.proofs.Common.{◌≡◌, ℕ, ◌+◌, ◌-◌, ◌<◌, ◌≤◌, Bool, true, false, ◌&&◌, cond, Option, Some, None}
 use Rattle.std.proofs.Common.{List, [], ◌∷◌, ◌++◌, length, get_or, map, take, drop, refl, sym, ap, subst, ◌∙◌, arith}
 use Rattle.std.specs.List.{All, drop-map, list_all}
-use Rattle.std.specs.Prelude.{MatchOption, slice_get}
-use Rattle.std.specs.Option.{option_or, option_map}
+use Rattle.std.specs.Prelude.{MatchOption}
+use Rattle.std.specs.Option.{option_or}
 use Rattle.std.proofs.lemmas.List.{drop_all, length-map, length-drop, take_all}
 use Rattle.std.proofs.lemmas.List.Elements.{All-append, All-cons}
-use Rattle.std.proofs.lemmas.Option.{slice_get-get_or, slice_get-map}
 use Rattle.ndarray_layout.specs.declared.ErrorKind.{ErrorKind}
 use Rattle.ndarray_layout.specs.declared.ErrorKind.TheVariants.{IncompatibleShape}
 use Rattle.ndarray_layout.specs.declared.Fit.TheVariants.{Strict}
@@ -15,10 +14,6 @@ use Rattle.nd_lent.proofs.Laws.Lists.{IsItem}
 use Rattle.nd_owned.specs.MultiSet.{Write, IsFaultOfWrites, IsIntersectionFault, counts_fault, has_count, slices_fault}
 use Rattle.nd_lent.proofs.Laws.Lists.{next}
 use Rattle.nd_lent.proofs.Laws.Faults.{both_none}
-
-pub this_got : {X Y : Type 0} (f : X → Y) (xs : List X) (i : ℕ) {x : X} → i < length xs → x ≡ get_or xs i x
-    → slice_get (map f xs) i ≡ Some (f x)
-this_got f xs i {x} below is = slice_get-map f xs i ∙ ap (option_map f) (slice_get-get_or xs i x below ∙ ap Some (sym is))
 
 -- what is left after it, where that was cut off before
 pub rest : {X Y : Type 0} (f : X → Y) (xs : List X) (i : ℕ) → map f (take (length xs - (i + 1)) (drop (i + 1) xs)) ≡ drop (i + 1) (map f xs)

@@ -1,9 +1,12 @@
 pub mod EvenRows
 pub mod Faults
 pub mod FewRows
+pub mod IndexRows
+pub mod IndicesByRow
 pub mod Left
 pub mod Moved
 pub mod MovedRows
+pub mod PlaceFound
 pub mod Placed
 pub mod RowPlaces
 pub mod Slices

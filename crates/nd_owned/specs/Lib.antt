@@ -1,3 +1,4 @@
+pub mod ByIndex
 pub mod Moved
 pub mod MultiSet
 pub mod Owned

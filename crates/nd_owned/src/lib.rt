@@ -13,9 +13,10 @@ mod rows;
 
 pub use iterating::Items;
 pub use nd_lent::{
-    ArrayView, ArrayViewMut, AxisChunksIter, AxisChunksIterMut, AxisIter, AxisIterMut, BlocksIter,
-    EqualTo, IndexedIter, IndexedIterMut, IntoRows, Iter, IterMut, LanesMut, LentRow, LentRows,
-    Rest, RowItems, SliceParts, SplitViews, Taken, TilesMut, Unsigned, ViewIter, Whole,
+    ArrayView, ArrayViewMut, Arrays, AxisChunksIter, AxisChunksIterMut, AxisIter, AxisIterMut,
+    BlocksIter, EqualTo, IndexedIter, IndexedIterMut, IntoRows, Iter, IterMut, LanesMut, LentRow,
+    LentRows, Parts, Rest, RowItems, SliceParts, SplitViews, Taken, TilesMut, Unsigned, ViewIter,
+    Whole,
 };
 pub use owned::OwnedArray;
 pub use ready::ReadySlice;

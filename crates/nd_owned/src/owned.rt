@@ -18,6 +18,8 @@ ghost use Rattle.nd_lent.specs.Items.{IsOwned, item_at, item_at_place, with_item
 ghost use Rattle.nd_owned.specs.MultiSet.{HaveNoItems, IsFaultOfWrites, IsWritten, KeepsOthers, counts_fault, write_of, write_places};
 ghost use Rattle.nd_owned.specs.private.Written.{HasWritten};
 
+mod by_index;
+mod indexing;
 mod making;
 mod mapping;
 mod taking;
@@ -223,8 +225,10 @@ impl<T: Copy, D: Lengths> OwnedArray<T, D> {
             IsTrue (is_index self.now.view.shape (I.index_list index.now)) }
         ensures item { result ≡ item_at self.now (I.index_list index.now) }
     {
-        let place = self.view.place(index)?;
-        Some(self.items[place])
+        match self.try_item(index) {
+            Ok(item) => Some(*item),
+            Err(_) => None,
+        }
     }
 
     /// Copies of the items that a slice picks, in row-major order.

@@ -17,7 +17,7 @@ use Rattle.ndarray_layout.specs.PlacesLeft.{ArePlacesLeft, places_after, rows_an
 use Rattle.ndarray_layout.specs.Rows.{row_places, rows_places}
 use Rattle.ndarray_layout.specs.View.{IsPlace}
 use Rattle.ndarray_layout.proofs.ByRows.{row_from}
-use Rattle.ndarray_layout.proofs.KeptRows.{lesser}
+use Rattle.ndarray_layout.proofs.NumberedRows.{lesser}
 use Rattle.ndarray_layout.proofs.LaterPlaces.{EntersRow, drop_rows, length-row, past_row}
 use Rattle.ndarray_layout.proofs.RowSteps.{after, place_bounds, start_bound}
 use Rattle.ndarray_layout.proofs.Laws.Rows.{length-row_places, no_more, row_more}
@@ -48,7 +48,7 @@ module _ {X : Type 0} where
       ap (λ n. take n (xs ++ ys)) all ∙ take-append-le (length xs - (count - length ys)) xs ys (omega arith)
 
 -- ---- a row
-row_take : (k n : ℕ) (first stride : ℤ) → k ≤ n → take k (row_from first stride n) ≡ row_from first stride k
+pub row_take : (k n : ℕ) (first stride : ℤ) → k ≤ n → take k (row_from first stride n) ≡ row_from first stride k
 row_take k n first stride few = take-map-range_with_len (λ i. first +ℤ (pos i *ℤ stride)) 0 n k few
 
 -- ---- rows and a last one

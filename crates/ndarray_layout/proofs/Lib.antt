@@ -12,7 +12,6 @@ pub mod Fastest
 pub mod FromStart
 pub mod JoinedAxis
 pub mod JoinedInAll
-pub mod KeptRows
 pub mod LaterPlaces
 pub mod LongestRow
 pub mod MarkedAxes
@@ -27,6 +26,7 @@ pub mod OneAxis
 pub mod Passed
 pub mod PickedSize
 pub mod ReadView
+pub mod RowsInColumns
 pub mod RowsLeft
 pub mod RowColumns
 pub mod RowSteps
@@ -35,6 +35,7 @@ pub mod Slices
 pub mod SlicesFound
 pub mod SliceSteps
 pub mod SlowestAxes
+pub mod Stretches
 pub mod TakenSteps
 pub mod Laws
 pub mod matching

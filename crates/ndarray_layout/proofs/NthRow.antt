@@ -1,5 +1,5 @@
 -- The row of a view by its number: how far it lies from the first one, axis by axis, and that it is a view.
-use Rattle.std.proofs.Common.{◌≡◌, ◌⊎◌, ℕ, ◌+◌, ◌*◌, ◌-◌, ◌/◌, ◌%◌, ◌<◌, ◌≤◌, pos, ◌+ℤ◌, ◌*ℤ◌, FitsSigned, Bool, true, false, cond}
+use Rattle.std.proofs.Common.{◌≡◌, ◌⊎◌, ℕ, ◌+◌, ◌*◌, ◌-◌, ◌<◌, ◌≤◌, pos, ◌+ℤ◌, ◌*ℤ◌, FitsSigned, Bool, true, false, cond}
 use Rattle.std.proofs.Common.{inl, inr, List, [], ◌∷◌, length, map, nat_eq, Some, None, slice_get, option_map, refl, sym, ap, ◌∙◌}
 use Rattle.std.proofs.Common.{arith, mul-pos}
 use Rattle.std.specs.Int.{w64}
@@ -14,14 +14,14 @@ use Rattle.nd_base.proofs.Laws.FlatIndex.{is_index-index_of_flat_in, slice_get-i
 use Rattle.ndarray_layout.specs.declared.strided.rows.Fastest.{Fastest}
 use Rattle.ndarray_layout.specs.declared.strided.rows.Row.{Row}
 use Rattle.ndarray_layout.specs.Rows.{row_at, slower_view, view_rows}
-use Rattle.ndarray_layout.specs.RowsLeft.{axis_view, moved_to, row_place, with_item}
+use Rattle.ndarray_layout.specs.RowsLeft.{axis_view, moved_to}
 use Rattle.ndarray_layout.specs.View.{View, IsPlace, IsView, place_at, view_of, view_places}
 use Rattle.ndarray_layout.specs.private.Fastest.{EndsIn, HasRows}
 use Rattle.ndarray_layout.proofs.Fastest.{EndsIn-map, IsView-along, IsView-others, len_le_nonzero_size, size-others, some_coordinate}
 use Rattle.ndarray_layout.proofs.Laws.Rows.{no_step}
 use Rattle.ndarray_layout.proofs.Laws.View.{length-view_places, lowest_view}
 use Rattle.ndarray_layout.proofs.RowsLeft.{IsView-slower, ends, row-axis_view, size-axis_view, slower-axis_view, steps}
-use Rattle.ndarray_layout.proofs.NextRow.{IsOnAxis, axis_of_flat, below_factor, flat_within, on_axis}
+use Rattle.ndarray_layout.proofs.NextRow.{IsOnAxis, below_factor, flat_within, on_axis}
 
 -- ---- from a flat index to that of the slower axes
 -- the view of a layout has an index of this flat index
@@ -173,35 +173,3 @@ module _ {order : Order} {start : ℕ} {lens strides : List ℕ} {axis : Fastest
 
       pub row_is_view : IsView (view_of place (axis.len ∷ []) (axis.stride ∷ []))
       row_is_view = IsView-row order start axis number some below begins (has.is_view start v)
-
--- ---- the row of a number, of those from the places of a column and of the axes that move slower
-module _ (order : Order) (start : ℕ) (column : Fastest) (number : ℕ) (v : IsView (axis_view order start column))
-    (below : number < size (axis_view order start column).shape) where
-  has_number : HasFlat start (with_item order column.lens.now column.len) (with_item order column.strides.now column.stride) number
-  has_number = record { view = v; below = below }
-
-  with_column : EndsIn order (with_item order column.lens.now column.len) column.lens.now column.len
-      × EndsIn order (with_item order column.strides.now column.stride) column.strides.now column.stride
-  with_column = (ends order start column, record { is = refl })
-
-  pub column_some : 0 < column.len
-  column_some = some_len has_number column with_column
-
-  pub column_small : column.len ≤ limit
-  column_small = len_small has_number column with_column
-
-  on_column : IsOnAxis column.len (number / column.len) (number % column.len) number
-  on_column = axis_of_flat column.len number column_some
-
-  pub across_below : number / column.len < size column.lens.now
-  across_below = (others_have has_number column with_column on_column).below
-
-  pub along_fits : FitsSigned w64 (pos (number % column.len) *ℤ signed column.stride)
-  along_fits = move_fits has_number column with_column on_column
-
-  pub number_place : row_place order start column number ≡ pos start +ℤ ((pos (number % column.len) *ℤ signed column.stride)
-      +ℤ offset_of (all_signed column.strides.now) (index_of_flat_in order column.lens.now (number / column.len)))
-  number_place = ap (λ z. pos start +ℤ z) (moves has_number column with_column on_column)
-
-  pub number_within : IsPlace (row_place order start column number)
-  number_within = flat_place order has_number

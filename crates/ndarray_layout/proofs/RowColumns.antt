@@ -2,16 +2,14 @@
 use Rattle.std.proofs.Common.{◌≡◌, ℕ, ◌+◌, ◌-◌, ◌*◌, ◌/◌, ◌%◌, ◌<◌, ◌≤◌, ℤ, pos, ◌+ℤ◌, inl, inr, List}
 use Rattle.std.proofs.Common.{get_or, drop, length}
 use Rattle.std.proofs.Common.{sym, ap, subst, ◌∙◌, arith}
-use Rattle.std.proofs.Math.Nat.{mod-le}
 use Rattle.std.proofs.lemmas.Bool.{cases_lt}
 use Rattle.std.proofs.lemmas.Nat.{div-add-mod', mod-mul-add, mod_below}
 use Rattle.nd_base.specs.declared.order.Order.{Order}
 use Rattle.nd_base.proofs.Laws.Definitions.{index_of_flat_in, signed, size}
-use Rattle.ndarray_layout.specs.declared.strided.into_rows.Columns.{Columns}
-use Rattle.ndarray_layout.specs.declared.strided.into_rows.InColumn.{InColumn}
+use Rattle.ndarray_layout.specs.declared.strided.rows_of.Columns.{Columns}
+use Rattle.ndarray_layout.specs.declared.strided.rows_of.InColumn.{InColumn}
 use Rattle.ndarray_layout.specs.declared.strided.rows.Fastest.{Fastest}
-use Rattle.ndarray_layout.specs.NumberedRows.{HasColumns, IsAfter, IsBefore, numbered_place, slowest}
-use Rattle.ndarray_layout.specs.NumberedRows.{slowest_view}
+use Rattle.ndarray_layout.specs.NumberedRows.{HasColumns, IsAfter, IsBefore, numbered_place}
 use Rattle.ndarray_layout.specs.RowsLeft.{axis_view, row_place}
 use Rattle.ndarray_layout.specs.View.{View, IsPlace, IsView, place_at, view_of, view_places}
 use Rattle.ndarray_layout.specs.private.Fastest.{HasPlaces}
@@ -71,12 +69,12 @@ module _ (order : Order) (start : ℕ) (lens strides : List ℕ) (column : Faste
       ∙ row_on order start column (h.is_view start v) on rest (omega (arith, below, as_many))
       ∙ sym (same_place (number + 1) below)
 
-  pub has_columns : {slower : ℕ} {view : View} {stride : ℤ} → slowest_view order slower view ≡ here → stride ≡ signed column.stride
-      → HasColumns order slower view (record { len = column.len; stride = stride })
-  has_columns {slower} {view} {stride} is step =
-      let at : (number : ℕ) → numbered_place order slower view number ≡ place_at here (index_of_flat_in order here.shape number) =
-      λ number. ap (λ w. place_at w (index_of_flat_in order w.shape number)) is in
-      let count = ap (λ w. size w.shape) is in
+  pub has_columns : {view : View} {stride : ℤ} → here ≡ view → stride ≡ signed column.stride
+      → HasColumns order view (record { len = column.len; stride = stride })
+  has_columns {view} {stride} is step =
+      let at : (number : ℕ) → numbered_place order view number ≡ place_at here (index_of_flat_in order here.shape number) =
+      λ number. ap (λ w. place_at w (index_of_flat_in order w.shape number)) (sym is) in
+      let count = ap (λ w. size w.shape) (sym is) in
       record {
         some = λ some. some_in_column (omega (arith, some, count));
         on = λ number below rest.
@@ -88,65 +86,62 @@ module _ (order : Order) (start : ℕ) (lens strides : List ℕ) (column : Faste
 
 -- ---- from one row to another
 -- each begins at a place
-module _ (order : Order) (slower : ℕ) (view : View) where
-  pub numbered_within : IsView (slowest_view order slower view) → (number : ℕ) → number < size (slowest order slower view.shape)
-      → IsPlace (numbered_place order slower view number)
+module _ (order : Order) (view : View) where
+  pub numbered_within : IsView view → (number : ℕ) → number < size view.shape
+      → IsPlace (numbered_place order view number)
   numbered_within v number below = flat_within order v number below
 
-  pub first_numbered : {start number : ℕ} → start ≡ view.start → number ≡ 0 → number < size (slowest order slower view.shape)
-      → pos start ≡ numbered_place order slower view number
+  pub first_numbered : {start number : ℕ} → start ≡ view.start → number ≡ 0 → number < size view.shape
+      → pos start ≡ numbered_place order view number
   first_numbered {start} {number} is none below =
       ap pos is
-      ∙ sym (first_place order (slowest_view order slower view) (omega (arith, below)))
-      ∙ ap (numbered_place order slower view) (sym none)
+      ∙ sym (first_place order view (omega (arith, below)))
+      ∙ ap (numbered_place order view) (sym none)
 
-pub first_remainder : (number len : ℕ) → number ≡ 0 → number % len ≡ 0
-first_remainder number len none = omega (arith, none, mod-le number len)
-
-module _ {order : Order} {slower : ℕ} {view : View} {columns : Columns} where
+module _ {order : Order} {view : View} {columns : Columns} where
   -- a row comes before those of its column that are left
-  pub is_before : (number : ℕ) {last : InColumn} → pos last.place ≡ numbered_place order slower view number
-      → number % columns.len + last.left < columns.len → IsBefore order slower view columns (number + 1) last
+  pub is_before : (number : ℕ) {last : InColumn} → pos last.place ≡ numbered_place order view number
+      → number % columns.len + last.left ≤ columns.len → IsBefore order view columns (number + 1) last
   is_before number at within =
       let same : number ≡ number + 1 - 1 = omega arith in
       record {
         some = λ _. omega arith;
-        place = λ _. at ∙ ap (numbered_place order slower view) same;
+        place = λ _. at ∙ ap (numbered_place order view) same;
         within = λ _. omega (arith, within, ap (λ n. n % columns.len) same);
       }
 
   -- the next one of the column
-  module _ (h : HasColumns order slower view columns) {number : ℕ} {last : InColumn} (some : 0 < last.left)
-      (below : number < size (slowest order slower view.shape)) where
-    module _ (b : IsBefore order slower view columns number last) where
+  module _ (h : HasColumns order view columns) {number : ℕ} {last : InColumn} (some : 1 < last.left)
+      (below : number < size view.shape) where
+    module _ (b : IsBefore order view columns number last) where
       same : number ≡ number - 1 + 1
       same = omega (arith, b.some some)
 
       rest : (number - 1 + 1) % columns.len ≡ (number - 1) % columns.len + 1
       rest = next_remainder (number - 1) columns.len (omega (arith, some, b.within some))
 
-      pub next_of_column : pos last.place +ℤ columns.stride ≡ numbered_place order slower view number
+      pub next_of_column : pos last.place +ℤ columns.stride ≡ numbered_place order view number
       next_of_column =
           ap (λ place. place +ℤ columns.stride) (b.place some)
           ∙ h.on (number - 1) (omega (arith, same, below)) (omega (arith, rest))
-          ∙ ap (numbered_place order slower view) (sym same)
+          ∙ ap (numbered_place order view) (sym same)
 
-      pub left_of_column : number % columns.len + (last.left - 1) < columns.len
+      pub left_of_column : number % columns.len + (last.left - 1) ≤ columns.len
       left_of_column = omega (arith, some, b.within some, rest, ap (λ n. n % columns.len) same)
 
-      pub last_fits : IsView (slowest_view order slower view) → IsPlace (pos last.place)
-      last_fits v = subst IsPlace (sym (b.place some)) (numbered_within order slower view v (number - 1) (omega (arith, same, below)))
+      pub last_fits : IsView view → IsPlace (pos last.place)
+      last_fits v = subst IsPlace (sym (b.place some)) (numbered_within order view v (number - 1) (omega (arith, same, below)))
 
     -- the one before it
-    module _ (b : IsAfter order slower view columns (number + 1) last) where
+    module _ (b : IsAfter order view columns (number + 1) last) where
       rest_after : number % columns.len + 1 ≡ (number + 1) % columns.len
       rest_after = remainder_before number columns.len (h.some (omega (arith, below))) (omega (arith, some, b.within some))
 
-      pub previous_of_column : numbered_place order slower view number +ℤ columns.stride ≡ pos last.place
+      pub previous_of_column : numbered_place order view number +ℤ columns.stride ≡ pos last.place
       previous_of_column = h.on number (b.below some) (omega (arith, some, b.within some)) ∙ sym (b.place some)
 
-      pub left_before : last.left - 1 ≤ number % columns.len
+      pub left_before : last.left - 1 ≤ number % columns.len + 1
       left_before = omega (arith, rest_after, b.within some)
 
-      pub last_after_fits : IsView (slowest_view order slower view) → IsPlace (pos last.place)
-      last_after_fits v = subst IsPlace (sym (b.place some)) (numbered_within order slower view v (number + 1) (b.below some))
+      pub last_after_fits : IsView view → IsPlace (pos last.place)
+      last_after_fits v = subst IsPlace (sym (b.place some)) (numbered_within order view v (number + 1) (b.below some))

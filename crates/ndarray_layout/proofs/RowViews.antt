@@ -21,7 +21,7 @@ one_axis len some few = by (nat_eq len 0) refl
     by false e = omega (arith, few)
 
 -- where the first place and the last one are, from 0 to the limit, all are
-between : (start : ℕ) (stride : ℤ) (len : ℕ) → 0 < len → len ≤ limit → start ≤ limit
+pub between : (start : ℕ) (stride : ℤ) (len : ℕ) → 0 < len → len ≤ limit → start ≤ limit
     → IsPlace (pos start +ℤ (pos (len - 1) *ℤ stride))
     → IsView (record { start = start; shape = len ∷ []; strides = stride ∷ [] })
 between start (pos s) len some few begins last = record {

@@ -15,8 +15,8 @@ use Rattle.ndarray_layout.specs.declared.strided.rows.Fastest.{Fastest}
 use Rattle.ndarray_layout.specs.declared.strided.rows.Row.{Row}
 use Rattle.ndarray_layout.specs.Rows.{row_at, slower_view, view_rows}
 use Rattle.ndarray_layout.specs.View.{IsView, view_of, view_places}
-use Rattle.ndarray_layout.specs.RowsLeft.{AreRowsLeft, axis_view, count_given, count_left, moved_to, rows_left, with_item}
-use Rattle.ndarray_layout.specs.private.Fastest.{EndsIn, HasPlaces, HasRows}
+use Rattle.ndarray_layout.specs.RowsLeft.{axis_view, moved_to, with_item}
+use Rattle.ndarray_layout.specs.private.Fastest.{EndsIn, HasRows}
 use Rattle.ndarray_layout.proofs.ByRows.{rows_from}
 use Rattle.ndarray_layout.proofs.Fastest.{EndsIn-map, IsView-others, fastest_item-ends}
 use Rattle.ndarray_layout.proofs.Fastest.{size-others, slower_items-ends}
@@ -119,91 +119,52 @@ other_factor : (a b : ℕ) → (a ≡ 0 → ⊥) → a * b ≡ 0 → b ≡ 0
 other_factor zero b some none = absurd (some refl)
 other_factor (suc a) b some none = omega arith
 
--- what is left before the first row: all of them, or none where they have no place
-pub record IsFirst (order : Order) (start : ℕ) (axis column : Fastest) (row : Row) (rows : ℕ) : Type 0 where
-  pub view : IsView (axis_view order start axis)
-  pub column_places : HasPlaces order axis.lens.now axis.strides.now column
-  pub begins : row.start ≡ start
-  pub steps : row.stride ≡ signed axis.stride
-  pub long : row.len ≡ axis.len
-  pub count : rows ≡ cond (nat_eq axis.len 0) 0 (column.len * size column.lens.now)
+pub few_or_none : (none : Bool) (size rows : ℕ) → rows ≡ cond none 0 size → rows ≤ size
+few_or_none true size rows e = omega (arith, e)
+few_or_none false size rows e = omega (arith, e)
 
-module _ {order : Order} {start : ℕ} {axis column : Fastest} {row : Row} {rows : ℕ}
-    (f : IsFirst order start axis column row rows) where
-  known : IsView (axis_view order start column)
-      × (view_places order (axis_view order start column) ≡ view_places order (view_of start axis.lens.now axis.strides.now))
-  known =
-      let inner = IsView-slower order start axis f.view in
-      (f.column_places.is_view start inner, f.column_places.places start inner)
+-- as many as the slower axes have indices, or none where they have no place
+module _ (order : Order) (start : ℕ) (axis : Fastest) (v : IsView (axis_view order start axis)) {rows : ℕ}
+    (count : rows ≡ cond (nat_eq axis.len 0) 0 (size axis.lens.now)) where
+  abbrev starts : List ℤ
+  starts = view_places order (view_of start axis.lens.now axis.strides.now)
 
-  count_of_starts : size (axis_view order start column).shape ≡ size axis.lens.now
-  count_of_starts =
-      sym (length-view_places order (axis_view order start column))
-      ∙ ap length known.1
-      ∙ length-view_places order (view_of start axis.lens.now axis.strides.now)
+  pub few_rows : rows ≤ size axis.lens.now
+  few_rows = few_or_none (nat_eq axis.len 0) (size axis.lens.now) rows count
 
-  -- as many as the slower axes have indices, or none where there is no row
-  left_first : rows ≡ cond (nat_eq axis.len 0) 0 (size axis.lens.now)
-  left_first = f.count ∙ ap (cond (nat_eq axis.len 0) 0) (sym (size-axis_view order start column) ∙ count_of_starts)
+  pub rows_fit : rows * axis.len ≤ limit
+  rows_fit = omega (
+    arith,
+    mul-le-mul_right axis.len few_rows,
+    size-axis_view order start axis,
+    size_le_nonzero_size (axis_view order start axis).shape,
+    v.valid.size_fits,
+  )
 
-  few : (none : Bool) → rows ≡ cond none 0 (size axis.lens.now) → rows ≤ size axis.lens.now
-  few true e = omega arith
-  few false e = omega arith
-
-  whole_count : (rows : ℕ) → count_left rows 0 0 ≡ rows
-  whole_count rows = omega arith
-
-  -- which is what the iterator keeps
-  pub all_left : AreRowsLeft order start column row 0 0 0 rows
-  all_left =
-      let within = few (nat_eq axis.len 0) left_first in
-      record {
-        is_view = known.0;
-        here = omega (arith, f.begins, f.view.high);
-        fits = omega (
-          arith,
-          mul-le-mul_right row.len within,
-          ap (λ n. n * row.len) (whole_count rows),
-          ap (λ n. n * size axis.lens.now) f.long,
-          size-axis_view order start axis,
-          size_le_nonzero_size (axis_view order start axis).shape,
-          f.view.valid.size_fits,
-        );
-        number = omega arith;
-        within = omega (arith, within, count_of_starts);
-        given = omega arith;
-        whole = λ more. omega arith;
-        front = λ more. absurd (omega arith);
-        last = λ some begun. absurd (omega arith);
-      }
-
-  -- and they are the rows of the view
+  -- they are the rows of the view
   left_of : (none empty : Bool) → nat_eq axis.len 0 ≡ none → nat_eq (size (axis_view order start axis).shape) 0 ≡ empty
-      → rows ≡ cond none 0 (size axis.lens.now) → (starts : List ℤ) → length starts ≡ size axis.lens.now
-      → take rows starts ≡ cond empty [] starts
-  left_of true true e g count starts all = ap (λ n. take n starts) count
-  left_of false true e g count starts all =
+      → rows ≡ cond none 0 (size axis.lens.now) → length starts ≡ size axis.lens.now → take rows starts ≡ cond empty [] starts
+  left_of true true e g count all = ap (λ n. take n starts) count
+  left_of false true e g count all =
       let no_size = sym (size-axis_view order start axis) ∙ eqb-true (size (axis_view order start axis).shape) 0 g in
       let no_rows : rows ≡ 0 = omega (arith, count, other_factor axis.len (size axis.lens.now) (eqb-false axis.len 0 e) no_size) in
       ap (λ n. take n starts) no_rows
-  left_of true false e g count starts all =
+  left_of true false e g count all =
       absurd (eqb-false (size (axis_view order start axis).shape) 0 g
       (size-axis_view order start axis ∙ ap (λ n. n * size axis.lens.now) (eqb-true axis.len 0 e) ∙ omega arith))
-  left_of false false e g count starts all = ap (λ n. take n starts) (count ∙ sym all) ∙ take-length starts
+  left_of false false e g count all = ap (λ n. take n starts) (count ∙ sym all) ∙ take-length starts
 
   none_or_map : {A B : Type 0} (g : A → B) (empty : Bool) (xs : List A) → map g (cond empty [] xs) ≡ cond empty [] (map g xs)
   none_or_map g true xs = refl
   none_or_map g false xs = refl
 
-  pub first_rows : rows_left order start column row (count_given 0 0) (count_left rows 0 0) ≡ view_rows order (axis_view order start axis)
-  first_rows =
+  pub first_rows : (row : Row) → row.stride ≡ signed axis.stride → row.len ≡ axis.len
+      → map (moved_to row) (take rows starts) ≡ view_rows order (axis_view order start axis)
+  first_rows row steps long =
       let view = axis_view order start axis in
-      let inner = view_of start axis.lens.now axis.strides.now in
-      let starts = view_places order inner in
       let empty = nat_eq (size view.shape) 0 in
-      ap (rows_left order start column row 0) (whole_count rows)
-      ∙ ap (λ xs. map (moved_to row) (take rows xs)) known.1
-      ∙ ap (map (moved_to row)) (left_of (nat_eq axis.len 0) empty refl refl left_first starts (length-view_places order inner))
-      ∙ map_all (moved_to row) (row_at order view) (row-axis_view order start axis row f.steps f.long) (cond empty [] starts)
+      ap (map (moved_to row)) (left_of (nat_eq axis.len 0) empty refl refl count
+      (length-view_places order (view_of start axis.lens.now axis.strides.now)))
+      ∙ map_all (moved_to row) (row_at order view) (row-axis_view order start axis row steps long) (cond empty [] starts)
       ∙ none_or_map (row_at order view) empty starts
       ∙ ap (λ v. cond empty [] (map (row_at order view) (view_places order v))) (sym (slower-axis_view order start axis))

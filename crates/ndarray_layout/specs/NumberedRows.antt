@@ -1,17 +1,16 @@
--- The rows along an axis by their numbers, from the places of the axes that move slower.
+-- The rows along an axis by their numbers, from the places of a view: that of the axes that move slower.
 use Rattle.std.specs.Prelude.{◌≡◌, ℕ, ◌+◌, ◌-◌, ◌*◌, ◌%◌, ◌<◌, ◌≤◌, ℤ, ◌+ℤ◌, pos, negsuc, List, [], ◌∷◌, drop, length, map, take, refl}
 use Rattle.std.specs.Ordering.{int_eq}
 use Rattle.std.proofs.Math.Arith.{le→nltb}
 use Rattle.std.proofs.Math.Dec.{lit≤}
-use Rattle.std.proofs.Math.Nat.{lt_irrefl}
 use Rattle.std.proofs.lemmas.Bool.{both_ways}
 use Rattle.std.proofs.lemmas.Bool.Decides.{Decides-int_eq}
 use Rattle.nd_base.specs.declared.order.Order.{Order}
 use Rattle.nd_base.specs.declared.order.Order.TheVariants.{RowMajor, ColumnMajor}
 use Rattle.nd_base.specs.FlatIndex.{index_of_flat_in}
 use Rattle.nd_base.specs.Size.{size, limit}
-use Rattle.ndarray_layout.specs.declared.strided.into_rows.Columns.{Columns}
-use Rattle.ndarray_layout.specs.declared.strided.into_rows.InColumn.{InColumn}
+use Rattle.ndarray_layout.specs.declared.strided.rows_of.Columns.{Columns}
+use Rattle.ndarray_layout.specs.declared.strided.rows_of.InColumn.{InColumn}
 use Rattle.ndarray_layout.specs.declared.strided.rows.Row.{Row}
 use Rattle.ndarray_layout.specs.RowsLeft.{moved_to}
 use Rattle.ndarray_layout.specs.View.{View, IsView, place_at, view_places}
@@ -29,49 +28,54 @@ slowest_view order count view = record {
   strides = slowest order count view.strides;
 }
 
--- of the rows like this one from each of their places those from a number on, before another
-abbrev pub rows_between : Order → ℕ → View → Row → ℕ → ℕ → List Row
-rows_between order slower view row begun end =
-    map (moved_to row) (take (end - begun) (drop begun (view_places order (slowest_view order slower view))))
+-- of the rows like this one from each place of a view those from a number on, before another
+abbrev pub rows_between : Order → View → Row → ℕ → ℕ → List Row
+rows_between order starts row begun end = map (moved_to row) (take (end - begun) (drop begun (view_places order starts)))
 
 -- an iterator has these rows left
-pub record AreRowsBetween (order : Order) (slower : ℕ) (view : View) (len begun end : ℕ) : Type 0 where
-  pub is_view : IsView (slowest_view order slower view)
-  pub axes : (slower ≤ length view.shape) × (slower ≤ length view.strides)
+pub record AreRowsBetween (order : Order) (starts : View) (len begun end : ℕ) : Type 0 where
+  pub is_view : IsView starts
   pub number : begun ≤ end
-  pub within : end ≤ size (slowest order slower view.shape)
+  pub within : end ≤ size starts.shape
   pub fits : (end - begun) * len ≤ limit
 
--- the place of these axes where the row of a number begins
-abbrev pub numbered_place : Order → ℕ → View → ℕ → ℤ
-numbered_place order slower view number =
-    place_at (slowest_view order slower view) (index_of_flat_in order (slowest order slower view.shape) number)
+-- the place where the row of a number begins
+abbrev pub numbered_place : Order → View → ℕ → ℤ
+numbered_place order starts number = place_at starts (index_of_flat_in order starts.shape number)
 
 -- each row begins a stride after the one before it, but for the first one of each column
-pub record HasColumns (order : Order) (slower : ℕ) (view : View) (columns : Columns) : Type 0 where
-  pub some : 0 < size (slowest order slower view.shape) → 0 < columns.len
-  pub on : (number : ℕ) → number + 1 < size (slowest order slower view.shape) → 0 < (number + 1) % columns.len
-      → numbered_place order slower view number +ℤ columns.stride ≡ numbered_place order slower view (number + 1)
+pub record HasColumns (order : Order) (starts : View) (columns : Columns) : Type 0 where
+  pub some : 0 < size starts.shape → 0 < columns.len
+  pub on : (number : ℕ) → number + 1 < size starts.shape → 0 < (number + 1) % columns.len
+      → numbered_place order starts number +ℤ columns.stride ≡ numbered_place order starts (number + 1)
 
--- if rows of the column are left, the last one is the row before this number, and they come after it
-pub record IsBefore (order : Order) (slower : ℕ) (view : View) (columns : Columns) (number : ℕ) (last : InColumn) : Type 0 where
-  pub some : 0 < last.left → 0 < number
-  pub place : 0 < last.left → pos last.place ≡ numbered_place order slower view (number - 1)
-  pub within : 0 < last.left → (number - 1) % columns.len + last.left < columns.len
+-- if more rows of the column are left, the last one is the row before this number, and they come after it
+pub record IsBefore (order : Order) (starts : View) (columns : Columns) (number : ℕ) (last : InColumn) : Type 0 where
+  pub some : 1 < last.left → 0 < number
+  pub place : 1 < last.left → pos last.place ≡ numbered_place order starts (number - 1)
+  pub within : 1 < last.left → (number - 1) % columns.len + last.left ≤ columns.len
 
--- if rows of the column are left, the last one is the row of this number, and they come before it
-pub record IsAfter (order : Order) (slower : ℕ) (view : View) (columns : Columns) (number : ℕ) (last : InColumn) : Type 0 where
-  pub below : 0 < last.left → number < size (slowest order slower view.shape)
-  pub place : 0 < last.left → pos last.place ≡ numbered_place order slower view number
-  pub within : 0 < last.left → last.left ≤ number % columns.len
+-- if more rows of the column are left, the last one is the row of this number, and they come before it
+pub record IsAfter (order : Order) (starts : View) (columns : Columns) (number : ℕ) (last : InColumn) : Type 0 where
+  pub below : 1 < last.left → number < size starts.shape
+  pub place : 1 < last.left → pos last.place ≡ numbered_place order starts number
+  pub within : 1 < last.left → last.left ≤ number % columns.len + 1
+
+-- how many rows were given before those that are left of the columns that have begun, which the last one counts too
+abbrev pub count_given : ℕ → ℕ → ℕ
+count_given begun left = begun + 1 - left
 
 -- an iterator has these rows left, and knows where in their columns those lie that came last
-pub record AreRowsInColumns (order : Order) (slower : ℕ) (view : View) (len : ℕ) (columns : Columns) (front back : InColumn)
+pub record AreRowsInColumns (order : Order) (starts : View) (len : ℕ) (columns : Columns) (front back : InColumn)
     (begun end : ℕ) : Type 0 where
-  pub between : AreRowsBetween order slower view len begun end
-  pub steps : HasColumns order slower view columns
-  pub before : IsBefore order slower view columns begun front
-  pub after : IsAfter order slower view columns end back
+  pub between : AreRowsBetween order starts len (count_given begun front.left) end
+  pub steps : HasColumns order starts columns
+  pub some : (0 < front.left) × (0 < back.left)
+  pub few : front.left ≤ begun + 1
+  pub reached : begun ≤ end
+  pub whole : begun < end → begun % columns.len ≡ 0
+  pub before : IsBefore order starts columns (count_given begun front.left) front
+  pub after : IsAfter order starts columns end back
 
 -- examples
 slowest_by_rows : slowest {A = ℕ} RowMajor 2 (2 ∷ 3 ∷ 4 ∷ []) ≡ 2 ∷ 3 ∷ []
@@ -83,21 +87,24 @@ slowest_by_columns = refl
 abbrev three_by_two : View
 three_by_two = record { start = 4; shape = 3 ∷ 2 ∷ []; strides = negsuc 1 ∷ pos 1 ∷ [] }
 
-last_two : rows_between RowMajor 1 three_by_two (record { start = 0; stride = pos 1; len = 2 }) 1 3
+last_two : rows_between RowMajor (slowest_view RowMajor 1 three_by_two) (record { start = 0; stride = pos 1; len = 2 }) 1 3
     ≡ record { start = 2; stride = pos 1; len = 2 } ∷ record { start = 0; stride = pos 1; len = 2 } ∷ []
 last_two = refl
 
-before_the_first : (view : View) → AreRowsBetween RowMajor 1 view 2 1 0 → ⊥
-before_the_first view left = le→nltb 0 1 left.number
+before_the_first : (starts : View) → AreRowsBetween RowMajor starts 2 1 0 → ⊥
+before_the_first starts left = le→nltb 0 1 left.number
 
-begins_last : numbered_place RowMajor 1 three_by_two 2 ≡ pos 0
+begins_last : numbered_place RowMajor (slowest_view RowMajor 1 three_by_two) 2 ≡ pos 0
 begins_last = refl
 
-other_stride : HasColumns RowMajor 1 three_by_two (record { len = 3; stride = pos 2 }) → ⊥
+other_stride : HasColumns RowMajor (slowest_view RowMajor 1 three_by_two) (record { len = 3; stride = pos 2 }) → ⊥
 other_stride has = both_ways (int_eq (pos 6) (pos 2)) refl ((Decides-int_eq (pos 6) (pos 2)).1 (has.on 0 (lit≤ tt) (lit≤ tt)))
 
-past_the_column : (view : View) → IsBefore RowMajor 1 view (record { len = 3; stride = pos 2 }) 3 (record { place = 4; left = 1 }) → ⊥
-past_the_column view before = lt_irrefl 3 (before.within (lit≤ tt))
+past_the_column : (starts : View) → IsBefore RowMajor starts (record { len = 3; stride = pos 2 }) 3 (record { place = 4; left = 2 }) → ⊥
+past_the_column starts before = le→nltb 3 4 (before.within (lit≤ tt))
 
-of_the_column_before : (view : View) → IsAfter RowMajor 1 view (record { len = 3; stride = pos 2 }) 3 (record { place = 4; left = 1 }) → ⊥
-of_the_column_before view after = le→nltb 0 1 (after.within (lit≤ tt))
+of_the_column_before : (starts : View) → IsAfter RowMajor starts (record { len = 3; stride = pos 2 }) 3 (record { place = 4; left = 2 }) → ⊥
+of_the_column_before starts after = le→nltb 1 2 (after.within (lit≤ tt))
+
+one_of_two : count_given 2 2 ≡ 1
+one_of_two = refl

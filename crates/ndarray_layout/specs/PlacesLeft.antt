@@ -1,6 +1,8 @@
 -- The places that an iterator has still to give.
 use Rattle.std.specs.Prelude.{◌≡◌, ℕ, ◌+◌, ◌<◌, ◌≤◌, ◌^◌, ◌==◌, ℤ, pos, negsuc, List, [], ◌∷◌, ◌++◌, if◌then◌else◌}
-use Rattle.std.specs.Prelude.{drop, length, refl}
+use Rattle.std.specs.Prelude.{◌-◌, Option, Some, None, drop, length, refl}
+use Rattle.std.proofs.Math.Arith.{le→nltb}
+use Rattle.std.proofs.Math.Dec.{lit≤}
 use Rattle.std.proofs.lemmas.Bool.{ltb-true}
 use Rattle.std.specs.List.{All}
 use Rattle.nd_base.specs.Bounds.{IsInBounds}
@@ -23,6 +25,25 @@ pub record ArePlacesLeft (place : ℕ) (stride : ℤ) (left : ℕ) (rows : List 
   pub some : All (λ row. 0 < row.len) rows
   pub fits : length (places_after place stride left rows) ≤ limit
 
+-- the places from one on, before another
+abbrev pub stretch_places : ℕ → ℕ → List ℤ
+stretch_places start end = row_places start (pos 1) (end - start)
+
+-- an iterator has these places left: each is an `isize` from 0 on, as is how many they are
+pub record IsStretchLeft (start end : ℕ) : Type 0 where
+  pub ordered : start ≤ end
+  pub fits : end ≤ 2 ^ 63
+  pub few : end - start ≤ limit
+
+-- the places of a stretch where there is one, else others
+abbrev pub places_left : Option (List ℤ) → List ℤ → List ℤ
+places_left (Some stretch) others = stretch
+places_left None others = others
+
+-- how many places are left is an `isize`
+pub record AreFewLeft (places : List ℤ) : Type 0 where
+  pub fits : length places ≤ limit
+
 -- examples
 rest_of_a_row : places_after 3 (pos 1) 1 (record { start = 0; stride = pos 1; len = 2 } ∷ []) ≡ pos 4 ∷ pos 0 ∷ pos 1 ∷ []
 rest_of_a_row = refl
@@ -40,3 +61,15 @@ at_the_end = refl
 
 row_below_0 : ArePlacesLeft 0 (negsuc 0) 1 [] → ⊥
 row_below_0 left = left.in_bounds 0 (pos 0) (ltb-true 0 1 refl)
+
+two_of_a_stretch : stretch_places 3 5 ≡ pos 3 ∷ pos 4 ∷ []
+two_of_a_stretch = refl
+
+none_of_others : places_left (Some []) (pos 9 ∷ []) ≡ []
+none_of_others = refl
+
+backwards : IsStretchLeft 1 0 → ⊥
+backwards left = le→nltb 0 1 left.ordered
+
+none_is_few : AreFewLeft []
+none_is_few = record { fits = lit≤ tt }

@@ -6,6 +6,7 @@ mod broadcasting;
 mod chunks;
 mod collapsing;
 mod constructors;
+mod counted_places;
 mod cropping;
 mod diagonal;
 mod folding;
@@ -28,9 +29,12 @@ mod places_of_rows;
 mod readers;
 mod reshaping;
 mod rows;
+mod rows_of;
 mod slicing;
+mod slower_axes;
 mod splitting;
 mod stretch;
+mod stretch_left;
 mod typing;
 mod windows;
 
@@ -42,6 +46,7 @@ pub use joined_layouts::joined_in_all;
 use nd_base::Lengths;
 pub use places_of_rows::PlacesOf;
 pub use rows::{Row, Rows};
+pub use rows_of::RowsOf;
 use std::marker::Model;
 
 /// A view of data: a shape, a stride for each axis, and the place of the first index. The place of

@@ -3,17 +3,13 @@
 
 use crate::ArrayView;
 use crate::convenience::{OUT_OF_MEMORY, printed};
-use crate::nd_base::{Axis, ErrorKind, LayoutError, Lengths, from_kind};
+use crate::lent::nd_items::take_index;
+use crate::nd_base::{Axis, ErrorKind, LayoutError, from_kind};
 use crate::nd_dim::Dimension;
-use crate::nd_lent::next_index::take_index;
-use crate::nd_lent::{
-    ArrayViewMut, AxisChunksIter, AxisChunksIterMut, AxisIter, AxisIterMut, BlocksIter, IndexedIter, IndexedIterMut,
-    TilesMut,
-};
-use crate::ndarray_layout::RemoveAxis;
+use crate::nd_lent::{ArrayViewMut, Arrays, IndexedIter, IndexedIterMut, Parts, Views};
 use core::iter::FusedIterator;
 
-/// Iterators whose `try_next` is proved, each with the bound of its dimension, its item, and the macro of what its `Iterator` has besides.
+/// Iterators whose `try_next` is proved, each with the bound of its dimension or views, its item, and the macro of what its `Iterator` has besides.
 macro_rules! iterates_forwards {
     ($($name:ident $bound:ident $item:ty $(, $skip:ident)?;)*) => {$(
         /// Panics where an allocation fails, never for at most 4 axes. Not proved.
@@ -39,7 +35,7 @@ macro_rules! iterates_forwards {
         /// Not proved.
         impl<T, D: $bound> FusedIterator for $name<'_, T, D> {}
 
-        printed! { [T, D: Lengths] $name<'_, T, D>; }
+        printed! { [T, D: $bound] $name<'_, T, D>; }
     )*};
 }
 
@@ -61,12 +57,8 @@ macro_rules! iterates {
 }
 
 iterates! {
-    AxisIter RemoveAxis ArrayView<'a, T, D::Smaller>;
-    AxisIterMut RemoveAxis ArrayViewMut<'a, T, D::Smaller>;
-    AxisChunksIter Lengths ArrayView<'a, T, D>;
-    AxisChunksIterMut Lengths ArrayViewMut<'a, T, D>;
-    BlocksIter Lengths ArrayView<'a, T, D>;
-    TilesMut Lengths ArrayViewMut<'a, T, D>;
+    Arrays Views ArrayView<'a, T, D::Dim>;
+    Parts Views ArrayViewMut<'a, T, D::Dim>;
 }
 
 iterates_forwards! {

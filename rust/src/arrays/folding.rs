@@ -18,7 +18,7 @@ macro_rules! fold_lent {
 
         #[inline(always)]
         fn fold<B, F: FnMut(B, &'a T) -> B>(self, init: B, f: F) -> B {
-            crate::nd_lent::array_view::folding::fold_rest(self, init, f)
+            crate::lent::nd_loops::fold_rest(self, init, f)
         }
     };
 }
@@ -31,7 +31,7 @@ macro_rules! rfold_lent {
 
         #[inline]
         fn rfold<B, F: FnMut(B, &'a T) -> B>(self, init: B, f: F) -> B {
-            crate::nd_lent::array_view::folding::rfold_rest(self, init, f)
+            crate::lent::nd_loops::rfold_rest(self, init, f)
         }
     };
 }

@@ -4,7 +4,7 @@ use crate::convenience::OUT_OF_MEMORY;
 use crate::memory::FallibleVec;
 use crate::nd_base::{Ix1, Ix2, Lengths};
 use crate::{ArrayView, ArrayViewMut, Dimension, OwnedArray, Shape, ShapeBuilder};
-use crate::{all_indices, indices_iter_f, size_of_shape_checked};
+use crate::{indices_iter_f, size_of_shape_checked};
 use alloc::vec::Vec;
 use core::fmt::Display;
 
@@ -107,12 +107,18 @@ impl<T> OwnedArray<T, Ix1> {
     }
 }
 
-/// A shape, how many indices it has, and a list with room for as many items.
+/// A shape, and how many indices it has.
 #[track_caller]
-fn room<T, D: Dimension>(shape: impl ShapeBuilder<Dim = D>) -> (Shape<D>, usize, Vec<T>) {
+fn counted<D: Dimension>(shape: impl ShapeBuilder<Dim = D>) -> (Shape<D>, usize) {
     let shape = shape.into_shape_with_order().expect(OUT_OF_MEMORY);
     let count = fitting(size_of_shape_checked(shape.raw_dim()));
-    (shape, count, Vec::fallible_with_capacity(count).expect(OUT_OF_MEMORY))
+    (shape, count)
+}
+
+/// A list with room for so many items.
+#[track_caller]
+fn room<T>(count: usize) -> Vec<T> {
+    Vec::fallible_with_capacity(count).expect(OUT_OF_MEMORY)
 }
 
 impl<T, D: Dimension> OwnedArray<T, D> {
@@ -133,13 +139,14 @@ impl<T, D: Dimension> OwnedArray<T, D> {
     where
         T: Clone,
     {
-        let (shape, count, mut items) = room(shape);
+        let (shape, count) = counted(shape);
+        let mut items = room(count);
         items.resize(count, item);
         fitting(OwnedArray::from_exact_vec(shape, items))
     }
 
     /// The array of a shape of what a closure makes of each index, which is called in the order in which the items lie. ndarray's
-    /// `from_shape_fn`. Not proved.
+    /// `from_shape_fn`. Not proved; the calls in row-major order are.
     ///
     /// # Panics
     ///
@@ -154,12 +161,16 @@ impl<T, D: Dimension> OwnedArray<T, D> {
     #[must_use]
     #[track_caller]
     pub fn from_shape_fn<F: FnMut(D::Pattern) -> T>(shape: impl ShapeBuilder<Dim = D>, f: F) -> Self {
-        let (shape, _, mut items) = room(shape);
-        let dim = shape.raw_dim().clone();
-        match shape.is_c() {
-            true => items.extend(all_indices(dim).expect(OUT_OF_MEMORY).into_iter().map(f)),
-            false => items.extend(indices_iter_f(dim).expect(OUT_OF_MEMORY).map(f)),
-        }
+        let (shape, count) = counted(shape);
+        let dim = shape.raw_dim();
+        let items = match shape.is_c() {
+            true => fitting(OwnedArray::list_by_index(dim, f)),
+            false => {
+                let mut items = room(count);
+                items.extend(indices_iter_f(dim.clone()).expect(OUT_OF_MEMORY).map(f));
+                items
+            }
+        };
         fitting(OwnedArray::from_exact_vec(shape, items))
     }
 }

@@ -158,7 +158,7 @@
 /// What a part stands on is no call of the package:
 ///
 /// ```compile_fail,E0603
-/// use ndarray_layout::nd_lent::cells::Cells;
+/// use ndarray_layout::lent::nd_access::Cells;
 /// ```
 #[cfg(doctest)]
 struct Lending;

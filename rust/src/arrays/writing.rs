@@ -5,7 +5,6 @@ use crate::convenience::OUT_OF_MEMORY;
 use crate::nd_base::{Axis, LayoutError, Lengths, ShapeError};
 use crate::nd_dim::Dimension;
 use crate::nd_lent::{IndexedIterMut, IterMut, LanesMut};
-use crate::nd_shape::NdIndex;
 use crate::{ArrayView, ArrayViewMut, AxisChunksIterMut, IntoRows, OwnedArray};
 
 /// The writes of one of the types of arrays: the head of the impl, the call that lends the array, and what makes `array` of
@@ -316,46 +315,6 @@ writes!([impl<T, D: Lengths> OwnedArray<T, D>] try_view_mut
     "let items = array.into_stored();");
 
 impl<T, D: Lengths> OwnedArray<T, D> {
-    /// The item of an index, to be written; `None` where it is no index of the shape. ndarray's `get_mut`. Not proved.
-    ///
-    /// ```
-    /// use ndarray_layout::*;
-    ///
-    /// let mut array = OwnedArray::from_shape_vec(Ix2(2, 3), vec![1, 2, 3, 4, 5, 6])?;
-    /// assert_eq!(array.get_mut(&(2, 0)), None);
-    /// if let Some(item) = array.get_mut(&(1, 0)) {
-    ///     *item += 30;
-    /// }
-    /// let items = array.into_stored();
-    /// assert_eq!(items, [1, 2, 3, 34, 5, 6]);
-    /// # Ok::<(), LayoutError>(())
-    /// ```
-    #[inline]
-    pub fn get_mut<I: NdIndex<D>>(&mut self, index: &I) -> Option<&mut T> {
-        let place = self.strided().place(index)?;
-        self.stored_mut().get_mut(place)
-    }
-
-    /// Swaps the items of two indices, and returns whether both are indices of the shape; else the array is unchanged. ndarray's
-    /// `swap`, which panics. Not proved; that of `view_mut` is.
-    ///
-    /// # Panics
-    ///
-    /// As `view_mut`.
-    ///
-    /// ```
-    /// use ndarray_layout::*;
-    ///
-    /// let mut array = OwnedArray::from_shape_vec(Ix1(2), vec![7, 8, 9])?;
-    /// assert!(array.swap(&0, &1) && !array.swap(&0, &2));
-    /// assert_eq!(array.into_stored(), [8, 7, 9]);
-    /// # Ok::<(), LayoutError>(())
-    /// ```
-    #[must_use]
-    pub fn swap<I: NdIndex<D>, J: NdIndex<D>>(&mut self, index: &I, other: &J) -> bool {
-        self.view_mut().swap(index, other)
-    }
-
     /// Calls a closure at each item and at that of another array of the same shape, in row-major order. ndarray's `zip_mut_with`, which
     /// broadcasts the other one: `ArrayView::broadcast` comes first. Not proved.
     ///

@@ -146,9 +146,10 @@ impl<T, D: Lengths, I: NdIndex<D>> Index<I> for OwnedArray<T, D> {
     #[inline]
     #[track_caller]
     fn index(&self, index: I) -> &T {
-        match self.strided().place(&index) {
-            Some(place) => &self.stored()[place],
-            None => no_such_index(index, self.dim()),
+        match self.try_item(&index) {
+            Ok(item) => item,
+            // (of a copy: a loop keeps the shape in registers where no other call is told where it lies)
+            Err(_) => no_such_index(index, &self.dim().duplicate().expect(OUT_OF_MEMORY)),
         }
     }
 }
@@ -162,9 +163,13 @@ impl<T, D: Lengths, I: NdIndex<D>> IndexMut<I> for OwnedArray<T, D> {
     #[inline]
     #[track_caller]
     fn index_mut(&mut self, index: I) -> &mut T {
-        match self.strided().place(&index) {
-            Some(place) => &mut self.stored_mut()[place],
-            None => no_such_index(index, self.dim()),
+        if self.strided().place(&index).is_none() {
+            // (of a copy, as `index`)
+            no_such_index(index, &self.dim().duplicate().expect(OUT_OF_MEMORY));
+        }
+        match self.try_item_mut(&index) {
+            Ok(item) => item,
+            Err(_) => unreachable!("an index of the shape"),
         }
     }
 }

@@ -273,4 +273,9 @@ impl<const N: usize> Lengths for Dim<[usize; N]> {
     fn duplicate(&self) -> Result<Self, AllocError> {
         Ok(*self)
     }
+
+    #[inline]
+    fn copied(&self) -> Option<Self> {
+        Some(*self)
+    }
 }

@@ -117,4 +117,9 @@ impl Lengths for Dim<IxDynImpl> {
     fn duplicate(&self) -> Result<Self, AllocError> {
         new_ixdyn(self.slice())
     }
+
+    #[inline]
+    fn copied(&self) -> Option<Self> {
+        None
+    }
 }

@@ -122,4 +122,20 @@ pub trait Lengths:
     fn duplicate(&self) -> Result<Self, AllocError>
     where
         Self: Sized;
+
+    /// A copy of the list where the type fixes its count, which takes no memory; else `None`.
+    ///
+    /// Takes time in proportion to the count of axes. In place of ndarray's `Copy`.
+    ///
+    /// <details><summary>Contract (proved)</summary>
+    ///
+    /// ```text
+    /// ensures list: IfSome result (λ d. list d ≡ list self.now)
+    /// ```
+    /// [How to read it](crate::contracts)
+    /// </details>
+    #[must_use]
+    fn copied(&self) -> Option<Self>
+    where
+        Self: Sized;
 }

@@ -26,6 +26,7 @@ mod intersecting;
 mod alike_rows;
 mod block_views;
 mod blocks;
+mod counted_places;
 mod into_places;
 mod into_rows;
 mod joined_layouts;
@@ -34,6 +35,9 @@ mod nearest;
 mod nth_row;
 mod picked_size;
 mod places_of_rows;
+mod rows_of;
+mod slower_axes;
+mod stretch_left;
 mod typing;
 
 use crate::nd_base::Lengths;
@@ -44,6 +48,7 @@ pub use iter_places::Places;
 pub use joined_layouts::joined_in_all;
 pub use places_of_rows::PlacesOf;
 pub use rows::{Row, Rows};
+pub use rows_of::RowsOf;
 
 /// A view of data: a shape, a stride for each axis, and the place of the first index. The place of
 /// an index is its buffer index, its number of elements from the start of the data, from 0 to

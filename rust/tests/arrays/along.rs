@@ -16,7 +16,7 @@ fn arrays_of_an_axis_are_read() {
         (vec!["03".into(), "14".into(), "25".into()], Some(OutOfBounds))
     );
     assert_eq!(array.outer_iter().rev().filter_map(|row| row.first()).collect::<Vec<_>>(), ["3", "0"]);
-    assert_eq!(format!("{:?}", array.outer_iter()), "AxisIter { left: 2, .. }");
+    assert_eq!(format!("{:?}", array.outer_iter()), "Arrays { left: 2, .. }");
     assert_eq!(ArrayView::from_shape(Ix1(6), &NUMBERS).unwrap().outer_iter().len(), 6);
     assert_eq!(owned(texts.clone()).outer_iter().nth(1).and_then(|row| row.last().cloned()), Some("5".to_string()));
     assert_eq!(owned(NUMBERS.to_vec()).index_axis(Axis(1), 2).unwrap().to_vec().unwrap(), [2, 5]);
@@ -85,7 +85,7 @@ fn arrays_of_an_axis_are_written() {
     for (mut row, letter) in array.outer_iter_mut().unwrap().zip(["a", "b"]) {
         row.iter_mut().for_each(|text| text.push_str(letter));
     }
-    assert_eq!(format!("{:?}", array.axis_iter_mut(Axis(0)).unwrap()), "AxisIterMut { left: 2, .. }");
+    assert_eq!(format!("{:?}", array.axis_iter_mut(Axis(0)).unwrap()), "Parts { left: 2, .. }");
     array.index_axis_mut(Axis(1), 0).unwrap().iter_mut().for_each(String::clear);
     assert_eq!(texts, ["", "1a", "2a", "", "4yb", "5xb", "6"]);
     let mut array = owned(NUMBERS.to_vec());

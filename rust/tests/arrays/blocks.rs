@@ -20,7 +20,7 @@ fn windows_and_chunks_are_read() {
     let dynamic = array().into_dimensionality::<IxDyn>().unwrap();
     assert_eq!(kind(dynamic.into_windows(&IxDyn(&[1]))), Some(IncompatibleShape));
     let left = array().into_windows(&Ix2(1, 2)).unwrap();
-    assert_eq!(format!("{left:?}"), "BlocksIter { left: 4, .. }");
+    assert_eq!(format!("{left:?}"), "Arrays { left: 4, .. }");
     let one = ArrayView::from_shape(Ix0(), &NUMBERS).unwrap();
     assert_eq!(one.into_exact_chunks(&Ix0()).unwrap().map(|block| block[()]).collect::<Vec<_>>(), [0]);
 }
@@ -95,7 +95,7 @@ fn tiles_are_written() {
     let mut numbers = NUMBERS;
     assert_eq!(kind(rows_mut(&mut numbers).into_tiles(&Ix2(1, 0))), Some(Unsupported));
     let tiles = rows_mut(&mut numbers).into_tiles(&Ix2(2, 1)).unwrap();
-    assert_eq!(format!("{tiles:?}"), "TilesMut { left: 3, .. }");
+    assert_eq!(format!("{tiles:?}"), "Parts { left: 3, .. }");
     for (mut tile, number) in tiles.zip([10, 20]) {
         tile.iter_mut().for_each(|item| *item += number);
     }

@@ -14,7 +14,7 @@ fn chunks_of_an_axis_are_read() {
     assert_eq!(kind(array.axis_chunks_iter(Axis(2), 2)), Some(OutOfBounds));
     assert_eq!(kind(array.axis_chunks_iter(Axis(1), 0)), Some(Unsupported));
     let left = owned(NUMBERS.to_vec());
-    assert_eq!(format!("{:?}", left.axis_chunks_iter(Axis(0), 2).unwrap()), "AxisChunksIter { left: 1, .. }");
+    assert_eq!(format!("{:?}", left.axis_chunks_iter(Axis(0), 2).unwrap()), "Arrays { left: 1, .. }");
     assert_eq!(left.axis_chunks_iter(Axis(0), usize::MAX).unwrap().next().map(|chunk| chunk.len()), Some(6));
 }
 
@@ -31,6 +31,6 @@ fn chunks_of_an_axis_are_written() {
     for (mut chunk, letter) in array.axis_chunks_iter_mut(Axis(0), 1).unwrap().zip(["b", "c"]) {
         chunk.iter_mut().for_each(|text| text.push_str(letter));
     }
-    assert_eq!(format!("{:?}", array.axis_chunks_iter_mut(Axis(0), 1).unwrap()), "AxisChunksIterMut { left: 2, .. }");
+    assert_eq!(format!("{:?}", array.axis_chunks_iter_mut(Axis(0), 1).unwrap()), "Parts { left: 2, .. }");
     assert_eq!(texts, ["0c", "1c", "2c", "3xb", "4b", "5ab", "6"]);
 }

@@ -88,7 +88,7 @@ fn each_form_becomes_plain_rust() {
         ("#[derive(Debug, Drop)] struct S;", "#[derive(Debug)] struct S;"),
         ("#[derive(Drop)] struct S;", "struct S;"),
         ("#[derive(Debug, Drop)] pub struct Strided;", "#[derive(Clone, PartialEq, Eq)] pub struct Strided;"),
-        ("#[derive(Drop)] pub struct StridedRows;", "#[derive(Clone)] pub struct StridedRows;"),
+        ("#[derive(Drop)] pub(crate) struct Stretch;", "#[derive(Clone)] pub(crate) struct Stretch;"),
         ("impl<D> Model for S<D> { ghost use A.{b}; ghost view = { λ s. s }; } struct T;", "struct T;"),
         ("#[unsafe(no_mangle)] pub extern \"C\" fn f(x: &[u8]) {}", "pub fn f(x: &[u8]) {}"),
         ("final fn f(&self) {}", "fn f(&self) {}"),

@@ -10,7 +10,8 @@ use std::path::{Path, PathBuf};
 
 /// What is left of a source of a crate, in one line, or what is said of it.
 fn line_of(own: &str, source: &str) -> String {
-    let names = Names { own, module: "array_view_mut", ..NAMES };
+    let module = if own == "nd_access" { "cells" } else { "array_view_mut" };
+    let names = Names { own, module, ..NAMES };
     let text = match trees_of(source).and_then(|(trees, _)| erase(&trees, &names)) {
         Ok(erased) => erased.text,
         Err(fault) => fault.to_string(),
@@ -39,7 +40,7 @@ fn unsafe_stays_where_it_is_told_why_it_is_sound() {
         ("unsafe fn get() {}", NO_FORM),
     ];
     for (source, expected) in rows {
-        let left = line_of("nd_lent", source);
+        let left = line_of("nd_access", source);
         assert!(left.ends_with(expected), "{source}: {left}");
         assert_eq!(left.contains("// SAFETY: "), ![NO_FORM, NO_REASON].contains(&expected), "{source}: {left}");
         if !source.contains("SAFETY") {
@@ -52,7 +53,8 @@ fn unsafe_stays_where_it_is_told_why_it_is_sound() {
 #[test]
 fn what_keeps_it_sound_is_seen_by_its_own_module_alone() {
     let source = "pub struct S { pub(crate) cells: u8, pub view: u8 } pub(crate) fn f() {}";
-    let expected = "pub struct S { pub(in crate::nd_lent) cells: u8, pub view: u8 } pub(in crate::nd_lent) fn f() {}";
+    let expected =
+        "pub struct S { pub(in crate::lent::nd_lent) cells: u8, pub view: u8 } pub(in crate::lent::nd_lent) fn f() {}";
     assert_eq!(line_of("nd_lent", source), expected);
     assert_eq!(line_of("upper", source), source);
 }
@@ -101,9 +103,16 @@ fn files_with(words: &[&str]) -> BTreeSet<String> {
     files_in(Path::new("rust/src")).into_iter().filter(is_found).map(name).collect()
 }
 
+/// The files of the package that have `unsafe`.
+const WITH_UNSAFE: [&str; 2] = ["lent/nd_access/cells.rs", "lent/nd_lent/array_view_mut/borrowing.rs"];
+
+fn text_with_unsafe() -> String {
+    WITH_UNSAFE.map(|path| fs::read_to_string(format!("rust/src/{path}")).expect("a file")).concat()
+}
+
 #[test]
 fn comments_of_unsafe_name_what_is_there() {
-    let source = fs::read_to_string("rust/src/nd_lent/cells.rs").expect("a file");
+    let source = text_with_unsafe();
     let comments: String = source.lines().map(str::trim).filter(|line| line.starts_with("// ")).collect();
     let is_name = |word: &&str| word.chars().all(|letter| letter.is_alphanumeric() || letter == '_');
     for name in comments.split('`').skip(1).step_by(2).filter(is_name) {
@@ -115,28 +124,29 @@ fn comments_of_unsafe_name_what_is_there() {
 }
 
 #[test]
-fn one_file_of_the_package_has_unsafe() {
-    assert_eq!(files_with(&["unsafe", "no_mangle", "asm"]), BTreeSet::from(["nd_lent/cells.rs".to_string()]));
-    let allowing = BTreeSet::from(["lib.rs".to_string(), "nd_lent/cells.rs".to_string()]);
-    assert_eq!(files_with(&["unsafe_code"]), allowing);
+fn two_files_of_the_package_have_unsafe() {
+    let expected = BTreeSet::from(WITH_UNSAFE.map(str::to_string));
+    assert_eq!(files_with(&["unsafe", "no_mangle", "asm"]), expected);
+    assert_eq!(files_with(&["unsafe_code"]), &expected | &BTreeSet::from(["lib.rs".to_string()]));
     let root = fs::read_to_string("rust/src/lib.rs").expect("a file");
     assert!(root.contains("\n#![deny(unsafe_code)]\n"));
-    let parts = fs::read_to_string("rust/src/nd_lent/mod.rs").expect("a file");
-    assert!(parts.contains("\nmod cells;\n"));
+    let has_line = |file: &str, line| fs::read_to_string(file).expect("a file").contains(line);
+    assert!(has_line("rust/src/lent/nd_access/mod.rs", "\nmod cells;\n"));
+    assert!(has_line("rust/src/lent/nd_lent/array_view_mut.rs", "\nmod borrowing;\n"));
 }
 
 #[test]
 fn each_unsafe_of_the_package_says_why_it_is_sound() {
-    let text = fs::read_to_string("rust/src/nd_lent/cells.rs").expect("a file");
+    let text = text_with_unsafe();
     let lines: Vec<&str> = text.lines().map(str::trim).collect();
     let is_told = |at: usize| {
         lines[..at].iter().rev().take_while(|line| line.starts_with("// ")).any(|line| line.starts_with("// SAFETY: "))
     };
     let found: Vec<usize> = (0..lines.len()).filter(|at| lines[*at].starts_with("unsafe ")).collect();
     assert!(!found.is_empty() && found.iter().all(|at| is_told(*at)), "{found:?}");
-    let source = sources(Path::new("crates/nd_lent/src"));
     for (own, item, _) in UNSAFE {
+        let source = sources(&Path::new("crates").join(own).join("src"));
         let is_named = [format!("fn {item}("), format!("> {item} for ")].iter().any(|head| source.contains(head));
-        assert!(*own == "nd_lent" && is_named, "{item}");
+        assert!(is_named, "{own}, {item}");
     }
 }

@@ -11,6 +11,17 @@ fn items_are_added_as_often_as_they_have_an_index() -> Result<(), LayoutError> {
     assert_eq!(rows.slice_with::<Ix2, _>(&s![..0, ..], Fit::Strict)?.sum(), Some(0));
     let one = ArrayView::from_shape(Ix1(1), &[200_u8])?;
     assert_eq!(one.broadcast(&Ix2(1000, 1000))?.sum(), Some(200_000_000));
+    assert_eq!(one.broadcast(&Ix1(8))?.product(), Some(200_u64.pow(8)));
+    assert_eq!(rows.slice_with::<Ix2, _>(&s![.., 1..], Fit::Strict)?.product(), Some(40));
+    assert_eq!(rows.slice_with::<Ix2, _>(&s![..0, ..], Fit::Strict)?.product(), Some(1));
+    Ok(())
+}
+
+#[test]
+fn a_product_past_the_greatest_number_is_none_unless_a_zero_follows() -> Result<(), LayoutError> {
+    let items = [1, u64::MAX, 2, 3, 0];
+    let products = [0, 2, 3, 4, 5].map(|count| ArrayView::from_shape(Ix1(count), &items).map(|a| a.product()));
+    assert_eq!(products.map(|product| product.ok().flatten()), [Some(1), Some(u64::MAX), None, None, Some(0)]);
     Ok(())
 }
 

@@ -232,11 +232,11 @@ fn lists_are_written_along_an_axis_that_interleaves() -> Result<(), LayoutError>
     let (Some(mut last), Some(mut first)) = (left.next_back(), left.next()) else {
         panic!("three columns");
     };
-    assert_eq!(format!("{left:?}"), "AxisIterMut { left: 1, .. }");
+    assert_eq!(format!("{left:?}"), "Parts { left: 1, .. }");
     first[0].append(&mut last[1]);
     let mut left = part.axis_chunks_iter_mut(Axis(1), 2)?;
     left.next_back().expect("the last column").fill(vec![9]);
-    assert_eq!(format!("{left:?}"), "AxisChunksIterMut { left: 1, .. }");
+    assert_eq!(format!("{left:?}"), "Parts { left: 1, .. }");
     left.next().expect("two columns")[(1, 1)].clear();
     assert_eq!(lists, [&[0, 5][..], &[1], &[9], &[3], &[], &[9], &[6]]);
     Ok(())

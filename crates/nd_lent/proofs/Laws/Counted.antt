@@ -9,7 +9,7 @@ use Rattle.std.proofs.lemmas.List.{get_or-replicate, get_or-set_other, get_or-se
 use Rattle.std.proofs.lemmas.List.Sums.{count_by-le-length, sum_by-cons}
 use Rattle.ndarray_layout.specs.declared.Order.TheVariants.{RowMajor}
 use Rattle.nd_lent.proofs.Laws.PermutedItems.{items_by}
-use Rattle.nd_lent.specs.Items.{ArrayValue}
+use Rattle.nd_access.specs.Items.{ArrayValue}
 
 -- whether an item is a number
 abbrev pub is_number : ℕ → Option ℕ → Bool

@@ -8,8 +8,8 @@ use Rattle.ndarray_layout.specs.declared.Order.TheVariants.{RowMajor}
 use Rattle.ndarray_layout.specs.Indices.{is_index}
 use Rattle.ndarray_layout.specs.View.{view_places}
 use Rattle.nd_lent.specs.Extremes.{IsFirstOf}
-use Rattle.nd_lent.specs.Items.{ArrayValue, item_at, item_at_place}
-use Rattle.nd_lent.proofs.Laws.IndexItems.{index_of_item, of_each_index}
+use Rattle.nd_access.specs.Items.{ArrayValue, item_at, item_at_place}
+use Rattle.nd_access.proofs.Laws.IndexItems.{index_of_item, of_each_index}
 
 module _ {T : Type 0} (comes_before : T → T → Bool) (array : ArrayValue T) where
   -- an index has it

@@ -14,7 +14,7 @@ use Rattle.ndarray_layout.specs.Stretch.{IsStretch}
 use Rattle.ndarray_layout.specs.View.{IsView, place_at, view_places}
 use Rattle.ndarray_layout.proofs.Laws.RowMajor.{place_in_row, standard_view}
 use Rattle.ndarray_layout.proofs.Laws.Stretch.{place_in_stretch}
-use Rattle.nd_lent.specs.Items.{ArrayValue, item_at, item_at_place}
+use Rattle.nd_access.specs.Items.{ArrayValue, item_at, item_at_place}
 
 -- an index of the shape has the item at its place
 pub item_of_index : {T : Type 0} (array : ArrayValue T) (index : List ℕ) → is_index array.view.shape index ≡ true

@@ -19,10 +19,10 @@ use Rattle.ndarray_layout.proofs.Laws.Coordinates.{is_index-set}
 use Rattle.ndarray_layout.proofs.Laws.IsIndex.{coordinate_of_index, length_of_index}
 use Rattle.ndarray_layout.proofs.Laws.SplitView.{Descends-first_part_of, no_fault_of_cut}
 use Rattle.nd_lent.proofs.Laws.Listed.{first_or_rest}
-use Rattle.nd_lent.proofs.Laws.Lists.{pairs_head, pairs_tail}
+use Rattle.nd_access.proofs.Laws.Lists.{pairs_head, pairs_tail}
 use Rattle.nd_lent.proofs.Laws.SwappedItems.{after, first_swapped, is_after, others_kept, second_swapped, spare_kept}
-use Rattle.nd_lent.specs.HasItems.{HasItemsOf, KeepsSpare, with_swapped}
-use Rattle.nd_lent.specs.Items.{ArrayValue, IsOwned, item_at}
+use Rattle.nd_access.specs.HasItems.{HasItemsOf, KeepsSpare, with_swapped}
+use Rattle.nd_access.specs.Items.{ArrayValue, IsOwned, item_at}
 
 -- ---- a loop of swaps
 -- an index waits for its swap: it is one of those that are left, or what such is turned to

@@ -4,7 +4,7 @@ use Rattle.std.proofs.Common.{Option, Some, List, [], ◌∷◌, subst, Bor}
 use Rattle.std.specs.Fn.{Called, Mut, Takes}
 use Rattle.std.specs.Iterator.{CallableInFold, FoldTurn, FoldsItems, Yields}
 use Rattle.std.specs.List.{FoldsTo}
-use Rattle.nd_lent.specs.Lending.{lends}
+use Rattle.nd_access.specs.Lending.{lends}
 
 module _ {F B T : Type 0} (g : Mut F (B × (Bor T × Unit {0})) B) (Holds : List (Option T) → F → B → Type 0) where
   -- of the items that are left, of the function and of the total so far it holds; then the function may be called at the first of them

@@ -13,8 +13,8 @@ use Rattle.ndarray_layout.proofs.Laws.IsIndex.{coordinate_of_index, length_of_in
 use Rattle.ndarray_layout.proofs.Laws.SplitView.{Descends-first_part_of, Descends-second_part_of, cut_of_no_fault, index_of_a_part}
 use Rattle.ndarray_layout.proofs.Laws.SplitView.{parts_are_apart}
 use Rattle.nd_lent.proofs.Laws.PartsWritten.{PartOf, parts_written}
-use Rattle.nd_lent.specs.HasItems.{HasItemsOf}
-use Rattle.nd_lent.specs.Items.{ArrayValue, IsOwned}
+use Rattle.nd_access.specs.HasItems.{HasItemsOf}
+use Rattle.nd_access.specs.Items.{ArrayValue, IsOwned}
 
 -- what is the same at each index may be given otherwise
 given_otherwise : {T : Type 0} {given : List ℕ → Option T} {before after : ArrayValue T} → HasItemsOf given before after

@@ -13,11 +13,11 @@ use Rattle.ndarray_layout.specs.View.{View, place_at, view_places}
 use Rattle.ndarray_layout.proofs.Laws.Indices.{Contains-indices_in}
 use Rattle.ndarray_layout.proofs.Laws.Lists.{Contains-map}
 use Rattle.nd_lent.proofs.Laws.Listed.{first_or_rest}
-use Rattle.nd_lent.proofs.Laws.Lists.{set_other}
+use Rattle.nd_access.proofs.Laws.Lists.{set_other}
 use Rattle.nd_lent.proofs.Laws.PutBack.{length-with_item}
 use Rattle.nd_lent.proofs.Laws.Written.{kept, replaced}
-use Rattle.nd_lent.specs.HasItems.{HasItemsOf, KeepsSpare}
-use Rattle.nd_lent.specs.Items.{ArrayValue, IsOwned, item_at, with_item}
+use Rattle.nd_access.specs.HasItems.{HasItemsOf, KeepsSpare}
+use Rattle.nd_access.specs.Items.{ArrayValue, IsOwned, item_at, with_item}
 
 view-with_item : {T : Type 0} (array : ArrayValue T) (index : List ℕ) (item : T) → (with_item array index item).view ≡ array.view
 view-with_item array index item = elim (cases_Bool (is_index array.view.shape index)) [

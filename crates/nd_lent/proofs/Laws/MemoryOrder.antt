@@ -18,11 +18,11 @@ use Rattle.ndarray_layout.specs.View.{View, IsView, place_at, view_places}
 use Rattle.ndarray_layout.proofs.Laws.OneInterval.{has_index_in_interval, places_in_interval}
 use Rattle.ndarray_layout.proofs.Laws.Size.{size_of_empty, size_of_nonempty}
 use Rattle.ndarray_layout.proofs.Laws.View.{no_places}
-use Rattle.nd_lent.specs.ArrayView.{HasItems}
-use Rattle.nd_lent.specs.Items.{ArrayValue, item_at_place, items_of}
+use Rattle.nd_access.specs.ArrayView.{HasItems}
+use Rattle.nd_access.specs.Items.{ArrayValue, item_at_place, items_of}
 use Rattle.nd_lent.specs.MemoryOrder.{items_in_memory_order}
 use Rattle.nd_lent.specs.SplitItems.{lowest}
-use Rattle.nd_lent.proofs.Laws.Neighbours.{got_between}
+use Rattle.nd_access.proofs.Laws.Neighbours.{got_between}
 
 from_lowest : (start low k : ℕ) (offset : ℤ) → low ≤ start → offset ≡ pos k +ℤ neg_ℤ (pos low) → pos start +ℤ offset ≡ pos (start - low + k)
 from_lowest start low k offset fits is = omega (arith, ints)

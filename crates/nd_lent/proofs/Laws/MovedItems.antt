@@ -12,9 +12,9 @@ use Rattle.ndarray_layout.proofs.Laws.Indices.{Contains-indices_in}
 use Rattle.ndarray_layout.proofs.Laws.Lists.{Contains-map}
 use Rattle.nd_lent.proofs.SplitItems.{place_moved}
 use Rattle.nd_lent.proofs.Laws.SlicePlaces.{listed}
-use Rattle.nd_lent.specs.HasItems.{HasItemsOf}
+use Rattle.nd_access.specs.HasItems.{HasItemsOf}
 use Rattle.nd_lent.specs.SplitItems.{IsMoved}
-use Rattle.nd_lent.specs.Items.{item_at, item_at_place}
+use Rattle.nd_access.specs.Items.{item_at, item_at_place}
 
 got_left : {T : Type 0} (xs ys : List T) (i : ℕ) → i < length xs → slice_get (xs ++ ys) i ≡ slice_get xs i
 got_left [] ys i below = absurd (omega (arith, below))

@@ -3,7 +3,7 @@ use Rattle.std.proofs.Common.{◌≡◌, ℕ, List, Result, Ok, Err, subst, sym}
 use Rattle.std.specs.Prelude.{OnErr, OnOk}
 use Rattle.ndarray_layout.specs.Descends.{Descends}
 use Rattle.ndarray_layout.specs.View.{View}
-use Rattle.nd_lent.specs.Items.{IsOwned}
+use Rattle.nd_access.specs.Items.{IsOwned}
 
 pub owned_descendant : {source : List ℕ → List ℕ} {old new : View} (count : ℕ) → Descends source old new → IsOwned count old
     → IsOwned count new

@@ -10,10 +10,10 @@ use Rattle.ndarray_layout.specs.Indices.{indices_in, is_index}
 use Rattle.ndarray_layout.specs.View.{View, place_at, view_places}
 use Rattle.ndarray_layout.proofs.Laws.Indices.{Contains-indices_in}
 use Rattle.ndarray_layout.proofs.Laws.Lists.{Contains-map}
-use Rattle.nd_lent.specs.HasItems.{HasItemsOf}
-use Rattle.nd_lent.specs.Items.{item_at, item_at_place}
+use Rattle.nd_access.specs.HasItems.{HasItemsOf}
+use Rattle.nd_access.specs.Items.{item_at, item_at_place}
 use Rattle.nd_lent.specs.WrittenPart.{HasWrittenPart, IsOutside}
-use Rattle.nd_lent.specs.Written.{KeepsAllBut}
+use Rattle.nd_access.specs.Written.{KeepsAllBut}
 use Rattle.nd_lent.proofs.Laws.SlicePlaces.{listed}
 
 module _ {T : Type 0} {source : List ℕ → List ℕ} {given : List ℕ → Option T} {before after : List T} {whole part : View}

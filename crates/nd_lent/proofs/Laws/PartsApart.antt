@@ -14,13 +14,13 @@ use Rattle.ndarray_layout.specs.SharePlace.{SharePlace}
 use Rattle.ndarray_layout.specs.View.{View, LiesWithin, place_at, view_places}
 use Rattle.ndarray_layout.proofs.Laws.SharePlace.{share_place_symmetric}
 use Rattle.nd_lent.proofs.Laws.FlatItems.{item_of_index}
-use Rattle.nd_lent.proofs.Laws.Lists.{other_default, pairs_head, pairs_tail}
-use Rattle.nd_lent.proofs.Laws.Marks.{owned_is_part, part_beside}
+use Rattle.nd_access.proofs.Laws.Lists.{other_default, pairs_head, pairs_tail}
+use Rattle.nd_access.proofs.Laws.Marks.{owned_is_part, part_beside}
 use Rattle.nd_lent.proofs.Laws.SlicePlaces.{listed}
-use Rattle.nd_lent.specs.Cells.{without}
-use Rattle.nd_lent.specs.HasItems.{HasItemsOf}
-use Rattle.nd_lent.specs.Items.{IsOwned, item_at, item_at_place}
-use Rattle.nd_lent.specs.Part.{IsPart, has_mark, marks_of}
+use Rattle.nd_access.specs.Cells.{without}
+use Rattle.nd_access.specs.HasItems.{HasItemsOf}
+use Rattle.nd_access.specs.Items.{IsOwned, item_at, item_at_place}
+use Rattle.nd_access.specs.Part.{IsPart, has_mark, marks_of}
 
 -- each index of a part lies within as many items as there are marks
 below_marks : (marks : List Bool) (k : ℕ) → get_or marks k false ≡ true → k < length marks

@@ -13,9 +13,9 @@ use Rattle.ndarray_layout.proofs.Laws.SplitView.{Descends-first_part_of, Descend
 use Rattle.nd_lent.proofs.Laws.Listed.{cases_listed}
 use Rattle.nd_lent.proofs.Laws.PartItems.{part_written}
 use Rattle.nd_lent.proofs.Laws.SlicePlaces.{listed}
-use Rattle.nd_lent.specs.HasItems.{HasItemsOf}
-use Rattle.nd_lent.specs.Written.{KeepsAllBut}
-use Rattle.nd_lent.specs.Items.{item_at, item_at_place}
+use Rattle.nd_access.specs.HasItems.{HasItemsOf}
+use Rattle.nd_access.specs.Written.{KeepsAllBut}
+use Rattle.nd_access.specs.Items.{item_at, item_at_place}
 
 -- a part of a view: the index of the whole that each of its indices stands for, and its view
 pub record PartOf : Type 0 where

@@ -12,7 +12,7 @@ use Rattle.ndarray_layout.specs.Size.{size}
 use Rattle.ndarray_layout.specs.View.{View, view_places}
 use Rattle.ndarray_layout.proofs.Laws.Permuted.{KeepsIndices, places_of_descendant_permuted, places_of_step_permuted, places_permuted}
 use Rattle.nd_lent.specs.ArrayOfStep.{IsArrayOfStep}
-use Rattle.nd_lent.specs.Items.{ArrayValue, item_at_place}
+use Rattle.nd_access.specs.Items.{ArrayValue, item_at_place}
 
 -- the items of all indices, in an order
 abbrev pub items_by : {T : Type 0} → Order → ArrayValue T → List (Option T)

@@ -15,7 +15,7 @@ use Rattle.ndarray_layout.proofs.Laws.CollapsedView.{coordinate_of_no_fault}
 use Rattle.ndarray_layout.proofs.Laws.IndexedView.{Descends-indexed_of}
 use Rattle.ndarray_layout.proofs.Laws.IsIndex.{length_of_index}
 use Rattle.nd_lent.proofs.Laws.PartsWritten.{HasIndex, PartOf}
-use Rattle.nd_lent.specs.HasItems.{HasItemsOf}
+use Rattle.nd_access.specs.HasItems.{HasItemsOf}
 
 -- the plane at a coordinate of an axis
 abbrev pub plane_at : ℕ → View → ℕ → PartOf

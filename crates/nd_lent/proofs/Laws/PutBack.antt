@@ -10,11 +10,11 @@ use Rattle.ndarray_layout.specs.Indices.{is_index}
 use Rattle.ndarray_layout.specs.SharePlace.{SharePlace}
 use Rattle.ndarray_layout.specs.Signed.{magnitude}
 use Rattle.ndarray_layout.specs.View.{View, LiesWithin, place_at}
-use Rattle.nd_lent.specs.Cells.{chosen_of}
-use Rattle.nd_lent.specs.Items.{ArrayValue, IsOwned, item_at_place, with_item}
-use Rattle.nd_lent.specs.Part.{marks_of}
-use Rattle.nd_lent.proofs.Laws.Lists.{set_other}
-use Rattle.nd_lent.proofs.Laws.Marks.{marked, marked_at, marks-length}
+use Rattle.nd_access.specs.Cells.{chosen_of}
+use Rattle.nd_access.specs.Items.{ArrayValue, IsOwned, item_at_place, with_item}
+use Rattle.nd_access.specs.Part.{marks_of}
+use Rattle.nd_access.proofs.Laws.Lists.{set_other}
+use Rattle.nd_access.proofs.Laws.Marks.{marked, marked_at, marks-length}
 
 -- ---- lists
 -- at a mark the item of the one list

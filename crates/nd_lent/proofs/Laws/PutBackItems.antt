@@ -10,11 +10,11 @@ use Rattle.ndarray_layout.specs.Indices.{indices_in, is_index}
 use Rattle.ndarray_layout.specs.View.{View, LiesWithin, place_at, view_places}
 use Rattle.ndarray_layout.proofs.Laws.Indices.{Contains-indices_in}
 use Rattle.ndarray_layout.proofs.Laws.Lists.{Contains-map}
-use Rattle.nd_lent.specs.HasItems.{HasItemsOf}
-use Rattle.nd_lent.specs.Cells.{chosen_of}
-use Rattle.nd_lent.specs.Items.{ArrayValue, item_at_place}
-use Rattle.nd_lent.specs.Part.{marks_of}
-use Rattle.nd_lent.proofs.Laws.Marks.{marked, marked_at, marks-length}
+use Rattle.nd_access.specs.HasItems.{HasItemsOf}
+use Rattle.nd_access.specs.Cells.{chosen_of}
+use Rattle.nd_access.specs.Items.{ArrayValue, item_at_place}
+use Rattle.nd_access.specs.Part.{marks_of}
+use Rattle.nd_access.proofs.Laws.Marks.{marked, marked_at, marks-length}
 use Rattle.nd_lent.proofs.Laws.PutBack.{chosen_elsewhere, chosen_there}
 
 -- as many items as there are marks

@@ -18,7 +18,7 @@ use Rattle.ndarray_layout.proofs.Laws.Indices.{All-indices_in}
 use Rattle.ndarray_layout.proofs.Laws.SharePlace.{intersect_of_shared_place}
 use Rattle.ndarray_layout.proofs.Laws.SlicedView.{Descends-slice_of}
 use Rattle.nd_lent.proofs.Laws.Faults.{slices_fit}
-use Rattle.nd_lent.proofs.Laws.Lists.{none_of_all, pairs_append, pairs_head, pairs_tail}
+use Rattle.nd_access.proofs.Laws.Lists.{none_of_all, pairs_append, pairs_head, pairs_tail}
 
 -- a place that is listed is that of an index
 pub listed : (order : Order) (view : View) (place : ℤ) → Contains (view_places order view) place

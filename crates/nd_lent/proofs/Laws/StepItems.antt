@@ -5,8 +5,8 @@ use Rattle.ndarray_layout.specs.Indices.{indices_in}
 use Rattle.ndarray_layout.specs.View.{View, view_places}
 use Rattle.ndarray_layout.proofs.Laws.Indices.{map-indices_in}
 use Rattle.nd_lent.specs.ArrayOfStep.{IsArrayOfStep}
-use Rattle.nd_lent.specs.Items.{ArrayValue, item_at, item_at_place}
-use Rattle.nd_lent.proofs.Laws.IndexItems.{items_in_order}
+use Rattle.nd_access.specs.Items.{ArrayValue, item_at, item_at_place}
+use Rattle.nd_access.proofs.Laws.IndexItems.{items_in_order}
 
 module _ {T : Type 0} {keeps : (List ℕ → List ℕ) → View → View → Type 0} {source : List ℕ → List ℕ} {step : View → View}
     (old new : ArrayValue T)

@@ -12,9 +12,9 @@ use Rattle.ndarray_layout.specs.Signed.{magnitude}
 use Rattle.ndarray_layout.specs.View.{place_at, view_places}
 use Rattle.ndarray_layout.proofs.Laws.Indices.{Contains-indices_in}
 use Rattle.ndarray_layout.proofs.Laws.Lists.{Contains-map}
-use Rattle.nd_lent.specs.HasItems.{KeepsSpare, with_swapped}
-use Rattle.nd_lent.specs.Items.{ArrayValue, IsOwned, item_at, item_at_place}
-use Rattle.nd_lent.proofs.Laws.Lists.{set_other, set_same}
+use Rattle.nd_access.specs.HasItems.{KeepsSpare, with_swapped}
+use Rattle.nd_access.specs.Items.{ArrayValue, IsOwned, item_at, item_at_place}
+use Rattle.nd_access.proofs.Laws.Lists.{set_other, set_same}
 
 there : {X : Type 0} (xs : List X) (i : ℕ) (d : X) → i < length xs → slice_get xs i ≡ Some (get_or xs i d)
 there [] i d below = absurd (omega (arith, below))

@@ -2,13 +2,13 @@
 use Rattle.std.proofs.Common.{◌≡◌, ℕ, true, Bool, Option, List, length, replicate, sym, ap, subst, ◌∙◌}
 use Rattle.ndarray_layout.specs.SharePlace.{SharePlace}
 use Rattle.ndarray_layout.specs.View.{View}
-use Rattle.nd_lent.proofs.Laws.Marks.{owned_beside}
+use Rattle.nd_access.proofs.Laws.Marks.{owned_beside}
 use Rattle.nd_lent.proofs.Laws.PutBack.{two_put_back}
 use Rattle.nd_lent.proofs.Laws.PutBackItems.{part_put_back}
-use Rattle.nd_lent.specs.Cells.{chosen_of, without}
-use Rattle.nd_lent.specs.HasItems.{HasItemsOf}
-use Rattle.nd_lent.specs.Items.{ArrayValue, IsOwned, with_item}
-use Rattle.nd_lent.specs.Part.{IsPart, marks_of}
+use Rattle.nd_access.specs.Cells.{chosen_of, without}
+use Rattle.nd_access.specs.HasItems.{HasItemsOf}
+use Rattle.nd_access.specs.Items.{ArrayValue, IsOwned, with_item}
+use Rattle.nd_access.specs.Part.{IsPart, marks_of}
 
 module _ {count : ℕ} {first second : View} (one : IsOwned count first) (other : IsOwned count second) where
   -- the second is a part of what the first leaves

@@ -5,8 +5,8 @@ use Rattle.ndarray_layout.specs.Bounds.{IsInBounds}
 use Rattle.ndarray_layout.specs.Indices.{is_index}
 use Rattle.ndarray_layout.specs.Signed.{magnitude}
 use Rattle.ndarray_layout.specs.View.{place_at}
-use Rattle.nd_lent.specs.Items.{ArrayValue, IsOwned, item_at, item_at_place, with_item}
-use Rattle.nd_lent.proofs.Laws.Lists.{set_other, set_same}
+use Rattle.nd_access.specs.Items.{ArrayValue, IsOwned, item_at, item_at_place, with_item}
+use Rattle.nd_access.proofs.Laws.Lists.{set_other, set_same}
 
 at_place : {T : Type 0} (items : List T) (z : ℤ) (x : T) → IsInBounds (length items) z
     → item_at_place (set items (magnitude z) x) z ≡ Some x

@@ -10,8 +10,8 @@ use Rattle.ndarray_layout.specs.View.{place_at, view_places}
 use Rattle.nd_lent.proofs.Laws.FlatItems.{item_of_index}
 use Rattle.nd_lent.proofs.Laws.Listed.{cases_listed}
 use Rattle.nd_lent.proofs.Laws.SlicePlaces.{listed}
-use Rattle.nd_lent.specs.HasItems.{HasItemsOf}
-use Rattle.nd_lent.specs.Items.{ArrayValue, item_at, item_at_place}
+use Rattle.nd_access.specs.HasItems.{HasItemsOf}
+use Rattle.nd_access.specs.Items.{ArrayValue, item_at, item_at_place}
 
 -- ---- lists
 got : {T : Type 0} (items : List T) (k : ℕ) → k < length items → slice_get items k ≡ None → ⊥

@@ -13,11 +13,11 @@ use Rattle.ndarray_layout.specs.declared.Lengths as lengths
 use Rattle.std.specs.declared.cmp.PartialEq as eq
 use Rattle.std.specs.declared.fmt.Debug as debug
 use Rattle.std.specs.declared.ops.Index as index
-use Rattle.nd_lent.specs.Cells.{holds_cells, known}
+use Rattle.nd_access.specs.Cells.{holds_cells, known}
 use Rattle.nd_lent.specs.contracts.array_view_mut.ArrayViewMut as P-type
 use Rattle.nd_lent.specs.declared.array_view_mut.ArrayViewMut.{ArrayViewMut}
-use Rattle.nd_lent.proofs.lending.Held.{cells_had, cells_made, word}
-use Rattle.nd_lent.proofs.lending.Steps
+use Rattle.nd_access.proofs.Laws.lending.Held.{cells_had, cells_made, word}
+use Rattle.nd_access.proofs.Laws.lending.Steps
 use Steps.{Borrowed, Goal, Item, Lft, List, Logic, MutBor, MutRef, NamedLft, Ptr, RattleType, Seq, Share, Soaks, Step, Ura, Val, Valss}
 use Steps.{cell_at, drop, fauth, feq_i, feq_l, fjoin, flft, fobs, fpack, fpick, fsplit, fsplit3, full_share, mem, move, named, nothing}
 use Steps.{of_list, opens, pure_i, pure_l, refl, rewrite, shadow, step, vstruct, [], ‵, ℕ, ◌$◌, ◌++◌, ◌∙◌, ◌∷◌, ◌≡◌}

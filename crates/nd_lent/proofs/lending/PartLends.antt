@@ -1,8 +1,8 @@
 -- What a part is in memory is what its cells hold, and a place for it with its view. Assumes `Logic`.
-use Rattle.nd_lent.specs.Cells.{holds_cells}
+use Rattle.nd_access.specs.Cells.{holds_cells}
 use Rattle.nd_lent.specs.LendsItem.{with_items}
 use Rattle.nd_lent.proofs.lending.PartHeld.{Bound, ItsPart, ItsView, Part, part_had, part_made, part_word}
-use Rattle.nd_lent.proofs.lending.Steps
+use Rattle.nd_access.proofs.Laws.lending.Steps
 use Steps.{Fml, List, Logic, NamedLft, RattleType, Ura, Val, cell_at, done, ent, fex, fjoin, fpack, fpick, fsep, fsplit, full_share, mem}
 use Steps.{move, part_of, qed, refl, rewrite, sem, sep, !, [], ‵, ℕ, ◌$◌, ◌∵◌, ◌∷◌}
 

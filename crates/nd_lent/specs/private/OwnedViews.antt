@@ -1,20 +1,15 @@
 -- Views whose places a right has to itself, each of them its own.
 use Rattle.std.specs.List.{All}
 use Rattle.std.specs.Prelude.{Bool, false, List, [], ◌∷◌, refl}
-use Rattle.std.proofs.Props.{props}
 use Rattle.std.proofs.lemmas.Bool.{both_ways, ltb-true}
 use Rattle.ndarray_layout.specs.View.{View}
 use Rattle.nd_lent.specs.Blocks.{AreApart}
-use Rattle.nd_lent.specs.Part.{IsPart}
+use Rattle.nd_access.specs.Part.{IsPart}
 
 -- each is a part, and no two have a place in common
 pub record OwnsEach (marks : List Bool) (views : List View) : Type 0 where
   pub parts : All (IsPart marks) views
   pub apart : AreApart views
-
--- it has one proof at most, so it may be a ghost field
-pub OwnsEach-prop : (marks : List Bool) (views : List View) → IsProp (OwnsEach marks views)
-OwnsEach-prop marks views = Prim.hlevel props
 
 -- example
 no_longer_its_own : OwnsEach (false ∷ []) (record { start = 0; shape = []; strides = [] } ∷ []) → ⊥

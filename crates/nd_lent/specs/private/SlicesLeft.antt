@@ -8,7 +8,7 @@ use Rattle.ndarray_layout.specs.DistinctPlaces.{HasDistinctPlaces}
 use Rattle.ndarray_layout.specs.IntersectingPair.{slices_fault}
 use Rattle.ndarray_layout.specs.SlicedView.{slice_of}
 use Rattle.ndarray_layout.specs.View.{View, IsView}
-use Rattle.nd_lent.specs.Part.{AreMarked}
+use Rattle.nd_access.specs.Part.{AreMarked}
 use Rattle.nd_lent.specs.Slices.{AreApartInPlace}
 
 -- each slice fits, each of its places has a mark, and no two slices share a place

@@ -1,6 +1,5 @@
 //! The windows or the chunks of an array one after another, each lent for as long as the data is.
-ghost use Rattle.std.specs.List.{All};
-ghost use Rattle.std.specs.Prelude.{◌≡◌, ◌-◌, IfErr, IfOk, IsOk, MatchOption, None, [], ◌∷◌, ◌++◌, drop, length, take};
+ghost use Rattle.std.specs.Prelude.{◌≡◌, IfOk, IsOk, None, length};
 ghost use Rattle.ndarray_layout.specs.ChunksView.{chunk_views, chunks_fault};
 ghost use Rattle.ndarray_layout.specs.Memory.{NeedsNoMemory};
 ghost use Rattle.ndarray_layout.specs.ShapeFault.{shape_fault};
@@ -8,115 +7,13 @@ ghost use Rattle.ndarray_layout.specs.WindowsView.{window_views, windows_fault};
 ghost use Rattle.nd_lent.specs.Blocks.{arrays_of};
 
 use crate::array_view::ArrayView;
-use crate::cells::Reader;
+use crate::array_view::arrays::Arrays;
 use ndarray_layout::{BlockViews, LayoutError, Lengths};
-use std::alloc::{AllocError, Global};
-use std::marker::Model;
+use std::alloc::Global;
 
-/// The blocks of a shape that are still to come, in row-major order, from both ends, each lent for as long as the data is: the windows of
-/// an array, or its chunks. A contract sees the list of them. ndarray's `Windows` and `ExactChunksIter`.
-#[derive(Drop)]
-pub struct BlocksIter<'a, T, D: Lengths> {
-    reader: Reader<'a, T>,
-    views: BlockViews<D>,
-}
-
-impl<'a, T, D: Lengths> Model for BlocksIter<'a, T, D> {
-    ghost use Rattle.std.specs.List.{All};
-    ghost use Rattle.std.specs.Prelude.{List, length};
-    ghost use Rattle.nd_lent.specs.Blocks.{arrays_of};
-    ghost use Rattle.nd_lent.specs.Items.{ArrayValue};
-    ghost use Rattle.nd_lent.specs.Read.{IsRead};
-
-    ghost Value = { List (ArrayValue T) };
-
-    ghost view = { λ left. arrays_of left.reader.items left.views };
-
-    ghost invariant = { λ left. All (IsRead left.reader.marks (length left.reader.items)) left.views };
-}
-
-impl<'a, T, D: Lengths> BlocksIter<'a, T, D> {
-    /// How many blocks are left.
-    ///
-    /// Of the windows of `[2]` of `[4]`: 3. ndarray's `len`.
-    #[inline]
-    pub fn len(&self) -> usize
-        ensures { result ≡ length self.now }
-    {
-        self.views.len()
-    }
-
-    /// Leaves out so many blocks, or all where fewer are left: the next one is the one that comes after them.
-    ///
-    /// Takes no memory, and no time for each of them.
-    ///
-    /// Of the windows of `[2]` of `[4]`, after 2 of them: the last one. What `nth` of std's iterators leaves out one by one.
-    #[inline]
-    pub fn advance(&mut self, count: usize)
-        ensures { self.new ≡ drop count self.old }
-    {
-        self.views.advance(count);
-    }
-
-    /// Leaves out so many blocks at the back, or all where fewer are left: the last one is the one that comes before them.
-    ///
-    /// Takes no memory, and no time for each of them.
-    ///
-    /// Of the windows of `[2]` of `[4]`, without the last 2: the first one. What `nth_back` of std's iterators leaves out one by one.
-    #[inline]
-    pub fn advance_back(&mut self, count: usize)
-        ensures { self.new ≡ take (length self.old - count) self.old }
-    {
-        self.views.advance_back(count);
-    }
-
-    /// The next block; `None` where none is left.
-    ///
-    /// # Errors
-    ///
-    /// Out of memory; never where the type fixes the count of axes or there are at most 4. The iterator is unchanged after it.
-    ///
-    /// Takes the time to copy the lengths of a block and the strides, and that of its place (`Strided::into_places`).
-    ///
-    /// Of the windows of `[2]` of `[3]` over 7 8 9: 7 8, then 8 9, then `None`. ndarray's `next`.
-    #[inline]
-    pub fn try_next(&mut self, alloc: Global) -> Result<Option<ArrayView<'a, T, D>>, AllocError>
-        ensures memory { All (λ block. NeedsNoMemory D.NDIM (length block.view.shape)) self.old → IsOk result }
-        ensures unchanged { IfErr result (λ _. self.new ≡ self.old) }
-        ensures first { IfOk result (λ next. MatchOption next
-            ((self.old ≡ []) × (self.new ≡ [])) (λ block. self.old ≡ block ∷ self.new)) }
-    {
-        match self.views.try_next(alloc)? {
-            Some(view) => Ok(Some(ArrayView::of_reader(self.reader.copied(), view))),
-            None => Ok(None),
-        }
-    }
-
-    /// The last block; `None` where none is left.
-    ///
-    /// # Errors
-    ///
-    /// Those of `try_next`. The iterator is unchanged after one.
-    ///
-    /// Takes the time of `try_next`.
-    ///
-    /// Of the windows of `[2]` of `[3]` over 7 8 9: 8 9, then 7 8, then `None`. ndarray's `next_back`.
-    #[inline]
-    pub fn try_next_back(
-        &mut self,
-        alloc: Global,
-    ) -> Result<Option<ArrayView<'a, T, D>>, AllocError>
-        ensures memory { All (λ block. NeedsNoMemory D.NDIM (length block.view.shape)) self.old → IsOk result }
-        ensures unchanged { IfErr result (λ _. self.new ≡ self.old) }
-        ensures last { IfOk result (λ next. MatchOption next
-            ((self.old ≡ []) × (self.new ≡ [])) (λ block. self.old ≡ self.new ++ block ∷ [])) }
-    {
-        match self.views.try_next_back(alloc)? {
-            Some(view) => Ok(Some(ArrayView::of_reader(self.reader.copied(), view))),
-            None => Ok(None),
-        }
-    }
-}
+/// The blocks of a shape that are still to come, in row-major order: the windows of an array, or its chunks. ndarray's `Windows` and
+/// `ExactChunksIter`.
+pub type BlocksIter<'a, T, D> = Arrays<'a, T, BlockViews<D>>;
 
 impl<'a, T, D: Lengths> ArrayView<'a, T, D> {
     /// An iterator over the chunks of a shape that lie side by side, in row-major order of their numbers, from both ends, each lent for
@@ -147,7 +44,7 @@ impl<'a, T, D: Lengths> ArrayView<'a, T, D> {
     {
         let ArrayView { reader, view } = self;
         let views = view.into_chunks(alloc, chunk)?;
-        Ok(BlocksIter { reader, views })
+        Ok(Arrays { reader, views })
     }
 
     /// An iterator over all windows of a shape, in row-major order of their first indices, from both ends, each lent for as long as the
@@ -178,6 +75,6 @@ impl<'a, T, D: Lengths> ArrayView<'a, T, D> {
     {
         let ArrayView { reader, view } = self;
         let views = view.into_windows(alloc, window)?;
-        Ok(BlocksIter { reader, views })
+        Ok(Arrays { reader, views })
     }
 }

@@ -1,73 +1,15 @@
 //! Whether two arrays have the same items.
 ghost use Rattle.std.specs.Cmp.Lexicographic.{pointwise};
-ghost use Rattle.std.specs.List.{AllZip};
-ghost use Rattle.std.specs.Prelude.{◌≡◌, Bool, map};
+ghost use Rattle.std.specs.Prelude.{◌≡◌, map};
 ghost use Rattle.ndarray_layout.specs.declared.Order.TheVariants.{RowMajor};
 ghost use Rattle.ndarray_layout.specs.View.{view_places};
-ghost use Rattle.nd_lent.specs.Items.{item_at_place};
-ghost use Rattle.nd_lent.specs.Equal.{are_equal, both_equal};
-ghost use Rattle.nd_lent.specs.LentRow.{row_items, rows_items};
+ghost use Rattle.nd_access.specs.Items.{item_at_place};
+ghost use Rattle.nd_loops.specs.Equal.{are_equal, both_equal};
 
-mod one_type;
-
-use crate::array_view::{ArrayView, LentRow, LentRows};
-use crate::nearest::{nearest_rows_with, nearest_views};
+use crate::array_view::ArrayView;
+use nd_access::LentRows;
+use nd_loops::{EqualTo, have_equal_rows, nearest_rows_with, nearest_views};
 use ndarray_layout::Lengths;
-
-/// A type whose items are compared with those of another type, one by one and as slices: each of Rust's `PartialEq<U>`.
-pub trait EqualTo<U>: Sized {
-    // Whether an item is equal to one of the other type.
-    ghost equal_to: { Self → U → Bool };
-
-    /// Whether both items are equal. `2_u8` and 2: `true`. Rust's `eq`.
-    fn is_equal_to(&self, other: &U) -> bool
-        ensures { result ≡ equal_to self.now other.now };
-
-    /// Whether the slices have one length, and each item is equal to the one beside it. 7 8 and 7: `false`. Rust's `eq` of slices.
-    fn are_equal_to(items: &[Self], others: &[U]) -> bool
-        ensures { result ≡ pointwise equal_to items.now others.now };
-}
-
-/// Whether the items of two rows of one length are equal, one after another.
-fn have_equal_places<T: EqualTo<U>, U>(one: &LentRow<'_, T>, other: &LentRow<'_, U>) -> bool
-    requires { one.now.row.len ≡ other.now.row.len }
-    ensures { result ≡ pointwise (both_equal T.equal_to) (row_items one.now) (row_items other.now) }
-{
-    for coordinate in 0..one.len() {
-        if !one.item(coordinate).is_equal_to(other.item(coordinate)) {
-            return false;
-        }
-    }
-    true
-}
-
-/// Whether two rows of one length are equal: as slices where both are.
-fn are_equal_rows<T: EqualTo<U>, U>(one: &LentRow<'_, T>, other: &LentRow<'_, U>) -> bool
-    requires { one.now.row.len ≡ other.now.row.len }
-    ensures { result ≡ pointwise (both_equal T.equal_to) (row_items one.now) (row_items other.now) }
-{
-    match (one.as_slice(), other.as_slice()) {
-        (Some(items), Some(others)) => T::are_equal_to(items, others),
-        _ => have_equal_places(one, other),
-    }
-}
-
-/// Whether each row is equal to the one beside it, of the same length.
-fn have_equal_rows<T: EqualTo<U>, U>(rows: LentRows<'_, T>, others: LentRows<'_, U>) -> bool
-    requires { AllZip (λ row other. row.row.len ≡ other.row.len) rows others }
-    ensures { result
-        ≡ pointwise (both_equal T.equal_to) (rows_items rows.entry) (rows_items others.entry) }
-{
-    let mut others = others;
-    for row in rows {
-        if let Some(other) = others.next() {
-            if !are_equal_rows(&row, &other) {
-                return false;
-            }
-        }
-    }
-    true
-}
 
 impl<T, D: Lengths> ArrayView<'_, T, D> {
     /// Whether each item is equal to that at the same index of an array of the same shape, compared in the order in which

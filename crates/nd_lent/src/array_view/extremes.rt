@@ -5,7 +5,7 @@ ghost use Rattle.ndarray_layout.specs.declared.Order.TheVariants.{RowMajor};
 ghost use Rattle.ndarray_layout.specs.Size.{size};
 ghost use Rattle.ndarray_layout.specs.View.{view_places};
 ghost use Rattle.nd_lent.specs.Extremes.{HasNoEqualAfter, HasNoEqualBefore, IsFirstOf};
-ghost use Rattle.nd_lent.specs.Items.{item_at_place};
+ghost use Rattle.nd_access.specs.Items.{item_at_place};
 ghost use Rattle.nd_lent.specs.private.Picked.{better_of};
 
 use crate::array_view::ArrayView;

@@ -8,12 +8,12 @@ ghost use Rattle.ndarray_layout.specs.AcceptanceFrom.{acceptance_from};
 ghost use Rattle.ndarray_layout.specs.Memory.{NeedsNoMemory};
 ghost use Rattle.ndarray_layout.specs.ShapeBuilder.{custom_strides, strides_list};
 ghost use Rattle.ndarray_layout.specs.ShapeFault.{shape_fault};
-ghost use Rattle.nd_lent.specs.ArrayView.{HasItems};
-ghost use Rattle.nd_lent.specs.Items.{view_from_0};
-ghost use Rattle.nd_lent.specs.Read.{IsRead};
+ghost use Rattle.nd_access.specs.ArrayView.{HasItems};
+ghost use Rattle.nd_access.specs.Items.{view_from_0};
+ghost use Rattle.nd_access.specs.Read.{IsRead};
 
 use crate::array_view::ArrayView;
-use crate::cells::Reader;
+use nd_access::Reader;
 use ndarray_layout::{CanIndexCheckMode, LayoutError, Lengths, ShapeError, StrideShape, Strided};
 use std::alloc::Global;
 

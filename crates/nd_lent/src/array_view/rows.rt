@@ -1,239 +1,24 @@
 //! The rows of an array one after another, each lent.
-ghost use Rattle.std.specs.Iterator.{UpTo, YieldsFirst, YieldsLast, item_count};
+ghost use Rattle.std.specs.Iterator.{YieldsFirst};
 ghost use Rattle.std.specs.Iterator.Runs.{YieldsInOrder};
-ghost use Rattle.std.specs.Iterator.SizeHint.{IsWithinCount};
-ghost use Rattle.std.specs.List.{All};
 ghost use Rattle.std.specs.List.Sorted.{IsPermutation};
-ghost use Rattle.std.specs.Prelude.{◌≡◌, ◌<◌, ◌^◌, ◌↔◌, ◌+ℤ◌, ◌*ℤ◌, pos, None, IfSome, IsSome, IsTrue, List, Some, length, map, option_copied, reverse, slice_index_or};
-ghost use Rattle.ndarray_layout.specs.declared.Order.TheVariants.{RowMajor};
-ghost use Rattle.ndarray_layout.specs.Bounds.{IsInBounds};
-ghost use Rattle.ndarray_layout.specs.Rows.{rows_places, view_rows};
-ghost use Rattle.ndarray_layout.specs.View.{view_places};
-ghost use Rattle.nd_lent.specs.Backwards.{is_backwards};
-ghost use Rattle.nd_lent.specs.LentRow.{RowValue, is_contiguous, row_items, row_of, rows_items};
-ghost use Rattle.nd_lent.specs.Items.{item_at_place};
-ghost use Rattle.nd_lent.specs.Read.{AreRowsRead};
+ghost use Rattle.std.specs.Prelude.{◌≡◌, IfSome, List, map, ◌-◌, IfOk, OnOk};
+ghost use Rattle.std.specs.Result.{result_err};
+ghost use Rattle.nd_access.specs.Items.{item_at_place};
+ghost use Rattle.nd_access.specs.LentRow.{RowValue, row_of, rows_items};
+ghost use Rattle.nd_lent.specs.AxisLast.{axis_last_of};
 ghost use Rattle.nd_lent.specs.RowsLeft.{row_array};
+ghost use Rattle.ndarray_layout.specs.InvertedView.{invert_fault};
+ghost use Rattle.ndarray_layout.specs.Rows.{view_rows};
+ghost use Rattle.ndarray_layout.specs.View.{view_places};
+ghost use Rattle.ndarray_layout.specs.declared.Order.TheVariants.{RowMajor};
 
 use crate::array_view::ArrayView;
-use crate::cells::Reader;
-use crate::nearest::nearest_rows;
-use ndarray_layout::{Ix1, Ix6, Lengths, Order, Row, Rows, Strided};
-use std::iter::FusedIterator;
-use std::marker::Model;
-
-/// A row of an array: items that lie evenly among those that are lent. There is at least one. ndarray's one-dimensional
-/// `ArrayView`.
-#[derive(Drop)]
-pub struct LentRow<'a, T> {
-    pub(crate) reader: Reader<'a, T>,
-    pub(crate) row: Row,
-}
-
-impl<'a, T> Model for LentRow<'a, T> {
-    ghost use Rattle.std.specs.Prelude.{length};
-    ghost use Rattle.nd_lent.specs.LentRow.{RowValue, row_of};
-    ghost use Rattle.nd_lent.specs.Read.{IsRowRead};
-
-    ghost Value = { RowValue T };
-
-    ghost view = { λ row. row_of row.reader.items row.row };
-
-    ghost invariant = { λ row. IsRowRead row.reader.marks (length row.reader.items) row.row };
-}
-
-/// The place of a coordinate of a row. The caller ensures that neither it nor the first place is past an `isize`.
-#[inline(always)]
-pub(crate) fn place_in_row(row: Row, coordinate: usize) -> usize
-    requires first { row.start < 2 ^ 63 }
-    requires small { coordinate < 2 ^ 63 }
-    requires in_bounds { IsInBounds (2 ^ 63) (pos row.start +ℤ (pos coordinate *ℤ row.stride)) }
-    ensures { pos result ≡ pos row.start +ℤ (pos coordinate *ℤ row.stride) }
-{
-    (row.start as isize + coordinate as isize * row.stride) as usize
-}
-
-/// Whether the places of a row lie side by side.
-#[inline(always)]
-pub(crate) fn is_contiguous(row: Row) -> bool
-    ensures { result ≡ is_contiguous row }
-{
-    row.stride == 1 || row.len <= 1
-}
-
-impl<'a, T> LentRow<'a, T> {
-    /// How many items it has.
-    #[inline]
-    pub fn len(&self) -> usize
-        ensures len { result ≡ self.now.row.len }
-        ensures count { result ≡ length (row_items self.now) }
-    {
-        self.row.len
-    }
-
-    /// The items as a slice, where they follow one another: by the stride 1, or if there is one; else `None`.
-    ///
-    /// Of `[2,2]` over 5 6 7 8 the second row is 7 8; the transpose has `None`. ndarray's `to_slice` of a row.
-    #[inline]
-    pub fn as_slice(&self) -> Option<&'a [T]>
-        ensures found { IsSome result ↔ IsTrue (is_contiguous self.now.row) }
-        ensures items { IfSome result (λ slice. map Some slice.now ≡ row_items self.now) }
-    {
-        let row = self.row;
-        if !is_contiguous(row) {
-            return None;
-        }
-        Some(self.reader.slice(row.start, row.len))
-    }
-
-    /// The row as all of a slice, where the items follow one another; else `None`.
-    #[inline(always)]
-    pub(crate) fn alone(&self) -> Option<LentRow<'a, T>>
-        ensures items { IfSome result (λ row. row_items row ≡ row_items self.now) }
-        ensures len { IfSome result (λ row. row.row.len ≡ self.now.row.len) }
-    {
-        let len = self.row.len;
-        let items = self.as_slice()?;
-        let row = Row {
-            start: 0,
-            stride: 1,
-            len,
-        };
-        Some(LentRow {
-            reader: Reader::of_slice(items),
-            row,
-        })
-    }
-
-    /// The items as a slice, the last one first, where each lies just before the one that it follows: by the stride -1; else `None`.
-    ///
-    /// Of `[2]`, `[-1]` from 1 over 7 8 9: 7 8, of which 8 is the first item. The project's own.
-    #[inline]
-    pub(crate) fn as_slice_backwards(&self) -> Option<&'a [T]>
-        ensures found { IsSome result ↔ IsTrue (is_backwards self.now.row) }
-        ensures items { IfSome result (λ slice. reverse (map Some slice.now) ≡ row_items self.now) }
-    {
-        let row = self.row;
-        if row.stride != -1 {
-            return None;
-        }
-        Some(self.reader.slice(row.start + 1 - row.len, row.len))
-    }
-
-    /// The row as an array of one axis.
-    ///
-    /// Takes no memory.
-    ///
-    /// Of `[2,2]` over 5 6 7 8 the second row: `[2]` from 2, 7 8. ndarray's rows are such arrays.
-    #[inline]
-    pub fn into_array(self) -> ArrayView<'a, T, Ix1>
-        ensures { result ≡ row_array self.entry.items self.entry.row }
-    {
-        let LentRow { reader, row } = self;
-        ArrayView {
-            reader,
-            view: row.layout(),
-        }
-    }
-
-    /// The item of a coordinate. The caller ensures that it is one of the row.
-    #[inline(always)]
-    pub(crate) fn item(&self, coordinate: usize) -> &'a T
-        requires { coordinate < self.now.row.len }
-        ensures { slice_index_or (row_items self.now) coordinate None ≡ Some result.now }
-    {
-        self.reader.get(place_in_row(self.row, coordinate))
-    }
-
-    /// The item of a coordinate; `None` where it is past the row.
-    ///
-    /// Of `[2,2]` over 5 6 7 8, the second row at 0: 7; at 2: `None`. ndarray's `get` of a row.
-    #[inline]
-    pub fn get(&self, coordinate: usize) -> Option<&'a T>
-        ensures found { IsSome result ↔ (coordinate < self.now.row.len) }
-        ensures item { option_copied result ≡ slice_index_or (row_items self.now) coordinate None }
-    {
-        if coordinate >= self.row.len {
-            return None;
-        }
-        Some(self.item(coordinate))
-    }
-}
-
-/// The rows of an array that are still to come, in row-major order, from both ends, each lent. A contract sees the list of them.
-#[derive(Drop)]
-pub struct LentRows<'a, T> {
-    reader: Reader<'a, T>,
-    rows: Rows<'a>,
-}
-
-impl<'a, T> Model for LentRows<'a, T> {
-    ghost use Rattle.std.specs.Prelude.{List, length, map};
-    ghost use Rattle.nd_lent.specs.LentRow.{RowValue, row_of};
-    ghost use Rattle.nd_lent.specs.Read.{AreRowsRead};
-
-    ghost Value = { List (RowValue T) };
-
-    ghost view = { λ rows. map (row_of rows.reader.items) rows.rows };
-
-    ghost invariant = { λ rows. AreRowsRead rows.reader.marks (length rows.reader.items) rows.rows };
-}
-
-impl<'a, T> LentRows<'a, T> {
-    /// These rows, each lent. The caller ensures that each has an item at each place.
-    pub(crate) fn new(reader: Reader<'a, T>, rows: Rows<'a>) -> Self
-        requires { AreRowsRead reader.marks (length reader.items) rows }
-        ensures { result ≡ map (row_of reader.entry.items) rows.entry }
-    {
-        LentRows { reader, rows }
-    }
-}
-
-impl<'a, T> Iterator for LentRows<'a, T> {
-    type Item = LentRow<'a, T>;
-
-    ghost next_gives = { YieldsFirst (λ left. left) };
-
-    ghost remaining = { item_count (λ left. left) };
-
-    #[inline]
-    fn next(&mut self) -> Option<LentRow<'a, T>> {
-        let row = self.rows.next()?;
-        Some(LentRow {
-            reader: self.reader.copied(),
-            row,
-        })
-    }
-
-    fn size_hint(&self) -> (usize, Option<usize>)
-        ensures lower { IsWithinCount result.0 (item_count (λ left. left) self.now) }
-        ensures upper { IfSome result.1 (UpTo (item_count (λ left. left) self.now)) }
-        ensures exact { (result.0 ≡ length self.now) × (result.1 ≡ Some (length self.now)) }
-    {
-        self.rows.size_hint()
-    }
-}
-
-impl<'a, T> DoubleEndedIterator for LentRows<'a, T> {
-    ghost next_back_gives = { YieldsLast (λ left. left) };
-
-    #[inline]
-    fn next_back(&mut self) -> Option<LentRow<'a, T>> {
-        let row = self.rows.next_back()?;
-        Some(LentRow {
-            reader: self.reader.copied(),
-            row,
-        })
-    }
-}
-
-impl<T> ExactSizeIterator for LentRows<'_, T> {
-    fn len(&self) -> usize {
-        self.rows.len()
-    }
-}
-
-impl<T> FusedIterator for LentRows<'_, T> {}
+use crate::axis_last::with_axis_last;
+use nd_access::{LentRow, LentRows};
+use nd_items::IntoRows;
+use nd_loops::nearest_rows;
+use ndarray_layout::{Axis, Ix1, Ix6, Lengths, Order, ShapeError, Strided};
 
 impl<'a, T, D: Lengths> ArrayView<'a, T, D> {
     /// The items of all indices as the longest rows that the axes allow, in row-major order.
@@ -268,5 +53,73 @@ impl<'a, T, D: Lengths> ArrayView<'a, T, D> {
             (YieldsFirst (λ (left : List (RowValue T)). left)) (λ left. left) }
     {
         LentRows::new(self.reader(), self.strided().rows(Order::RowMajor))
+    }
+}
+
+/// A row that becomes an array of one axis.
+pub trait IntoArray<'a, T> {
+    /// The row as an array of one axis.
+    fn into_array(self) -> ArrayView<'a, T, Ix1>;
+}
+
+impl<'a, T> IntoArray<'a, T> for LentRow<'a, T> {
+    /// The row as an array of one axis.
+    ///
+    /// Takes no memory.
+    ///
+    /// Of `[2,2]` over 5 6 7 8 the second row: `[2]` from 2, 7 8. ndarray's rows are such arrays.
+    #[inline]
+    fn into_array(self) -> ArrayView<'a, T, Ix1>
+        ensures { result ≡ row_array self.entry.items self.entry.row }
+    {
+        let LentRow { reader, row } = self;
+        ArrayView {
+            reader,
+            view: row.layout(),
+        }
+    }
+}
+
+impl<'a, T, D: Lengths> ArrayView<'a, T, D> {
+    /// An iterator over the rows along the last axis, in row-major order, from both ends, each lent for as long as the data is. It
+    /// ends the array; `rows` keeps it.
+    ///
+    /// Takes no memory. A row takes the time of its places (`Strided::into_rows`).
+    ///
+    /// `[2,2]` over 5 6 7 8: the rows 5 6 and 7 8. ndarray's `rows`.
+    pub fn into_rows(self) -> IntoRows<'a, T, D>
+        ensures rows { result ≡ map (row_of self.entry.items) (view_rows RowMajor self.entry.view) }
+        ensures items { rows_items result
+            ≡ map (item_at_place self.entry.items) (view_places RowMajor self.entry.view) }
+        ensures in_order { YieldsInOrder
+            (YieldsFirst (λ (left : List (RowValue T)). left)) (λ left. left) }
+    {
+        let ArrayView { reader, view } = self;
+        IntoRows::of_reader(reader, view)
+    }
+
+    /// An iterator over the rows along an axis, in row-major order of the other coordinates, from both ends, each lent for as long as
+    /// the data is. It ends the array.
+    ///
+    /// # Errors
+    ///
+    /// `OutOfBounds` where there is no such axis.
+    ///
+    /// Takes no memory, and time in proportion to the count of axes. A row takes the time of its places (`Strided::into_rows`).
+    ///
+    /// Axis 0 of `[2,2]` over 5 6 7 8: the rows 5 7 and 6 8. ndarray's `lanes`.
+    pub fn into_lanes(self, axis: Axis) -> Result<IntoRows<'a, T, D>, ShapeError>
+        ensures fault { result_err result ≡ invert_fault self.entry.view.shape axis.0 }
+        ensures rows { IfOk result (λ rows. rows ≡ map (row_of self.entry.items)
+            (view_rows RowMajor (axis_last_of axis.0 self.entry.view))) }
+        ensures items { IfOk result (λ rows. rows_items rows
+            ≡ map (item_at_place self.entry.items)
+            (view_places RowMajor (axis_last_of axis.0 self.entry.view))) }
+        ensures in_order { OnOk result (YieldsInOrder
+            (YieldsFirst (λ (left : List (RowValue T)). left)) (λ left. left)) }
+    {
+        let ArrayView { reader, view } = self;
+        let view = with_axis_last(view, axis)?;
+        Ok(IntoRows::of_reader(reader, view))
     }
 }

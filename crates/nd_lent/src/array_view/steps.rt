@@ -28,7 +28,6 @@ ghost use Rattle.nd_lent.specs.ArrayOfStep.{IsArrayOfStep};
 use crate::array_view::ArrayView;
 use ndarray_layout::{
     Axis, Dimension, Fit, Ix1, LayoutError, Lengths, Order, RemoveAxis, ShapeError, SliceElems,
-    Strided,
 };
 use std::alloc::Global;
 
@@ -36,7 +35,7 @@ impl<'a, T, D: Lengths> ArrayView<'a, T, D> {
     /// The array of the items that a slice argument leaves: `Strided::slice`, with its errors.
     ///
     /// `1..` of `[3]` over 7 8 9: 8 9. ndarray's `slice`.
-    #[tactic(auto, using(crate::proofs::Read::read_step))]
+    #[tactic(auto, using(crate::proofs::Steps::read_step))]
     #[inline]
     pub fn slice_with<E: Lengths, S: SliceElems>(
         &self,
@@ -83,7 +82,7 @@ impl<'a, T, D: Lengths> ArrayView<'a, T, D> {
     /// The transpose: `Strided::reversed_axes`.
     ///
     /// (2,1) of the result is (1,2) of the array. ndarray's `reversed_axes`.
-    #[tactic(auto, using(crate::proofs::Read::read_step))]
+    #[tactic(auto, using(crate::proofs::Steps::read_step))]
     pub fn reversed_axes(self) -> Self
         ensures { IsArrayOfStep Descends reverse reversed_of self.entry result }
     {
@@ -94,7 +93,7 @@ impl<'a, T, D: Lengths> ArrayView<'a, T, D> {
     /// The axes in another order: `Strided::permuted_axes`, with its errors.
     ///
     /// ndarray's `permuted_axes`.
-    #[tactic(auto, using(crate::proofs::Read::read_step))]
+    #[tactic(auto, using(crate::proofs::Steps::read_step))]
     pub fn permuted_axes(&self, alloc: Global, axes: &[Axis]) -> Result<Self, LayoutError>
         ensures fault { shape_fault result ≡
             permute_fault self.now.view.shape (axis_numbers axes.now) }
@@ -139,7 +138,7 @@ impl<'a, T, D: Lengths> ArrayView<'a, T, D> {
     /// The same items along another shape, in an order: `Strided::reshape`, with its errors.
     ///
     /// ndarray's `to_shape` where it copies nothing.
-    #[tactic(auto, using(crate::proofs::Read::read_step))]
+    #[tactic(auto, using(crate::proofs::Steps::read_step))]
     pub fn reshape<E: Lengths>(
         &self,
         alloc: Global,
@@ -165,7 +164,7 @@ impl<'a, T, D: Lengths> ArrayView<'a, T, D> {
     /// The array of a shape that this one can be broadcast to: `Strided::broadcast`, with its errors.
     ///
     /// `[1]` over 7 to `[3]`: 7 7 7. ndarray's `broadcast`.
-    #[tactic(auto, using(crate::proofs::Read::read_view))]
+    #[tactic(auto, using(crate::proofs::Steps::read_view))]
     pub fn broadcast<E: Lengths>(
         &self,
         alloc: Global,
@@ -185,7 +184,7 @@ impl<'a, T, D: Lengths> ArrayView<'a, T, D> {
     /// All windows of a shape, as one array: `Strided::windows`, with its errors.
     ///
     /// Windows of `[2]` of `[3]` over 7 8 9: 7 8 and 8 9. ndarray's `windows`.
-    #[tactic(auto, using(crate::proofs::Read::read_view))]
+    #[tactic(auto, using(crate::proofs::Steps::read_view))]
     pub fn windows<E: Lengths>(
         &self,
         alloc: Global,
@@ -205,7 +204,7 @@ impl<'a, T, D: Lengths> ArrayView<'a, T, D> {
     /// All chunks of a shape that lie side by side, as one array: `Strided::exact_chunks`, with its errors.
     ///
     /// Chunks of `[2]` of `[5]` over 5 6 7 8 9: 5 6 and 7 8. ndarray's `exact_chunks`.
-    #[tactic(auto, using(crate::proofs::Read::read_step))]
+    #[tactic(auto, using(crate::proofs::Steps::read_step))]
     pub fn exact_chunks<E: Lengths>(
         &self,
         alloc: Global,
@@ -225,7 +224,7 @@ impl<'a, T, D: Lengths> ArrayView<'a, T, D> {
     /// The items of the indices with the same coordinate on each axis: `Strided::diag`.
     ///
     /// ndarray's `diag`.
-    #[tactic(auto, using(crate::proofs::Read::read_step))]
+    #[tactic(auto, using(crate::proofs::Steps::read_step))]
     pub fn diag(&self) -> ArrayView<'a, T, Ix1>
         ensures { IsArrayOfStep Descends
             (diagonal_source (length self.now.view.shape)) diagonal_of self.now result }
@@ -253,7 +252,7 @@ impl<'a, T, D: Lengths> ArrayView<'a, T, D> {
     /// The two parts along an axis: `Strided::split_at`, with its errors.
     ///
     /// Axis 0 of `[3]` over 7 8 9 at 1: 7, and 8 9. ndarray's `split_at`.
-    #[tactic(auto, using(crate::proofs::Read::read_step))]
+    #[tactic(auto, using(crate::proofs::Steps::read_step))]
     pub fn split_at(
         self,
         alloc: Global,
@@ -281,7 +280,7 @@ impl<'a, T, D: Lengths + Copy> ArrayView<'a, T, D> {
     /// The items of the coordinates from `starts` to `ends`, one of each for each axis: `Strided::crop`.
     ///
     /// From (1) to (3) of `[3]` over 7 8 9: 8 9; to (4) `None`. In place of ndarray's `slice` by ranges.
-    #[tactic(auto, using(crate::proofs::Read::read_step))]
+    #[tactic(auto, using(crate::proofs::Steps::read_step))]
     #[inline]
     pub fn crop(&self, starts: &D, ends: &D) -> Option<Self>
         ensures found { IsSome result
@@ -299,7 +298,7 @@ impl<'a, T, D: RemoveAxis> ArrayView<'a, T, D> {
     /// The items at one coordinate of an axis, without the axis: `Strided::index_axis`, with its errors.
     ///
     /// Coordinate 1 of axis 0 of `[2,3]`: the second row. ndarray's `index_axis`.
-    #[tactic(auto, using(crate::proofs::Read::read_step))]
+    #[tactic(auto, using(crate::proofs::Steps::read_step))]
     pub fn index_axis(
         &self,
         alloc: Global,
@@ -321,7 +320,7 @@ impl<'a, T, D: Dimension> ArrayView<'a, T, D> {
     /// The array with a new axis of length 1: `Strided::insert_axis`, with its errors.
     ///
     /// ndarray's `insert_axis`.
-    #[tactic(auto, using(crate::proofs::Read::read_step))]
+    #[tactic(auto, using(crate::proofs::Steps::read_step))]
     pub fn insert_axis(
         &self,
         alloc: Global,

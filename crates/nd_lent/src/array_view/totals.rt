@@ -1,86 +1,18 @@
-//! What is known of all items of an array at once: their sum, and whether some or all of them pass a test.
+//! What is known of all items of an array at once: their sum and product, and whether some or all of them pass a test.
 ghost use Rattle.std.specs.Iterator.{CallableWhile, ChecksAll, ChecksAny};
 ghost use Rattle.std.specs.List.{sum_by};
 ghost use Rattle.std.specs.Option.{option_map_or};
-ghost use Rattle.std.specs.Prelude.{◌≡◌, ◌^◌, ◌<◌, ◌↔◌, ℕ, IfSome, IsSome, List, Option, Some, true, false, map};
+ghost use Rattle.std.specs.Prelude.{◌≡◌, ◌^◌, ◌<◌, ◌↔◌, IfSome, IsSome, List, Option, true, false, map};
 ghost use Rattle.ndarray_layout.specs.declared.Order.TheVariants.{RowMajor};
+ghost use Rattle.ndarray_layout.specs.Size.{size};
 ghost use Rattle.ndarray_layout.specs.View.{view_places};
-ghost use Rattle.nd_lent.specs.Items.{item_at_place};
-ghost use Rattle.nd_lent.specs.LentRow.{rows_items};
-ghost use Rattle.nd_lent.specs.Lending.{lends};
-ghost use Rattle.nd_lent.specs.private.Summed.{within_u64};
+ghost use Rattle.nd_access.specs.Items.{item_at_place};
+ghost use Rattle.nd_access.specs.Lending.{lends};
+ghost use Rattle.nd_lent.specs.private.Times.{times};
 
-use crate::array_view::summing::sum_row;
-use crate::array_view::{ArrayView, LentRows};
-use crate::nearest::nearest_view;
+use crate::array_view::ArrayView;
+use nd_loops::{Unsigned, nearest_view, sum_rows};
 use ndarray_layout::Lengths;
-
-/// An unsigned number of any of the widths. num_traits' `Unsigned`.
-pub trait Unsigned: Copy {
-    // The number.
-    ghost number: { Self → ℕ };
-
-    /// The number, by the greatest width. `3_u8` as a `u64`: 3. num_traits' `to_u64`.
-    fn to_u64(self) -> u64
-        ensures { result ≡ number self };
-}
-
-impl Unsigned for u8 {
-    ghost number = { λ n. n };
-
-    #[inline(always)]
-    fn to_u64(self) -> u64 {
-        u64::from(self)
-    }
-}
-
-impl Unsigned for u16 {
-    ghost number = { λ n. n };
-
-    #[inline(always)]
-    fn to_u64(self) -> u64 {
-        u64::from(self)
-    }
-}
-
-impl Unsigned for u32 {
-    ghost number = { λ n. n };
-
-    #[inline(always)]
-    fn to_u64(self) -> u64 {
-        u64::from(self)
-    }
-}
-
-impl Unsigned for u64 {
-    ghost number = { λ n. n };
-
-    #[inline(always)]
-    fn to_u64(self) -> u64 {
-        self
-    }
-}
-
-impl Unsigned for usize {
-    ghost number = { λ n. n };
-
-    #[inline(always)]
-    fn to_u64(self) -> u64 {
-        self as u64
-    }
-}
-
-/// The sum of the items of rows; `None` where it passes the greatest `u64`.
-fn sum_rows<T: Unsigned>(rows: LentRows<'_, T>) -> Option<u64>
-    ensures { result
-        ≡ within_u64 (sum_by (λ item. option_map_or T.number item 0) (rows_items rows.entry)) }
-{
-    let mut total = 0u64;
-    for row in rows {
-        total = total.checked_add(sum_row(&row)?)?;
-    }
-    Some(total)
-}
 
 impl<T: Unsigned, D: Lengths> ArrayView<'_, T, D> {
     /// The sum of the items, an item as often as the array has indices for it; `None` where it passes the greatest `u64`.
@@ -97,6 +29,31 @@ impl<T: Unsigned, D: Lengths> ArrayView<'_, T, D> {
     {
         let nearest = nearest_view(self.strided());
         sum_rows(self.rows_in(&nearest))
+    }
+
+    /// The product of the items, an item as often as the array has indices for it; `None` where it passes the greatest `u64`. Without
+    /// items 1.
+    ///
+    /// Time in proportion to the indices. Takes no memory. Goes over the longest rows that the axes allow, as `fold` does.
+    ///
+    /// `[2]` with the stride `[-1]` over 7 8 9: 56; of `u8` items too. Of three items of 2^32 `None`, and 0 if a fourth one is 0.
+    /// ndarray's `product`.
+    pub fn product(&self) -> Option<u64>
+        ensures fits { IsSome result ↔ (size (map (λ item. option_map_or T.number item 1)
+            (map (item_at_place self.now.items) (view_places RowMajor self.now.view))) < 2 ^ 64) }
+        ensures product { IfSome result (λ product. product ≡ size (map (λ item. option_map_or T.number item 1)
+            (map (item_at_place self.now.items) (view_places RowMajor self.now.view)))) }
+    {
+        let times = |product: Option<u64>, item: &T|
+            ensures { result ≡ times product (T.number item.now) }
+        {
+            match (product, item.to_u64()) {
+                (_, 0) => Some(0),
+                (Some(product), number) => product.checked_mul(number),
+                (None, _) => None,
+            }
+        };
+        self.fold(Some(1), times)
     }
 }
 

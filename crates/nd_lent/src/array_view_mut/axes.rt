@@ -18,7 +18,7 @@ use ndarray_layout::{Axis, Dimension, Ix1, LayoutError, Lengths, ShapeError};
 use std::alloc::Global;
 
 impl<'a, T: Drop, D: Lengths> ArrayViewMut<'a, T, D> {
-    ghost use Rattle.nd_lent.specs.Lent.{array_of};
+    ghost use Rattle.nd_lent.specs.Lent.{access_of, array_of};
 
     /// Reverses an axis: `Strided::invert_axis`, with its errors; the part is unchanged after one. No item is written.
     ///
@@ -29,7 +29,7 @@ impl<'a, T: Drop, D: Lengths> ArrayViewMut<'a, T, D> {
         ensures array { OnOk result (IsArrayOfStep Descends
             (invert_source axis.0 (array_of self.old).view.shape) (inverted_of axis.0)
             (array_of self.old) (array_of self.new)) }
-        ensures same_right { self.new.cells.name ≡ self.old.cells.name }
+        ensures keeps_access { access_of self.new ≡ access_of self.old }
     {
         self.view.invert_axis(axis)
     }
@@ -44,7 +44,7 @@ impl<'a, T: Drop, D: Lengths> ArrayViewMut<'a, T, D> {
         ensures array { OnOk result (IsArrayOfStep Descends
             (λ index. swap index axis.0 other.0) (swapped_of axis.0 other.0)
             (array_of self.old) (array_of self.new)) }
-        ensures same_right { self.new.cells.name ≡ self.old.cells.name }
+        ensures keeps_access { access_of self.new ≡ access_of self.old }
     {
         self.view.swap_axes(axis, other)
     }
@@ -52,12 +52,12 @@ impl<'a, T: Drop, D: Lengths> ArrayViewMut<'a, T, D> {
     /// The items of the indices with the same coordinate on each axis: `Strided::diag`.
     ///
     /// `[2,2]` over 5 6 7 8: 5 8. ndarray's `diag_mut`.
-    #[tactic(auto, using(crate::proofs::Laws::Marks::part_descendant))]
+    #[tactic(auto, using(crate::proofs::Steps::part_descendant))]
     pub fn diag(self) -> ArrayViewMut<'a, T, Ix1>
         ensures array { IsArrayOfStep Descends
             (diagonal_source (length (array_of self.entry).view.shape)) diagonal_of
             (array_of self.entry) (array_of result) }
-        ensures same_right { result.cells.name ≡ self.entry.cells.name }
+        ensures keeps_access { access_of result ≡ access_of self.entry }
     {
         let ArrayViewMut { cells, view } = self;
         let view = view.diag();
@@ -66,19 +66,19 @@ impl<'a, T: Drop, D: Lengths> ArrayViewMut<'a, T, D> {
 }
 
 impl<'a, T: Drop, D: Lengths + Copy> ArrayViewMut<'a, T, D> {
-    ghost use Rattle.nd_lent.specs.Lent.{array_of};
+    ghost use Rattle.nd_lent.specs.Lent.{access_of, array_of};
 
     /// The items of the coordinates from `starts` to `ends`, one of each for each axis: `Strided::crop`.
     ///
     /// From (1) to (3) of `[3]` over 7 8 9: 8 9; to (4) `None`. In place of ndarray's `slice_move` by ranges.
-    #[tactic(auto, using(crate::proofs::Laws::Marks::part_descendant))]
+    #[tactic(auto, using(crate::proofs::Steps::part_descendant))]
     pub fn crop(self, starts: &D, ends: &D) -> Option<Self>
         ensures found { IsSome result
             ↔ RangesFit (array_of self.entry).view.shape (D.list starts.now) (D.list ends.now) }
         ensures array { IfSome result (λ a. IsArrayOfStep Descends
             (crop_source (D.list starts.now)) (cropped_of (D.list starts.now) (D.list ends.now))
             (array_of self.entry) (array_of a)) }
-        ensures same_right { IfSome result (λ a. a.cells.name ≡ self.entry.cells.name) }
+        ensures keeps_access { IfSome result (λ a. access_of a ≡ access_of self.entry) }
     {
         let ArrayViewMut { cells, view } = self;
         let view = view.crop(starts, ends)?;
@@ -87,12 +87,12 @@ impl<'a, T: Drop, D: Lengths + Copy> ArrayViewMut<'a, T, D> {
 }
 
 impl<'a, T: Drop, D: Dimension> ArrayViewMut<'a, T, D> {
-    ghost use Rattle.nd_lent.specs.Lent.{array_of};
+    ghost use Rattle.nd_lent.specs.Lent.{access_of, array_of};
 
     /// The part with a new axis of length 1: `Strided::insert_axis`, with its errors.
     ///
     /// ndarray's `insert_axis`.
-    #[tactic(auto, using(crate::proofs::Laws::Marks::part_descendant))]
+    #[tactic(auto, using(crate::proofs::Steps::part_descendant))]
     pub fn insert_axis(
         self,
         alloc: Global,
@@ -105,7 +105,7 @@ impl<'a, T: Drop, D: Dimension> ArrayViewMut<'a, T, D> {
             IsOk result }
         ensures array { IfOk result (λ a. IsArrayOfStep Descends
             (insert_source axis.0) (inserted_of axis.0) (array_of self.entry) (array_of a)) }
-        ensures same_right { IfOk result (λ a. a.cells.name ≡ self.entry.cells.name) }
+        ensures keeps_access { IfOk result (λ a. access_of a ≡ access_of self.entry) }
     {
         let ArrayViewMut { cells, view } = self;
         let view = view.insert_axis(alloc, axis)?;

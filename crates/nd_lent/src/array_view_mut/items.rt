@@ -1,217 +1,19 @@
-//! The items of a part one after another, each lent to be written, without a list of them.
-ghost use Rattle.std.specs.Iterator.{CallableInFold, FoldsItems, UpTo, YieldsFirstBy, YieldsLastBy, item_count};
-ghost use Rattle.std.specs.Iterator.SizeHint.{IsWithinCount};
-ghost use Rattle.std.specs.Prelude.{◌≡◌, ◌≢◌, ◌-◌, ◌++◌, [], IfSome, MatchOption, Some, drop, length, map, take};
-ghost use Rattle.ndarray_layout.specs.declared.Order.TheVariants.{RowMajor};
+//! The items of a part one after another, with or without their indices, each lent to be written, without a list of them.
+ghost use Rattle.std.specs.Prelude.{◌≡◌, ◌≢◌, ◌++◌, [], IfSome, MatchOption, map, IfOk, IsOk, length};
+ghost use Rattle.nd_access.specs.Items.{item_at_place, items_of};
+ghost use Rattle.nd_items.specs.IndexedItems.{indexed_items};
+ghost use Rattle.nd_lent.specs.Lent.{access_of, array_of};
+ghost use Rattle.ndarray_layout.specs.Memory.{NeedsNoMemory};
 ghost use Rattle.ndarray_layout.specs.View.{view_places};
-ghost use Rattle.nd_lent.specs.Items.{item_at_place};
-ghost use Rattle.nd_lent.specs.Lending.{lends_mut};
-ghost use Rattle.nd_lent.specs.Own.{AreOwn, AreOwn-prop};
-ghost use Rattle.nd_lent.specs.private.Folded.{HasFoldedMut};
+ghost use Rattle.ndarray_layout.specs.declared.Order.TheVariants.{RowMajor};
 
 use crate::array_view_mut::ArrayViewMut;
-use crate::cells::Cells;
-use ndarray_layout::{IntoPlaces, Ix1, Lengths, Order};
-use std::iter::FusedIterator;
-
-/// The items of a part that are still to come, in row-major order of their indices, from both ends, each lent to be written.
-/// ndarray's `IterMut`.
-#[derive(Drop)]
-pub struct IterMut<'a, T, D: Lengths> {
-    pub(crate) cells: Cells<'a, T>,
-    pub(crate) places: IntoPlaces<D>,
-    ghost own: { AreOwn cells.marks places } by { AreOwn-prop cells.marks places },
-}
-
-impl<'a, T, D: Lengths> Iterator for IterMut<'a, T, D> {
-    ghost use Rattle.nd_lent.specs.ItemsLeft.{items_left};
-
-    type Item = &'a mut T;
-
-    ghost next_gives = { YieldsFirstBy (λ item. Some item.now) items_left };
-
-    ghost remaining = { item_count items_left };
-
-    #[inline(always)]
-    fn next(&mut self) -> Option<&'a mut T> {
-        let place = self.places.next()?;
-        self.cells.take_slice(place, 1).first_mut()
-    }
-
-    fn size_hint(&self) -> (usize, Option<usize>)
-        ensures lower { IsWithinCount result.0 (item_count items_left self.now) }
-        ensures upper { IfSome result.1 (UpTo (item_count items_left self.now)) }
-        ensures exact { (result.0 ≡ length (items_left self.now)) × (result.1 ≡ Some (length (items_left self.now))) }
-    {
-        self.places.size_hint()
-    }
-}
-
-impl<'a, T, D: Lengths> DoubleEndedIterator for IterMut<'a, T, D> {
-    ghost use Rattle.nd_lent.specs.ItemsLeft.{items_left};
-
-    ghost next_back_gives = { YieldsLastBy (λ item. Some item.now) items_left };
-
-    #[inline]
-    fn next_back(&mut self) -> Option<&'a mut T> {
-        let place = self.places.next_back()?;
-        self.cells.take_slice(place, 1).first_mut()
-    }
-}
-
-impl<'a, T, D: Lengths> ExactSizeIterator for IterMut<'a, T, D> {
-    fn len(&self) -> usize {
-        self.places.len()
-    }
-}
-
-impl<'a, T, D: Lengths> FusedIterator for IterMut<'a, T, D> {}
-
-impl<'a, T, D: Lengths> IterMut<'a, T, D> {
-    ghost use Rattle.nd_lent.specs.ItemsLeft.{items_left};
-
-    /// Leaves out so many items, or all where fewer are left: the next one is the one that comes after them. They are unchanged.
-    ///
-    /// Takes no memory, and no time for each of them (`PlacesOf::advance`).
-    ///
-    /// Of the items of `[2,2]` over 5 6 7 8, after 3 of them: 8. What `nth` of std's iterators leaves out one by one.
-    pub fn advance(&mut self, count: usize)
-        ensures left { items_left self.new ≡ drop count (items_left self.old) }
-        ensures same_right { self.new.cells.name ≡ self.old.cells.name }
-    {
-        self.places.advance(count);
-    }
-
-    /// Leaves out so many items at the back, or all where fewer are left: the last one is the one that comes before them. They are
-    /// unchanged.
-    ///
-    /// Takes no memory, and no time for each of them (`PlacesOf::advance_back`).
-    ///
-    /// Of the items of `[2,2]` over 5 6 7 8, without the last 3: 5. What `nth_back` of std's iterators leaves out one by one.
-    pub fn advance_back(&mut self, count: usize)
-        ensures left { items_left self.new ≡
-            take (length (items_left self.old) - count) (items_left self.old) }
-        ensures same_right { self.new.cells.name ≡ self.old.cells.name }
-    {
-        self.places.advance_back(count);
-    }
-}
-
-impl<'a, T: Drop, D: Lengths> IterMut<'a, T, D> {
-    ghost use Rattle.nd_lent.specs.ItemsLeft.{items_left};
-    ghost use Rattle.nd_lent.specs.Items.{items_of};
-    ghost use Rattle.nd_lent.specs.Lent.{array_of};
-
-    /// The items that come next and lie evenly, at once, as a part of their own: what is left of the row in progress, or else the
-    /// next row; `None` after the last item.
-    ///
-    /// Takes no memory. Costs as much as an item.
-    ///
-    /// Of the items of `[2,2]` with strides `[3,1]` over 5 6 7 8 9, after one item: a part of 6, and then one of 8 9. The project's own.
-    pub fn next_row(&mut self) -> Option<ArrayViewMut<'a, T, Ix1>>
-        ensures row { MatchOption result ((items_left self.old ≡ []) × (items_left self.new ≡ []))
-            (λ row. items_left self.old ≡ items_of (array_of row) ++ items_left self.new) }
-        ensures some { IfSome result (λ row. items_of (array_of row) ≢ []) }
-    {
-        let row = self.places.next_row()?;
-        Some(ArrayViewMut::take_from(&mut self.cells, row.layout()))
-    }
-
-    /// The last items that lie evenly, at once, as a part of their own: what is left of the row in progress at the back, or else
-    /// the last row; `None` before the first item.
-    ///
-    /// Takes no memory. Costs as much as an item from the back.
-    ///
-    /// Of the items of `[2,2]` with strides `[3,1]` over 5 6 7 8 9, without the last one: a part of 8, and then one of 5 6. The
-    /// project's own.
-    pub fn next_row_back(&mut self) -> Option<ArrayViewMut<'a, T, Ix1>>
-        ensures row { MatchOption result ((items_left self.old ≡ []) × (items_left self.new ≡ []))
-            (λ row. items_left self.old ≡ items_left self.new ++ items_of (array_of row)) }
-        ensures some { IfSome result (λ row. items_of (array_of row) ≢ []) }
-    {
-        let row = self.places.next_row_back()?;
-        Some(ArrayViewMut::take_from(&mut self.cells, row.layout()))
-    }
-}
-
-/// How many items a row has at least that is folded as a slice: one by one, those of fewer take less time.
-const LONG: usize = 8;
-
-/// Calls a function with a total and an item, and hands it back.
-#[inline(always)]
-fn turn<'a, T, B, F: FnMut(B, &'a mut T) -> B>(mut f: F, total: B, item: &'a mut T) -> (B, F)
-    requires { F.pre f total item }
-    ensures { F.step f total item.entry result.0 result.1 }
-{
-    let next = f(total, item);
-    (next, f)
-}
-
-/// Folds the items of a slice, and hands back the function.
-#[inline(always)]
-fn fold_slice<'a, T, B, F: FnMut(B, &'a mut T) -> B>(items: &'a mut [T], init: B, f: F) -> (B, F)
-    requires { CallableInFold lends_mut F.FnMut (map Some items.old) f init }
-    ensures { HasFoldedMut F.FnMut (f, init) (map Some items.old) (result.1, result.0) }
-{
-    let (mut total, mut f) = (init, f);
-    for item in items.iter_mut() {
-        (total, f) = turn(f, total, item);
-    }
-    (total, f)
-}
-
-impl<'a, T: Drop, D: Lengths> IterMut<'a, T, D> {
-    ghost use Rattle.nd_lent.specs.ItemsLeft.{items_left};
-
-    /// Folds the items that are left one by one, and hands back the function.
-    #[inline]
-    fn fold_each<B, F: FnMut(B, &'a mut T) -> B>(self, init: B, f: F) -> (B, F)
-        requires { CallableInFold lends_mut F.FnMut (items_left self) f init }
-        ensures { HasFoldedMut F.FnMut (f, init) (items_left self.entry) (result.1, result.0) }
-    {
-        let (mut total, mut f) = (init, f);
-        for item in self {
-            (total, f) = turn(f, total, item);
-        }
-        (total, f)
-    }
-
-    /// What `fold` of std's iterators returns of the items that are left, row by row: one whose items follow one another is a loop over
-    /// a slice. After a row that is short the others are folded one by one.
-    #[inline]
-    pub(crate) fn fold_rest<B, F: FnMut(B, &'a mut T) -> B>(self, init: B, f: F) -> B
-        requires callable { CallableInFold lends_mut F.FnMut (items_left self) f init }
-        ensures ran { FoldsItems lends_mut F.FnMut (items_left self.entry) f init result }
-    {
-        let (mut items, mut total, mut f) = (self, init, f);
-        while let Some(row) = items.next_row() {
-            let is_short = row.len() < LONG;
-            (total, f) = row.fold_items(total, f);
-            if is_short {
-                let (total, _) = items.fold_each(total, f);
-                return total;
-            }
-        }
-        total
-    }
-}
+use nd_items::{IndexedIterMut, IterMut};
+use ndarray_layout::{Ix1, Lengths};
+use std::alloc::{AllocError, Global};
 
 impl<'a, T: Drop, D: Lengths> ArrayViewMut<'a, T, D> {
-    ghost use Rattle.nd_lent.specs.ItemsLeft.{items_left};
-    ghost use Rattle.nd_lent.specs.Items.{items_of};
-    ghost use Rattle.nd_lent.specs.Lent.{array_of};
-
-    /// Folds the items, and hands back the function: where they follow one another, as a slice.
-    #[inline(always)]
-    fn fold_items<B, F: FnMut(B, &'a mut T) -> B>(self, init: B, f: F) -> (B, F)
-        requires { CallableInFold lends_mut F.FnMut (items_of (array_of self)) f init }
-        ensures { HasFoldedMut F.FnMut (f, init) (items_of (array_of self.entry)) (result.1, result.0) }
-    {
-        match self.into_slice() {
-            Ok(items) => fold_slice(items, init, f),
-            Err(row) => row.into_items().fold_each(init, f),
-        }
-    }
+    ghost use Rattle.nd_items.specs.ItemsLeft.{access_left, items_left};
 
     /// An iterator over the items of all indices, in row-major order (the last axis moves fastest), from both ends, each lent to be
     /// written for as long as the whole is. It knows how many are left. That they keep what is written is tested, and in no clause.
@@ -222,12 +24,78 @@ impl<'a, T: Drop, D: Lengths> ArrayViewMut<'a, T, D> {
     pub fn into_items(self) -> IterMut<'a, T, D>
         ensures items { items_left result ≡ map (item_at_place (array_of self.entry).items)
             (view_places RowMajor (array_of self.entry).view) }
-        ensures same_right { result.cells.name ≡ self.entry.cells.name }
+        ensures keeps_access { access_left result ≡ access_of self.entry }
     {
         let ArrayViewMut { cells, view } = self;
-        IterMut {
-            cells,
-            places: view.into_places(Order::RowMajor),
-        }
+        IterMut::of_cells(cells, view)
+    }
+}
+
+/// Items to be written that come row by row, each row as a part of its own.
+pub trait RowParts<'a, T> {
+    /// The items that come next and lie evenly, at once.
+    fn next_row(&mut self) -> Option<ArrayViewMut<'a, T, Ix1>>;
+
+    /// The last items that lie evenly, at once.
+    fn next_row_back(&mut self) -> Option<ArrayViewMut<'a, T, Ix1>>;
+}
+
+impl<'a, T: Drop, D: Lengths> RowParts<'a, T> for IterMut<'a, T, D> {
+    ghost use Rattle.nd_items.specs.ItemsLeft.{items_left};
+
+    /// The items that come next and lie evenly, at once, as a part of their own: what is left of the row in progress, or else the
+    /// next row; `None` after the last item.
+    ///
+    /// Takes no memory. Costs as much as an item.
+    ///
+    /// Of the items of `[2,2]` with strides `[3,1]` over 5 6 7 8 9, after one item: a part of 6, and then one of 8 9. The project's own.
+    fn next_row(&mut self) -> Option<ArrayViewMut<'a, T, Ix1>>
+        ensures row { MatchOption result ((items_left self.old ≡ []) × (items_left self.new ≡ []))
+            (λ row. items_left self.old ≡ items_of (array_of row) ++ items_left self.new) }
+        ensures some { IfSome result (λ row. items_of (array_of row) ≢ []) }
+    {
+        let (cells, view) = self.next_part()?;
+        Some(ArrayViewMut::of_cells(cells, view))
+    }
+
+    /// The last items that lie evenly, at once, as a part of their own: what is left of the row in progress at the back, or else
+    /// the last row; `None` before the first item.
+    ///
+    /// Takes no memory. Costs as much as an item from the back.
+    ///
+    /// Of the items of `[2,2]` with strides `[3,1]` over 5 6 7 8 9, without the last one: a part of 8, and then one of 5 6. The
+    /// project's own.
+    fn next_row_back(&mut self) -> Option<ArrayViewMut<'a, T, Ix1>>
+        ensures row { MatchOption result ((items_left self.old ≡ []) × (items_left self.new ≡ []))
+            (λ row. items_left self.old ≡ items_left self.new ++ items_of (array_of row)) }
+        ensures some { IfSome result (λ row. items_of (array_of row) ≢ []) }
+    {
+        let (cells, view) = self.next_part_back()?;
+        Some(ArrayViewMut::of_cells(cells, view))
+    }
+}
+
+impl<'a, T: Drop, D: Lengths> ArrayViewMut<'a, T, D> {
+    ghost use Rattle.nd_items.specs.IndexedLeft.{indexed_left};
+    ghost use Rattle.nd_items.specs.ItemsLeft.{access_left};
+
+    /// An iterator over the items with their indices, in row-major order (the last axis moves fastest), each lent to be written for
+    /// as long as the whole is. It ends the part.
+    ///
+    /// # Errors
+    ///
+    /// Out of memory; never where the type fixes the count of axes or there are at most 4. The part is gone then.
+    ///
+    /// Takes time in proportion to the count of axes. An item takes that of `IndexedIterMut::try_next`.
+    ///
+    /// The transpose of `[2,2]` over 5 6 7 8: 5 at (0, 0), 7 at (0, 1), 6 at (1, 0), 8 at (1, 1). ndarray's `indexed_iter_mut`.
+    pub fn into_indexed_items(self, alloc: Global) -> Result<IndexedIterMut<'a, T, D>, AllocError>
+        ensures items { IfOk result (λ left. indexed_left D.list left ≡ indexed_items (array_of self.entry)) }
+        ensures keeps_access { IfOk result (λ left. access_left left.items ≡ access_of self.entry) }
+        ensures memory { NeedsNoMemory D.NDIM (length (array_of self.entry).view.shape) → IsOk result }
+    {
+        let dim = self.dim().duplicate(alloc)?;
+        let index = D::zeros(alloc, dim.ndim())?;
+        Ok(IndexedIterMut::of_items(self.into_items(), dim, index))
     }
 }

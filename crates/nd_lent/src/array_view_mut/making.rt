@@ -8,15 +8,15 @@ ghost use Rattle.ndarray_layout.specs.AcceptanceFrom.{acceptance_from};
 ghost use Rattle.ndarray_layout.specs.Memory.{NeedsNoMemory};
 ghost use Rattle.ndarray_layout.specs.ShapeBuilder.{custom_strides, strides_list};
 ghost use Rattle.ndarray_layout.specs.ShapeFault.{shape_fault};
-ghost use Rattle.nd_lent.specs.Items.{IsOwned, view_from_0};
+ghost use Rattle.nd_access.specs.Items.{IsOwned, view_from_0};
 
 use crate::array_view_mut::ArrayViewMut;
-use crate::cells::Cells;
+use nd_access::Cells;
 use ndarray_layout::{CanIndexCheckMode, LayoutError, Lengths, ShapeError, StrideShape, Strided};
 use std::alloc::Global;
 
 impl<'a, T, D: Lengths> ArrayViewMut<'a, T, D> {
-    ghost use Rattle.nd_lent.specs.Lent.{array_of};
+    ghost use Rattle.nd_lent.specs.Lent.{access_of, array_of};
 
     /// `new`, where the proof of the caller shows that each index has an item to itself: the package doesn't look again.
     #[inline(always)]
@@ -24,8 +24,8 @@ impl<'a, T, D: Lengths> ArrayViewMut<'a, T, D> {
         requires { IsOwned (length items.old) view }
         ensures items { (array_of result).items ≡ items.old }
         ensures view { (array_of result).view ≡ view }
-        ensures marks { result.cells.marks ≡ replicate (length items.old) true }
-        ensures same_right { result.cells.name ≡ items.entry.ghost_name }
+        ensures marks { (access_of result).marks ≡ replicate (length items.old) true }
+        ensures same_right { (access_of result).name ≡ items.entry.ghost_name }
     {
         ArrayViewMut {
             cells: Cells::all_of(items),
@@ -42,15 +42,15 @@ impl<'a, T, D: Lengths> ArrayViewMut<'a, T, D> {
         requires { IsOwned (length items.old) view }
         ensures items { (array_of result).items ≡ items.old }
         ensures view { (array_of result).view ≡ view }
-        ensures marks { result.cells.marks ≡ replicate (length items.old) true }
-        ensures same_right { result.cells.name ≡ items.entry.ghost_name }
+        ensures marks { (access_of result).marks ≡ replicate (length items.old) true }
+        ensures same_right { (access_of result).name ≡ items.entry.ghost_name }
     {
         ArrayViewMut::of_own_items(view, items)
     }
 }
 
 impl<'a, T: Drop, D: Lengths> ArrayViewMut<'a, T, D> {
-    ghost use Rattle.nd_lent.specs.Lent.{array_of};
+    ghost use Rattle.nd_lent.specs.Lent.{access_of, array_of};
 
     /// The part of all indices of a view over items, where each index has one of them to itself. The items may be fewer than
     /// those that the view was made for. That the items keep what is written is tested, and in no clause. A proof knows it where a
@@ -73,8 +73,8 @@ impl<'a, T: Drop, D: Lengths> ArrayViewMut<'a, T, D> {
         ensures view { IfOk result (λ part. (array_of part).view ≡ view) }
         ensures owned { IfOk result (λ part.
             IsOwned (length (array_of part).items) (array_of part).view) }
-        ensures marks { IfOk result (λ part. part.cells.marks ≡ replicate (length items.old) true) }
-        ensures same_right { IfOk result (λ part. part.cells.name ≡ items.entry.ghost_name) }
+        ensures marks { IfOk result (λ part. (access_of part).marks ≡ replicate (length items.old) true) }
+        ensures same_right { IfOk result (λ part. (access_of part).name ≡ items.entry.ghost_name) }
     {
         let start = view.start();
         let view = view.moved_to(start, 1, items.len(), CanIndexCheckMode::OwnedMutable)?;
@@ -110,8 +110,8 @@ impl<'a, T: Drop, D: Lengths> ArrayViewMut<'a, T, D> {
             (strides_list D.list (D.list shape.dim) shape.strides)) }
         ensures owned { IfOk result (λ part.
             IsOwned (length (array_of part).items) (array_of part).view) }
-        ensures marks { IfOk result (λ part. part.cells.marks ≡ replicate (length items.old) true) }
-        ensures same_right { IfOk result (λ part. part.cells.name ≡ items.entry.ghost_name) }
+        ensures marks { IfOk result (λ part. (access_of part).marks ≡ replicate (length items.old) true) }
+        ensures same_right { IfOk result (λ part. (access_of part).name ≡ items.entry.ghost_name) }
     {
         let len = items.len();
         let view = Strided::from_shape(alloc, shape, 1, len, CanIndexCheckMode::OwnedMutable)?;

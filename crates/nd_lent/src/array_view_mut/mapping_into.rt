@@ -5,19 +5,18 @@ ghost use Rattle.std.specs.Option.{option_map};
 ghost use Rattle.std.specs.Prelude.{◌≡◌, ◌↔◌, IsOk, OnErr, OnOk, Some};
 ghost use Rattle.std.specs.Result.{result_err};
 ghost use Rattle.ndarray_layout.specs.declared.ErrorKind.TheVariants.{IncompatibleShape};
-ghost use Rattle.nd_lent.specs.AnyOrder.{CallsMakeArrayInSomeOrder, InAnyOrder};
-ghost use Rattle.nd_lent.specs.HasItems.{HasItemsOf, KeepsSpare};
-ghost use Rattle.nd_lent.specs.Items.{item_at};
-ghost use Rattle.nd_lent.specs.Mapped.{CallsMake, gives, row_major_items};
-ghost use Rattle.nd_lent.specs.Rights.{right_of};
+ghost use Rattle.nd_loops.specs.AnyOrder.{CallsMakeArrayInSomeOrder, InAnyOrder};
+ghost use Rattle.nd_access.specs.HasItems.{HasItemsOf, KeepsSpare};
+ghost use Rattle.nd_access.specs.Items.{item_at};
+ghost use Rattle.nd_access.specs.Mapped.{CallsMake, gives, row_major_items};
 
 use crate::array_view::ArrayView;
 use crate::array_view_mut::ArrayViewMut;
-use crate::array_view_mut::pairs::{zip_nearest, zip_view};
+use nd_loops::{zip_nearest, zip_view};
 use ndarray_layout::{ErrorKind, Lengths, ShapeError, from_kind};
 
 impl<T, D: Lengths> ArrayView<'_, T, D> {
-    ghost use Rattle.nd_lent.specs.Lent.{array_of};
+    ghost use Rattle.nd_lent.specs.Lent.{access_of, array_of};
 
     /// Writes at each index of a part of the same shape what a closure makes of the item here, in row-major order. Other items are
     /// unchanged.
@@ -48,9 +47,7 @@ impl<T, D: Lengths> ArrayView<'_, T, D> {
             (λ index. option_map h (item_at self.now index)) (array_of to.old) (array_of to.new)) }
         ensures view { (array_of to.new).view ≡ (array_of to.old).view }
         ensures spare { KeepsSpare (array_of to.old) (array_of to.new) }
-        ensures same_right { to.new.cells.name ≡ to.old.cells.name }
-        ensures same_marks { to.new.cells.marks ≡ to.old.cells.marks }
-        ensures same_right_of { right_of to.new.cells ≡ right_of to.old.cells }
+        ensures keeps_access { access_of to.new ≡ access_of to.old }
     {
         if !to.view.dim().equal(self.dim()) {
             return Err(from_kind(ErrorKind::IncompatibleShape));
@@ -97,9 +94,7 @@ impl<T, D: Lengths> ArrayView<'_, T, D> {
             (λ index. option_map h (item_at self.now index)) (array_of to.old) (array_of to.new)) }
         ensures view { (array_of to.new).view ≡ (array_of to.old).view }
         ensures spare { KeepsSpare (array_of to.old) (array_of to.new) }
-        ensures same_right { to.new.cells.name ≡ to.old.cells.name }
-        ensures same_marks { to.new.cells.marks ≡ to.old.cells.marks }
-        ensures same_right_of { right_of to.new.cells ≡ right_of to.old.cells }
+        ensures keeps_access { access_of to.new ≡ access_of to.old }
     {
         if !to.view.dim().equal(self.dim()) {
             return Err(from_kind(ErrorKind::IncompatibleShape));

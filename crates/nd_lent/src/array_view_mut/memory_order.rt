@@ -9,7 +9,7 @@ use crate::memory_range::memory_range;
 use ndarray_layout::Dimension;
 
 impl<'a, T: Drop, D: Dimension> ArrayViewMut<'a, T, D> {
-    ghost use Rattle.nd_lent.specs.Lent.{array_of};
+    ghost use Rattle.nd_lent.specs.Lent.{access_of, array_of};
 
     /// The items as they are stored, from the lowest place on, to be read, where their places are consecutive numbers; else `None`.
     /// Without an index it is an empty slice.
@@ -37,7 +37,7 @@ impl<'a, T: Drop, D: Dimension> ArrayViewMut<'a, T, D> {
             ↔ FillsInterval (array_of self.entry).view.shape (array_of self.entry).view.strides }
         ensures items { IfOk result (λ items. items.now ≡ items_in_memory_order (array_of self.entry)) }
         ensures kept { IfErr result (λ part. array_of part ≡ array_of self.entry) }
-        ensures same_right { IfErr result (λ part. part.cells.name ≡ self.entry.cells.name) }
+        ensures keeps_access { IfErr result (λ part. access_of part ≡ access_of self.entry) }
     {
         let ArrayViewMut { cells, view } = self;
         match memory_range(&view) {

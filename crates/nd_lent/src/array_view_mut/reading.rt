@@ -1,8 +1,7 @@
 //! The items of a part one after another, each lent to be read, without a list of them.
 ghost use Rattle.std.specs.Borrow.{Bor};
-ghost use Rattle.std.specs.Iterator.{UpTo, YieldsFirstBy, item_count};
+ghost use Rattle.std.specs.Iterator.{YieldsFirstBy};
 ghost use Rattle.std.specs.Iterator.Runs.{EveryRun, ItemsMapTo};
-ghost use Rattle.std.specs.Iterator.SizeHint.{IsWithinCount};
 ghost use Rattle.std.specs.Option.{IsSome};
 ghost use Rattle.std.specs.Prelude.{◌≡◌, ◌↔◌, IfOk, IfSome, IsOk, List, Option, Some, length, map};
 ghost use Rattle.ndarray_layout.specs.declared.Order.TheVariants.{RowMajor};
@@ -10,10 +9,11 @@ ghost use Rattle.ndarray_layout.specs.Memory.{NeedsNoMemory};
 ghost use Rattle.ndarray_layout.specs.Size.{size};
 ghost use Rattle.ndarray_layout.specs.Stretch.{IsStretch};
 ghost use Rattle.ndarray_layout.specs.View.{view_places};
-ghost use Rattle.nd_lent.specs.Items.{item_at_place};
+ghost use Rattle.nd_access.specs.Items.{item_at_place};
 
-use crate::array_view::{ArrayView, Iter};
+use crate::array_view::ArrayView;
 use crate::array_view_mut::ArrayViewMut;
+use nd_items::Iter;
 use ndarray_layout::{Lengths, Order};
 use std::alloc::{AllocError, Global};
 

@@ -7,11 +7,11 @@ ghost use Rattle.ndarray_layout.specs.declared.Order.TheVariants.{RowMajor};
 ghost use Rattle.ndarray_layout.specs.InvertedView.{invert_fault};
 ghost use Rattle.ndarray_layout.specs.Rows.{view_rows};
 ghost use Rattle.nd_lent.specs.AxisLast.{axis_last_of};
-ghost use Rattle.nd_lent.specs.Own.{OwnsRows, OwnsRows-prop};
+ghost use Rattle.nd_access.specs.Own.{OwnsRows, OwnsRows-prop};
 
 use crate::array_view_mut::ArrayViewMut;
 use crate::axis_last::with_axis_last;
-use crate::cells::Cells;
+use nd_access::Cells;
 use ndarray_layout::{Axis, Ix1, Lengths, Order, ShapeError, Strided};
 use std::iter::FusedIterator;
 
@@ -84,38 +84,37 @@ impl<'a, T: Drop, D: Lengths> ExactSizeIterator for LanesMut<'a, T, D> {
 impl<'a, T: Drop, D: Lengths> FusedIterator for LanesMut<'a, T, D> {}
 
 impl<'a, T: Drop, D: Lengths> LanesMut<'a, T, D> {
-    ghost use Rattle.nd_lent.specs.RowsLeft.{rows_left};
+    ghost use Rattle.nd_lent.specs.RowsLeft.{access_left, rows_left};
 
-    /// Leaves out so many rows, or all where fewer are left: the next one is the one that comes after them. They are unchanged.
+    /// Skips the next `count` rows, or all that remain. They are unchanged.
     ///
     /// Takes no memory, and no time for each of them.
     ///
-    /// Of the rows of `[4,2]`, after 3 of them: the last one. What `nth` of std's iterators leaves out one by one.
+    /// Of the rows of `[4,2]`, after 3 of them: the last one. What `nth` of std's iterators skips one by one.
     pub fn advance(&mut self, count: usize)
         ensures left { rows_left self.new ≡ drop count (rows_left self.old) }
-        ensures same_right { self.new.cells.name ≡ self.old.cells.name }
+        ensures keeps_access { access_left self.new ≡ access_left self.old }
     {
         self.begun += count.min(self.end - self.begun);
     }
 
-    /// Leaves out so many rows at the back, or all where fewer are left: the last one is the one that comes before them. They are
-    /// unchanged.
+    /// Skips the last `count` rows, or all that remain. They are unchanged.
     ///
     /// Takes no memory, and no time for each of them.
     ///
-    /// Of the rows of `[4,2]`, without the last 3: the first one. What `nth_back` of std's iterators leaves out one by one.
+    /// Of the rows of `[4,2]`, without the last 3: the first one. What `nth_back` of std's iterators skips one by one.
     pub fn advance_back(&mut self, count: usize)
         ensures left { rows_left self.new ≡
             take (length (rows_left self.old) - count) (rows_left self.old) }
-        ensures same_right { self.new.cells.name ≡ self.old.cells.name }
+        ensures keeps_access { access_left self.new ≡ access_left self.old }
     {
         self.end -= count.min(self.end - self.begun);
     }
 }
 
 impl<'a, T: Drop, D: Lengths> ArrayViewMut<'a, T, D> {
-    ghost use Rattle.nd_lent.specs.RowsLeft.{row_array, rows_left};
-    ghost use Rattle.nd_lent.specs.Lent.{array_of};
+    ghost use Rattle.nd_lent.specs.RowsLeft.{access_left, row_array, rows_left};
+    ghost use Rattle.nd_lent.specs.Lent.{access_of, array_of};
 
     /// An iterator over the rows along the last axis, in row-major order, from both ends, each a part of its own: several may be used
     /// at once, and in threads, whatever the strides are. It knows how many are left. A part without axes has one row, of one item; a
@@ -127,7 +126,7 @@ impl<'a, T: Drop, D: Lengths> ArrayViewMut<'a, T, D> {
     pub fn into_rows(self) -> LanesMut<'a, T, D>
         ensures rows { rows_left result ≡ map (row_array (array_of self.entry).items)
             (view_rows RowMajor (array_of self.entry).view) }
-        ensures same_right { result.cells.name ≡ self.entry.cells.name }
+        ensures keeps_access { access_left result ≡ access_of self.entry }
     {
         let ArrayViewMut { cells, view } = self;
         let end = view.rows(Order::RowMajor).len();
@@ -155,7 +154,7 @@ impl<'a, T: Drop, D: Lengths> ArrayViewMut<'a, T, D> {
         ensures rows { IfOk result (λ lanes. rows_left lanes
             ≡ map (row_array (array_of self.entry).items)
             (view_rows RowMajor (axis_last_of axis.0 (array_of self.entry).view))) }
-        ensures same_right { IfOk result (λ lanes. lanes.cells.name ≡ self.entry.cells.name) }
+        ensures keeps_access { IfOk result (λ lanes. access_left lanes ≡ access_of self.entry) }
     {
         let ArrayViewMut { cells, view } = self;
         let view = with_axis_last(view, axis)?;

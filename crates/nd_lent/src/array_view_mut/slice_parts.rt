@@ -11,7 +11,7 @@ ghost use Rattle.nd_lent.specs.private.SlicesLeft.{HasSlices, HasSlices-prop};
 
 use crate::array_view_mut::ArrayViewMut;
 use crate::array_view_mut::slices::check_apart;
-use crate::cells::Cells;
+use nd_access::Cells;
 use ndarray_layout::{Fit, LayoutError, Lengths, ShapeError, SliceInfoElem, Strided};
 use std::alloc::Global;
 

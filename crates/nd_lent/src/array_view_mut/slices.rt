@@ -7,12 +7,12 @@ ghost use Rattle.ndarray_layout.specs.DistinctPlaces.{HasDistinctPlaces};
 ghost use Rattle.ndarray_layout.specs.IntersectingPair.{IsIntersection, slices_fault};
 ghost use Rattle.ndarray_layout.specs.ShapeFault.{shape_fault};
 ghost use Rattle.ndarray_layout.specs.SlicedView.{view_slice_fault};
-ghost use Rattle.nd_lent.specs.Part.{IsPart};
+ghost use Rattle.nd_access.specs.Part.{IsPart};
 ghost use Rattle.nd_lent.specs.Slices.{AreApartInPlace, IsFaultOfSlices, slice_array, view_slices_fault};
 ghost use Rattle.nd_lent.specs.Lent.{array_of};
 
 use crate::array_view_mut::ArrayViewMut;
-use crate::cells::Cells;
+use nd_access::Cells;
 use ndarray_layout::{
     ErrorKind, Fit, LayoutError, Lengths, ShapeError, SliceElems, Strided, check_elems,
     first_elems_intersection, first_elems_intersection_sorted, from_kind, out_ndim_of,
@@ -117,7 +117,7 @@ fn parts_of_slices<'a, T: Drop, D: Lengths, S: SliceElems, E: Lengths>(
     let mut left = cells;
     for slice in slices {
         let picked: Strided<E> = view.slice(alloc, slice, Fit::Strict)?;
-        let one = left.take_part(&picked);
+        let one = left.take_view(&picked);
         parts.push(ArrayViewMut::of_cells(one, picked))?;
     }
     Ok(parts)

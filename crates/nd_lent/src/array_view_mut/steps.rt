@@ -20,12 +20,12 @@ use ndarray_layout::{Axis, Fit, LayoutError, Lengths, Order, RemoveAxis, SliceEl
 use std::alloc::{AllocError, Global};
 
 impl<'a, T: Drop, D: Lengths> ArrayViewMut<'a, T, D> {
-    ghost use Rattle.nd_lent.specs.Lent.{array_of};
+    ghost use Rattle.nd_lent.specs.Lent.{access_of, array_of};
 
     /// The part of the items that a slice argument leaves: `Strided::slice`, with its errors.
     ///
     /// `1..` of `[3]` over 7 8 9: 8 9. ndarray's `slice_move`.
-    #[tactic(auto, using(crate::proofs::Laws::Marks::part_descendant))]
+    #[tactic(auto, using(crate::proofs::Steps::part_descendant))]
     pub fn slice_move_with<E: Lengths, S: SliceElems>(
         self,
         alloc: Global,
@@ -39,7 +39,7 @@ impl<'a, T: Drop, D: Lengths> ArrayViewMut<'a, T, D> {
         ensures array { IfOk result (λ a. IsArrayOfStep Descends
             (selected fit (S.list slices.now) (array_of self.entry).view.shape)
             (slice_of fit (S.list slices.now)) (array_of self.entry) (array_of a)) }
-        ensures same_right { IfOk result (λ a. a.cells.name ≡ self.entry.cells.name) }
+        ensures keeps_access { IfOk result (λ a. access_of a ≡ access_of self.entry) }
     {
         let ArrayViewMut { cells, view } = self;
         let view = view.slice(alloc, slices, fit)?;
@@ -50,7 +50,7 @@ impl<'a, T: Drop, D: Lengths> ArrayViewMut<'a, T, D> {
     /// Once it is gone, this part has what was written: that is tested, and in no clause.
     ///
     /// `1..` of `[3]` over 7 8 9: 8 9. ndarray's `slice_mut`.
-    #[tactic(auto, using(crate::proofs::Laws::Marks::part_descendant))]
+    #[tactic(auto, using(crate::proofs::Steps::part_descendant))]
     pub fn slice_mut_with<E: Lengths, S: SliceElems>(
         &mut self,
         alloc: Global,
@@ -97,8 +97,7 @@ impl<'a, T: Drop, D: Lengths> ArrayViewMut<'a, T, D> {
         ensures memory { shape_fault result ≡ None →
             NeedsNoMemory E.NDIM (length (array_of self.entry).view.shape) → IsOk result }
         ensures array { IfOk result (λ a. array_of a ≡ array_of self.entry) }
-        ensures same_right { IfOk result (λ a. a.cells.name ≡ self.entry.cells.name) }
-        ensures same_marks { IfOk result (λ a. a.cells.marks ≡ self.entry.cells.marks) }
+        ensures keeps_access { IfOk result (λ a. access_of a ≡ access_of self.entry) }
     {
         let ArrayViewMut { cells, view } = self;
         let view = view.into_dimensionality(alloc)?;
@@ -108,11 +107,11 @@ impl<'a, T: Drop, D: Lengths> ArrayViewMut<'a, T, D> {
     /// The transpose: `Strided::reversed_axes`.
     ///
     /// (2,1) of the result is (1,2) of the part. ndarray's `reversed_axes`.
-    #[tactic(auto, using(crate::proofs::Laws::Marks::part_descendant))]
+    #[tactic(auto, using(crate::proofs::Steps::part_descendant))]
     pub fn reversed_axes(self) -> Self
         ensures array { IsArrayOfStep Descends reverse reversed_of
             (array_of self.entry) (array_of result) }
-        ensures same_right { result.cells.name ≡ self.entry.cells.name }
+        ensures keeps_access { access_of result ≡ access_of self.entry }
     {
         let ArrayViewMut { cells, view } = self;
         let view = view.reversed_axes();
@@ -122,7 +121,7 @@ impl<'a, T: Drop, D: Lengths> ArrayViewMut<'a, T, D> {
     /// The axes in another order: `Strided::permuted_axes`, with its errors.
     ///
     /// ndarray's `permuted_axes`.
-    #[tactic(auto, using(crate::proofs::Laws::Marks::part_descendant))]
+    #[tactic(auto, using(crate::proofs::Steps::part_descendant))]
     pub fn permuted_axes(self, alloc: Global, axes: &[Axis]) -> Result<Self, LayoutError>
         ensures fault { shape_fault result ≡
             permute_fault (array_of self.entry).view.shape (axis_numbers axes.now) }
@@ -131,7 +130,7 @@ impl<'a, T: Drop, D: Lengths> ArrayViewMut<'a, T, D> {
         ensures array { IfOk result (λ a. IsArrayOfStep Descends
             (permute_source (axis_numbers axes.now)) (permuted_of (axis_numbers axes.now))
             (array_of self.entry) (array_of a)) }
-        ensures same_right { IfOk result (λ a. a.cells.name ≡ self.entry.cells.name) }
+        ensures keeps_access { IfOk result (λ a. access_of a ≡ access_of self.entry) }
     {
         let ArrayViewMut { cells, view } = self;
         let view = view.permuted_axes(alloc, axes)?;
@@ -141,7 +140,7 @@ impl<'a, T: Drop, D: Lengths> ArrayViewMut<'a, T, D> {
     /// The same items along another shape, in an order: `Strided::reshape`, with its errors.
     ///
     /// ndarray's `into_shape_with_order`.
-    #[tactic(auto, using(crate::proofs::Laws::Marks::part_descendant))]
+    #[tactic(auto, using(crate::proofs::Steps::part_descendant))]
     pub fn reshape<E: Lengths>(
         self,
         alloc: Global,
@@ -161,7 +160,7 @@ impl<'a, T: Drop, D: Lengths> ArrayViewMut<'a, T, D> {
         ensures array { IfOk result (λ a. IsArrayOfStep Descends
             (reshape_source order (array_of self.entry).view.shape (E.list shape.now))
             (reshape_of order (E.list shape.now)) (array_of self.entry) (array_of a)) }
-        ensures same_right { IfOk result (λ a. a.cells.name ≡ self.entry.cells.name) }
+        ensures keeps_access { IfOk result (λ a. access_of a ≡ access_of self.entry) }
     {
         let ArrayViewMut { cells, view } = self;
         let view = view.reshape(alloc, shape, order)?;
@@ -171,7 +170,7 @@ impl<'a, T: Drop, D: Lengths> ArrayViewMut<'a, T, D> {
     /// All chunks of a shape that lie side by side, as one part: `Strided::exact_chunks`, with its errors.
     ///
     /// Chunks of `[2]` of `[5]` over 5 6 7 8 9: 5 6 and 7 8. ndarray's `exact_chunks_mut`.
-    #[tactic(auto, using(crate::proofs::Laws::Marks::part_descendant))]
+    #[tactic(auto, using(crate::proofs::Steps::part_descendant))]
     pub fn exact_chunks<E: Lengths>(
         self,
         alloc: Global,
@@ -185,7 +184,7 @@ impl<'a, T: Drop, D: Lengths> ArrayViewMut<'a, T, D> {
         ensures array { IfOk result (λ a. IsArrayOfStep Descends
             (chunk_source (D.list chunk.now)) (chunks_of (D.list chunk.now))
             (array_of self.entry) (array_of a)) }
-        ensures same_right { IfOk result (λ a. a.cells.name ≡ self.entry.cells.name) }
+        ensures keeps_access { IfOk result (λ a. access_of a ≡ access_of self.entry) }
     {
         let ArrayViewMut { cells, view } = self;
         let view = view.exact_chunks(alloc, chunk)?;
@@ -194,12 +193,12 @@ impl<'a, T: Drop, D: Lengths> ArrayViewMut<'a, T, D> {
 }
 
 impl<'a, T: Drop, D: RemoveAxis> ArrayViewMut<'a, T, D> {
-    ghost use Rattle.nd_lent.specs.Lent.{array_of};
+    ghost use Rattle.nd_lent.specs.Lent.{access_of, array_of};
 
     /// The items at one coordinate of an axis, without the axis: `Strided::index_axis`, with its errors.
     ///
     /// Coordinate 1 of axis 0 of `[2,3]`: the second row. ndarray's `index_axis_move`.
-    #[tactic(auto, using(crate::proofs::Laws::Marks::part_descendant))]
+    #[tactic(auto, using(crate::proofs::Steps::part_descendant))]
     pub fn index_axis(
         self,
         alloc: Global,
@@ -214,7 +213,7 @@ impl<'a, T: Drop, D: RemoveAxis> ArrayViewMut<'a, T, D> {
         ensures array { IfOk result (λ a. IsArrayOfStep Descends
             (index_source axis.0 index) (indexed_of axis.0 index)
             (array_of self.entry) (array_of a)) }
-        ensures same_right { IfOk result (λ a. a.cells.name ≡ self.entry.cells.name) }
+        ensures keeps_access { IfOk result (λ a. access_of a ≡ access_of self.entry) }
     {
         let ArrayViewMut { cells, view } = self;
         let view = view.index_axis(alloc, axis, index)?;

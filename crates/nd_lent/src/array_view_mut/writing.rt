@@ -1,15 +1,14 @@
 //! Writes to all items of a part, and swaps of two.
 ghost use Rattle.std.specs.Prelude.{◌≡◌, ◌&&◌, Some, length};
 ghost use Rattle.ndarray_layout.specs.Indices.{is_index};
-ghost use Rattle.nd_lent.specs.HasItems.{HasItemsOf, with_swapped};
-ghost use Rattle.nd_lent.specs.Rights.{right_of};
+ghost use Rattle.nd_access.specs.HasItems.{HasItemsOf, with_swapped};
 
 use crate::array_view_mut::ArrayViewMut;
-use crate::array_view_mut::mapping::map_nearest;
+use nd_loops::map_nearest;
 use ndarray_layout::{Lengths, NdIndex};
 
 impl<'a, T: Drop, D: Lengths> ArrayViewMut<'a, T, D> {
-    ghost use Rattle.nd_lent.specs.Lent.{array_of};
+    ghost use Rattle.nd_lent.specs.Lent.{access_of, array_of};
 
     /// Swaps the items of two indices, and returns whether both are indices of the shape; else the part is unchanged.
     ///
@@ -20,9 +19,7 @@ impl<'a, T: Drop, D: Lengths> ArrayViewMut<'a, T, D> {
             && is_index (array_of self.old).view.shape (J.index_list other.now)) }
         ensures swapped { array_of self.new ≡ with_swapped (array_of self.old)
             (I.index_list index.now) (J.index_list other.now) }
-        ensures same_right { self.new.cells.name ≡ self.old.cells.name }
-        ensures same_marks { self.new.cells.marks ≡ self.old.cells.marks }
-        ensures same_right_of { right_of self.new.cells ≡ right_of self.old.cells }
+        ensures keeps_access { access_of self.new ≡ access_of self.old }
     {
         match (self.view.place(index), self.view.place(other)) {
             (Some(one), Some(other)) => {
@@ -35,7 +32,7 @@ impl<'a, T: Drop, D: Lengths> ArrayViewMut<'a, T, D> {
 }
 
 impl<'a, T: Drop + Copy, D: Lengths> ArrayViewMut<'a, T, D> {
-    ghost use Rattle.nd_lent.specs.Lent.{array_of};
+    ghost use Rattle.nd_lent.specs.Lent.{access_of, array_of};
 
     /// Writes an item at each index. Other items are unchanged.
     ///
@@ -45,9 +42,7 @@ impl<'a, T: Drop + Copy, D: Lengths> ArrayViewMut<'a, T, D> {
     pub fn fill(&mut self, item: T)
         ensures filled { HasItemsOf (λ index. Some item) (array_of self.old) (array_of self.new) }
         ensures count { length (array_of self.new).items ≡ length (array_of self.old).items }
-        ensures same_right { self.new.cells.name ≡ self.old.cells.name }
-        ensures same_marks { self.new.cells.marks ≡ self.old.cells.marks }
-        ensures same_right_of { right_of self.new.cells ≡ right_of self.old.cells }
+        ensures keeps_access { access_of self.new ≡ access_of self.old }
     {
         map_nearest(
             &mut self.cells,

@@ -1,13 +1,11 @@
 -- Words of private contracts alone, of the calls below `Strided::rows`: the axis of a layout that moves fastest.
-use Rattle.std.specs.Prelude.{◌≡◌, ℕ, ◌<◌, ◌≤◌, pos, ◌*ℤ◌, List, [], ◌∷◌, length, nat_eq, slice_index, refl}
+use Rattle.std.specs.Prelude.{◌≡◌, ℕ, ◌≤◌, pos, ◌*ℤ◌, List, [], ◌∷◌, length, nat_eq, slice_index, refl}
 use Rattle.std.proofs.Common.{ap, eq-eqb, sym, ◌∙◌}
 use Rattle.std.proofs.Math.Dec.{lit≤}
-use Rattle.std.proofs.Math.Nat.{lt_irrefl}
 use Rattle.std.proofs.lemmas.Bool.{both_ways}
 use Rattle.nd_base.specs.declared.order.Order.{Order}
 use Rattle.nd_base.specs.declared.order.Order.TheVariants.{RowMajor, ColumnMajor}
 use Rattle.nd_base.specs.Signed.{signed}
-use Rattle.nd_base.specs.Size.{size}
 use Rattle.nd_shape.specs.Merge.{MergeFits}
 use Rattle.nd_shape.proofs.Laws.Merge.{steps_on}
 use Rattle.ndarray_layout.specs.declared.strided.rows.Fastest.{Fastest}
@@ -57,12 +55,6 @@ pub record NoneGoesOnInBoth (order : Order) (axis other : Fastest) : Type 0 wher
       → EndsIn order axis.strides.now strides stride → EndsIn order other.strides.now others step
       → MergeFits len (signed stride) axis.len (signed axis.stride) → MergeFits len (signed step) other.len (signed other.stride) → ⊥
 
--- of the rows that begin at the places of a view, the column of this number
-pub record IsColumn (order : Order) (start : ℕ) (column : Fastest) (number : ℕ) : Type 0 where
-  pub is_view : IsView (axis_view order start column)
-  pub some : 0 < column.len
-  pub below : number < size column.lens.now
-
 -- examples
 last_by_rows : EndsIn {A = ℕ} RowMajor (2 ∷ 3 ∷ 4 ∷ []) (2 ∷ 3 ∷ []) 4
 last_by_rows = record { is = refl }
@@ -93,6 +85,3 @@ alike_to_itself axis = record { len = refl; lens = refl }
 one_is_enough : (axis other : Fastest) → NoneGoesOn RowMajor axis → NoneGoesOnInBoth RowMajor axis other
 one_is_enough axis other one =
     record { alone = λ lens strides others len stride step e g h fits also. one.alone lens strides len stride e g fits }
-
-past_the_last_column : (column : Fastest) → IsColumn RowMajor 0 column (size column.lens.now) → ⊥
-past_the_last_column column is = lt_irrefl (size column.lens.now) is.below

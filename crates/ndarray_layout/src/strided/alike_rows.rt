@@ -102,8 +102,8 @@ impl<D: Lengths> Strided<D> {
         let lens = self.dim.slice();
         let (axis, also) = joined_axes(order, lens, self.strides.slice(), other.strides.slice());
         (
-            Rows::along(order, self.start, axis),
-            Rows::along(order, other.start, also),
+            Rows::along_axis(order, self.start, axis),
+            Rows::along_axis(order, other.start, also),
         )
     }
 }

@@ -47,11 +47,11 @@ impl<D: Lengths> BlockViews<D> {
         self.starts.len()
     }
 
-    /// Leaves out so many, or all where fewer are left: the next one is the one that comes after them.
+    /// Skips the next `count`, or all that remain.
     ///
     /// Takes no memory, and no time for each of them.
     ///
-    /// Of the windows of `[2]` of `[4]`, after 2 of them: the last one. What `nth` of std's iterators leaves out one by one.
+    /// Of the windows of `[2]` of `[4]`, after 2 of them: the last one. What `nth` of std's iterators skips one by one.
     #[inline]
     pub fn advance(&mut self, count: usize)
         ensures { self.new ≡ drop count self.old }
@@ -59,11 +59,11 @@ impl<D: Lengths> BlockViews<D> {
         self.starts.advance(count);
     }
 
-    /// Leaves out so many at the back, or all where fewer are left: the last one is the one that comes before them.
+    /// Skips the last `count`, or all that remain.
     ///
     /// Takes no memory, and no time for each of them.
     ///
-    /// Of the windows of `[2]` of `[4]`, without the last 2: the first one. What `nth_back` of std's iterators leaves out one by one.
+    /// Of the windows of `[2]` of `[4]`, without the last 2: the first one. What `nth_back` of std's iterators skips one by one.
     #[inline]
     pub fn advance_back(&mut self, count: usize)
         ensures { self.new ≡ take (length self.old - count) self.old }

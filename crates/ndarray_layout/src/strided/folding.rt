@@ -7,8 +7,9 @@ ghost use Rattle.ndarray_layout.specs.Folded.{HasFolded, gives};
 ghost use Rattle.ndarray_layout.specs.Rows.{row_places};
 
 use crate::strided::places::place_along_axis;
-use crate::strided::places_of_rows::{PlacesOf, RowEnds};
+use crate::strided::places_of_rows::PlacesOf;
 use crate::strided::rows::Row;
+use crate::strided::slower_axes::SlowerAxes;
 use nd_base::unsigned;
 
 /// Folds the places of a row, and hands back the function.
@@ -28,7 +29,7 @@ fn fold_row<B, F: FnMut(B, usize) -> B>(row: Row, init: B, mut f: F) -> (B, F)
     (total, f)
 }
 
-impl<R: RowEnds> PlacesOf<R> {
+impl<A: SlowerAxes> PlacesOf<A> {
     /// The last result of a function that is called at each place that is left, in order, with the result before, first with
     /// `init`.
     ///

@@ -5,13 +5,13 @@ ghost use Rattle.std.specs.Prelude.{◌≡◌, pos};
 ghost use Rattle.ndarray_layout.specs.View.{view_places};
 
 use crate::strided::Strided;
-use crate::strided::into_rows::StridedRows;
 use crate::strided::places_of_rows::PlacesOf;
+use crate::strided::slower_axes::KeptAxes;
 use nd_base::{Lengths, Order};
 
 /// The places of a view that are still to come, in an order, with the view, from both ends: what `into_places` returns. A
 /// contract sees the list of them.
-pub type IntoPlaces<D> = PlacesOf<StridedRows<D>>;
+pub type IntoPlaces<D> = PlacesOf<KeptAxes<D>>;
 
 impl<D: Lengths> Strided<D> {
     /// The places of all indices, in an order: `iter_places`, where the iterator has the view.

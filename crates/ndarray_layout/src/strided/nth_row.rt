@@ -1,18 +1,17 @@
 //! One row of a view, by its number.
 ghost use Rattle.std.specs.Option.{option_map};
-ghost use Rattle.std.specs.Prelude.{◌≡◌, ◌<◌, pos, IfSome, slice_get};
+ghost use Rattle.std.specs.Prelude.{◌≡◌, ◌<◌, IfSome, slice_get};
 ghost use Rattle.nd_base.specs.FlatIndex.{index_of_flat_in};
 ghost use Rattle.nd_base.specs.Offset.{offset_of};
 ghost use Rattle.nd_base.specs.Signed.{all_signed};
 ghost use Rattle.nd_base.specs.Size.{size};
 ghost use Rattle.nd_base.specs.ValidLayout.{IsValidLayout};
 ghost use Rattle.ndarray_layout.specs.Rows.{row_view, view_rows};
-ghost use Rattle.ndarray_layout.specs.RowsLeft.{axis_view, row_place};
 ghost use Rattle.ndarray_layout.specs.View.{IsView};
 
 use crate::strided::Strided;
 use crate::strided::places::offset_place;
-use crate::strided::rows::{Fastest, Row, fastest_axis, split_fastest};
+use crate::strided::rows::{Row, fastest_axis, split_fastest};
 use nd_base::{Ix1, Lengths, Order, new_ix1, signed, stride_offset, unsigned};
 use nd_dim::product;
 
@@ -37,17 +36,6 @@ pub(super) fn offset_of_flat(
         (lens, strides) = (axis.lens, axis.strides);
     }
     offset
-}
-
-/// Where the row of a number begins, of those from the places of a column and of the axes that move slower.
-pub(super) fn start_of_row(order: Order, start: usize, column: &Fastest<'_>, number: usize) -> usize
-    requires view { IsView (axis_view order start column.now) }
-    requires below { number < size (axis_view order start column.now).shape }
-    ensures { pos result ≡ row_place order start column.now number }
-{
-    let across = offset_of_flat(order, column.lens, column.strides, number / column.len);
-    let along = stride_offset(number % column.len, column.stride);
-    offset_place(start, across + along)
 }
 
 impl<D: Lengths> Strided<D> {

@@ -1,198 +1,57 @@
-//! The places of rows one after another, from both ends, whatever gives the rows.
+//! The places of a view one after another, from both ends, whatever has its rows.
 ghost use Rattle.std.specs.Iterator.{UpTo, YieldsFirstBy, YieldsLastBy, item_count};
 ghost use Rattle.std.specs.Iterator.SizeHint.{IsWithinCount};
 ghost use Rattle.std.specs.List.{All};
-ghost use Rattle.std.specs.Prelude.{◌≡◌, ◌-◌, ◌<◌, ◌≤◌, ◌^◌, ◌∷◌, ◌++◌, [], pos, IfSome, MatchOption, Some, drop, take, length};
+ghost use Rattle.std.specs.Prelude.{◌≡◌, ◌-◌, ◌<◌, ◌≤◌, ◌^◌, ◌++◌, [], pos, IfSome, MatchOption, Some, drop, take, length};
 ghost use Rattle.nd_base.specs.Bounds.{IsInBounds};
 ghost use Rattle.nd_base.specs.Size.{limit};
-ghost use Rattle.ndarray_layout.specs.PlacesLeft.{ArePlacesLeft, places_after, rows_and};
 ghost use Rattle.ndarray_layout.specs.Rows.{row_places, row_view, rows_places};
 ghost use Rattle.ndarray_layout.specs.View.{IsView};
 
-use crate::strided::places::{offset_place, place_along_axis};
-use crate::strided::rows::{Row, Rows};
-use nd_base::unsigned;
+use crate::strided::counted_places::CountedPlaces;
+use crate::strided::rows::Row;
+use crate::strided::rows_of::RowsOf;
+use crate::strided::slower_axes::SlowerAxes;
+use crate::strided::stretch_left::Stretch;
 use std::iter::FusedIterator;
 use std::marker::Model;
-
-/// Rows of one length that are still to come, from both ends.
-pub trait RowEnds: Drop {
-    ghost use Rattle.std.specs.Prelude.{List};
-    ghost use Rattle.ndarray_layout.specs.declared.strided.rows.Row.{Row};
-
-    // The rows, in order.
-    ghost rows: { Self → List Row };
-
-    /// The row that comes next.
-    fn take_first(&mut self) -> Option<Row>
-        ensures { MatchOption result ((rows self.old ≡ []) × (rows self.new ≡ []))
-            (λ row. rows self.old ≡ row ∷ rows self.new) };
-
-    /// The last row.
-    fn take_last(&mut self) -> Option<Row>
-        ensures { MatchOption result ((rows self.old ≡ []) × (rows self.new ≡ []))
-            (λ row. rows self.old ≡ rows self.new ++ row ∷ []) };
-
-    /// Leaves out so many rows, or all where fewer are left.
-    fn drop_first(&mut self, count: usize)
-        ensures { rows self.new ≡ drop count (rows self.old) };
-
-    /// Leaves out so many rows at the back, or all where fewer are left.
-    fn drop_last(&mut self, count: usize)
-        ensures { rows self.new ≡ take (length (rows self.old) - count) (rows self.old) };
-
-    /// How many places each row has; unspecified where none is left.
-    fn row_len(&self) -> usize
-        ensures { All (λ row. row.len ≡ result) (rows self.now) };
-
-    /// How many places the rows have that are left.
-    fn count_of_places(&self) -> usize
-        ensures { result ≡ length (rows_places (rows self.now)) };
-}
-
-impl RowEnds for Rows<'_> {
-    ghost rows = { λ rows. rows };
-
-    #[inline(always)]
-    fn take_first(&mut self) -> Option<Row> {
-        self.next()
-    }
-
-    fn take_last(&mut self) -> Option<Row> {
-        self.next_back()
-    }
-
-    fn drop_first(&mut self, count: usize) {
-        self.advance(count);
-    }
-
-    fn drop_last(&mut self, count: usize) {
-        self.advance_back(count);
-    }
-
-    fn row_len(&self) -> usize {
-        Rows::row_len(self)
-    }
-
-    fn count_of_places(&self) -> usize {
-        Rows::count_of_places(self)
-    }
-}
 
 /// The places of a view that are still to come, in an order, from both ends: `Places` of `iter_places` and `IntoPlaces` of
 /// `into_places`. A contract sees the list of them.
 #[derive(Drop)]
-pub struct PlacesOf<R: RowEnds> {
-    rows: R,
-    // What is left of the last row that has begun at the back.
-    back: Row,
-    // The place that was given last at the front, and how many are left after it in its row.
-    place: usize,
-    left: usize,
-    stride: isize,
+pub struct PlacesOf<A: SlowerAxes> {
+    // What is left where all places follow one another: a loop over them does nothing else.
+    stretch: Option<Stretch>,
+    // What is left otherwise.
+    places: CountedPlaces<A>,
 }
 
-impl<R: RowEnds> Model for PlacesOf<R> {
+impl<A: SlowerAxes> Model for PlacesOf<A> {
     ghost use Rattle.std.specs.Prelude.{ℤ, List};
-    ghost use Rattle.ndarray_layout.specs.PlacesLeft.{ArePlacesLeft, places_after, rows_and};
+    ghost use Rattle.ndarray_layout.specs.PlacesLeft.{AreFewLeft, places_left};
 
     ghost Value = { List ℤ };
 
-    ghost view = { λ places. places_after places.place places.stride places.left
-        (rows_and (R.rows places.rows) places.back) };
+    ghost view = { λ left. places_left left.stretch left.places };
 
-    ghost invariant = { λ places. ArePlacesLeft places.place places.stride places.left
-        (rows_and (R.rows places.rows) places.back) };
+    ghost invariant = { λ left. AreFewLeft (places_left left.stretch left.places) };
 }
 
-/// The row that comes next: one of the rows, or else what is left of the one at the back.
-#[inline(always)]
-fn first_row<R: RowEnds>(rows: &mut R, back: &mut Row) -> Option<Row>
-    ensures { MatchOption result
-        ((rows_and (R.rows rows.old) back.old ≡ []) × (rows_and (R.rows rows.new) back.new ≡ []))
-        (λ row. rows_and (R.rows rows.old) back.old ≡ row ∷ rows_and (R.rows rows.new) back.new) }
-{
-    if let Some(row) = rows.take_first() {
-        return Some(row);
-    }
-    if back.len == 0 {
-        return None;
-    }
-    let row = *back;
-    back.len = 0;
-    Some(row)
-}
-
-/// The last places that lie evenly: what is left of the row at the back, or else the last one of the rows, or else what is left of
-/// the one at the front.
-fn last_row<R: RowEnds>(
-    rows: &mut R,
-    back: &mut Row,
-    place: usize,
-    stride: isize,
-    left: &mut usize,
-) -> Option<Row>
-    requires { ArePlacesLeft place stride left.old (rows_and (R.rows rows.old) back.old) }
-    ensures back { back.new.len ≡ 0 }
-    ensures row { MatchOption result ((places_after place stride left.old (rows_and (R.rows rows.old) back.old) ≡ [])
-        × (places_after place stride left.new (R.rows rows.new) ≡ []))
-        (λ row. (0 < row.len) × (places_after place stride left.old (rows_and (R.rows rows.old) back.old)
-        ≡ places_after place stride left.new (R.rows rows.new) ++ row_places row.start row.stride row.len)) }
-    ensures some { All (λ row. 0 < row.len) (R.rows rows.new) }
-{
-    if back.len > 0 {
-        let row = *back;
-        back.len = 0;
-        return Some(row);
-    }
-    if let Some(row) = rows.take_last() {
-        return Some(row);
-    }
-    if *left == 0 {
-        return None;
-    }
-    let row = Row {
-        start: offset_place(place, stride),
-        stride,
-        len: *left,
-    };
-    *left = 0;
-    Some(row)
-}
-
-/// Leaves out so many places of a row, or all where it has fewer.
-fn shorten(row: &mut Row, count: usize)
-    requires in_bounds { All (IsInBounds (2 ^ 63)) (row_places row.old.start row.old.stride row.old.len) }
-    requires few { row.old.len ≤ limit }
-    ensures { row_places row.new.start row.new.stride row.new.len
-        ≡ drop count (row_places row.old.start row.old.stride row.old.len) }
-{
-    if count >= row.len {
-        row.len = 0;
-        return;
-    }
-    row.start = place_along_axis(row.start, count, unsigned(row.stride));
-    row.len -= count;
-}
-
-impl<R: RowEnds> PlacesOf<R> {
+impl<A: SlowerAxes> PlacesOf<A> {
     /// All places of rows.
-    pub(super) fn new(rows: R) -> Self
-        requires in_bounds { All (IsInBounds (2 ^ 63)) (rows_places (R.rows rows)) }
-        requires some { All (λ row. 0 < row.len) (R.rows rows) }
-        requires few { length (rows_places (R.rows rows)) ≤ limit }
-        ensures { result ≡ rows_places (R.rows rows) }
+    pub(super) fn new(rows: RowsOf<A>) -> Self
+        requires in_bounds { All (IsInBounds (2 ^ 63)) (rows_places rows) }
+        requires some { All (λ row. 0 < row.len) rows }
+        requires few { length (rows_places rows) ≤ limit }
+        ensures { result ≡ rows_places rows }
     {
+        let stretch = match rows.only() {
+            Some(row) => Stretch::of_row(row),
+            None => None,
+        };
         PlacesOf {
-            rows,
-            back: Row {
-                start: 0,
-                stride: 0,
-                len: 0,
-            },
-            place: 0,
-            left: 0,
-            stride: 0,
+            stretch,
+            places: CountedPlaces::new(rows),
         }
     }
 
@@ -208,17 +67,10 @@ impl<R: RowEnds> PlacesOf<R> {
             × (self.old ≡ row_places row.start row.stride row.len ++ self.new)) }
         ensures row_is_view { IfSome result (λ row. IsView (row_view row)) }
     {
-        if self.left == 0 {
-            let row = first_row(&mut self.rows, &mut self.back)?;
-            return Some(row);
+        match &mut self.stretch {
+            Some(stretch) => stretch.take_row(),
+            None => self.places.next_row(),
         }
-        let row = Row {
-            start: offset_place(self.place, self.stride),
-            stride: self.stride,
-            len: self.left,
-        };
-        self.left = 0;
-        Some(row)
     }
 
     /// The last places that lie evenly, at once: what is left of the row in progress at the back, or else the last row;
@@ -234,80 +86,42 @@ impl<R: RowEnds> PlacesOf<R> {
             × (self.old ≡ self.new ++ row_places row.start row.stride row.len)) }
         ensures row_is_view { IfSome result (λ row. IsView (row_view row)) }
     {
-        let row = last_row(
-            &mut self.rows,
-            &mut self.back,
-            self.place,
-            self.stride,
-            &mut self.left,
-        )?;
-        Some(row)
+        match &mut self.stretch {
+            Some(stretch) => stretch.take_row(),
+            None => self.places.next_row_back(),
+        }
     }
 
-    /// Leaves out so many places, or all where fewer are left: the next one is the one that comes after them.
+    /// Skips the next `count` places, or all that remain.
     ///
     /// Takes no memory. Costs a division and two products for each axis, however many places are left out.
     ///
-    /// Of the places of `[2,3]` with strides `[5,1]` from 0, after 4 places: 6 7. What `nth` of std's iterators leaves
-    /// out one by one.
+    /// Of the places of `[2,3]` with strides `[5,1]` from 0, after 4 places: 6 7. What `nth` of std's iterators skips one by one.
     pub fn advance(&mut self, count: usize)
         ensures { self.new ≡ drop count self.old }
     {
-        if count <= self.left {
-            self.place = place_along_axis(self.place, count, unsigned(self.stride));
-            self.left -= count;
-            return;
-        }
-        let (count, in_rows) = (count - self.left, self.rows.count_of_places());
-        self.left = 0;
-        if count >= in_rows {
-            self.rows.drop_first(in_rows);
-            shorten(&mut self.back, count - in_rows);
-            return;
-        }
-        let len = self.rows.row_len();
-        self.rows.drop_first(count / len);
-        let in_row = count % len;
-        if in_row == 0 {
-            return;
-        }
-        if let Some(row) = self.rows.take_first() {
-            self.place = place_along_axis(row.start, in_row - 1, unsigned(row.stride));
-            self.stride = row.stride;
-            self.left = row.len - in_row;
+        match &mut self.stretch {
+            Some(stretch) => stretch.advance(count),
+            None => self.places.advance(count),
         }
     }
 
-    /// Leaves out so many places at the back, or all where fewer are left: the last one is the one that comes before them.
+    /// Skips the last `count` places, or all that remain.
     ///
     /// Takes no memory. Costs a division and two products for each axis, however many places are left out.
     ///
-    /// Of the places of `[2,3]` with strides `[5,1]` from 0, without the last 4: 0 1. What `nth_back` of std's iterators leaves
-    /// out one by one.
+    /// Of the places of `[2,3]` with strides `[5,1]` from 0, without the last 4: 0 1. What `nth_back` of std's iterators skips one by one.
     pub fn advance_back(&mut self, count: usize)
         ensures { self.new ≡ take (length self.old - count) self.old }
     {
-        if count <= self.back.len {
-            self.back.len -= count;
-            return;
-        }
-        let (count, in_rows) = (count - self.back.len, self.rows.count_of_places());
-        self.back.len = 0;
-        if count >= in_rows {
-            self.rows.drop_last(in_rows);
-            self.left -= self.left.min(count - in_rows);
-            return;
-        }
-        let len = self.rows.row_len();
-        self.rows.drop_last(count / len);
-        if let Some(mut row) = self.rows.take_last() {
-            row.len -= count % len;
-            self.back = row;
+        match &mut self.stretch {
+            Some(stretch) => stretch.advance_back(count),
+            None => self.places.advance_back(count),
         }
     }
 }
 
-impl<R: RowEnds> Iterator for PlacesOf<R> {
+impl<A: SlowerAxes> Iterator for PlacesOf<A> {
     type Item = usize;
 
     ghost next_gives = { YieldsFirstBy pos (λ left. left) };
@@ -316,16 +130,10 @@ impl<R: RowEnds> Iterator for PlacesOf<R> {
 
     #[inline(always)]
     fn next(&mut self) -> Option<usize> {
-        if self.left > 0 {
-            self.left -= 1;
-            self.place = offset_place(self.place, self.stride);
-            return Some(self.place);
+        match &mut self.stretch {
+            Some(stretch) => stretch.next(),
+            None => self.places.next(),
         }
-        let row = first_row(&mut self.rows, &mut self.back)?;
-        self.place = row.start;
-        self.stride = row.stride;
-        self.left = row.len - 1;
-        Some(self.place)
     }
 
     fn size_hint(&self) -> (usize, Option<usize>)
@@ -338,27 +146,24 @@ impl<R: RowEnds> Iterator for PlacesOf<R> {
     }
 }
 
-impl<R: RowEnds> DoubleEndedIterator for PlacesOf<R> {
+impl<A: SlowerAxes> DoubleEndedIterator for PlacesOf<A> {
     ghost next_back_gives = { YieldsLastBy pos (λ left. left) };
 
     fn next_back(&mut self) -> Option<usize> {
-        let mut row = last_row(
-            &mut self.rows,
-            &mut self.back,
-            self.place,
-            self.stride,
-            &mut self.left,
-        )?;
-        row.len -= 1;
-        self.back = row;
-        Some(place_along_axis(row.start, row.len, unsigned(row.stride)))
+        match &mut self.stretch {
+            Some(stretch) => stretch.next_back(),
+            None => self.places.next_back(),
+        }
     }
 }
 
-impl<R: RowEnds> ExactSizeIterator for PlacesOf<R> {
+impl<A: SlowerAxes> ExactSizeIterator for PlacesOf<A> {
     fn len(&self) -> usize {
-        self.left + self.rows.count_of_places() + self.back.len
+        match &self.stretch {
+            Some(stretch) => stretch.len(),
+            None => self.places.len(),
+        }
     }
 }
 
-impl<R: RowEnds> FusedIterator for PlacesOf<R> {}
+impl<A: SlowerAxes> FusedIterator for PlacesOf<A> {}

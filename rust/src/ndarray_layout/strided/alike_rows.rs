@@ -106,6 +106,6 @@ impl<D: Lengths> Strided<D> {
     pub fn joined_rows_with<'a>(&'a self, other: &'a Strided<D>, order: Order) -> (Rows<'a>, Rows<'a>) {
         let lens = self.dim.slice();
         let (axis, also) = joined_axes(order, lens, self.strides.slice(), other.strides.slice());
-        (Rows::along(order, self.start, axis), Rows::along(order, other.start, also))
+        (Rows::along_axis(order, self.start, axis), Rows::along_axis(order, other.start, also))
     }
 }

@@ -3,8 +3,9 @@
 
 use crate::nd_base::unsigned;
 use crate::ndarray_layout::strided::places::place_along_axis;
-use crate::ndarray_layout::strided::places_of_rows::{PlacesOf, RowEnds};
+use crate::ndarray_layout::strided::places_of_rows::PlacesOf;
 use crate::ndarray_layout::strided::rows::Row;
+use crate::ndarray_layout::strided::slower_axes::SlowerAxes;
 
 /// Folds the places of a row, and hands back the function.
 ///
@@ -28,7 +29,7 @@ fn fold_row<B, F: FnMut(B, usize) -> B>(row: Row, init: B, mut f: F) -> (B, F) {
     (total, f)
 }
 
-impl<R: RowEnds> PlacesOf<R> {
+impl<A: SlowerAxes> PlacesOf<A> {
     /// The last result of a function that is called at each place that is left, in order, with the result before, first with
     /// `init`.
     ///

@@ -3,11 +3,11 @@
 
 use crate::nd_base::{Lengths, Order};
 use crate::ndarray_layout::strided::Strided;
-use crate::ndarray_layout::strided::into_rows::StridedRows;
 use crate::ndarray_layout::strided::places_of_rows::PlacesOf;
+use crate::ndarray_layout::strided::slower_axes::KeptAxes;
 
 /// The places of a view that are still to come, in an order, with the view, from both ends: what `into_places` returns.
-pub type IntoPlaces<D> = PlacesOf<StridedRows<D>>;
+pub type IntoPlaces<D> = PlacesOf<KeptAxes<D>>;
 
 impl<D: Lengths> Strided<D> {
     /// The places of all indices, in an order: `iter_places`, where the iterator has the view.

@@ -5,17 +5,17 @@ use crate::nd_base::{Lengths, Order};
 use crate::ndarray_layout::strided::Strided;
 use crate::ndarray_layout::strided::places_of_rows::PlacesOf;
 use crate::ndarray_layout::strided::rows::Rows;
+use crate::ndarray_layout::strided::slower_axes::LentAxes;
 
 /// The places of a view that are still to come, in an order, from both ends: what `iter_places` returns.
-pub type Places<'a> = PlacesOf<Rows<'a>>;
+pub type Places<'a> = PlacesOf<LentAxes<'a>>;
 
 impl<D: Lengths> Strided<D> {
     /// An iterator over the places of all indices, in row-major order (the last axis moves fastest) or in
     /// column-major order (the first one does), which knows how many are left and gives the last ones as well.
     ///
-    /// Takes no memory. A place costs an addition. Axes that lie evenly together count as one (`joined_rows`): past the end
-    /// of the two fastest it costs a division for the third one as well, and for the axis after each one that is at its
-    /// end too. From the back it costs a product, and at each row's end a division for each axis that isn't joined.
+    /// Takes no memory. A place costs an addition, from the back a product, and each row what it costs in `joined_rows`. Places
+    /// that follow one another are a loop over a range.
     ///
     /// `[2,3]` with strides `[-3,1]` from 3: 3 4 5 0 1 2 in row-major order, 3 0 4 1 5 2 in column-major
     /// order. The project's own, in place of a loop of ndarray's `next_for` and `stride_offset`.

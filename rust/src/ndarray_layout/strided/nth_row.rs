@@ -5,7 +5,7 @@ use crate::nd_base::{Ix1, Lengths, Order, new_ix1, signed, stride_offset, unsign
 use crate::nd_dim::product;
 use crate::ndarray_layout::strided::Strided;
 use crate::ndarray_layout::strided::places::offset_place;
-use crate::ndarray_layout::strided::rows::{Fastest, Row, fastest_axis, split_fastest};
+use crate::ndarray_layout::strided::rows::{Row, fastest_axis, split_fastest};
 
 /// How far the index at a flat index lies from the first one, in elements.
 ///
@@ -30,24 +30,6 @@ pub(super) fn offset_of_flat(order: Order, lens: &[usize], strides: &[usize], fl
         (lens, strides) = (axis.lens, axis.strides);
     }
     offset
-}
-
-/// Where the row of a number begins, of those from the places of a column and of the axes that move slower.
-///
-/// <details><summary>Contract (proved)</summary>
-///
-/// ```text
-/// requires view: IsView (axis_view order start column.now)
-/// requires below: number < size (axis_view order start column.now).shape
-/// ensures pos result ≡ row_place order start column.now number
-/// ```
-/// [How to read it](crate::contracts)
-/// </details>
-#[inline]
-pub(super) fn start_of_row(order: Order, start: usize, column: &Fastest<'_>, number: usize) -> usize {
-    let across = offset_of_flat(order, column.lens, column.strides, number / column.len);
-    let along = stride_offset(number % column.len, column.stride);
-    offset_place(start, across + along)
 }
 
 impl<D: Lengths> Strided<D> {

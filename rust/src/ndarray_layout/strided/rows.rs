@@ -1,13 +1,11 @@
 // Made by `rust/erase` of `crates/ndarray_layout/src/strided/rows.rt`: edit that.
 //! The rows of a view one after another, without a list of them.
 
-use crate::nd_base::{Lengths, Order, signed, stride_offset};
-use crate::nd_dim::product;
+use crate::nd_base::{Lengths, Order, signed};
 use crate::nd_shape::goes_on;
 use crate::ndarray_layout::strided::Strided;
-use crate::ndarray_layout::strided::nth_row::start_of_row;
-use crate::ndarray_layout::strided::places::offset_place;
-use core::iter::FusedIterator;
+use crate::ndarray_layout::strided::rows_of::RowsOf;
+use crate::ndarray_layout::strided::slower_axes::LentAxes;
 
 /// A row of a view: places that lie evenly. Its place `i` is `start + i * stride`, for each `i` below `len`.
 #[derive(Clone, Copy, Debug)]
@@ -100,94 +98,8 @@ pub(super) fn joined_axis<'a>(order: Order, lens: &'a [usize], strides: &'a [usi
     axis
 }
 
-/// How many rows begin at the places of a column and of the axes that move slower: none where rows of this length have no
-/// place.
-///
-/// <details><summary>Contract (proved)</summary>
-///
-/// ```text
-/// requires all: column.now.len * size column.now.lens.now < 2 ^ 64
-/// requires lens: size column.now.lens.now < 2 ^ 64
-/// ensures result ≡ (if len == 0 then 0 else column.now.len * size column.now.lens.now)
-/// ```
-/// [How to read it](crate::contracts)
-/// </details>
-#[inline]
-fn count_of_rows(len: usize, column: &Fastest<'_>) -> usize {
-    if len == 0 {
-        return 0;
-    }
-    column.len * product(column.lens)
-}
-
-/// How far the index at a flat index lies from the one before it: a stride along the fastest axis that was not at its
-/// end, less what the axes that move faster had gone. It stays a call, which takes numbers and slices alone, so that a
-/// loop over rows keeps the iterator in registers.
-///
-/// <details><summary>Contract (proved)</summary>
-///
-/// ```text
-/// requires valid: IsValidLayout lens.now (all_signed strides.now)
-/// requires some: 0 < flat_index
-/// requires index: flat_index < size lens.now
-/// ensures offset_of (all_signed strides.now) (index_of_flat_in order lens.now (flat_index - 1)) +ℤ result
-///     ≡ offset_of (all_signed strides.now) (index_of_flat_in order lens.now flat_index)
-/// ```
-/// [How to read it](crate::contracts)
-/// </details>
-#[inline(never)]
-fn offset_from_previous(order: Order, lens: &[usize], strides: &[usize], flat_index: usize) -> isize {
-    let (mut lens, mut strides) = (lens, strides);
-    let (mut offset, mut left) = (0isize, flat_index);
-    'axes: while let Some(axis) = split_fastest(order, lens, strides) {
-        if axis.len > 1 {
-            if left % axis.len > 0 {
-                return offset + signed(axis.stride);
-            }
-            offset -= stride_offset(axis.len - 1, axis.stride);
-            left /= axis.len;
-        }
-        (lens, strides) = (axis.lens, axis.strides);
-    }
-    offset
-}
-
-/// Where the first row of a column begins: the one of this number. The last row before it begins at the place `last`.
-///
-/// <details><summary>Contract (proved)</summary>
-///
-/// ```text
-/// requires column: IsColumn order start column.now number
-/// requires last: 0 < number → pos last ≡ row_place order start column.now (number * column.now.len - 1)
-/// ensures pos result ≡ row_place order start column.now (number * column.now.len)
-/// ```
-/// [How to read it](crate::contracts)
-/// </details>
-#[inline(always)]
-fn first_of_column(order: Order, start: usize, column: &Fastest<'_>, number: usize, last: usize) -> usize {
-    if number == 0 {
-        return start;
-    }
-    let offset = offset_from_previous(order, column.lens, column.strides, number);
-    offset_place(last, offset - stride_offset(column.len - 1, column.stride))
-}
-
-/// The rows of a view that are still to come, in an order.
-pub struct Rows<'a> {
-    order: Order,
-    // The row that came last.
-    row: Row,
-    // Of the axes that move slower than the rows, the fastest: rows that follow one another along it are a column. How
-    // many rows are left of the last column that has begun, how many columns have begun, and how many rows these have.
-    column: Fastest<'a>,
-    left_in_column: usize,
-    columns: usize,
-    begun: usize,
-    // The number after that of the last row that is left.
-    end: usize,
-    // The place of the first row.
-    start: usize,
-}
+/// The rows of a view that are still to come, in an order, from both ends: what `rows` returns.
+pub type Rows<'a> = RowsOf<LentAxes<'a>>;
 
 impl<'a> Rows<'a> {
     /// The rows along the fastest axis of a view, from each place of its other axes.
@@ -201,19 +113,9 @@ impl<'a> Rows<'a> {
     /// [How to read it](crate::contracts)
     /// </details>
     #[inline]
-    pub(super) fn along(order: Order, start: usize, axis: Fastest<'a>) -> Self {
-        let column = joined_axis(order, axis.lens, axis.strides);
-        let end = count_of_rows(axis.len, &column);
-        Rows {
-            order,
-            row: Row { start, stride: signed(axis.stride), len: axis.len },
-            column,
-            left_in_column: 0,
-            columns: 0,
-            begun: 0,
-            end,
-            start,
-        }
+    pub(super) fn along_axis(order: Order, start: usize, axis: Fastest<'a>) -> Self {
+        let axes = LentAxes { order, start, lens: axis.lens, strides: axis.strides };
+        RowsOf::along(axes, axis.len, signed(axis.stride))
     }
 
     /// The rows of a view.
@@ -227,8 +129,8 @@ impl<'a> Rows<'a> {
     /// [How to read it](crate::contracts)
     /// </details>
     #[inline]
-    fn new(order: Order, start: usize, lens: &'a [usize], strides: &'a [usize]) -> Self {
-        Rows::along(order, start, fastest_axis(order, lens, strides))
+    fn of_view(order: Order, start: usize, lens: &'a [usize], strides: &'a [usize]) -> Self {
+        Rows::along_axis(order, start, fastest_axis(order, lens, strides))
     }
 
     /// The places of a view as the longest rows that its axes allow.
@@ -246,176 +148,9 @@ impl<'a> Rows<'a> {
     /// </details>
     #[inline]
     pub(super) fn of_places(order: Order, start: usize, lens: &'a [usize], strides: &'a [usize]) -> Self {
-        Rows::along(order, start, joined_axis(order, lens, strides))
-    }
-
-    /// Leaves out so many rows, or all where fewer are left: the next one is the one that comes after them.
-    ///
-    /// Takes no memory. Costs a division and two products for each axis but that of the rows.
-    ///
-    /// Of the rows of `[4,2]` with strides `[2,1]` from 0, which begin at 0 2 4 6, after 3 rows: 6. What `nth` of std's
-    /// iterators leaves out one by one.
-    ///
-    /// # Examples
-    ///
-    /// ```
-    /// use ndarray_layout::{CanIndexCheckMode, Ix2, LayoutError, Order, Strided};
-    ///
-    /// # fn main() -> Result<(), LayoutError> {
-    /// let view = Strided::from_shape(Ix2(4, 2).into(), 1, 8, CanIndexCheckMode::ReadOnly)?;
-    /// let mut rows = view.rows(Order::RowMajor);
-    /// rows.advance(3);
-    /// assert!(rows.map(|row| row.start).eq([6]));
-    /// # Ok(())
-    /// # }
-    /// ```
-    ///
-    /// <details><summary>Contract (proved)</summary>
-    ///
-    /// ```text
-    /// ensures self.new ≡ drop count self.old
-    /// ```
-    /// [How to read it](crate::contracts)
-    /// </details>
-    #[inline]
-    pub fn advance(&mut self, count: usize) {
-        if count >= self.len() {
-            self.begun = self.end;
-            self.left_in_column = 0;
-            return;
-        }
-        if count > 0 {
-            let number = self.begun - self.left_in_column + count;
-            let columns = (number - 1) / self.column.len + 1;
-            let begun = self.end.min(columns * self.column.len);
-            self.row.start = start_of_row(self.order, self.start, &self.column, number - 1);
-            self.columns = columns;
-            self.begun = begun;
-            self.left_in_column = begun - number;
-        }
-    }
-
-    /// Leaves out so many rows at the back, or all where fewer are left: the last one is the one that comes before them.
-    ///
-    /// Takes no time for each row. Of the rows of `[4,2]` with strides `[2,1]` from 0, which begin at 0 2 4 6, without the
-    /// last 3: 0. What `nth_back` of std's iterators leaves out one by one.
-    ///
-    /// # Examples
-    ///
-    /// ```
-    /// use ndarray_layout::{CanIndexCheckMode, Ix2, LayoutError, Order, Strided};
-    ///
-    /// # fn main() -> Result<(), LayoutError> {
-    /// let view = Strided::from_shape(Ix2(4, 2).into(), 1, 8, CanIndexCheckMode::ReadOnly)?;
-    /// let mut rows = view.rows(Order::RowMajor);
-    /// rows.advance_back(1);
-    /// assert_eq!((rows.len(), rows.next_back().map(|row| row.start)), (3, Some(4)));
-    /// assert!(rows.map(|row| row.start).eq([0, 2]));
-    /// # Ok(())
-    /// # }
-    /// ```
-    ///
-    /// <details><summary>Contract (proved)</summary>
-    ///
-    /// ```text
-    /// ensures self.new ≡ take (length self.old - count) self.old
-    /// ```
-    /// [How to read it](crate::contracts)
-    /// </details>
-    #[inline]
-    pub fn advance_back(&mut self, count: usize) {
-        if count >= self.len() {
-            self.begun = self.end;
-            self.left_in_column = 0;
-            return;
-        }
-        self.end -= count;
-        let begun = self.begun.min(self.end);
-        self.left_in_column -= self.begun - begun;
-        self.begun = begun;
-    }
-
-    /// How many places each row has; unspecified where none is left.
-    ///
-    /// <details><summary>Contract (proved)</summary>
-    ///
-    /// ```text
-    /// ensures All (λ row. row.len ≡ result) self.now
-    /// ```
-    /// [How to read it](crate::contracts)
-    /// </details>
-    #[inline]
-    pub(super) fn row_len(&self) -> usize {
-        self.row.len
-    }
-
-    /// How many places the rows have that are left.
-    ///
-    /// <details><summary>Contract (proved)</summary>
-    ///
-    /// ```text
-    /// ensures result ≡ length (rows_places self.now)
-    /// ```
-    /// [How to read it](crate::contracts)
-    /// </details>
-    #[inline]
-    pub(super) fn count_of_places(&self) -> usize {
-        self.len() * self.row.len
+        Rows::along_axis(order, start, joined_axis(order, lens, strides))
     }
 }
-
-impl Iterator for Rows<'_> {
-    type Item = Row;
-
-    #[inline(always)]
-    fn next(&mut self) -> Option<Row> {
-        if self.left_in_column > 0 {
-            self.left_in_column -= 1;
-            self.row.start = offset_place(self.row.start, signed(self.column.stride));
-            return Some(self.row);
-        }
-        let in_column = self.column.len.min(self.end - self.begun);
-        if in_column == 0 {
-            return None;
-        }
-        self.row.start = first_of_column(self.order, self.start, &self.column, self.columns, self.row.start);
-        self.columns += 1;
-        self.begun += in_column;
-        self.left_in_column = in_column - 1;
-        Some(self.row)
-    }
-
-    #[inline]
-    fn size_hint(&self) -> (usize, Option<usize>) {
-        let left = self.len();
-        (left, Some(left))
-    }
-}
-
-impl DoubleEndedIterator for Rows<'_> {
-    #[inline]
-    fn next_back(&mut self) -> Option<Row> {
-        if self.len() == 0 {
-            return None;
-        }
-        self.end -= 1;
-        let begun = self.begun.min(self.end);
-        self.left_in_column -= self.begun - begun;
-        self.begun = begun;
-        let mut row = self.row;
-        row.start = start_of_row(self.order, self.start, &self.column, self.end);
-        Some(row)
-    }
-}
-
-impl ExactSizeIterator for Rows<'_> {
-    #[inline]
-    fn len(&self) -> usize {
-        self.end - self.begun + self.left_in_column
-    }
-}
-
-impl FusedIterator for Rows<'_> {}
 
 impl<D: Lengths> Strided<D> {
     /// An iterator over the rows of the view, which knows how many are left: for each index of the other axes the
@@ -424,8 +159,8 @@ impl<D: Lengths> Strided<D> {
     /// The rows come in that order, so their places one after another are those of `iter_places`. A view without axes
     /// has one row, of one place; a view without indices has none.
     ///
-    /// Takes no memory. A row costs an addition. Past the end of the second axis it costs a division for the third one
-    /// as well, and for the axis after each one that is at its end too. Axes that lie evenly together count as one.
+    /// Takes no memory. A row costs an addition, from either end; past the end of the second axis it costs a division and two
+    /// products for each axis but its own. Axes that lie evenly together count as one.
     ///
     /// `[2,3]` with strides `[-3,1]` from 3: in row-major order 3 places from 3 and 3 places from 0, by the stride 1;
     /// in column-major order 2 places from 3, from 4 and from 5, by -3. ndarray's `rows`, of places.
@@ -458,8 +193,9 @@ impl<D: Lengths> Strided<D> {
     #[inline]
     #[must_use]
     pub fn rows(&self, order: Order) -> Rows<'_> {
-        Rows::new(order, self.start, self.dim.slice(), self.strides.slice())
+        Rows::of_view(order, self.start, self.dim.slice(), self.strides.slice())
     }
+
     /// An iterator over the places of the view as the longest rows that its axes allow, which knows how many are left.
     ///
     /// Axes are joined where one goes on where the next faster one ends: where its stride is that one's length times that
@@ -467,8 +203,8 @@ impl<D: Lengths> Strided<D> {
     /// row has as many, and no longer row begins the view. A view that is contiguous in the order is one row; a view without
     /// indices has none.
     ///
-    /// Takes no memory. A row costs an addition; past the end of the next axis that isn't joined, a division for the one after
-    /// it as well.
+    /// Takes no memory. A row costs an addition, from either end; past the end of the next axis that isn't joined, a division and
+    /// two products for each of those.
     ///
     /// `[2,2,3]` with strides `[20,3,1]` from 0, two rows of two pixels of 3 bytes: 6 places from 0 and 6 from 20, by the
     /// stride 1. The project's own.

@@ -14,6 +14,7 @@ use ::ndarray_layout::{Dimension, Ix2, Strided, all_indices};
 /// ensures flipped: OnOk result (HasItemsOf
 ///     (λ index. item_at (array_of picture.old) (invert_source 0 (array_of picture.old).view.shape index))
 ///     (array_of picture.old) (array_of picture.new))
+/// ensures same_right: access_of picture.new ≡ access_of picture.old
 /// ```
 /// [How to read it](ndarray_layout::contracts)
 /// </details>

@@ -16,7 +16,7 @@ loop-row-init c =
     let is : view.shape ≡ rows ∷ columns ∷ [] = search rules in
     let upper : c.into_iter-row-iterator.result ≡ indices_in RowMajor (rows / 2 ∷ columns ∷ []) = search rules in
     record {
-      flipped = none_flipped 0 view c.strided.ensures.owned.is_view (omega (arith, ap length is)) c.args.picture.now.cells.items
+      flipped = none_flipped 0 view c.strided.ensures.owned.is_view (omega (arith, ap length is)) (array_of c.args.picture.now).items
           c.into_iter-row-iterator.result
           (upper ∙ ap (λ (shape : List ℕ). indices_in RowMajor (set shape 0 (get_or shape 0 0 / 2))) (sym is));
       same_right = refl;

@@ -15,6 +15,7 @@ use Rattle.nd_lent.specs.HasItems.{HasItemsOf}
 use Rattle.nd_lent.specs.Items.{IsOwned, item_at, item_at_place}
 use Rattle.nd_lent.specs.Part.{IsPart}
 use Rattle.example_callers.proofs.tiles.paint_tiles.Goals as goal
+use Rattle.nd_lent.specs.Lent.{access_of}
 
 -- a view has no index at a place
 abbrev IsFree : ℤ → View × ℕ → Type 0
@@ -101,7 +102,7 @@ take-part-requires c =
     let n : ℕ = length c.args.pixels.now in
     let tile : View × ℕ = c.tile-item.result in
     let at : c.in_ok-duplicate.field-0 ≡ tile.0 = search rules in
-    let marks : c.loop-tile.rest.cells.marks ≡ replicate n true = search rules in
+    let marks : c.loop-tile.rest.access.marks ≡ replicate n true = search rules in
     let owned = is_owned n c.args.tiles.now c.loop-tile.tile-index tile c.loop-tile-test.true c.tile-item.is c.requires.owned in
     subst (λ ours. IsPart ours c.in_ok-duplicate.field-0) (sym marks)
     (subst (λ view. IsPart (replicate n true) view) (sym at) (owned_is_part n tile.0 owned))
@@ -112,11 +113,11 @@ loop-tile-preserved c =
     let i : ℕ = c.loop-tile.tile-index in
     let tile : View × ℕ = c.tile-item.result in
     let owned = is_owned n c.args.tiles.now i tile c.loop-tile-test.true c.tile-item.is c.requires.owned in
-    let now : List ℕ = c.put_back.new.self.cells.items in
-    let left : List ℕ = c.take-part.new.self.cells.items in
+    let now : List ℕ = c.put_back.new.self.items in
+    let left : List ℕ = c.take-part.new.self.items in
     let view : c.take-part.result.0.view ≡ tile.0 = search rules in
-    let kept : left ≡ c.loop-tile.rest.cells.items = c.take-part.ensures.rest_items in
-    let put = part_put_back n tile.0 c.fill.new.self.cells.marks left now c.fill.ensures.filled owned.within view (search rules)
+    let kept : left ≡ c.loop-tile.rest.items = c.take-part.ensures.rest_items in
+    let put = part_put_back n tile.0 (access_of c.fill.new.self).marks left now c.fill.ensures.filled owned.within view (search rules)
     (search rules) (search rules) c.put_back.ensures.items in
     let has = subst (λ items. HasItemsOf (λ index. Some tile.1) (record { items = items; view = tile.0 })
     (record { items = now; view = tile.0 })) kept put.1 in
@@ -131,7 +132,7 @@ loop-tile-preserved c =
 
 pub returns-clause-painted : goal.returns-clause-painted
 returns-clause-painted c earlier later tile split index here free =
-    let last : List ℕ = c.loop-tile.rest.cells.items in
+    let last : List ℕ = c.loop-tile.rest.items in
     let end : c.close.new.self.items.now ≡ last = c.close.ensures.items in
     as_last index tile (search (rules, end))
     (all_painted c.args.tiles.now c.loop-tile.tile-index last (omega (arith, c.loop-tile-test.false, c.loop-tile.auto.tile-index-end))

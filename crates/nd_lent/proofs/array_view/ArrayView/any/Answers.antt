@@ -1,6 +1,6 @@
 -- It is the search for an item that passes.
 use Rattle.std.proofs.Common.{false, true}
-use Rattle.nd_lent.proofs.Searching.{searched_while}
+use Rattle.nd_loops.proofs.Laws.Searching.{searched_while}
 use Rattle.nd_lent.proofs.array_view.ArrayView.any.Goals as goal
 
 pub returns : goal.returns

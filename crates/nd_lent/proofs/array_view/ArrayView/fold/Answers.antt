@@ -1,8 +1,8 @@
 -- The closure is called where its function is.
 use Rattle.std.proofs.Common.{refl, rules, subst, sym}
 use Rattle.std.specs.Iterator.{CallableInFold, FoldsItems}
-use Rattle.nd_lent.specs.Lending.{lends}
-use Rattle.nd_lent.proofs.Folding.{folded_inside, may_fold_inside}
+use Rattle.nd_access.specs.Lending.{lends}
+use Rattle.nd_access.proofs.Laws.Folding.{folded_inside, may_fold_inside}
 use Rattle.nd_lent.proofs.array_view.ArrayView.fold.Goals as goal
 
 pub fold_rows-requires : goal.fold_rows-requires

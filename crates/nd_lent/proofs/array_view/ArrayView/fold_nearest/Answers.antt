@@ -1,7 +1,7 @@
 -- The closure is called where its function is.
 use Rattle.std.proofs.Common.{refl, rules}
-use Rattle.nd_lent.specs.LentRow.{rows_items}
-use Rattle.nd_lent.proofs.Folding.{folded_inside, may_fold_inside}
+use Rattle.nd_access.specs.LentRow.{rows_items}
+use Rattle.nd_access.proofs.Laws.Folding.{folded_inside, may_fold_inside}
 use Rattle.nd_lent.proofs.array_view.ArrayView.fold_nearest.Goals as goal
 
 pub fold_rows-requires : goal.fold_rows-requires

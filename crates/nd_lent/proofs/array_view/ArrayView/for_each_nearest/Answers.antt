@@ -1,6 +1,6 @@
 -- The closure is called where its function is.
 use Rattle.std.proofs.Common.{rules}
-use Rattle.nd_lent.proofs.Folding.{callable_inside, called_inside}
+use Rattle.nd_access.proofs.Laws.Folding.{callable_inside, called_inside}
 use Rattle.nd_lent.proofs.array_view.ArrayView.for_each_nearest.Goals as goal
 
 pub fold_nearest-requires : goal.fold_nearest-requires

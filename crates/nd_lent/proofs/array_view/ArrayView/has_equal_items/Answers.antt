@@ -8,13 +8,13 @@ use Rattle.ndarray_layout.specs.declared.Order.TheVariants.{RowMajor}
 use Rattle.ndarray_layout.specs.Nearest.{pairs_of_places}
 use Rattle.ndarray_layout.specs.Rows.{rows_places}
 use Rattle.ndarray_layout.specs.View.{place_at}
-use Rattle.nd_lent.specs.Items.{item_at_place}
-use Rattle.nd_lent.specs.Equal.{both_equal}
-use Rattle.nd_lent.specs.LentRow.{row_of, rows_items}
-use Rattle.nd_lent.proofs.Moved.{AreAlike, alike_moved, first_moved, second_moved}
-use Rattle.nd_lent.proofs.Comparing.{compared_in}
-use Rattle.nd_lent.proofs.Read.{rows_of_view_read}
-use Rattle.nd_lent.proofs.RowsLent.{All-as_long, as_many_places, rows_alike, rows_items-row_of}
+use Rattle.nd_access.specs.Items.{item_at_place}
+use Rattle.nd_loops.specs.Equal.{both_equal}
+use Rattle.nd_access.specs.LentRow.{row_of, rows_items}
+use Rattle.nd_loops.proofs.Laws.Moved.{AreAlike, alike_moved, first_moved, second_moved}
+use Rattle.nd_loops.proofs.Laws.Comparing.{compared_in}
+use Rattle.nd_access.proofs.Laws.Read.{rows_of_view_read}
+use Rattle.nd_access.proofs.Laws.RowsLent.{All-as_long, as_many_places, rows_alike, rows_items-row_of}
 use Rattle.nd_lent.proofs.array_view.ArrayView.has_equal_items.Given.{Over}
 use Rattle.nd_lent.proofs.array_view.ArrayView.has_equal_items.Goals as goal
 use Rattle.nd_lent.proofs.array_view.ArrayView.has_equal_items.Goals.{After-nearest_rows_with-rows}

@@ -1,15 +1,8 @@
--- All are left.
-use Rattle.std.proofs.Common.{◌≡◌, Some, ap, ◌∙◌}
-use Rattle.std.specs.Int.{div_ceil}
-use Rattle.std.specs.Prelude.{slice_get}
-use Rattle.nd_lent.specs.ChunksAlong.{chunk_at, chunk_count}
-use Rattle.nd_lent.proofs.AlongAxis.{all_at_first, length_read}
+-- Each chunk is read.
+use Rattle.nd_lent.proofs.ChunksAlong.{chunks_read}
 use Rattle.nd_lent.proofs.array_view.ArrayView.into_axis_chunks.Goals as goal
 
-pub returns-clause-chunks : goal.returns-clause-chunks
-returns-clause-chunks g c =
-    let shape = c.args.self.view.shape in
-    let axis = c.args.axis.0 in
-    let there : slice_get shape axis ≡ Some c.axis_of.result = cc (c.axis_of.ensures, c.slice-2.ensures.list, c.dim-2.ensures.list) in
-    all_at_first (chunk_at axis c.args.size c.args.self) (chunk_count shape axis c.args.size)
-    (c.div_ceil-end.ensures ∙ ap (λ n. div_ceil n c.args.size) (length_read shape axis there))
+pub invariant_of-result : goal.invariant_of-result
+invariant_of-result g c =
+    let read = c.self.invariant in
+    chunks_read c.args.axis.0 c.args.size read.has.is_view c.in_ok-views.ensures.there read c.in_ok-views.ensures.views

@@ -1,12 +1,12 @@
 -- All items are left, and the index of the first one is all 0.
 use Rattle.std.proofs.Common.{length, replicate, ap, sym, ◌∙◌}
 use Rattle.ndarray_layout.specs.Size.{size}
-use Rattle.nd_lent.specs.IndexedItems.{last_indexed}
-use Rattle.nd_lent.proofs.IndexedItems.{all_at_first, count_at_first, stands_at_first}
+use Rattle.nd_items.specs.IndexedItems.{last_indexed}
+use Rattle.nd_items.proofs.Laws.IndexedItems.{all_at_first, count_at_first, stands_at_first}
 use Rattle.nd_lent.proofs.array_view.ArrayView.into_indexed_iter.Goals as goal
 
-pub invariant_of-result : goal.invariant_of-result
-invariant_of-result g c =
+pub of_items-requires : goal.of_items-requires
+of_items-requires g c =
     let list = g.D.Lengths.list in
     stands_at_first (list c.in_ok-dim.dim) (list c.in_ok-index.index) (length c.into_iter.result)
     (c.in_ok-index.ensures.list ∙ ap (λ n. replicate n 0) c.ndim.ensures.count)
@@ -14,5 +14,5 @@ invariant_of-result g c =
 
 pub returns-clause-items : goal.returns-clause-items
 returns-clause-items g c =
-    ap (λ shape. last_indexed shape c.into_iter.result) (c.in_ok-dim.ensures.list ∙ c.dim.ensures.list)
+    c.of_items.ensures ∙ ap (λ shape. last_indexed shape c.into_iter.result) (c.in_ok-dim.ensures.list ∙ c.dim.ensures.list)
     ∙ all_at_first c.args.self c.into_iter.ensures.into_iter_gives.0

@@ -2,10 +2,10 @@
 use Rattle.std.proofs.Common.{ap, ◌∙◌}
 use Rattle.ndarray_layout.specs.declared.Order.TheVariants.{RowMajor}
 use Rattle.ndarray_layout.specs.View.{view_places}
-use Rattle.nd_lent.specs.LentRow.{rows_items}
-use Rattle.nd_lent.proofs.Permuted.{permuted}
-use Rattle.nd_lent.proofs.Read.{rows_of_view_read}
-use Rattle.nd_lent.proofs.RowsLent.{items_of_rows}
+use Rattle.nd_access.specs.LentRow.{rows_items}
+use Rattle.nd_access.proofs.Laws.Permuted.{permuted}
+use Rattle.nd_access.proofs.Laws.Read.{rows_of_view_read}
+use Rattle.nd_access.proofs.Laws.RowsLent.{items_of_rows}
 use Rattle.nd_lent.proofs.array_view.ArrayView.joined_rows.Goals as goal
 
 pub new-requires : goal.new-requires

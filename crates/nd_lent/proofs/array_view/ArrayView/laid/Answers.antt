@@ -1,8 +1,8 @@
 -- All items are read.
 use Rattle.std.proofs.Common.{length, subst, sym, true}
 use Rattle.std.specs.Prelude.{replicate}
-use Rattle.nd_lent.specs.Read.{IsRead}
-use Rattle.nd_lent.proofs.Read.{all_read}
+use Rattle.nd_access.specs.Read.{IsRead}
+use Rattle.nd_access.proofs.Laws.Read.{all_read}
 use Rattle.nd_lent.proofs.array_view.ArrayView.laid.Goals as goal
 
 pub invariant_of-result : goal.invariant_of-result

@@ -3,9 +3,10 @@ use Rattle.std.proofs.Common.{rules, ◌≡◌, length, sym}
 use Rattle.ndarray_layout.specs.declared.Order.TheVariants.{RowMajor}
 use Rattle.ndarray_layout.proofs.Laws.View.{places_lie_within}
 use Rattle.nd_lent.specs.Lent.{array_of}
-use Rattle.nd_lent.proofs.OwnPlaces.{own_of_part}
-use Rattle.nd_lent.proofs.Read.{places_marked}
-use Rattle.nd_lent.proofs.PairMaps.{maps_of_lent, pairs_in_order, pairs_of_lent, spare, zips_in_order}
+use Rattle.nd_access.proofs.Laws.OwnPlaces.{own_of_part}
+use Rattle.nd_access.proofs.Laws.Read.{places_marked}
+use Rattle.nd_loops.proofs.Laws.PairMaps.{maps_of_lent, pairs_in_order, pairs_of_lent, zips_in_order}
+use Rattle.nd_lent.proofs.PairsMapped.{spare}
 use Rattle.nd_lent.proofs.PairsInside.{callable_in_order, mapped_inside, ran_inside}
 use Rattle.nd_lent.proofs.array_view.ArrayView.map_into.Given.{Over}
 use Rattle.nd_lent.proofs.array_view.ArrayView.map_into.Goals as goal

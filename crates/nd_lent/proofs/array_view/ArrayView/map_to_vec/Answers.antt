@@ -6,10 +6,10 @@ use Rattle.ndarray_layout.specs.declared.Order.TheVariants.{RowMajor}
 use Rattle.ndarray_layout.specs.Size.{size}
 use Rattle.ndarray_layout.specs.View.{view_places}
 use Rattle.ndarray_layout.proofs.Laws.View.{length-view_places}
-use Rattle.nd_lent.specs.Items.{ArrayValue, item_at_place}
-use Rattle.nd_lent.specs.Mapped.{gives}
-use Rattle.nd_lent.proofs.Laws.IndexItems.{items_in_order}
-use Rattle.nd_lent.proofs.Pushed.{count_listed, mapped_listed, ran_listed}
+use Rattle.nd_access.specs.Items.{ArrayValue, item_at_place}
+use Rattle.nd_access.specs.Mapped.{gives}
+use Rattle.nd_access.proofs.Laws.IndexItems.{items_in_order}
+use Rattle.nd_access.proofs.Laws.Pushed.{count_listed, mapped_listed, ran_listed}
 use Rattle.nd_lent.proofs.array_view.ArrayView.map_to_vec.Goals as goal
 
 many : {T : Type 0} (array : ArrayValue T)

@@ -5,7 +5,7 @@ use Rattle.ndarray_layout.specs.declared.Order.TheVariants.{RowMajor}
 use Rattle.ndarray_layout.specs.Size.{size}
 use Rattle.ndarray_layout.specs.View.{view_places}
 use Rattle.ndarray_layout.proofs.Laws.View.{length-view_places}
-use Rattle.nd_lent.specs.Items.{item_at_place}
+use Rattle.nd_access.specs.Items.{item_at_place}
 use Rattle.nd_lent.proofs.Equals.{picked_last}
 use Rattle.nd_lent.proofs.Extremes.{picked, picks_greater}
 use Rattle.nd_lent.proofs.array_view.ArrayView.max.Goals as goal

@@ -5,10 +5,10 @@ use Rattle.std.proofs.iter.runs.Sources.{as_is, from_front}
 use Rattle.ndarray_layout.specs.declared.Order.TheVariants.{RowMajor}
 use Rattle.ndarray_layout.specs.Rows.{view_rows}
 use Rattle.ndarray_layout.proofs.Laws.Rows.{rows_places-view_rows, some_in_each_row}
-use Rattle.nd_lent.specs.LentRow.{RowValue, row_of, rows_items}
-use Rattle.nd_lent.proofs.Permuted.{permuted}
-use Rattle.nd_lent.proofs.Read.{rows_of_view_read}
-use Rattle.nd_lent.proofs.RowsLent.{items_of_rows}
+use Rattle.nd_access.specs.LentRow.{RowValue, row_of, rows_items}
+use Rattle.nd_access.proofs.Laws.Permuted.{permuted}
+use Rattle.nd_access.proofs.Laws.Read.{rows_of_view_read}
+use Rattle.nd_access.proofs.Laws.RowsLent.{items_of_rows}
 use Rattle.nd_lent.proofs.array_view.ArrayView.rows.Given.{Over}
 use Rattle.nd_lent.proofs.array_view.ArrayView.rows.Goals as goal
 use Rattle.nd_lent.proofs.array_view.ArrayView.rows.Goals.{After-new}

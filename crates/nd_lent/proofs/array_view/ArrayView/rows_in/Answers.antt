@@ -5,10 +5,10 @@ use Rattle.std.proofs.lemmas.List.Sorted.{IsPermutation-map}
 use Rattle.ndarray_layout.specs.declared.Order.TheVariants.{RowMajor}
 use Rattle.ndarray_layout.specs.Rows.{rows_places}
 use Rattle.ndarray_layout.specs.View.{view_places}
-use Rattle.nd_lent.specs.LentRow.{rows_items}
-use Rattle.nd_lent.specs.Items.{item_at_place}
-use Rattle.nd_lent.proofs.Read.{rows_of_view_read}
-use Rattle.nd_lent.proofs.RowsLent.{rows_items-row_of}
+use Rattle.nd_access.specs.LentRow.{rows_items}
+use Rattle.nd_access.specs.Items.{item_at_place}
+use Rattle.nd_access.proofs.Laws.Read.{rows_of_view_read}
+use Rattle.nd_access.proofs.Laws.RowsLent.{rows_items-row_of}
 use Rattle.nd_lent.proofs.array_view.ArrayView.rows_in.Given.{Over}
 use Rattle.nd_lent.proofs.array_view.ArrayView.rows_in.Goals as goal
 use Rattle.nd_lent.proofs.array_view.ArrayView.rows_in.Goals.{After-nearest_rows}

@@ -2,11 +2,11 @@
 use Rattle.std.proofs.Common.{◌≡◌, ◌++◌, false, true, ap, subst, sym}
 use Rattle.std.specs.Iterator.{CallableWhile}
 use Rattle.std.specs.Prelude.{not}
-use Rattle.nd_lent.specs.LentRow.{row_items, rows_items}
-use Rattle.nd_lent.specs.Lending.{lends}
-use Rattle.nd_lent.specs.private.Searched.{HasSearched}
-use Rattle.nd_lent.proofs.Folding.{callable_after, callable_in_part}
-use Rattle.nd_lent.proofs.Searching.{found_first, none_searched, passes, then_searched}
+use Rattle.nd_access.specs.LentRow.{row_items, rows_items}
+use Rattle.nd_access.specs.Lending.{lends}
+use Rattle.nd_loops.specs.Searched.{HasSearched}
+use Rattle.nd_access.proofs.Laws.Folding.{callable_after, callable_in_part}
+use Rattle.nd_loops.proofs.Laws.Searching.{found_first, none_searched, passes, then_searched}
 use Rattle.nd_lent.proofs.array_view.ArrayView.search.Given.{Over}
 use Rattle.nd_lent.proofs.array_view.ArrayView.search.Goals as goal
 use Rattle.nd_lent.proofs.array_view.ArrayView.search.Goals.{In-Some}

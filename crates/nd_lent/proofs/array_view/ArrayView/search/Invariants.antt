@@ -4,10 +4,10 @@ use Rattle.std.specs.Iterator.{CallableWhile}
 use Rattle.std.specs.Prelude.{not}
 use Rattle.ndarray_layout.specs.declared.Order.TheVariants.{RowMajor}
 use Rattle.ndarray_layout.specs.View.{view_places}
-use Rattle.nd_lent.specs.Items.{item_at_place}
-use Rattle.nd_lent.specs.LentRow.{rows_items}
-use Rattle.nd_lent.specs.Lending.{lends}
-use Rattle.nd_lent.specs.private.Searched.{HasSearched}
+use Rattle.nd_access.specs.Items.{item_at_place}
+use Rattle.nd_access.specs.LentRow.{rows_items}
+use Rattle.nd_access.specs.Lending.{lends}
+use Rattle.nd_loops.specs.Searched.{HasSearched}
 use Rattle.nd_lent.proofs.array_view.ArrayView.search.Given as goal
 
 abbrev pub invariant-loop-row : goal.invariant-loop-row

@@ -1,6 +1,6 @@
 -- The view is that of the layout, sliced.
 use Rattle.std.proofs.Common.{refl, ap, ◌∙◌}
-use Rattle.nd_lent.specs.declared.cells.Reader.{Reader}
+use Rattle.nd_access.specs.declared.cells.Reader.{Reader}
 use Rattle.nd_lent.proofs.Steps.{step_to}
 use Rattle.nd_lent.proofs.array_view.ArrayView.slice_with.Goals as goal
 

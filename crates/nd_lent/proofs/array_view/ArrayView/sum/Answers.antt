@@ -6,9 +6,9 @@ use Rattle.std.specs.Prelude.{IfSome, IsSome}
 use Rattle.std.proofs.lemmas.List.Sorted.{sum_by-IsPermutation}
 use Rattle.ndarray_layout.specs.declared.Order.TheVariants.{RowMajor}
 use Rattle.ndarray_layout.specs.View.{view_places}
-use Rattle.nd_lent.specs.LentRow.{rows_items}
-use Rattle.nd_lent.specs.Items.{item_at_place}
-use Rattle.nd_lent.proofs.Sums.{summed_fits, summed_is}
+use Rattle.nd_access.specs.LentRow.{rows_items}
+use Rattle.nd_access.specs.Items.{item_at_place}
+use Rattle.nd_loops.proofs.Laws.Sums.{summed_fits, summed_is}
 use Rattle.nd_lent.proofs.array_view.ArrayView.sum.Given.{Over}
 use Rattle.nd_lent.proofs.array_view.ArrayView.sum.Goals as goal
 use Rattle.nd_lent.proofs.array_view.ArrayView.sum.Goals.{After-rows_in}

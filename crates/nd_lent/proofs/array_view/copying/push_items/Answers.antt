@@ -1,7 +1,7 @@
 -- The result at one item more is appended, for which there is room.
 use Rattle.std.proofs.Common.{rules, ap, length, refl, arith}
 use Rattle.std.specs.Fn.{CalledAt}
-use Rattle.nd_lent.proofs.Pushed.{all_left, all_pushed, first_pushed, takes_first}
+use Rattle.nd_access.proofs.Laws.Pushed.{all_left, all_pushed, first_pushed, takes_first}
 use Rattle.nd_lent.proofs.array_view.copying.push_items.Goals as goal
 
 pub loop-item-init : goal.loop-item-init

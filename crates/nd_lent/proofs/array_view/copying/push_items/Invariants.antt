@@ -1,7 +1,7 @@
 -- Once the results at the items that are left are appended, those at all are; for them there is room.
 use Rattle.std.proofs.Common.{◌+◌, ◌≤◌, length, vec_capacity, vec_len}
 use Rattle.std.specs.Fn.{CalledAt, TakesAt}
-use Rattle.nd_lent.proofs.Pushed.{AreLeft}
+use Rattle.nd_access.proofs.Laws.Pushed.{AreLeft}
 use Rattle.nd_lent.proofs.array_view.copying.push_items.Given as goal
 
 abbrev pub invariant-loop-item : goal.invariant-loop-item

@@ -2,9 +2,9 @@
 use Rattle.std.proofs.Common.{Some, map, refl, ap, ◌∙◌}
 use Rattle.ndarray_layout.specs.declared.Order.TheVariants.{RowMajor}
 use Rattle.ndarray_layout.specs.View.{view_places}
-use Rattle.nd_lent.specs.Items.{item_at_place}
-use Rattle.nd_lent.proofs.SliceOfPart.{span_marked}
-use Rattle.nd_lent.proofs.Laws.StretchItems.{items_of_stretch}
+use Rattle.nd_access.specs.Items.{item_at_place}
+use Rattle.nd_access.proofs.Laws.SliceOfPart.{span_marked}
+use Rattle.nd_access.proofs.Laws.StretchItems.{items_of_stretch}
 use Rattle.nd_lent.proofs.array_view_mut.ArrayViewMut.as_slice.Goals as goal
 
 pub slice-requires : goal.slice-requires

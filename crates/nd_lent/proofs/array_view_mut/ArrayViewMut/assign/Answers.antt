@@ -3,9 +3,10 @@ use Rattle.std.proofs.Common.{rules, ◌≡◌, length, sym, ◌∙◌}
 use Rattle.ndarray_layout.specs.declared.Order.TheVariants.{RowMajor}
 use Rattle.ndarray_layout.proofs.Laws.View.{places_lie_within}
 use Rattle.nd_lent.specs.Lent.{array_of}
-use Rattle.nd_lent.proofs.OwnPlaces.{own_of_part}
-use Rattle.nd_lent.proofs.Read.{places_marked}
-use Rattle.nd_lent.proofs.PairMaps.{copied, copied_count, zips_of_lent}
+use Rattle.nd_access.proofs.Laws.OwnPlaces.{own_of_part}
+use Rattle.nd_access.proofs.Laws.Read.{places_marked}
+use Rattle.nd_loops.proofs.Laws.PairMaps.{zips_of_lent}
+use Rattle.nd_lent.proofs.PairsMapped.{copied, copied_count}
 use Rattle.nd_lent.proofs.array_view_mut.ArrayViewMut.assign.Given.{Over}
 use Rattle.nd_lent.proofs.array_view_mut.ArrayViewMut.assign.Goals as goal
 use Rattle.nd_lent.proofs.array_view_mut.ArrayViewMut.assign.Goals.{After-strided}

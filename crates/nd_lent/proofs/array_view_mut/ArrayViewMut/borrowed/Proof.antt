@@ -3,20 +3,20 @@ use denote.Laws.{Typed}
 use denote.Param.{bounded}
 use mir.Syntax.{Dicts, dcons, dnil}
 use Rattle.ndarray_layout.proofs.strided.Strided.TheLaws as V-laws
-use Rattle.nd_lent.specs.Cells.{holds_cells}
+use Rattle.nd_access.specs.Cells.{holds_cells}
 use Rattle.nd_lent.specs.LendsItem.{LendsItems, with_items}
-use Rattle.nd_lent.specs.Part.{IsPart}
+use Rattle.nd_access.specs.Part.{IsPart}
 use Rattle.nd_lent.specs.contracts.array_view_mut.ArrayViewMut.borrowed as f
-use Rattle.nd_lent.specs.declared.cells.Cells.{Cells}
+use Rattle.nd_access.specs.declared.cells.Cells.{Cells}
 use Rattle.nd_lent.proofs.array_view_mut.ArrayViewMut.borrowed.Code as code
 use Rattle.nd_lent.proofs.array_view_mut.ArrayViewMut.borrowed.Statement.{statement}
-use Rattle.nd_lent.proofs.lending.Held.{ptr_typed, word_typed}
-use Rattle.nd_lent.proofs.lending.Lends.{lends_all}
+use Rattle.nd_access.proofs.Laws.lending.Held.{ptr_typed, word_typed}
+use Rattle.nd_access.proofs.Laws.lending.Lends.{lends_all}
 use Rattle.nd_lent.proofs.lending.PartHeld.{Bound, ItsPart, ItsView, Part, part_made, part_opened, part_word}
 use Rattle.nd_lent.proofs.lending.PartLends.{Seats, part_back, part_out}
-use Rattle.nd_lent.proofs.lending.Passed.{both_hold, lone_is}
-use Rattle.nd_lent.proofs.lending.Walk.{all_dropped, ends, quiet, shown_at}
-use Rattle.nd_lent.proofs.lending.Steps
+use Rattle.nd_access.proofs.Laws.lending.Passed.{both_hold, lone_is}
+use Rattle.nd_access.proofs.Laws.lending.Walk.{all_dropped, ends, quiet, shown_at}
+use Rattle.nd_access.proofs.Laws.lending.Steps
 use Steps.{GName, Laws, List, MutRef, RattleType, SProp, Val, WpFn, a_type, agg, alloc_all, and_then, await, by, closes, done, enter, fld}
 use Steps.{flft, free_all, fsplit3, get, group, inst_fn, join, keep, later, layout, load, look_at, look_in, move, named, named_lft, no_more}
 use Steps.{of_opd, only, owns, param, param_laws, pass_all, pick, prop, qed, raw, refl, regoal, returns, rewrite, says, sem, sets, some}

@@ -4,7 +4,7 @@ use Rattle.std.specs.Option.{option_map}
 use Rattle.std.proofs.lemmas.Option.{none-some}
 use Rattle.nd_lent.specs.Lent.{array_of}
 use Rattle.nd_lent.proofs.Laws.WrittenCount.{same_count}
-use Rattle.nd_lent.proofs.OwnPlaces.{own_of_part}
+use Rattle.nd_access.proofs.Laws.OwnPlaces.{own_of_part}
 use Rattle.nd_lent.proofs.PartMaps.{mapped, overwritten}
 use Rattle.nd_lent.proofs.array_view_mut.ArrayViewMut.fill.Goals as goal
 

@@ -1,5 +1,5 @@
 -- Each index has a place to itself as before, which has a mark.
-use Rattle.nd_lent.proofs.Laws.Marks.{part_descendant}
+use Rattle.nd_access.proofs.Laws.Marks.{part_descendant}
 use Rattle.nd_lent.proofs.array_view_mut.ArrayViewMut.into_lanes.Goals as goal
 
 pub of_cells-requires : goal.of_cells-requires

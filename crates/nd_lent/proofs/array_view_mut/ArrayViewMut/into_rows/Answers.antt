@@ -4,9 +4,9 @@ use Rattle.std.proofs.lemmas.List.{take_all}
 use Rattle.ndarray_layout.specs.declared.Order.TheVariants.{RowMajor}
 use Rattle.ndarray_layout.specs.Rows.{rows_places, view_rows}
 use Rattle.ndarray_layout.proofs.Laws.Rows.{rows_places-view_rows}
-use Rattle.nd_lent.specs.Own.{AreOwn}
+use Rattle.nd_access.specs.Own.{AreOwn}
 use Rattle.nd_lent.specs.RowsLeft.{row_array}
-use Rattle.nd_lent.proofs.OwnPlaces.{own_of_part}
+use Rattle.nd_access.proofs.Laws.OwnPlaces.{own_of_part}
 use Rattle.nd_lent.proofs.array_view_mut.ArrayViewMut.into_rows.Goals as goal
 
 pub invariant_of-result : goal.invariant_of-result

@@ -1,7 +1,7 @@
 -- The places of a part that follow one another have marks, and the slice has the items there.
 use Rattle.std.proofs.Common.{Some, map, refl, ap, ◌∙◌}
-use Rattle.nd_lent.proofs.SliceOfPart.{span_marked}
-use Rattle.nd_lent.proofs.Laws.StretchItems.{items_of_stretch}
+use Rattle.nd_access.proofs.Laws.SliceOfPart.{span_marked}
+use Rattle.nd_access.proofs.Laws.StretchItems.{items_of_stretch}
 use Rattle.nd_lent.proofs.array_view_mut.ArrayViewMut.into_slice.Goals as goal
 
 pub take_slice-requires : goal.take_slice-requires

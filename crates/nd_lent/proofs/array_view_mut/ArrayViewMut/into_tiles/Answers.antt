@@ -8,7 +8,7 @@ pub invariant_of-result : goal.invariant_of-result
 invariant_of-result g c =
     let chunk = g.D.Lengths.list c.args.chunk.now in
     let none = sym {b = chunks_fault None c.args.self.view.shape chunk} c.in_ok-views.ensures.fault in
-    record { own = own_chunks chunk c.args.self.part none c.in_ok-views.ensures.views }
+    own_chunks chunk c.args.self.part none c.in_ok-views.ensures.views
 
 pub returns-clause-apart : goal.returns-clause-apart
 returns-clause-apart g c =

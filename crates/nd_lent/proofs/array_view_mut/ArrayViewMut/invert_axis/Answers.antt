@@ -1,6 +1,6 @@
 -- Each index has a place to itself as before, which has a mark.
 use Rattle.ndarray_layout.specs.InvertedView.{invert_source}
-use Rattle.nd_lent.proofs.Laws.Marks.{part_after}
+use Rattle.nd_access.proofs.Laws.Marks.{part_after}
 use Rattle.nd_lent.proofs.array_view_mut.ArrayViewMut.invert_axis.Goals as goal
 
 pub invariant_of-self : goal.invariant_of-self

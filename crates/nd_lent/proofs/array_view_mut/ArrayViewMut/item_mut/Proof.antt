@@ -5,15 +5,15 @@ use Rattle.std.proofs.lemmas.Option.{slice_get-get_or}
 use Rattle.std.specs.Prelude.{IsTrue, false}
 use Rattle.nd_lent.specs.LendsItem.{LendsItem, with_items}
 use Rattle.nd_lent.specs.contracts.array_view_mut.ArrayViewMut.item_mut as f
-use Rattle.nd_lent.specs.declared.cells.Cells.{Cells}
+use Rattle.nd_access.specs.declared.cells.Cells.{Cells}
 use Rattle.nd_lent.proofs.array_view_mut.ArrayViewMut.item_mut.Code as code
 use Rattle.nd_lent.proofs.array_view_mut.ArrayViewMut.item_mut.Statement.{statement}
-use Rattle.nd_lent.proofs.lending.Lends.{lends_one}
+use Rattle.nd_access.proofs.Laws.lending.Lends.{lends_one}
 use Rattle.nd_lent.proofs.lending.PartHeld.{Bound, ItsPart, Part, part_made, part_opened, part_word}
 use Rattle.nd_lent.proofs.lending.PartLends.{Seats, part_back, part_out}
-use Rattle.nd_lent.proofs.lending.Places.{first_item, marked_below, place_fits, times_size}
-use Rattle.nd_lent.proofs.lending.Walk.{all_dropped, ends, quiet, shown}
-use Rattle.nd_lent.proofs.lending.Steps
+use Rattle.nd_access.proofs.Laws.lending.Places.{first_item, marked_below, place_fits, times_size}
+use Rattle.nd_access.proofs.Laws.lending.Walk.{all_dropped, ends, quiet, shown}
+use Rattle.nd_access.proofs.Laws.lending.Steps
 use Steps.{Body, Bool, GName, List, MutBor, MutRef, Ptr, RattleType, T, Val, Valss, a_type, addr, alloc_all, ap, arith, assign, at_ret}
 use Steps.{await, bin, block_of, blocks, by, cell_at, closes, copy, count_of, done, drop, enter, env, exec, first, fld, flft, free_all}
 use Steps.{fsplit, full_share, get, get_or, group, inst_fn, join, keep, later, length, load, look_at, look_in, mem, move, mut_Tells}

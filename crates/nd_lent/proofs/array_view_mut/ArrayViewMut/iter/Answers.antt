@@ -1,13 +1,13 @@
 -- Each place of the part has a mark, and what is left comes from its front on, in order.
-use Rattle.std.proofs.Common.{List, Option, Some, ap, length, ◌∙◌, Bor}
+use Rattle.std.proofs.Common.{List, Option, Some, ap, length, map, ◌∙◌, Bor}
 use Rattle.std.specs.Iterator.{YieldsFirstBy}
 use Rattle.std.proofs.iter.runs.Sources.{from_front}
 use Rattle.std.proofs.lemmas.List.{length-map}
 use Rattle.ndarray_layout.specs.declared.Order.TheVariants.{RowMajor}
 use Rattle.ndarray_layout.proofs.Laws.View.{length-view_places}
-use Rattle.nd_lent.specs.Items.{item_at_place}
+use Rattle.nd_access.specs.Items.{item_at_place}
 use Rattle.nd_lent.proofs.PartRead.{part_read}
-use Rattle.nd_lent.proofs.Read.{places_read}
+use Rattle.nd_access.proofs.Laws.Read.{places_read}
 use Rattle.nd_lent.proofs.array_view_mut.ArrayViewMut.iter.Goals as goal
 
 pub of_reader-requires : goal.of_reader-requires
@@ -16,6 +16,12 @@ of_reader-requires g c =
     let all = c.shared.ensures.all in
     rw (all.0, all.1) (places_read self.view (part_read self.cells.marks self.view (length self.cells.items) all.2 self.part)
     c.iter_places.ensures.items)
+
+pub returns-clause-items : goal.returns-clause-items
+returns-clause-items g c =
+    c.of_reader.ensures
+    ∙ ap (λ items. map (item_at_place items) c.iter_places.result) c.shared.ensures.all.0
+    ∙ ap (map (item_at_place c.args.self.now.cells.items)) c.iter_places.ensures.items
 
 pub returns-clause-count : goal.returns-clause-count
 returns-clause-count g c =

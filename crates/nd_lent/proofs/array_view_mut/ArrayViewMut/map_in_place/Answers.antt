@@ -2,10 +2,10 @@
 use Rattle.std.proofs.Common.{sym, subst}
 use Rattle.ndarray_layout.specs.declared.Order.TheVariants.{RowMajor}
 use Rattle.nd_lent.specs.Lent.{array_of}
-use Rattle.nd_lent.specs.Mapped.{CallableOnEachMut}
-use Rattle.nd_lent.proofs.OwnPlaces.{own_of_part}
+use Rattle.nd_access.specs.Mapped.{CallableOnEachMut}
+use Rattle.nd_access.proofs.Laws.OwnPlaces.{own_of_part}
 use Rattle.nd_lent.proofs.PartMaps.{in_order, mapped, ran_over, spare}
-use Rattle.nd_lent.proofs.Laws.IndexItems.{items_in}
+use Rattle.nd_access.proofs.Laws.IndexItems.{items_in}
 use Rattle.nd_lent.proofs.array_view_mut.ArrayViewMut.map_in_place.Goals as goal
 
 pub map_view-requires-clause-own : goal.map_view-requires-clause-own

@@ -1,12 +1,12 @@
 -- A call is made at each place of the part, once.
 use Rattle.std.proofs.Common.{sym, subst}
 use Rattle.ndarray_layout.specs.declared.Order.TheVariants.{RowMajor}
-use Rattle.nd_lent.specs.AnyOrder.{InAnyOrder}
+use Rattle.nd_loops.specs.AnyOrder.{InAnyOrder}
 use Rattle.nd_lent.specs.Lent.{array_of}
-use Rattle.nd_lent.specs.Mapped.{CallableOnEachMut}
-use Rattle.nd_lent.proofs.OwnPlaces.{own_of_part}
+use Rattle.nd_access.specs.Mapped.{CallableOnEachMut}
+use Rattle.nd_access.proofs.Laws.OwnPlaces.{own_of_part}
 use Rattle.nd_lent.proofs.PartMaps.{mapped, some_order, spare}
-use Rattle.nd_lent.proofs.Laws.IndexItems.{items_in}
+use Rattle.nd_access.proofs.Laws.IndexItems.{items_in}
 use Rattle.nd_lent.proofs.array_view_mut.ArrayViewMut.map_in_place_nearest.Goals as goal
 
 pub map_nearest-requires-clause-own : goal.map_nearest-requires-clause-own

@@ -1,5 +1,5 @@
 -- Each index of the reshaped view has a place to itself, which has a mark.
-use Rattle.nd_lent.proofs.Laws.Marks.{part_descendant}
+use Rattle.nd_access.proofs.Laws.Marks.{part_descendant}
 use Rattle.nd_lent.proofs.array_view_mut.ArrayViewMut.reshape.Goals as goal
 
 pub of_cells-requires : goal.of_cells-requires

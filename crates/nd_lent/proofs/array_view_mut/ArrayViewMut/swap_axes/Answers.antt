@@ -1,6 +1,6 @@
 -- Each index has a place to itself as before, which has a mark.
 use Rattle.std.specs.List.{swap}
-use Rattle.nd_lent.proofs.Laws.Marks.{part_after}
+use Rattle.nd_access.proofs.Laws.Marks.{part_after}
 use Rattle.nd_lent.proofs.array_view_mut.ArrayViewMut.swap_axes.Goals as goal
 
 pub invariant_of-self : goal.invariant_of-self

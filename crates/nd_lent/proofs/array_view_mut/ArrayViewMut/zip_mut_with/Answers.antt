@@ -4,15 +4,16 @@ use Rattle.ndarray_layout.specs.declared.Order.TheVariants.{RowMajor}
 use Rattle.ndarray_layout.specs.View.{view_places}
 use Rattle.ndarray_layout.proofs.Laws.View.{places_lie_within}
 use Rattle.nd_lent.specs.Lent.{array_of}
-use Rattle.nd_lent.specs.Mapped.{CallsMake, row_major_items}
-use Rattle.nd_lent.specs.Written.{Maps}
-use Rattle.nd_lent.specs.Zipped.{CallableOnEachPair, CalledAtPair}
-use Rattle.nd_lent.specs.private.Pairs.{ZipsAt, view_pairs}
-use Rattle.nd_lent.proofs.OwnPlaces.{own_of_part}
-use Rattle.nd_lent.proofs.PairMaps.{pairs_in_order, pairs_of_lent, spare, zipped, zips_in_order}
+use Rattle.nd_access.specs.Mapped.{CallsMake, row_major_items}
+use Rattle.nd_access.specs.Written.{Maps}
+use Rattle.nd_access.specs.Zipped.{CallableOnEachPair, CalledAtPair}
+use Rattle.nd_access.specs.Pairs.{ZipsAt, view_pairs}
+use Rattle.nd_access.proofs.Laws.OwnPlaces.{own_of_part}
+use Rattle.nd_loops.proofs.Laws.PairMaps.{pairs_in_order, pairs_of_lent, zips_in_order}
+use Rattle.nd_lent.proofs.PairsMapped.{spare, zipped}
 use Rattle.nd_lent.proofs.PartMaps.{changed}
-use Rattle.nd_lent.proofs.Laws.IndexItems.{items_in}
-use Rattle.nd_lent.proofs.Read.{places_marked}
+use Rattle.nd_access.proofs.Laws.IndexItems.{items_in}
+use Rattle.nd_access.proofs.Laws.Read.{places_marked}
 use Rattle.nd_lent.proofs.array_view_mut.ArrayViewMut.zip_mut_with.Given.{Over}
 use Rattle.nd_lent.proofs.array_view_mut.ArrayViewMut.zip_mut_with.Goals as goal
 use Rattle.nd_lent.proofs.array_view_mut.ArrayViewMut.zip_mut_with.Goals.{After-reader}

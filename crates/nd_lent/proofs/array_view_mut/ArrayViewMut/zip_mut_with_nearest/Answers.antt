@@ -2,13 +2,14 @@
 use Rattle.std.proofs.Common.{rules, ◌≡◌, length, sym, subst, ◌∙◌}
 use Rattle.ndarray_layout.specs.declared.Order.TheVariants.{RowMajor}
 use Rattle.ndarray_layout.proofs.Laws.View.{places_lie_within}
-use Rattle.nd_lent.specs.AnyOrder.{InAnyOrder}
+use Rattle.nd_loops.specs.AnyOrder.{InAnyOrder}
 use Rattle.nd_lent.specs.Lent.{array_of}
-use Rattle.nd_lent.specs.Zipped.{CallableOnEachPair, CalledAtPair}
-use Rattle.nd_lent.specs.private.Pairs.{ZipsAt}
-use Rattle.nd_lent.proofs.OwnPlaces.{own_of_part}
-use Rattle.nd_lent.proofs.Read.{places_marked}
-use Rattle.nd_lent.proofs.PairMaps.{pairs_in_order, pairs_of_lent, some_order, spare, zipped, zips_of_lent}
+use Rattle.nd_access.specs.Zipped.{CallableOnEachPair, CalledAtPair}
+use Rattle.nd_access.specs.Pairs.{ZipsAt}
+use Rattle.nd_access.proofs.Laws.OwnPlaces.{own_of_part}
+use Rattle.nd_access.proofs.Laws.Read.{places_marked}
+use Rattle.nd_loops.proofs.Laws.PairMaps.{pairs_in_order, pairs_of_lent, zips_of_lent}
+use Rattle.nd_lent.proofs.PairsMapped.{some_order, spare, zipped}
 use Rattle.nd_lent.proofs.array_view_mut.ArrayViewMut.zip_mut_with_nearest.Given.{Over}
 use Rattle.nd_lent.proofs.array_view_mut.ArrayViewMut.zip_mut_with_nearest.Goals as goal
 use Rattle.nd_lent.proofs.array_view_mut.ArrayViewMut.zip_mut_with_nearest.Goals.{After-reader, After-zip_nearest}

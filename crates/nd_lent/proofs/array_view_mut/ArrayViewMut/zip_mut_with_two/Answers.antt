@@ -3,14 +3,14 @@ use Rattle.std.proofs.Common.{rules, ◌≡◌, List, map, sym, ap, subst, ◌�
 use Rattle.ndarray_layout.specs.declared.Order.TheVariants.{RowMajor}
 use Rattle.ndarray_layout.specs.Rows.{rows_places}
 use Rattle.ndarray_layout.specs.View.{view_places}
-use Rattle.nd_lent.specs.Items.{item_at_place}
+use Rattle.nd_access.specs.Items.{item_at_place}
 use Rattle.nd_lent.specs.Lent.{array_of}
-use Rattle.nd_lent.specs.LentRow.{rows_items}
-use Rattle.nd_lent.specs.Written.{Maps}
-use Rattle.nd_lent.specs.ZippedTwo.{CallableOnEachTriple, CalledAtTriple, triples_of}
-use Rattle.nd_lent.specs.private.Triples.{rows_triples, view_triples}
-use Rattle.nd_lent.proofs.OwnPlaces.{own_of_part}
-use Rattle.nd_lent.proofs.RowsOwned.{rows_of_own}
+use Rattle.nd_access.specs.LentRow.{rows_items}
+use Rattle.nd_access.specs.Written.{Maps}
+use Rattle.nd_loops.specs.ZippedTwo.{CallableOnEachTriple, CalledAtTriple, triples_of}
+use Rattle.nd_loops.specs.Triples.{rows_triples, view_triples}
+use Rattle.nd_access.proofs.Laws.OwnPlaces.{own_of_part}
+use Rattle.nd_loops.proofs.Laws.RowsOwned.{rows_of_own}
 use Rattle.nd_lent.proofs.TripleMaps.{ran_in_order, triples_in_order, zipped_two}
 use Rattle.nd_lent.proofs.array_view_mut.ArrayViewMut.zip_mut_with_two.Given.{Over}
 use Rattle.nd_lent.proofs.array_view_mut.ArrayViewMut.zip_mut_with_two.Goals as goal

@@ -4,7 +4,7 @@ use Rattle.std.specs.Option.{option_or}
 use Rattle.std.specs.Result.{result_err}
 use Rattle.ndarray_layout.specs.declared.Fit.TheVariants.{Strict}
 use Rattle.nd_lent.specs.Slices.{view_slices_fault}
-use Rattle.nd_lent.proofs.Laws.Lists.{ended, next}
+use Rattle.nd_access.proofs.Laws.Lists.{ended, next}
 use Rattle.nd_lent.proofs.array_view_mut.slices.check_slices_into.Goals as goal
 
 pub returns-in_err-check_slice_into : goal.returns-in_err-check_slice_into

@@ -1,13 +1,9 @@
 -- The parts so far, with those of the slices that are left, are all, and what is left of the right has a mark at each place of these.
-use Rattle.std.proofs.Common.{◌≡◌, ◌++◌, length, map, drop}
+use Rattle.std.proofs.Common.{◌≡◌, ◌++◌, map, drop}
 use Rattle.nd_lent.specs.Lent.{array_of}
-use Rattle.nd_lent.specs.Part.{marks_of}
 use Rattle.nd_lent.specs.Slices.{slice_array}
 use Rattle.nd_lent.proofs.SlicesApart.{AreLeft}
 use Rattle.nd_lent.proofs.array_view_mut.slices.parts_of_slices.Given as goal
-
-abbrev pub ghost-take_part : goal.ghost-take_part
-ghost-take_part g a = marks_of (length a.self.now.marks) a._by.now
 
 abbrev pub invariant-loop-slice : goal.invariant-loop-slice
 invariant-loop-slice g l =

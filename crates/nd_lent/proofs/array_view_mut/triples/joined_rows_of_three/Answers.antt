@@ -5,11 +5,11 @@ use Rattle.std.specs.Prelude.{replicate}
 use Rattle.ndarray_layout.specs.declared.Order.TheVariants.{RowMajor}
 use Rattle.ndarray_layout.specs.Rows.{rows_places}
 use Rattle.ndarray_layout.specs.View.{view_places}
-use Rattle.nd_lent.specs.Items.{item_at_place}
-use Rattle.nd_lent.specs.LentRow.{rows_items}
-use Rattle.nd_lent.proofs.Permuted.{permuted}
-use Rattle.nd_lent.proofs.Read.{rows_of_view_read}
-use Rattle.nd_lent.proofs.RowsLent.{All-as_long, rows_beside, rows_items-row_of}
+use Rattle.nd_access.specs.Items.{item_at_place}
+use Rattle.nd_access.specs.LentRow.{rows_items}
+use Rattle.nd_access.proofs.Laws.Permuted.{permuted}
+use Rattle.nd_access.proofs.Laws.Read.{rows_of_view_read}
+use Rattle.nd_access.proofs.Laws.RowsLent.{All-as_long, rows_beside, rows_items-row_of}
 use Rattle.nd_lent.proofs.array_view_mut.triples.joined_rows_of_three.Goals as goal
 
 pub new-seconds-requires : goal.new-seconds-requires

@@ -5,7 +5,7 @@ use Rattle.ndarray_layout.specs.declared.Order.TheVariants.{RowMajor}
 use Rattle.ndarray_layout.specs.Rows.{rows_places, view_rows}
 use Rattle.ndarray_layout.proofs.Laws.Rows.{rows_places-view_rows}
 use Rattle.nd_lent.proofs.RowsAsLong.{rows_as_long}
-use Rattle.nd_lent.proofs.RowsLent.{rows_beside}
+use Rattle.nd_access.proofs.Laws.RowsLent.{rows_beside}
 use Rattle.nd_lent.proofs.array_view_mut.triples.rows_of_three.Goals as goal
 
 pub returns-clause-places : goal.returns-clause-places

@@ -4,10 +4,10 @@ use Rattle.std.proofs.Math.Nat.{min-le_right}
 use Rattle.std.proofs.lemmas.List.{length-map, take-map}
 use Rattle.ndarray_layout.specs.declared.Order.TheVariants.{RowMajor}
 use Rattle.ndarray_layout.specs.Rows.{rows_places, view_rows}
-use Rattle.nd_lent.specs.Own.{AreOwn}
+use Rattle.nd_access.specs.Own.{AreOwn}
 use Rattle.nd_lent.specs.RowsLeft.{row_array}
-use Rattle.nd_lent.proofs.Between.{between_cut}
-use Rattle.nd_lent.proofs.OwnRows.{own_rows_taken}
+use Rattle.nd_access.proofs.Laws.Between.{between_cut}
+use Rattle.nd_access.proofs.Laws.OwnRows.{own_rows_taken}
 use Rattle.nd_lent.proofs.array_view_mut.rows.LanesMut.advance_back.Goals as goal
 
 pub overflow_sub-self-2 : goal.overflow_sub-self-2

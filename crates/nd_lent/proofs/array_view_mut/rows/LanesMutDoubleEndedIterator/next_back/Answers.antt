@@ -3,7 +3,7 @@ use Rattle.std.proofs.Common.{◌-◌, length, ap, ◌∙◌, arith}
 use Rattle.std.proofs.lemmas.List.{length-drop, length_push}
 use Rattle.ndarray_layout.specs.declared.Order.TheVariants.{RowMajor}
 use Rattle.ndarray_layout.specs.Rows.{view_rows}
-use Rattle.nd_lent.proofs.OwnRows.{before_left, last_comes, last_is_part, none_left}
+use Rattle.nd_access.proofs.Laws.OwnRows.{before_left, last_comes, last_is_part, none_left}
 use Rattle.nd_lent.proofs.array_view_mut.rows.LanesMutDoubleEndedIterator.next_back.Goals as goal
 
 pub returns-in_err-row-clause-steps : goal.returns-in_err-row-clause-steps

@@ -4,8 +4,8 @@ use Rattle.std.proofs.lemmas.List.{length-drop}
 use Rattle.ndarray_layout.specs.declared.Order.TheVariants.{RowMajor}
 use Rattle.ndarray_layout.specs.Rows.{row_view, view_rows}
 use Rattle.ndarray_layout.proofs.Laws.Rows.{few_rows}
-use Rattle.nd_lent.proofs.Between.{slice_get-take}
-use Rattle.nd_lent.proofs.OwnRows.{next_comes, next_is_part, none_left, others_left}
+use Rattle.nd_access.proofs.Laws.Between.{slice_get-take}
+use Rattle.nd_access.proofs.Laws.OwnRows.{next_comes, next_is_part, none_left, others_left}
 use Rattle.nd_lent.proofs.array_view_mut.rows.LanesMutIterator.next.Goals as goal
 
 pub returns-in_err-row-clause-steps : goal.returns-in_err-row-clause-steps

@@ -6,18 +6,18 @@ use Rattle.ndarray_layout.proofs.LongestRow.{as_long, longest}
 use Rattle.ndarray_layout.proofs.Laws.Rows.{rows_places-view_rows, some_in_each_row}
 use Rattle.ndarray_layout.proofs.strided.rows.Rows.of_places.Goals as goal
 
-pub along-requires : goal.along-requires
-along-requires c = c.joined_axis.ensures.places.is_view c.args.start c.requires
+pub along_axis-requires : goal.along_axis-requires
+along_axis-requires c = c.joined_axis.ensures.places.is_view c.args.start c.requires
 
 pub returns-clause-places : goal.returns-clause-places
 returns-clause-places c =
     let axis = c.joined_axis.ensures.places in
-    ap rows_places c.along.ensures
+    ap rows_places c.along_axis.ensures
     ∙ rows_places-view_rows c.args.order (axis.is_view c.args.start c.requires)
     ∙ axis.places c.args.start c.requires
 
 pub returns-clause-some : goal.returns-clause-some
-returns-clause-some c = subst (All (λ row. 0 < row.len)) (sym c.along.ensures)
+returns-clause-some c = subst (All (λ row. 0 < row.len)) (sym c.along_axis.ensures)
     (some_in_each_row c.args.order (axis_view c.args.order c.args.start c.joined_axis.result))
 
 pub returns-clause-longest : goal.returns-clause-longest
@@ -28,5 +28,5 @@ returns-clause-longest c =
     let v = has.is_view c.args.start c.requires in
     λ other begins.
     let here = ap (take other.len) (has.places c.args.start c.requires) ∙ begins in
-    subst (All (λ row. other.len ≤ row.len)) (sym c.along.ensures)
+    subst (All (λ row. other.len ≤ row.len)) (sym c.along_axis.ensures)
     (as_long order axis c.args.start other.len (longest order c.args.start axis v other here c.joined_axis.ensures.joined))

@@ -1,0 +1,14 @@
+pub mod Again
+pub mod CellLends
+pub mod Crosses
+pub mod HeldSlot
+pub mod Item
+pub mod Lent
+pub mod OfSlice
+pub mod Parted
+pub mod Read
+pub mod SameName
+pub mod Seen
+pub mod Shared
+pub mod Stretch
+pub mod Taken

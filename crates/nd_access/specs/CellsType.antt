@@ -1,0 +1,2 @@
+-- The type of cells in memory.
+pub use Rattle.nd_access.specs.contracts.cells.Cells.{struct, the_row}

@@ -1,0 +1,3 @@
+pub mod IndexedItems
+pub mod IndexedLeft
+pub mod ItemsLeft

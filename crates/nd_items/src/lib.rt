@@ -1,0 +1,19 @@
+//! Items that are lent one after another, from both ends, to be read or written, with their indices, and row by row.
+#![tactic(auto)]
+
+mod copying;
+mod indexed_iter;
+mod indexed_iter_mut;
+mod into_rows;
+mod items;
+mod iterating;
+mod next_index;
+mod view_iter;
+
+pub use indexed_iter::IndexedIter;
+pub use indexed_iter_mut::IndexedIterMut;
+pub use into_rows::IntoRows;
+pub use items::IterMut;
+pub use iterating::Iter;
+pub use next_index::take_index;
+pub use view_iter::ViewIter;

@@ -1,0 +1,17 @@
+-- All items are left, and come from the front on, in order.
+use Rattle.std.proofs.Common.{List, Option, Some, ap, length}
+use Rattle.std.specs.Borrow.{Bor}
+use Rattle.std.specs.Iterator.{YieldsFirstBy}
+use Rattle.std.proofs.iter.runs.Sources.{from_front}
+use Rattle.nd_lent.proofs.array_view.items.ArrayViewIntoIterator.into_iter.Goals as goal
+
+pub returns : goal.returns
+returns g c =
+    let left = λ (items : List (Option g.row.T.Denot)). items in
+    let shown = λ (item : Bor g.row.T.Denot). Some item.now in
+    record {
+      into_iter_gives = (
+        rw (← c.self.view_is) c.of_reader.ensures,
+        from_front (YieldsFirstBy shown left) shown left (λ s t h. ap length h.0) (λ s x t h. h),
+      );
+    }

@@ -1,6 +1,0 @@
--- There is an item for each place.
-use Rattle.nd_lent.proofs.RowsLent.{count_of_items}
-use Rattle.nd_lent.proofs.array_view.rows.LentRow.len.Goals as goal
-
-pub returns-clause-count : goal.returns-clause-count
-returns-clause-count g c = rw (← c.self.view_is) (count_of_items c.self.inside.reader.items c.self.inside.row)

@@ -1,5 +1,0 @@
-use Rattle.nd_lent.specs.Cells.{span_of}
-use Rattle.nd_lent.proofs.cells.Cells.swap.Given as goal
-
-abbrev pub ghost-lend_part : goal.ghost-lend_part
-ghost-lend_part g a = span_of a._by.now 1 a.self.now.marks

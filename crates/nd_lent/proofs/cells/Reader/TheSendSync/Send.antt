@@ -1,8 +1,0 @@
-use denote.RattleType.{RattleType}
-use denote.Ref.{NamedLft}
-use denote.Param.Send.{IsSend, IsSync}
-use Rattle.nd_lent.proofs.lending.Crosses.{reader_send}
-use Rattle.nd_lent.specs.contracts.cells.Reader.{the_row}
-
-pub send : (κ : NamedLft) (V : RattleType) → IsSync V → IsSend (the_row κ V)
-send = reader_send

@@ -1,8 +1,0 @@
--- The right to some elements of a slice: its name, the first element's address, and the marks.
-use Rattle.std.specs.Prelude.{List, Bool}
-use base.Fml.{GName}
-use denote.RawPtr.{Ptr}
-
--- these three
-abbrev pub Right : Type 0
-Right = GName × Ptr × List Bool

@@ -1,0 +1,7 @@
+pub mod Comparing
+pub mod Few
+pub mod Moved
+pub mod PairMaps
+pub mod RowsOwned
+pub mod Searching
+pub mod Sums

@@ -1,0 +1,5 @@
+pub mod EvenRows
+pub mod FoldedBack
+pub mod SixAxes
+pub mod TripleRows
+pub mod Laws

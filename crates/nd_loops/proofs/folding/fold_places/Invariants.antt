@@ -1,0 +1,13 @@
+-- The items so far are folded, and the function may be called at the others.
+use Rattle.std.proofs.Common.{take, drop}
+use Rattle.std.specs.Iterator.{CallableInFold}
+use Rattle.nd_access.specs.LentRow.{row_items}
+use Rattle.nd_access.specs.Lending.{lends}
+use Rattle.nd_access.specs.Folded.{HasFolded}
+use Rattle.nd_loops.proofs.folding.fold_places.Given as goal
+
+abbrev pub invariant-loop-coordinate : goal.invariant-loop-coordinate
+invariant-loop-coordinate g l = record {
+  folded : HasFolded g.F.FnMut (l.initial.f, l.fn.init) (take l.coordinate (row_items l.fn.row)) (l.f, l.total);
+  callable : CallableInFold lends g.F.FnMut (drop l.coordinate (row_items l.fn.row)) l.f l.total;
+}

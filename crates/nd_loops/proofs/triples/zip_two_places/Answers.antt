@@ -1,0 +1,109 @@
+-- One more call is made, at the item of the next coordinate and the two beside it.
+use Rattle.std.proofs.Common.{rules, false, pos, get_or, refl, sym, ap, ◌∙◌, arith}
+use Rattle.std.proofs.lemmas.List.{length-set}
+use Rattle.ndarray_layout.proofs.Laws.Rows.{get_or-row_places, length-row_places}
+use Rattle.nd_access.specs.LentRow.{places_of}
+use Rattle.nd_access.specs.Part.{has_mark}
+use Rattle.nd_loops.specs.ZippedTwo.{CalledAtTriple, TakesTriple}
+use Rattle.nd_loops.specs.Triples.{row_triples}
+use Rattle.nd_loops.proofs.Laws.RowsOwned.{place_of_row}
+use Rattle.nd_access.proofs.Laws.SwappedCells.{got}
+use Rattle.nd_loops.proofs.TripleRows.{next_triple, triples_count}
+use Rattle.nd_access.proofs.Laws.MapsTo.{IsNext, all_run, begins, one_more, takes_next}
+use Rattle.nd_loops.proofs.triples.zip_two_places.Given.{Over}
+use Rattle.nd_loops.proofs.triples.zip_two_places.Goals as goal
+use Rattle.nd_loops.proofs.triples.zip_two_places.Goals.{After-item-in-loop-coordinate}
+
+pub loop-coordinate-init : goal.loop-coordinate-init
+loop-coordinate-init g c =
+    let old = c.args.cells.now.items in
+    let row = c.args.row in
+    let given = row_triples old row c.args.second.now c.args.third.now in
+    record {
+      run = begins (CalledAtTriple g.F.FnMut) (TakesTriple g.F.FnMut) c.args.f (places_of row) given old
+          c.requires.callable;
+      long = refl;
+      keeps_access = refl;
+    }
+
+pub place_in_row-place-requires-clause-first : goal.place_in_row-place-requires-clause-first
+place_in_row-place-requires-clause-first g c =
+    (place_of_row c.args.cells.now.marks c.args.row c.loop-coordinate.coordinate c.requires.row c.loop-coordinate-test.true).first
+
+pub place_in_row-place-requires-clause-small : goal.place_in_row-place-requires-clause-small
+place_in_row-place-requires-clause-small g c =
+    (place_of_row c.args.cells.now.marks c.args.row c.loop-coordinate.coordinate c.requires.row c.loop-coordinate-test.true).small
+
+pub place_in_row-place-requires-clause-in_bounds : goal.place_in_row-place-requires-clause-in_bounds
+place_in_row-place-requires-clause-in_bounds g c =
+    (place_of_row c.args.cells.now.marks c.args.row c.loop-coordinate.coordinate c.requires.row c.loop-coordinate-test.true).fits
+
+pub item_mut-requires : goal.item_mut-requires
+item_mut-requires g c =
+    let marked =
+    (place_of_row c.args.cells.now.marks c.args.row c.loop-coordinate.coordinate c.requires.row c.loop-coordinate-test.true).marked in
+    ap (λ right. get_or right.marks c.place_in_row-place.result false) c.loop-coordinate.invariant.keeps_access
+    ∙ ap (has_mark c.args.cells.now.marks) c.place_in_row-place.ensures
+    ∙ marked
+
+pub item-requires : goal.item-requires
+item-requires g c = omega (arith, c.loop-coordinate-test.true, c.requires.also)
+
+pub item-requires-in-loop-coordinate : goal.item-requires-in-loop-coordinate
+item-requires-in-loop-coordinate g c = omega (arith, c.loop-coordinate-test.true, c.requires.count)
+
+-- the items that are lent are those of the next coordinate
+next : (g : Over) (c : After-item-in-loop-coordinate g)
+    → IsNext (CalledAtTriple g.F.FnMut) (TakesTriple g.F.FnMut) c.args.f (places_of c.args.row)
+    (row_triples c.args.cells.now.items c.args.row c.args.second.now c.args.third.now) c.args.cells.now.items c.loop-coordinate.coordinate
+    c.place_in_row-place.result (c.item_mut.result.now, (c.item.result.now, c.item-in-loop-coordinate.result.now))
+next g c =
+    let row = c.args.row in
+    let place = c.place_in_row-place.result in
+    let here = got c.loop-coordinate.cells.items place c.item_mut.result.now c.item_mut.ensures.value.0 in
+    next_triple g.F.FnMut c.args.f row c.args.cells.now.items c.args.second.now c.args.third.now c.requires.also c.requires.count
+    c.requires.row.own.apart c.loop-coordinate-test.true
+    (get_or-row_places row.start row.stride row.len c.loop-coordinate.coordinate (pos place) c.loop-coordinate-test.true
+    ∙ sym c.place_in_row-place.ensures) (omega (arith, here.0, c.loop-coordinate.invariant.long))
+    c.item_mut.ensures.value.0 c.item.ensures c.item-in-loop-coordinate.ensures c.loop-coordinate.invariant.run
+
+pub f-requires : goal.f-requires
+f-requires g c =
+    let old = c.args.cells.now.items in
+    let row = c.args.row in
+    let given = row_triples old row c.args.second.now c.args.third.now in
+    let takes = takes_next (CalledAtTriple g.F.FnMut) (TakesTriple g.F.FnMut) c.args.f (places_of row) given old
+    (triples_count old row c.args.second.now c.args.third.now c.requires.also c.requires.count) c.requires.row.own.apart
+    (next g (goal.at.f-requires g c).After-item-in-loop-coordinate) c.loop-coordinate.invariant.run in
+    search (rules, takes)
+
+pub loop-coordinate-preserved : goal.loop-coordinate-preserved
+loop-coordinate-preserved g c =
+    let old = c.args.cells.now.items in
+    let now = c.loop-coordinate.cells.items in
+    let place = c.place_in_row-place.result in
+    let row = c.args.row in
+    let given = row_triples old row c.args.second.now c.args.third.now in
+    let called : CalledAtTriple g.F.FnMut c.loop-coordinate.f
+    (c.item_mut.result.now, (c.item.result.now, c.item-in-loop-coordinate.result.now)) c.f.new.arg2 c.f.new.self =
+    record { shown = _; beside = _; third = _; shows = (refl, (refl, refl)); left = _; called = c.f.ensures; leaves = refl } in
+    record {
+      run = one_more (CalledAtTriple g.F.FnMut) (TakesTriple g.F.FnMut) c.args.f (places_of row) given old
+          (triples_count old row c.args.second.now c.args.third.now c.requires.also c.requires.count) c.requires.row.own.apart
+          (next g (goal.at.loop-coordinate-preserved g c).After-item-in-loop-coordinate) c.loop-coordinate.invariant.run c.f.new.arg2
+          c.loop-coordinate.invariant.long called;
+      long = length-set now place c.f.new.arg2 ∙ c.loop-coordinate.invariant.long;
+      keeps_access = c.loop-coordinate.invariant.keeps_access;
+    }
+
+pub returns-clause-ran : goal.returns-clause-ran
+returns-clause-ran g c =
+    let old = c.args.cells.now.items in
+    let row = c.args.row in
+    let given = row_triples old row c.args.second.now c.args.third.now in
+    all_run (CalledAtTriple g.F.FnMut) (TakesTriple g.F.FnMut) c.args.f (places_of row) given old
+    (triples_count old row c.args.second.now c.args.third.now c.requires.also c.requires.count)
+    (omega (arith, c.loop-coordinate-test.false, length-row_places row.start row.stride row.len)) c.loop-coordinate.invariant.run
+
+pub returns-clause-keeps_access : goal.returns-clause-keeps_access
+returns-clause-keeps_access g c = c.loop-coordinate.invariant.keeps_access

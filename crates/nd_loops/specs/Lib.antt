@@ -1,0 +1,7 @@
+pub mod AnyOrder
+pub mod Equal
+pub mod OwnedRows
+pub mod Searched
+pub mod Summed
+pub mod Triples
+pub mod ZippedTwo

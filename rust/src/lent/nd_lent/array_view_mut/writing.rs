@@ -1,0 +1,90 @@
+// Made by `rust/erase` of `crates/nd_lent/src/array_view_mut/writing.rt`: edit that.
+//! Writes to all items of a part, and swaps of two.
+
+use crate::lent::nd_lent::array_view_mut::ArrayViewMut;
+use crate::lent::nd_loops::map_nearest;
+use crate::ndarray_layout::{Lengths, NdIndex};
+
+impl<'a, T: Sized, D: Lengths> ArrayViewMut<'a, T, D> {
+    /// Swaps the items of two indices, and returns whether both are indices of the shape; else the part is unchanged.
+    ///
+    /// `[2]`, `[2]` from 0 over 7 8 9: (0) and (1) make the items 9 8 7. ndarray's `swap`, which panics where one is no index.
+    ///
+    /// # Examples
+    ///
+    /// ```
+    /// use ndarray_layout::{ArrayViewMut, Ix2, LayoutError};
+    ///
+    /// # fn main() -> Result<(), LayoutError> {
+    /// let mut items = ["a", "b", "c", "d"];
+    /// let mut part = ArrayViewMut::from_shape(Ix2(2, 2), &mut items)?;
+    /// assert!(part.swap(&(0, 1), &(1, 0)));
+    /// assert!(!part.swap(&(0, 0), &(0, 2)));
+    /// assert_eq!(items, ["a", "c", "b", "d"]);
+    /// # Ok(())
+    /// # }
+    /// ```
+    ///
+    /// <details><summary>Contract (proved)</summary>
+    ///
+    /// ```text
+    /// ensures are_indices: result ≡
+    ///     (is_index (array_of self.old).view.shape (I.index_list index.now)
+    ///     && is_index (array_of self.old).view.shape (J.index_list other.now))
+    /// ensures swapped: array_of self.new ≡ with_swapped (array_of self.old)
+    ///     (I.index_list index.now) (J.index_list other.now)
+    /// ensures keeps_access: access_of self.new ≡ access_of self.old
+    /// ```
+    /// [How to read it](crate::contracts)
+    /// </details>
+    #[inline]
+    #[must_use]
+    pub fn swap<I: NdIndex<D>, J: NdIndex<D>>(&mut self, index: &I, other: &J) -> bool {
+        match (self.view.place(index), self.view.place(other)) {
+            (Some(one), Some(other)) => {
+                self.cells.swap(one, other);
+                true
+            }
+            _ => false,
+        }
+    }
+}
+
+impl<'a, T: Sized + Clone, D: Lengths> ArrayViewMut<'a, T, D> {
+    /// Writes an item at each index. Other items are unchanged.
+    ///
+    /// Takes no memory. Goes over the items in the order in which they lie, as `map_in_place_nearest` does.
+    ///
+    /// 5 to `[2]`, `[-1]` from 1 over 7 8 9: 5 5 9. ndarray's `fill`.
+    ///
+    /// # Examples
+    ///
+    /// ```
+    /// use ndarray_layout::{Ix2, LayoutError, OwnedArray, s};
+    ///
+    /// # fn main() -> Result<(), LayoutError> {
+    /// let mut table = OwnedArray::from_shape_vec(Ix2(2, 2), vec!["a".to_string(); 4])?;
+    /// let [mut left, mut right] = table.multi_slice_mut([s![.., 0], s![.., 1]])?;
+    /// left.fill("b".to_string());
+    /// right.fill("c".to_string());
+    /// assert_eq!(table.stored(), ["b", "c", "b", "c"]);
+    /// # Ok(())
+    /// # }
+    /// ```
+    ///
+    /// <details><summary>Contract (proved)</summary>
+    ///
+    /// ```text
+    /// ensures filled: HasItemsOf (λ index. Some item) (array_of self.old) (array_of self.new)
+    /// ensures count: length (array_of self.new).items ≡ length (array_of self.old).items
+    /// ensures keeps_access: access_of self.new ≡ access_of self.old
+    /// ```
+    /// [How to read it](crate::contracts)
+    /// </details>
+    #[inline]
+    pub fn fill(&mut self, item: T) {
+        map_nearest(&mut self.cells, &self.view, |stored: &mut T| {
+            *stored = item.clone();
+        });
+    }
+}

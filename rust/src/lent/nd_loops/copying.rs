@@ -1,0 +1,97 @@
+// Made by `rust/erase` of `crates/nd_loops/src/copying.rt`: edit that.
+//! New lists of what is made of the items of an array.
+
+use crate::lent::nd_access::{LentRow, LentRows};
+use crate::memory::prelude::{FallibleVec, Vec};
+
+/// Appends what a closure makes of each item of a slice to a list with room for it, and hands the closure back.
+///
+/// <details><summary>Contract (proved)</summary>
+///
+/// ```text
+/// requires callable: CallableOnAllAt gives F.FnMut (map Some items.now) f
+/// requires room: vec_len made + length items.now ≤ vec_capacity made
+/// ensures pushed: HasPushed (λ p x y q. CalledAt F.FnMut p x y q) f
+///     (map Some items.now) made.items result.0.items result.1
+/// ensures len: vec_len result.0 ≡ vec_len made + length items.now
+/// ensures capacity: vec_capacity result.0 ≡ vec_capacity made
+/// ```
+/// [How to read it](crate::contracts)
+/// </details>
+#[inline(always)]
+fn push_slice<T, U: Sized, F: FnMut(&T) -> U>(mut made: Vec<U>, items: &[T], mut f: F) -> (Vec<U>, F) {
+    for item in items {
+        made.push_reserved(f(item));
+    }
+    (made, f)
+}
+
+/// Appends what a closure makes of each item of a row to a list with room for it, item by item, and hands the closure back.
+///
+/// <details><summary>Contract (proved)</summary>
+///
+/// ```text
+/// requires callable: CallableOnAllAt gives F.FnMut (row_items row.now) f
+/// requires room: vec_len made + row.now.row.len ≤ vec_capacity made
+/// ensures pushed: HasPushed (λ p x y q. CalledAt F.FnMut p x y q) f
+///     (row_items row.now) made.items result.0.items result.1
+/// ensures len: vec_len result.0 ≡ vec_len made + row.now.row.len
+/// ensures capacity: vec_capacity result.0 ≡ vec_capacity made
+/// ```
+/// [How to read it](crate::contracts)
+/// </details>
+#[inline(never)]
+fn push_apart<T, U: Sized, F: FnMut(&T) -> U>(made: Vec<U>, row: &LentRow<'_, T>, f: F) -> (Vec<U>, F) {
+    let (mut made, mut f) = (made, f);
+    // (the room is enough: so rustc sees that no item needs a check of it)
+    let end = made.capacity().min(made.len() + row.len());
+    let mut coordinate = 0;
+    while made.len() < end {
+        made.push_reserved(f(row.item(coordinate)));
+        coordinate += 1;
+    }
+    (made, f)
+}
+
+/// Appends what a closure makes of each item of a row to a list with room for it, and hands the closure back.
+///
+/// <details><summary>Contract (proved)</summary>
+///
+/// ```text
+/// requires callable: CallableOnAllAt gives F.FnMut (row_items row.now) f
+/// requires room: vec_len made + row.now.row.len ≤ vec_capacity made
+/// ensures pushed: HasPushed (λ p x y q. CalledAt F.FnMut p x y q) f
+///     (row_items row.now) made.items result.0.items result.1
+/// ensures len: vec_len result.0 ≡ vec_len made + row.now.row.len
+/// ensures capacity: vec_capacity result.0 ≡ vec_capacity made
+/// ```
+/// [How to read it](crate::contracts)
+/// </details>
+#[inline(always)]
+fn push_row<T, U: Sized, F: FnMut(&T) -> U>(made: Vec<U>, row: &LentRow<'_, T>, f: F) -> (Vec<U>, F) {
+    match row.as_slice() {
+        Some(items) => push_slice(made, items, f),
+        None => push_apart(made, row, f),
+    }
+}
+
+/// Appends what a closure makes of each item of rows to a list with room for it, one row after another.
+///
+/// <details><summary>Contract (proved)</summary>
+///
+/// ```text
+/// requires callable: CallableOnAllAt gives F.FnMut (rows_items rows) f
+/// requires room: vec_len made + length (rows_items rows) ≤ vec_capacity made
+/// ensures (last : F) × HasPushed (λ p x y q. CalledAt F.FnMut p x y q) f
+///     (rows_items rows.entry) made.items result.items last
+/// ```
+/// [How to read it](crate::contracts)
+/// </details>
+#[inline(always)]
+pub fn push_rows<T, U: Sized, F: FnMut(&T) -> U>(made: Vec<U>, rows: LentRows<'_, T>, f: F) -> Vec<U> {
+    let (mut made, mut f) = (made, f);
+    for row in rows {
+        (made, f) = push_row(made, &row, f);
+    }
+    made
+}

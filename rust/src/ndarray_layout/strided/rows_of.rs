@@ -1,0 +1,307 @@
+// Made by `rust/erase` of `crates/ndarray_layout/src/strided/rows_of.rt`: edit that.
+//! A cursor over the rows along an axis, from both ends: one for all that has rows.
+
+use crate::nd_base::signed;
+use crate::nd_dim::product;
+use crate::ndarray_layout::strided::places::offset_place;
+use crate::ndarray_layout::strided::rows::{Row, joined_axis};
+use crate::ndarray_layout::strided::slower_axes::SlowerAxes;
+use core::iter::FusedIterator;
+
+/// How many rows of a length begin at the places of axes: none where they have no place.
+///
+/// <details><summary>Contract (proved)</summary>
+///
+/// ```text
+/// requires size lens.now < 2 ^ 64
+/// ensures result ≡ (if len == 0 then 0 else size lens.now)
+/// ```
+/// [How to read it](crate::contracts)
+/// </details>
+#[inline]
+fn count_of_rows(len: usize, lens: &[usize]) -> usize {
+    if len == 0 {
+        return 0;
+    }
+    product(lens)
+}
+
+/// Rows that follow one another along the fastest of the slower axes are a column: how many, and how far each begins from the one
+/// before it.
+#[derive(Clone, Copy)]
+pub(crate) struct Columns {
+    len: usize,
+    stride: isize,
+}
+
+/// Where the row begins that came last from an end, and how many rows of its column lie from there on, with it.
+#[derive(Clone, Copy)]
+pub(crate) struct InColumn {
+    place: usize,
+    left: usize,
+}
+
+/// The row of a number in its column, before the one that came last from the back.
+///
+/// <details><summary>Contract (proved)</summary>
+///
+/// ```text
+/// requires is_view: IsView (A.starts axes.now)
+/// requires below: number < size (A.starts axes.now).shape
+/// requires columns: HasColumns (A.order axes.now) (A.starts axes.now) columns
+/// requires last: IsAfter (A.order axes.now) (A.starts axes.now) columns (number + 1) last
+/// ensures place: pos result.place ≡ numbered_place (A.order axes.now) (A.starts axes.now) number
+/// ensures left: IsAfter (A.order axes.now) (A.starts axes.now) columns number result
+/// ensures some: 0 < result.left
+/// ```
+/// [How to read it](crate::contracts)
+/// </details>
+#[inline(always)]
+fn previous_in_column<A: SlowerAxes>(axes: &A, columns: Columns, number: usize, last: InColumn) -> InColumn {
+    if last.left > 1 {
+        return InColumn { place: offset_place(last.place, -columns.stride), left: last.left - 1 };
+    }
+    InColumn { place: axes.place_of_number(number), left: number % columns.len + 1 }
+}
+
+/// The rows of a view that are still to come, in an order, from both ends: `Rows` of a view that is borrowed,
+/// `StridedRows` where the iterator has the view.
+#[derive(Clone)]
+pub struct RowsOf<A: SlowerAxes> {
+    axes: A,
+    // How long a row is, and its stride.
+    len: usize,
+    stride: isize,
+    columns: Columns,
+    // The rows that came last.
+    front: InColumn,
+    back: InColumn,
+    // The numbers after those of the last row of the columns that have begun at the front, and of the last row that is left.
+    begun: usize,
+    end: usize,
+}
+
+impl<A: SlowerAxes> RowsOf<A> {
+    /// The rows of this length and stride from each place of axes; none where they have no place.
+    ///
+    /// <details><summary>Contract (proved)</summary>
+    ///
+    /// ```text
+    /// requires is_view: IsView (A.starts axes)
+    /// requires fits: (if len == 0 then 0 else size (A.starts axes).shape) * len ≤ limit
+    /// ensures result ≡ rows_between (A.order axes) (A.starts axes) (record { start = 0; stride = stride; len = len }) 0
+    ///     (if len == 0 then 0 else size (A.starts axes).shape)
+    /// ```
+    /// [How to read it](crate::contracts)
+    /// </details>
+    #[inline]
+    pub(super) fn along(axes: A, len: usize, stride: isize) -> Self {
+        let lent = axes.lent();
+        let column = joined_axis(lent.order, lent.lens, lent.strides);
+        let columns = Columns { len: column.len, stride: signed(column.stride) };
+        let end = count_of_rows(len, lent.lens);
+        let none = InColumn { place: 0, left: 1 };
+        RowsOf { axes, len, stride, columns, front: none, back: none, begun: 0, end }
+    }
+
+    /// How many places each row has; unspecified where none is left.
+    ///
+    /// Of the rows of `[2,3]`: 3. The project's own.
+    ///
+    /// # Examples
+    ///
+    /// ```
+    /// use ndarray_layout::{CanIndexCheckMode, Ix2, LayoutError, Order, Strided};
+    ///
+    /// # fn main() -> Result<(), LayoutError> {
+    /// let view = Strided::from_shape(Ix2(2, 3).into(), 1, 6, CanIndexCheckMode::ReadOnly)?;
+    /// assert_eq!(view.rows(Order::RowMajor).row_len(), 3);
+    /// # Ok(())
+    /// # }
+    /// ```
+    ///
+    /// <details><summary>Contract (proved)</summary>
+    ///
+    /// ```text
+    /// ensures All (λ row. row.len ≡ result) self.now
+    /// ```
+    /// [How to read it](crate::contracts)
+    /// </details>
+    #[must_use]
+    #[inline]
+    pub fn row_len(&self) -> usize {
+        self.len
+    }
+
+    /// The one row that there is, where none has come yet; else `None`.
+    ///
+    /// <details><summary>Contract (proved)</summary>
+    ///
+    /// ```text
+    /// ensures IfSome result (λ row. self.now ≡ row ∷ [])
+    /// ```
+    /// [How to read it](crate::contracts)
+    /// </details>
+    #[inline]
+    pub(super) fn only(&self) -> Option<Row> {
+        if self.begun > 0 || self.end != 1 {
+            return None;
+        }
+        Some(Row { start: self.axes.lent().start, stride: self.stride, len: self.len })
+    }
+
+    /// How many places the rows have that are left.
+    ///
+    /// <details><summary>Contract (proved)</summary>
+    ///
+    /// ```text
+    /// ensures result ≡ length (rows_places self.now)
+    /// ```
+    /// [How to read it](crate::contracts)
+    /// </details>
+    #[inline]
+    pub(super) fn count_of_places(&self) -> usize {
+        self.len() * self.len
+    }
+
+    /// Skips the next `count` rows, or all that remain.
+    ///
+    /// Takes no memory. Costs a division and two products for each axis but that of the rows.
+    ///
+    /// Of the rows of `[4,2]` with strides `[2,1]` from 0, which begin at 0 2 4 6, after 3 rows: 6. What `nth` of std's
+    /// iterators skips one by one.
+    ///
+    /// # Examples
+    ///
+    /// ```
+    /// use ndarray_layout::{CanIndexCheckMode, Ix2, LayoutError, Order, Strided};
+    ///
+    /// # fn main() -> Result<(), LayoutError> {
+    /// let view = Strided::from_shape(Ix2(4, 2).into(), 1, 8, CanIndexCheckMode::ReadOnly)?;
+    /// let mut rows = view.rows(Order::RowMajor);
+    /// rows.advance(3);
+    /// assert!(rows.map(|row| row.start).eq([6]));
+    ///
+    /// let mut rows = view.into_rows(Order::RowMajor);
+    /// rows.advance(1);
+    /// assert!(rows.map(|row| row.start).eq([2, 4, 6]));
+    /// # Ok(())
+    /// # }
+    /// ```
+    ///
+    /// <details><summary>Contract (proved)</summary>
+    ///
+    /// ```text
+    /// ensures self.new ≡ drop count self.old
+    /// ```
+    /// [How to read it](crate::contracts)
+    /// </details>
+    #[inline]
+    pub fn advance(&mut self, count: usize) {
+        if count >= self.len() {
+            self.begun = self.end;
+            self.front.left = 1;
+            return;
+        }
+        if count > 0 {
+            let last = self.begun + count - self.front.left;
+            let in_column = self.columns.len - last % self.columns.len;
+            self.front = InColumn { place: self.axes.place_of_number(last), left: in_column.min(self.end - last) };
+            self.begun = last + self.front.left;
+        }
+    }
+
+    /// Skips the last `count` rows, or all that remain.
+    ///
+    /// Takes no time for each row, and has the last one cost a division. Of the rows of `[4,2]` with strides `[2,1]` from 0,
+    /// which begin at 0 2 4 6, without the last 3: 0. What `nth_back` of std's iterators skips one by one.
+    ///
+    /// # Examples
+    ///
+    /// ```
+    /// use ndarray_layout::{CanIndexCheckMode, Ix2, LayoutError, Order, Strided};
+    ///
+    /// # fn main() -> Result<(), LayoutError> {
+    /// let view = Strided::from_shape(Ix2(4, 2).into(), 1, 8, CanIndexCheckMode::ReadOnly)?;
+    /// let mut rows = view.rows(Order::RowMajor);
+    /// rows.advance_back(1);
+    /// assert_eq!((rows.len(), rows.next_back().map(|row| row.start)), (3, Some(4)));
+    /// assert!(rows.map(|row| row.start).eq([0, 2]));
+    ///
+    /// let mut rows = view.into_rows(Order::RowMajor);
+    /// rows.advance_back(3);
+    /// assert!(rows.map(|row| row.start).eq([0]));
+    /// # Ok(())
+    /// # }
+    /// ```
+    ///
+    /// <details><summary>Contract (proved)</summary>
+    ///
+    /// ```text
+    /// ensures self.new ≡ take (length self.old - count) self.old
+    /// ```
+    /// [How to read it](crate::contracts)
+    /// </details>
+    #[inline]
+    pub fn advance_back(&mut self, count: usize) {
+        if count == 0 {
+            return;
+        }
+        self.end -= count.min(self.len());
+        let begun = self.begun.min(self.end);
+        self.front.left -= self.begun - begun;
+        self.begun = begun;
+        self.back.left = 1;
+    }
+}
+
+impl<A: SlowerAxes> Iterator for RowsOf<A> {
+    type Item = Row;
+
+    #[inline(always)]
+    fn next(&mut self) -> Option<Row> {
+        self.front.left -= 1;
+        if self.front.left > 0 {
+            self.front.place = offset_place(self.front.place, self.columns.stride);
+            return Some(Row { start: self.front.place, stride: self.stride, len: self.len });
+        }
+        let in_column = self.columns.len.min(self.end - self.begun);
+        if in_column == 0 {
+            self.front.left = 1;
+            return None;
+        }
+        self.front = InColumn { place: self.axes.place_of_number(self.begun), left: in_column };
+        self.begun += in_column;
+        Some(Row { start: self.front.place, stride: self.stride, len: self.len })
+    }
+
+    #[inline]
+    fn size_hint(&self) -> (usize, Option<usize>) {
+        let left = self.len();
+        (left, Some(left))
+    }
+}
+
+impl<A: SlowerAxes> DoubleEndedIterator for RowsOf<A> {
+    #[inline]
+    fn next_back(&mut self) -> Option<Row> {
+        if self.len() == 0 {
+            return None;
+        }
+        self.end -= 1;
+        let begun = self.begun.min(self.end);
+        self.front.left -= self.begun - begun;
+        self.begun = begun;
+        self.back = previous_in_column(&self.axes, self.columns, self.end, self.back);
+        Some(Row { start: self.back.place, stride: self.stride, len: self.len })
+    }
+}
+
+impl<A: SlowerAxes> ExactSizeIterator for RowsOf<A> {
+    #[inline]
+    fn len(&self) -> usize {
+        self.end + self.front.left - self.begun - 1
+    }
+}
+
+impl<A: SlowerAxes> FusedIterator for RowsOf<A> {}
