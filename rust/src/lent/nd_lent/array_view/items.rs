@@ -11,7 +11,9 @@ impl<'a, T, D: Lengths> ArrayView<'a, T, D> {
     /// An iterator over the items of all indices, in row-major order (the last axis moves fastest), which knows how many
     /// are left and gives the last ones as well. Spare items aren't among them.
     ///
-    /// Takes no memory, and lists nothing. An item takes the time of its place (`Strided::iter_places`).
+    /// Takes no memory, and lists nothing. Items that follow one another cost what those of a slice do; else an item takes the time of
+    /// its place (`Strided::iter_places`). There `fold`, `for_each` and rows as slices (`rows`) take less time than a `for`, and
+    /// `map_to_vec` less than `collect`.
     ///
     /// `a.iter()` gives 8 7. ndarray's `iter`.
     ///
@@ -48,7 +50,7 @@ impl<'a, T, D: Lengths> ArrayView<'a, T, D> {
 
 /// Iterates over the items in row-major order.
 ///
-/// Takes no memory. An item takes the time of its place (`Strided::into_places`).
+/// Takes no memory. An item takes the time of its place (`Strided::into_places`), as of `iter`.
 ///
 /// `a.into_iter()` gives 8 7. ndarray's `into_iter` of a view.
 impl<'a, T, D: Lengths> IntoIterator for ArrayView<'a, T, D> {
