@@ -10,11 +10,13 @@ use Rattle.ndarray_layout.specs.declared.strided.rows_of.Columns.{Columns}
 use Rattle.ndarray_layout.specs.declared.strided.rows_of.InColumn.{InColumn}
 use Rattle.ndarray_layout.specs.declared.strided.rows.Fastest.{Fastest}
 use Rattle.ndarray_layout.specs.NumberedRows.{HasColumns, IsAfter, IsBefore, numbered_place}
+use Rattle.ndarray_layout.specs.Rows.{rows_places}
 use Rattle.ndarray_layout.specs.RowsLeft.{axis_view, row_place}
 use Rattle.ndarray_layout.specs.View.{View, IsPlace, IsView, place_at, view_of, view_places}
-use Rattle.ndarray_layout.specs.private.Fastest.{HasPlaces}
+use Rattle.ndarray_layout.specs.private.Fastest.{HasPlaces, HasRows}
 use Rattle.ndarray_layout.proofs.NextRow.{axis_of_flat, first_place, flat_within, next_place, row_on}
 use Rattle.ndarray_layout.proofs.RowsLeft.{factor_of_some, size-axis_view}
+use Rattle.ndarray_layout.proofs.Laws.Rows.{rows_places-view_rows}
 use Rattle.ndarray_layout.proofs.Laws.View.{length-view_places}
 
 -- ---- numbers by columns
@@ -35,6 +37,17 @@ remainder_before n len some rest = elim (cases_lt (n % len + 1) len) [
 ]
 
 -- ---- the columns of a view
+-- an axis that has the rows of a view has its places
+pub HasPlaces-rows : {order : Order} {lens strides : List ℕ} {axis : Fastest} → HasRows order lens strides axis
+    → HasPlaces order lens strides axis
+HasPlaces-rows {order} has = record {
+  slower_lens = has.slower_lens;
+  slower_strides = has.slower_strides;
+  is_view = has.is_view;
+  places = λ start v. sym (rows_places-view_rows order (has.is_view start v)) ∙ ap rows_places (has.rows start v)
+      ∙ rows_places-view_rows order v;
+}
+
 module _ (order : Order) (start : ℕ) (lens strides : List ℕ) (column : Fastest) (v : IsView (view_of start lens strides))
     (h : HasPlaces order lens strides column) where
   abbrev here : View
@@ -46,6 +59,9 @@ module _ (order : Order) (start : ℕ) (lens strides : List ℕ) (column : Faste
   as_many : size (axis_view order start column).shape ≡ size here.shape
   as_many =
       sym (length-view_places order (axis_view order start column)) ∙ ap length all ∙ length-view_places order here
+
+  pub count_of_columns : column.len * size column.lens.now ≡ size here.shape
+  count_of_columns = sym (size-axis_view order start column) ∙ as_many
 
   same_place : (number : ℕ) → number < size here.shape
       → place_at here (index_of_flat_in order here.shape number) ≡ row_place order start column number

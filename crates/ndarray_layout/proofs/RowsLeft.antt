@@ -18,7 +18,7 @@ use Rattle.ndarray_layout.specs.View.{IsView, view_of, view_places}
 use Rattle.ndarray_layout.specs.RowsLeft.{axis_view, moved_to, with_item}
 use Rattle.ndarray_layout.specs.private.Fastest.{EndsIn, HasRows}
 use Rattle.ndarray_layout.proofs.ByRows.{rows_from}
-use Rattle.ndarray_layout.proofs.Fastest.{EndsIn-map, IsView-others, fastest_item-ends}
+use Rattle.ndarray_layout.proofs.Fastest.{EndsIn-map, IsView-others, fastest_item-ends, length-others}
 use Rattle.ndarray_layout.proofs.Fastest.{size-others, slower_items-ends}
 use Rattle.ndarray_layout.proofs.SlowestAxes.{IsSlowest-all, IsSlowest-next}
 use Rattle.ndarray_layout.proofs.Laws.Rows.{no_step}
@@ -37,6 +37,7 @@ pub HasRows-ends : {order : Order} {lens strides : List ℕ} (axis : Fastest) �
 HasRows-ends {order} {lens} {strides} axis e g = record {
   slower_lens = IsSlowest-next (IsSlowest-all order lens) e;
   slower_strides = IsSlowest-next (IsSlowest-all order strides) g;
+  one_less = omega (arith, length-others e);
   is_view = λ start v. subst IsView (axis_view-ends axis start e g) v;
   rows = λ start v. ap (view_rows order) (sym (axis_view-ends axis start e g));
 }
@@ -75,6 +76,7 @@ module _ (order : Order) (lens strides : List ℕ) (axis : Fastest) (point : IsP
   HasRows-point = record {
     slower_lens = rw (none, point.2) (IsSlowest-all order []);
     slower_strides = rw (no_strides, point.3) (IsSlowest-all order []);
+    one_less = rw (none, point.2) refl;
     is_view = point_here;
     rows = λ start v. ap (view_rows order) (point_view order start axis point) ∙ point_rows order start
         ∙ sym (ap (view_rows order) (nothing start));

@@ -1,5 +1,5 @@
 -- Words of private contracts alone, of the calls below `Strided::rows`: the axis of a layout that moves fastest.
-use Rattle.std.specs.Prelude.{◌≡◌, ℕ, ◌≤◌, pos, ◌*ℤ◌, List, [], ◌∷◌, length, nat_eq, slice_index, refl}
+use Rattle.std.specs.Prelude.{◌≡◌, ℕ, ◌-◌, ◌≤◌, pos, ◌*ℤ◌, List, [], ◌∷◌, length, nat_eq, slice_index, refl}
 use Rattle.std.proofs.Common.{ap, eq-eqb, sym, ◌∙◌}
 use Rattle.std.proofs.Math.Dec.{lit≤}
 use Rattle.std.proofs.lemmas.Bool.{both_ways}
@@ -23,10 +23,11 @@ pub record IsSlowest {A : Type 0} (order : Order) (items others : List A) : Type
   pub few : length others ≤ length items
   pub is : slowest order (length others) items ≡ others
 
--- wherever it starts, this view is one where that of a layout is, and has its rows
+-- wherever it starts, this view is one where that of a layout is, and has its rows; it leaves the other axes, if there are any
 pub record HasRows (order : Order) (lens strides : List ℕ) (axis : Fastest) : Type 0 where
   pub slower_lens : IsSlowest order lens axis.lens.now
   pub slower_strides : IsSlowest order strides axis.strides.now
+  pub one_less : length axis.lens.now ≡ length lens - 1
   pub is_view : (start : ℕ) → IsView (view_of start lens strides) → IsView (axis_view order start axis)
   pub rows : (start : ℕ) → IsView (view_of start lens strides)
       → view_rows order (axis_view order start axis) ≡ view_rows order (view_of start lens strides)

@@ -2,30 +2,21 @@
 ghost use Rattle.std.specs.Iterator.{UpTo, YieldsFirst, YieldsLast, item_count};
 ghost use Rattle.std.specs.Iterator.SizeHint.{IsWithinCount};
 ghost use Rattle.std.specs.List.{All};
-ghost use Rattle.std.specs.Prelude.{◌≡◌, ◌==◌, ◌-◌, ◌+◌, ◌*◌, ◌<◌, ◌≤◌, ◌^◌, ◌∷◌, [], if◌then◌else◌, drop, take, length, pos, IfSome, Some};
+ghost use Rattle.std.specs.Prelude.{◌≡◌, ◌==◌, ◌-◌, ◌+◌, ◌*◌, ◌<◌, ◌≤◌, ◌^◌, ◌∷◌, [], ℕ, if◌then◌else◌, drop, take, length, pos, IfSome, Some};
+ghost use Rattle.nd_base.specs.Signed.{all_signed};
 ghost use Rattle.nd_base.specs.Size.{limit, size};
+ghost use Rattle.nd_base.specs.ValidLayout.{IsValidLayout};
 ghost use Rattle.ndarray_layout.specs.NumberedRows.{HasColumns, IsAfter, numbered_place, rows_between};
 ghost use Rattle.ndarray_layout.specs.Rows.{rows_places};
-ghost use Rattle.ndarray_layout.specs.View.{IsView};
+ghost use Rattle.ndarray_layout.specs.View.{IsView, view_of};
 
 use crate::strided::places::offset_place;
-use crate::strided::rows::{Row, joined_axis};
+use crate::strided::rows::{Row, fastest_axis, joined_axis};
 use crate::strided::slower_axes::SlowerAxes;
-use nd_base::signed;
+use nd_base::{Order, signed};
 use nd_dim::product;
 use std::iter::FusedIterator;
 use std::marker::Model;
-
-/// How many rows of a length begin at the places of axes: none where they have no place.
-fn count_of_rows(len: usize, lens: &[usize]) -> usize
-    requires { size lens.now < 2 ^ 64 }
-    ensures { result ≡ (if len == 0 then 0 else size lens.now) }
-{
-    if len == 0 {
-        return 0;
-    }
-    product(lens)
-}
 
 /// Rows that follow one another along the fastest of the slower axes are a column: how many, and how far each begins from the one
 /// before it.
@@ -33,6 +24,42 @@ fn count_of_rows(len: usize, lens: &[usize]) -> usize
 pub(crate) struct Columns {
     len: usize,
     stride: isize,
+}
+
+/// The columns of the rows that begin at the places of axes, and how many rows these are. Along one axis they are one column: so
+/// small views begin their rows at once.
+#[inline(always)]
+fn columns_of(order: Order, lens: &[usize], strides: &[usize]) -> (Columns, usize)
+    requires { IsValidLayout lens.now (all_signed strides.now) }
+    ensures columns { (start : ℕ) → IsView (view_of start lens.now strides.now)
+        → HasColumns order (view_of start lens.now strides.now) result.0 }
+    ensures count { result.1 ≡ size lens.now }
+{
+    if lens.len() > 1 {
+        return columns_of_many(order, lens, strides);
+    }
+    let axis = fastest_axis(order, lens, strides);
+    let columns = Columns {
+        len: axis.len,
+        stride: signed(axis.stride),
+    };
+    (columns, axis.len)
+}
+
+/// `columns_of` of any axes, of which those that lie evenly together are one.
+#[inline(never)]
+fn columns_of_many(order: Order, lens: &[usize], strides: &[usize]) -> (Columns, usize)
+    requires { IsValidLayout lens.now (all_signed strides.now) }
+    ensures columns { (start : ℕ) → IsView (view_of start lens.now strides.now)
+        → HasColumns order (view_of start lens.now strides.now) result.0 }
+    ensures count { result.1 ≡ size lens.now }
+{
+    let axis = joined_axis(order, lens, strides);
+    let columns = Columns {
+        len: axis.len,
+        stride: signed(axis.stride),
+    };
+    (columns, product(lens))
 }
 
 /// Where the row begins that came last from an end, and how many rows of its column lie from there on, with it.
@@ -110,12 +137,8 @@ impl<A: SlowerAxes> RowsOf<A> {
             (if len == 0 then 0 else size (A.starts axes).shape) }
     {
         let lent = axes.lent();
-        let column = joined_axis(lent.order, lent.lens, lent.strides);
-        let columns = Columns {
-            len: column.len,
-            stride: signed(column.stride),
-        };
-        let end = count_of_rows(len, lent.lens);
+        let (columns, count) = columns_of(lent.order, lent.lens, lent.strides);
+        let end = if len == 0 { 0 } else { count };
         let none = InColumn { place: 0, left: 1 };
         RowsOf {
             axes,

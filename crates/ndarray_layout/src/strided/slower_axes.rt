@@ -54,6 +54,9 @@ impl SlowerAxes for LentAxes<'_> {
 
     #[inline(always)]
     fn place_of_number(&self, number: usize) -> usize {
+        if number == 0 {
+            return self.start;
+        }
         place_of_flat(self.order, self.start, self.lens, self.strides, number)
     }
 }
@@ -72,9 +75,6 @@ fn place_of_flat(
     requires below { number < size lens.now }
     ensures { pos result ≡ numbered_place order (view_of start lens.now strides.now) number }
 {
-    if number == 0 {
-        return start;
-    }
     offset_place(start, offset_of_flat(order, lens, strides, number))
 }
 

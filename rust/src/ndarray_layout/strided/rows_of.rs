@@ -1,30 +1,12 @@
 // Made by `rust/erase` of `crates/ndarray_layout/src/strided/rows_of.rt`: edit that.
 //! A cursor over the rows along an axis, from both ends: one for all that has rows.
 
-use crate::nd_base::signed;
+use crate::nd_base::{Order, signed};
 use crate::nd_dim::product;
 use crate::ndarray_layout::strided::places::offset_place;
-use crate::ndarray_layout::strided::rows::{Row, joined_axis};
+use crate::ndarray_layout::strided::rows::{Row, fastest_axis, joined_axis};
 use crate::ndarray_layout::strided::slower_axes::SlowerAxes;
 use core::iter::FusedIterator;
-
-/// How many rows of a length begin at the places of axes: none where they have no place.
-///
-/// <details><summary>Contract (proved)</summary>
-///
-/// ```text
-/// requires size lens.now < 2 ^ 64
-/// ensures result ≡ (if len == 0 then 0 else size lens.now)
-/// ```
-/// [How to read it](crate::contracts)
-/// </details>
-#[inline]
-fn count_of_rows(len: usize, lens: &[usize]) -> usize {
-    if len == 0 {
-        return 0;
-    }
-    product(lens)
-}
 
 /// Rows that follow one another along the fastest of the slower axes are a column: how many, and how far each begins from the one
 /// before it.
@@ -32,6 +14,48 @@ fn count_of_rows(len: usize, lens: &[usize]) -> usize {
 pub(crate) struct Columns {
     len: usize,
     stride: isize,
+}
+
+/// The columns of the rows that begin at the places of axes, and how many rows these are. Along one axis they are one column: so
+/// small views begin their rows at once.
+///
+/// <details><summary>Contract (proved)</summary>
+///
+/// ```text
+/// requires IsValidLayout lens.now (all_signed strides.now)
+/// ensures columns: (start : ℕ) → IsView (view_of start lens.now strides.now)
+///     → HasColumns order (view_of start lens.now strides.now) result.0
+/// ensures count: result.1 ≡ size lens.now
+/// ```
+/// [How to read it](crate::contracts)
+/// </details>
+#[inline(always)]
+fn columns_of(order: Order, lens: &[usize], strides: &[usize]) -> (Columns, usize) {
+    if lens.len() > 1 {
+        return columns_of_many(order, lens, strides);
+    }
+    let axis = fastest_axis(order, lens, strides);
+    let columns = Columns { len: axis.len, stride: signed(axis.stride) };
+    (columns, axis.len)
+}
+
+/// `columns_of` of any axes, of which those that lie evenly together are one.
+///
+/// <details><summary>Contract (proved)</summary>
+///
+/// ```text
+/// requires IsValidLayout lens.now (all_signed strides.now)
+/// ensures columns: (start : ℕ) → IsView (view_of start lens.now strides.now)
+///     → HasColumns order (view_of start lens.now strides.now) result.0
+/// ensures count: result.1 ≡ size lens.now
+/// ```
+/// [How to read it](crate::contracts)
+/// </details>
+#[inline(never)]
+fn columns_of_many(order: Order, lens: &[usize], strides: &[usize]) -> (Columns, usize) {
+    let axis = joined_axis(order, lens, strides);
+    let columns = Columns { len: axis.len, stride: signed(axis.stride) };
+    (columns, product(lens))
 }
 
 /// Where the row begins that came last from an end, and how many rows of its column lie from there on, with it.
@@ -97,9 +121,8 @@ impl<A: SlowerAxes> RowsOf<A> {
     #[inline]
     pub(super) fn along(axes: A, len: usize, stride: isize) -> Self {
         let lent = axes.lent();
-        let column = joined_axis(lent.order, lent.lens, lent.strides);
-        let columns = Columns { len: column.len, stride: signed(column.stride) };
-        let end = count_of_rows(len, lent.lens);
+        let (columns, count) = columns_of(lent.order, lent.lens, lent.strides);
+        let end = if len == 0 { 0 } else { count };
         let none = InColumn { place: 0, left: 1 };
         RowsOf { axes, len, stride, columns, front: none, back: none, begun: 0, end }
     }

@@ -51,6 +51,9 @@ impl SlowerAxes for LentAxes<'_> {
 
     #[inline(always)]
     fn place_of_number(&self, number: usize) -> usize {
+        if number == 0 {
+            return self.start;
+        }
         place_of_flat(self.order, self.start, self.lens, self.strides, number)
     }
 }
@@ -69,9 +72,6 @@ impl SlowerAxes for LentAxes<'_> {
 /// </details>
 #[inline(never)]
 fn place_of_flat(order: Order, start: usize, lens: &[usize], strides: &[usize], number: usize) -> usize {
-    if number == 0 {
-        return start;
-    }
     offset_place(start, offset_of_flat(order, lens, strides, number))
 }
 

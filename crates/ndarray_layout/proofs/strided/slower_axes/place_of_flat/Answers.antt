@@ -1,9 +1,7 @@
-use Rattle.std.proofs.Common.{rules, FitsSigned, refl, arith}
+use Rattle.std.proofs.Common.{rules, FitsSigned, arith}
 use Rattle.std.specs.Int.{w64}
 use Rattle.std.proofs.lemmas.Int.{ints, to_z-of_z}
-use Rattle.ndarray_layout.specs.View.{view_of}
 use Rattle.ndarray_layout.proofs.NextRow.{flat_within}
-use Rattle.ndarray_layout.proofs.RowColumns.{first_numbered}
 use Rattle.ndarray_layout.proofs.strided.slower_axes.place_of_flat.Goals as goal
 
 pub offset_place-requires-clause-there : goal.offset_place-requires-clause-there
@@ -12,7 +10,3 @@ offset_place-requires-clause-there c =
     let here = flat_within c.args.order c.requires.is_view c.args.number c.requires.below in
     let is = to_z-of_z w64 c.offset_of_flat.result f in
     (omega (arith, ints, is, c.offset_of_flat.ensures, here.0), omega (arith, ints, is, c.offset_of_flat.ensures, here.1))
-
-pub returns-then-number-eq0 : goal.returns-then-number-eq0
-returns-then-number-eq0 c =
-    first_numbered c.args.order (view_of c.args.start c.args.lens.now c.args.strides.now) refl c.if-number-eq0.true c.requires.below

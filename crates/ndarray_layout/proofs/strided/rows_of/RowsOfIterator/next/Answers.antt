@@ -1,5 +1,5 @@
 -- In its column a row begins a stride after the one before it; a column begins at the place of its number.
-use Rattle.std.proofs.Common.{rules, ◌≡◌, ◌+◌, ◌-◌, ◌<◌, ◌∷◌, FitsSigned, pos, ◌+ℤ◌, of_z, to_z, w64, length, sym, ap, ◌∙◌, arith}
+use Rattle.std.proofs.Common.{rules, ◌≡◌, ◌+◌, ◌<◌, ◌∷◌, FitsSigned, pos, ◌+ℤ◌, of_z, to_z, w64, length, sym, ap, ◌∙◌, arith}
 use Rattle.std.proofs.lemmas.Int.{ints, to_z-of_z}
 use Rattle.ndarray_layout.specs.declared.strided.rows.Row.{Row}
 use Rattle.ndarray_layout.specs.NumberedRows.{count_given, rows_between}
