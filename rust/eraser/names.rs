@@ -295,6 +295,7 @@ pub const DERIVED: &[(&str, &[&str])] = &[
     ("LayoutError", &["Clone", "PartialEq"]),
     ("PlacesOf", &["Clone"]),
     ("Reverse", &["Debug"]),
+    ("RowAtBack", &["Clone"]),
     ("RowsOf", &["Clone"]),
     ("SplitViews", &["Debug"]),
     ("Stopped", &["Clone"]),

@@ -145,11 +145,11 @@ module _ (len count q r : ℕ) (rows : List Row) (all : All (λ row. row.len ≡
   some_later none = omega (arith, whole_rows, length-drop q rows, ap length none)
 
   module _ (others : List Row) (row : Row) (is : take (length rows - q) rows ≡ others ++ row ∷ []) where
-    pub rows_shortened : r < len → take (length (rows_places rows) - count) (rows_places rows)
-        ≡ rows_places (rows_and others (record row { len = row.len - r }))
+    pub rows_shortened : r < len → take (length (rows_places rows) - (count + 1)) (rows_places rows)
+        ≡ rows_places (rows_and others (record row { len = row.len - (r + 1) }))
     rows_shortened short =
         let part = take (length rows - q) rows in
-        let row' = record row { len = row.len - r } in
+        let row' = record row { len = row.len - (r + 1) } in
         let places = row_places row.start row.stride row.len in
         let whole : rows_places part ≡ rows_places others ++ places =
         ap rows_places is
@@ -160,20 +160,39 @@ module _ (len count q r : ℕ) (rows : List Row) (all : All (λ row. row.len ≡
         let size : length (rows_places part) ≡ (length rows - q) * len =
         length-rows_of_len len part (All-take (λ row. row.len ≡ len) (length rows - q) rows all)
         ∙ ap (λ n. n * len) (length-take-le (length rows - q) rows (omega arith)) in
-        let left : length (rows_places rows) - count ≡ length (rows_places part) - r =
+        let left : length (rows_places rows) - (count + 1) ≡ length (rows_places part) - (r + 1) =
         omega (arith, size, fewer, e, length-rows_of_len len rows all) in
         ap (λ n. take n (rows_places rows)) left
-        ∙ sym (take-take (length (rows_places part) - r) ((length rows - q) * len) (rows_places rows) (omega (arith, size)))
-        ∙ ap (take (length (rows_places part) - r)) (take_rows len (length rows - q) rows all)
-        ∙ ap (λ xs. take (length xs - r) xs) whole
-        ∙ take_within (rows_places others) places r
+        ∙ sym (take-take (length (rows_places part) - (r + 1)) ((length rows - q) * len) (rows_places rows) (omega (arith, size)))
+        ∙ ap (take (length (rows_places part) - (r + 1))) (take_rows len (length rows - q) rows all)
+        ∙ ap (λ xs. take (length xs - (r + 1)) xs) whole
+        ∙ take_within (rows_places others) places (r + 1)
         (omega (arith, short, last_len len q rows all others row is, length-row_places row.start row.stride row.len))
-        ∙ ap (λ n. rows_places others ++ take (n - r) places) (length-row_places row.start row.stride row.len)
-        ∙ ap (λ xs. rows_places others ++ xs) (row_take (row.len - r) row.len (pos row.start) row.stride (omega arith))
+        ∙ ap (λ n. rows_places others ++ take (n - (r + 1)) places) (length-row_places row.start row.stride row.len)
+        ∙ ap (λ xs. rows_places others ++ xs) (row_take (row.len - (r + 1)) row.len (pos row.start) row.stride (omega arith))
         ∙ sym (rows_places-and others row')
       where
         all_of : length rows - q + q ≡ length rows
         all_of = omega (arith, whole_rows)
+
+    -- that one is no longer than they are, and lies where they do
+    pub row_fits : row.len ≤ length (rows_places rows)
+    row_fits =
+        let some : 1 ≤ length rows = omega (arith, whole_rows) in
+        omega (arith, last_len len q rows all others row is, length-rows_of_len len rows all, mul-le-mul_right len some)
+
+    pub row_within : All (IsInBounds (2 ^ 63)) (rows_places rows) → (n : ℕ) → n ≤ row.len
+        → All (IsInBounds (2 ^ 63)) (row_places row.start row.stride n)
+    row_within in_bounds n few =
+        let places = row_places row.start row.stride row.len in
+        let whole : rows_places (take (length rows - q) rows) ≡ rows_places others ++ places =
+        ap rows_places is
+        ∙ flat_map-append (λ row. row_places row.start row.stride row.len) others (row ∷ [])
+        ∙ ap (λ xs. rows_places others ++ xs) (append-nil places) in
+        let taken = subst (All (IsInBounds (2 ^ 63))) (take_rows len (length rows - q) rows all ∙ whole)
+        (All-take (IsInBounds (2 ^ 63)) ((length rows - q) * len) (rows_places rows) in_bounds) in
+        subst (All (IsInBounds (2 ^ 63))) (row_take n row.len (pos row.start) row.stride few)
+        (All-take (IsInBounds (2 ^ 63)) n places (All-back (IsInBounds (2 ^ 63)) (rows_places others) places taken))
 
 -- ---- of a row that has begun, of rows and of a last one
 module _ (place : ℕ) (stride : ℤ) (left : ℕ) (rows : List Row) (last : Row) where
@@ -248,7 +267,7 @@ module _ {place left : ℕ} {stride : ℤ} {rows : List Row} (l : ArePlacesLeft 
     pub left_without_row : All (λ row. 0 < row.len) others → ArePlacesLeft place stride left' others
     left_without_row some_of = left_before (row_places row.start row.stride row.len) some_of without_row
 
-    row_in : All (IsInBounds (2 ^ 63)) (row_places row.start row.stride row.len)
+    pub row_in : All (IsInBounds (2 ^ 63)) (row_places row.start row.stride row.len)
     row_in = All-back (IsInBounds (2 ^ 63)) (places_after place stride left' others) (row_places row.start row.stride row.len)
         (subst (All (IsInBounds (2 ^ 63))) without_row l.in_bounds)
 
@@ -304,6 +323,10 @@ module _ (place left : ℕ) (stride : ℤ) (rows : List Row) (last : Row) (l : A
   pub end_in : All (IsInBounds (2 ^ 63)) end
   end_in = All-back (IsInBounds (2 ^ 63)) (row ++ rows_places rows) end
       (subst (All (IsInBounds (2 ^ 63))) (parts place stride left rows last) l.in_bounds)
+
+  pub rows_in : All (IsInBounds (2 ^ 63)) (rows_places rows)
+  rows_in = All-back (IsInBounds (2 ^ 63)) row (rows_places rows) (All-front (IsInBounds (2 ^ 63)) (row ++ rows_places rows) end
+      (subst (All (IsInBounds (2 ^ 63))) (parts place stride left rows last) l.in_bounds))
 
   pub end_fits : last.len ≤ limit
   end_fits = omega (arith, l.fits, length-parts place stride left rows last)
@@ -409,11 +432,13 @@ module _ (place left : ℕ) (stride : ℤ) (rows : List Row) (last : Row) (l : A
 
   -- or past whole ones, and some places of another
   pub before_some : (count len q r : ℕ) {later : List Row} (others : List Row) (one : Row) → All (λ row. row.len ≡ len) rows
-      → last.len ≤ count → count - last.len < length (rows_places rows) → count - last.len ≡ q * len + r → r < len
+      → last.len < count → count - last.len - 1 < length (rows_places rows) → count - last.len - 1 ≡ q * len + r → r < len
       → later ≡ take (length rows - q) rows → later ≡ others ++ one ∷ []
-      → take (length all - count) all ≡ places_after place stride left (rows_and others (record one { len = one.len - r }))
+      → take (length all - count) all ≡ places_after place stride left (rows_and others (record one { len = one.len - (r + 1) }))
   before_some count len q r others one of_len more below e short is first =
-      before_last count more
+      let given : count - last.len ≡ count - last.len - 1 + 1 = omega (arith, more) in
+      before_last count (omega (arith, more))
       ∙ take_within row (rows_places rows) (count - last.len) (omega (arith, below))
-      ∙ ap (λ xs. row ++ xs) (rows_shortened len (count - last.len) q r rows of_len below e others one (sym is ∙ first) short)
-      ∙ sym (after place stride left (rows_and others (record one { len = one.len - r })))
+      ∙ ap (λ n. row ++ take (length (rows_places rows) - n) (rows_places rows)) given
+      ∙ ap (λ xs. row ++ xs) (rows_shortened len (count - last.len - 1) q r rows of_len below e others one (sym is ∙ first) short)
+      ∙ sym (after place stride left (rows_and others (record one { len = one.len - (r + 1) })))

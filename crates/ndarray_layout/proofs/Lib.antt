@@ -29,6 +29,7 @@ pub mod ReadView
 pub mod RowsInColumns
 pub mod RowsLeft
 pub mod RowColumns
+pub mod RowAtBack
 pub mod RowSteps
 pub mod RowViews
 pub mod Slices

@@ -1,9 +1,11 @@
 -- The places that an iterator has still to give.
-use Rattle.std.specs.Prelude.{◌≡◌, ℕ, ◌+◌, ◌<◌, ◌≤◌, ◌^◌, ◌==◌, ℤ, pos, negsuc, List, [], ◌∷◌, ◌++◌, if◌then◌else◌}
+use Rattle.std.specs.Prelude.{◌≡◌, ℕ, ◌+◌, ◌+ℤ◌, ◌*ℤ◌, ◌<◌, ◌≤◌, ◌^◌, ◌==◌, ℤ, pos, negsuc, List, [], ◌∷◌, ◌++◌, if◌then◌else◌}
 use Rattle.std.specs.Prelude.{◌-◌, Option, Some, None, drop, length, refl}
 use Rattle.std.proofs.Math.Arith.{le→nltb}
 use Rattle.std.proofs.Math.Dec.{lit≤}
-use Rattle.std.proofs.lemmas.Bool.{ltb-true}
+use Rattle.std.specs.Ordering.{int_eq}
+use Rattle.std.proofs.lemmas.Bool.{both_ways, ltb-true}
+use Rattle.std.proofs.lemmas.Bool.Decides.{Decides-int_eq}
 use Rattle.std.specs.List.{All}
 use Rattle.nd_base.specs.Bounds.{IsInBounds}
 use Rattle.nd_base.specs.Size.{limit}
@@ -13,6 +15,15 @@ use Rattle.ndarray_layout.specs.Rows.{row_places, rows_places}
 -- so many places after this one in its row, and then those of rows
 abbrev pub places_after : ℕ → ℤ → ℕ → List Row → List ℤ
 places_after place stride left rows = drop 1 (row_places place stride (left + 1)) ++ rows_places rows
+
+-- a row without its last place
+abbrev pub but_last : Row → Row
+but_last row = record { start = row.start; stride = row.stride; len = row.len - 1 }
+
+-- this place comes after the last one of a row, unless that has none
+pub record ComesAfter (row : Row) (last : ℕ) : Type 0 where
+  pub place : 0 < row.len → pos last ≡ pos row.start +ℤ (pos row.len *ℤ row.stride)
+  pub here : 0 < row.len → last ≤ limit
 
 -- rows, and a last one after them, which is none where it has no place
 abbrev pub rows_and : List Row → Row → List Row
@@ -58,6 +69,12 @@ one_row = refl
 
 at_the_end : places_after 3 (pos 1) 0 [] ≡ []
 at_the_end = refl
+
+all_but_the_last : but_last (record { start = 3; stride = negsuc 0; len = 2 }) ≡ record { start = 3; stride = negsuc 0; len = 1 }
+all_but_the_last = refl
+
+other_end : ComesAfter (record { start = 3; stride = negsuc 0; len = 1 }) 3 → ⊥
+other_end after = both_ways (int_eq (pos 3) (pos 2)) refl ((Decides-int_eq (pos 3) (pos 2)).1 (after.place (lit≤ tt)))
 
 row_below_0 : ArePlacesLeft 0 (negsuc 0) 1 [] → ⊥
 row_below_0 left = left.in_bounds 0 (pos 0) (ltb-true 0 1 refl)

@@ -28,6 +28,7 @@ mod places;
 mod places_of_rows;
 mod readers;
 mod reshaping;
+mod row_at_back;
 mod rows;
 mod rows_of;
 mod slicing;

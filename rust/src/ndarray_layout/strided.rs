@@ -35,6 +35,7 @@ mod nearest;
 mod nth_row;
 mod picked_size;
 mod places_of_rows;
+mod row_at_back;
 mod rows_of;
 mod slower_axes;
 mod stretch_left;

@@ -8,6 +8,7 @@ ghost use Rattle.ndarray_layout.specs.Rows.{row_places, row_view, rows_places};
 ghost use Rattle.ndarray_layout.specs.View.{IsView};
 
 use crate::strided::places::{offset_place, place_along_axis};
+use crate::strided::row_at_back::RowAtBack;
 use crate::strided::rows::Row;
 use crate::strided::rows_of::RowsOf;
 use crate::strided::slower_axes::SlowerAxes;
@@ -19,7 +20,7 @@ use std::marker::Model;
 pub(super) struct CountedPlaces<A: SlowerAxes> {
     rows: RowsOf<A>,
     // What is left of the last row that has begun at the back.
-    back: Row,
+    back: RowAtBack,
     // The place that was given last at the front, and how many its row has from there on.
     place: usize,
     left: usize,
@@ -40,7 +41,7 @@ impl<A: SlowerAxes> Model for CountedPlaces<A> {
 
 /// The row that comes next: one of the rows, or else what is left of the one at the back.
 #[inline(always)]
-fn first_row<A: SlowerAxes>(rows: &mut RowsOf<A>, back: &mut Row) -> Option<Row>
+fn first_row<A: SlowerAxes>(rows: &mut RowsOf<A>, back: &mut RowAtBack) -> Option<Row>
     ensures { MatchOption result
         ((rows_and rows.old back.old ≡ []) × (rows_and rows.new back.new ≡ []))
         (λ row. rows_and rows.old back.old ≡ row ∷ rows_and rows.new back.new) }
@@ -48,19 +49,14 @@ fn first_row<A: SlowerAxes>(rows: &mut RowsOf<A>, back: &mut Row) -> Option<Row>
     if let Some(row) = rows.next() {
         return Some(row);
     }
-    if back.len == 0 {
-        return None;
-    }
-    let row = *back;
-    back.len = 0;
-    Some(row)
+    back.take()
 }
 
 /// The last places that lie evenly: what is left of the row at the back, or else the last one of the rows, or else what is left of
 /// the one at the front.
 fn last_row<A: SlowerAxes>(
     rows: &mut RowsOf<A>,
-    back: &mut Row,
+    back: &mut RowAtBack,
     place: usize,
     stride: isize,
     left: &mut usize,
@@ -75,9 +71,7 @@ fn last_row<A: SlowerAxes>(
         ≡ places_after place stride (left.new - 1) rows.new ++ row_places row.start row.stride row.len)) }
     ensures some { All (λ row. 0 < row.len) rows.new }
 {
-    if back.len > 0 {
-        let row = *back;
-        back.len = 0;
+    if let Some(row) = back.take() {
         return Some(row);
     }
     if let Some(row) = rows.next_back() {
@@ -95,21 +89,6 @@ fn last_row<A: SlowerAxes>(
     Some(row)
 }
 
-/// Skips the next `count` places of a row, or all that it has.
-fn shorten(row: &mut Row, count: usize)
-    requires in_bounds { All (IsInBounds (2 ^ 63)) (row_places row.old.start row.old.stride row.old.len) }
-    requires few { row.old.len ≤ limit }
-    ensures { row_places row.new.start row.new.stride row.new.len
-        ≡ drop count (row_places row.old.start row.old.stride row.old.len) }
-{
-    if count >= row.len {
-        row.len = 0;
-        return;
-    }
-    row.start = place_along_axis(row.start, count, unsigned(row.stride));
-    row.len -= count;
-}
-
 impl<A: SlowerAxes> CountedPlaces<A> {
     /// All places of rows.
     pub(super) fn new(rows: RowsOf<A>) -> Self
@@ -120,11 +99,7 @@ impl<A: SlowerAxes> CountedPlaces<A> {
     {
         CountedPlaces {
             rows,
-            back: Row {
-                start: 0,
-                stride: 0,
-                len: 0,
-            },
+            back: RowAtBack::none(),
             place: 0,
             left: 1,
             stride: 0,
@@ -180,7 +155,7 @@ impl<A: SlowerAxes> CountedPlaces<A> {
         self.left = 1;
         if count >= in_rows {
             self.rows.advance(in_rows);
-            shorten(&mut self.back, count - in_rows);
+            self.back.advance(count - in_rows);
             return;
         }
         let len = self.rows.row_len();
@@ -200,24 +175,27 @@ impl<A: SlowerAxes> CountedPlaces<A> {
     pub(super) fn advance_back(&mut self, count: usize)
         ensures { self.new ≡ take (length self.old - count) self.old }
     {
-        if count <= self.back.len {
-            self.back.len -= count;
+        let left = self.back.len();
+        if count <= left {
+            self.back.advance_back(count);
             return;
         }
-        let (count, in_rows) = (count - self.back.len, self.rows.count_of_places());
-        self.back.len = 0;
-        if count >= in_rows {
+        let (count, in_rows) = (count - left, self.rows.count_of_places());
+        if count > in_rows {
             self.rows.advance_back(in_rows);
+            self.back = RowAtBack::none();
             self.left -= (self.left - 1).min(count - in_rows);
             return;
         }
         let len = self.rows.row_len();
-        self.rows.advance_back(count / len);
+        self.rows.advance_back((count - 1) / len);
         if let Some(mut row) = self.rows.next_back() {
-            row.len -= count % len;
-            self.back = row;
+            row.len -= (count - 1) % len;
+            let (back, _) = RowAtBack::of_row(row);
+            self.back = back;
         }
     }
+
     /// The next place.
     #[inline(always)]
     pub(super) fn next(&mut self) -> Option<usize>
@@ -243,25 +221,29 @@ impl<A: SlowerAxes> CountedPlaces<A> {
     }
 
     /// The last place.
+    #[inline(always)]
     pub(super) fn next_back(&mut self) -> Option<usize>
         ensures { MatchOption result ((self.old ≡ []) × (self.new ≡ [])) (λ place. self.old ≡ self.new ++ pos place ∷ []) }
     {
-        let mut row = last_row(
+        if let Some(place) = self.back.next_back() {
+            return Some(place);
+        }
+        let row = last_row(
             &mut self.rows,
             &mut self.back,
             self.place,
             self.stride,
             &mut self.left,
         )?;
-        row.len -= 1;
-        self.back = row;
-        Some(place_along_axis(row.start, row.len, unsigned(row.stride)))
+        let (back, place) = RowAtBack::of_row(row);
+        self.back = back;
+        Some(place)
     }
 
     /// How many places are left.
     pub(super) fn len(&self) -> usize
         ensures { result ≡ length self.now }
     {
-        self.left - 1 + self.rows.count_of_places() + self.back.len
+        self.left - 1 + self.rows.count_of_places() + self.back.len()
     }
 }

@@ -3,6 +3,7 @@
 
 use crate::nd_base::unsigned;
 use crate::ndarray_layout::strided::places::{offset_place, place_along_axis};
+use crate::ndarray_layout::strided::row_at_back::RowAtBack;
 use crate::ndarray_layout::strided::rows::Row;
 use crate::ndarray_layout::strided::rows_of::RowsOf;
 use crate::ndarray_layout::strided::slower_axes::SlowerAxes;
@@ -12,7 +13,7 @@ use crate::ndarray_layout::strided::slower_axes::SlowerAxes;
 pub(super) struct CountedPlaces<A: SlowerAxes> {
     rows: RowsOf<A>,
     // What is left of the last row that has begun at the back.
-    back: Row,
+    back: RowAtBack,
     // The place that was given last at the front, and how many its row has from there on.
     place: usize,
     left: usize,
@@ -31,16 +32,11 @@ pub(super) struct CountedPlaces<A: SlowerAxes> {
 /// [How to read it](crate::contracts)
 /// </details>
 #[inline(always)]
-fn first_row<A: SlowerAxes>(rows: &mut RowsOf<A>, back: &mut Row) -> Option<Row> {
+fn first_row<A: SlowerAxes>(rows: &mut RowsOf<A>, back: &mut RowAtBack) -> Option<Row> {
     if let Some(row) = rows.next() {
         return Some(row);
     }
-    if back.len == 0 {
-        return None;
-    }
-    let row = *back;
-    back.len = 0;
-    Some(row)
+    back.take()
 }
 
 /// The last places that lie evenly: what is left of the row at the back, or else the last one of the rows, or else what is left of
@@ -64,14 +60,12 @@ fn first_row<A: SlowerAxes>(rows: &mut RowsOf<A>, back: &mut Row) -> Option<Row>
 #[inline]
 fn last_row<A: SlowerAxes>(
     rows: &mut RowsOf<A>,
-    back: &mut Row,
+    back: &mut RowAtBack,
     place: usize,
     stride: isize,
     left: &mut usize,
 ) -> Option<Row> {
-    if back.len > 0 {
-        let row = *back;
-        back.len = 0;
+    if let Some(row) = back.take() {
         return Some(row);
     }
     if let Some(row) = rows.next_back() {
@@ -83,28 +77,6 @@ fn last_row<A: SlowerAxes>(
     let row = Row { start: offset_place(place, stride), stride, len: *left - 1 };
     *left = 1;
     Some(row)
-}
-
-/// Skips the next `count` places of a row, or all that it has.
-///
-/// <details><summary>Contract (proved)</summary>
-///
-/// ```text
-/// requires in_bounds: All (IsInBounds (2 ^ 63)) (row_places row.old.start row.old.stride row.old.len)
-/// requires few: row.old.len ≤ limit
-/// ensures row_places row.new.start row.new.stride row.new.len
-///     ≡ drop count (row_places row.old.start row.old.stride row.old.len)
-/// ```
-/// [How to read it](crate::contracts)
-/// </details>
-#[inline]
-fn shorten(row: &mut Row, count: usize) {
-    if count >= row.len {
-        row.len = 0;
-        return;
-    }
-    row.start = place_along_axis(row.start, count, unsigned(row.stride));
-    row.len -= count;
 }
 
 impl<A: SlowerAxes> CountedPlaces<A> {
@@ -122,7 +94,7 @@ impl<A: SlowerAxes> CountedPlaces<A> {
     /// </details>
     #[inline]
     pub(super) fn new(rows: RowsOf<A>) -> Self {
-        CountedPlaces { rows, back: Row { start: 0, stride: 0, len: 0 }, place: 0, left: 1, stride: 0 }
+        CountedPlaces { rows, back: RowAtBack::none(), place: 0, left: 1, stride: 0 }
     }
 
     /// What is left of the row in progress, or else the next row; `None` after the last place.
@@ -185,7 +157,7 @@ impl<A: SlowerAxes> CountedPlaces<A> {
         self.left = 1;
         if count >= in_rows {
             self.rows.advance(in_rows);
-            shorten(&mut self.back, count - in_rows);
+            self.back.advance(count - in_rows);
             return;
         }
         let len = self.rows.row_len();
@@ -212,24 +184,27 @@ impl<A: SlowerAxes> CountedPlaces<A> {
     /// </details>
     #[inline]
     pub(super) fn advance_back(&mut self, count: usize) {
-        if count <= self.back.len {
-            self.back.len -= count;
+        let left = self.back.len();
+        if count <= left {
+            self.back.advance_back(count);
             return;
         }
-        let (count, in_rows) = (count - self.back.len, self.rows.count_of_places());
-        self.back.len = 0;
-        if count >= in_rows {
+        let (count, in_rows) = (count - left, self.rows.count_of_places());
+        if count > in_rows {
             self.rows.advance_back(in_rows);
+            self.back = RowAtBack::none();
             self.left -= (self.left - 1).min(count - in_rows);
             return;
         }
         let len = self.rows.row_len();
-        self.rows.advance_back(count / len);
+        self.rows.advance_back((count - 1) / len);
         if let Some(mut row) = self.rows.next_back() {
-            row.len -= count % len;
-            self.back = row;
+            row.len -= (count - 1) % len;
+            let (back, _) = RowAtBack::of_row(row);
+            self.back = back;
         }
     }
+
     /// The next place.
     ///
     /// <details><summary>Contract (proved)</summary>
@@ -269,12 +244,15 @@ impl<A: SlowerAxes> CountedPlaces<A> {
     /// ```
     /// [How to read it](crate::contracts)
     /// </details>
-    #[inline]
+    #[inline(always)]
     pub(super) fn next_back(&mut self) -> Option<usize> {
-        let mut row = last_row(&mut self.rows, &mut self.back, self.place, self.stride, &mut self.left)?;
-        row.len -= 1;
-        self.back = row;
-        Some(place_along_axis(row.start, row.len, unsigned(row.stride)))
+        if let Some(place) = self.back.next_back() {
+            return Some(place);
+        }
+        let row = last_row(&mut self.rows, &mut self.back, self.place, self.stride, &mut self.left)?;
+        let (back, place) = RowAtBack::of_row(row);
+        self.back = back;
+        Some(place)
     }
 
     /// How many places are left.
@@ -288,6 +266,6 @@ impl<A: SlowerAxes> CountedPlaces<A> {
     /// </details>
     #[inline]
     pub(super) fn len(&self) -> usize {
-        self.left - 1 + self.rows.count_of_places() + self.back.len
+        self.left - 1 + self.rows.count_of_places() + self.back.len()
     }
 }

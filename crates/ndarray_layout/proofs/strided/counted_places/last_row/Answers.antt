@@ -20,7 +20,7 @@ returns-clause-row g c =
     let left = (c.args.left.now - 1) in
     let rows = c.args.rows.now in
     let last = c.args.back.now in
-    let gone = and_none rows last (omega (arith, c.if-back-gt0.false)) ∙ c.in_default.ensures.steps.0 in
+    let gone = and_none rows last (c.in_default.ensures.row) ∙ c.in_default-next_back.ensures.steps.0 in
     let at : pos c.offset_place.result ≡ pos place +ℤ stride = omega (arith, ints, c.offset_place.ensures) in
     let steps : stride ≡ to_z w64 (of_z w64 stride) = omega (arith, ints) in (
       omega (arith, c.if-left-eq1.false, c.requires.begun),
@@ -30,5 +30,5 @@ returns-clause-row g c =
           ∙ ap (λ z. row_from z stride left) (sym at)
           ∙ ap (λ s. row_places c.offset_place.result s left) steps
           ∙ ap (λ xs. rows_places xs ++ row_places c.offset_place.result (to_z w64 (of_z w64 stride)) left)
-          (sym c.in_default.ensures.steps.1),
+          (sym c.in_default-next_back.ensures.steps.1),
     )

@@ -52,13 +52,13 @@ returns-then-count-left g c =
     ∙ ap (drop c.args.count) c.self.view_is
 
 -- ---- past all rows
-pub shorten-requires-clause-in_bounds : goal.shorten-requires-clause-in_bounds
-shorten-requires-clause-in_bounds g c =
+pub advance-requires-then-count-in_rows-clause-in_bounds : goal.advance-requires-then-count-in_rows-clause-in_bounds
+advance-requires-then-count-in_rows-clause-in_bounds g c =
     let p = c.self.inside in
     end_in p.place (p.left - 1) p.stride p.rows p.back c.self.invariant.1
 
-pub shorten-requires-clause-few : goal.shorten-requires-clause-few
-shorten-requires-clause-few g c =
+pub advance-requires-then-count-in_rows-clause-few : goal.advance-requires-then-count-in_rows-clause-few
+advance-requires-then-count-in_rows-clause-few g c =
     let p = c.self.inside in
     end_fits p.place (p.left - 1) p.stride p.rows p.back c.self.invariant.1
 
@@ -69,7 +69,7 @@ returns-then-count-in_rows g c =
     let n = c.count_of_places-in_rows.ensures in
     let past : length (rows_places rows) ≤ c.args.count - (p.left - 1) = omega (arith, c.if-count-in_rows.true, n) in
     sym (past_all p.place (p.left - 1) p.stride rows p.back c.self.invariant.1 c.args.count c.advance.new.self
-    c.shorten.new.row (omega (arith, c.if-count-left.false)) past (rw (← n) c.advance.ensures) (rw (← n) c.shorten.ensures))
+    c.advance-then-count-in_rows.new.self (omega (arith, c.if-count-left.false)) past (rw (← n) c.advance.ensures) (rw (← n) c.advance-then-count-in_rows.ensures))
     ∙ ap (drop c.args.count) c.self.view_is
 
 pub invariant_of-self-then-count-in_rows : goal.invariant_of-self-then-count-in_rows
@@ -81,9 +81,9 @@ invariant_of-self-then-count-in_rows g c =
     let later = subst (All (λ row. 0 < row.len)) (sym c.advance.ensures) (All-drop (λ row. 0 < row.len) _ rows
     (some_rows p.place (p.left - 1) p.stride rows p.back c.self.invariant.1)) in
     let left = left_later c.self.invariant.1 c.args.count c.self.invariant.1.here
-    (All-and c.advance.new.self c.shorten.new.row later)
+    (All-and c.advance.new.self c.advance-then-count-in_rows.new.self later)
     (past_all p.place (p.left - 1) p.stride rows p.back c.self.invariant.1 c.args.count c.advance.new.self
-    c.shorten.new.row (omega (arith, c.if-count-left.false)) past (rw (← n) c.advance.ensures) (rw (← n) c.shorten.ensures)) in
+    c.advance-then-count-in_rows.new.self (omega (arith, c.if-count-left.false)) past (rw (← n) c.advance.ensures) (rw (← n) c.advance-then-count-in_rows.ensures)) in
     (omega arith, left)
 
 -- ---- past whole ones

@@ -1,48 +1,69 @@
--- The last place is that of the last row, which has begun at the back then.
-use Rattle.std.proofs.Common.{◌≡◌, ◌-◌, pos, ◌+ℤ◌, ◌*ℤ◌, of_z, to_z, w64, sym, ap, ◌∙◌, arith}
+-- The last place is that of the row that has begun at the back, or else of the last row, which begins there then.
+use Rattle.std.proofs.Common.{◌≡◌, ◌-◌, pos, ◌++◌, [], ◌∷◌, of_z, to_z, w64, refl, sym, ap, subst, ◌∙◌, arith}
 use Rattle.std.proofs.lemmas.Int.{ints}
-use Rattle.nd_base.proofs.Laws.Definitions.{signed}
-use Rattle.ndarray_layout.proofs.BothEnds.{last_place, last_small, last_start, left_without_last, without_last}
+use Rattle.ndarray_layout.specs.PlacesLeft.{ArePlacesLeft, places_after, rows_and}
+use Rattle.ndarray_layout.proofs.BothEnds.{end_in, ends_in, last_small, left_without_last, row_in, some_rows, without_last}
 use Rattle.ndarray_layout.proofs.strided.counted_places.CountedPlaces.next_back.Goals as goal
 
-pub place_along_axis-requires-clause-small : goal.place_along_axis-requires-clause-small
-place_along_axis-requires-clause-small g c =
-    let row = c.in_ok-row.ensures.row in
-    let same : to_z w64 (of_z w64 c.self.inside.stride) ≡ c.self.inside.stride = omega (arith, ints) in
-    let few = last_small c.self.invariant.1 (c.last_row.new.left - 1) c.last_row.new.rows c.in_ok-row.row same row.0 row.1 in
-    omega (arith, few)
+pub next_back-requires : goal.next_back-requires
+next_back-requires g c =
+    let p = c.self.inside in
+    end_in p.place (p.left - 1) p.stride p.rows p.back c.self.invariant.1
 
-pub place_along_axis-requires-clause-first : goal.place_along_axis-requires-clause-first
-place_along_axis-requires-clause-first g c =
-    let row = c.in_ok-row.ensures.row in
-    let same : to_z w64 (of_z w64 c.self.inside.stride) ≡ c.self.inside.stride = omega (arith, ints) in
-    last_start c.self.invariant.1 (c.last_row.new.left - 1) c.last_row.new.rows c.in_ok-row.row same row.0 row.1
+pub invariant_of-self : goal.invariant_of-self
+invariant_of-self g c =
+    let p = c.self.inside in
+    let l = c.self.invariant.1 in (
+      c.self.invariant.0,
+      subst (λ row. ArePlacesLeft p.place p.stride (p.left - 1) (rows_and p.rows row)) (sym c.in-Some.ensures.1)
+          (left_without_last l (p.left - 1) p.rows p.back refl c.in-Some.ensures.0 (ends_in p.place p.stride (p.left - 1) p.rows p.back)
+          (some_rows p.place (p.left - 1) p.stride p.rows p.back l)),
+    )
 
-pub place_along_axis-requires-clause-there : goal.place_along_axis-requires-clause-there
-place_along_axis-requires-clause-there g c =
+pub returns-in-Some : goal.returns-in-Some
+returns-in-Some g c =
+    let p = c.self.inside in
+    sym c.self.view_is
+    ∙ without_last c.self.invariant.1 (p.left - 1) p.rows p.back refl c.in-Some.ensures.0
+    (ends_in p.place p.stride (p.left - 1) p.rows p.back) c.in-Some.ensures.2
+    ∙ ap (λ row. places_after p.place p.stride (p.left - 1) (rows_and p.rows row) ++ pos c.in-Some.place ∷ []) (sym c.in-Some.ensures.1)
+
+pub of_row-back-requires-clause-in_bounds : goal.of_row-back-requires-clause-in_bounds
+of_row-back-requires-clause-in_bounds g c =
+    let p = c.self.inside in
     let row = c.in_ok-row.ensures.row in
-    let same : to_z w64 (of_z w64 c.self.inside.stride) ≡ c.self.inside.stride = omega (arith, ints) in
-    let last = c.in_ok-row.row in
-    let step : signed c.unsigned.result ≡ last.stride = omega (arith, ints, c.unsigned.ensures.back) in
-    let there = last_place c.self.invariant.1 (c.last_row.new.left - 1) c.last_row.new.rows last same row.0 row.1 in
-    let same = ap (λ s. pos last.start +ℤ (pos (last.len - 1) *ℤ s)) step in
-    (omega (arith, ints, same, there.0), omega (arith, ints, same, there.1))
+    let same : to_z w64 (of_z w64 p.stride) ≡ p.stride = omega (arith, ints) in
+    let l = subst (λ row. ArePlacesLeft p.place p.stride (p.left - 1) (rows_and p.rows row)) (sym c.in_default.ensures.1) c.self.invariant.1 in
+    row_in l (c.last_row.new.left - 1) c.last_row.new.rows c.in_ok-row.row same row.0 row.1
+
+pub of_row-back-requires-clause-few : goal.of_row-back-requires-clause-few
+of_row-back-requires-clause-few g c =
+    let p = c.self.inside in
+    let row = c.in_ok-row.ensures.row in
+    let same : to_z w64 (of_z w64 p.stride) ≡ p.stride = omega (arith, ints) in
+    let l = subst (λ row. ArePlacesLeft p.place p.stride (p.left - 1) (rows_and p.rows row)) (sym c.in_default.ensures.1) c.self.invariant.1 in
+    last_small l (c.last_row.new.left - 1) c.last_row.new.rows c.in_ok-row.row same row.0 row.1
 
 pub invariant_of-self-2 : goal.invariant_of-self-2
 invariant_of-self-2 g c =
+    let p = c.self.inside in
     let row = c.in_ok-row.ensures.row in
-    let same : to_z w64 (of_z w64 c.self.inside.stride) ≡ c.self.inside.stride = omega (arith, ints) in (
+    let same : to_z w64 (of_z w64 p.stride) ≡ p.stride = omega (arith, ints) in
+    let l = subst (λ row. ArePlacesLeft p.place p.stride (p.left - 1) (rows_and p.rows row)) (sym c.in_default.ensures.1) c.self.invariant.1 in (
       c.in_ok-row.ensures.begun,
-      left_without_last c.self.invariant.1 (c.last_row.new.left - 1) c.last_row.new.rows c.in_ok-row.row same row.0 row.1
-          c.in_ok-row.ensures.some,
+      subst (λ row. ArePlacesLeft p.place p.stride (c.last_row.new.left - 1) (rows_and c.last_row.new.rows row)) (sym c.of_row-back.ensures.left)
+          (left_without_last l (c.last_row.new.left - 1) c.last_row.new.rows c.in_ok-row.row same row.0 row.1 c.in_ok-row.ensures.some),
     )
 
 pub returns : goal.returns
 returns g c =
+    let p = c.self.inside in
     let row = c.in_ok-row.ensures.row in
-    let same : to_z w64 (of_z w64 c.self.inside.stride) ≡ c.self.inside.stride = omega (arith, ints) in
-    let last = c.in_ok-row.row in
-    let step : signed c.unsigned.result ≡ last.stride = omega (arith, ints, c.unsigned.ensures.back) in
-    let at = c.place_along_axis.ensures ∙ ap (λ s. pos last.start +ℤ (pos (last.len - 1) *ℤ s)) step in
+    let same : to_z w64 (of_z w64 p.stride) ≡ p.stride = omega (arith, ints) in
+    let left = c.last_row.new.left - 1 in
+    let rows = c.last_row.new.rows in
+    let l = subst (λ row. ArePlacesLeft p.place p.stride (p.left - 1) (rows_and p.rows row)) (sym c.in_default.ensures.1) c.self.invariant.1 in
     sym c.self.view_is
-    ∙ without_last c.self.invariant.1 (c.last_row.new.left - 1) c.last_row.new.rows last same row.0 row.1 at
+    ∙ ap (λ row. places_after p.place p.stride (p.left - 1) (rows_and p.rows row)) (sym c.in_default.ensures.1)
+    ∙ without_last l left rows c.in_ok-row.row same row.0 row.1 c.of_row-back.ensures.place
+    ∙ ap (λ row. places_after p.place p.stride left (rows_and rows row) ++ pos c.of_row-back.result.1 ∷ []) (sym c.of_row-back.ensures.left)
