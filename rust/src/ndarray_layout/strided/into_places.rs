@@ -12,7 +12,7 @@ pub type IntoPlaces<D> = PlacesOf<KeptAxes<D>>;
 impl<D: Lengths> Strided<D> {
     /// The places of all indices, in an order: `iter_places`, where the iterator has the view.
     ///
-    /// Takes no memory. A place costs an addition, from the back a product, and each row what it costs in `into_joined_rows`.
+    /// Takes no memory. A place costs an addition, from either end, and each row what it costs in `into_joined_rows`.
     ///
     /// `[2,3]` with strides `[-3,1]` from 3: 3 4 5 0 1 2 in row-major order, 3 0 4 1 5 2 in column-major order. The project's own.
     ///

@@ -14,7 +14,7 @@ impl<D: Lengths> Strided<D> {
     /// An iterator over the places of all indices, in row-major order (the last axis moves fastest) or in
     /// column-major order (the first one does), which knows how many are left and gives the last ones as well.
     ///
-    /// Takes no memory. A place costs an addition, from the back a product, and each row what it costs in `joined_rows`. Places
+    /// Takes no memory. A place costs an addition, from either end, and each row what it costs in `joined_rows`. Places
     /// that follow one another are a loop over a range.
     ///
     /// `[2,3]` with strides `[-3,1]` from 3: 3 4 5 0 1 2 in row-major order, 3 0 4 1 5 2 in column-major
