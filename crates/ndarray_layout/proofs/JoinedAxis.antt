@@ -14,11 +14,10 @@ use Rattle.nd_base.proofs.Laws.Definitions.{as_read, magnitude, reach, sum_over_
 use Rattle.nd_base.proofs.Laws.NonzeroSize.{length_le_nonzero_size, nonzero_size-push, nonzero_size_of_other, nonzero_size_of_zero}
 use Rattle.nd_base.proofs.Laws.Span.{low_high_span, sum_over_axes-push}
 use Rattle.nd_shape.specs.Merge.{IsMergedStride}
-use Rattle.nd_shape.proofs.Laws.Merge.{steps_on_from_fit}
 use Rattle.ndarray_layout.specs.declared.strided.rows.Fastest.{Fastest}
 use Rattle.ndarray_layout.specs.RowsLeft.{axis_view}
 use Rattle.ndarray_layout.specs.View.{IsView, view_of, view_places}
-use Rattle.ndarray_layout.specs.private.Fastest.{EndsIn, HasPlaces, IsSlowest, NoneGoesOn}
+use Rattle.ndarray_layout.specs.private.Fastest.{EndsIn, HasPlaces, IsSlowest}
 use Rattle.ndarray_layout.proofs.ByRows.{row_from, rows_from}
 use Rattle.ndarray_layout.proofs.Fastest.{EndsIn-map, as_read-ends, fastest_item-ends, len_le_nonzero_size, length-others, places-others}
 use Rattle.ndarray_layout.proofs.RowsLeft.{IsView-slower, ends, rows_of_one, steps}
@@ -340,23 +339,7 @@ HasPlaces-joined {order} {lens} {strides} has f = record {
   places = λ start v. places-joined f (has.is_view start v) ∙ has.places start v;
 }
 
--- ---- where no more axis joins
 -- the fastest one of a list is one
 pub same_item : {order : Order} {items others rest : List ℕ} {item other : ℕ} → EndsIn order items others item
     → EndsIn order items rest other → item ≡ other
 same_item e g = sym (fastest_item-ends 0 e) ∙ fastest_item-ends 0 g
-
-pub NoneGoesOn-last : (order : Order) (axis : Fastest) → axis.lens.now ≡ [] → NoneGoesOn order axis
-NoneGoesOn-last order axis none = record {
-  alone = λ lens strides len stride e g fits. omega (arith, length-others e, ap length none);
-}
-
-pub NoneGoesOn-apart : (order : Order) (axis next : Fastest) → IsNext order axis next → 1 < axis.len → 1 < next.len
-    → (signed next.stride ≡ pos axis.len *ℤ signed axis.stride → ⊥) → NoneGoesOn order axis
-NoneGoesOn-apart order axis next is long more apart = record {
-  alone = λ lens strides len stride e g fits.
-      let same_len : next.len ≡ len = same_item is.lens e in
-      let same_stride : next.stride ≡ stride = same_item is.strides g in
-      apart (ap signed same_stride
-      ∙ steps_on_from_fit len (signed stride) axis.len (signed axis.stride) (omega arith) long fits);
-}

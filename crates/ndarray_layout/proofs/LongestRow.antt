@@ -17,7 +17,7 @@ use Rattle.ndarray_layout.specs.declared.strided.rows.Row.{Row}
 use Rattle.ndarray_layout.specs.Rows.{BeginsAsRow, fastest_item, row_at, slower_items, slower_view, view_rows}
 use Rattle.ndarray_layout.specs.RowsLeft.{axis_view}
 use Rattle.ndarray_layout.specs.View.{View, IsView, place_at, view_places}
-use Rattle.ndarray_layout.specs.private.Fastest.{EndsIn, NoneGoesOn}
+use Rattle.ndarray_layout.specs.private.Fastest.{EndsIn}
 use Rattle.ndarray_layout.proofs.Fastest.{EndsIn-map, ends_of_some, fastest_item-ends}
 use Rattle.ndarray_layout.proofs.NextRow.{IsOnAxis, on_axis}
 use Rattle.ndarray_layout.proofs.RowsLeft.{IsView-slower, ends, size-axis_view, steps}
@@ -135,14 +135,6 @@ module _ (order : Order) (start : ℕ) (axis : Fastest) (v : IsView (axis_view o
         | inl next_long ↦ (signed axis.stride, steps_on len (signed stride) axis.len (signed axis.stride) (goes_on long next_long))
       ]
     ]
-
-  pub longest : NoneGoesOn order axis → row.len ≤ axis.len
-  longest apart = elim (cases_lt axis.len row.len) [
-    | inl more ↦
-        absurd (apart.alone (slower_items order axis.lens.now) (slower_items order axis.strides.now)
-        (fastest_item order axis.lens.now 1) (fastest_item order axis.strides.now 0) (next more) (next_stride more) (fits more))
-    | inr few ↦ few
-  ]
 
 -- and each row along an axis has its length
 pub as_long : (order : Order) (axis : Fastest) (start n : ℕ) → n ≤ axis.len

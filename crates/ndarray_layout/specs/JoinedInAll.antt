@@ -33,19 +33,24 @@ pub record IsJoined (order : Order) (lens strides : List ℕ) (count len stride 
       → view_places order (joined_view order start lens strides count len stride) ≡ view_places order (view_of start lens strides)
 
 -- so many axes are one in each layout, along the stride of its number
-abbrev pub AreJoined : Order → List ℕ → List ℕ → ℕ → ℕ → List ℕ → Type 0
-AreJoined order lens strides count len joined =
-    (number : ℕ) → number < length joined
-    → IsJoined order lens (strides_of (length lens) number strides) count len (slice_index joined number)
+abbrev pub AreJoinedBy : Order → List ℕ → (ℕ → List ℕ) → ℕ → ℕ → List ℕ → Type 0
+AreJoinedBy order lens strides count len joined =
+    (number : ℕ) → number < length joined → IsJoined order lens (strides number) count len (slice_index joined number)
 
 -- and the next one, if there is one, doesn't go on in all
-abbrev pub NoMoreJoin : Order → List ℕ → List ℕ → ℕ → ℕ → List ℕ → Type 0
-NoMoreJoin order lens strides count len joined = count < length lens
+abbrev pub NoMoreJoinBy : Order → List ℕ → (ℕ → List ℕ) → ℕ → ℕ → List ℕ → Type 0
+NoMoreJoinBy order lens strides count len joined = count < length lens
     → ((number : ℕ) → number < length joined
     → MergeFits (slice_index lens (axis_after order (length lens) count))
-    (signed (slice_index (strides_of (length lens) number strides) (axis_after order (length lens) count))) len
-    (signed (slice_index joined number)))
+    (signed (slice_index (strides number) (axis_after order (length lens) count))) len (signed (slice_index joined number)))
     → ⊥
+
+-- so where the strides stand in one list
+abbrev pub AreJoined : Order → List ℕ → List ℕ → ℕ → ℕ → List ℕ → Type 0
+AreJoined order lens strides = AreJoinedBy order lens (λ number. strides_of (length lens) number strides)
+
+abbrev pub NoMoreJoin : Order → List ℕ → List ℕ → ℕ → ℕ → List ℕ → Type 0
+NoMoreJoin order lens strides = NoMoreJoinBy order lens (λ number. strides_of (length lens) number strides)
 
 -- examples
 second_of_two : strides_of 2 1 (3 ∷ 1 ∷ 5 ∷ 2 ∷ []) ≡ 5 ∷ 2 ∷ []

@@ -1,16 +1,16 @@
 -- Words of private contracts alone, of the calls below `Strided::rows`: the axis of a layout that moves fastest.
-use Rattle.std.specs.Prelude.{◌≡◌, ℕ, ◌-◌, ◌≤◌, pos, ◌*ℤ◌, List, [], ◌∷◌, length, nat_eq, slice_index, refl}
+use Rattle.std.specs.Prelude.{◌≡◌, ℕ, ◌-◌, ◌≤◌, ◌==◌, pos, ◌*ℤ◌, List, [], ◌∷◌, if◌then◌else◌, length, nat_eq, replicate, slice_index, refl}
 use Rattle.std.proofs.Common.{ap, eq-eqb, sym, ◌∙◌}
 use Rattle.std.proofs.Math.Dec.{lit≤}
 use Rattle.std.proofs.lemmas.Bool.{both_ways}
 use Rattle.nd_base.specs.declared.order.Order.{Order}
 use Rattle.nd_base.specs.declared.order.Order.TheVariants.{RowMajor, ColumnMajor}
-use Rattle.nd_base.specs.Signed.{signed}
-use Rattle.nd_shape.specs.Merge.{MergeFits}
-use Rattle.nd_shape.proofs.Laws.Merge.{steps_on}
+use Rattle.nd_base.specs.Size.{size}
 use Rattle.ndarray_layout.specs.declared.strided.rows.Fastest.{Fastest}
+use Rattle.ndarray_layout.specs.declared.strided.rows.Row.{Row}
+use Rattle.ndarray_layout.specs.JoinedInAll.{slower_than}
 use Rattle.ndarray_layout.specs.NumberedRows.{slowest}
-use Rattle.ndarray_layout.specs.Rows.{view_rows}
+use Rattle.ndarray_layout.specs.Rows.{BeginsAsRow, view_rows}
 use Rattle.ndarray_layout.specs.RowsLeft.{axis_view, with_item}
 use Rattle.ndarray_layout.specs.View.{IsView, view_of, view_places}
 
@@ -40,21 +40,21 @@ pub record HasPlaces (order : Order) (lens strides : List ℕ) (axis : Fastest) 
   pub places : (start : ℕ) → IsView (view_of start lens strides)
       → view_places order (axis_view order start axis) ≡ view_places order (view_of start lens strides)
 
--- of the axes that move slower the fastest one doesn't go on where this axis ends: no stride has the coordinates of both
-pub record NoneGoesOn (order : Order) (axis : Fastest) : Type 0 where
-  pub alone : (lens strides : List ℕ) (len stride : ℕ) → EndsIn order axis.lens.now lens len → EndsIn order axis.strides.now strides stride
-      → MergeFits len (signed stride) axis.len (signed axis.stride) → ⊥
+-- this axis is so many of those of a layout that move fastest, of this length and stride
+pub record IsOneAxis (order : Order) (lens strides : List ℕ) (count len stride : ℕ) (axis : Fastest) : Type 0 where
+  pub same_len : axis.len ≡ len
+  pub same_stride : axis.stride ≡ stride
+  pub slower_lens : axis.lens.now ≡ slower_than order count lens
+  pub slower_strides : axis.strides.now ≡ slower_than order count strides
 
--- two axes have as many coordinates, and as many follow: an index of one is an index of the other
-pub record AreAlike (axis other : Fastest) : Type 0 where
-  pub len : axis.len ≡ other.len
-  pub lens : axis.lens.now ≡ other.lens.now
+-- wherever a layout starts, no longer row begins it
+abbrev pub NoLongerRow : Order → List ℕ → List ℕ → ℕ → Type 0
+NoLongerRow order lens strides len = (start : ℕ) (row : Row) → IsView (view_of start lens strides)
+    → BeginsAsRow (view_places order (view_of start lens strides)) row → row.len ≤ len
 
--- of the axes that move slower the fastest one doesn't go on where both axes end
-pub record NoneGoesOnInBoth (order : Order) (axis other : Fastest) : Type 0 where
-  pub alone : (lens strides others : List ℕ) (len stride step : ℕ) → EndsIn order axis.lens.now lens len
-      → EndsIn order axis.strides.now strides stride → EndsIn order other.strides.now others step
-      → MergeFits len (signed stride) axis.len (signed axis.stride) → MergeFits len (signed step) other.len (signed other.stride) → ⊥
+-- the lengths of the rows along so many axes that are one of this length, each from a place of the slower axes
+abbrev pub row_lens : Order → List ℕ → ℕ → ℕ → List ℕ
+row_lens order lens count len = replicate (if len == 0 then 0 else size (slower_than order count lens)) len
 
 -- examples
 last_by_rows : EndsIn {A = ℕ} RowMajor (2 ∷ 3 ∷ 4 ∷ []) (2 ∷ 3 ∷ []) 4
@@ -72,17 +72,8 @@ first_two_by_rows = record { few = lit≤ tt; is = refl }
 not_the_last_by_rows : IsSlowest {A = ℕ} RowMajor (2 ∷ 3 ∷ []) (3 ∷ []) → ⊥
 not_the_last_by_rows slowest = both_ways (nat_eq 2 3) refl (eq-eqb 2 3 (ap (λ items. slice_index items 0) slowest.is))
 
-pixels_go_on : (axis : Fastest) → axis.lens.now ≡ 2 ∷ [] → axis.strides.now ≡ 3 ∷ [] → axis.len ≡ 3 → axis.stride ≡ 1
-    → NoneGoesOn RowMajor axis → ⊥
-pixels_go_on axis lens strides len stride none =
-    let on = sym (ap (λ n. pos n *ℤ signed axis.stride) len ∙ ap (λ s. pos 3 *ℤ signed s) stride) in
-    none.alone [] [] 2 3 (record { is = lens }) (record { is = strides })
-    (signed axis.stride, steps_on 2 (signed 3) axis.len (signed axis.stride) on)
+rows_of_pixels : row_lens RowMajor (4 ∷ 2 ∷ 3 ∷ []) 2 6 ≡ 6 ∷ 6 ∷ 6 ∷ 6 ∷ []
+rows_of_pixels = refl
 
-alike_to_itself : (axis : Fastest) → AreAlike axis axis
-alike_to_itself axis = record { len = refl; lens = refl }
-
--- what goes on in one alone isn't joined
-one_is_enough : (axis other : Fastest) → NoneGoesOn RowMajor axis → NoneGoesOnInBoth RowMajor axis other
-one_is_enough axis other one =
-    record { alone = λ lens strides others len stride step e g h fits also. one.alone lens strides len stride e g fits }
+no_rows_of_none : row_lens RowMajor (4 ∷ 0 ∷ []) 1 0 ≡ []
+no_rows_of_none = refl

@@ -1,75 +1,35 @@
-//! The rows of two views of one shape, joined alike.
+//! The rows of views of one shape, joined alike.
 ghost use Rattle.std.specs.List.{All};
-ghost use Rattle.std.specs.Prelude.{◌≡◌, ◌<◌, ◌≤◌, map};
-ghost use Rattle.nd_base.specs.Signed.{all_signed};
-ghost use Rattle.nd_base.specs.ValidLayout.{IsValidLayout};
+ghost use Rattle.std.specs.Prelude.{◌≡◌, ◌<◌, ◌≤◌, ℕ, length, map};
+ghost use Rattle.ndarray_layout.specs.JoinedInAll.{IsJoined};
 ghost use Rattle.ndarray_layout.specs.Rows.{BeginsAsRow, rows_places};
-ghost use Rattle.ndarray_layout.specs.View.{view_places};
-ghost use Rattle.ndarray_layout.specs.private.Fastest.{AreAlike, NoneGoesOnInBoth, HasPlaces};
+ghost use Rattle.ndarray_layout.specs.View.{IsView, view_of, view_places};
+ghost use Rattle.ndarray_layout.specs.private.Fastest.{row_lens};
 
 use crate::strided::Strided;
-use crate::strided::rows::{Fastest, Rows, split_fastest};
+use crate::strided::joined_layouts::{InLists, joined_in_each};
+use crate::strided::rows::{Rows, as_one_axis};
 use nd_base::{Lengths, Order};
-use nd_shape::goes_on;
 
-/// The axis that moves fastest of two layouts of one shape, joined with each slower one that goes on where it ends in
-/// both layouts.
-fn joined_axes<'a>(
+/// The rows of a view along so many joined axes, of this length and stride.
+fn rows_along<'a>(
     order: Order,
+    start: usize,
     lens: &'a [usize],
     strides: &'a [usize],
-    others: &'a [usize],
-) -> (Fastest<'a>, Fastest<'a>)
-    requires first { IsValidLayout lens.now (all_signed strides.now) }
-    requires second { IsValidLayout lens.now (all_signed others.now) }
-    ensures first { HasPlaces order lens.now strides.now result.0 }
-    ensures second { HasPlaces order lens.now others.now result.1 }
-    ensures alike { AreAlike result.0 result.1 }
-    ensures joined { NoneGoesOnInBoth order result.0 result.1 }
+    joined: (usize, usize),
+    stride: usize,
+) -> Rows<'a>
+    requires is_view { IsView (view_of start lens.now strides.now) }
+    requires few { joined.0 ≤ length lens.now }
+    requires joined { IsJoined order lens.now strides.now joined.0 joined.1 stride }
+    ensures places { rows_places result ≡ view_places order (view_of start lens.now strides.now) }
+    ensures lens { map (λ row. row.len) result ≡ row_lens order lens.now joined.0 joined.1 }
+    ensures some { All (λ row. 0 < row.len) result }
+    ensures longest { (len : ℕ) → len ≤ joined.1 → All (λ row. len ≤ row.len) result }
 {
-    let mut axis = Fastest {
-        len: 1,
-        stride: 0,
-        lens,
-        strides,
-    };
-    let mut other = Fastest {
-        len: 1,
-        stride: 0,
-        lens,
-        strides: others,
-    };
-    'axes: while let Some(next) = split_fastest(order, axis.lens, axis.strides) {
-        let Some(also) = split_fastest(order, other.lens, other.strides) else {
-            return (axis, other);
-        };
-        let (mut stride, mut step) = (next.stride, also.stride);
-        if axis.len > 1 {
-            if next.len > 1 {
-                if !goes_on(next.stride, axis.len, axis.stride) {
-                    return (axis, other);
-                }
-                if !goes_on(also.stride, other.len, other.stride) {
-                    return (axis, other);
-                }
-            }
-            (stride, step) = (axis.stride, other.stride);
-        }
-        let len = next.len * axis.len;
-        axis = Fastest {
-            len,
-            stride,
-            lens: next.lens,
-            strides: next.strides,
-        };
-        other = Fastest {
-            len,
-            stride: step,
-            lens: also.lens,
-            strides: also.strides,
-        };
-    }
-    (axis, other)
+    let axis = as_one_axis(order, lens, strides, joined, stride);
+    Rows::along_axis(order, start, axis)
 }
 
 impl<D: Lengths> Strided<D> {
@@ -100,10 +60,54 @@ impl<D: Lengths> Strided<D> {
             → All (λ row. one.len ≤ row.len) result.0 }
     {
         let lens = self.dim.slice();
-        let (axis, also) = joined_axes(order, lens, self.strides.slice(), other.strides.slice());
+        let strides = [self.strides.slice(), other.strides.slice()];
+        let mut along = [0; 2];
+        let joined = joined_in_each(order, lens, &InLists { lists: &strides }, &mut along);
         (
-            Rows::along_axis(order, self.start, axis),
-            Rows::along_axis(order, other.start, also),
+            rows_along(order, self.start, lens, strides[0], joined, along[0]),
+            rows_along(order, other.start, lens, strides[1], joined, along[1]),
+        )
+    }
+
+    /// Iterators over the places of this view and of two others of its shape as rows that are alike, as `joined_rows_with` gives
+    /// those of two: axes are joined where one goes on where the next faster one ends in all three.
+    ///
+    /// The caller ensures that the views have one shape.
+    ///
+    /// Takes no memory. A row of each costs as much as one of `joined_rows`.
+    ///
+    /// `[2,3]` with strides `[3,1]` from 0, beside itself and `[5,1]` from 0: 3 places from 0 and 3 from 3, the same, and those from
+    /// 0 and from 5. The project's own, for what ndarray's `Zip` does.
+    pub fn joined_rows_with_two<'a>(
+        &'a self,
+        other: &'a Strided<D>,
+        third: &'a Strided<D>,
+        order: Order,
+    ) -> (Rows<'a>, Rows<'a>, Rows<'a>)
+        requires shape { self.now.shape ≡ other.now.shape }
+        requires also { self.now.shape ≡ third.now.shape }
+        ensures first { rows_places result.0 ≡ view_places order self.now }
+        ensures second { rows_places result.1 ≡ view_places order other.now }
+        ensures third { rows_places result.2 ≡ view_places order third.now }
+        ensures alike { map (λ row. row.len) result.0 ≡ map (λ row. row.len) result.1 }
+        ensures also { map (λ row. row.len) result.0 ≡ map (λ row. row.len) result.2 }
+        ensures some { All (λ row. 0 < row.len) result.0 }
+        ensures longest { (one another last : Row) → BeginsAsRow (view_places order self.now) one
+            → BeginsAsRow (view_places order other.now) another → BeginsAsRow (view_places order third.now) last
+            → one.len ≡ another.len → one.len ≡ last.len → All (λ row. one.len ≤ row.len) result.0 }
+    {
+        let lens = self.dim.slice();
+        let strides = [
+            self.strides.slice(),
+            other.strides.slice(),
+            third.strides.slice(),
+        ];
+        let mut along = [0; 3];
+        let joined = joined_in_each(order, lens, &InLists { lists: &strides }, &mut along);
+        (
+            rows_along(order, self.start, lens, strides[0], joined, along[0]),
+            rows_along(order, other.start, lens, strides[1], joined, along[1]),
+            rows_along(order, third.start, lens, strides[2], joined, along[2]),
         )
     }
 }

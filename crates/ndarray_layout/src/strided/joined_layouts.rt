@@ -1,13 +1,66 @@
 //! The axes that move fastest, joined in several layouts of one shape at once.
-ghost use Rattle.std.specs.Prelude.{◌≡◌, ◌↔◌, ◌+◌, ◌*◌, ◌<◌, ◌≤◌, pos, ◌*ℤ◌, length, slice_index, ℕ, IsTrue};
+ghost use Rattle.std.specs.Prelude.{◌≡◌, ◌↔◌, ◌+◌, ◌*◌, ◌<◌, ◌≤◌, pos, ◌*ℤ◌, [], length, map, slice_index, slice_index_or, ℕ, IsTrue};
 ghost use Rattle.nd_base.specs.Signed.{all_signed, magnitude, signed as signed_reading};
 ghost use Rattle.nd_base.specs.Size.{limit};
 ghost use Rattle.nd_base.specs.Span.{reach};
 ghost use Rattle.nd_base.specs.ValidLayout.{IsValidLayout};
-ghost use Rattle.ndarray_layout.specs.JoinedInAll.{AreJoined, NoMoreJoin, axis_after, strides_of};
+ghost use Rattle.ndarray_layout.specs.JoinedInAll.{AreJoined, AreJoinedBy, NoMoreJoin, NoMoreJoinBy, axis_after, strides_of};
 
 use nd_base::Order;
 use nd_shape::goes_on;
+
+/// The strides of layouts of one shape.
+pub(super) trait LayoutStrides {
+    ghost use Rattle.std.specs.Prelude.{List};
+
+    // Those of the layout of a number.
+    ghost strides: { Self → ℕ → List ℕ };
+
+    /// The stride of an axis in the layout of a number.
+    fn stride(&self, number: usize, axis: usize) -> usize
+        requires { axis < length (strides self.now number) }
+        ensures { result ≡ slice_index (strides self.now number) axis };
+}
+
+/// The item of an axis.
+#[inline(always)]
+fn item_of(items: &[usize], axis: usize) -> usize
+    requires { axis < length items.now }
+    ensures { result ≡ slice_index items.now axis }
+{
+    items[axis]
+}
+
+/// The strides of each layout in a list of its own.
+#[derive(Drop)]
+pub(super) struct InLists<'a> {
+    pub(super) lists: &'a [&'a [usize]],
+}
+
+impl<'a> LayoutStrides for InLists<'a> {
+    ghost strides = { λ layouts number. slice_index_or (map (λ list. list.now) layouts.lists.now) number [] };
+
+    #[inline(always)]
+    fn stride(&self, number: usize, axis: usize) -> usize {
+        item_of(self.lists[number], axis)
+    }
+}
+
+/// The strides of so many axes in one layout after another.
+#[derive(Drop)]
+struct InOneList<'a> {
+    strides: &'a [usize],
+    ndim: usize,
+}
+
+impl<'a> LayoutStrides for InOneList<'a> {
+    ghost strides = { λ list number. strides_of list.ndim number list.strides.now };
+
+    #[inline(always)]
+    fn stride(&self, number: usize, axis: usize) -> usize {
+        self.strides[number * self.ndim + axis]
+    }
+}
 
 /// The axis that moves fastest after so many others.
 #[inline(always)]
@@ -23,20 +76,20 @@ fn next_axis(order: Order, ndim: usize, count: usize) -> usize
 }
 
 /// Whether an axis goes on where the joined one ends, in each layout.
-fn all_go_on(strides: &[usize], ndim: usize, axis: usize, len: usize, joined: &[usize]) -> bool
+#[inline(always)]
+fn all_go_on<L: LayoutStrides>(layouts: &L, axis: usize, len: usize, joined: &[usize]) -> bool
     requires long { 1 < len }
     requires small { len ≤ limit }
-    requires counts { length strides.now ≡ ndim * length joined.now }
-    requires exists { axis < ndim }
+    requires exists { (number : ℕ) → number < length joined.now → axis < length (L.strides layouts.now number) }
     requires fits { (number : ℕ) → number < length joined.now →
-        magnitude (signed_reading (slice_index strides.now (number * ndim + axis)))
+        magnitude (signed_reading (slice_index (L.strides layouts.now number) axis))
         + reach len (signed_reading (slice_index joined.now number)) ≤ limit }
     ensures { IsTrue result ↔ ((number : ℕ) → number < length joined.now →
-        signed_reading (slice_index strides.now (number * ndim + axis))
+        signed_reading (slice_index (L.strides layouts.now number) axis)
         ≡ pos len *ℤ signed_reading (slice_index joined.now number)) }
 {
     for number in 0..joined.len() {
-        if !goes_on(strides[number * ndim + axis], len, joined[number]) {
+        if !goes_on(layouts.stride(number, axis), len, joined[number]) {
             return false;
         }
     }
@@ -44,16 +97,51 @@ fn all_go_on(strides: &[usize], ndim: usize, axis: usize, len: usize, joined: &[
 }
 
 /// Begins joined axes along this one, in each layout.
-fn begin_along(joined: &mut [usize], strides: &[usize], ndim: usize, axis: usize)
-    requires counts { length strides.now ≡ ndim * length joined.old }
-    requires exists { axis < ndim }
+#[inline(always)]
+fn begin_along<L: LayoutStrides>(joined: &mut [usize], layouts: &L, axis: usize)
+    requires { (number : ℕ) → number < length joined.old → axis < length (L.strides layouts.now number) }
     ensures len { length joined.new ≡ length joined.old }
     ensures strides { (number : ℕ) → number < length joined.old →
-        slice_index joined.new number ≡ slice_index strides.now (number * ndim + axis) }
+        slice_index joined.new number ≡ slice_index (L.strides layouts.now number) axis }
 {
     for number in 0..joined.len() {
-        joined[number] = strides[number * ndim + axis];
+        joined[number] = layouts.stride(number, axis);
     }
+}
+
+/// How many of the axes that move fastest are one in each of several layouts of a shape, and its length; writes its stride in
+/// each layout into `joined`.
+///
+/// An axis is joined where it goes on in all layouts where the faster ones end; one of length 1 joins any.
+#[inline(always)]
+pub(super) fn joined_in_each<L: LayoutStrides>(
+    order: Order,
+    lens: &[usize],
+    layouts: &L,
+    joined: &mut [usize],
+) -> (usize, usize)
+    requires some { 0 < length joined.old }
+    requires valid { (number : ℕ) → number < length joined.old →
+        IsValidLayout lens.now (all_signed (L.strides layouts.now number)) }
+    ensures count { result.0 ≤ length lens.now }
+    ensures written { length joined.new ≡ length joined.old }
+    ensures joined { AreJoinedBy order lens.now (L.strides layouts.now) result.0 result.1 joined.new }
+    ensures longest { NoMoreJoinBy order lens.now (L.strides layouts.now) result.0 result.1 joined.new }
+{
+    let ndim = lens.len();
+    let mut len = 1;
+    for count in 0..ndim {
+        let axis = next_axis(order, ndim, count);
+        if len > 1 {
+            if lens[axis] > 1 && !all_go_on(layouts, axis, len, joined) {
+                return (count, len);
+            }
+        } else {
+            begin_along(joined, layouts, axis);
+        }
+        len *= lens[axis];
+    }
+    (ndim, len)
 }
 
 /// How many of the axes that move fastest are one in each of several layouts of a shape, and its length; writes its stride in
@@ -84,18 +172,9 @@ pub fn joined_in_all(
     ensures joined { AreJoined order lens.now strides.now result.0 result.1 joined.new }
     ensures longest { NoMoreJoin order lens.now strides.now result.0 result.1 joined.new }
 {
-    let ndim = lens.len();
-    let mut len = 1;
-    for count in 0..ndim {
-        let axis = next_axis(order, ndim, count);
-        if len > 1 {
-            if lens[axis] > 1 && !all_go_on(strides, ndim, axis, len, joined) {
-                return (count, len);
-            }
-        } else {
-            begin_along(joined, strides, ndim, axis);
-        }
-        len *= lens[axis];
-    }
-    (ndim, len)
+    let layouts = InOneList {
+        strides,
+        ndim: lens.len(),
+    };
+    joined_in_each(order, lens, &layouts, joined)
 }

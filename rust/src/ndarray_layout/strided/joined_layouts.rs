@@ -4,6 +4,61 @@
 use crate::nd_base::Order;
 use crate::nd_shape::goes_on;
 
+/// The strides of layouts of one shape.
+pub(super) trait LayoutStrides {
+    /// The stride of an axis in the layout of a number.
+    ///
+    /// <details><summary>Contract (proved)</summary>
+    ///
+    /// ```text
+    /// requires axis < length (strides self.now number)
+    /// ensures result ≡ slice_index (strides self.now number) axis
+    /// ```
+    /// [How to read it](crate::contracts)
+    /// </details>
+    fn stride(&self, number: usize, axis: usize) -> usize;
+}
+
+/// The item of an axis.
+///
+/// <details><summary>Contract (proved)</summary>
+///
+/// ```text
+/// requires axis < length items.now
+/// ensures result ≡ slice_index items.now axis
+/// ```
+/// [How to read it](crate::contracts)
+/// </details>
+#[inline(always)]
+fn item_of(items: &[usize], axis: usize) -> usize {
+    items[axis]
+}
+
+/// The strides of each layout in a list of its own.
+pub(super) struct InLists<'a> {
+    pub(super) lists: &'a [&'a [usize]],
+}
+
+impl<'a> LayoutStrides for InLists<'a> {
+    #[inline(always)]
+    fn stride(&self, number: usize, axis: usize) -> usize {
+        item_of(self.lists[number], axis)
+    }
+}
+
+/// The strides of so many axes in one layout after another.
+struct InOneList<'a> {
+    strides: &'a [usize],
+    ndim: usize,
+}
+
+impl<'a> LayoutStrides for InOneList<'a> {
+    #[inline(always)]
+    fn stride(&self, number: usize, axis: usize) -> usize {
+        self.strides[number * self.ndim + axis]
+    }
+}
+
 /// The axis that moves fastest after so many others.
 ///
 /// <details><summary>Contract (proved)</summary>
@@ -30,21 +85,20 @@ fn next_axis(order: Order, ndim: usize, count: usize) -> usize {
 /// ```text
 /// requires long: 1 < len
 /// requires small: len ≤ limit
-/// requires counts: length strides.now ≡ ndim * length joined.now
-/// requires exists: axis < ndim
+/// requires exists: (number : ℕ) → number < length joined.now → axis < length (L.strides layouts.now number)
 /// requires fits: (number : ℕ) → number < length joined.now →
-///     magnitude (signed_reading (slice_index strides.now (number * ndim + axis)))
+///     magnitude (signed_reading (slice_index (L.strides layouts.now number) axis))
 ///     + reach len (signed_reading (slice_index joined.now number)) ≤ limit
 /// ensures IsTrue result ↔ ((number : ℕ) → number < length joined.now →
-///     signed_reading (slice_index strides.now (number * ndim + axis))
+///     signed_reading (slice_index (L.strides layouts.now number) axis)
 ///     ≡ pos len *ℤ signed_reading (slice_index joined.now number))
 /// ```
 /// [How to read it](crate::contracts)
 /// </details>
-#[inline]
-fn all_go_on(strides: &[usize], ndim: usize, axis: usize, len: usize, joined: &[usize]) -> bool {
+#[inline(always)]
+fn all_go_on<L: LayoutStrides>(layouts: &L, axis: usize, len: usize, joined: &[usize]) -> bool {
     for number in 0..joined.len() {
-        if !goes_on(strides[number * ndim + axis], len, joined[number]) {
+        if !goes_on(layouts.stride(number, axis), len, joined[number]) {
             return false;
         }
     }
@@ -56,19 +110,59 @@ fn all_go_on(strides: &[usize], ndim: usize, axis: usize, len: usize, joined: &[
 /// <details><summary>Contract (proved)</summary>
 ///
 /// ```text
-/// requires counts: length strides.now ≡ ndim * length joined.old
-/// requires exists: axis < ndim
+/// requires (number : ℕ) → number < length joined.old → axis < length (L.strides layouts.now number)
 /// ensures len: length joined.new ≡ length joined.old
 /// ensures strides: (number : ℕ) → number < length joined.old →
-///     slice_index joined.new number ≡ slice_index strides.now (number * ndim + axis)
+///     slice_index joined.new number ≡ slice_index (L.strides layouts.now number) axis
 /// ```
 /// [How to read it](crate::contracts)
 /// </details>
-#[inline]
-fn begin_along(joined: &mut [usize], strides: &[usize], ndim: usize, axis: usize) {
+#[inline(always)]
+fn begin_along<L: LayoutStrides>(joined: &mut [usize], layouts: &L, axis: usize) {
     for number in 0..joined.len() {
-        joined[number] = strides[number * ndim + axis];
+        joined[number] = layouts.stride(number, axis);
     }
+}
+
+/// How many of the axes that move fastest are one in each of several layouts of a shape, and its length; writes its stride in
+/// each layout into `joined`.
+///
+/// An axis is joined where it goes on in all layouts where the faster ones end; one of length 1 joins any.
+///
+/// <details><summary>Contract (proved)</summary>
+///
+/// ```text
+/// requires some: 0 < length joined.old
+/// requires valid: (number : ℕ) → number < length joined.old →
+///     IsValidLayout lens.now (all_signed (L.strides layouts.now number))
+/// ensures count: result.0 ≤ length lens.now
+/// ensures written: length joined.new ≡ length joined.old
+/// ensures joined: AreJoinedBy order lens.now (L.strides layouts.now) result.0 result.1 joined.new
+/// ensures longest: NoMoreJoinBy order lens.now (L.strides layouts.now) result.0 result.1 joined.new
+/// ```
+/// [How to read it](crate::contracts)
+/// </details>
+#[inline(always)]
+pub(super) fn joined_in_each<L: LayoutStrides>(
+    order: Order,
+    lens: &[usize],
+    layouts: &L,
+    joined: &mut [usize],
+) -> (usize, usize) {
+    let ndim = lens.len();
+    let mut len = 1;
+    for count in 0..ndim {
+        let axis = next_axis(order, ndim, count);
+        if len > 1 {
+            if lens[axis] > 1 && !all_go_on(layouts, axis, len, joined) {
+                return (count, len);
+            }
+        } else {
+            begin_along(joined, layouts, axis);
+        }
+        len *= lens[axis];
+    }
+    (ndim, len)
 }
 
 /// How many of the axes that move fastest are one in each of several layouts of a shape, and its length; writes its stride in
@@ -119,18 +213,6 @@ fn begin_along(joined: &mut [usize], strides: &[usize], ndim: usize, axis: usize
 #[inline]
 #[must_use]
 pub fn joined_in_all(order: Order, lens: &[usize], strides: &[usize], joined: &mut [usize]) -> (usize, usize) {
-    let ndim = lens.len();
-    let mut len = 1;
-    for count in 0..ndim {
-        let axis = next_axis(order, ndim, count);
-        if len > 1 {
-            if lens[axis] > 1 && !all_go_on(strides, ndim, axis, len, joined) {
-                return (count, len);
-            }
-        } else {
-            begin_along(joined, strides, ndim, axis);
-        }
-        len *= lens[axis];
-    }
-    (ndim, len)
+    let layouts = InOneList { strides, ndim: lens.len() };
+    joined_in_each(order, lens, &layouts, joined)
 }

@@ -2,8 +2,8 @@
 //! The rows of a view one after another, without a list of them.
 
 use crate::nd_base::{Lengths, Order, signed};
-use crate::nd_shape::goes_on;
 use crate::ndarray_layout::strided::Strided;
+use crate::ndarray_layout::strided::joined_layouts::{InLists, joined_in_each};
 use crate::ndarray_layout::strided::rows_of::RowsOf;
 use crate::ndarray_layout::strided::slower_axes::LentAxes;
 
@@ -70,6 +70,52 @@ pub(super) fn fastest_axis<'a>(order: Order, lens: &'a [usize], strides: &'a [us
     }
 }
 
+/// The items of the axes that move slower than so many others.
+///
+/// <details><summary>Contract (proved)</summary>
+///
+/// ```text
+/// requires count ≤ length items.now
+/// ensures result.now ≡ slower_than order count items.now
+/// ```
+/// [How to read it](crate::contracts)
+/// </details>
+// (by `get`: without a test that could panic, a caller of the length and the stride alone has none of this)
+#[inline(always)]
+fn without_fastest(order: Order, items: &[usize], count: usize) -> &[usize] {
+    match order {
+        Order::RowMajor => items.get(..items.len() - count).unwrap_or(&[]),
+        Order::ColumnMajor => items.get(count..).unwrap_or(&[]),
+    }
+}
+
+/// So many of the axes of a layout that move fastest as one, of this length and stride, and those that move slower.
+///
+/// <details><summary>Contract (proved)</summary>
+///
+/// ```text
+/// requires few: joined.0 ≤ length lens.now
+/// requires counts: length lens.now ≡ length strides.now
+/// ensures IsOneAxis order lens.now strides.now joined.0 joined.1 stride result
+/// ```
+/// [How to read it](crate::contracts)
+/// </details>
+#[inline]
+pub(super) fn as_one_axis<'a>(
+    order: Order,
+    lens: &'a [usize],
+    strides: &'a [usize],
+    joined: (usize, usize),
+    stride: usize,
+) -> Fastest<'a> {
+    Fastest {
+        len: joined.1,
+        stride,
+        lens: without_fastest(order, lens, joined.0),
+        strides: without_fastest(order, strides, joined.0),
+    }
+}
+
 /// The axis that moves fastest, joined with each slower one that goes on where it ends: the places of the layout are those
 /// along it, from each place of the axes that are left. An axis of length 1 joins any.
 ///
@@ -78,24 +124,15 @@ pub(super) fn fastest_axis<'a>(order: Order, lens: &'a [usize], strides: &'a [us
 /// ```text
 /// requires IsValidLayout lens.now (all_signed strides.now)
 /// ensures places: HasPlaces order lens.now strides.now result
-/// ensures joined: NoneGoesOn order result
+/// ensures longest: NoLongerRow order lens.now strides.now result.len
 /// ```
 /// [How to read it](crate::contracts)
 /// </details>
-#[inline]
+#[inline(always)]
 pub(super) fn joined_axis<'a>(order: Order, lens: &'a [usize], strides: &'a [usize]) -> Fastest<'a> {
-    let mut axis = Fastest { len: 1, stride: 0, lens, strides };
-    'axes: while let Some(next) = split_fastest(order, axis.lens, axis.strides) {
-        let mut stride = next.stride;
-        if axis.len > 1 {
-            if next.len > 1 && !goes_on(next.stride, axis.len, axis.stride) {
-                return axis;
-            }
-            stride = axis.stride;
-        }
-        axis = Fastest { len: next.len * axis.len, stride, lens: next.lens, strides: next.strides };
-    }
-    axis
+    let mut stride = [0];
+    let joined = joined_in_each(order, lens, &InLists { lists: &[strides] }, &mut stride);
+    as_one_axis(order, lens, strides, joined, stride[0])
 }
 
 /// The rows of a view that are still to come, in an order, from both ends: what `rows` returns.

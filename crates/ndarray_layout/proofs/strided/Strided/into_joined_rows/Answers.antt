@@ -1,5 +1,5 @@
 -- At first all rows along the joined axis are left.
-use Rattle.std.proofs.Common.{rules, ◌≡◌, ◌<◌, ◌≤◌, FitsSigned, List, cond, nat_eq, length, of_z, to_z, take, sym, ap, subst, ◌∙◌}
+use Rattle.std.proofs.Common.{rules, ◌≡◌, ◌<◌, ◌≤◌, FitsSigned, List, cond, nat_eq, length, of_z, to_z, sym, ap, subst, ◌∙◌}
 use Rattle.std.specs.List.{All}
 use Rattle.std.specs.Int.{w64}
 use Rattle.std.specs.Iterator.{YieldsFirst}
@@ -8,10 +8,10 @@ use Rattle.std.proofs.lemmas.Int.{to_z-of_z}
 use Rattle.nd_base.proofs.Laws.Definitions.{signed, size}
 use Rattle.ndarray_layout.specs.declared.strided.rows.Row.{Row}
 use Rattle.ndarray_layout.specs.NumberedRows.{rows_between}
-use Rattle.ndarray_layout.specs.Rows.{rows_places, view_rows}
+use Rattle.ndarray_layout.specs.Rows.{BeginsAsRow, rows_places, view_rows}
 use Rattle.ndarray_layout.specs.RowsLeft.{axis_view}
 use Rattle.ndarray_layout.specs.View.{IsView, view_of, view_places}
-use Rattle.ndarray_layout.proofs.LongestRow.{as_long, longest}
+use Rattle.ndarray_layout.proofs.LongestRow.{as_long}
 use Rattle.ndarray_layout.proofs.NumberedRows.{few_axes, few_of_view, is_slower_view, rows_of_view}
 use Rattle.ndarray_layout.proofs.Laws.Rows.{rows_places-view_rows, some_in_each_row}
 use Rattle.ndarray_layout.proofs.strided.Strided.into_joined_rows.Goals as goal
@@ -111,9 +111,9 @@ returns-clause-longest g c =
     rw c.new.ensures (rows_of_view c.args.order start _ _ axis here whole v has.slower_lens has.slower_strides steps) in
     let all = c.along.ensures ∙ of_axis in
     λ other begins.
-    let first = ap (take other.len) (has.places start whole ∙ ap (view_places c.args.order) here) ∙ begins in
+    let first = subst (λ view. BeginsAsRow (view_places c.args.order view) other) (sym here) begins in
     subst (All (λ row. other.len ≤ row.len)) (sym all) (as_long c.args.order axis start other.len
-    (longest c.args.order start axis v other first c.joined_axis-axis.ensures.joined))
+    (c.joined_axis-axis.ensures.longest start other whole first))
 
 pub returns-clause-in_order : goal.returns-clause-in_order
 returns-clause-in_order g c =

@@ -1,8 +1,8 @@
-use Rattle.std.proofs.Common.{◌<◌, ◌≤◌, sym, ap, subst, take, ◌∙◌}
+use Rattle.std.proofs.Common.{◌<◌, ◌≤◌, sym, ap, subst, ◌∙◌}
 use Rattle.std.specs.List.{All}
 use Rattle.ndarray_layout.specs.Rows.{rows_places}
 use Rattle.ndarray_layout.specs.RowsLeft.{axis_view}
-use Rattle.ndarray_layout.proofs.LongestRow.{as_long, longest}
+use Rattle.ndarray_layout.proofs.LongestRow.{as_long}
 use Rattle.ndarray_layout.proofs.Laws.Rows.{rows_places-view_rows, some_in_each_row}
 use Rattle.ndarray_layout.proofs.strided.rows.Rows.of_places.Goals as goal
 
@@ -21,12 +21,5 @@ returns-clause-some c = subst (All (λ row. 0 < row.len)) (sym c.along_axis.ensu
     (some_in_each_row c.args.order (axis_view c.args.order c.args.start c.joined_axis.result))
 
 pub returns-clause-longest : goal.returns-clause-longest
-returns-clause-longest c =
-    let axis = c.joined_axis.result in
-    let order = c.args.order in
-    let has = c.joined_axis.ensures.places in
-    let v = has.is_view c.args.start c.requires in
-    λ other begins.
-    let here = ap (take other.len) (has.places c.args.start c.requires) ∙ begins in
-    subst (All (λ row. other.len ≤ row.len)) (sym c.along_axis.ensures)
-    (as_long order axis c.args.start other.len (longest order c.args.start axis v other here c.joined_axis.ensures.joined))
+returns-clause-longest c = λ other begins. subst (All (λ row. other.len ≤ row.len)) (sym c.along_axis.ensures)
+    (as_long c.args.order c.joined_axis.result c.args.start other.len (c.joined_axis.ensures.longest c.args.start other c.requires begins))
