@@ -1,2 +1,4 @@
 pub mod Copied
+pub mod IndexRow
+pub mod Indexed
 pub mod Laws

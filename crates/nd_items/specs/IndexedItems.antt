@@ -11,14 +11,6 @@ use Rattle.nd_access.specs.Items.{ArrayValue, item_at}
 abbrev pub indexed_items : {T : Type 0} → ArrayValue T → List (List ℕ × Option T)
 indexed_items array = map (λ index. (index, item_at array index)) (indices_in RowMajor array.view.shape)
 
--- the last items of an array of a shape, each with its index: as many of the shape's indices, from the back
-abbrev pub last_indexed : {T : Type 0} → List ℕ → List (Option T) → List (List ℕ × Option T)
-last_indexed shape items = zip (indices_left RowMajor shape (length items)) items
-
--- where an iterator over indices stands has one proof at most, so it may be a ghost field
-pub StandsAt-prop : (order : Order) (shape : List ℕ) (n : ℕ) (index : List ℕ) → IsProp (StandsAt order shape n index)
-StandsAt-prop order shape n index = Prim.hlevel props
-
 -- examples
 abbrev two_columns : ArrayValue ℕ
 two_columns = record { items = 5 ∷ 6 ∷ 7 ∷ 8 ∷ []; view = record { start = 0; shape = 2 ∷ 2 ∷ []; strides = pos 1 ∷ pos 2 ∷ [] } }
@@ -26,12 +18,6 @@ two_columns = record { items = 5 ∷ 6 ∷ 7 ∷ 8 ∷ []; view = record { start
 each_at_its_index : indexed_items two_columns
     ≡ (0 ∷ 0 ∷ [], Some 5) ∷ (0 ∷ 1 ∷ [], Some 7) ∷ (1 ∷ 0 ∷ [], Some 6) ∷ (1 ∷ 1 ∷ [], Some 8) ∷ []
 each_at_its_index = refl
-
-last_two : last_indexed {T = ℕ} (2 ∷ 2 ∷ []) (Some 6 ∷ Some 8 ∷ []) ≡ (1 ∷ 0 ∷ [], Some 6) ∷ (1 ∷ 1 ∷ [], Some 8) ∷ []
-last_two = refl
-
-none_left : last_indexed {T = ℕ} (2 ∷ 2 ∷ []) [] ≡ []
-none_left = refl
 
 abbrev no_columns : ArrayValue ℕ
 no_columns = record { items = 5 ∷ []; view = record { start = 0; shape = 2 ∷ 0 ∷ []; strides = pos 1 ∷ pos 1 ∷ [] } }

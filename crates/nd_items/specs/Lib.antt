@@ -1,3 +1,4 @@
 pub mod IndexedItems
 pub mod IndexedLeft
 pub mod ItemsLeft
+pub mod private

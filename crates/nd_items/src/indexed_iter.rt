@@ -1,13 +1,11 @@
 //! The items of an array with their indices one after another, lent for as long as the data is.
 ghost use Rattle.std.specs.List.{All};
-ghost use Rattle.std.specs.Prelude.{◌≡◌, IfErr, IfOk, IsOk, MatchOption, Some, [], ◌∷◌, length};
+ghost use Rattle.std.specs.Prelude.{◌≡◌, IfErr, IfOk, IsOk, MatchOption, Some, [], ◌∷◌, length, zip};
 ghost use Rattle.ndarray_layout.specs.Memory.{NeedsNoMemory};
-ghost use Rattle.ndarray_layout.specs.declared.Order.TheVariants.{RowMajor};
-ghost use Rattle.ndarray_layout.specs.IndicesLeft.{StandsAt};
-ghost use Rattle.nd_items.specs.IndexedItems.{last_indexed};
 
+use crate::next_index::NextIndex;
 use crate::view_iter::ViewIter;
-use ndarray_layout::{Dimension, Lengths, advance_row_major};
+use ndarray_layout::{Dimension, Lengths};
 use std::alloc::{AllocError, Global};
 use std::marker::Model;
 
@@ -16,33 +14,28 @@ use std::marker::Model;
 #[derive(Drop)]
 pub struct IndexedIter<'a, T, D: Lengths> {
     items: ViewIter<'a, T, D>,
-    dim: D,
-    // The index of the item that comes next, where one is left.
-    index: D,
+    index: NextIndex<D>,
 }
 
 impl<'a, T, D: Lengths> Model for IndexedIter<'a, T, D> {
-    ghost use Rattle.std.specs.Prelude.{ℕ, List, Option, length};
-    ghost use Rattle.ndarray_layout.specs.declared.Order.TheVariants.{RowMajor};
-    ghost use Rattle.ndarray_layout.specs.IndicesLeft.{StandsAt};
-    ghost use Rattle.nd_items.specs.IndexedItems.{last_indexed};
+    ghost use Rattle.std.specs.Prelude.{◌≡◌, ℕ, List, Option, length, zip};
 
     ghost Value = { List (List ℕ × Option T) };
 
-    ghost view = { λ left. last_indexed (D.list left.dim) left.items };
+    ghost view = { λ left. zip left.index left.items };
 
-    ghost invariant = { λ left. StandsAt RowMajor (D.list left.dim) (length left.items) (D.list left.index) };
+    ghost invariant = { λ left. length left.index ≡ length left.items };
 }
 
 impl<'a, T, D: Lengths> IndexedIter<'a, T, D> {
-    /// These items, with their indices in the shape. The caller ensures that the index is that of the first of them.
+    /// These items, with these indices. The caller ensures that they are as many.
     #[doc(hidden)]
     #[inline]
-    pub fn of_items(items: ViewIter<'a, T, D>, dim: D, index: D) -> Self
-        requires { StandsAt RowMajor (D.list dim) (length items) (D.list index) }
-        ensures { result ≡ last_indexed (D.list dim) items.entry }
+    pub fn of_items(items: ViewIter<'a, T, D>, index: NextIndex<D>) -> Self
+        requires { length index ≡ length items }
+        ensures { result ≡ zip index items.entry }
     {
-        IndexedIter { items, dim, index }
+        IndexedIter { items, index }
     }
 
     /// How many items are left.
@@ -55,15 +48,15 @@ impl<'a, T, D: Lengths> IndexedIter<'a, T, D> {
         self.items.len()
     }
 
-    /// The items that are left, the shape, and the index of the first item, where there is one. For a `fold` row by row.
+    /// The items that are left, and their indices. For a `fold` row by row.
     #[inline]
     #[doc(hidden)]
-    pub fn into_items_at(self) -> (ViewIter<'a, T, D>, D, D)
-        ensures items { last_indexed (D.list result.1) result.0 ≡ self.entry }
-        ensures index { StandsAt RowMajor (D.list result.1) (length result.0) (D.list result.2) }
+    pub fn into_items_at(self) -> (ViewIter<'a, T, D>, NextIndex<D>)
+        ensures items { zip result.1 result.0 ≡ self.entry }
+        ensures count { length result.1 ≡ length result.0 }
     {
-        let IndexedIter { items, dim, index } = self;
-        (items, dim, index)
+        let IndexedIter { items, index } = self;
+        (items, index)
     }
 }
 
@@ -86,16 +79,12 @@ impl<'a, T, D: Dimension> IndexedIter<'a, T, D> {
             ((self.old ≡ []) × (self.new ≡ []))
             (λ pair. self.old ≡ (D.Pattern.lens pair.0, Some pair.1.now) ∷ self.new)) }
     {
-        let index = match self.index.duplicate(alloc) {
-            Ok(index) => index,
-            // (where none is left, none is needed)
-            Err(_) if self.items.len() == 0 => return Ok(None),
-            Err(fault) => return Err(fault),
-        };
-        let Some(item) = self.items.next() else {
+        let Some(index) = self.index.take(alloc)? else {
             return Ok(None);
         };
-        let _has_next = advance_row_major(self.dim.slice(), self.index.slice_mut());
-        Ok(Some((index.into_pattern(), item)))
+        match self.items.next() {
+            Some(item) => Ok(Some((index.into_pattern(), item))),
+            None => Ok(None),
+        }
     }
 }

@@ -3,7 +3,6 @@
 
 use crate::ArrayView;
 use crate::convenience::{OUT_OF_MEMORY, printed};
-use crate::lent::nd_items::take_index;
 use crate::nd_base::{Axis, ErrorKind, LayoutError, from_kind};
 use crate::nd_dim::Dimension;
 use crate::nd_lent::{ArrayViewMut, Arrays, IndexedIter, IndexedIterMut, Parts, Views};

@@ -66,9 +66,9 @@ macro_rules! fold_indexed {
         /// What a loop over `next` returns, row by row. Not proved.
         #[inline]
         fn fold<B, F: FnMut(B, Self::Item) -> B>(self, init: B, mut f: F) -> B {
-            let (items, dim, mut next) = self.into_items_at();
+            let (items, mut indices) = self.into_items_at();
             items.fold(init, |total, item| {
-                let index = take_index(&dim, &mut next).expect(OUT_OF_MEMORY);
+                let index = indices.take().ok().flatten().expect(OUT_OF_MEMORY);
                 f(total, (index.into_pattern(), item))
             })
         }

@@ -11,7 +11,7 @@ ghost use Rattle.ndarray_layout.specs.View.{view_places};
 ghost use Rattle.ndarray_layout.specs.declared.Order.TheVariants.{RowMajor};
 
 use crate::array_view::ArrayView;
-use nd_items::{IndexedIter, Iter, ViewIter};
+use nd_items::{IndexedIter, Iter, NextIndex, ViewIter};
 use ndarray_layout::{Lengths, Order};
 use std::alloc::{AllocError, Global};
 
@@ -73,8 +73,7 @@ impl<'a, T, D: Lengths> ArrayView<'a, T, D> {
         ensures items { IfOk result (λ left. left ≡ indexed_items self.entry) }
         ensures memory { NeedsNoMemory D.NDIM (length self.entry.view.shape) → IsOk result }
     {
-        let dim = self.dim().duplicate(alloc)?;
-        let index = D::zeros(alloc, dim.ndim())?;
-        Ok(IndexedIter::of_items(self.into_iter(), dim, index))
+        let index = NextIndex::first(alloc, self.dim(), self.len())?;
+        Ok(IndexedIter::of_items(self.into_iter(), index))
     }
 }

@@ -8,7 +8,7 @@ ghost use Rattle.ndarray_layout.specs.View.{view_places};
 ghost use Rattle.ndarray_layout.specs.declared.Order.TheVariants.{RowMajor};
 
 use crate::array_view_mut::ArrayViewMut;
-use nd_items::{IndexedIterMut, IterMut};
+use nd_items::{IndexedIterMut, IterMut, NextIndex};
 use ndarray_layout::{Ix1, Lengths};
 use std::alloc::{AllocError, Global};
 
@@ -91,12 +91,11 @@ impl<'a, T: Drop, D: Lengths> ArrayViewMut<'a, T, D> {
     ///
     /// The transpose of `[2,2]` over 5 6 7 8: 5 at (0, 0), 7 at (0, 1), 6 at (1, 0), 8 at (1, 1). ndarray's `indexed_iter_mut`.
     pub fn into_indexed_items(self, alloc: Global) -> Result<IndexedIterMut<'a, T, D>, AllocError>
-        ensures items { IfOk result (λ left. indexed_left D.list left ≡ indexed_items (array_of self.entry)) }
+        ensures items { IfOk result (λ left. indexed_left left ≡ indexed_items (array_of self.entry)) }
         ensures keeps_access { IfOk result (λ left. access_left left.items ≡ access_of self.entry) }
         ensures memory { NeedsNoMemory D.NDIM (length (array_of self.entry).view.shape) → IsOk result }
     {
-        let dim = self.dim().duplicate(alloc)?;
-        let index = D::zeros(alloc, dim.ndim())?;
-        Ok(IndexedIterMut::of_items(self.into_items(), dim, index))
+        let index = NextIndex::first(alloc, self.dim(), self.len())?;
+        Ok(IndexedIterMut::of_items(self.into_items(), index))
     }
 }

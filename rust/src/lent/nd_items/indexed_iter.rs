@@ -1,37 +1,36 @@
 // Made by `rust/erase` of `crates/nd_items/src/indexed_iter.rt`: edit that.
 //! The items of an array with their indices one after another, lent for as long as the data is.
 
+use crate::lent::nd_items::next_index::NextIndex;
 use crate::lent::nd_items::view_iter::ViewIter;
 use crate::memory::AllocError;
-use crate::ndarray_layout::{Dimension, Lengths, advance_row_major};
+use crate::ndarray_layout::{Dimension, Lengths};
 
 /// The items of an array that are still to come, each with its index, in row-major order, lent for as long as the data
 /// is. ndarray's `IndexedIter`.
 pub struct IndexedIter<'a, T, D: Lengths> {
     items: ViewIter<'a, T, D>,
-    dim: D,
-    // The index of the item that comes next, where one is left.
-    index: D,
+    index: NextIndex<D>,
 }
 
 impl<'a, T, D: Lengths> IndexedIter<'a, T, D> {
-    /// These items, with their indices in the shape.
+    /// These items, with these indices.
     ///
     /// # Conditions
     ///
-    /// The caller ensures that the index is that of the first of them. Otherwise the behaviour is undefined.
+    /// The caller ensures that they are as many. Otherwise the behaviour is undefined.
     ///
     /// <details><summary>Contract (proved)</summary>
     ///
     /// ```text
-    /// requires StandsAt RowMajor (D.list dim) (length items) (D.list index)
-    /// ensures result ≡ last_indexed (D.list dim) items.entry
+    /// requires length index ≡ length items
+    /// ensures result ≡ zip index items.entry
     /// ```
     /// [How to read it](crate::contracts)
     /// </details>
     #[inline]
-    pub(in crate::lent) fn of_items(items: ViewIter<'a, T, D>, dim: D, index: D) -> Self {
-        IndexedIter { items, dim, index }
+    pub(in crate::lent) fn of_items(items: ViewIter<'a, T, D>, index: NextIndex<D>) -> Self {
+        IndexedIter { items, index }
     }
 
     /// How many items are left.
@@ -64,20 +63,20 @@ impl<'a, T, D: Lengths> IndexedIter<'a, T, D> {
         self.items.len()
     }
 
-    /// The items that are left, the shape, and the index of the first item, where there is one. For a `fold` row by row.
+    /// The items that are left, and their indices. For a `fold` row by row.
     ///
     /// <details><summary>Contract (proved)</summary>
     ///
     /// ```text
-    /// ensures items: last_indexed (D.list result.1) result.0 ≡ self.entry
-    /// ensures index: StandsAt RowMajor (D.list result.1) (length result.0) (D.list result.2)
+    /// ensures items: zip result.1 result.0 ≡ self.entry
+    /// ensures count: length result.1 ≡ length result.0
     /// ```
     /// [How to read it](crate::contracts)
     /// </details>
     #[inline]
-    pub(crate) fn into_items_at(self) -> (ViewIter<'a, T, D>, D, D) {
-        let IndexedIter { items, dim, index } = self;
-        (items, dim, index)
+    pub(crate) fn into_items_at(self) -> (ViewIter<'a, T, D>, NextIndex<D>) {
+        let IndexedIter { items, index } = self;
+        (items, index)
     }
 }
 
@@ -122,16 +121,12 @@ impl<'a, T, D: Dimension> IndexedIter<'a, T, D> {
     /// </details>
     #[inline(always)]
     pub fn try_next(&mut self) -> Result<Option<(D::Pattern, &'a T)>, AllocError> {
-        let index = match self.index.duplicate() {
-            Ok(index) => index,
-            // (where none is left, none is needed)
-            Err(_) if self.items.len() == 0 => return Ok(None),
-            Err(fault) => return Err(fault),
-        };
-        let Some(item) = self.items.next() else {
+        let Some(index) = self.index.take()? else {
             return Ok(None);
         };
-        let _has_next = advance_row_major(self.dim.slice(), self.index.slice_mut());
-        Ok(Some((index.into_pattern(), item)))
+        match self.items.next() {
+            Some(item) => Ok(Some((index.into_pattern(), item))),
+            None => Ok(None),
+        }
     }
 }

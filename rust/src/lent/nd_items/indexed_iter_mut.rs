@@ -2,37 +2,36 @@
 //! The items of a part with their indices one after another, each lent to be written.
 
 use crate::lent::nd_items::items::IterMut;
+use crate::lent::nd_items::next_index::NextIndex;
 use crate::memory::AllocError;
-use crate::ndarray_layout::{Dimension, Lengths, advance_row_major};
+use crate::ndarray_layout::{Dimension, Lengths};
 
 /// The items of a part that are still to come, each with its index, in row-major order, lent to be written. ndarray's
 /// `IndexedIterMut`.
 pub struct IndexedIterMut<'a, T, D: Lengths> {
     items: IterMut<'a, T, D>,
-    dim: D,
-    // The index of the item that comes next, where one is left.
-    index: D,
+    index: NextIndex<D>,
 }
 
 impl<'a, T, D: Lengths> IndexedIterMut<'a, T, D> {
-    /// These items, with their indices in the shape.
+    /// These items, with these indices.
     ///
     /// # Conditions
     ///
-    /// The caller ensures that the index is that of the first of them. Otherwise the behaviour is undefined.
+    /// The caller ensures that they are as many. Otherwise the behaviour is undefined.
     ///
     /// <details><summary>Contract (proved)</summary>
     ///
     /// ```text
-    /// requires StandsAt RowMajor (D.list dim) (length (items_left items)) (D.list index)
-    /// ensures items: indexed_left D.list result ≡ last_indexed (D.list dim) (items_left items.entry)
+    /// requires length index ≡ length (items_left items)
+    /// ensures items: indexed_left result ≡ zip index (items_left items.entry)
     /// ensures keeps_access: access_left result.items ≡ access_left items.entry
     /// ```
     /// [How to read it](crate::contracts)
     /// </details>
     #[inline]
-    pub(in crate::lent) fn of_items(items: IterMut<'a, T, D>, dim: D, index: D) -> Self {
-        IndexedIterMut { items, dim, index }
+    pub(in crate::lent) fn of_items(items: IterMut<'a, T, D>, index: NextIndex<D>) -> Self {
+        IndexedIterMut { items, index }
     }
 
     /// How many items are left.
@@ -55,7 +54,7 @@ impl<'a, T, D: Lengths> IndexedIterMut<'a, T, D> {
     /// <details><summary>Contract (proved)</summary>
     ///
     /// ```text
-    /// ensures result ≡ length (indexed_left D.list self.now)
+    /// ensures result ≡ length (indexed_left self.now)
     /// ```
     /// [How to read it](crate::contracts)
     /// </details>
@@ -65,20 +64,20 @@ impl<'a, T, D: Lengths> IndexedIterMut<'a, T, D> {
         self.items.len()
     }
 
-    /// The items that are left, the shape, and the index of the first item, where there is one. For a `fold` row by row.
+    /// The items that are left, and their indices. For a `fold` row by row.
     ///
     /// <details><summary>Contract (proved)</summary>
     ///
     /// ```text
-    /// ensures items: last_indexed (D.list result.1) (items_left result.0) ≡ indexed_left D.list self.entry
-    /// ensures index: StandsAt RowMajor (D.list result.1) (length (items_left result.0)) (D.list result.2)
+    /// ensures items: zip result.1 (items_left result.0) ≡ indexed_left self.entry
+    /// ensures count: length result.1 ≡ length (items_left result.0)
     /// ```
     /// [How to read it](crate::contracts)
     /// </details>
     #[inline]
-    pub(crate) fn into_items_at(self) -> (IterMut<'a, T, D>, D, D) {
-        let IndexedIterMut { items, dim, index } = self;
-        (items, dim, index)
+    pub(crate) fn into_items_at(self) -> (IterMut<'a, T, D>, NextIndex<D>) {
+        let IndexedIterMut { items, index } = self;
+        (items, index)
     }
 }
 
@@ -113,29 +112,24 @@ impl<'a, T, D: Dimension> IndexedIterMut<'a, T, D> {
     /// <details><summary>Contract (proved)</summary>
     ///
     /// ```text
-    /// ensures memory: All (λ pair. NeedsNoMemory D.FixedCount.NDIM (length pair.0)) (indexed_left D.list self.old) →
+    /// ensures memory: All (λ pair. NeedsNoMemory D.FixedCount.NDIM (length pair.0)) (indexed_left self.old) →
     ///     IsOk result
-    /// ensures unchanged: IfErr result (λ _. indexed_left D.list self.new ≡ indexed_left D.list self.old)
+    /// ensures unchanged: IfErr result (λ _. indexed_left self.new ≡ indexed_left self.old)
     /// ensures first: IfOk result (λ next. MatchOption next
-    ///     ((indexed_left D.list self.old ≡ []) × (indexed_left D.list self.new ≡ []))
-    ///     (λ pair. indexed_left D.list self.old ≡
-    ///     (D.Pattern.lens pair.0, Some pair.1.now) ∷ indexed_left D.list self.new))
+    ///     ((indexed_left self.old ≡ []) × (indexed_left self.new ≡ []))
+    ///     (λ pair. indexed_left self.old ≡
+    ///     (D.Pattern.lens pair.0, Some pair.1.now) ∷ indexed_left self.new))
     /// ```
     /// [How to read it](crate::contracts)
     /// </details>
     #[inline(always)]
     pub fn try_next(&mut self) -> Result<Option<(D::Pattern, &'a mut T)>, AllocError> {
-        let index = match self.index.duplicate() {
-            Ok(index) => index,
-            // (after the last item none is needed)
-            Err(fault) => {
-                return if self.items.len() == 0 { Ok(None) } else { Err(fault) };
-            }
-        };
-        let Some(item) = self.items.next() else {
+        let Some(index) = self.index.take()? else {
             return Ok(None);
         };
-        let _has_next = advance_row_major(self.dim.slice(), self.index.slice_mut());
-        Ok(Some((index.into_pattern(), item)))
+        match self.items.next() {
+            Some(item) => Ok(Some((index.into_pattern(), item))),
+            None => Ok(None),
+        }
     }
 }

@@ -31,5 +31,5 @@ pub use indexed_iter_mut::IndexedIterMut;
 pub use into_rows::IntoRows;
 pub use items::IterMut;
 pub use iterating::Iter;
-pub use next_index::take_index;
+pub use next_index::NextIndex;
 pub use view_iter::ViewIter;

@@ -1,7 +1,7 @@
 // Made by `rust/erase` of `crates/nd_lent/src/array_view/items.rt`: edit that.
 //! The items of an array one after another, with or without their indices, each lent, without a list of them.
 
-use crate::lent::nd_items::{IndexedIter, Iter, ViewIter};
+use crate::lent::nd_items::{IndexedIter, Iter, NextIndex, ViewIter};
 use crate::lent::nd_lent::array_view::ArrayView;
 use crate::memory::AllocError;
 use crate::memory::prelude::Vec;
@@ -100,8 +100,7 @@ impl<'a, T, D: Lengths> ArrayView<'a, T, D> {
     /// </details>
     #[inline]
     pub fn into_indexed_iter(self) -> Result<IndexedIter<'a, T, D>, AllocError> {
-        let dim = self.dim().duplicate()?;
-        let index = D::zeros(dim.ndim())?;
-        Ok(IndexedIter::of_items(self.into_iter(), dim, index))
+        let index = NextIndex::first(self.dim(), self.len())?;
+        Ok(IndexedIter::of_items(self.into_iter(), index))
     }
 }

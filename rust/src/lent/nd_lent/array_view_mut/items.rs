@@ -1,7 +1,7 @@
 // Made by `rust/erase` of `crates/nd_lent/src/array_view_mut/items.rt`: edit that.
 //! The items of a part one after another, with or without their indices, each lent to be written, without a list of them.
 
-use crate::lent::nd_items::{IndexedIterMut, IterMut};
+use crate::lent::nd_items::{IndexedIterMut, IterMut, NextIndex};
 use crate::lent::nd_lent::array_view_mut::ArrayViewMut;
 use crate::memory::AllocError;
 use crate::ndarray_layout::{Ix1, Lengths};
@@ -130,7 +130,7 @@ impl<'a, T: Sized, D: Lengths> ArrayViewMut<'a, T, D> {
     /// <details><summary>Contract (proved)</summary>
     ///
     /// ```text
-    /// ensures items: IfOk result (λ left. indexed_left D.list left ≡ indexed_items (array_of self.entry))
+    /// ensures items: IfOk result (λ left. indexed_left left ≡ indexed_items (array_of self.entry))
     /// ensures keeps_access: IfOk result (λ left. access_left left.items ≡ access_of self.entry)
     /// ensures memory: NeedsNoMemory D.NDIM (length (array_of self.entry).view.shape) → IsOk result
     /// ```
@@ -138,8 +138,7 @@ impl<'a, T: Sized, D: Lengths> ArrayViewMut<'a, T, D> {
     /// </details>
     #[inline]
     pub fn into_indexed_items(self) -> Result<IndexedIterMut<'a, T, D>, AllocError> {
-        let dim = self.dim().duplicate()?;
-        let index = D::zeros(dim.ndim())?;
-        Ok(IndexedIterMut::of_items(self.into_items(), dim, index))
+        let index = NextIndex::first(self.dim(), self.len())?;
+        Ok(IndexedIterMut::of_items(self.into_items(), index))
     }
 }
