@@ -1,4 +1,5 @@
 pub mod AnyOrder
+pub mod Beside
 pub mod Equal
 pub mod OwnedRows
 pub mod Searched

@@ -1,6 +1,8 @@
 //! Loops over items by their places, row by row: what arrays compute of their items, and what they write over them.
 #![tactic(auto)]
 
+mod beside;
+mod calling;
 mod comparing;
 mod copying;
 mod few;

@@ -1,115 +1,43 @@
 //! Calls of a closure at all items of a part.
 ghost use Rattle.std.specs.Fn.{CalledAtMut};
-ghost use Rattle.std.specs.List.{All};
-ghost use Rattle.std.specs.Prelude.{◌<◌, ◌≡◌, map};
+ghost use Rattle.std.specs.Prelude.{◌≡◌, map};
 ghost use Rattle.ndarray_layout.specs.declared.Order.TheVariants.{RowMajor};
-ghost use Rattle.ndarray_layout.specs.Rows.{row_places, rows_places};
+ghost use Rattle.ndarray_layout.specs.Rows.{rows_places};
 ghost use Rattle.ndarray_layout.specs.View.{view_places};
 ghost use Rattle.nd_loops.specs.AnyOrder.{InAnyOrder};
 ghost use Rattle.nd_access.specs.Items.{item_at_place};
-ghost use Rattle.nd_access.specs.Mapped.{CallableOnEachMut};
+ghost use Rattle.nd_access.specs.Mapped.{CallableOnEachMut, TakesAtMut};
 ghost use Rattle.nd_access.specs.Own.{AreOwn};
 ghost use Rattle.nd_access.specs.Rights.{right_of};
 ghost use Rattle.nd_access.specs.Written.{Maps};
-ghost use Rattle.nd_loops.specs.OwnedRows.{OwnsEachRow, OwnsRow};
-ghost use Rattle.nd_access.specs.MapsTo.{MapsAt, MapsTo};
+ghost use Rattle.nd_loops.specs.OwnedRows.{OwnsEachRow};
+ghost use Rattle.nd_access.specs.MapsTo.{MapsAt};
 
-use crate::few::by_few;
+use crate::calling::call_rows;
 use crate::nearest::nearest_view;
-use nd_access::{Cells, place_in_row};
-use ndarray_layout::{Lengths, Order, Row, Rows, Strided};
-
-/// Calls a closure at the item of each place of a row, one after another, and hands it back.
-#[inline(always)]
-fn map_few<T, F: FnMut(&mut T)>(cells: &mut Cells<'_, T>, row: Row, mut f: F) -> F
-    requires row { OwnsRow cells.old.marks row }
-    requires callable { CallableOnEachMut F.FnMut
-        (map (item_at_place cells.old.items) (row_places row.start row.stride row.len)) f }
-    ensures ran { MapsTo (λ p x y q. CalledAtMut F.FnMut p x tt q y) f (row_places row.start row.stride row.len)
-        (map (item_at_place cells.old.items) (row_places row.start row.stride row.len)) cells.old.items cells.new.items result }
-    ensures keeps_access { right_of cells.new ≡ right_of cells.old }
-{
-    for coordinate in 0..row.len {
-        let place = place_in_row(row, coordinate);
-        f(cells.item_mut(place));
-    }
-    f
-}
-
-/// Calls a closure at the item of each place of a row, one after another, and hands it back.
-// (not `inline(always)`: by a parameter of its own rustc knows that no write changes the pointer, and the loop reads it once)
-fn map_places<T, F: FnMut(&mut T)>(cells: &mut Cells<'_, T>, row: Row, f: F) -> F
-    requires row { OwnsRow cells.old.marks row }
-    requires callable { CallableOnEachMut F.FnMut
-        (map (item_at_place cells.old.items) (row_places row.start row.stride row.len)) f }
-    ensures ran { MapsTo (λ p x y q. CalledAtMut F.FnMut p x tt q y) f (row_places row.start row.stride row.len)
-        (map (item_at_place cells.old.items) (row_places row.start row.stride row.len)) cells.old.items cells.new.items result }
-    ensures keeps_access { right_of cells.new ≡ right_of cells.old }
-{
-    map_few(cells, row, f)
-}
-
-/// Calls a closure at each item of a row, of `FEW` unless that is 0, one after another, and hands it back.
-#[inline(always)]
-fn map_row<const FEW: usize, T, F: FnMut(&mut T)>(cells: &mut Cells<'_, T>, row: Row, f: F) -> F
-    requires few { 0 < FEW → FEW ≡ row.len }
-    requires row { OwnsRow cells.old.marks row }
-    requires callable { CallableOnEachMut F.FnMut
-        (map (item_at_place cells.old.items) (row_places row.start row.stride row.len)) f }
-    ensures ran { MapsTo (λ p x y q. CalledAtMut F.FnMut p x tt q y) f (row_places row.start row.stride row.len)
-        (map (item_at_place cells.old.items) (row_places row.start row.stride row.len)) cells.old.items cells.new.items result }
-    ensures keeps_access { right_of cells.new ≡ right_of cells.old }
-{
-    if FEW > 0 {
-        // (by a length that is known, there is no loop)
-        return map_few(cells, by_few::<FEW>(row), f);
-    }
-    if row.stride == 1 {
-        // (by a stride that is known, the loop is one over a slice)
-        let neighbours = Row {
-            start: row.start,
-            stride: 1,
-            len: row.len,
-        };
-        return map_places(cells, neighbours, f);
-    }
-    map_places(cells, row, f)
-}
-
-/// Calls a closure at each item of these rows, of `FEW` each unless that is 0, one after another.
-#[inline]
-fn map_each<const FEW: usize, T, F: FnMut(&mut T)>(
-    cells: &mut Cells<'_, T>,
-    rows: Rows<'_>,
-    mut f: F,
-)
-    requires few { 0 < FEW → All (λ row. FEW ≡ row.len) rows }
-    requires rows { OwnsEachRow cells.old.marks rows }
-    requires callable { CallableOnEachMut F.FnMut (map (item_at_place cells.old.items) (rows_places rows)) f }
-    ensures ran { Maps (λ p x y q. CalledAtMut F.FnMut p x tt q y) f (rows_places rows.entry)
-        (map (item_at_place cells.old.items) (rows_places rows.entry)) cells.old.items cells.new.items }
-    ensures keeps_access { right_of cells.new ≡ right_of cells.old }
-{
-    for row in rows {
-        f = map_row::<FEW, T, F>(cells, row, f);
-    }
-}
+use nd_access::Cells;
+use ndarray_layout::{Lengths, Order, Rows, Strided};
 
 /// Calls a closure at each item of these rows, one after another.
 #[inline(always)]
-fn map_rows<T, F: FnMut(&mut T)>(cells: &mut Cells<'_, T>, rows: Rows<'_>, f: F)
+fn map_rows<T, F: FnMut(&mut T)>(cells: &mut Cells<'_, T>, rows: Rows<'_>, mut f: F)
     requires rows { OwnsEachRow cells.old.marks rows }
     requires callable { CallableOnEachMut F.FnMut (map (item_at_place cells.old.items) (rows_places rows)) f }
     ensures ran { Maps (λ p x y q. CalledAtMut F.FnMut p x tt q y) f (rows_places rows.entry)
         (map (item_at_place cells.old.items) (rows_places rows.entry)) cells.old.items cells.new.items }
     ensures keeps_access { right_of cells.new ≡ right_of cells.old }
 {
-    match rows.row_len() {
-        2 => map_each::<2, T, F>(cells, rows, f),
-        3 => map_each::<3, T, F>(cells, rows, f),
-        4 => map_each::<4, T, F>(cells, rows, f),
-        _ => map_each::<0, T, F>(cells, rows, f),
-    }
+    call_rows(
+        cells,
+        rows,
+        (),
+        move |stored: &mut T, _nothing: ()|
+            requires { TakesAtMut F.FnMut f stored.old }
+            ensures { CalledAtMut F.FnMut f.entry stored.old tt f.exit stored.new }
+        {
+            f(stored);
+        },
+    );
 }
 
 /// Calls a closure at the item of each index of a view, in row-major order.

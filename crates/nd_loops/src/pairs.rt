@@ -1,125 +1,23 @@
 //! Writes to the items of a part by those of another array, side by side.
 ghost use Rattle.std.specs.List.{All, AllZip};
-ghost use Rattle.std.specs.Prelude.{◌≡◌, ◌<◌, Some, length};
+ghost use Rattle.std.specs.Prelude.{◌≡◌, length};
 ghost use Rattle.ndarray_layout.specs.declared.Order.TheVariants.{RowMajor};
 ghost use Rattle.ndarray_layout.specs.Bounds.{IsInBounds};
 ghost use Rattle.ndarray_layout.specs.Rows.{rows_places};
 ghost use Rattle.ndarray_layout.specs.View.{IsView, view_places};
 ghost use Rattle.nd_loops.specs.AnyOrder.{InAnyOrder};
-ghost use Rattle.nd_access.specs.LentRow.{places_of};
 ghost use Rattle.nd_access.specs.Own.{AreOwn};
 ghost use Rattle.nd_access.specs.Read.{HaveMarks};
 ghost use Rattle.nd_access.specs.Rights.{right_of};
 ghost use Rattle.nd_access.specs.Written.{Maps};
-ghost use Rattle.nd_access.specs.Zipped.{CallableOnEachPair, CalledAtPair};
-ghost use Rattle.nd_access.specs.MapsTo.{MapsTo};
-ghost use Rattle.nd_loops.specs.OwnedRows.{OwnsEachRow, OwnsRow};
-ghost use Rattle.nd_access.specs.Pairs.{ZipsAt, row_pairs, rows_pairs, view_pairs};
+ghost use Rattle.nd_access.specs.Zipped.{CallableOnEachPair, CalledAtPair, TakesPair};
+ghost use Rattle.nd_loops.specs.OwnedRows.{OwnsEachRow};
+ghost use Rattle.nd_access.specs.Pairs.{ZipsAt, rows_pairs, view_pairs};
 
-use crate::few::by_few;
+use crate::calling::call_rows;
 use crate::nearest::nearest_views;
-use nd_access::{Cells, LentRow, LentRows, Reader, place_in_row};
-use ndarray_layout::{Lengths, Order, Row, Rows, Strided};
-
-// The private functions take closures by one lifetime for both items: with two of them no proof covers a closure over one type.
-
-/// Calls a closure at the item of each place of a row and at that of another row beside it, one after another, and hands it back.
-#[inline(always)]
-fn zip_few<T, U, F: for<'x> FnMut(&'x mut T, &'x U)>(
-    cells: &mut Cells<'_, T>,
-    row: Row,
-    source: &LentRow<'_, U>,
-    mut f: F,
-) -> F
-    requires row { OwnsRow cells.old.marks row }
-    requires count { row.len ≡ source.now.row.len }
-    requires callable { CallableOnEachPair F.FnMut (row_pairs cells.old.items row source.now) f }
-    ensures ran { MapsTo (CalledAtPair F.FnMut) f (places_of row)
-        (row_pairs cells.old.items row source.now) cells.old.items cells.new.items result }
-    ensures keeps_access { right_of cells.new ≡ right_of cells.old }
-{
-    for coordinate in 0..row.len {
-        let place = place_in_row(row, coordinate);
-        f(cells.item_mut(place), source.item(coordinate));
-    }
-    f
-}
-
-/// Calls a closure at the item of each place of a row and at that of another row beside it, one after another, and hands it back.
-// (not `inline(always)`: by a parameter of its own rustc knows that no write changes the pointer, and the loop reads it once)
-fn zip_places<T, U, F: for<'x> FnMut(&'x mut T, &'x U)>(
-    cells: &mut Cells<'_, T>,
-    row: Row,
-    source: &LentRow<'_, U>,
-    f: F,
-) -> F
-    requires row { OwnsRow cells.old.marks row }
-    requires count { row.len ≡ source.now.row.len }
-    requires callable { CallableOnEachPair F.FnMut (row_pairs cells.old.items row source.now) f }
-    ensures ran { MapsTo (CalledAtPair F.FnMut) f (places_of row)
-        (row_pairs cells.old.items row source.now) cells.old.items cells.new.items result }
-    ensures keeps_access { right_of cells.new ≡ right_of cells.old }
-{
-    zip_few(cells, row, source, f)
-}
-
-/// Calls a closure at each item of a row and at that of another row beside it, one after another, and hands it back.
-#[inline(always)]
-fn zip_row<const FEW: usize, T, U, F: for<'x> FnMut(&'x mut T, &'x U)>(
-    cells: &mut Cells<'_, T>,
-    row: Row,
-    source: &LentRow<'_, U>,
-    f: F,
-) -> F
-    requires few { 0 < FEW → FEW ≡ row.len }
-    requires row { OwnsRow cells.old.marks row }
-    requires count { row.len ≡ source.now.row.len }
-    requires callable { CallableOnEachPair F.FnMut (row_pairs cells.old.items row source.now) f }
-    ensures ran { MapsTo (CalledAtPair F.FnMut) f (places_of row)
-        (row_pairs cells.old.items row source.now) cells.old.items cells.new.items result }
-    ensures keeps_access { right_of cells.new ≡ right_of cells.old }
-{
-    if FEW > 0 {
-        // (by a length that is known, there is no loop)
-        return zip_few(cells, by_few::<FEW>(row), source, f);
-    }
-    match source.alone() {
-        Some(source) if row.stride == 1 => {
-            // (by strides that are known, the loop is one over two slices)
-            let neighbours = Row {
-                start: row.start,
-                stride: 1,
-                len: source.len(),
-            };
-            zip_places(cells, neighbours, &source, f)
-        },
-        _ => zip_places(cells, row, source, f),
-    }
-}
-
-/// Calls a closure at each item of these rows and at the next one of other rows.
-#[inline]
-fn zip_each<const FEW: usize, T, U, F: for<'x> FnMut(&'x mut T, &'x U)>(
-    cells: &mut Cells<'_, T>,
-    rows: Rows<'_>,
-    sources: LentRows<'_, U>,
-    mut f: F,
-)
-    requires few { 0 < FEW → All (λ row. FEW ≡ row.len) rows }
-    requires rows { OwnsEachRow cells.old.marks rows }
-    requires count { AllZip (λ row source. row.len ≡ source.row.len) rows sources }
-    requires callable { CallableOnEachPair F.FnMut (rows_pairs cells.old.items rows sources) f }
-    ensures ran { Maps (CalledAtPair F.FnMut) f (rows_places rows.entry)
-        (rows_pairs cells.old.items rows.entry sources.entry) cells.old.items cells.new.items }
-    ensures keeps_access { right_of cells.new ≡ right_of cells.old }
-{
-    let mut sources = sources;
-    for row in rows {
-        if let Some(source) = sources.next() {
-            f = zip_row::<FEW, T, U, F>(cells, row, &source, f);
-        }
-    }
-}
+use nd_access::{Cells, LentRows, Reader};
+use ndarray_layout::{Lengths, Order, Rows, Strided};
 
 /// Calls a closure at each item of these rows and at the next one of other rows.
 #[inline(always)]
@@ -127,7 +25,7 @@ fn zip_rows<T, U, F: for<'x> FnMut(&'x mut T, &'x U)>(
     cells: &mut Cells<'_, T>,
     rows: Rows<'_>,
     sources: LentRows<'_, U>,
-    f: F,
+    mut f: F,
 )
     requires rows { OwnsEachRow cells.old.marks rows }
     requires count { AllZip (λ row source. row.len ≡ source.row.len) rows sources }
@@ -136,12 +34,17 @@ fn zip_rows<T, U, F: for<'x> FnMut(&'x mut T, &'x U)>(
         (rows_pairs cells.old.items rows.entry sources.entry) cells.old.items cells.new.items }
     ensures keeps_access { right_of cells.new ≡ right_of cells.old }
 {
-    match rows.row_len() {
-        2 => zip_each::<2, T, U, F>(cells, rows, sources, f),
-        3 => zip_each::<3, T, U, F>(cells, rows, sources, f),
-        4 => zip_each::<4, T, U, F>(cells, rows, sources, f),
-        _ => zip_each::<0, T, U, F>(cells, rows, sources, f),
-    }
+    call_rows(
+        cells,
+        rows,
+        sources,
+        move |stored: &mut T, item: &U|
+            requires { TakesPair F.FnMut f (stored.old, item.now) }
+            ensures { CalledAtPair F.FnMut f.entry (stored.old, item.now) stored.new f.exit }
+        {
+            f(stored, item);
+        },
+    );
 }
 
 /// Calls a closure at the item of each index of a view and at that of the same index of another view of its shape, in row-major

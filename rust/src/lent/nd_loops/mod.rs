@@ -17,6 +17,8 @@
 #![allow(clippy::len_without_is_empty, reason = "a sequence is never asked whether it is empty")]
 #![allow(clippy::should_implement_trait, reason = "the package has the trait beside what is proved")]
 
+mod beside;
+mod calling;
 mod comparing;
 mod copying;
 mod few;

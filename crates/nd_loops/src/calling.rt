@@ -1,0 +1,147 @@
+//! Calls of a closure at each item of rows, and at what stands beside it.
+ghost use Rattle.std.specs.List.{All, AllZip, flat_map};
+ghost use Rattle.std.specs.Prelude.{◌≡◌, ◌<◌, length};
+ghost use Rattle.ndarray_layout.specs.Rows.{rows_places};
+ghost use Rattle.nd_access.specs.LentRow.{places_of};
+ghost use Rattle.nd_access.specs.MapsTo.{MapsTo};
+ghost use Rattle.nd_access.specs.Rights.{right_of};
+ghost use Rattle.nd_access.specs.Written.{Maps};
+ghost use Rattle.nd_loops.specs.Beside.{CallableBesideEach, CalledBeside, items_beside};
+ghost use Rattle.nd_loops.specs.OwnedRows.{OwnsEachRow, OwnsRow};
+
+use crate::beside::{Beside, BesideRows};
+use crate::few::by_few;
+use nd_access::{Cells, place_in_row};
+use ndarray_layout::{Row, Rows};
+
+/// Calls a closure at the item of each place of a row and at what stands beside it, one after another, and hands it back.
+#[inline(always)]
+fn call_few<T, C: Beside, F: FnMut(&mut T, C::Item)>(
+    cells: &mut Cells<'_, T>,
+    row: Row,
+    beside: &C,
+    mut f: F,
+) -> F
+    requires row { OwnsRow cells.old.marks row }
+    requires count { length (C.values beside.now) ≡ row.len }
+    requires callable { CallableBesideEach C.value F.FnMut
+        (items_beside cells.old.items (places_of row) (C.values beside.now)) f }
+    ensures ran { MapsTo (CalledBeside C.value F.FnMut) f (places_of row)
+        (items_beside cells.old.items (places_of row) (C.values beside.now)) cells.old.items
+        cells.new.items result }
+    ensures keeps_access { right_of cells.new ≡ right_of cells.old }
+{
+    for coordinate in 0..row.len {
+        let place = place_in_row(row, coordinate);
+        f(cells.item_mut(place), beside.item(coordinate));
+    }
+    f
+}
+
+/// Calls a closure at the item of each place of a row and at what stands beside it, one after another, and hands it back.
+// (not `inline(always)`: by a parameter of its own rustc knows that no write changes the pointer, and the loop reads it once)
+fn call_places<T, C: Beside, F: FnMut(&mut T, C::Item)>(
+    cells: &mut Cells<'_, T>,
+    row: Row,
+    beside: &C,
+    f: F,
+) -> F
+    requires row { OwnsRow cells.old.marks row }
+    requires count { length (C.values beside.now) ≡ row.len }
+    requires callable { CallableBesideEach C.value F.FnMut
+        (items_beside cells.old.items (places_of row) (C.values beside.now)) f }
+    ensures ran { MapsTo (CalledBeside C.value F.FnMut) f (places_of row)
+        (items_beside cells.old.items (places_of row) (C.values beside.now)) cells.old.items
+        cells.new.items result }
+    ensures keeps_access { right_of cells.new ≡ right_of cells.old }
+{
+    call_few(cells, row, beside, f)
+}
+
+/// Calls a closure at each item of a row, of `FEW` unless that is 0, and at what stands beside it, one after another, and hands it
+/// back.
+#[inline(always)]
+fn call_row<const FEW: usize, T, C: Beside, F: FnMut(&mut T, C::Item)>(
+    cells: &mut Cells<'_, T>,
+    row: Row,
+    beside: &C,
+    f: F,
+) -> F
+    requires few { 0 < FEW → FEW ≡ row.len }
+    requires row { OwnsRow cells.old.marks row }
+    requires count { length (C.values beside.now) ≡ row.len }
+    requires callable { CallableBesideEach C.value F.FnMut
+        (items_beside cells.old.items (places_of row) (C.values beside.now)) f }
+    ensures ran { MapsTo (CalledBeside C.value F.FnMut) f (places_of row)
+        (items_beside cells.old.items (places_of row) (C.values beside.now)) cells.old.items
+        cells.new.items result }
+    ensures keeps_access { right_of cells.new ≡ right_of cells.old }
+{
+    if FEW > 0 {
+        // (by a length that is known, there is no loop)
+        return call_few(cells, by_few::<FEW>(row), beside, f);
+    }
+    match beside.alone() {
+        Some(beside) if row.stride == 1 => {
+            // (by strides that are known, the loop is one over slices)
+            let neighbours = Row {
+                start: row.start,
+                stride: 1,
+                len: row.len,
+            };
+            call_places(cells, neighbours, &beside, f)
+        },
+        _ => call_places(cells, row, beside, f),
+    }
+}
+
+/// Calls a closure at each item of these rows, of `FEW` each unless that is 0, and at what stands beside it, one after another.
+#[inline]
+fn call_each<const FEW: usize, T, C: BesideRows, F: FnMut(&mut T, <C::One as Beside>::Item)>(
+    cells: &mut Cells<'_, T>,
+    rows: Rows<'_>,
+    beside: C,
+    mut f: F,
+)
+    requires few { 0 < FEW → All (λ row. FEW ≡ row.len) rows }
+    requires rows { OwnsEachRow cells.old.marks rows }
+    requires count { AllZip (λ row one. length (C.One.values one) ≡ row.len) rows (C.ones beside rows) }
+    requires callable { CallableBesideEach C.One.value F.FnMut
+        (items_beside cells.old.items (rows_places rows) (flat_map C.One.values (C.ones beside rows))) f }
+    ensures ran { Maps (CalledBeside C.One.value F.FnMut) f (rows_places rows.entry)
+        (items_beside cells.old.items (rows_places rows.entry) (flat_map C.One.values (C.ones beside rows.entry)))
+        cells.old.items cells.new.items }
+    ensures keeps_access { right_of cells.new ≡ right_of cells.old }
+{
+    let mut beside = beside;
+    for row in rows {
+        if let Some(beside) = beside.next_beside(row) {
+            f = call_row::<FEW, T, C::One, F>(cells, row, &beside, f);
+        }
+    }
+}
+
+/// Calls a closure at each item of these rows and at what stands beside it, one after another.
+#[inline(always)]
+pub(crate) fn call_rows<T, C: BesideRows, F: FnMut(&mut T, <C::One as Beside>::Item)>(
+    cells: &mut Cells<'_, T>,
+    rows: Rows<'_>,
+    beside: C,
+    f: F,
+)
+    requires rows { OwnsEachRow cells.old.marks rows }
+    requires count { AllZip (λ row one. length (C.One.values one) ≡ row.len) rows (C.ones beside rows) }
+    requires callable { CallableBesideEach C.One.value F.FnMut
+        (items_beside cells.old.items (rows_places rows) (flat_map C.One.values (C.ones beside rows))) f }
+    ensures ran { Maps (CalledBeside C.One.value F.FnMut) f (rows_places rows.entry)
+        (items_beside cells.old.items (rows_places rows.entry) (flat_map C.One.values (C.ones beside rows.entry)))
+        cells.old.items cells.new.items }
+    ensures keeps_access { right_of cells.new ≡ right_of cells.old }
+{
+    match rows.row_len() {
+        2 => call_each::<2, T, C, F>(cells, rows, beside, f),
+        3 => call_each::<3, T, C, F>(cells, rows, beside, f),
+        4 => call_each::<4, T, C, F>(cells, rows, beside, f),
+        _ => call_each::<0, T, C, F>(cells, rows, beside, f),
+    }
+}
