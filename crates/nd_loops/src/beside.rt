@@ -29,6 +29,10 @@ pub(crate) trait Beside: Sized + Drop {
     /// The same as slices, where the items follow one another; else `None`.
     fn alone(&self) -> Option<Self>
         ensures { IfSome result (λ row. values row ≡ values self.now) };
+
+    /// The same by the stride -1 as a number that rustc knows, where that is the stride; else `None`.
+    fn backwards(&self) -> Option<Self>
+        ensures { IfSome result (λ row. row ≡ self.now) };
 }
 
 /// What stands beside rows, the next one of which is asked for with the row.
@@ -43,6 +47,21 @@ pub(crate) trait BesideRows: Drop {
     fn next_beside(&mut self, row: Row) -> Option<Self::One>
         ensures { (others : List Row) → MatchOption result (ones self.old (row ∷ others) ≡ [])
             (λ one. ones self.old (row ∷ others) ≡ one ∷ ones self.new others) };
+}
+
+/// A row by the stride -1 as a number that rustc knows, where that is its stride; else `None`.
+#[inline(always)]
+pub(crate) fn back(row: Row) -> Option<Row>
+    ensures { IfSome result (λ known. known ≡ row) }
+{
+    if row.stride != -1 {
+        return None;
+    }
+    Some(Row {
+        start: row.start,
+        stride: -1,
+        len: row.len,
+    })
 }
 
 /// Nothing beside the items of a row.
@@ -65,6 +84,11 @@ impl Beside for Nothing {
 
     #[inline(always)]
     fn alone(&self) -> Option<Nothing> {
+        Some(Nothing { row: self.row })
+    }
+
+    #[inline(always)]
+    fn backwards(&self) -> Option<Nothing> {
         Some(Nothing { row: self.row })
     }
 }
@@ -98,6 +122,15 @@ impl<'a, U> Beside for LentRow<'a, U> {
     fn alone(&self) -> Option<LentRow<'a, U>> {
         LentRow::alone(self)
     }
+
+    #[inline(always)]
+    fn backwards(&self) -> Option<LentRow<'a, U>> {
+        let row = back(self.row)?;
+        Some(LentRow {
+            reader: self.reader.copied(),
+            row,
+        })
+    }
 }
 
 impl<'a, U> BesideRows for LentRows<'a, U> {
@@ -129,6 +162,12 @@ impl<A: Beside, B: Beside> Beside for (A, B) {
     fn alone(&self) -> Option<(A, B)> {
         let first = self.0.alone()?;
         Some((first, self.1.alone()?))
+    }
+
+    #[inline(always)]
+    fn backwards(&self) -> Option<(A, B)> {
+        let first = self.0.backwards()?;
+        Some((first, self.1.backwards()?))
     }
 }
 

@@ -9,7 +9,7 @@ ghost use Rattle.nd_access.specs.Written.{Maps};
 ghost use Rattle.nd_loops.specs.Beside.{CallableBesideEach, CalledBeside, items_beside};
 ghost use Rattle.nd_loops.specs.OwnedRows.{OwnsEachRow, OwnsRow};
 
-use crate::beside::{Beside, BesideRows};
+use crate::beside::{Beside, BesideRows, back};
 use crate::few::by_few;
 use nd_access::{Cells, place_in_row};
 use ndarray_layout::{Row, Rows};
@@ -58,6 +58,30 @@ fn call_places<T, C: Beside, F: FnMut(&mut T, C::Item)>(
     call_few(cells, row, beside, f)
 }
 
+/// Calls a closure at the item of each place of a row and at what stands beside it, one after another, and hands it back: by the stride
+/// -1, of which LLVM makes a loop over vectors, where that is the stride of all.
+#[inline(always)]
+fn call_backwards<T, C: Beside, F: FnMut(&mut T, C::Item)>(
+    cells: &mut Cells<'_, T>,
+    row: Row,
+    beside: &C,
+    f: F,
+) -> F
+    requires row { OwnsRow cells.old.marks row }
+    requires count { length (C.values beside.now) ≡ row.len }
+    requires callable { CallableBesideEach C.value F.FnMut
+        (items_beside cells.old.items (places_of row) (C.values beside.now)) f }
+    ensures ran { MapsTo (CalledBeside C.value F.FnMut) f (places_of row)
+        (items_beside cells.old.items (places_of row) (C.values beside.now)) cells.old.items
+        cells.new.items result }
+    ensures keeps_access { right_of cells.new ≡ right_of cells.old }
+{
+    match (back(row), beside.backwards()) {
+        (Some(row), Some(beside)) => call_places(cells, row, &beside, f),
+        _ => call_places(cells, row, beside, f),
+    }
+}
+
 /// Calls a closure at each item of a row, of `FEW` unless that is 0, and at what stands beside it, one after another, and hands it
 /// back.
 #[inline(always)]
@@ -91,7 +115,7 @@ fn call_row<const FEW: usize, T, C: Beside, F: FnMut(&mut T, C::Item)>(
             };
             call_places(cells, neighbours, &beside, f)
         },
-        _ => call_places(cells, row, beside, f),
+        _ => call_backwards(cells, row, beside, f),
     }
 }
 

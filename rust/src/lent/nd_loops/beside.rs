@@ -36,6 +36,17 @@ pub(crate) trait Beside: Sized + Sized {
     /// [How to read it](crate::contracts)
     /// </details>
     fn alone(&self) -> Option<Self>;
+
+    /// The same by the stride -1 as a number that rustc knows, where that is the stride; else `None`.
+    ///
+    /// <details><summary>Contract (proved)</summary>
+    ///
+    /// ```text
+    /// ensures IfSome result (λ row. row ≡ self.now)
+    /// ```
+    /// [How to read it](crate::contracts)
+    /// </details>
+    fn backwards(&self) -> Option<Self>;
 }
 
 /// What stands beside rows, the next one of which is asked for with the row.
@@ -56,6 +67,23 @@ pub(crate) trait BesideRows: Sized {
     fn next_beside(&mut self, row: Row) -> Option<Self::One>;
 }
 
+/// A row by the stride -1 as a number that rustc knows, where that is its stride; else `None`.
+///
+/// <details><summary>Contract (proved)</summary>
+///
+/// ```text
+/// ensures IfSome result (λ known. known ≡ row)
+/// ```
+/// [How to read it](crate::contracts)
+/// </details>
+#[inline(always)]
+pub(crate) fn back(row: Row) -> Option<Row> {
+    if row.stride != -1 {
+        return None;
+    }
+    Some(Row { start: row.start, stride: -1, len: row.len })
+}
+
 /// Nothing beside the items of a row.
 pub(crate) struct Nothing {
     row: Row,
@@ -69,6 +97,11 @@ impl Beside for Nothing {
 
     #[inline(always)]
     fn alone(&self) -> Option<Nothing> {
+        Some(Nothing { row: self.row })
+    }
+
+    #[inline(always)]
+    fn backwards(&self) -> Option<Nothing> {
         Some(Nothing { row: self.row })
     }
 }
@@ -94,6 +127,12 @@ impl<'a, U> Beside for LentRow<'a, U> {
     fn alone(&self) -> Option<LentRow<'a, U>> {
         LentRow::alone(self)
     }
+
+    #[inline(always)]
+    fn backwards(&self) -> Option<LentRow<'a, U>> {
+        let row = back(self.row)?;
+        Some(LentRow { reader: self.reader.copied(), row })
+    }
 }
 
 impl<'a, U> BesideRows for LentRows<'a, U> {
@@ -117,6 +156,12 @@ impl<A: Beside, B: Beside> Beside for (A, B) {
     fn alone(&self) -> Option<(A, B)> {
         let first = self.0.alone()?;
         Some((first, self.1.alone()?))
+    }
+
+    #[inline(always)]
+    fn backwards(&self) -> Option<(A, B)> {
+        let first = self.0.backwards()?;
+        Some((first, self.1.backwards()?))
     }
 }
 

@@ -2,7 +2,7 @@
 //! Calls of a closure at each item of rows, and at what stands beside it.
 
 use crate::lent::nd_access::{Cells, place_in_row};
-use crate::lent::nd_loops::beside::{Beside, BesideRows};
+use crate::lent::nd_loops::beside::{Beside, BesideRows, back};
 use crate::lent::nd_loops::few::by_few;
 use crate::ndarray_layout::{Row, Rows};
 
@@ -51,6 +51,30 @@ fn call_places<T, C: Beside, F: FnMut(&mut T, C::Item)>(cells: &mut Cells<'_, T>
     call_few(cells, row, beside, f)
 }
 
+/// Calls a closure at the item of each place of a row and at what stands beside it, one after another, and hands it back: by the stride
+/// -1, of which LLVM makes a loop over vectors, where that is the stride of all.
+///
+/// <details><summary>Contract (proved)</summary>
+///
+/// ```text
+/// requires row: OwnsRow cells.old.marks row
+/// requires count: length (C.values beside.now) ≡ row.len
+/// requires callable: CallableBesideEach C.value F.FnMut
+///     (items_beside cells.old.items (places_of row) (C.values beside.now)) f
+/// ensures ran: MapsTo (CalledBeside C.value F.FnMut) f (places_of row)
+///     (items_beside cells.old.items (places_of row) (C.values beside.now)) cells.old.items
+///     cells.new.items result
+/// ```
+/// [How to read it](crate::contracts)
+/// </details>
+#[inline(always)]
+fn call_backwards<T, C: Beside, F: FnMut(&mut T, C::Item)>(cells: &mut Cells<'_, T>, row: Row, beside: &C, f: F) -> F {
+    match (back(row), beside.backwards()) {
+        (Some(row), Some(beside)) => call_places(cells, row, &beside, f),
+        _ => call_places(cells, row, beside, f),
+    }
+}
+
 /// Calls a closure at each item of a row, of `FEW` unless that is 0, and at what stands beside it, one after another, and hands it
 /// back.
 ///
@@ -85,7 +109,7 @@ fn call_row<const FEW: usize, T, C: Beside, F: FnMut(&mut T, C::Item)>(
             let neighbours = Row { start: row.start, stride: 1, len: row.len };
             call_places(cells, neighbours, &beside, f)
         }
-        _ => call_places(cells, row, beside, f),
+        _ => call_backwards(cells, row, beside, f),
     }
 }
 
