@@ -13,7 +13,6 @@ pub mod PairsInside
 pub mod PairsMapped
 pub mod PartMaps
 pub mod PartRead
-pub mod RowsAsLong
 pub mod SlicesApart
 pub mod SlicesToCome
 pub mod SplitItems

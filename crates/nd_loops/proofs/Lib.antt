@@ -1,5 +1,4 @@
 pub mod CalledInside
-pub mod EvenRows
 pub mod FoldedBack
 pub mod ItemsBeside
 pub mod RowsBeside

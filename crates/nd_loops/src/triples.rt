@@ -1,9 +1,7 @@
 //! Writes to the items of a part by those of two other arrays, side by side.
 ghost use Rattle.std.specs.List.{All, AllZip};
-ghost use Rattle.std.specs.Prelude.{◌≡◌, ◌<◌, IfSome, Some, length, map, replicate};
-ghost use Rattle.ndarray_layout.specs.declared.Order.TheVariants.{RowMajor};
+ghost use Rattle.std.specs.Prelude.{◌≡◌, ◌<◌};
 ghost use Rattle.ndarray_layout.specs.Rows.{rows_places};
-ghost use Rattle.ndarray_layout.specs.View.{view_places};
 ghost use Rattle.nd_access.specs.Rights.{right_of};
 ghost use Rattle.nd_access.specs.Written.{Maps};
 ghost use Rattle.nd_loops.specs.ZippedTwo.{CallableOnEachTriple, CalledAtTriple, TakesTriple};
@@ -12,7 +10,7 @@ ghost use Rattle.nd_loops.specs.Triples.{rows_triples};
 
 use crate::calling::call_rows;
 use nd_access::{Cells, LentRows};
-use ndarray_layout::{Lengths, Order, Rows, Strided};
+use ndarray_layout::Rows;
 
 /// Calls a closure at each item of these rows and at the next ones of two lists of other rows.
 #[inline(always)]
@@ -44,28 +42,4 @@ pub fn zip_two_rows<T, U, V, F: for<'x> FnMut(&'x mut T, &'x U, &'x V)>(
             f(stored, both.0, both.1);
         },
     );
-}
-
-/// The longest rows of two views of one shape that are joined alike, with their length; `None` without a place. They are all as long.
-#[inline]
-pub fn even_rows<'s, D: Lengths>(
-    view: &'s Strided<D>,
-    other: &'s Strided<D>,
-) -> Option<(usize, Rows<'s>, Rows<'s>)>
-    requires { view.now.shape ≡ other.now.shape }
-    ensures first { IfSome result (λ rows. rows_places rows.1 ≡ view_places RowMajor view.now) }
-    ensures second { IfSome result (λ rows. rows_places rows.2 ≡ view_places RowMajor other.now) }
-    ensures alike { IfSome result (λ rows. map (λ row. row.len) rows.1 ≡ map (λ row. row.len) rows.2) }
-    ensures some { IfSome result (λ rows. All (λ row. 0 < row.len) rows.1) }
-    ensures even { IfSome result (λ rows.
-        map (λ row. row.len) rows.1 ≡ replicate (length rows.1) rows.0) }
-{
-    let (mut front, _beside) = view.joined_rows_with(other, Order::RowMajor);
-    let len = front.next()?.len;
-    let (rows, others) = view.joined_rows_with(other, Order::RowMajor);
-    let size = view.len();
-    match rows.len().checked_mul(len) {
-        Some(places) if places == size => Some((len, rows, others)),
-        _ => None,
-    }
 }

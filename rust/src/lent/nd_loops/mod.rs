@@ -39,5 +39,5 @@ pub use nearest::{nearest_rows, nearest_rows_with, nearest_view, nearest_views};
 pub use pairs::{zip_nearest, zip_view};
 pub use searching::search_row;
 pub use summing::sum_rows;
-pub use triples::{even_rows, zip_two_rows};
+pub use triples::zip_two_rows;
 pub use unsigned::Unsigned;

@@ -4,44 +4,10 @@
 use crate::lent::nd_access::LentRows;
 use crate::lent::nd_lent::array_view::ArrayView;
 use crate::lent::nd_lent::array_view_mut::ArrayViewMut;
-use crate::lent::nd_loops::{even_rows, zip_two_rows};
+use crate::lent::nd_loops::zip_two_rows;
 use crate::ndarray_layout::{ErrorKind, Lengths, Order, Rows, ShapeError, Strided, from_kind};
 
-/// The rows of a view and of two arrays of its shape that are joined alike in all three, in row-major order; `None` where those of two
-/// are longer.
-///
-/// <details><summary>Contract (proved)</summary>
-///
-/// ```text
-/// requires also: view.now.shape ≡ other.now.view.shape
-/// requires shape: view.now.shape ≡ third.now.view.shape
-/// ensures places: IfSome result (λ rows. rows_places rows.0 ≡ view_places RowMajor view.now)
-/// ensures seconds: IfSome result (λ rows. rows_items rows.1
-///     ≡ map (item_at_place other.now.items) (view_places RowMajor other.now.view))
-/// ensures thirds: IfSome result (λ rows. rows_items rows.2
-///     ≡ map (item_at_place third.now.items) (view_places RowMajor third.now.view))
-/// ensures also: IfSome result (λ rows. AllZip (λ row second. row.len ≡ second.row.len) rows.0 rows.1)
-/// ensures count: IfSome result (λ rows. AllZip (λ row third. row.len ≡ third.row.len) rows.0 rows.2)
-/// ```
-/// [How to read it](crate::contracts)
-/// </details>
-#[inline]
-fn joined_rows_of_three<'s, U, V, D: Lengths>(
-    view: &'s Strided<D>,
-    other: &'s ArrayView<'_, U, D>,
-    third: &'s ArrayView<'_, V, D>,
-) -> Option<(Rows<'s>, LentRows<'s, U>, LentRows<'s, V>)> {
-    let (len, rows, seconds) = even_rows(view, other.strided())?;
-    let (also, others, thirds) = even_rows(view, third.strided())?;
-    if len == also && rows.len() == others.len() {
-        let seconds = LentRows::new(other.reader(), seconds);
-        Some((rows, seconds, LentRows::new(third.reader(), thirds)))
-    } else {
-        None
-    }
-}
-
-/// The rows of a view and of two arrays of its shape along the last axis, in row-major order.
+/// The rows of a view and of two arrays of its shape that are joined alike, in row-major order.
 ///
 /// <details><summary>Contract (proved)</summary>
 ///
@@ -62,19 +28,16 @@ fn rows_of_three<'s, U, V, D: Lengths>(
     other: &'s ArrayView<'_, U, D>,
     third: &'s ArrayView<'_, V, D>,
 ) -> (Rows<'s>, LentRows<'s, U>, LentRows<'s, V>) {
-    if let Some(joined) = joined_rows_of_three(view, other, third) {
-        return joined;
-    }
-    (view.rows(Order::RowMajor), other.rows(), third.rows())
+    let (rows, seconds, thirds) = view.joined_rows_with_two(other.strided(), third.strided(), Order::RowMajor);
+    (rows, LentRows::new(other.reader(), seconds), LentRows::new(third.reader(), thirds))
 }
 
 impl<'a, T: Sized, D: Lengths> ArrayViewMut<'a, T, D> {
     /// Calls a closure at each item and at those of the same index of two other arrays of the same shape, in row-major order, to
     /// change the first in place. Other items are unchanged.
     ///
-    /// Takes no memory. Goes over the longest rows that the axes of both pairs allow (`Strided::joined_rows_with`), where those of one
-    /// are those of the other, else over the rows along the last axis: three whose items follow one another are a loop over three
-    /// slices; in others each index takes the time of its place in each array.
+    /// Takes no memory. Goes over the longest rows that the axes of all three allow (`Strided::joined_rows_with_two`): three whose items
+    /// follow one another are a loop over three slices; in others each index takes the time of its place in each array.
     ///
     /// `|item, other, third| *item += other * third` with 5 6 and 3 4 at `[2]`, `[-1]` from 1 over 7 8 9: 31 23 9. ndarray's
     /// `Zip::from(..).and(..).and(..)`.
