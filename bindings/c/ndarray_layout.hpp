@@ -327,11 +327,11 @@ private:
     }
     // A view over the same elements, of the layout that a call makes, or why it makes none.
     template <class Element, class Call, class Why, class... Arguments>
-    result<view<Element>> made(Call call, Why why, Arguments... arguments) const {
+    result<view<Element>> made(Call call, Why say_why, Arguments... arguments) const {
         view<Element> other(data_, view_);
         const std::int32_t status = call(&view_.layout, arguments..., &other.view_.layout);
         if (status == ND_OK) return other;
-        return refused(status, [&](nd_reason *to) { return why(&view_.layout, arguments..., to); });
+        return refused(status, [&](nd_reason *to) { return say_why(&view_.layout, arguments..., to); });
     }
     template <class Call>
     [[nodiscard]] nd::rows<T> rows_by(Call call, std::int32_t order) const {
@@ -349,10 +349,10 @@ private:
 // other shapes are ND_INCOMPATIBLE_SHAPE.
 template <class... T>
 [[nodiscard]] rows_in_step<T...> joined_rows(std::int32_t order, const view<T> &...views) {
-    const std::array<const nd_view *, sizeof...(T)> all{&views.as_c()...};
+    const std::array<const nd_view *, sizeof...(T)> given{&views.as_c()...};
     nd_rows_iter left;
-    fault of{nd_views_of_joined_rows(all.data(), all.size(), order, &left)};
-    if (of.status == ND_INCOMPATIBLE_SHAPE) nd_put_shapes_reason(all.data(), all.size(), &of.reason);
+    fault of{nd_views_of_joined_rows(given.data(), given.size(), order, &left)};
+    if (of.status == ND_INCOMPATIBLE_SHAPE) nd_put_shapes_reason(given.data(), given.size(), &of.reason);
     if (of.status != ND_OK) refuse(of);
     return {std::tuple<T *...>(views.data()...), left};
 }

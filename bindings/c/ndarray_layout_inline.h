@@ -51,6 +51,8 @@ ND_CHECKED((1, 3)) int nd_put_lists(const nd_view *view, int32_t order, nd_lists
     int has_places;
     if (layout->axes > ND_MAX_AXES) return 0;
     lists->has_index = 1;
+    lists->shape[0] = 0; /* (as in nd_put_shape) */
+    lists->strides[0] = 0;
     for (axis = 0; axis < layout->axes; axis++)
         if (layout->shape[axis] == 0) lists->has_index = 0;
     has_places = lists->has_index && view->data.elem_places > 1;

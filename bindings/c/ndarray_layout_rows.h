@@ -303,7 +303,7 @@ ND_INLINE void nd_put_pointers(const nd_view *views, size_t count, const nd_view
  * (100,200,3), strides (2400,3,1) and (600,3,1): 100 rows of 600; the second view alone has 1 of 60,000.
  */
 ND_CHECKED((1, 4)) int32_t nd_views_joined_rows(const nd_view *views, size_t count, int32_t order, nd_rows_iter *rows) {
-    const nd_view *pointers[ND_MAX_VIEWS];
+    const nd_view *pointers[ND_MAX_VIEWS] = {0}; /* (as compilers warn of the rest) */
     nd_put_pointers(views, count, pointers);
     return nd_views_of_joined_rows(pointers, count, order, rows);
 }
@@ -318,7 +318,7 @@ ND_CHECKED((1, 4)) int32_t nd_views_joined_rows(const nd_view *views, size_t cou
  * ND_RULE_COUNT, ND_LIST_VIEW, number 1, size 1, other 2.
  */
 ND_CHECKED((1, 3)) int32_t nd_views_reason(const nd_view *views, size_t count, nd_reason *reason) {
-    const nd_view *pointers[ND_MAX_VIEWS];
+    const nd_view *pointers[ND_MAX_VIEWS] = {0};
     size_t at;
     if (count == 0 || count > ND_MAX_VIEWS) return ND_BAD_ARGUMENT;
     for (at = 0; at < count; at++)
