@@ -71,6 +71,10 @@
 #include <stdint.h>
 #endif
 
+#if defined(__SIZEOF_SIZE_T__) && __SIZEOF_SIZE_T__ != 8
+#error "ndarray_layout needs a target of 64 bits, where size_t has 8 bytes: its proofs are of numbers of that width"
+#endif
+
 /*
  * The version of this header. A library serves for each header that has the same first number, or while that is 0 the same
  * first two, and whose version is not later: nd_version says what a program has loaded. Those numbers end the name by which
