@@ -831,9 +831,11 @@ ND_INLINE const char *nd_status_message(int32_t status) {
  * and after any but ND_OK nothing has been written. The layout that is written comes last, and may be the one that is read.
  * ND_BAD_ARGUMENT, before every other status, also says that a layout has more than ND_MAX_AXES axes, or would have.
  *
- * ND_MAX_AXES is 32, or what a program defines it as before it includes this header: a number from 4 on, in digits alone. With 4
- * a view takes 104 bytes and an iterator of rows 136, where they take 552 and 808. All files of a program that pass views,
- * layouts or iterators to one another define the same number. The library takes lists, and knows none.
+ * ND_MAX_AXES is 32, or what a program defines it as before it includes this header: a number from 4 on, in digits alone. With
+ * another number than 32 the types that have that room end with it, and none is declared without it: with 4 they are nd_layout_4,
+ * nd_view_4, nd_row_iter_4 and nd_rows_iter_4, and a view takes 104 bytes and an iterator of rows 136, where those of 32 axes take
+ * 552 and 808. So a file doesn't compile that shares a header with files of another number. The library takes lists, and knows
+ * no number.
  */
 #ifndef ND_MAX_AXES
 #define ND_MAX_AXES 32
@@ -841,7 +843,7 @@ ND_INLINE const char *nd_status_message(int32_t status) {
 #error "ND_MAX_AXES is 4 or more"
 #endif
 
-/* (of these headers alone) With room for another count of axes, types have names of their own, which C++ links with no others. */
+/* (of these headers alone) With room for another count of axes, types have names of their own: below, nd_view is nd_view_4. */
 #if ND_MAX_AXES != 32
 #define ND_SIZED_AS(name, axes) name##_##axes
 #define ND_SIZED_BY(name, axes) ND_SIZED_AS(name, axes)
@@ -1070,6 +1072,13 @@ ND_CHECKED((1, 4, 5)) int32_t nd_layout_split_at(const nd_layout *layout, size_t
 #include "ndarray_layout_bytes.h"
 #include "ndarray_layout_sharing.h"
 #include "ndarray_layout_reasons.h"
+
+#ifdef ND_SIZED
+#undef nd_layout
+#undef nd_view
+#undef nd_row_iter
+#undef nd_rows_iter
+#endif
 
 #ifdef __cplusplus
 }

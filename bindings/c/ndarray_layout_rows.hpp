@@ -137,6 +137,12 @@ inline std::ptrdiff_t any_stride(std::ptrdiff_t stride) {
 
 // What depends on ND_MAX_AXES, where it isn't 32, has names of its own, which link with no others.
 #ifdef ND_SIZED
+inline namespace ND_SIZED(axes) {
+using nd_layout = ND_SIZED(nd_layout);
+using nd_view = ND_SIZED(nd_view);
+using nd_row_iter = ND_SIZED(nd_row_iter);
+using nd_rows_iter = ND_SIZED(nd_rows_iter);
+}
 #define ND_BEGIN_SIZED inline namespace ND_SIZED(axes) {
 #define ND_END_SIZED }
 #else

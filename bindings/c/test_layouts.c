@@ -1,5 +1,5 @@
 /* The functions that ndarray_layout.h itself has, and what it promises of new layouts and of empty lists: C89, C99, C++. */
-#include "ndarray_layout.h"
+#include "testing_sizes.h"
 
 #include <stdio.h>
 #include <string.h>

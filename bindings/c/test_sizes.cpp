@@ -1,6 +1,7 @@
 // Files with other numbers of ND_MAX_AXES: what they pass to one another has other names, so they don't link. The first file is
 // compiled with ND_TEST_TAKES. Prints the sizes of a view and of an iterator, and 0 failed.
 #include "ndarray_layout.hpp"
+#include "testing_sizes.h"
 
 #include <cstdio>
 

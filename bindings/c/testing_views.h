@@ -2,7 +2,7 @@
 #ifndef ND_TESTING_VIEWS_H
 #define ND_TESTING_VIEWS_H
 
-#include "ndarray_layout.h"
+#include "testing_sizes.h"
 
 #include <stdio.h>
 
