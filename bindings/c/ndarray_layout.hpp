@@ -145,8 +145,7 @@ public:
     }
 
     // The element of an index, each coordinate compared; null, or an error, where it is no index. Coordinates are integers: others
-    // don't compile. Of a view by value a loop costs what one by hand does; of one by reference it does so too, unless the loop
-    // writes bytes: take a cursor there.
+    // don't compile. For an element alone: a loop takes the rows of a view or of a cursor, over which compilers go by vectors.
     template <class... Coordinates>
     [[nodiscard]] T *find(Coordinates... coordinates) const {
         ND_EXPECT_COORDINATES((is_coordinate_v<Coordinates> && ...));

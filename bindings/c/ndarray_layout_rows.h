@@ -9,13 +9,6 @@
 #error "include ndarray_layout.h, which includes this header"
 #endif
 
-/* Elements at the places `start`, `start + stride`, .., of which there are `len`. */
-typedef struct nd_row {
-    size_t start;
-    size_t len;
-    ptrdiff_t stride;
-} nd_row;
-
 /* ---- Axes that are joined -------------------------------------------------------------------------------------------- */
 
 /* (of this header alone) Whether a number names an order. */

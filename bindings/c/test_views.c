@@ -192,6 +192,32 @@ static int32_t at_cursor(const nd_view *view, const size_t *index, size_t *place
     }
 }
 
+/* The row of a cursor of two or more axes. */
+#define ROW_OF(type, of_view, of_index) \
+    do { \
+        type at; \
+        if (of_view(view, &at) == ND_OK) row = of_index; \
+    } while (0)
+
+static nd_row cursor_row(const nd_view *view, const size_t *index) {
+    nd_row row = {7, 7, 7};
+    if (view->layout.axes == 2) ROW_OF(nd_cursor2, nd_view_cursor2, nd_cursor_row2(at, index[0]));
+    if (view->layout.axes == 3) ROW_OF(nd_cursor3, nd_view_cursor3, nd_cursor_row3(at, index[0], index[1]));
+    if (view->layout.axes == 4) ROW_OF(nd_cursor4, nd_view_cursor4, nd_cursor_row4(at, index[0], index[1], index[2]));
+    return row;
+}
+
+/* Whether the row there is what nd_at has of its first element, or none where the coordinates have no row. */
+static int is_cursor_row(const nd_view *view, size_t *index) {
+    const size_t last = view->layout.axes - 1;
+    const nd_row row = cursor_row(view, index);
+    size_t axis, len = view->layout.shape[last];
+    index[last] = 0;
+    for (axis = 0; axis < last; axis++)
+        if (index[axis] >= view->layout.shape[axis]) len = 0;
+    return row.len == len && (len == 0 || (row.start == at(view, index) && row.stride == view->layout.strides[last]));
+}
+
 static void test_cursors(void) {
     int round, inside = 0, outside = 0;
     nd_view view;
@@ -205,6 +231,7 @@ static void test_cursors(void) {
         CHECK_QUIETLY(at_cursor(&view, index, &place) == ND_OK && place == at(&view, index));
         if (place == ND_NO_PLACE) outside++;
         if (place != ND_NO_PLACE) inside++;
+        if (view.layout.axes > 1) CHECK_QUIETLY(is_cursor_row(&view, index));
     }
     CHECK(inside > 2000 && outside > 5000);
     two.start = 7;
@@ -214,6 +241,7 @@ static void test_cursors(void) {
     CHECK(nd_view_cursor2(&view, &two) == ND_OUT_OF_BOUNDS && two.start == 7);
     view.layout.start = 0;
     CHECK(nd_view_cursor2(&view, &two) == ND_OK && two.shape[1] == 3 && nd_cursor_at2(two, 1, 2) == 5);
+    CHECK(nd_cursor_row2(two, 1).start == 3 && nd_cursor_row2(two, 1).len == 3 && nd_cursor_row2(two, 2).len == 0);
 }
 
 /* Whether the rows of a view have the places of nd_layout_places, in their order. */

@@ -89,12 +89,15 @@ static void test_cursors() {
     CHECK(at.find(3, 0) == nullptr && at.find(0, 2) == nullptr && at.find(-1, 0) == nullptr);
     CHECK(refused([&] { (void)at(0, 2); }) == ND_OUT_OF_BOUNDS && refused([&] { (void)at.length(2); }) == ND_OUT_OF_BOUNDS);
     CHECK(refused([&] { (void)view.cursor<1>(); }) == ND_INCOMPATIBLE_SHAPE);
+    CHECK(at.row(1).size() == 2 && at.row(1).data() == &numbers[5] && at.row(1).stride() == 2 && at.row(2)[1] == 3);
+    CHECK(refused([&] { (void)at.row(3); }) == ND_OUT_OF_BOUNDS && view.reshape({12}).cursor<1>().row().size() == 12);
     at(1, 0) = 50;
     CHECK(numbers[5] == 50);
     numbers[5] = 5;
     const nd::view<const int> cube(numbers.data(), 12, {2, 3, 2}), five(numbers.data(), 12, {1, 2, 1, 3, 2});
     const nd::view<const int> one(numbers.data(), 12, {});
     CHECK(one() == 0 && one.find() == numbers.data() && one.cursor<0>()() == 0 && one.find(0) == nullptr);
+    CHECK(cube.cursor<3>().row(1, 2)[1] == 11 && refused([&] { (void)cube.cursor<3>().row(0, 3); }) == ND_OUT_OF_BOUNDS);
     CHECK(cube.cursor<3>()(1, 2, 1) == 11 && cube(1, 2, 1) == 11 && five(0, 1, 0, 2, 1) == 11 && five.cursor<5>()(0, 1, 0, 2, 1) == 11);
 }
 

@@ -1,6 +1,6 @@
 /*
- * The mean of each pixel and its neighbours, 3x3: by three slices of the picture, each a line further down, whose rows come in
- * step. Their lengths are those of the picture, so the inner loop checks nothing; the same by `nd_at` has the same pixels.
+ * The mean of each pixel and its neighbours, 3x3: by three rows of a cursor, which are checked once for a line, so the inner loop
+ * checks nothing; the same by `nd_at` has the same pixels.
  */
 #include "ndarray_layout.h"
 
@@ -15,14 +15,6 @@ static void expect_ok(int32_t status) {
     exit(EXIT_FAILURE);
 }
 
-/* The rows of a picture from a line on, but for as many at its end that two lines are left out. */
-static void rows_from(const nd_view *picture, size_t line, nd_row_iter *rows) {
-    const nd_slice_elem lines[2] = {ND_RANGE(line, picture->layout.shape[0] - 2 + line), ND_ALL};
-    nd_view part = *picture;
-    expect_ok(nd_layout_slice(&picture->layout, lines, 2, ND_STRICT, &part.layout));
-    expect_ok(nd_view_rows(&part, ND_ROW_MAJOR, rows));
-}
-
 /* One row of means, of three rows of pixels. */
 static inline void mean_row(const unsigned char *a, const unsigned char *b, const unsigned char *c, ptrdiff_t next, size_t count,
                             unsigned char *means) {
@@ -33,11 +25,10 @@ static inline void mean_row(const unsigned char *a, const unsigned char *b, cons
 }
 
 /* Writes the means of a picture of three rows and columns or more, two fewer of each. */
-static void blur(const nd_view *picture, const unsigned char *pixels, unsigned char *means) {
-    nd_row_iter rows[3];
-    nd_row up, middle, down;
-    for (size_t line = 0; line < 3; line++) rows_from(picture, line, &rows[line]);
-    while (nd_next_row(&rows[0], &up) && nd_next_row(&rows[1], &middle) && nd_next_row(&rows[2], &down)) {
+static void blur(nd_cursor2 picture, const unsigned char *pixels, unsigned char *means) {
+    for (size_t line = 1; line + 1 < picture.shape[0]; line++) {
+        const nd_row up = nd_cursor_row(picture, line - 1), middle = nd_cursor_row(picture, line);
+        const nd_row down = nd_cursor_row(picture, line + 1);
         const unsigned char *a = pixels + up.start, *b = pixels + middle.start, *c = pixels + down.start;
         if (middle.stride == 1) mean_row(a, b, c, 1, middle.len - 2, means); /* (a loop that compilers know more of) */
         else mean_row(a, b, c, middle.stride, middle.len - 2, means);
@@ -62,10 +53,12 @@ int main(void) {
     unsigned char pixels[ROWS * COLUMNS], means[ROWS_LEFT * COLUMNS_LEFT];
     size_t differ = 0;
     nd_view picture;
+    nd_cursor2 cursor;
 
     for (size_t at = 0; at < sizeof pixels; at++) pixels[at] = at % COLUMNS == 4 || at / COLUMNS == 2 ? 90 : 0;
     expect_ok(nd_view_from_shape(shape, 2, ND_ROW_MAJOR, data, ND_READ_ONLY, &picture));
-    blur(&picture, pixels, means);
+    expect_ok(nd_view_cursor2(&picture, &cursor));
+    blur(cursor, pixels, means);
     for (size_t row = 0; row < ROWS_LEFT; row++) {
         for (size_t column = 0; column < COLUMNS_LEFT; column++) {
             const int mean = means[row * COLUMNS_LEFT + column];
