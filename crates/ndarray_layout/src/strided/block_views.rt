@@ -87,7 +87,7 @@ impl<D: Lengths> BlockViews<D> {
         ensures first { IfOk result (λ next. MatchOption next
             ((self.old ≡ []) × (self.new ≡ [])) (λ view. self.old ≡ view ∷ self.new)) }
     {
-        if self.starts.len() == 0 {
+        if self.starts.has_ended() {
             return Ok(None);
         }
         let dim = self.block.duplicate(alloc)?;
@@ -118,7 +118,7 @@ impl<D: Lengths> BlockViews<D> {
         ensures last { IfOk result (λ next. MatchOption next
             ((self.old ≡ []) × (self.new ≡ [])) (λ view. self.old ≡ self.new ++ view ∷ [])) }
     {
-        if self.starts.len() == 0 {
+        if self.starts.has_ended() {
             return Ok(None);
         }
         let dim = self.block.duplicate(alloc)?;

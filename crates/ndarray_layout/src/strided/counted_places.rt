@@ -1,6 +1,6 @@
 //! The places of rows one after another, counted, from both ends.
 ghost use Rattle.std.specs.List.{All};
-ghost use Rattle.std.specs.Prelude.{◌≡◌, ◌-◌, ◌<◌, ◌≤◌, ◌^◌, ◌∷◌, ◌++◌, [], pos, IfSome, MatchOption, drop, take, length};
+ghost use Rattle.std.specs.Prelude.{◌≡◌, ◌↔◌, ◌-◌, ◌<◌, ◌≤◌, ◌^◌, ◌∷◌, ◌++◌, [], pos, IfSome, IsTrue, MatchOption, drop, take, length};
 ghost use Rattle.nd_base.specs.Bounds.{IsInBounds};
 ghost use Rattle.nd_base.specs.Size.{limit};
 ghost use Rattle.ndarray_layout.specs.PlacesLeft.{ArePlacesLeft, places_after, rows_and};
@@ -238,6 +238,13 @@ impl<A: SlowerAxes> CountedPlaces<A> {
         let (back, place) = RowAtBack::of_row(row);
         self.back = back;
         Some(place)
+    }
+
+    /// Whether none is left: how many rows there are is asked where none has begun.
+    pub(super) fn has_ended(&self) -> bool
+        ensures { IsTrue result ↔ (length self.now ≡ 0) }
+    {
+        self.left == 1 && self.len() == 0
     }
 
     /// How many places are left.

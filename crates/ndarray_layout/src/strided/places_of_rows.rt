@@ -2,7 +2,7 @@
 ghost use Rattle.std.specs.Iterator.{UpTo, YieldsFirstBy, YieldsLastBy, item_count};
 ghost use Rattle.std.specs.Iterator.SizeHint.{IsWithinCount};
 ghost use Rattle.std.specs.List.{All};
-ghost use Rattle.std.specs.Prelude.{◌≡◌, ◌-◌, ◌<◌, ◌≤◌, ◌^◌, ◌++◌, [], pos, IfSome, MatchOption, Some, drop, take, length};
+ghost use Rattle.std.specs.Prelude.{◌≡◌, ◌↔◌, ◌-◌, ◌<◌, ◌≤◌, ◌^◌, ◌++◌, [], pos, IfSome, IsTrue, MatchOption, Some, drop, take, length};
 ghost use Rattle.nd_base.specs.Bounds.{IsInBounds};
 ghost use Rattle.nd_base.specs.Size.{limit};
 ghost use Rattle.ndarray_layout.specs.Rows.{row_places, row_view, rows_places};
@@ -52,6 +52,16 @@ impl<A: SlowerAxes> PlacesOf<A> {
         PlacesOf {
             stretch,
             places: CountedPlaces::new(rows),
+        }
+    }
+
+    /// Whether none is left.
+    pub(super) fn has_ended(&self) -> bool
+        ensures { IsTrue result ↔ (length self.now ≡ 0) }
+    {
+        match &self.stretch {
+            Some(stretch) => stretch.has_ended(),
+            None => self.places.has_ended(),
         }
     }
 

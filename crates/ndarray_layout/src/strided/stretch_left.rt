@@ -1,6 +1,6 @@
 //! Places that follow one another, from both ends.
 ghost use Rattle.std.specs.List.{All};
-ghost use Rattle.std.specs.Prelude.{◌≡◌, ◌-◌, ◌<◌, ◌≤◌, ◌^◌, ◌∷◌, ◌++◌, [], pos, IfSome, MatchOption, drop, take, length};
+ghost use Rattle.std.specs.Prelude.{◌≡◌, ◌↔◌, ◌-◌, ◌<◌, ◌≤◌, ◌^◌, ◌∷◌, ◌++◌, [], pos, IfSome, IsTrue, MatchOption, drop, take, length};
 ghost use Rattle.nd_base.specs.Bounds.{IsInBounds};
 ghost use Rattle.nd_base.specs.Size.{limit};
 ghost use Rattle.ndarray_layout.specs.Rows.{row_places, row_view};
@@ -101,6 +101,13 @@ impl Stretch {
         ensures { self.new ≡ take (length self.old - count) self.old }
     {
         self.end -= count.min(self.end - self.start);
+    }
+
+    /// Whether none is left.
+    pub(super) fn has_ended(&self) -> bool
+        ensures { IsTrue result ↔ (length self.now ≡ 0) }
+    {
+        self.start == self.end
     }
 
     /// How many are left.

@@ -148,7 +148,7 @@ impl<D: Lengths> BlockViews<D> {
     /// </details>
     #[inline]
     pub fn try_next(&mut self) -> Result<Option<Strided<D>>, AllocError> {
-        if self.starts.len() == 0 {
+        if self.starts.has_ended() {
             return Ok(None);
         }
         let dim = self.block.duplicate()?;
@@ -194,7 +194,7 @@ impl<D: Lengths> BlockViews<D> {
     /// </details>
     #[inline]
     pub fn try_next_back(&mut self) -> Result<Option<Strided<D>>, AllocError> {
-        if self.starts.len() == 0 {
+        if self.starts.has_ended() {
             return Ok(None);
         }
         let dim = self.block.duplicate()?;

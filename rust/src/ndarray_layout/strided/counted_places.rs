@@ -255,6 +255,20 @@ impl<A: SlowerAxes> CountedPlaces<A> {
         Some(place)
     }
 
+    /// Whether none is left: how many rows there are is asked where none has begun.
+    ///
+    /// <details><summary>Contract (proved)</summary>
+    ///
+    /// ```text
+    /// ensures IsTrue result ↔ (length self.now ≡ 0)
+    /// ```
+    /// [How to read it](crate::contracts)
+    /// </details>
+    #[inline]
+    pub(super) fn has_ended(&self) -> bool {
+        self.left == 1 && self.len() == 0
+    }
+
     /// How many places are left.
     ///
     /// <details><summary>Contract (proved)</summary>

@@ -40,6 +40,23 @@ impl<A: SlowerAxes> PlacesOf<A> {
         PlacesOf { stretch, places: CountedPlaces::new(rows) }
     }
 
+    /// Whether none is left.
+    ///
+    /// <details><summary>Contract (proved)</summary>
+    ///
+    /// ```text
+    /// ensures IsTrue result ↔ (length self.now ≡ 0)
+    /// ```
+    /// [How to read it](crate::contracts)
+    /// </details>
+    #[inline]
+    pub(super) fn has_ended(&self) -> bool {
+        match &self.stretch {
+            Some(stretch) => stretch.has_ended(),
+            None => self.places.has_ended(),
+        }
+    }
+
     /// The places that come next and lie evenly, at once: what is left of the row in progress, or else the next row;
     /// `None` after the last place.
     ///

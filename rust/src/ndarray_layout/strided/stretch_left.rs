@@ -119,6 +119,20 @@ impl Stretch {
         self.end -= count.min(self.end - self.start);
     }
 
+    /// Whether none is left.
+    ///
+    /// <details><summary>Contract (proved)</summary>
+    ///
+    /// ```text
+    /// ensures IsTrue result ↔ (length self.now ≡ 0)
+    /// ```
+    /// [How to read it](crate::contracts)
+    /// </details>
+    #[inline]
+    pub(super) fn has_ended(&self) -> bool {
+        self.start == self.end
+    }
+
     /// How many are left.
     ///
     /// <details><summary>Contract (proved)</summary>

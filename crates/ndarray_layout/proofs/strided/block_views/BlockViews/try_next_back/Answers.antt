@@ -1,5 +1,5 @@
 -- The block at the last of the places that are left is a view, and so are the others.
-use Rattle.std.proofs.Common.{◌<◌, pos, length, refl, sym, ap, subst, ◌∙◌, arith}
+use Rattle.std.proofs.Common.{◌<◌, pos, length, refl, sym, ap, subst, ◌∙◌, pos_of_ne-zero}
 use Rattle.std.proofs.lemmas.Bool.{false≢true}
 use Rattle.std.proofs.lemmas.List.{length-map}
 use Rattle.nd_base.specs.Memory.{NeedsNoMemory}
@@ -12,7 +12,8 @@ use Rattle.ndarray_layout.proofs.strided.block_views.BlockViews.try_next_back.Go
 pub returns-in_err-dim-clause-memory : goal.returns-in_err-dim-clause-memory
 returns-in_err-dim-clause-memory g c =
     let self = c.self.inside in
-    let some : 0 < length self.starts = omega (arith, c.len.ensures.value, c.if-len-eq0.false) in
+    let some : 0 < length self.starts =
+    pos_of_ne-zero (λ none. false≢true (sym c.if-has_ended.false ∙ c.has_ended.ensures.1 none)) in
     λ all. absurd (false≢true (c.in_err-dim.ensures.memory
     (of_one (block_at (g.D.Lengths.list self.block) self.view) self.starts c.self.view_is
     (λ view. NeedsNoMemory g.D.FixedCount.NDIM (length view.shape)) all (pos 0) some)))
@@ -21,7 +22,8 @@ pub returns-in_err-strides-clause-memory : goal.returns-in_err-strides-clause-me
 returns-in_err-strides-clause-memory g c =
     let self = c.self.inside in
     let made = block_at (g.D.Lengths.list self.block) self.view in
-    let some : 0 < length self.starts = omega (arith, c.len.ensures.value, c.if-len-eq0.false) in
+    let some : 0 < length self.starts =
+    pos_of_ne-zero (λ none. false≢true (sym c.if-has_ended.false ∙ c.has_ended.ensures.1 none)) in
     let view = of_one made self.starts refl IsView c.self.invariant (pos 0) some in
     λ all. absurd (false≢true (c.in_err-strides.ensures.memory
     (subst (NeedsNoMemory g.D.FixedCount.NDIM) (view.valid.same_count ∙ sym (ap length c.strides.ensures.list)
