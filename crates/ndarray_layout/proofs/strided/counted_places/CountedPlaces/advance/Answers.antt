@@ -69,7 +69,8 @@ returns-then-count-in_rows g c =
     let n = c.count_of_places-in_rows.ensures in
     let past : length (rows_places rows) ≤ c.args.count - (p.left - 1) = omega (arith, c.if-count-in_rows.true, n) in
     sym (past_all p.place (p.left - 1) p.stride rows p.back c.self.invariant.1 c.args.count c.advance.new.self
-    c.advance-then-count-in_rows.new.self (omega (arith, c.if-count-left.false)) past (rw (← n) c.advance.ensures) (rw (← n) c.advance-then-count-in_rows.ensures))
+    c.advance-then-count-in_rows.new.self (omega (arith, c.if-count-left.false)) past (rw (← n) c.advance.ensures)
+    (rw (← n) c.advance-then-count-in_rows.ensures))
     ∙ ap (drop c.args.count) c.self.view_is
 
 pub invariant_of-self-then-count-in_rows : goal.invariant_of-self-then-count-in_rows
@@ -83,7 +84,8 @@ invariant_of-self-then-count-in_rows g c =
     let left = left_later c.self.invariant.1 c.args.count c.self.invariant.1.here
     (All-and c.advance.new.self c.advance-then-count-in_rows.new.self later)
     (past_all p.place (p.left - 1) p.stride rows p.back c.self.invariant.1 c.args.count c.advance.new.self
-    c.advance-then-count-in_rows.new.self (omega (arith, c.if-count-left.false)) past (rw (← n) c.advance.ensures) (rw (← n) c.advance-then-count-in_rows.ensures)) in
+    c.advance-then-count-in_rows.new.self (omega (arith, c.if-count-left.false)) past (rw (← n) c.advance.ensures)
+    (rw (← n) c.advance-then-count-in_rows.ensures)) in
     (omega arith, left)
 
 -- ---- past whole ones

@@ -162,7 +162,8 @@ invariant_of-self-in-Some g c =
     let some_of = All-front (λ row. 0 < row.len) others (c.in-Some.row ∷ []) (subst (All (λ row. 0 < row.len))
     (sym c.advance_back-2.ensures ∙ c.in-Some.ensures.steps) (All-take (λ row. 0 < row.len) _ p.rows
     (some_rows p.place (p.left - 1) p.stride p.rows p.back c.self.invariant.1))) in
-    let left = left_taken c.self.invariant.1 _ (All-and others (record c.in-Some.row { len = c.in-Some.row.len - (given % len + 1) }) some_of)
+    let left = left_taken c.self.invariant.1 _
+    (All-and others (record c.in-Some.row { len = c.in-Some.row.len - (given % len + 1) }) some_of)
     (before_some p.place (p.left - 1) p.stride p.rows p.back c.self.invariant.1 c.args.count len (given / len) (given % len)
     others c.in-Some.row c.row_len-len.ensures (omega (arith, c.if-count-left.false, c.len-left.ensures))
     (omega (arith, below, c.len-left.ensures)) (omega (arith, c.len-left.ensures, div-add-mod' given len)) (mod_below given len some)

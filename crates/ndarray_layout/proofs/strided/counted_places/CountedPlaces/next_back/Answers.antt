@@ -33,7 +33,8 @@ of_row-back-requires-clause-in_bounds g c =
     let p = c.self.inside in
     let row = c.in_ok-row.ensures.row in
     let same : to_z w64 (of_z w64 p.stride) ≡ p.stride = omega (arith, ints) in
-    let l = subst (λ row. ArePlacesLeft p.place p.stride (p.left - 1) (rows_and p.rows row)) (sym c.in_default.ensures.1) c.self.invariant.1 in
+    let l = subst (λ row. ArePlacesLeft p.place p.stride (p.left - 1) (rows_and p.rows row)) (sym c.in_default.ensures.1)
+    c.self.invariant.1 in
     row_in l (c.last_row.new.left - 1) c.last_row.new.rows c.in_ok-row.row same row.0 row.1
 
 pub of_row-back-requires-clause-few : goal.of_row-back-requires-clause-few
@@ -41,7 +42,8 @@ of_row-back-requires-clause-few g c =
     let p = c.self.inside in
     let row = c.in_ok-row.ensures.row in
     let same : to_z w64 (of_z w64 p.stride) ≡ p.stride = omega (arith, ints) in
-    let l = subst (λ row. ArePlacesLeft p.place p.stride (p.left - 1) (rows_and p.rows row)) (sym c.in_default.ensures.1) c.self.invariant.1 in
+    let l = subst (λ row. ArePlacesLeft p.place p.stride (p.left - 1) (rows_and p.rows row)) (sym c.in_default.ensures.1)
+    c.self.invariant.1 in
     last_small l (c.last_row.new.left - 1) c.last_row.new.rows c.in_ok-row.row same row.0 row.1
 
 pub invariant_of-self-2 : goal.invariant_of-self-2
@@ -49,9 +51,11 @@ invariant_of-self-2 g c =
     let p = c.self.inside in
     let row = c.in_ok-row.ensures.row in
     let same : to_z w64 (of_z w64 p.stride) ≡ p.stride = omega (arith, ints) in
-    let l = subst (λ row. ArePlacesLeft p.place p.stride (p.left - 1) (rows_and p.rows row)) (sym c.in_default.ensures.1) c.self.invariant.1 in (
+    let l = subst (λ row. ArePlacesLeft p.place p.stride (p.left - 1) (rows_and p.rows row)) (sym c.in_default.ensures.1)
+    c.self.invariant.1 in (
       c.in_ok-row.ensures.begun,
-      subst (λ row. ArePlacesLeft p.place p.stride (c.last_row.new.left - 1) (rows_and c.last_row.new.rows row)) (sym c.of_row-back.ensures.left)
+      subst (λ row. ArePlacesLeft p.place p.stride (c.last_row.new.left - 1) (rows_and c.last_row.new.rows row))
+          (sym c.of_row-back.ensures.left)
           (left_without_last l (c.last_row.new.left - 1) c.last_row.new.rows c.in_ok-row.row same row.0 row.1 c.in_ok-row.ensures.some),
     )
 
@@ -62,7 +66,8 @@ returns g c =
     let same : to_z w64 (of_z w64 p.stride) ≡ p.stride = omega (arith, ints) in
     let left = c.last_row.new.left - 1 in
     let rows = c.last_row.new.rows in
-    let l = subst (λ row. ArePlacesLeft p.place p.stride (p.left - 1) (rows_and p.rows row)) (sym c.in_default.ensures.1) c.self.invariant.1 in
+    let l = subst (λ row. ArePlacesLeft p.place p.stride (p.left - 1) (rows_and p.rows row)) (sym c.in_default.ensures.1)
+    c.self.invariant.1 in
     sym c.self.view_is
     ∙ ap (λ row. places_after p.place p.stride (p.left - 1) (rows_and p.rows row)) (sym c.in_default.ensures.1)
     ∙ without_last l left rows c.in_ok-row.row same row.0 row.1 c.of_row-back.ensures.place
