@@ -16,6 +16,9 @@ use std::alloc::{AllocError, Global};
 /// How many items rows have at least for which a loop of their own takes less time than one over all items.
 const LONG: usize = 16;
 
+/// How many items rows have at most that need no loop of their own, since a loop over rows of so many is one for that length.
+const FEW: usize = 4;
+
 /// Appends what a closure makes of each item to a list with room for it.
 #[inline(always)]
 fn push_items<T, U: Drop, F: FnMut(&T) -> U>(
@@ -38,8 +41,8 @@ impl<T, D: Lengths> ArrayView<'_, T, D> {
     /// What a closure makes of each item, in row-major order, as a list.
     ///
     /// The list is allocated first, at once, and the closure isn't called where this fails. Goes over the longest rows that the
-    /// axes allow (`Strided::joined_rows`): one whose items follow one another is a loop over a slice. Where most rows have fewer
-    /// than 16 items, each index takes the time of its place (`Strided::iter_places`).
+    /// axes allow (`Strided::joined_rows`): one whose items follow one another is a loop over a slice. Where most rows have more
+    /// than 4 items and fewer than 16, each index takes the time of its place (`Strided::iter_places`).
     ///
     /// # Errors
     ///
@@ -61,7 +64,7 @@ impl<T, D: Lengths> ArrayView<'_, T, D> {
     {
         let made = Vec::with_capacity(alloc, self.len())?;
         let rows = self.joined_rows();
-        if rows.len() > self.len() / LONG {
+        if rows.len() > self.len() / LONG && rows.row_len() > FEW {
             return Ok(push_items(made, self.iter(), f));
         }
         Ok(push_rows(made, rows, f))

@@ -20,12 +20,12 @@ pub push_items-requires-clause-callable : goal.push_items-requires-clause-callab
 push_items-requires-clause-callable g c =
     subst (λ items. CallableOnAllAt gives g.F.FnMut items c.args.f) (sym (c.iter.ensures.items ∙ items_in_order c.args.self.now)) c.requires
 
-pub returns-then-len-clause-ran : goal.returns-then-len-clause-ran
-returns-then-len-clause-ran g c =
+pub returns-then-row_len-gt-FEW-clause-ran : goal.returns-then-row_len-gt-FEW-clause-ran
+returns-then-row_len-gt-FEW-clause-ran g c =
     ran_listed c.in_ok-made.ensures.items c.push_items.ensures (c.iter.ensures.items ∙ items_in_order c.args.self.now)
 
-pub returns-then-len-clause-mapped : goal.returns-then-len-clause-mapped
-returns-then-len-clause-mapped g c = λ h acts.
+pub returns-then-row_len-gt-FEW-clause-mapped : goal.returns-then-row_len-gt-FEW-clause-mapped
+returns-then-row_len-gt-FEW-clause-mapped g c = λ h acts.
     mapped_listed c.in_ok-made.ensures.items c.push_items.ensures (c.iter.ensures.items ∙ items_in_order c.args.self.now) h acts
 
 pub push_rows-requires-clause-callable : goal.push_rows-requires-clause-callable
