@@ -241,7 +241,7 @@ pub const ROOM: &str = "lent";
 pub const UNNAMED: &[&str] = &["Cells", "Reader", "RowByRow"];
 
 /// Calls that these crates hide, which files of `rust/src` make. None has a condition.
-pub const SEEN: &[&str] = &["into_items_at", "into_list", "list_by_index", "try_item", "try_item_mut"];
+pub const SEEN: &[&str] = &["into_items_at", "into_list", "list_by_index", "take", "try_item", "try_item_mut"];
 
 /// Traits by which a crate has calls of a type that another one has: in the package they are calls of that type, without a trait.
 pub const EXTENSIONS: &[&str] = &["IntoArray", "RowParts"];

@@ -100,8 +100,8 @@ impl<D: Lengths> NextIndex<D> {
     /// # Errors
     ///
     /// Out of memory; never where the type fixes the count of axes or there are at most 4.
-    #[doc(hidden)]
     #[inline]
+    #[doc(hidden)]
     pub fn first(alloc: Global, dim: &D, count: usize) -> Result<Self, AllocError>
         requires { count ≡ size (D.list dim.now) }
         ensures indices { IfOk result (λ left. left ≡ indices_in RowMajor (D.list dim.now)) }
@@ -132,6 +132,7 @@ impl<D: Lengths> NextIndex<D> {
     ///
     /// Of `[2,2]`: (0,0), then (0,1), (1,0), (1,1), and then `None`. The project's own.
     #[inline(always)]
+    #[doc(hidden)]
     pub fn take(&mut self, alloc: Global) -> Result<Option<D>, AllocError>
         ensures memory { All (λ index. NeedsNoMemory D.NDIM (length index)) self.old → IsOk result }
         ensures unchanged { IfErr result (λ _. self.new ≡ self.old) }

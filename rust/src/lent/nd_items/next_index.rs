@@ -142,7 +142,7 @@ impl<D: Lengths> NextIndex<D> {
     /// [How to read it](crate::contracts)
     /// </details>
     #[inline(always)]
-    pub fn take(&mut self) -> Result<Option<D>, AllocError> {
+    pub(crate) fn take(&mut self) -> Result<Option<D>, AllocError> {
         if self.at.last < self.at.len {
             let index = index_in_row(&self.row, self.at.last)?;
             self.at.last += 1;
