@@ -45,10 +45,11 @@ NoMoreJoinBy order lens strides count len joined = count < length lens
     (signed (slice_index (strides number) (axis_after order (length lens) count))) len (signed (slice_index joined number)))
     → ⊥
 
--- so where the strides stand in one list
+-- the first, where the strides stand in one list
 abbrev pub AreJoined : Order → List ℕ → List ℕ → ℕ → ℕ → List ℕ → Type 0
 AreJoined order lens strides = AreJoinedBy order lens (λ number. strides_of (length lens) number strides)
 
+-- the second, where they do
 abbrev pub NoMoreJoin : Order → List ℕ → List ℕ → ℕ → ℕ → List ℕ → Type 0
 NoMoreJoin order lens strides = NoMoreJoinBy order lens (λ number. strides_of (length lens) number strides)
 
