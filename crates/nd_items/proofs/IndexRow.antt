@@ -113,7 +113,7 @@ module _ (shape index : List ℕ) (here : is_index shape index ≡ true) where
       let end = in_row shape index (row_len shape - 1) here (omega (arith, below)) in
       let fits = flat_index-lt-size shape (with_last index (row_len shape - 1)) end.here in omega (arith, fits, end.flat)
 
-  -- with so many left the iterator stands there
+  -- with n left the iterator stands there
   module _ (at : InRow) (left : ℕ) (last : at.last ≡ last_of index) (len : at.len ≡ row_len shape)
       (counts : flat_index shape index + left ≡ size shape) where
     pub fits_left : at.len - at.last ≤ left

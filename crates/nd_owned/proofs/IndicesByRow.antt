@@ -141,7 +141,7 @@ module _ (shape index : List ℕ) (some : 0 < length shape) (here : is_index sha
         flat = ap (flat_index shape) is ∙ flat_index-index_of_flat shape flat below ∙ flat_of_last;
       }
 
--- where a loop over rows stands: at an index, from which on so many are left, or past the last one
+-- where a loop over rows stands: at an index, from which on n are left, or past the last one
 pub record StandsAtRow (shape index : List ℕ) (has_row : Bool) (before : ℕ) : Type 0 where
   pub here : has_row ≡ true → (is_index shape index ≡ true) × (before ≡ flat_index shape index)
   pub ended : has_row ≡ false → size shape ≤ before

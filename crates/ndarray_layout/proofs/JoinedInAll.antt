@@ -167,7 +167,7 @@ HasPlaces-joined_axes {order} {lens} {strides} {count} {len} {stride} axis few c
     }
 
 -- ---- no longer rows begin all layouts
--- an axis that moves slower than so many others
+-- an axis that moves slower than n others
 some_slower : (order : Order) (count : ℕ) (lens : List ℕ) {others : List ℕ} {len : ℕ}
     → EndsIn order (slower_than order count lens) others len → count < length lens
 some_slower RowMajor count lens e =

@@ -115,7 +115,7 @@ fn counted<D: Dimension>(shape: impl ShapeBuilder<Dim = D>) -> (Shape<D>, usize)
     (shape, count)
 }
 
-/// A list with room for so many items.
+/// A list with room for `count` items.
 #[track_caller]
 fn room<T>(count: usize) -> Vec<T> {
     Vec::fallible_with_capacity(count).expect(OUT_OF_MEMORY)

@@ -40,7 +40,7 @@ pub record HasPlaces (order : Order) (lens strides : List ℕ) (axis : Fastest) 
   pub places : (start : ℕ) → IsView (view_of start lens strides)
       → view_places order (axis_view order start axis) ≡ view_places order (view_of start lens strides)
 
--- this axis is so many of those of a layout that move fastest, of this length and stride
+-- this axis is the n axes of a layout that move fastest, joined, of this length and stride
 pub record IsOneAxis (order : Order) (lens strides : List ℕ) (count len stride : ℕ) (axis : Fastest) : Type 0 where
   pub same_len : axis.len ≡ len
   pub same_stride : axis.stride ≡ stride
@@ -52,7 +52,7 @@ abbrev pub NoLongerRow : Order → List ℕ → List ℕ → ℕ → Type 0
 NoLongerRow order lens strides len = (start : ℕ) (row : Row) → IsView (view_of start lens strides)
     → BeginsAsRow (view_places order (view_of start lens strides)) row → row.len ≤ len
 
--- the lengths of the rows along so many axes that are one of this length, each from a place of the slower axes
+-- the lengths of the rows along the n fastest axes, joined into one of this length: each row begins at a place of the slower axes
 abbrev pub row_lens : Order → List ℕ → ℕ → ℕ → List ℕ
 row_lens order lens count len = replicate (if len == 0 then 0 else size (slower_than order count lens)) len
 

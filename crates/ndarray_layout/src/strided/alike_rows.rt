@@ -11,7 +11,7 @@ use crate::strided::joined_layouts::{InLists, joined_in_each};
 use crate::strided::rows::{Rows, as_one_axis};
 use nd_base::{Lengths, Order};
 
-/// The rows of a view along so many joined axes, of this length and stride.
+/// The rows of a view along its fastest axes, of which `joined` has the number, and the length as one; `stride` is theirs as one.
 fn rows_along<'a>(
     order: Order,
     start: usize,

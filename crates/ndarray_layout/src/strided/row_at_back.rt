@@ -112,7 +112,7 @@ impl RowAtBack {
         self.row.len -= count;
     }
 
-    /// Skips the last `count`. The caller ensures that so many are left.
+    /// Skips the last `count`. The caller ensures that there are as many.
     pub(super) fn advance_back(&mut self, count: usize)
         requires in_bounds { All (IsInBounds (2 ^ 63)) (row_places self.old.start self.old.stride self.old.len) }
         requires few { self.old.len ≤ limit }

@@ -76,7 +76,7 @@ pub(super) fn fastest_axis<'a>(order: Order, lens: &'a [usize], strides: &'a [us
     }
 }
 
-/// The items of the axes that move slower than so many others.
+/// The items of the axes that move slower than the `count` fastest ones.
 // (by `get`: without a test that could panic, a caller of the length and the stride alone has none of this)
 #[inline(always)]
 fn without_fastest(order: Order, items: &[usize], count: usize) -> &[usize]
@@ -89,7 +89,7 @@ fn without_fastest(order: Order, items: &[usize], count: usize) -> &[usize]
     }
 }
 
-/// So many of the axes of a layout that move fastest as one, of this length and stride, and those that move slower.
+/// The axes of a layout that move fastest as one, of which `joined` has the number, and the length as one; and those that move slower.
 pub(super) fn as_one_axis<'a>(
     order: Order,
     lens: &'a [usize],

@@ -6,7 +6,7 @@ use crate::ndarray_layout::strided::Strided;
 use crate::ndarray_layout::strided::joined_layouts::{InLists, joined_in_each};
 use crate::ndarray_layout::strided::rows::{Rows, as_one_axis};
 
-/// The rows of a view along so many joined axes, of this length and stride.
+/// The rows of a view along its fastest axes, of which `joined` has the number, and the length as one; `stride` is theirs as one.
 ///
 /// <details><summary>Contract (proved)</summary>
 ///

@@ -46,7 +46,7 @@ impl<'a> LayoutStrides for InLists<'a> {
     }
 }
 
-/// The strides of so many axes in one layout after another.
+/// The strides of one layout after another, `ndim` of each.
 struct InOneList<'a> {
     strides: &'a [usize],
     ndim: usize,

@@ -132,7 +132,7 @@ impl RowAtBack {
     ///
     /// # Conditions
     ///
-    /// The caller ensures that so many are left. Otherwise this call or a later one panics or returns unspecified
+    /// The caller ensures that there are as many. Otherwise this call or a later one panics or returns unspecified
     /// values.
     ///
     /// <details><summary>Contract (proved)</summary>

@@ -70,7 +70,7 @@ pub(super) fn fastest_axis<'a>(order: Order, lens: &'a [usize], strides: &'a [us
     }
 }
 
-/// The items of the axes that move slower than so many others.
+/// The items of the axes that move slower than the `count` fastest ones.
 ///
 /// <details><summary>Contract (proved)</summary>
 ///
@@ -89,7 +89,7 @@ fn without_fastest(order: Order, items: &[usize], count: usize) -> &[usize] {
     }
 }
 
-/// So many of the axes of a layout that move fastest as one, of this length and stride, and those that move slower.
+/// The axes of a layout that move fastest as one, of which `joined` has the number, and the length as one; and those that move slower.
 ///
 /// <details><summary>Contract (proved)</summary>
 ///

@@ -11,7 +11,7 @@ use crate::ndarray_layout::Lengths;
 /// How many items rows have at least for which a loop of their own takes less time than one over all items.
 const LONG: usize = 16;
 
-/// How many items rows have at most that need no loop of their own, since a loop over rows of so many is one for that length.
+/// How many items rows have at most that need no loop of their own: a loop over rows knows their number.
 const FEW: usize = 4;
 
 /// Appends what a closure makes of each item to a list with room for it.
