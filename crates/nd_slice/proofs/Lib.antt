@@ -5,6 +5,7 @@ pub mod EveryItems
 pub mod FirstInGroups
 pub mod GroupsCut
 pub mod Permuted
+pub mod Remainders
 pub mod Slices
 pub mod SlicesInGroups
 pub mod SlicesInRows

@@ -13,7 +13,7 @@ use Rattle.std.proofs.lemmas.List.Sorted.{All-permutation, IsPermutation-map, ra
 use Rattle.nd_slice.proofs.Definitions.{AreApart, Fit, SliceInfoElem, argument_fault}
 use Rattle.nd_slice.proofs.GroupsCut.{CutSoFar, new_group, same_group}
 use Rattle.nd_slice.proofs.Laws.Intersect.{intersect_symmetric}
-use Rattle.nd_slice.proofs.Laws.RangesApart.{apart_past}
+use Rattle.nd_slice.proofs.Laws.RangesApart.{apart_by_remainder, apart_past}
 use Rattle.nd_slice.proofs.Permuted.{all_pairs_permuted}
 use Rattle.nd_slice.specs.SlicesInGroups.{AreApartAcross, AreSorted, HasNoFault, IsCut, IsOnAxis, end_at, group_at, kept, named, start_at}
 use Rattle.nd_slice.specs.declared.slices_in_groups.Grouped.{Grouped}
@@ -165,15 +165,31 @@ module _ (fit : Fit) (shape : List ℕ) where
       rest_of [] = []
       rest_of (z ∷ zs) = zs
 
+  -- one that ends before another begins is apart from it: by their ranges, or by their remainders
+  apart_on : (axis by : ℕ) (one other : Grouped) → HasNoFault fit shape one → HasNoFault fit shape other → IsOnAxis fit shape axis by one
+      → IsOnAxis fit shape axis by other → one.end ≤ other.start → AreApart fit shape one.elems.now other.elems.now
+  apart_on axis by one other fits also on beside past = elim (cases_lt 0 by) [
+    | inl some ↦
+        let first = on.remainder some in
+        let second = beside.remainder some in
+        apart_by_remainder fit shape axis by one.elems.now other.elems.now fits also on.there first.0 second.0
+        (λ same. absurd (omega (arith, past, first.1, first.2, second.1, same)))
+    | inr none ↦
+        let first = on.range (omega (arith, none)) in
+        let second = beside.range (omega (arith, none)) in
+        apart_past fit shape axis one.elems.now other.elems.now fits also
+        (record { there = on.there; past = omega (arith, past, first.1, second.0) })
+  ]
+
   -- those that are cut on an axis
-  pub record AreCut (axis : ℕ) (items new sorted cut : List Grouped) : Type 0 where
+  pub record AreCut (axis by : ℕ) (items new sorted cut : List Grouped) : Type 0 where
     pub kept_is : map kept new ≡ map kept items
-    pub on_axis : All (IsOnAxis fit shape axis) new
+    pub on_axis : All (IsOnAxis fit shape axis by) new
     pub moved : IsPermutation new sorted
     pub named_is : map named cut ≡ map named sorted
     pub is_cut : IsCut sorted cut
 
-  module _ (axis : ℕ) (items new sorted cut : List Grouped) (are : AreCut axis items new sorted cut) where
+  module _ (axis by : ℕ) (items new sorted cut : List Grouped) (are : AreCut axis by items new sorted cut) where
     pub named_moved : IsPermutation (map named items) (map named cut)
     named_moved =
         subst (λ ns. IsPermutation ns (map named cut)) (named_of_kept items new are.kept_is)
@@ -198,24 +214,21 @@ module _ (fit : Fit) (shape : List ℕ) where
         (all_of_map named (λ (z : ℕ × List SliceInfoElem). argument_fault fit shape z.1 ≡ None) new
         (subst (All (λ (z : ℕ × List SliceInfoElem). argument_fault fit shape z.1 ≡ None)) (sym (named_of_kept items new are.kept_is))
         (All-map (λ (z : ℕ × List SliceInfoElem). argument_fault fit shape z.1 ≡ None) named items fits))) in
-        let axes : All (IsOnAxis fit shape axis) sorted = All-permutation (IsOnAxis fit shape axis) new sorted are.moved are.on_axis in
+        let axes : All (IsOnAxis fit shape axis by) sorted =
+        All-permutation (IsOnAxis fit shape axis by) new sorted are.moved are.on_axis in
         let differ : group_at cut i ≢ group_at cut j = λ e. ne (
         sym (get_or-map (λ (item : Grouped). item.group) cut i d 0 (omega (arith, before, below))) ∙ e
         ∙ get_or-map (λ (item : Grouped). item.group) cut j d 0 below) in
         let apart : AreApart fit shape one.elems.now other.elems.now = elim (are.is_cut.parted i j before over differ) [
           | inl groups ↦ in_sorted i j d before over (λ e. groups (get_or-map (λ (item : Grouped). item.group) sorted i d 0 under ∙ e
               ∙ sym (get_or-map (λ (item : Grouped). item.group) sorted j d 0 over)))
-          | inr past ↦ apart_past fit shape axis one.elems.now other.elems.now (fit_sorted i d under) (fit_sorted j d over) (record {
-            there = (axes i d under).there;
-            past = omega (
-              arith,
-              past,
-              get_or-map (λ (item : Grouped). item.end) sorted i d 0 under,
-              get_or-map (λ (item : Grouped). item.start) sorted j d 0 over,
-              (axes i d under).end,
-              (axes j d over).start,
-            );
-          })
+          | inr past ↦ apart_on axis by one other (fit_sorted i d under) (fit_sorted j d over) (axes i d under) (axes j d over)
+              (omega (
+                arith,
+                past,
+                get_or-map (λ (item : Grouped). item.end) sorted i d 0 under,
+                get_or-map (λ (item : Grouped). item.start) sorted j d 0 over,
+              ))
         ] in
         subst (λ slice. AreApart fit shape slice (get_or cut j d).elems.now) (same_elems i d under)
         (subst (AreApart fit shape one.elems.now) (same_elems j d over) apart)

@@ -1,11 +1,11 @@
 -- Slices in groups, of which no two share an index.
-use Rattle.std.specs.Prelude.{◌≡◌, ◌≢◌, ◌⊎◌, ℕ, ◌<◌, ◌≤◌, None, List, [], length, map, slice_index_or}
+use Rattle.std.specs.Prelude.{◌≡◌, ◌≢◌, ◌⊎◌, ℕ, ◌+◌, ◌%◌, ◌<◌, ◌≤◌, None, List, [], length, map, slice_index_or}
 use Rattle.std.specs.List.{AllPairs}
 use Rattle.nd_slice.specs.declared.fit.Fit.{Fit}
 use Rattle.nd_slice.specs.declared.elem.SliceInfoElem.{SliceInfoElem}
 use Rattle.nd_slice.specs.declared.slices_in_groups.Grouped.{Grouped}
 use Rattle.nd_slice.specs.IntersectingPair.{AreApart}
-use Rattle.nd_slice.specs.RangesApart.{end_on, start_on}
+use Rattle.nd_slice.specs.RangesApart.{HasRemainderOn, end_on, start_on}
 use Rattle.nd_slice.specs.SliceFault.{argument_fault}
 
 -- a slice with its position in the list that it is of
@@ -25,11 +25,12 @@ abbrev pub AreApartAcross : Fit → List ℕ → List Grouped → Type 0
 AreApartAcross fit shape =
     AllPairs (λ one other. one.group ≢ other.group → AreApart fit shape one.elems.now other.elems.now)
 
--- the axis is there, and the range is that of the slice
-pub record IsOnAxis (fit : Fit) (shape : List ℕ) (axis : ℕ) (item : Grouped) : Type 0 where
+-- the axis is there, and the range is that of the slice, or alone the remainder, divided by a number, that is of all its picks
+pub record IsOnAxis (fit : Fit) (shape : List ℕ) (axis by : ℕ) (item : Grouped) : Type 0 where
   pub there : axis < length shape
-  pub start : item.start ≡ start_on fit shape axis item.elems.now
-  pub end : item.end ≡ end_on fit shape axis item.elems.now
+  pub range : by ≡ 0 → (item.start ≡ start_on fit shape axis item.elems.now) × (item.end ≡ end_on fit shape axis item.elems.now)
+  pub remainder : 0 < by → HasRemainderOn by fit shape axis item.elems.now
+      × (item.start ≡ start_on fit shape axis item.elems.now % by) × (item.end ≡ item.start + 1)
 
 -- the number of the group of the item at a position
 abbrev pub group_at : List Grouped → ℕ → ℕ

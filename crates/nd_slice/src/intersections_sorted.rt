@@ -158,10 +158,12 @@ pub fn first_elems_intersection_sorted<S: SliceElems>(
 /// compared. If an allocation fails, the result is found without memory, as by `first_intersection`.
 ///
 /// Sorts five arguments or more, and so takes memory in proportion to their count `k`. They may be in
-/// any order. They are parted by gaps between their ranges, on one axis after another, again and
-/// again. Tiles of an array, and all blocks that such cuts part, take time in proportion to
-/// `k * log(k)` for each time that each axis is cut. Those that no cut parts are compared as by
-/// `first_intersection`, and so are all if one of them has new axes.
+/// any order. They are separated by gaps between their picks, on one axis after another, again and
+/// again; on an axis where all that pick more than one coordinate have one step, also by the remainders
+/// of their picks divided by it. Rows, columns, tiles of an array, with steps or without, and all blocks
+/// that such cuts separate take time in proportion to `k * log(k)` for each time that each axis is cut.
+/// Those that no cut separates are compared as by `first_intersection`, and so are all if one of them
+/// has new axes.
 ///
 /// `2..,2..`, `..2,..2`, `2..,..2`, `..2,2..` and `1,1` on `[4,4]`: `Some((1, 4))`, by (1,1). The
 /// project's own.

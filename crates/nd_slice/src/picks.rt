@@ -1,6 +1,6 @@
 //! What an element of a slice argument picks of an axis: how many coordinates, which, where they lie, and the errors of one that
 //! doesn't fit.
-ghost use Rattle.std.specs.Prelude.{◌≡◌, ◌↔◌, ◌-◌, ◌*◌, ◌<◌, ◌≤◌, ◌^◌, pos, ◌≤ℤ◌, IfOk, IsTrue, MatchOption, [], length, max, slice_index};
+ghost use Rattle.std.specs.Prelude.{◌≡◌, ◌⊎◌, ◌↔◌, ◌-◌, ◌*◌, ◌%◌, ℕ, ◌<◌, ◌≤◌, ◌^◌, pos, ◌≤ℤ◌, IfOk, IsTrue, MatchOption, [], length, max, slice_index};
 ghost use Rattle.std.specs.List.{All, Contains};
 ghost use Rattle.std.specs.Result.{result_err};
 ghost use Rattle.nd_base.specs.Signed.{magnitude, signed as signed_reading};
@@ -11,6 +11,7 @@ ghost use Rattle.nd_slice.specs.ElemRange.{elem_range};
 ghost use Rattle.nd_slice.specs.SlicedAxis.{picked_stride, first_offset};
 ghost use Rattle.nd_slice.specs.Picks.{between, picks};
 ghost use Rattle.nd_slice.specs.PicksIntersect.{PicksIntersect};
+ghost use Rattle.nd_slice.specs.RangesApart.{end_of, least_of};
 ghost use Rattle.nd_slice.specs.SliceBounds.{end_meaning, start_meaning};
 ghost use Rattle.nd_slice.specs.SliceFault.{elem_fault};
 
@@ -88,6 +89,32 @@ impl AxisPicks {
             (self.end - 1 - extent, self.end - 1)
         } else {
             (self.start, self.start + extent)
+        }
+    }
+
+    /// The least coordinate that is picked, and the one after the greatest; both are `start` if none is picked.
+    #[inline(always)]
+    pub(crate) fn range(self) -> (usize, usize)
+        ensures start { result.0 ≡ least_of self.start (between self.step self.start self.end) }
+        ensures end { result.1 ≡ end_of result.0 (between self.step self.start self.end) }
+    {
+        if self.start == self.end {
+            return (self.start, self.start);
+        }
+        let (least, greatest) = self.ends();
+        (least, greatest + 1)
+    }
+
+    /// The distance between the coordinates that are picked; 0 if there is at most one.
+    #[inline(always)]
+    pub(crate) fn distance(self) -> usize
+        ensures { (by : ℕ) → (result ≡ 0) ⊎ (result ≡ by) → All (λ pick. pick % by ≡
+            least_of self.start (between self.step self.start self.end) % by) (between self.step self.start self.end) }
+    {
+        if self.count() <= 1 {
+            0
+        } else {
+            self.step.unsigned_abs()
         }
     }
 

@@ -1,13 +1,14 @@
 //! Slices in groups of which no two share an index: groups of few slices, where most are apart on some axis.
-ghost use Rattle.std.specs.Prelude.{◌≡◌, IfOk, IfSome, map};
+ghost use Rattle.std.specs.Prelude.{◌≡◌, ◌<◌, IfOk, IfSome, map};
 ghost use Rattle.std.specs.List.{All, enumerate_from};
 ghost use Rattle.std.specs.List.Sorted.{IsPermutation};
+ghost use Rattle.nd_slice.specs.RangesApart.{HasRemainderOn};
 ghost use Rattle.nd_slice.specs.SlicesInGroups.{AreApartAcross, AreInGroups, AreSorted, HasNoFault, IsCut, IsOnAxis, kept, named};
 
 use crate::elem::SliceInfoElem;
 use crate::elems::SliceElems;
 use crate::fit::Fit;
-use crate::ranges_apart::range_on;
+use crate::ranges_apart::{range_on, step_on};
 use std::alloc::{AllocError, Global};
 
 /// A slice of a list with its position there, in a group of slices, and its range on an axis.
@@ -51,24 +52,51 @@ pub(crate) fn one_group<S: SliceElems>(
     Ok(items)
 }
 
-/// The same slices with their ranges on an axis. `None` where one of them isn't known.
+/// The distance between the picks of an axis where that is the same for all slices that pick more than one; else 1. Divided by it the
+/// picks of a slice leave one remainder.
+fn common_step(shape: &[usize], axis: usize, items: &[Grouped<'_>], fit: Fit) -> usize
+    requires { All (HasNoFault fit shape.now) items.now }
+    ensures some { 0 < result }
+    ensures remainders { All (λ item. HasRemainderOn result fit shape.now axis item.elems.now) items.now }
+{
+    let mut common = 0;
+    for item in items {
+        let step = step_on(shape, axis, item.elems, fit);
+        if common == 0 {
+            common = step;
+        } else if step != 0 && step != common {
+            return 1;
+        }
+    }
+    common.max(1)
+}
+
+/// The same slices with their ranges on an axis; or, where `by` isn't 0, with the remainders that their picks leave, divided by it.
+/// `None` where one of them isn't known.
 fn on_axis<'a>(
     alloc: Global,
     shape: &[usize],
     axis: usize,
+    by: usize,
     items: &[Grouped<'a>],
     fit: Fit,
 ) -> Result<Option<Vec<Grouped<'a>>>, AllocError>
-    requires { All (HasNoFault fit shape.now) items.now }
+    requires fits { All (HasNoFault fit shape.now) items.now }
+    requires remainders { 0 < by → All (λ item. HasRemainderOn by fit shape.now axis item.elems.now) items.now }
     ensures kept { IfOk result (λ found. IfSome found (λ new.
         map kept new.items ≡ map kept items.now)) }
     ensures on_axis { IfOk result (λ found. IfSome found (λ new.
-        All (IsOnAxis fit shape.now axis) new.items)) }
+        All (IsOnAxis fit shape.now axis by) new.items)) }
 {
     let mut new = Vec::with_capacity(alloc, items.len())?;
     for item in items {
         let Some((start, end)) = range_on(shape, axis, item.elems, fit) else {
             return Ok(None);
+        };
+        let (start, end) = if by == 0 {
+            (start, end)
+        } else {
+            (start % by, start % by + 1)
         };
         new.push(Grouped {
             group: item.group,
@@ -109,7 +137,34 @@ fn cut<'a>(alloc: Global, items: &[Grouped<'a>]) -> Result<Vec<Grouped<'a>>, All
     Ok(cut)
 }
 
-/// The same slices in more groups, in order of these: those are apart that lie apart on an axis. `None` where a range isn't known.
+/// The same slices in more groups, in order of these: those are apart that lie apart on an axis, or, where `by` isn't 0, whose picks
+/// leave other remainders there, divided by it. `None` where a range isn't known.
+fn cut_along<'a>(
+    alloc: Global,
+    shape: &[usize],
+    axis: usize,
+    by: usize,
+    items: &[Grouped<'a>],
+    fit: Fit,
+) -> Result<Option<Vec<Grouped<'a>>>, AllocError>
+    requires fits { All (HasNoFault fit shape.now) items.now }
+    requires remainders { 0 < by → All (λ item. HasRemainderOn by fit shape.now axis item.elems.now) items.now }
+    requires apart { AreApartAcross fit shape.now items.now }
+    ensures named { IfOk result (λ found. IfSome found (λ new.
+        IsPermutation (map named items.now) (map named new.items))) }
+    ensures in_order { IfOk result (λ found. IfSome found (λ new. AreInGroups new.items)) }
+    ensures apart { IfOk result (λ found. IfSome found (λ new.
+        AreApartAcross fit shape.now new.items)) }
+{
+    let Some(mut new) = on_axis(alloc, shape, axis, by, items, fit)? else {
+        return Ok(None);
+    };
+    new.sort_unstable_by_key(|item| (item.group, item.start));
+    Ok(Some(cut(alloc, new.as_slice())?))
+}
+
+/// The same slices in more groups, in order of these: those are apart that lie apart on an axis, or whose picks leave other remainders
+/// there, divided by a step that all have. `None` where a range isn't known.
 pub(crate) fn cut_on_axis<'a>(
     alloc: Global,
     shape: &[usize],
@@ -125,9 +180,12 @@ pub(crate) fn cut_on_axis<'a>(
     ensures apart { IfOk result (λ found. IfSome found (λ new.
         AreApartAcross fit shape.now new.items)) }
 {
-    let Some(mut new) = on_axis(alloc, shape, axis, items, fit)? else {
-        return Ok(None);
-    };
-    new.sort_unstable_by_key(|item| (item.group, item.start));
-    Ok(Some(cut(alloc, new.as_slice())?))
+    let step = common_step(shape, axis, items, fit);
+    if step == 1 {
+        return cut_along(alloc, shape, axis, 0, items, fit);
+    }
+    match cut_along(alloc, shape, axis, step, items, fit)? {
+        Some(classes) => cut_along(alloc, shape, axis, 0, classes.as_slice(), fit),
+        None => Ok(None),
+    }
 }

@@ -136,7 +136,7 @@ pub fn first_elems_intersection<S: SliceElems>(shape: &[usize], slices: &[S], fi
 ///
 /// Takes no memory. Two arguments take time as in `slices_intersect`. `k` arguments that begin in
 /// their order along an axis, or in the reverse order, take time in proportion to `k` where each
-/// overlaps few others there: an argument is compared only with those that begin before it ends. So
+/// overlaps few others there: an argument is compared only with those that begin before its last pick. So
 /// it is for the rows of an array or its tiles, from the first to the last or from the last to the
 /// first. Arguments in no order, or with new axes, are compared pair by pair: `k * (k - 1) / 2`.
 /// `first_intersection_sorted` takes memory, and less time for those in no order.

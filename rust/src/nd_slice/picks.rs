@@ -104,6 +104,40 @@ impl AxisPicks {
         if self.step < 0 { (self.end - 1 - extent, self.end - 1) } else { (self.start, self.start + extent) }
     }
 
+    /// The least coordinate that is picked, and the one after the greatest; both are `start` if none is picked.
+    ///
+    /// <details><summary>Contract (proved)</summary>
+    ///
+    /// ```text
+    /// ensures start: result.0 ≡ least_of self.start (between self.step self.start self.end)
+    /// ensures end: result.1 ≡ end_of result.0 (between self.step self.start self.end)
+    /// ```
+    /// [How to read it](crate::contracts)
+    /// </details>
+    #[inline(always)]
+    pub(crate) fn range(self) -> (usize, usize) {
+        if self.start == self.end {
+            return (self.start, self.start);
+        }
+        let (least, greatest) = self.ends();
+        (least, greatest + 1)
+    }
+
+    /// The distance between the coordinates that are picked; 0 if there is at most one.
+    ///
+    /// <details><summary>Contract (proved)</summary>
+    ///
+    /// ```text
+    /// ensures (by : ℕ) → (result ≡ 0) ⊎ (result ≡ by) → All (λ pick. pick % by ≡
+    ///     least_of self.start (between self.step self.start self.end) % by) (between self.step self.start self.end)
+    /// ```
+    /// [How to read it](crate::contracts)
+    /// </details>
+    #[inline(always)]
+    pub(crate) fn distance(self) -> usize {
+        if self.count() <= 1 { 0 } else { self.step.unsigned_abs() }
+    }
+
     /// The distance in elements, with its sign, from coordinate 0 to the one that is picked first, where the axis has that
     /// stride; 0 where none is picked.
     ///

@@ -6,7 +6,7 @@ use crate::memory::prelude::{FallibleVec, Vec};
 use crate::nd_slice::elem::SliceInfoElem;
 use crate::nd_slice::elems::SliceElems;
 use crate::nd_slice::fit::Fit;
-use crate::nd_slice::ranges_apart::range_on;
+use crate::nd_slice::ranges_apart::{range_on, step_on};
 
 /// A slice of a list with its position there, in a group of slices, and its range on an axis.
 #[derive(Clone, Copy)]
@@ -44,14 +44,42 @@ pub(crate) fn one_group<S: SliceElems>(slices: &[S]) -> Result<Vec<Grouped<'_>>,
     Ok(items)
 }
 
-/// The same slices with their ranges on an axis. `None` where one of them isn't known.
+/// The distance between the picks of an axis where that is the same for all slices that pick more than one; else 1. Divided by it the
+/// picks of a slice leave one remainder.
 ///
 /// <details><summary>Contract (proved)</summary>
 ///
 /// ```text
 /// requires All (HasNoFault fit shape.now) items.now
+/// ensures some: 0 < result
+/// ensures remainders: All (λ item. HasRemainderOn result fit shape.now axis item.elems.now) items.now
+/// ```
+/// [How to read it](crate::contracts)
+/// </details>
+#[inline]
+fn common_step(shape: &[usize], axis: usize, items: &[Grouped<'_>], fit: Fit) -> usize {
+    let mut common = 0;
+    for item in items {
+        let step = step_on(shape, axis, item.elems, fit);
+        if common == 0 {
+            common = step;
+        } else if step != 0 && step != common {
+            return 1;
+        }
+    }
+    common.max(1)
+}
+
+/// The same slices with their ranges on an axis; or, where `by` isn't 0, with the remainders that their picks leave, divided by it.
+/// `None` where one of them isn't known.
+///
+/// <details><summary>Contract (proved)</summary>
+///
+/// ```text
+/// requires fits: All (HasNoFault fit shape.now) items.now
+/// requires remainders: 0 < by → All (λ item. HasRemainderOn by fit shape.now axis item.elems.now) items.now
 /// ensures kept: IfOk result (λ found. IfSome found (λ new. map kept new.items ≡ map kept items.now))
-/// ensures on_axis: IfOk result (λ found. IfSome found (λ new. All (IsOnAxis fit shape.now axis) new.items))
+/// ensures on_axis: IfOk result (λ found. IfSome found (λ new. All (IsOnAxis fit shape.now axis by) new.items))
 /// ```
 /// [How to read it](crate::contracts)
 /// </details>
@@ -59,6 +87,7 @@ pub(crate) fn one_group<S: SliceElems>(slices: &[S]) -> Result<Vec<Grouped<'_>>,
 fn on_axis<'a>(
     shape: &[usize],
     axis: usize,
+    by: usize,
     items: &[Grouped<'a>],
     fit: Fit,
 ) -> Result<Option<Vec<Grouped<'a>>>, AllocError> {
@@ -67,6 +96,7 @@ fn on_axis<'a>(
         let Some((start, end)) = range_on(shape, axis, item.elems, fit) else {
             return Ok(None);
         };
+        let (start, end) = if by == 0 { (start, end) } else { (start % by, start % by + 1) };
         new.fallible_push(Grouped { group: item.group, start, end, position: item.position, elems: item.elems })?;
     }
     Ok(Some(new))
@@ -107,7 +137,39 @@ fn cut<'a>(items: &[Grouped<'a>]) -> Result<Vec<Grouped<'a>>, AllocError> {
     Ok(cut)
 }
 
-/// The same slices in more groups, in order of these: those are apart that lie apart on an axis. `None` where a range isn't known.
+/// The same slices in more groups, in order of these: those are apart that lie apart on an axis, or, where `by` isn't 0, whose picks
+/// leave other remainders there, divided by it. `None` where a range isn't known.
+///
+/// <details><summary>Contract (proved)</summary>
+///
+/// ```text
+/// requires fits: All (HasNoFault fit shape.now) items.now
+/// requires remainders: 0 < by → All (λ item. HasRemainderOn by fit shape.now axis item.elems.now) items.now
+/// requires apart: AreApartAcross fit shape.now items.now
+/// ensures named: IfOk result (λ found. IfSome found (λ new.
+///     IsPermutation (map named items.now) (map named new.items)))
+/// ensures in_order: IfOk result (λ found. IfSome found (λ new. AreInGroups new.items))
+/// ensures apart: IfOk result (λ found. IfSome found (λ new. AreApartAcross fit shape.now new.items))
+/// ```
+/// [How to read it](crate::contracts)
+/// </details>
+#[inline]
+fn cut_along<'a>(
+    shape: &[usize],
+    axis: usize,
+    by: usize,
+    items: &[Grouped<'a>],
+    fit: Fit,
+) -> Result<Option<Vec<Grouped<'a>>>, AllocError> {
+    let Some(mut new) = on_axis(shape, axis, by, items, fit)? else {
+        return Ok(None);
+    };
+    new.sort_unstable_by_key(|item| (item.group, item.start));
+    Ok(Some(cut(new.as_slice())?))
+}
+
+/// The same slices in more groups, in order of these: those are apart that lie apart on an axis, or whose picks leave other remainders
+/// there, divided by a step that all have. `None` where a range isn't known.
 ///
 /// <details><summary>Contract (proved)</summary>
 ///
@@ -128,9 +190,12 @@ pub(crate) fn cut_on_axis<'a>(
     items: &[Grouped<'a>],
     fit: Fit,
 ) -> Result<Option<Vec<Grouped<'a>>>, AllocError> {
-    let Some(mut new) = on_axis(shape, axis, items, fit)? else {
-        return Ok(None);
-    };
-    new.sort_unstable_by_key(|item| (item.group, item.start));
-    Ok(Some(cut(new.as_slice())?))
+    let step = common_step(shape, axis, items, fit);
+    if step == 1 {
+        return cut_along(shape, axis, 0, items, fit);
+    }
+    match cut_along(shape, axis, step, items, fit)? {
+        Some(classes) => cut_along(shape, axis, 0, classes.as_slice(), fit),
+        None => Ok(None),
+    }
 }

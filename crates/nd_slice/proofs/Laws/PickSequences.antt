@@ -83,7 +83,7 @@ module _ (k start end : ℕ) where
       Contains-at xs (i - times) 0 below (here ∙ ap (λ n. least + n * suc k) back)
 
 module _ (start end : ℕ) {least greatest : ℕ} where
-  stepped : (step : ℤ) (pick : ℕ) → 0 < magnitude step → AreEnds (between step start end) least greatest
+  pub stepped : (step : ℤ) (pick : ℕ) → 0 < magnitude step → AreEnds (between step start end) least greatest
       → Contains (between step start end) pick → least ≤ pick → magnitude step ∣ pick - least
   stepped (pos k) pick moves ends p order = apart_up k start end moves (placed ends.0) (placed p) order
   stepped (negsuc k) pick moves ends p order = apart_down k start end (placed ends.0) (placed p) order

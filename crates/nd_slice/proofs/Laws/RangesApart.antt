@@ -1,57 +1,117 @@
--- What a slice argument picks of an axis lies in its range there, so arguments whose ranges are apart share no index.
-use Rattle.std.proofs.Common.{◌≡◌, ℕ, zero, suc, ◌<◌, ◌≤◌, None, inl, inr, ◌⊎◌, List, [], ◌∷◌, length, get_or, map, refl, ap}
-use Rattle.std.proofs.Common.{sym, ◌∙◌, arith, Contains}
-use Rattle.std.specs.List.{AllZip}
+-- What a slice argument picks of an axis lies in its range there, so arguments of which one lies before the other share no index.
+use Rattle.std.proofs.Common.{◌≡◌, ◌≢◌, ℕ, zero, suc, ◌+◌, ◌%◌, ◌<◌, ◌≤◌, min, max, None, inl, inr, ◌⊎◌, List, [], ◌∷◌, length, get_or, map}
+use Rattle.std.proofs.Common.{refl, ap, sym, ◌∙◌, arith, All, Contains}
+use Rattle.std.specs.List.{AllZip, fold}
 use Rattle.std.proofs.lemmas.List.{length-map}
-use Rattle.nd_base.proofs.Laws.Options.{option_or_none}
-use Rattle.nd_slice.proofs.Definitions.{Fit, Intersect, IsPast, SliceInfoElem, argument_fault, axis_elems, axis_picks, elem_fault, elem_on}
+use Rattle.std.proofs.lemmas.List.Elements.{All-contains, All-head, All-tail}
+use Rattle.nd_slice.proofs.Definitions.{Fit, Intersect, IsPast, SliceInfoElem, argument_fault, axis_elems, axis_picks, elem_on}
 use Rattle.nd_slice.proofs.Definitions.{elem_picks}
-use Rattle.nd_slice.proofs.Definitions.{end_meaning, end_on, fault_of_each, in_count, magnitude, slice_with, start_meaning, start_on}
+use Rattle.nd_slice.proofs.Definitions.{end_on, in_count, start_on}
 use Rattle.nd_slice.specs.ElemRange.{elem_range}
+use Rattle.nd_slice.specs.RangesApart.{HasRemainderOn, end_of, end_of_picks, least_of, least_pick}
 use Rattle.nd_slice.specs.declared.elem.SliceInfoElem.TheVariants as elem
 use Rattle.nd_slice.proofs.Laws.AxisElems.{lens_of_axis_elems}
-use Rattle.nd_slice.proofs.Laws.AxisFault.{fits_of_no_fault, step_moves}
 use Rattle.nd_slice.proofs.Laws.Intersect.{intersect_symmetric}
-use Rattle.nd_slice.proofs.Laws.PickSequences.{in_range}
 use Rattle.nd_slice.proofs.Laws.SliceFault.{elements_of_no_fault}
 
 -- a number from start up to, not including, end
 abbrev pub IsBetween : ℕ → ℕ → ℕ → Type 0
 IsBetween start end number = (start ≤ number) × (number < end)
 
--- what an element without fault picks of an axis is in its range
-pub elem_picked_between : (fit : Fit) (len : ℕ) (e : SliceInfoElem) (pick : ℕ) → elem_fault fit len e ≡ None
-    → Contains (elem_picks fit len e) pick → IsBetween (elem_range fit len e).0 (elem_range fit len e).1 pick
-elem_picked_between fit len (elem.Slice start end step) pick none h =
-    let slice = slice_with start end step in
-    let moves = step_moves fit len slice (fits_of_no_fault fit len slice none) in
-    let at = in_range step (magnitude (start_meaning fit len slice)) (magnitude (end_meaning fit len slice)) pick moves h in
-    (at.0, omega (arith, at.1))
-elem_picked_between fit len (elem.Index index) pick none (zero, below, at) = (omega (arith, at), omega (arith, at))
-elem_picked_between fit len (elem.Index index) pick none (suc k, below, at) = absurd (omega (arith, below))
-elem_picked_between fit len elem.NewAxis pick none h = absurd (omega (arith, h.1))
+-- ---- the least of some numbers
+fold_min_low : (a : ℕ) (xs : List ℕ) → fold min a xs ≤ a
+fold_min_low a [] = omega arith
+fold_min_low a (y ∷ xs) = omega (arith, fold_min_low (min a y) xs)
 
-of_each : (fit : Fit) (elems : List (ℕ × SliceInfoElem)) (index : List ℕ) (k : ℕ) → fault_of_each fit elems ≡ None → k < length elems
+fold_min_below : (a : ℕ) (xs : List ℕ) (x : ℕ) → Contains xs x → fold min a xs ≤ x
+fold_min_below a [] x here = absurd (omega (arith, here.1))
+fold_min_below a (y ∷ xs) x (zero, below, at) = omega (arith, fold_min_low (min a y) xs, at)
+fold_min_below a (y ∷ xs) x (suc k, below, at) = fold_min_below (min a y) xs x (k, omega (arith, below), at)
+
+fold_min_above : (m a : ℕ) (xs : List ℕ) → m ≤ a → All (λ x. m ≤ x) xs → m ≤ fold min a xs
+fold_min_above m a [] low all = low
+fold_min_above m a (y ∷ xs) low all =
+    let first = All-head (λ x. m ≤ x) y xs all in
+    fold_min_above m (min a y) xs (omega (arith, low, first)) (All-tail (λ x. m ≤ x) y xs all)
+
+least_below : (other : ℕ) (xs : List ℕ) (x : ℕ) → Contains xs x → least_of other xs ≤ x
+least_below other [] x here = absurd (omega (arith, here.1))
+least_below other (y ∷ xs) x (zero, below, at) = omega (arith, fold_min_low y xs, at)
+least_below other (y ∷ xs) x (suc k, below, at) = fold_min_below y xs x (k, omega (arith, below), at)
+
+-- it is the one of them that is not above any
+pub least_is : (other m : ℕ) (xs : List ℕ) → Contains xs m → All (λ x. m ≤ x) xs → least_of other xs ≡ m
+least_is other m [] here all = absurd (omega (arith, here.1))
+least_is other m (y ∷ xs) here all =
+    let low = least_below other (y ∷ xs) m here in
+    let high = fold_min_above m y xs (All-head (λ x. m ≤ x) y xs all) (All-tail (λ x. m ≤ x) y xs all) in
+    omega (arith, low, high)
+
+-- ---- the number after the greatest
+end_above : (a : ℕ) (xs : List ℕ) → a ≤ end_of a xs
+end_above a [] = omega arith
+end_above a (y ∷ xs) = omega (arith, end_above (max a (y + 1)) xs)
+
+end_past : (a : ℕ) (xs : List ℕ) (x : ℕ) → Contains xs x → x < end_of a xs
+end_past a [] x here = absurd (omega (arith, here.1))
+end_past a (y ∷ xs) x (zero, below, at) = omega (arith, end_above (max a (y + 1)) xs, at)
+end_past a (y ∷ xs) x (suc k, below, at) = end_past (max a (y + 1)) xs x (k, omega (arith, below), at)
+
+end_within : (m a : ℕ) (xs : List ℕ) → a ≤ m → All (λ x. x < m) xs → end_of a xs ≤ m
+end_within m a [] high all = high
+end_within m a (y ∷ xs) high all =
+    let first = All-head (λ x. x < m) y xs all in
+    end_within m (max a (y + 1)) xs (omega (arith, high, first)) (All-tail (λ x. x < m) y xs all)
+
+-- it comes after the one of them that is not below any
+pub end_is : (a m : ℕ) (xs : List ℕ) → a ≤ m → Contains xs m → All (λ x. x < m + 1) xs → end_of a xs ≡ m + 1
+end_is a m xs low here all = omega (arith, end_past a xs m here, end_within (m + 1) a xs (omega (arith, low)) all)
+
+-- what an element picks of an axis lies from its least pick on, and before the end of its picks
+pub elem_picked_between : (fit : Fit) (len : ℕ) (e : SliceInfoElem) (pick : ℕ) → Contains (elem_picks fit len e) pick
+    → IsBetween (least_pick fit len e) (end_of_picks fit len e) pick
+elem_picked_between fit len e pick here =
+    let picks = elem_picks fit len e in
+    (least_below (elem_range fit len e).0 picks pick here, end_past (least_pick fit len e) picks pick here)
+
+of_each : (fit : Fit) (elems : List (ℕ × SliceInfoElem)) (index : List ℕ) (k : ℕ) → k < length elems
     → AllZip Contains (map (λ one. elem_picks fit one.0 one.1) elems) index
-    → IsBetween (elem_range fit (get_or elems k (0, elem.NewAxis)).0 (get_or elems k (0, elem.NewAxis)).1).0
-    (elem_range fit (get_or elems k (0, elem.NewAxis)).0 (get_or elems k (0, elem.NewAxis)).1).1 (get_or index k 0)
-of_each fit [] index k none below all = absurd (omega (arith, below))
-of_each fit (one ∷ elems) [] k none below all = absurd all
-of_each fit (one ∷ elems) (i ∷ index) zero none below all =
-    elem_picked_between fit one.0 one.1 i (option_or_none (elem_fault fit one.0 one.1) none).0 all.0
-of_each fit (one ∷ elems) (i ∷ index) (suc k) none below all =
-    of_each fit elems index k (option_or_none (elem_fault fit one.0 one.1) none).1 (omega (arith, below)) all.1
+    → Contains (elem_picks fit (get_or elems k (0, elem.NewAxis)).0 (get_or elems k (0, elem.NewAxis)).1) (get_or index k 0)
+of_each fit [] index k below all = absurd (omega (arith, below))
+of_each fit (one ∷ elems) [] k below all = absurd all
+of_each fit (one ∷ elems) (i ∷ index) zero below all = all.0
+of_each fit (one ∷ elems) (i ∷ index) (suc k) below all = of_each fit elems index k (omega (arith, below)) all.1
 
 module _ (fit : Fit) (shape : List ℕ) (axis : ℕ) where
-  -- each index that an argument without fault picks has its coordinate in the range
+  -- each index that an argument without fault picks has a coordinate that is picked of the axis
+  picked_on : (elems : List SliceInfoElem) (index : List ℕ) → argument_fault fit shape elems ≡ None → axis < length shape
+      → AllZip Contains (axis_picks fit shape elems) index
+      → Contains (elem_picks fit (elem_on shape axis elems).0 (elem_on shape axis elems).1) (get_or index axis 0)
+  picked_on elems index none there all =
+      let parts = elements_of_no_fault fit shape elems none in
+      let count : length (axis_elems shape elems) ≡ length shape =
+      sym (length-map (axis_elems shape elems) (λ one. one.0)) ∙ ap length (lens_of_axis_elems shape elems parts.0) in
+      of_each fit (axis_elems shape elems) index axis (omega (arith, there, count)) all
+
+  -- and so one from the least up to the greatest
   pub picked_between : (elems : List SliceInfoElem) (index : List ℕ) → argument_fault fit shape elems ≡ None → axis < length shape
       → AllZip Contains (axis_picks fit shape elems) index
       → IsBetween (start_on fit shape axis elems) (end_on fit shape axis elems) (get_or index axis 0)
   picked_between elems index none there all =
-      let parts = elements_of_no_fault fit shape elems none in
-      let count : length (axis_elems shape elems) ≡ length shape =
-      sym (length-map (axis_elems shape elems) (λ one. one.0)) ∙ ap length (lens_of_axis_elems shape elems parts.0) in
-      of_each fit (axis_elems shape elems) index axis parts.1 (omega (arith, there, count)) all
+      elem_picked_between fit (elem_on shape axis elems).0 (elem_on shape axis elems).1 (get_or index axis 0)
+      (picked_on elems index none there all)
+
+  -- arguments whose picks leave other remainders share no index
+  pub apart_by_remainder : (by : ℕ) (one other : List SliceInfoElem) → argument_fault fit shape one ≡ None
+      → argument_fault fit shape other ≡ None → axis < length shape → HasRemainderOn by fit shape axis one
+      → HasRemainderOn by fit shape axis other → start_on fit shape axis one % by ≢ start_on fit shape axis other % by
+      → Intersect fit shape one other → ⊥
+  apart_by_remainder by one other none also there has does differ intersect =
+      let coordinate = get_or intersect.0 axis 0 in
+      let picks = λ (elems : List SliceInfoElem). elem_picks fit (elem_on shape axis elems).0 (elem_on shape axis elems).1 in
+      let leaves = λ (elems : List SliceInfoElem) (pick : ℕ). pick % by ≡ start_on fit shape axis elems % by in
+      differ (sym (All-contains (leaves one) (picks one) coordinate has (picked_on one intersect.0 none there intersect.2))
+      ∙ All-contains (leaves other) (picks other) coordinate does (picked_on other intersect.0 also there intersect.3))
 
   -- arguments of which the one is past the other on some axis share no index
   pub apart_past : (one other : List SliceInfoElem) → argument_fault fit shape one ≡ None → argument_fault fit shape other ≡ None

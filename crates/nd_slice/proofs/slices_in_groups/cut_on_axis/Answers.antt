@@ -1,36 +1,36 @@
--- The slices are sorted by their groups and by where they begin, and are cut there.
-use Rattle.std.proofs.Common.{◌≡◌, IfSome, rules, sym, subst, map}
-use Rattle.std.proofs.lemmas.Fn.{always_returns_same}
-use Rattle.std.specs.List.{All}
+-- What is cut by remainders is cut by ranges too.
+use Rattle.std.proofs.Common.{IfSome, None, Option, Some, map, subst, sym, List}
 use Rattle.std.specs.List.Sorted.{IsPermutation}
-use Rattle.nd_slice.specs.SlicesInGroups.{AreSorted, IsOnAxis, kept}
-use Rattle.nd_slice.proofs.SlicesInGroups.{AreCut, apart_in_cut, key_of, named_moved, sorted_by_key}
+use Rattle.std.proofs.lemmas.List.Sorted.{IsPermutation-trans}
+use Rattle.std.proofs.lemmas.Result.{IfOk-weaker}
+use Rattle.nd_slice.specs.SlicesInGroups.{named}
+use Rattle.nd_slice.specs.declared.slices_in_groups.Grouped.{Grouped}
+use Rattle.nd_slice.proofs.SlicesInGroups.{fit_moved}
 use Rattle.nd_slice.proofs.slices_in_groups.cut_on_axis.Goals as goal
-use Rattle.nd_slice.proofs.slices_in_groups.cut_on_axis.Goals.{After-drop-new-2}
+use Rattle.nd_slice.proofs.slices_in_groups.cut_on_axis.Goals.{After-as_slice}
 
-pub cut-requires : goal.cut-requires
-cut-requires c =
-    subst AreSorted (sym c.as_slice.ensures.value)
-    (sorted_by_key c.sort_unstable_by_key.new.self.items
-    (c.sort_unstable_by_key.ensures.sorted key_of (always_returns_same _ _ _ (λ a r f h. search rules))))
+moved : (c : After-as_slice) → IsPermutation (map named c.args.items.now) (map named c.as_slice.result.now)
+moved c =
+    subst (λ xs. IsPermutation (map named c.args.items.now) (map named xs)) (sym c.as_slice.ensures.value)
+    (subst (λ found. IfSome found (λ new. IsPermutation (map named c.args.items.now) (map named new.items))) c.in-Some.is
+    c.in_ok-classes.ensures.named)
 
-are_cut : (c : After-drop-new-2)
-    → AreCut c.args.fit c.args.shape.now c.args.axis c.args.items.now c.in-Some.new.items c.as_slice.result.now c.in_ok-cut.field-0.items
-are_cut c = record {
-  kept_is = subst (λ found. IfSome found (λ new. map kept new.items ≡ map kept c.args.items.now)) c.in-Some.is c.in_ok-new.ensures.kept;
-  on_axis = subst (λ found. IfSome found (λ new. All (IsOnAxis c.args.fit c.args.shape.now c.args.axis) new.items)) c.in-Some.is
-      c.in_ok-new.ensures.on_axis;
-  moved = subst (IsPermutation c.in-Some.new.items) (sym c.as_slice.ensures.value) c.sort_unstable_by_key.ensures.permutation;
-  named_is = c.in_ok-cut.ensures.named;
-  is_cut = c.in_ok-cut.ensures.cut;
-}
+pub cut_along-requires-in-Some-clause-fits : goal.cut_along-requires-in-Some-clause-fits
+cut_along-requires-in-Some-clause-fits c =
+    let at = (goal.at.cut_along-requires-in-Some-clause-fits c).After-as_slice in
+    fit_moved c.args.fit c.args.shape.now c.args.items.now c.as_slice.result.now (moved at) c.requires.fits
 
-pub returns-clause-named : goal.returns-clause-named
-returns-clause-named c =
-    named_moved c.args.fit c.args.shape.now c.args.axis c.args.items.now c.in-Some.new.items c.as_slice.result.now
-    c.in_ok-cut.field-0.items (are_cut c)
+further : {V : Type 0} (items_of : V → List Grouped) (items classes : List Grouped) (found : Option V)
+    → IsPermutation (map named items) (map named classes)
+    → IfSome found (λ new. IsPermutation (map named classes) (map named (items_of new)))
+    → IfSome found (λ new. IsPermutation (map named items) (map named (items_of new)))
+further items_of items classes None first second = tt
+further items_of items classes (Some new) first second =
+    IsPermutation-trans (map named items) (map named classes) (map named (items_of new)) first second
 
-pub returns-clause-apart : goal.returns-clause-apart
-returns-clause-apart c =
-    apart_in_cut c.args.fit c.args.shape.now c.args.axis c.args.items.now c.in-Some.new.items c.as_slice.result.now
-    c.in_ok-cut.field-0.items (are_cut c) c.requires.fits c.requires.apart
+pub returns-in-Some-clause-named : goal.returns-in-Some-clause-named
+returns-in-Some-clause-named c =
+    let at = (goal.at.returns-in-Some-clause-named c).After-as_slice in
+    IfOk-weaker c.cut_along-in-Some.result _ _
+    (λ found second. further (λ v. v.items) c.args.items.now c.as_slice.result.now found (moved at) second)
+    c.cut_along-in-Some.ensures.named
