@@ -15,7 +15,7 @@ ghost use Rattle.nd_owned.specs.private.Written.{HasWritten};
 use crate::picked_view::PickedView;
 use ndarray_layout::{
     ErrorKind, Fit, LayoutError, Lengths, ShapeError, SliceInfoElem, Strided,
-    first_elems_intersection, from_kind,
+    any_elems_intersection, from_kind,
 };
 use std::alloc::Global;
 
@@ -64,14 +64,14 @@ pub(crate) fn check_counts<T: Copy, D: Lengths>(
 
 /// Checks that no two slices share an index. Each fits the shape of the view, so none is checked again.
 pub(crate) fn check_apart<T: Copy, D: Lengths>(
+    alloc: Global,
     view: &Strided<D>,
     writes: &[SliceItems<T>],
 ) -> Result<(), ShapeError>
     requires { slices_fault view.now.shape (map write_of writes.now) ≡ None }
     ensures { IsIntersectionFault view.now.shape (map write_of writes.now) (result_err result) }
 {
-    let found = first_elems_intersection(view.dim().slice(), writes, Fit::Strict);
-    match found {
+    match any_elems_intersection(alloc, view.dim().slice(), writes, Fit::Strict) {
         Some(_) => Err(from_kind(ErrorKind::Unsupported)),
         None => Ok(()),
     }

@@ -261,10 +261,9 @@ impl<T: Copy, D: Lengths> OwnedArray<T, D> {
     /// Each slice comes with the items for its indices, in row-major order. All other items are unchanged, spare ones too.
     /// A slice that picks nothing intersects no other, and an empty list of writes is no error.
     ///
-    /// The slices are compared as `first_intersection` does: of `k` slices `k * (k - 1) / 2` pairs, each up to an axis on
-    /// which their ranges are apart. Where the slices begin in their order along an axis, or in the reverse order, as the
-    /// rows of an array or its tiles row by row, a slice is compared only with those that begin before it ends; of rows that
-    /// is none. Before the first write the parts that the slices pick are listed if there are several.
+    /// The slices are compared as `first_intersection_sorted` does, which takes memory for more than four: rows, columns and tiles, with
+    /// steps or without, in any order take time in proportion to `k * log(k)` for `k` slices. If that memory fails, they are compared
+    /// without it. Before the first write the parts that the slices pick are listed if there are several.
     ///
     /// # Errors
     ///
@@ -297,7 +296,7 @@ impl<T: Copy, D: Lengths> OwnedArray<T, D> {
             return self.set_one(alloc, write);
         }
         check_counts(&self.view, writes)?;
-        check_apart(&self.view, writes)?;
+        check_apart(alloc, &self.view, writes)?;
         let parts = picked_views(alloc, &self.view, writes)?;
         write_all(self.items.as_mut_slice(), parts.as_slice());
         Ok(())

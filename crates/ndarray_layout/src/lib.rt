@@ -34,11 +34,11 @@ pub use nd_shape::{
 // Slices, and arguments of slices.
 pub use nd_slice::{
     AxisElems, AxisPicks, Fit, NewAxis, Slice, SliceArg, SliceElems, SliceInfo, SliceInfoElem,
-    abs_index, arith_seq_intersect, check_elems, check_slice, coordinate_of, do_collapse_axis,
-    do_slice, elems_intersect, extended_gcd, first_elems_intersection,
-    first_elems_intersection_sorted, first_intersection, first_intersection_sorted, in_ndim_of,
-    out_ndim_of, resolve_elem, resolve_slice, slice_min_max, slices_intersect,
-    solve_linear_diophantine_eq, to_abs_slice,
+    abs_index, any_elems_intersection, arith_seq_intersect, check_elems, check_slice,
+    coordinate_of, do_collapse_axis, do_slice, elems_intersect, extended_gcd,
+    first_elems_intersection, first_elems_intersection_sorted, first_intersection,
+    first_intersection_sorted, in_ndim_of, out_ndim_of, resolve_elem, resolve_slice, slice_min_max,
+    slices_intersect, solve_linear_diophantine_eq, to_abs_slice,
 };
 
 // Reshapes that move no element.

@@ -158,6 +158,37 @@ pub fn first_elems_intersection_sorted<S: SliceElems>(
     Ok(Some((one.min(other), one.max(other))))
 }
 
+/// The positions of two slices that share an index, the less first: what `first_elems_intersection_sorted` returns. The
+/// project's own.
+///
+/// Takes memory for more than four slices; if an allocation fails, they are found without it.
+///
+/// # Conditions
+///
+/// The caller ensures that each fits, and that each length is below 2^63. Otherwise this call or a later one panics or
+/// returns unspecified values.
+///
+/// <details><summary>Contract (proved)</summary>
+///
+/// ```text
+/// requires lens_fit: All (λ len. len < 2 ^ 63) shape.now
+/// requires fit: slices_fault fit shape.now (map S.list slices.now) ≡ None
+/// ensures IsIntersection fit shape.now (map S.list slices.now) result
+/// ```
+/// [How to read it](crate::contracts)
+/// </details>
+#[inline]
+#[must_use]
+pub fn any_elems_intersection<S: SliceElems>(shape: &[usize], slices: &[S], fit: Fit) -> Option<(usize, usize)> {
+    if slices.len() > FEW {
+        let found = first_elems_intersection_sorted(shape, slices, fit);
+        if let Ok(found) = found {
+            return found;
+        }
+    }
+    first_elems_intersection(shape, slices, fit)
+}
+
 /// Two of many slice arguments on a shape that share an index, as `first_intersection` returns them:
 /// their positions in the list, the less first. Where several pairs do, it is any of them. `None` if
 /// and only if no two share one.
@@ -200,11 +231,5 @@ pub fn first_intersection_sorted<D: Lengths, S: SliceElems>(
 ) -> Result<Option<(usize, usize)>, ShapeError> {
     let shape = dim.slice();
     check_slices(shape, slices, fit)?;
-    if slices.len() <= FEW {
-        return Ok(first_elems_intersection(shape, slices, fit));
-    }
-    match first_elems_intersection_sorted(shape, slices, fit) {
-        Ok(found) => Ok(found),
-        Err(_) => Ok(first_elems_intersection(shape, slices, fit)),
-    }
+    Ok(any_elems_intersection(shape, slices, fit))
 }

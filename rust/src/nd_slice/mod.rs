@@ -50,7 +50,7 @@ pub use intersect::{
     arith_seq_intersect, elems_intersect, extended_gcd, slices_intersect, solve_linear_diophantine_eq,
 };
 pub use intersecting_pair::{first_elems_intersection, first_intersection};
-pub use intersections_sorted::{first_elems_intersection_sorted, first_intersection_sorted};
+pub use intersections_sorted::{any_elems_intersection, first_elems_intersection_sorted, first_intersection_sorted};
 pub use picks::{AxisPicks, resolve_elem, resolve_slice, slice_min_max};
 pub use slice::Slice;
 pub use slice_errors::{check_elems, check_slice, in_ndim_of, out_ndim_of};

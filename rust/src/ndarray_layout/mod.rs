@@ -47,8 +47,8 @@ pub use crate::nd_shape::{
 // Slices, and arguments of slices.
 pub use crate::nd_slice::{
     AxisElems, AxisPicks, Fit, NewAxis, Slice, SliceArg, SliceElems, SliceInfo, SliceInfoElem, abs_index,
-    arith_seq_intersect, check_elems, check_slice, coordinate_of, do_collapse_axis, do_slice, elems_intersect,
-    extended_gcd, first_elems_intersection, first_elems_intersection_sorted, first_intersection,
+    any_elems_intersection, arith_seq_intersect, check_elems, check_slice, coordinate_of, do_collapse_axis, do_slice,
+    elems_intersect, extended_gcd, first_elems_intersection, first_elems_intersection_sorted, first_intersection,
     first_intersection_sorted, in_ndim_of, out_ndim_of, resolve_elem, resolve_slice, slice_min_max, slices_intersect,
     solve_linear_diophantine_eq, to_abs_slice,
 };

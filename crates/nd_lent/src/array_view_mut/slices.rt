@@ -14,13 +14,10 @@ ghost use Rattle.nd_lent.specs.Lent.{array_of};
 use crate::array_view_mut::ArrayViewMut;
 use nd_access::Cells;
 use ndarray_layout::{
-    ErrorKind, Fit, LayoutError, Lengths, ShapeError, SliceElems, Strided, check_elems,
-    first_elems_intersection, first_elems_intersection_sorted, from_kind, out_ndim_of,
+    ErrorKind, Fit, LayoutError, Lengths, ShapeError, SliceElems, Strided, any_elems_intersection,
+    check_elems, from_kind, out_ndim_of,
 };
 use std::alloc::Global;
-
-/// How many slices are compared pair by pair, since that is as fast.
-const FEW: usize = 4;
 
 /// Checks that a slice fits a shape, and leaves as many axes as a type fixes, if it fixes a count. Errors: those of
 /// `Strided::slice`, but for memory.
@@ -55,26 +52,6 @@ fn check_slices_into<S: SliceElems>(
     Ok(())
 }
 
-/// The positions of two slices that share an index. The caller ensures that each fits, and that each length is below 2^63. Where
-/// an allocation fails, they are found without memory.
-fn shared_by_two<S: SliceElems>(
-    alloc: Global,
-    shape: &[usize],
-    slices: &[S],
-) -> Option<(usize, usize)>
-    requires lens_fit { All (λ len. len < 2 ^ 63) shape.now }
-    requires fit { slices_fault Strict shape.now (map S.list slices.now) ≡ None }
-    ensures { IsIntersection Strict shape.now (map S.list slices.now) result }
-{
-    if slices.len() > FEW {
-        let found = first_elems_intersection_sorted(alloc, shape, slices, Fit::Strict);
-        if let Ok(found) = found {
-            return found;
-        }
-    }
-    first_elems_intersection(shape, slices, Fit::Strict)
-}
-
 /// Checks that each slice of a view fits it and leaves as many axes as a type fixes, and then that no two share an index. The caller
 /// ensures that no two indices of the view alias. Errors: that of the first slice with one, then `Unsupported`.
 pub(crate) fn check_apart<D: Lengths, S: SliceElems>(
@@ -90,7 +67,7 @@ pub(crate) fn check_apart<D: Lengths, S: SliceElems>(
 {
     let shape = view.dim().slice();
     check_slices_into(fixed, shape, slices)?;
-    match shared_by_two(alloc, shape, slices) {
+    match any_elems_intersection(alloc, shape, slices, Fit::Strict) {
         Some(_) => Err(from_kind(ErrorKind::Unsupported)),
         None => Ok(()),
     }

@@ -4,7 +4,7 @@
 use crate::lent::nd_owned::picked_view::PickedView;
 use crate::memory::prelude::{FallibleVec, Vec};
 use crate::ndarray_layout::{
-    ErrorKind, Fit, LayoutError, Lengths, ShapeError, SliceInfoElem, Strided, first_elems_intersection, from_kind,
+    ErrorKind, Fit, LayoutError, Lengths, ShapeError, SliceInfoElem, Strided, any_elems_intersection, from_kind,
 };
 
 /// A slice, and the items for its places.
@@ -64,8 +64,7 @@ pub(crate) fn check_counts<T: Copy, D: Lengths>(view: &Strided<D>, writes: &[Sli
 /// </details>
 #[inline]
 pub(crate) fn check_apart<T: Copy, D: Lengths>(view: &Strided<D>, writes: &[SliceItems<T>]) -> Result<(), ShapeError> {
-    let found = first_elems_intersection(view.dim().slice(), writes, Fit::Strict);
-    match found {
+    match any_elems_intersection(view.dim().slice(), writes, Fit::Strict) {
         Some(_) => Err(from_kind(ErrorKind::Unsupported)),
         None => Ok(()),
     }

@@ -8,8 +8,8 @@ use Rattle.ndarray_layout.proofs.Laws.View.{lens_fit}
 use Rattle.nd_owned.specs.MultiSet.{write_of}
 use Rattle.nd_owned.proofs.multi_set.check_apart.Goals as goal
 
-pub first_elems_intersection-found-requires : goal.first_elems_intersection-found-requires
-first_elems_intersection-found-requires g c =
+pub any_elems_intersection-requires : goal.any_elems_intersection-requires
+any_elems_intersection-requires g c =
     let same = sym (c.slice.ensures.list ∙ c.dim.ensures.list) in
     let writes = c.args.writes.now in
     record {

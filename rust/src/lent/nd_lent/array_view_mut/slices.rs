@@ -5,12 +5,9 @@ use crate::lent::nd_access::Cells;
 use crate::lent::nd_lent::array_view_mut::ArrayViewMut;
 use crate::memory::prelude::{FallibleVec, Vec};
 use crate::ndarray_layout::{
-    ErrorKind, Fit, LayoutError, Lengths, ShapeError, SliceElems, Strided, check_elems, first_elems_intersection,
-    first_elems_intersection_sorted, from_kind, out_ndim_of,
+    ErrorKind, Fit, LayoutError, Lengths, ShapeError, SliceElems, Strided, any_elems_intersection, check_elems,
+    from_kind, out_ndim_of,
 };
-
-/// How many slices are compared pair by pair, since that is as fast.
-const FEW: usize = 4;
 
 /// Checks that a slice fits a shape, and leaves as many axes as a type fixes, if it fixes a count. Errors: those of
 /// `Strided::slice`, but for memory.
@@ -50,32 +47,6 @@ fn check_slices_into<S: SliceElems>(fixed: Option<usize>, shape: &[usize], slice
     Ok(())
 }
 
-/// The positions of two slices that share an index. Where an allocation fails, they are found without memory.
-///
-/// # Conditions
-///
-/// The caller ensures that each fits, and that each length is below 2^63. Otherwise the behaviour is undefined.
-///
-/// <details><summary>Contract (proved)</summary>
-///
-/// ```text
-/// requires lens_fit: All (λ len. len < 2 ^ 63) shape.now
-/// requires fit: slices_fault Strict shape.now (map S.list slices.now) ≡ None
-/// ensures IsIntersection Strict shape.now (map S.list slices.now) result
-/// ```
-/// [How to read it](crate::contracts)
-/// </details>
-#[inline]
-fn shared_by_two<S: SliceElems>(shape: &[usize], slices: &[S]) -> Option<(usize, usize)> {
-    if slices.len() > FEW {
-        let found = first_elems_intersection_sorted(shape, slices, Fit::Strict);
-        if let Ok(found) = found {
-            return found;
-        }
-    }
-    first_elems_intersection(shape, slices, Fit::Strict)
-}
-
 /// Checks that each slice of a view fits it and leaves as many axes as a type fixes, and then that no two share an
 /// index. Errors: that of the first slice with one, then `Unsupported`.
 ///
@@ -101,7 +72,7 @@ pub(in crate::lent::nd_lent) fn check_apart<D: Lengths, S: SliceElems>(
 ) -> Result<(), ShapeError> {
     let shape = view.dim().slice();
     check_slices_into(fixed, shape, slices)?;
-    match shared_by_two(shape, slices) {
+    match any_elems_intersection(shape, slices, Fit::Strict) {
         Some(_) => Err(from_kind(ErrorKind::Unsupported)),
         None => Ok(()),
     }

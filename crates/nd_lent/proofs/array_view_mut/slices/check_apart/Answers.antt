@@ -10,8 +10,8 @@ use Rattle.nd_lent.proofs.Laws.Faults.{view_slices_fit}
 use Rattle.nd_lent.proofs.SlicesApart.{apart_in_place, fault_of_first, fault_of_sharing}
 use Rattle.nd_lent.proofs.array_view_mut.slices.check_apart.Goals as goal
 
-pub shared_by_two-requires : goal.shared_by_two-requires
-shared_by_two-requires g c =
+pub any_elems_intersection-requires : goal.any_elems_intersection-requires
+any_elems_intersection-requires g c =
     let slices = map g.S.SliceElems.list c.args.slices.now in
     record {
       lens_fit = subst (All (λ len. len < 2 ^ 63)) (sym (c.slice-shape.ensures.list ∙ c.dim.ensures.list)) (lens_fit c.dim.ensures.is_view);
