@@ -14,7 +14,7 @@ ghost use Rattle.nd_loops.specs.OwnedRows.{OwnsEachRow};
 ghost use Rattle.nd_access.specs.MapsTo.{MapsAt};
 
 use crate::calling::call_rows;
-use crate::nearest::nearest_view;
+use crate::nearest::nearest_of_many;
 use nd_access::Cells;
 use ndarray_layout::{Lengths, Order, Rows, Strided};
 
@@ -54,11 +54,12 @@ pub fn map_view<T, D: Lengths, F: FnMut(&mut T)>(cells: &mut Cells<'_, T>, view:
 }
 
 /// Calls a closure at the item of each index of a view, each once: in the order in which they lie; with more axes than `nearest_view`
-/// sorts, in row-major order.
+/// sorts, or no more than `few` indices, in row-major order.
 #[inline(always)]
 pub fn map_nearest<T, D: Lengths, F: FnMut(&mut T)>(
     cells: &mut Cells<'_, T>,
     view: &Strided<D>,
+    few: usize,
     f: F,
 )
     requires own { AreOwn cells.old.marks (view_places RowMajor view.now) }
@@ -68,7 +69,7 @@ pub fn map_nearest<T, D: Lengths, F: FnMut(&mut T)>(
         cells.old.items cells.new.items }
     ensures keeps_access { right_of cells.new ≡ right_of cells.old }
 {
-    match nearest_view(view) {
+    match nearest_of_many(view, few) {
         Some(nearest) => map_view(cells, &nearest, f),
         None => map_view(cells, view, f),
     }

@@ -83,15 +83,24 @@ fn with_six_axes<D: Lengths>(view: &Strided<D>) -> Option<Strided<Ix6>>
     .ok()
 }
 
+/// A view whose row-major order goes forwards through the places of this one; `None` where its own does, where none is known, or
+/// where it has no more than `few` indices.
+pub(crate) fn nearest_of_many<D: Lengths>(view: &Strided<D>, few: usize) -> Option<Strided<Ix6>>
+    ensures { IfSome result (λ nearest.
+        IsPermutation (view_places RowMajor nearest) (view_places RowMajor view.now)) }
+{
+    if view.len() <= few || !goes_otherwise(view.dim().slice(), view.strides().slice()) {
+        return None;
+    }
+    Some(with_six_axes(view)?.nearest())
+}
+
 /// A view whose row-major order goes forwards through the places of this one; `None` where its own does, or none is known.
 pub fn nearest_view<D: Lengths>(view: &Strided<D>) -> Option<Strided<Ix6>>
     ensures { IfSome result (λ nearest.
         IsPermutation (view_places RowMajor nearest) (view_places RowMajor view.now)) }
 {
-    if !goes_otherwise(view.dim().slice(), view.strides().slice()) {
-        return None;
-    }
-    Some(with_six_axes(view)?.nearest())
+    nearest_of_many(view, 0)
 }
 
 /// The rows of the nearest view, or those of the view itself where there is none.

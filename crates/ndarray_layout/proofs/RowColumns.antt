@@ -9,7 +9,7 @@ use Rattle.nd_base.proofs.Laws.Definitions.{index_of_flat_in, signed, size}
 use Rattle.ndarray_layout.specs.declared.strided.rows_of.Columns.{Columns}
 use Rattle.ndarray_layout.specs.declared.strided.rows_of.InColumn.{InColumn}
 use Rattle.ndarray_layout.specs.declared.strided.rows.Fastest.{Fastest}
-use Rattle.ndarray_layout.specs.NumberedRows.{HasColumns, IsAfter, IsBefore, numbered_place}
+use Rattle.ndarray_layout.specs.NumberedRows.{HasColumns, IsAfter, IsNext, numbered_place}
 use Rattle.ndarray_layout.specs.Rows.{rows_places}
 use Rattle.ndarray_layout.specs.RowsLeft.{axis_view, row_place}
 use Rattle.ndarray_layout.specs.View.{View, IsPlace, IsView, place_at, view_of, view_places}
@@ -115,41 +115,29 @@ module _ (order : Order) (view : View) where
       ∙ ap (numbered_place order view) (sym none)
 
 module _ {order : Order} {view : View} {columns : Columns} where
-  -- a row comes before those of its column that are left
-  pub is_before : (number : ℕ) {last : InColumn} → pos last.place ≡ numbered_place order view number
-      → number % columns.len + last.left ≤ columns.len → IsBefore order view columns (number + 1) last
-  is_before number at within =
-      let same : number ≡ number + 1 - 1 = omega arith in
-      record {
-        some = λ _. omega arith;
-        place = λ _. at ∙ ap (numbered_place order view) same;
-        within = λ _. omega (arith, within, ap (λ n. n % columns.len) same);
-      }
+  module _ (h : HasColumns order view columns) {number : ℕ} {last : InColumn} where
+    -- the next one of the column
+    module _ (some : 0 < last.left) (below : number < size view.shape) (n : IsNext order view columns number last) (v : IsView view) where
+      pub next_fits : IsPlace (pos last.place)
+      next_fits = subst IsPlace (sym (n.place some)) (numbered_within order view v number below)
 
-  -- the next one of the column
-  module _ (h : HasColumns order view columns) {number : ℕ} {last : InColumn} (some : 1 < last.left)
-      (below : number < size view.shape) where
-    module _ (b : IsBefore order view columns number last) where
-      same : number ≡ number - 1 + 1
-      same = omega (arith, b.some some)
+      -- and the one after it
+      module _ (more : 1 < last.left) (within : number + last.left ≤ size view.shape) where
+        rest : (number + 1) % columns.len ≡ number % columns.len + 1
+        rest = next_remainder number columns.len (omega (arith, more, n.within some))
 
-      rest : (number - 1 + 1) % columns.len ≡ (number - 1) % columns.len + 1
-      rest = next_remainder (number - 1) columns.len (omega (arith, some, b.within some))
+        pub next_of_column : pos last.place +ℤ columns.stride ≡ numbered_place order view (number + 1)
+        next_of_column = ap (λ place. place +ℤ columns.stride) (n.place some)
+            ∙ h.on number (omega (arith, more, within)) (omega (arith, rest))
 
-      pub next_of_column : pos last.place +ℤ columns.stride ≡ numbered_place order view number
-      next_of_column =
-          ap (λ place. place +ℤ columns.stride) (b.place some)
-          ∙ h.on (number - 1) (omega (arith, same, below)) (omega (arith, rest))
-          ∙ ap (numbered_place order view) (sym same)
+        pub after_fits : IsPlace (pos last.place +ℤ columns.stride)
+        after_fits = subst IsPlace (sym next_of_column) (numbered_within order view v (number + 1) (omega (arith, more, within)))
 
-      pub left_of_column : number % columns.len + (last.left - 1) ≤ columns.len
-      left_of_column = omega (arith, some, b.within some, rest, ap (λ n. n % columns.len) same)
-
-      pub last_fits : IsView view → IsPlace (pos last.place)
-      last_fits v = subst IsPlace (sym (b.place some)) (numbered_within order view v (number - 1) (omega (arith, same, below)))
+        pub left_of_column : (number + 1) % columns.len + (last.left - 1) ≤ columns.len
+        left_of_column = omega (arith, more, n.within some, rest)
 
     -- the one before it
-    module _ (b : IsAfter order view columns (number + 1) last) where
+    module _ (some : 1 < last.left) (below : number < size view.shape) (b : IsAfter order view columns (number + 1) last) where
       rest_after : number % columns.len + 1 ≡ (number + 1) % columns.len
       rest_after = remainder_before number columns.len (h.some (omega (arith, below))) (omega (arith, some, b.within some))
 

@@ -49,11 +49,10 @@ pub record HasColumns (order : Order) (starts : View) (columns : Columns) : Type
   pub on : (number : ℕ) → number + 1 < size starts.shape → 0 < (number + 1) % columns.len
       → numbered_place order starts number +ℤ columns.stride ≡ numbered_place order starts (number + 1)
 
--- if more rows of the column are left, the last one is the row before this number, and they come after it
-pub record IsBefore (order : Order) (starts : View) (columns : Columns) (number : ℕ) (last : InColumn) : Type 0 where
-  pub some : 1 < last.left → 0 < number
-  pub place : 1 < last.left → pos last.place ≡ numbered_place order starts (number - 1)
-  pub within : 1 < last.left → (number - 1) % columns.len + last.left ≤ columns.len
+-- if rows of the column are left, the next one is the row of this number, and they come from it on
+pub record IsNext (order : Order) (starts : View) (columns : Columns) (number : ℕ) (next : InColumn) : Type 0 where
+  pub place : 0 < next.left → pos next.place ≡ numbered_place order starts number
+  pub within : 0 < next.left → number % columns.len + next.left ≤ columns.len
 
 -- if more rows of the column are left, the last one is the row of this number, and they come before it
 pub record IsAfter (order : Order) (starts : View) (columns : Columns) (number : ℕ) (last : InColumn) : Type 0 where
@@ -61,20 +60,20 @@ pub record IsAfter (order : Order) (starts : View) (columns : Columns) (number :
   pub place : 1 < last.left → pos last.place ≡ numbered_place order starts number
   pub within : 1 < last.left → last.left ≤ number % columns.len + 1
 
--- how many rows were given before those that are left of the columns that have begun, which the last one counts too
+-- how many rows were given before those that are left of the columns that have begun
 abbrev pub count_given : ℕ → ℕ → ℕ
-count_given begun left = begun + 1 - left
+count_given begun left = begun - left
 
--- an iterator has these rows left, and knows where in their columns those lie that came last
+-- an iterator has these rows left, and knows where in their columns those lie that come next and that came last from the back
 pub record AreRowsInColumns (order : Order) (starts : View) (len : ℕ) (columns : Columns) (front back : InColumn)
     (begun end : ℕ) : Type 0 where
   pub between : AreRowsBetween order starts len (count_given begun front.left) end
   pub steps : HasColumns order starts columns
-  pub some : (0 < front.left) × (0 < back.left)
-  pub few : front.left ≤ begun + 1
+  pub some : 0 < back.left
+  pub few : front.left ≤ begun
   pub reached : begun ≤ end
   pub whole : begun < end → begun % columns.len ≡ 0
-  pub before : IsBefore order starts columns (count_given begun front.left) front
+  pub next : IsNext order starts columns (count_given begun front.left) front
   pub after : IsAfter order starts columns end back
 
 -- examples
@@ -100,11 +99,11 @@ begins_last = refl
 other_stride : HasColumns RowMajor (slowest_view RowMajor 1 three_by_two) (record { len = 3; stride = pos 2 }) → ⊥
 other_stride has = both_ways (int_eq (pos 6) (pos 2)) refl ((Decides-int_eq (pos 6) (pos 2)).1 (has.on 0 (lit≤ tt) (lit≤ tt)))
 
-past_the_column : (starts : View) → IsBefore RowMajor starts (record { len = 3; stride = pos 2 }) 3 (record { place = 4; left = 2 }) → ⊥
-past_the_column starts before = le→nltb 3 4 (before.within (lit≤ tt))
+past_the_column : (starts : View) → IsNext RowMajor starts (record { len = 3; stride = pos 2 }) 2 (record { place = 4; left = 2 }) → ⊥
+past_the_column starts next = le→nltb 3 4 (next.within (lit≤ tt))
 
 of_the_column_before : (starts : View) → IsAfter RowMajor starts (record { len = 3; stride = pos 2 }) 3 (record { place = 4; left = 2 }) → ⊥
 of_the_column_before starts after = le→nltb 1 2 (after.within (lit≤ tt))
 
-one_of_two : count_given 2 2 ≡ 1
+one_of_two : count_given 2 1 ≡ 1
 one_of_two = refl

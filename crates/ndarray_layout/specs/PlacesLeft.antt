@@ -29,6 +29,11 @@ pub record ComesAfter (row : Row) (last : ℕ) : Type 0 where
 abbrev pub rows_and : List Row → Row → List Row
 rows_and rows last = rows ++ (if last.len == 0 then [] else last ∷ [])
 
+-- the places of a row, or of none
+abbrev pub places_of_row : Option Row → List ℤ
+places_of_row None = []
+places_of_row (Some row) = row_places row.start row.stride row.len
+
 -- an iterator has these places left: each is an `isize` from 0 on, as is how many they are, and no row is empty
 pub record ArePlacesLeft (place : ℕ) (stride : ℤ) (left : ℕ) (rows : List Row) : Type 0 where
   pub here : place ≤ limit
@@ -66,6 +71,12 @@ two_rows = refl
 one_row : rows_and (record { start = 0; stride = pos 1; len = 2 } ∷ []) (record { start = 5; stride = pos 1; len = 0 })
     ≡ record { start = 0; stride = pos 1; len = 2 } ∷ []
 one_row = refl
+
+of_no_row : places_of_row None ≡ []
+of_no_row = refl
+
+of_one_row : places_of_row (Some (record { start = 5; stride = pos 1; len = 2 })) ≡ pos 5 ∷ pos 6 ∷ []
+of_one_row = refl
 
 at_the_end : places_after 3 (pos 1) 0 [] ≡ []
 at_the_end = refl

@@ -53,6 +53,6 @@ impl<'a, T: Drop, D: Lengths> ArrayViewMut<'a, T, D> {
         ensures spare { KeepsSpare (array_of self.old) (array_of self.new) }
         ensures keeps_access { access_of self.new ≡ access_of self.old }
     {
-        map_nearest(&mut self.cells, &self.view, f);
+        map_nearest(&mut self.cells, &self.view, 0, f);
     }
 }

@@ -31,12 +31,16 @@ impl<'a, T: Drop, D: Lengths> ArrayViewMut<'a, T, D> {
     }
 }
 
+/// How many indices a part has at most whose axes aren't sorted to fill it: that takes longer than to write so many items.
+const FEW: usize = 16;
+
 impl<'a, T: Drop + Copy, D: Lengths> ArrayViewMut<'a, T, D> {
     ghost use Rattle.nd_lent.specs.Lent.{access_of, array_of};
 
     /// Writes an item at each index. Other items are unchanged.
     ///
-    /// Takes no memory. Goes over the items in the order in which they lie, as `map_in_place_nearest` does.
+    /// Takes no memory. Goes over the items in the order in which they lie, as `map_in_place_nearest` does; with at most 16 indices in
+    /// row-major order, which takes less time than to sort the axes.
     ///
     /// 5 to `[2]`, `[-1]` from 1 over 7 8 9: 5 5 9. ndarray's `fill`.
     pub fn fill(&mut self, item: T)
@@ -47,6 +51,7 @@ impl<'a, T: Drop + Copy, D: Lengths> ArrayViewMut<'a, T, D> {
         map_nearest(
             &mut self.cells,
             &self.view,
+            FEW,
             |stored: &mut T|
                 ensures { stored.new ≡ item }
             {

@@ -1,6 +1,6 @@
 -- Words of private contracts alone, of the calls below `Strided::rows`: the axis of a layout that moves fastest.
-use Rattle.std.specs.Prelude.{◌≡◌, ℕ, ◌-◌, ◌≤◌, ◌==◌, pos, ◌*ℤ◌, List, [], ◌∷◌, if◌then◌else◌, length, nat_eq, replicate, slice_index, refl}
-use Rattle.std.proofs.Common.{ap, eq-eqb, sym, ◌∙◌}
+use Rattle.std.specs.Prelude.{◌≡◌, ℕ, ◌-◌, ◌≤◌, ◌==◌, List, [], ◌∷◌, if◌then◌else◌, length, nat_eq, replicate, slice_index, refl}
+use Rattle.std.proofs.Common.{ap, eq-eqb}
 use Rattle.std.proofs.Math.Dec.{lit≤}
 use Rattle.std.proofs.lemmas.Bool.{both_ways}
 use Rattle.nd_base.specs.declared.order.Order.{Order}

@@ -1,11 +1,11 @@
 //! The places of rows one after another, counted, from both ends.
 ghost use Rattle.std.specs.List.{All};
-ghost use Rattle.std.specs.Prelude.{◌≡◌, ◌↔◌, ◌-◌, ◌<◌, ◌≤◌, ◌^◌, ◌∷◌, ◌++◌, [], pos, IfSome, IsTrue, MatchOption, drop, take, length};
+ghost use Rattle.std.specs.Prelude.{◌≡◌, ◌↔◌, ◌-◌, ◌<◌, ◌≤◌, ◌^◌, ◌∷◌, ◌++◌, [], pos, ◌+ℤ◌, IfSome, IsTrue, MatchOption, drop, take, length};
 ghost use Rattle.nd_base.specs.Bounds.{IsInBounds};
 ghost use Rattle.nd_base.specs.Size.{limit};
-ghost use Rattle.ndarray_layout.specs.PlacesLeft.{ArePlacesLeft, places_after, rows_and};
+ghost use Rattle.ndarray_layout.specs.PlacesLeft.{ArePlacesLeft, places_after, places_of_row, rows_and};
 ghost use Rattle.ndarray_layout.specs.Rows.{row_places, row_view, rows_places};
-ghost use Rattle.ndarray_layout.specs.View.{IsView};
+ghost use Rattle.ndarray_layout.specs.View.{IsPlace, IsView};
 
 use crate::strided::places::{offset_place, place_along_axis};
 use crate::strided::row_at_back::RowAtBack;
@@ -89,6 +89,25 @@ fn last_row<A: SlowerAxes>(
     Some(row)
 }
 
+/// What is left of a row after this place, of `left` with it; `None` where nothing is.
+#[inline(always)]
+fn rest_of_row(place: usize, stride: isize, left: usize) -> Option<Row>
+    requires some { 0 < left }
+    requires here { place ≤ limit }
+    requires next { 1 < left → IsPlace (pos place +ℤ stride) }
+    ensures { MatchOption result (left ≡ 1) (λ row. (1 < left) × (pos row.start ≡ pos place +ℤ stride)
+        × (row.stride ≡ stride) × (row.len ≡ left - 1)) }
+{
+    if left == 1 {
+        return None;
+    }
+    Some(Row {
+        start: offset_place(place, stride),
+        stride,
+        len: left - 1,
+    })
+}
+
 impl<A: SlowerAxes> CountedPlaces<A> {
     /// All places of rows.
     pub(super) fn new(rows: RowsOf<A>) -> Self
@@ -139,6 +158,22 @@ impl<A: SlowerAxes> CountedPlaces<A> {
             &mut self.left,
         )?;
         Some(row)
+    }
+
+    /// What is left of the row in progress, the rows that haven't begun, and what is left of the row in progress at the back.
+    pub(super) fn into_rows_left(self) -> (Option<Row>, RowsOf<A>, Option<Row>)
+        ensures places { self ≡ (places_of_row result.0 ++ rows_places result.1) ++ places_of_row result.2 }
+        ensures some { All (λ row. 0 < row.len) result.1 }
+    {
+        let CountedPlaces {
+            rows,
+            back,
+            place,
+            left,
+            stride,
+        } = self;
+        let mut back = back;
+        (rest_of_row(place, stride, left), rows, back.take())
     }
 
     /// Skips the next `count` places, or all that remain.

@@ -70,6 +70,15 @@ pub(super) fn offset_place(start: usize, offset: isize) -> usize
     (start as isize + offset) as usize
 }
 
+/// The place at an offset from another one, where there is one; else any number.
+#[inline(always)]
+pub(super) fn place_after(start: usize, offset: isize) -> usize
+    requires { start ≤ limit }
+    ensures { IsPlace (pos start +ℤ offset) → pos result ≡ pos start +ℤ offset }
+{
+    start.wrapping_add(unsigned(offset))
+}
+
 impl<D: Lengths> Strided<D> {
     /// The place of an index, in elements from the start of the data; `None` where it is no index
     /// of the shape.

@@ -5,6 +5,7 @@ ghost use Rattle.std.specs.List.{All};
 ghost use Rattle.std.specs.Prelude.{◌≡◌, ◌↔◌, ◌-◌, ◌<◌, ◌≤◌, ◌^◌, ◌++◌, [], pos, IfSome, IsTrue, MatchOption, Some, drop, take, length};
 ghost use Rattle.nd_base.specs.Bounds.{IsInBounds};
 ghost use Rattle.nd_base.specs.Size.{limit};
+ghost use Rattle.ndarray_layout.specs.PlacesLeft.{places_of_row};
 ghost use Rattle.ndarray_layout.specs.Rows.{row_places, row_view, rows_places};
 ghost use Rattle.ndarray_layout.specs.View.{IsView};
 
@@ -99,6 +100,30 @@ impl<A: SlowerAxes> PlacesOf<A> {
         match &mut self.stretch {
             Some(stretch) => stretch.take_row(),
             None => self.places.next_row_back(),
+        }
+    }
+
+    /// The places that are left as rows: what is left of the row in progress, the rows that haven't begun, and what is left of the row
+    /// in progress at the back. So a loop over the rows does nothing else.
+    ///
+    /// Takes no memory, and no time for each row.
+    ///
+    /// Of the places of `[3,3]` with strides `[5,1]` from 0, after one place from each end: the row of 1 2, that of 5 6 7, and the row
+    /// of 10 11. The project's own.
+    #[inline(always)]
+    pub fn into_rows_left(self) -> (Option<Row>, RowsOf<A>, Option<Row>)
+        ensures places { self ≡ (places_of_row result.0 ++ rows_places result.1) ++ places_of_row result.2 }
+        ensures some { All (λ row. 0 < row.len) result.1 }
+    {
+        let PlacesOf { stretch, places } = self;
+        let (first, rows, last) = places.into_rows_left();
+        match stretch {
+            Some(stretch) => {
+                let (mut stretch, mut none) = (stretch, rows);
+                none.advance(none.len());
+                (stretch.take_row(), none, None)
+            },
+            None => (first, rows, last),
         }
     }
 

@@ -2,7 +2,7 @@
 ghost use Rattle.std.specs.Iterator.{UpTo, YieldsFirst, YieldsLast, item_count};
 ghost use Rattle.std.specs.Iterator.SizeHint.{IsWithinCount};
 ghost use Rattle.std.specs.List.{All};
-ghost use Rattle.std.specs.Prelude.{◌≡◌, ◌==◌, ◌-◌, ◌+◌, ◌*◌, ◌<◌, ◌≤◌, ◌^◌, ◌∷◌, [], ℕ, if◌then◌else◌, drop, take, length, pos, IfSome, Some};
+ghost use Rattle.std.specs.Prelude.{◌≡◌, ◌==◌, ◌-◌, ◌+◌, ◌*◌, ◌<◌, ◌≤◌, ◌^◌, ◌∷◌, [], ℕ, if◌then◌else◌, drop, take, length, min, pos, IfSome, MatchOption, Some};
 ghost use Rattle.nd_base.specs.Signed.{all_signed};
 ghost use Rattle.nd_base.specs.Size.{limit, size};
 ghost use Rattle.nd_base.specs.ValidLayout.{IsValidLayout};
@@ -10,7 +10,7 @@ ghost use Rattle.ndarray_layout.specs.NumberedRows.{HasColumns, IsAfter, numbere
 ghost use Rattle.ndarray_layout.specs.Rows.{rows_places};
 ghost use Rattle.ndarray_layout.specs.View.{IsView, view_of};
 
-use crate::strided::places::offset_place;
+use crate::strided::places::{offset_place, place_after};
 use crate::strided::rows::{Row, fastest_axis, joined_axis};
 use crate::strided::slower_axes::SlowerAxes;
 use nd_base::{Order, signed};
@@ -62,7 +62,8 @@ fn columns_of_many(order: Order, lens: &[usize], strides: &[usize]) -> (Columns,
     (columns, product(lens))
 }
 
-/// Where the row begins that came last from an end, and how many rows of its column lie from there on, with it.
+/// Where a row begins, and how many rows of its column are left with it: at the front the row that comes next, at the back the one
+/// that came last, and those before it.
 #[derive(Clone, Copy)]
 pub(crate) struct InColumn {
     place: usize,
@@ -97,6 +98,29 @@ fn previous_in_column<A: SlowerAxes>(
     }
 }
 
+/// The column that begins with the row of a number, and the number after its last one that is left; `None` where all have begun.
+#[inline(always)]
+fn next_column<A: SlowerAxes>(
+    axes: &A,
+    columns: Columns,
+    begun: usize,
+    end: usize,
+) -> Option<(InColumn, usize)>
+    requires is_view { IsView (A.starts axes.now) }
+    requires order { begun ≤ end }
+    requires below { end ≤ size (A.starts axes.now).shape }
+    ensures { MatchOption result (begun ≡ end) (λ (front, next). (begun < end)
+        × (pos front.place ≡ numbered_place (A.order axes.now) (A.starts axes.now) begun)
+        × (front.left ≡ min columns.len (end - begun)) × (next ≡ begun + front.left)) }
+{
+    if begun == end {
+        return None;
+    }
+    let left = columns.len.min(end - begun);
+    let place = axes.place_of_number(begun);
+    Some((InColumn { place, left }, begun + left))
+}
+
 /// The rows of a view that are still to come, in an order, from both ends: `Rows` of a view that is borrowed, `StridedRows` where the
 /// iterator has the view. A contract sees the list of them.
 #[derive(Drop)]
@@ -106,7 +130,7 @@ pub struct RowsOf<A: SlowerAxes> {
     len: usize,
     stride: isize,
     columns: Columns,
-    // The rows that came last.
+    // The row that comes next, of a column that has begun, and the one that came last from the back.
     front: InColumn,
     back: InColumn,
     // The numbers after those of the last row of the columns that have begun at the front, and of the last row that is left.
@@ -139,15 +163,19 @@ impl<A: SlowerAxes> RowsOf<A> {
         let lent = axes.lent();
         let (columns, count) = columns_of(lent.order, lent.lens, lent.strides);
         let end = if len == 0 { 0 } else { count };
-        let none = InColumn { place: 0, left: 1 };
+        let begun = columns.len.min(end);
+        let front = InColumn {
+            place: lent.start,
+            left: begun,
+        };
         RowsOf {
             axes,
             len,
             stride,
             columns,
-            front: none,
-            back: none,
-            begun: 0,
+            front,
+            back: InColumn { place: 0, left: 1 },
+            begun,
             end,
         }
     }
@@ -162,15 +190,15 @@ impl<A: SlowerAxes> RowsOf<A> {
         self.len
     }
 
-    /// The one row that there is, where none has come yet; else `None`.
+    /// The one row that is left, where its column has begun; else `None`.
     pub(super) fn only(&self) -> Option<Row>
         ensures { IfSome result (λ row. self.now ≡ row ∷ []) }
     {
-        if self.begun > 0 || self.end != 1 {
+        if self.front.left != 1 || self.begun != self.end {
             return None;
         }
         Some(Row {
-            start: self.axes.lent().start,
+            start: self.front.place,
             stride: self.stride,
             len: self.len,
         })
@@ -194,17 +222,17 @@ impl<A: SlowerAxes> RowsOf<A> {
     {
         if count >= self.len() {
             self.begun = self.end;
-            self.front.left = 1;
+            self.front.left = 0;
             return;
         }
         if count > 0 {
-            let last = self.begun + count - self.front.left;
-            let in_column = self.columns.len - last % self.columns.len;
+            let next = self.begun - self.front.left + count;
+            let in_column = self.columns.len - next % self.columns.len;
             self.front = InColumn {
-                place: self.axes.place_of_number(last),
-                left: in_column.min(self.end - last),
+                place: self.axes.place_of_number(next),
+                left: in_column.min(self.end - next),
             };
-            self.begun = last + self.front.left;
+            self.begun = next + self.front.left;
         }
     }
 
@@ -235,27 +263,18 @@ impl<A: SlowerAxes> Iterator for RowsOf<A> {
 
     #[inline(always)]
     fn next(&mut self) -> Option<Row> {
-        self.front.left -= 1;
-        if self.front.left > 0 {
-            self.front.place = offset_place(self.front.place, self.columns.stride);
-            return Some(Row {
-                start: self.front.place,
-                stride: self.stride,
-                len: self.len,
-            });
-        }
-        let in_column = self.columns.len.min(self.end - self.begun);
-        if in_column == 0 {
-            self.front.left = 1;
-            return None;
-        }
-        self.front = InColumn {
-            place: self.axes.place_of_number(self.begun),
-            left: in_column,
+        let (front, begun) = if self.front.left > 0 {
+            (self.front, self.begun)
+        } else {
+            next_column(&self.axes, self.columns, self.begun, self.end)?
         };
-        self.begun += in_column;
+        self.front = InColumn {
+            place: place_after(front.place, self.columns.stride),
+            left: front.left - 1,
+        };
+        self.begun = begun;
         Some(Row {
-            start: self.front.place,
+            start: front.place,
             stride: self.stride,
             len: self.len,
         })
@@ -293,7 +312,7 @@ impl<A: SlowerAxes> DoubleEndedIterator for RowsOf<A> {
 
 impl<A: SlowerAxes> ExactSizeIterator for RowsOf<A> {
     fn len(&self) -> usize {
-        self.end + self.front.left - self.begun - 1
+        self.end + self.front.left - self.begun
     }
 }
 

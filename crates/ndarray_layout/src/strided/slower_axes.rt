@@ -54,9 +54,6 @@ impl SlowerAxes for LentAxes<'_> {
 
     #[inline(always)]
     fn place_of_number(&self, number: usize) -> usize {
-        if number == 0 {
-            return self.start;
-        }
         place_of_flat(self.order, self.start, self.lens, self.strides, number)
     }
 }

@@ -3,7 +3,7 @@
 
 use crate::lent::nd_access::Cells;
 use crate::lent::nd_loops::calling::call_rows;
-use crate::lent::nd_loops::nearest::nearest_view;
+use crate::lent::nd_loops::nearest::nearest_of_many;
 use crate::ndarray_layout::{Lengths, Order, Rows, Strided};
 
 /// Calls a closure at each item of these rows, one after another.
@@ -43,7 +43,7 @@ pub fn map_view<T, D: Lengths, F: FnMut(&mut T)>(cells: &mut Cells<'_, T>, view:
 }
 
 /// Calls a closure at the item of each index of a view, each once: in the order in which they lie; with more axes than `nearest_view`
-/// sorts, in row-major order.
+/// sorts, or no more than `few` indices, in row-major order.
 ///
 /// <details><summary>Contract (proved)</summary>
 ///
@@ -57,8 +57,8 @@ pub fn map_view<T, D: Lengths, F: FnMut(&mut T)>(cells: &mut Cells<'_, T>, view:
 /// [How to read it](crate::contracts)
 /// </details>
 #[inline(always)]
-pub fn map_nearest<T, D: Lengths, F: FnMut(&mut T)>(cells: &mut Cells<'_, T>, view: &Strided<D>, f: F) {
-    match nearest_view(view) {
+pub fn map_nearest<T, D: Lengths, F: FnMut(&mut T)>(cells: &mut Cells<'_, T>, view: &Strided<D>, few: usize, f: F) {
+    match nearest_of_many(view, few) {
         Some(nearest) => map_view(cells, &nearest, f),
         None => map_view(cells, view, f),
     }

@@ -88,6 +88,24 @@ fn with_six_axes<D: Lengths>(view: &Strided<D>) -> Option<Strided<Ix6>> {
     Strided::from_parts(view.start(), dim, strides, elem_size, len, CanIndexCheckMode::ReadOnly).ok()
 }
 
+/// A view whose row-major order goes forwards through the places of this one; `None` where its own does, where none is known, or
+/// where it has no more than `few` indices.
+///
+/// <details><summary>Contract (proved)</summary>
+///
+/// ```text
+/// ensures IfSome result (λ nearest. IsPermutation (view_places RowMajor nearest) (view_places RowMajor view.now))
+/// ```
+/// [How to read it](crate::contracts)
+/// </details>
+#[inline]
+pub(crate) fn nearest_of_many<D: Lengths>(view: &Strided<D>, few: usize) -> Option<Strided<Ix6>> {
+    if view.len() <= few || !goes_otherwise(view.dim().slice(), view.strides().slice()) {
+        return None;
+    }
+    Some(with_six_axes(view)?.nearest())
+}
+
 /// A view whose row-major order goes forwards through the places of this one; `None` where its own does, or none is known.
 ///
 /// <details><summary>Contract (proved)</summary>
@@ -99,10 +117,7 @@ fn with_six_axes<D: Lengths>(view: &Strided<D>) -> Option<Strided<Ix6>> {
 /// </details>
 #[inline]
 pub fn nearest_view<D: Lengths>(view: &Strided<D>) -> Option<Strided<Ix6>> {
-    if !goes_otherwise(view.dim().slice(), view.strides().slice()) {
-        return None;
-    }
-    Some(with_six_axes(view)?.nearest())
+    nearest_of_many(view, 0)
 }
 
 /// The rows of the nearest view, or those of the view itself where there is none.

@@ -79,6 +79,27 @@ fn last_row<A: SlowerAxes>(
     Some(row)
 }
 
+/// What is left of a row after this place, of `left` with it; `None` where nothing is.
+///
+/// <details><summary>Contract (proved)</summary>
+///
+/// ```text
+/// requires some: 0 < left
+/// requires here: place ≤ limit
+/// requires next: 1 < left → IsPlace (pos place +ℤ stride)
+/// ensures MatchOption result (left ≡ 1) (λ row. (1 < left) × (pos row.start ≡ pos place +ℤ stride)
+///     × (row.stride ≡ stride) × (row.len ≡ left - 1))
+/// ```
+/// [How to read it](crate::contracts)
+/// </details>
+#[inline(always)]
+fn rest_of_row(place: usize, stride: isize, left: usize) -> Option<Row> {
+    if left == 1 {
+        return None;
+    }
+    Some(Row { start: offset_place(place, stride), stride, len: left - 1 })
+}
+
 impl<A: SlowerAxes> CountedPlaces<A> {
     /// All places of rows.
     ///
@@ -134,6 +155,23 @@ impl<A: SlowerAxes> CountedPlaces<A> {
     pub(super) fn next_row_back(&mut self) -> Option<Row> {
         let row = last_row(&mut self.rows, &mut self.back, self.place, self.stride, &mut self.left)?;
         Some(row)
+    }
+
+    /// What is left of the row in progress, the rows that haven't begun, and what is left of the row in progress at the back.
+    ///
+    /// <details><summary>Contract (proved)</summary>
+    ///
+    /// ```text
+    /// ensures places: self ≡ (places_of_row result.0 ++ rows_places result.1) ++ places_of_row result.2
+    /// ensures some: All (λ row. 0 < row.len) result.1
+    /// ```
+    /// [How to read it](crate::contracts)
+    /// </details>
+    #[inline]
+    pub(super) fn into_rows_left(self) -> (Option<Row>, RowsOf<A>, Option<Row>) {
+        let CountedPlaces { rows, back, place, left, stride } = self;
+        let mut back = back;
+        (rest_of_row(place, stride, left), rows, back.take())
     }
 
     /// Skips the next `count` places, or all that remain.

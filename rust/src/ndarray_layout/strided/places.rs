@@ -93,6 +93,21 @@ pub(super) fn offset_place(start: usize, offset: isize) -> usize {
     (start as isize + offset) as usize
 }
 
+/// The place at an offset from another one, where there is one; else any number.
+///
+/// <details><summary>Contract (proved)</summary>
+///
+/// ```text
+/// requires start ≤ limit
+/// ensures IsPlace (pos start +ℤ offset) → pos result ≡ pos start +ℤ offset
+/// ```
+/// [How to read it](crate::contracts)
+/// </details>
+#[inline(always)]
+pub(super) fn place_after(start: usize, offset: isize) -> usize {
+    start.wrapping_add(unsigned(offset))
+}
+
 impl<D: Lengths> Strided<D> {
     /// The place of an index, in elements from the start of the data; `None` where it is no index
     /// of the shape.

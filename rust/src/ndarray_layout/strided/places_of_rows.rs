@@ -144,6 +144,54 @@ impl<A: SlowerAxes> PlacesOf<A> {
         }
     }
 
+    /// The places that are left as rows: what is left of the row in progress, the rows that haven't begun, and what is left of the row
+    /// in progress at the back. So a loop over the rows does nothing else.
+    ///
+    /// Takes no memory, and no time for each row.
+    ///
+    /// Of the places of `[3,3]` with strides `[5,1]` from 0, after one place from each end: the row of 1 2, that of 5 6 7, and the row
+    /// of 10 11. The project's own.
+    ///
+    /// # Examples
+    ///
+    /// ```
+    /// use ndarray_layout::{CanIndexCheckMode, Ix2, LayoutError, Order, Row, Strided};
+    ///
+    /// # fn main() -> Result<(), LayoutError> {
+    /// let view = Strided::new(Ix2(3, 3), Ix2(5, 1), 1, 13, CanIndexCheckMode::ReadOnly)?;
+    /// let mut places = view.iter_places(Order::RowMajor);
+    /// assert_eq!((places.next(), places.next_back()), (Some(0), Some(12)));
+    /// let numbers = |row: Row| (row.start, row.stride, row.len);
+    /// let (first, rows, last) = places.into_rows_left();
+    /// assert_eq!((first.map(numbers), last.map(numbers)), (Some((1, 1, 2)), Some((10, 1, 2))));
+    /// assert!(rows.map(numbers).eq([(5, 1, 3)]));
+    /// # Ok(())
+    /// # }
+    /// ```
+    ///
+    /// <details><summary>Contract (proved)</summary>
+    ///
+    /// ```text
+    /// ensures places: self ≡ (places_of_row result.0 ++ rows_places result.1) ++ places_of_row result.2
+    /// ensures some: All (λ row. 0 < row.len) result.1
+    /// ```
+    /// [How to read it](crate::contracts)
+    /// </details>
+    #[must_use]
+    #[inline(always)]
+    pub fn into_rows_left(self) -> (Option<Row>, RowsOf<A>, Option<Row>) {
+        let PlacesOf { stretch, places } = self;
+        let (first, rows, last) = places.into_rows_left();
+        match stretch {
+            Some(stretch) => {
+                let (mut stretch, mut none) = (stretch, rows);
+                none.advance(none.len());
+                (stretch.take_row(), none, None)
+            }
+            None => (first, rows, last),
+        }
+    }
+
     /// Skips the next `count` places, or all that remain.
     ///
     /// Takes no memory. Costs a division and two products for each axis, however many places are left out.

@@ -3,7 +3,7 @@
 
 use crate::nd_base::{Order, signed};
 use crate::nd_dim::product;
-use crate::ndarray_layout::strided::places::offset_place;
+use crate::ndarray_layout::strided::places::{offset_place, place_after};
 use crate::ndarray_layout::strided::rows::{Row, fastest_axis, joined_axis};
 use crate::ndarray_layout::strided::slower_axes::SlowerAxes;
 use core::iter::FusedIterator;
@@ -58,7 +58,8 @@ fn columns_of_many(order: Order, lens: &[usize], strides: &[usize]) -> (Columns,
     (columns, product(lens))
 }
 
-/// Where the row begins that came last from an end, and how many rows of its column lie from there on, with it.
+/// Where a row begins, and how many rows of its column are left with it: at the front the row that comes next, at the back the one
+/// that came last, and those before it.
 #[derive(Clone, Copy)]
 pub(crate) struct InColumn {
     place: usize,
@@ -88,6 +89,30 @@ fn previous_in_column<A: SlowerAxes>(axes: &A, columns: Columns, number: usize, 
     InColumn { place: axes.place_of_number(number), left: number % columns.len + 1 }
 }
 
+/// The column that begins with the row of a number, and the number after its last one that is left; `None` where all have begun.
+///
+/// <details><summary>Contract (proved)</summary>
+///
+/// ```text
+/// requires is_view: IsView (A.starts axes.now)
+/// requires order: begun ≤ end
+/// requires below: end ≤ size (A.starts axes.now).shape
+/// ensures MatchOption result (begun ≡ end) (λ (front, next). (begun < end)
+///     × (pos front.place ≡ numbered_place (A.order axes.now) (A.starts axes.now) begun)
+///     × (front.left ≡ min columns.len (end - begun)) × (next ≡ begun + front.left))
+/// ```
+/// [How to read it](crate::contracts)
+/// </details>
+#[inline(always)]
+fn next_column<A: SlowerAxes>(axes: &A, columns: Columns, begun: usize, end: usize) -> Option<(InColumn, usize)> {
+    if begun == end {
+        return None;
+    }
+    let left = columns.len.min(end - begun);
+    let place = axes.place_of_number(begun);
+    Some((InColumn { place, left }, begun + left))
+}
+
 /// The rows of a view that are still to come, in an order, from both ends: `Rows` of a view that is borrowed,
 /// `StridedRows` where the iterator has the view.
 #[derive(Clone)]
@@ -97,7 +122,7 @@ pub struct RowsOf<A: SlowerAxes> {
     len: usize,
     stride: isize,
     columns: Columns,
-    // The rows that came last.
+    // The row that comes next, of a column that has begun, and the one that came last from the back.
     front: InColumn,
     back: InColumn,
     // The numbers after those of the last row of the columns that have begun at the front, and of the last row that is left.
@@ -123,8 +148,9 @@ impl<A: SlowerAxes> RowsOf<A> {
         let lent = axes.lent();
         let (columns, count) = columns_of(lent.order, lent.lens, lent.strides);
         let end = if len == 0 { 0 } else { count };
-        let none = InColumn { place: 0, left: 1 };
-        RowsOf { axes, len, stride, columns, front: none, back: none, begun: 0, end }
+        let begun = columns.len.min(end);
+        let front = InColumn { place: lent.start, left: begun };
+        RowsOf { axes, len, stride, columns, front, back: InColumn { place: 0, left: 1 }, begun, end }
     }
 
     /// How many places each row has; unspecified where none is left.
@@ -156,7 +182,7 @@ impl<A: SlowerAxes> RowsOf<A> {
         self.len
     }
 
-    /// The one row that there is, where none has come yet; else `None`.
+    /// The one row that is left, where its column has begun; else `None`.
     ///
     /// <details><summary>Contract (proved)</summary>
     ///
@@ -167,10 +193,10 @@ impl<A: SlowerAxes> RowsOf<A> {
     /// </details>
     #[inline]
     pub(super) fn only(&self) -> Option<Row> {
-        if self.begun > 0 || self.end != 1 {
+        if self.front.left != 1 || self.begun != self.end {
             return None;
         }
-        Some(Row { start: self.axes.lent().start, stride: self.stride, len: self.len })
+        Some(Row { start: self.front.place, stride: self.stride, len: self.len })
     }
 
     /// How many places the rows have that are left.
@@ -223,14 +249,14 @@ impl<A: SlowerAxes> RowsOf<A> {
     pub fn advance(&mut self, count: usize) {
         if count >= self.len() {
             self.begun = self.end;
-            self.front.left = 1;
+            self.front.left = 0;
             return;
         }
         if count > 0 {
-            let last = self.begun + count - self.front.left;
-            let in_column = self.columns.len - last % self.columns.len;
-            self.front = InColumn { place: self.axes.place_of_number(last), left: in_column.min(self.end - last) };
-            self.begun = last + self.front.left;
+            let next = self.begun - self.front.left + count;
+            let in_column = self.columns.len - next % self.columns.len;
+            self.front = InColumn { place: self.axes.place_of_number(next), left: in_column.min(self.end - next) };
+            self.begun = next + self.front.left;
         }
     }
 
@@ -283,19 +309,14 @@ impl<A: SlowerAxes> Iterator for RowsOf<A> {
 
     #[inline(always)]
     fn next(&mut self) -> Option<Row> {
-        self.front.left -= 1;
-        if self.front.left > 0 {
-            self.front.place = offset_place(self.front.place, self.columns.stride);
-            return Some(Row { start: self.front.place, stride: self.stride, len: self.len });
-        }
-        let in_column = self.columns.len.min(self.end - self.begun);
-        if in_column == 0 {
-            self.front.left = 1;
-            return None;
-        }
-        self.front = InColumn { place: self.axes.place_of_number(self.begun), left: in_column };
-        self.begun += in_column;
-        Some(Row { start: self.front.place, stride: self.stride, len: self.len })
+        let (front, begun) = if self.front.left > 0 {
+            (self.front, self.begun)
+        } else {
+            next_column(&self.axes, self.columns, self.begun, self.end)?
+        };
+        self.front = InColumn { place: place_after(front.place, self.columns.stride), left: front.left - 1 };
+        self.begun = begun;
+        Some(Row { start: front.place, stride: self.stride, len: self.len })
     }
 
     #[inline]
@@ -323,7 +344,7 @@ impl<A: SlowerAxes> DoubleEndedIterator for RowsOf<A> {
 impl<A: SlowerAxes> ExactSizeIterator for RowsOf<A> {
     #[inline]
     fn len(&self) -> usize {
-        self.end + self.front.left - self.begun - 1
+        self.end + self.front.left - self.begun
     }
 }
 

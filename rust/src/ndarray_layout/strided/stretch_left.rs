@@ -40,6 +40,7 @@ impl Stretch {
     ///     × (self.old ≡ row_places row.start row.stride row.len ++ self.new))
     /// ensures back: MatchOption result ((self.old ≡ []) × (self.new ≡ [])) (λ row. (0 < row.len)
     ///     × (self.old ≡ self.new ++ row_places row.start row.stride row.len))
+    /// ensures none: self.new ≡ []
     /// ensures row_is_view: IfSome result (λ row. IsView (row_view row))
     /// ```
     /// [How to read it](crate::contracts)

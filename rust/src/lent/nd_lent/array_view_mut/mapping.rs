@@ -99,6 +99,6 @@ impl<'a, T: Sized, D: Lengths> ArrayViewMut<'a, T, D> {
     /// </details>
     #[inline]
     pub fn map_in_place_nearest<F: FnMut(&mut T)>(&mut self, f: F) {
-        map_nearest(&mut self.cells, &self.view, f);
+        map_nearest(&mut self.cells, &self.view, 0, f);
     }
 }

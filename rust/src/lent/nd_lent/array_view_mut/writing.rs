@@ -50,10 +50,14 @@ impl<'a, T: Sized, D: Lengths> ArrayViewMut<'a, T, D> {
     }
 }
 
+/// How many indices a part has at most whose axes aren't sorted to fill it: that takes longer than to write so many items.
+const FEW: usize = 16;
+
 impl<'a, T: Sized + Clone, D: Lengths> ArrayViewMut<'a, T, D> {
     /// Writes an item at each index. Other items are unchanged.
     ///
-    /// Takes no memory. Goes over the items in the order in which they lie, as `map_in_place_nearest` does.
+    /// Takes no memory. Goes over the items in the order in which they lie, as `map_in_place_nearest` does; with at most 16 indices in
+    /// row-major order, which takes less time than to sort the axes.
     ///
     /// 5 to `[2]`, `[-1]` from 1 over 7 8 9: 5 5 9. ndarray's `fill`.
     ///
@@ -83,7 +87,7 @@ impl<'a, T: Sized + Clone, D: Lengths> ArrayViewMut<'a, T, D> {
     /// </details>
     #[inline]
     pub fn fill(&mut self, item: T) {
-        map_nearest(&mut self.cells, &self.view, |stored: &mut T| {
+        map_nearest(&mut self.cells, &self.view, FEW, |stored: &mut T| {
             *stored = item.clone();
         });
     }
