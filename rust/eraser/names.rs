@@ -133,6 +133,7 @@ pub const OPEN: &[&str] = &[
     "EqualTo",
     "IntoDimension",
     "IterOrder",
+    "LentItems",
     "Numbers",
     "ShapeArg",
     "ShapeBuilder",
@@ -223,12 +224,10 @@ pub const SOUND_BY_CONDITIONS: &[(&str, &str)] = &[
     ("nd_access", "cells"),
     ("nd_access", "row_items"),
     ("nd_access", "rows"),
-    ("nd_items", "indexed_iter"),
-    ("nd_items", "indexed_iter_mut"),
+    ("nd_items", "indexed_of"),
     ("nd_items", "into_rows"),
     ("nd_items", "items"),
     ("nd_items", "iterating"),
-    ("nd_items", "view_iter"),
     ("nd_lent", "array_view"),
     ("nd_lent", "array_view_mut"),
 ];
@@ -238,7 +237,7 @@ pub const IN_ROOM: &[&str] = &["nd_access", "nd_items", "nd_loops", "nd_lent", "
 pub const ROOM: &str = "lent";
 
 /// Types and traits of these crates that no user can name.
-pub const UNNAMED: &[&str] = &["Cells", "Reader", "RowByRow"];
+pub const UNNAMED: &[&str] = &["Cells", "LentItems", "Reader", "RowByRow"];
 
 /// Calls that these crates hide, which files of `rust/src` make. None has a condition.
 pub const SEEN: &[&str] = &["into_items_at", "into_list", "list_by_index", "take", "try_item", "try_item_mut"];
@@ -304,7 +303,7 @@ pub const DERIVED: &[(&str, &[&str])] = &[
 ];
 
 /// Iterators and rows over items that they lend, which the package copies, whether items are copied or not.
-pub const LENDING: &[&str] = &["LentRow", "Reader", "RowItems", "ViewIter"];
+pub const LENDING: &[&str] = &["IterOf", "LentRow", "Reader", "RowItems"];
 
 /// Those of them that are a pointer and no more: they are `Copy` as well.
 pub const POINTERS: &[&str] = &["LentRow", "Reader"];
@@ -314,18 +313,16 @@ pub const POINTERS: &[&str] = &["LentRow", "Reader"];
 /// an `rfold` is `rfold_rest`.
 pub const FOLDED: &[(&str, &str, &str)] = &[
     ("Iterator", "Items", "fold_items"),
-    ("Iterator", "Iter", "fold_lent"),
-    ("DoubleEndedIterator", "Iter", "rfold_lent"),
     ("Iterator", "PlacesOf", "fold_by_rest"),
     ("DoubleEndedIterator", "PlacesOf", "skip_back"),
     ("Iterator", "IterMut", "fold_by_rest"),
     ("DoubleEndedIterator", "IterMut", "skip_back"),
+    ("Iterator", "IterOf", "fold_lent"),
+    ("DoubleEndedIterator", "IterOf", "rfold_lent"),
     ("Iterator", "LanesMut", "skip"),
     ("DoubleEndedIterator", "LanesMut", "skip_back"),
     ("Iterator", "RowItems", "fold_lent"),
     ("DoubleEndedIterator", "RowItems", "rfold_lent"),
-    ("Iterator", "ViewIter", "fold_lent"),
-    ("DoubleEndedIterator", "ViewIter", "rfold_lent"),
 ];
 
 /// Structs whose `Debug` files of `rust/src` have, for what is derived prints strides without their signs.

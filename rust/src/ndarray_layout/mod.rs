@@ -17,6 +17,7 @@
 #![allow(clippy::unused_unit, reason = "what the kit has no form for")]
 #![allow(clippy::len_without_is_empty, reason = "a sequence is never asked whether it is empty")]
 #![allow(clippy::should_implement_trait, reason = "the package has the trait beside what is proved")]
+#![allow(clippy::type_complexity, reason = "what comes with its index is lent")]
 
 mod reshape;
 mod runs;
@@ -58,4 +59,7 @@ pub use reshape::reshape_dim;
 
 // Views, and runs of steps from one to the next.
 pub use runs::{Step, Stopped, run};
-pub use strided::{BlockViews, IntoPlaces, Places, PlacesOf, Row, Rows, RowsOf, Strided, StridedRows, joined_in_all};
+pub use strided::{
+    BlockViews, IntoPlaces, KeptAxes, LentAxes, Places, PlacesOf, Row, Rows, RowsOf, SlowerAxes, Strided, StridedRows,
+    joined_in_all,
+};
