@@ -124,16 +124,18 @@ pub const SEALED: &[&str] = &[
     "Unsigned",
 ];
 
-/// Public traits that stay open: conversions, whose values are checked as any are, traits that no caller can name, and `EqualTo`, whose
-/// results are only handed back.
+/// Public traits that stay open: conversions, whose values are checked as any are, traits that no caller can name, `LayoutStrides`, of
+/// whose strides only numbers are computed, and `EqualTo`, whose results are only handed back.
 pub const OPEN: &[&str] = &[
     "AreLengths",
+    "Beside",
     "ByNumber",
     "Convert",
     "EqualTo",
     "IntoDimension",
     "IterOrder",
     "LentItems",
+    "LayoutStrides",
     "Numbers",
     "ShapeArg",
     "ShapeBuilder",

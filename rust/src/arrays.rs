@@ -33,6 +33,7 @@ mod row_slices;
 mod shapes;
 mod skipping;
 mod writing;
+mod zip;
 
 pub(crate) use axis_iter::{check_axis, check_chunks};
 pub(crate) use folding::{fold_by_rest, fold_indexed, fold_items, fold_lent, rfold_lent};

@@ -126,7 +126,7 @@ pub use crate::convenience::*;
 pub use crate::memory::AllocError;
 pub use crate::nd_lent::{
     Arrays, AxisChunksIter, AxisChunksIterMut, AxisIter, AxisIterMut, BlocksIter, IndexedIter, IndexedIterMut, IterMut,
-    LanesMut, Parts, SliceParts, TilesMut,
+    LanesMut, Parts, SliceParts, TilesMut, Zip,
 };
 pub use crate::nd_owned::{
     ArrayView, ArrayViewMut, EqualTo, IntoRows, Items, Iter, LentRow, LentRows, OwnedArray, ReadySlice, RowItems,

@@ -1,23 +1,12 @@
--- The items of rows and views side by side: what the contracts of private functions speak of.
+-- The items of views side by side: what the contracts of private functions speak of.
 use Rattle.std.specs.Prelude.{◌≡◌, ℕ, pos, Option, Some, None, List, [], ◌∷◌, map, refl}
 use Rattle.std.specs.List.Sorted.{IsPermutation}
 use Rattle.ndarray_layout.specs.declared.Order.TheVariants.{RowMajor}
-use Rattle.ndarray_layout.specs.declared.Row.{Row}
 use Rattle.ndarray_layout.specs.Indices.{indices_in}
-use Rattle.ndarray_layout.specs.Rows.{rows_places}
 use Rattle.ndarray_layout.specs.View.{View, place_at, view_places}
 use Rattle.nd_access.specs.Items.{item_at_place}
-use Rattle.nd_access.specs.LentRow.{RowValue, places_of, row_items, row_of, rows_items}
 use Rattle.nd_access.specs.Written.{Maps}
 use Rattle.nd_access.specs.Zipped.{pairs_of}
-
--- of a row beside another one
-abbrev pub row_pairs : {T U : Type 0} → List T → Row → RowValue U → List (Option (T × U))
-row_pairs items row source = pairs_of (map (item_at_place items) (places_of row)) (row_items source)
-
--- of rows beside others
-abbrev pub rows_pairs : {T U : Type 0} → List T → List Row → List (RowValue U) → List (Option (T × U))
-rows_pairs items rows sources = pairs_of (map (item_at_place items) (rows_places rows)) (rows_items sources)
 
 -- of a view beside another one, in row-major order
 abbrev pub view_pairs : {T U : Type 0} → List T → View → List U → View → List (Option (T × U))
@@ -34,14 +23,11 @@ pub record ZipsAt {F T U : Type 0} (call : F → T × U → T → F → Type 0) 
       old new
 
 -- examples
-abbrev first_two : Row
-first_two = record { start = 0; stride = pos 1; len = 2 }
+abbrev two_from : ℕ → View
+two_from start = record { start = start; shape = 2 ∷ []; strides = pos 0 ∷ [] }
 
-abbrev second_twice : Row
-second_twice = record { start = 1; stride = pos 0; len = 2 }
+one_item_twice : view_pairs {T = ℕ} {U = ℕ} (7 ∷ 8 ∷ []) (two_from 0) (5 ∷ 6 ∷ []) (two_from 1) ≡ Some (7, 6) ∷ Some (7, 6) ∷ []
+one_item_twice = refl
 
-beside_one_item : row_pairs {T = ℕ} {U = ℕ} (7 ∷ 8 ∷ []) first_two (row_of (5 ∷ 6 ∷ []) second_twice) ≡ Some (7, 6) ∷ Some (8, 6) ∷ []
-beside_one_item = refl
-
-none_past_the_items : row_pairs {T = ℕ} {U = ℕ} (7 ∷ []) first_two (row_of (5 ∷ 6 ∷ []) second_twice) ≡ Some (7, 6) ∷ None ∷ []
+none_past_the_items : view_pairs {T = ℕ} {U = ℕ} (7 ∷ []) (two_from 0) (5 ∷ []) (two_from 1) ≡ None ∷ None ∷ []
 none_past_the_items = refl

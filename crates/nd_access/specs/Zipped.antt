@@ -1,4 +1,4 @@
--- Calls of a closure at the items of two arrays, side by side: each at a `&mut` to the one and a `&` to the other.
+-- Calls of a closure at the items of an array and at what stands beside each, as the item of another array: each at a `&mut` to the first.
 use Rattle.std.specs.Prelude.{◌≡◌, ℕ, pos, Option, Some, None, List, [], ◌∷◌, refl}
 use Rattle.std.specs.Borrow.{Bor, MutBor}
 use Rattle.std.specs.Fn.{Called, Mut, Takes}
@@ -20,23 +20,46 @@ row_major_pairs array other = pairs_of (row_major_items array) (row_major_items 
 abbrev pub zipped_at : {T U : Type 0} → (T → U → T) → ArrayValue T → ArrayValue U → List ℕ → Option T
 zipped_at h array other index = option_map (λ pair. h pair.0 pair.1) (option_zip (item_at array index) (item_at other index))
 
+-- what stands beside an item is shown to a closure after it; `value` reads off what it is
+module _ {F T A V : Type 0} (value : A → V) (g : Mut F (MutBor T × A) (Unit {0} × (MutBor T × Unit {0}))) where
+  -- a call of f at a `&mut` to an item and at what stands beside it may leave f' and x'
+  pub record CalledBeside (f : F) (given : T × V) (x' : T) (f' : F) : Type 0 where
+    pub shown : MutBor T
+    pub beside : A
+    pub shows : (shown.now ≡ given.0) × (value beside ≡ given.1)
+    pub left : MutBor T
+    pub called : Called g f (shown, beside) (tt, (left, tt)) f'
+    pub leaves : left.now ≡ x'
+
+  -- f may be called at an item and what stands beside it
+  abbrev pub TakesBeside : F → T × V → Type 0
+  TakesBeside f given = (item : MutBor T) (beside : A) → item.now ≡ given.0 → value beside ≡ given.1 → Takes g f (item, beside)
+
+  -- and at each of these in turn, as the calls before left it
+  abbrev pub CallableBesideEach : List (Option (T × V)) → F → Type 0
+  CallableBesideEach given f =
+      CallableAtEachTurn gives (λ p one q. (y : T) × CalledBeside p one y q) TakesBeside given f
+
+  -- each call of f leaves what h gives of the item and of what stands beside it, and leaves f as it was
+  abbrev pub ActsBeside : F → (T × V → T) → Type 0
+  ActsBeside f h = (given : T × V) (f' : F) (x' : T) → CalledBeside f given x' f' → (f' ≡ f) × (x' ≡ h given)
+
+-- one item stands beside it
+abbrev pub one_beside : {U : Type 0} → Bor U × Unit {0} → U
+one_beside shown = shown.0.now
+
 module _ {F T U : Type 0} (g : Mut F (MutBor T × (Bor U × Unit {0})) (Unit {0} × (MutBor T × Unit {0}))) where
   -- a call of f at a `&mut` to the first of a pair and a `&` to the second may leave f' and x'
-  pub record CalledAtPair (f : F) (pair : T × U) (x' : T) (f' : F) : Type 0 where
-    pub shown : MutBor T
-    pub beside : Bor U
-    pub shows : (shown.now ≡ pair.0) × (beside.now ≡ pair.1)
-    pub left : MutBor T
-    pub called : Called g f (shown, (beside, tt)) (tt, (left, tt)) f'
-    pub leaves : left.now ≡ x'
+  abbrev pub CalledAtPair : F → T × U → T → F → Type 0
+  CalledAtPair = CalledBeside one_beside g
 
   -- f may be called at a pair
   abbrev pub TakesPair : F → T × U → Type 0
-  TakesPair f pair = (item : MutBor T) (other : Bor U) → item.now ≡ pair.0 → other.now ≡ pair.1 → Takes g f (item, (other, tt))
+  TakesPair = TakesBeside one_beside g
 
   -- and at each of these pairs in turn, as the calls before left it
   abbrev pub CallableOnEachPair : List (Option (T × U)) → F → Type 0
-  CallableOnEachPair pairs f = CallableAtEachTurn gives (λ p pair q. (y : T) × CalledAtPair p pair y q) TakesPair pairs f
+  CallableOnEachPair = CallableBesideEach one_beside g
 
   -- each call of f leaves what h gives of both, and leaves f as it was
   abbrev pub ActsAsAtPair : F → (T → U → T) → Type 0

@@ -1,6 +1,7 @@
 pub mod AlongAxis
 pub mod ArrayMaps
 pub mod AxisLast
+pub mod BesideMaps
 pub mod BlocksOf
 pub mod ChunksAlong
 pub mod Equals
@@ -19,6 +20,5 @@ pub mod SplitItems
 pub mod Steps
 pub mod Tiles
 pub mod Times
-pub mod TripleMaps
 pub mod Within
 pub mod lending

@@ -112,10 +112,10 @@ module _ {F C T U : Type 0} (g : Mut F (Bor U × Unit {0}) T)
     → Called g (inside s) (item, tt) left.now (inside t)) where
   called_inside : (s t : C) (pair : T × U) (y : T) → CalledAtPair other s pair y t → CalledAt g (inside s) pair.1 y (inside t)
   called_inside s t pair y called = record {
-    shown = called.beside;
+    shown = called.beside.0;
     shows = called.shows.1;
-    called = subst (λ y. Called g (inside s) (called.beside, tt) y (inside t)) called.leaves
-        (says s t called.shown called.left called.beside called.called);
+    called = subst (λ y. Called g (inside s) (called.beside.0, tt) y (inside t)) called.leaves
+        (says s t called.shown called.left called.beside.0 called.called);
   }
 
   calls_inside : (pairs : List (T × U)) (s t : C) → FoldsTo (λ p pair q. (y : T) × CalledAtPair other p pair y q) s pairs t
@@ -129,11 +129,11 @@ module _ {F C T U : Type 0} (g : Mut F (Bor U × Unit {0}) T)
       → (xs : List (Option T)) (us : List (Option U)) → length xs ≡ length us → (s : C)
       → CallableOnAllAt gives g us (inside s) → CallableOnEachPair other (pairs_of xs us) s
   callable_inside asks xs us count s callable = record {
-    at = λ pairs t q pair rest yields calls step stored item same is.
+    at = λ pairs t q pair rest yields calls step stored beside same is.
         let so_far = comes_beside xs us count pairs t yields in
         let one = first_pair so_far.others so_far.beside so_far.count (sym so_far.rest ∙ step) in
-        asks q stored item (callable.at (map (λ (pair : T × U). pair.1) pairs) so_far.beside (inside q) pair.1 one.beside so_far.yields
-        (calls_inside pairs s q calls) one.first item is);
+        asks q stored beside.0 (callable.at (map (λ (pair : T × U). pair.1) pairs) so_far.beside (inside q) pair.1 one.beside so_far.yields
+        (calls_inside pairs s q calls) one.first beside.0 is);
   }
 
   -- and what it made of pairs the other one made of the second items

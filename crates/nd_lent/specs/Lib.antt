@@ -14,6 +14,7 @@ pub mod SlicePartsLeft
 pub mod Slices
 pub mod SplitItems
 pub mod WrittenPart
+pub mod Zip
 pub mod private
 pub use Rattle.nd_access.specs.ArrayView
 pub use Rattle.nd_access.specs.Backwards

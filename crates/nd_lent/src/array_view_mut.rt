@@ -34,6 +34,7 @@ mod steps;
 mod tiles;
 mod triples;
 mod writing;
+mod zipping;
 
 pub use axis_chunks::AxisChunksIterMut;
 pub use axis_iter::AxisIterMut;

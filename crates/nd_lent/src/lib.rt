@@ -10,6 +10,7 @@ mod rest;
 mod split_views;
 mod views;
 mod whole;
+mod zip;
 
 pub use array_view::{ArrayView, Arrays, AxisChunksIter, AxisIter, BlocksIter, IntoArray};
 pub use array_view_mut::{
@@ -23,3 +24,4 @@ pub use split_views::SplitViews;
 pub use views::Views;
 pub use views::numbered::Numbered;
 pub use whole::Whole;
+pub use zip::Zip;

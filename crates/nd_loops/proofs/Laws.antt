@@ -1,3 +1,4 @@
+pub mod CalledInside
 pub mod Comparing
 pub mod Few
 pub mod Moved

@@ -1,4 +1,3 @@
-pub mod CalledInside
 pub mod FoldedBack
 pub mod ItemsBeside
 pub mod RowsBeside

@@ -1,12 +1,11 @@
 -- Calls of a closure at the items of three arrays, side by side: each at a `&mut` to the first and a `&` to both others.
 use Rattle.std.specs.Prelude.{◌≡◌, ℕ, pos, Option, Some, None, List, [], ◌∷◌, refl}
 use Rattle.std.specs.Borrow.{Bor, MutBor}
-use Rattle.std.specs.Fn.{Called, Mut, Takes}
-use Rattle.std.specs.Iterator.{CallableAtEachTurn}
+use Rattle.std.specs.Fn.{Mut}
 use Rattle.std.specs.Option.{option_map, option_zip}
 use Rattle.nd_access.specs.Items.{ArrayValue, item_at}
-use Rattle.nd_access.specs.Mapped.{gives, row_major_items}
-use Rattle.nd_access.specs.Zipped.{pairs_of}
+use Rattle.nd_access.specs.Mapped.{row_major_items}
+use Rattle.nd_access.specs.Zipped.{CallableBesideEach, CalledBeside, TakesBeside, pairs_of}
 
 -- items side by side in three lists, each with the pair of both others, there where all are
 abbrev pub triples_of : {X Y Z : Type 0} → List (Option X) → List (Option Y) → List (Option Z) → List (Option (X × (Y × Z)))
@@ -25,26 +24,22 @@ abbrev pub zipped_two_at : {T U V : Type 0} → (T → U → V → T) → ArrayV
 zipped_two_at h array other third index =
     option_map (λ triple. h triple.0 triple.1.0 triple.1.1) (triple_at array other third index)
 
+-- two items stand beside it
+abbrev pub two_beside : {U V : Type 0} → Bor U × (Bor V × Unit {0}) → U × V
+two_beside shown = (shown.0.now, shown.1.0.now)
+
 module _ {F T U V : Type 0} (g : Mut F (MutBor T × (Bor U × (Bor V × Unit {0}))) (Unit {0} × (MutBor T × Unit {0}))) where
   -- a call of f at a `&mut` to the first of a triple and a `&` to both others may leave f' and x'
-  pub record CalledAtTriple (f : F) (triple : T × (U × V)) (x' : T) (f' : F) : Type 0 where
-    pub shown : MutBor T
-    pub beside : Bor U
-    pub third : Bor V
-    pub shows : (shown.now ≡ triple.0) × ((beside.now ≡ triple.1.0) × (third.now ≡ triple.1.1))
-    pub left : MutBor T
-    pub called : Called g f (shown, (beside, (third, tt))) (tt, (left, tt)) f'
-    pub leaves : left.now ≡ x'
+  abbrev pub CalledAtTriple : F → T × (U × V) → T → F → Type 0
+  CalledAtTriple = CalledBeside two_beside g
 
   -- f may be called at a triple
   abbrev pub TakesTriple : F → T × (U × V) → Type 0
-  TakesTriple f triple = (item : MutBor T) (other : Bor U) (third : Bor V) → item.now ≡ triple.0 → other.now ≡ triple.1.0
-      → third.now ≡ triple.1.1 → Takes g f (item, (other, (third, tt)))
+  TakesTriple = TakesBeside two_beside g
 
   -- and at each of these triples in turn, as the calls before left it
   abbrev pub CallableOnEachTriple : List (Option (T × (U × V))) → F → Type 0
-  CallableOnEachTriple triples f =
-      CallableAtEachTurn gives (λ p triple q. (y : T) × CalledAtTriple p triple y q) TakesTriple triples f
+  CallableOnEachTriple = CallableBesideEach two_beside g
 
   -- each call of f leaves what h gives of all three, and leaves f as it was
   abbrev pub ActsAsAtTriple : F → (T → U → V → T) → Type 0

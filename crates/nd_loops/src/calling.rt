@@ -6,10 +6,11 @@ ghost use Rattle.nd_access.specs.LentRow.{places_of};
 ghost use Rattle.nd_access.specs.MapsTo.{MapsTo};
 ghost use Rattle.nd_access.specs.Rights.{right_of};
 ghost use Rattle.nd_access.specs.Written.{Maps};
-ghost use Rattle.nd_loops.specs.Beside.{CallableBesideEach, CalledBeside, items_beside};
+ghost use Rattle.nd_access.specs.Zipped.{CallableBesideEach, CalledBeside};
+ghost use Rattle.nd_loops.specs.Beside.{items_beside, shown_beside};
 ghost use Rattle.nd_loops.specs.OwnedRows.{OwnsEachRow, OwnsRow};
 
-use crate::beside::{Beside, BesideRows, back};
+use crate::beside::{Beside, back};
 use crate::few::by_few;
 use nd_access::{Cells, place_in_row};
 use ndarray_layout::{Row, Rows};
@@ -19,21 +20,21 @@ use ndarray_layout::{Row, Rows};
 fn call_few<T, C: Beside, F: FnMut(&mut T, C::Item)>(
     cells: &mut Cells<'_, T>,
     row: Row,
-    beside: &C,
+    beside: &C::One,
     mut f: F,
 ) -> F
     requires row { OwnsRow cells.old.marks row }
     requires count { length (C.values beside.now) ≡ row.len }
-    requires callable { CallableBesideEach C.value F.FnMut
+    requires callable { CallableBesideEach (shown_beside C.value) F.FnMut
         (items_beside cells.old.items (places_of row) (C.values beside.now)) f }
-    ensures ran { MapsTo (CalledBeside C.value F.FnMut) f (places_of row)
+    ensures ran { MapsTo (CalledBeside (shown_beside C.value) F.FnMut) f (places_of row)
         (items_beside cells.old.items (places_of row) (C.values beside.now)) cells.old.items
         cells.new.items result }
     ensures keeps_access { right_of cells.new ≡ right_of cells.old }
 {
     for coordinate in 0..row.len {
         let place = place_in_row(row, coordinate);
-        f(cells.item_mut(place), beside.item(coordinate));
+        f(cells.item_mut(place), C::item(beside, coordinate));
     }
     f
 }
@@ -43,19 +44,19 @@ fn call_few<T, C: Beside, F: FnMut(&mut T, C::Item)>(
 fn call_places<T, C: Beside, F: FnMut(&mut T, C::Item)>(
     cells: &mut Cells<'_, T>,
     row: Row,
-    beside: &C,
+    beside: &C::One,
     f: F,
 ) -> F
     requires row { OwnsRow cells.old.marks row }
     requires count { length (C.values beside.now) ≡ row.len }
-    requires callable { CallableBesideEach C.value F.FnMut
+    requires callable { CallableBesideEach (shown_beside C.value) F.FnMut
         (items_beside cells.old.items (places_of row) (C.values beside.now)) f }
-    ensures ran { MapsTo (CalledBeside C.value F.FnMut) f (places_of row)
+    ensures ran { MapsTo (CalledBeside (shown_beside C.value) F.FnMut) f (places_of row)
         (items_beside cells.old.items (places_of row) (C.values beside.now)) cells.old.items
         cells.new.items result }
     ensures keeps_access { right_of cells.new ≡ right_of cells.old }
 {
-    call_few(cells, row, beside, f)
+    call_few::<T, C, F>(cells, row, beside, f)
 }
 
 /// Calls a closure at the item of each place of a row and at what stands beside it, one after another, and hands it back: by the stride
@@ -64,21 +65,21 @@ fn call_places<T, C: Beside, F: FnMut(&mut T, C::Item)>(
 fn call_backwards<T, C: Beside, F: FnMut(&mut T, C::Item)>(
     cells: &mut Cells<'_, T>,
     row: Row,
-    beside: &C,
+    beside: &C::One,
     f: F,
 ) -> F
     requires row { OwnsRow cells.old.marks row }
     requires count { length (C.values beside.now) ≡ row.len }
-    requires callable { CallableBesideEach C.value F.FnMut
+    requires callable { CallableBesideEach (shown_beside C.value) F.FnMut
         (items_beside cells.old.items (places_of row) (C.values beside.now)) f }
-    ensures ran { MapsTo (CalledBeside C.value F.FnMut) f (places_of row)
+    ensures ran { MapsTo (CalledBeside (shown_beside C.value) F.FnMut) f (places_of row)
         (items_beside cells.old.items (places_of row) (C.values beside.now)) cells.old.items
         cells.new.items result }
     ensures keeps_access { right_of cells.new ≡ right_of cells.old }
 {
-    match (back(row), beside.backwards()) {
-        (Some(row), Some(beside)) => call_places(cells, row, &beside, f),
-        _ => call_places(cells, row, beside, f),
+    match (back(row), C::backwards(beside)) {
+        (Some(row), Some(beside)) => call_places::<T, C, F>(cells, row, &beside, f),
+        _ => call_places::<T, C, F>(cells, row, beside, f),
     }
 }
 
@@ -88,24 +89,24 @@ fn call_backwards<T, C: Beside, F: FnMut(&mut T, C::Item)>(
 fn call_row<const FEW: usize, T, C: Beside, F: FnMut(&mut T, C::Item)>(
     cells: &mut Cells<'_, T>,
     row: Row,
-    beside: &C,
+    beside: &C::One,
     f: F,
 ) -> F
     requires few { 0 < FEW → FEW ≡ row.len }
     requires row { OwnsRow cells.old.marks row }
     requires count { length (C.values beside.now) ≡ row.len }
-    requires callable { CallableBesideEach C.value F.FnMut
+    requires callable { CallableBesideEach (shown_beside C.value) F.FnMut
         (items_beside cells.old.items (places_of row) (C.values beside.now)) f }
-    ensures ran { MapsTo (CalledBeside C.value F.FnMut) f (places_of row)
+    ensures ran { MapsTo (CalledBeside (shown_beside C.value) F.FnMut) f (places_of row)
         (items_beside cells.old.items (places_of row) (C.values beside.now)) cells.old.items
         cells.new.items result }
     ensures keeps_access { right_of cells.new ≡ right_of cells.old }
 {
     if FEW > 0 {
         // (by a length that is known, there is no loop)
-        return call_few(cells, by_few::<FEW>(row), beside, f);
+        return call_few::<T, C, F>(cells, by_few::<FEW>(row), beside, f);
     }
-    match beside.alone() {
+    match C::alone(beside) {
         Some(beside) if row.stride == 1 => {
             // (by strides that are known, the loop is one over slices)
             let neighbours = Row {
@@ -113,52 +114,52 @@ fn call_row<const FEW: usize, T, C: Beside, F: FnMut(&mut T, C::Item)>(
                 stride: 1,
                 len: row.len,
             };
-            call_places(cells, neighbours, &beside, f)
+            call_places::<T, C, F>(cells, neighbours, &beside, f)
         },
-        _ => call_backwards(cells, row, beside, f),
+        _ => call_backwards::<T, C, F>(cells, row, beside, f),
     }
 }
 
 /// Calls a closure at each item of these rows, of `FEW` each unless that is 0, and at what stands beside it, one after another.
 #[inline]
-fn call_each<const FEW: usize, T, C: BesideRows, F: FnMut(&mut T, <C::One as Beside>::Item)>(
+fn call_each<const FEW: usize, T, C: Beside, F: FnMut(&mut T, C::Item)>(
     cells: &mut Cells<'_, T>,
     rows: Rows<'_>,
-    beside: C,
+    beside: C::Rows,
     mut f: F,
 )
     requires few { 0 < FEW → All (λ row. FEW ≡ row.len) rows }
     requires rows { OwnsEachRow cells.old.marks rows }
-    requires count { AllZip (λ row one. length (C.One.values one) ≡ row.len) rows (C.ones beside rows) }
-    requires callable { CallableBesideEach C.One.value F.FnMut
-        (items_beside cells.old.items (rows_places rows) (flat_map C.One.values (C.ones beside rows))) f }
-    ensures ran { Maps (CalledBeside C.One.value F.FnMut) f (rows_places rows.entry)
-        (items_beside cells.old.items (rows_places rows.entry) (flat_map C.One.values (C.ones beside rows.entry)))
+    requires count { AllZip (λ row one. length (C.values one) ≡ row.len) rows (C.ones beside rows) }
+    requires callable { CallableBesideEach (shown_beside C.value) F.FnMut
+        (items_beside cells.old.items (rows_places rows) (flat_map C.values (C.ones beside rows))) f }
+    ensures ran { Maps (CalledBeside (shown_beside C.value) F.FnMut) f (rows_places rows.entry)
+        (items_beside cells.old.items (rows_places rows.entry) (flat_map C.values (C.ones beside rows.entry)))
         cells.old.items cells.new.items }
     ensures keeps_access { right_of cells.new ≡ right_of cells.old }
 {
     let mut beside = beside;
     for row in rows {
-        if let Some(beside) = beside.next_beside(row) {
-            f = call_row::<FEW, T, C::One, F>(cells, row, &beside, f);
+        if let Some(beside) = C::next_beside(&mut beside, row) {
+            f = call_row::<FEW, T, C, F>(cells, row, &beside, f);
         }
     }
 }
 
 /// Calls a closure at each item of these rows and at what stands beside it, one after another.
 #[inline(always)]
-pub(crate) fn call_rows<T, C: BesideRows, F: FnMut(&mut T, <C::One as Beside>::Item)>(
+pub(crate) fn call_rows<T, C: Beside, F: FnMut(&mut T, C::Item)>(
     cells: &mut Cells<'_, T>,
     rows: Rows<'_>,
-    beside: C,
+    beside: C::Rows,
     f: F,
 )
     requires rows { OwnsEachRow cells.old.marks rows }
-    requires count { AllZip (λ row one. length (C.One.values one) ≡ row.len) rows (C.ones beside rows) }
-    requires callable { CallableBesideEach C.One.value F.FnMut
-        (items_beside cells.old.items (rows_places rows) (flat_map C.One.values (C.ones beside rows))) f }
-    ensures ran { Maps (CalledBeside C.One.value F.FnMut) f (rows_places rows.entry)
-        (items_beside cells.old.items (rows_places rows.entry) (flat_map C.One.values (C.ones beside rows.entry)))
+    requires count { AllZip (λ row one. length (C.values one) ≡ row.len) rows (C.ones beside rows) }
+    requires callable { CallableBesideEach (shown_beside C.value) F.FnMut
+        (items_beside cells.old.items (rows_places rows) (flat_map C.values (C.ones beside rows))) f }
+    ensures ran { Maps (CalledBeside (shown_beside C.value) F.FnMut) f (rows_places rows.entry)
+        (items_beside cells.old.items (rows_places rows.entry) (flat_map C.values (C.ones beside rows.entry)))
         cells.old.items cells.new.items }
     ensures keeps_access { right_of cells.new ≡ right_of cells.old }
 {

@@ -14,7 +14,9 @@ mod searching;
 mod summing;
 mod triples;
 mod unsigned;
+mod zipping;
 
+pub use beside::{Beside, LentView, lent_view};
 pub use comparing::{EqualTo, have_equal_rows};
 pub use copying::push_rows;
 pub use folding::{fold_rest, fold_rows, rfold_rest};
@@ -23,5 +25,6 @@ pub use nearest::{nearest_rows, nearest_rows_with, nearest_view, nearest_views};
 pub use pairs::{zip_nearest, zip_view};
 pub use searching::search_row;
 pub use summing::sum_rows;
-pub use triples::zip_two_rows;
+pub use triples::zip_two_view;
 pub use unsigned::Unsigned;
+pub use zipping::zip_views;

@@ -27,7 +27,7 @@ fn map_rows<T, F: FnMut(&mut T)>(cells: &mut Cells<'_, T>, rows: Rows<'_>, mut f
         (map (item_at_place cells.old.items) (rows_places rows.entry)) cells.old.items cells.new.items }
     ensures keeps_access { right_of cells.new ≡ right_of cells.old }
 {
-    call_rows(
+    call_rows::<T, (), _>(
         cells,
         rows,
         (),

@@ -1,23 +1,27 @@
 //! Writes to the items of a part by those of another array, side by side.
-ghost use Rattle.std.specs.List.{All, AllZip};
+ghost use Rattle.std.specs.List.{All, AllZip, flat_map};
 ghost use Rattle.std.specs.Prelude.{◌≡◌, length};
 ghost use Rattle.ndarray_layout.specs.declared.Order.TheVariants.{RowMajor};
 ghost use Rattle.ndarray_layout.specs.Bounds.{IsInBounds};
 ghost use Rattle.ndarray_layout.specs.Rows.{rows_places};
 ghost use Rattle.ndarray_layout.specs.View.{IsView, view_places};
 ghost use Rattle.nd_loops.specs.AnyOrder.{InAnyOrder};
+ghost use Rattle.nd_access.specs.LentRow.{row_items};
 ghost use Rattle.nd_access.specs.Own.{AreOwn};
 ghost use Rattle.nd_access.specs.Read.{HaveMarks};
 ghost use Rattle.nd_access.specs.Rights.{right_of};
 ghost use Rattle.nd_access.specs.Written.{Maps};
 ghost use Rattle.nd_access.specs.Zipped.{CallableOnEachPair, CalledAtPair, TakesPair};
+ghost use Rattle.nd_loops.specs.Beside.{items_beside};
 ghost use Rattle.nd_loops.specs.OwnedRows.{OwnsEachRow};
-ghost use Rattle.nd_access.specs.Pairs.{ZipsAt, rows_pairs, view_pairs};
+ghost use Rattle.nd_access.specs.Pairs.{ZipsAt, view_pairs};
 
+use crate::beside::{LentView, lent_view};
 use crate::calling::call_rows;
 use crate::nearest::nearest_views;
+use crate::zipping::rows_beside;
 use nd_access::{Cells, LentRows, Reader};
-use ndarray_layout::{Lengths, Order, Rows, Strided};
+use ndarray_layout::{Lengths, Rows, Strided};
 
 /// Calls a closure at each item of these rows and at the next one of other rows.
 #[inline(always)]
@@ -28,13 +32,14 @@ fn zip_rows<T, U, F: for<'x> FnMut(&'x mut T, &'x U)>(
     mut f: F,
 )
     requires rows { OwnsEachRow cells.old.marks rows }
-    requires count { AllZip (λ row source. row.len ≡ source.row.len) rows sources }
-    requires callable { CallableOnEachPair F.FnMut (rows_pairs cells.old.items rows sources) f }
+    requires count { AllZip (λ row source. length (row_items source) ≡ row.len) rows sources }
+    requires callable { CallableOnEachPair F.FnMut
+        (items_beside cells.old.items (rows_places rows) (flat_map row_items sources)) f }
     ensures ran { Maps (CalledAtPair F.FnMut) f (rows_places rows.entry)
-        (rows_pairs cells.old.items rows.entry sources.entry) cells.old.items cells.new.items }
+        (items_beside cells.old.items (rows_places rows.entry) (flat_map row_items sources.entry)) cells.old.items cells.new.items }
     ensures keeps_access { right_of cells.new ≡ right_of cells.old }
 {
-    call_rows(
+    call_rows::<T, LentView<'_, U>, _>(
         cells,
         rows,
         sources,
@@ -68,8 +73,8 @@ pub fn zip_view<'a, T, U, D: Lengths, F: for<'x> FnMut(&'x mut T, &'x U)>(
         (view_pairs cells.old.items view.now items.entry.items source.now) cells.old.items cells.new.items }
     ensures keeps_access { right_of cells.new ≡ right_of cells.old }
 {
-    let (rows, sources) = view.joined_rows_with(source, Order::RowMajor);
-    zip_rows(cells, rows, LentRows::new(items, sources), f);
+    let (rows, sources) = rows_beside(view, lent_view(items, source));
+    zip_rows(cells, rows, sources, f);
 }
 
 /// Calls a closure at the item of each index of a view and at that of the same index of another view of its shape, each index once,

@@ -1,40 +1,46 @@
 //! Writes to the items of a part by those of two other arrays, side by side.
-ghost use Rattle.std.specs.List.{All, AllZip};
-ghost use Rattle.std.specs.Prelude.{◌≡◌, ◌<◌};
+ghost use Rattle.std.specs.List.{AllZip, flat_map};
+ghost use Rattle.std.specs.Prelude.{◌≡◌, ◌<◌, length, map, zip};
+ghost use Rattle.ndarray_layout.specs.declared.Order.TheVariants.{RowMajor};
+ghost use Rattle.ndarray_layout.specs.Indices.{indices_in};
 ghost use Rattle.ndarray_layout.specs.Rows.{rows_places};
+ghost use Rattle.ndarray_layout.specs.View.{IsView, view_places};
+ghost use Rattle.nd_access.specs.LentRow.{row_items};
+ghost use Rattle.nd_access.specs.Own.{AreOwn};
 ghost use Rattle.nd_access.specs.Rights.{right_of};
 ghost use Rattle.nd_access.specs.Written.{Maps};
-ghost use Rattle.nd_loops.specs.ZippedTwo.{CallableOnEachTriple, CalledAtTriple, TakesTriple};
+ghost use Rattle.nd_access.specs.Zipped.{pairs_of};
+ghost use Rattle.nd_loops.specs.Beside.{items_beside};
+ghost use Rattle.nd_loops.specs.LentLayout.{both_at};
 ghost use Rattle.nd_loops.specs.OwnedRows.{OwnsEachRow};
-ghost use Rattle.nd_loops.specs.Triples.{rows_triples};
+ghost use Rattle.nd_loops.specs.ZippedTwo.{CallableOnEachTriple, CalledAtTriple, TakesTriple};
 
+use crate::beside::LentView;
 use crate::calling::call_rows;
+use crate::zipping::rows_beside;
 use nd_access::{Cells, LentRows};
-use ndarray_layout::Rows;
+use ndarray_layout::{Lengths, Rows, Strided};
 
 /// Calls a closure at each item of these rows and at the next ones of two lists of other rows.
 #[inline(always)]
-pub fn zip_two_rows<T, U, V, F: for<'x> FnMut(&'x mut T, &'x U, &'x V)>(
+fn zip_two_rows<T, U, V, F: for<'x> FnMut(&'x mut T, &'x U, &'x V)>(
     cells: &mut Cells<'_, T>,
     rows: Rows<'_>,
-    seconds: LentRows<'_, U>,
-    thirds: LentRows<'_, V>,
+    others: (LentRows<'_, U>, LentRows<'_, V>),
     mut f: F,
 )
     requires rows { OwnsEachRow cells.old.marks rows }
-    requires also { AllZip (λ row second. row.len ≡ second.row.len) rows seconds }
-    requires count { AllZip (λ row third. row.len ≡ third.row.len) rows thirds }
-    requires callable { CallableOnEachTriple F.FnMut
-        (rows_triples cells.old.items rows seconds thirds) f }
-    ensures ran { Maps (CalledAtTriple F.FnMut) f (rows_places rows.entry)
-        (rows_triples cells.old.items rows.entry seconds.entry thirds.entry) cells.old.items
-        cells.new.items }
+    requires count { AllZip (λ row both. length (pairs_of (row_items both.0) (row_items both.1)) ≡ row.len) rows (zip others.0 others.1) }
+    requires callable { CallableOnEachTriple F.FnMut (items_beside cells.old.items (rows_places rows)
+        (flat_map (λ both. pairs_of (row_items both.0) (row_items both.1)) (zip others.0 others.1))) f }
+    ensures ran { Maps (CalledAtTriple F.FnMut) f (rows_places rows.entry) (items_beside cells.old.items (rows_places rows.entry)
+        (flat_map (λ both. pairs_of (row_items both.0) (row_items both.1)) (zip others.entry.0 others.entry.1))) cells.old.items cells.new.items }
     ensures keeps_access { right_of cells.new ≡ right_of cells.old }
 {
-    call_rows(
+    call_rows::<T, (LentView<'_, U>, LentView<'_, V>), _>(
         cells,
         rows,
-        (seconds, thirds),
+        others,
         move |stored: &mut T, both: (&U, &V)|
             requires { TakesTriple F.FnMut f (stored.old, (both.0.now, both.1.now)) }
             ensures { CalledAtTriple F.FnMut f.entry (stored.old, (both.entry.0.now, both.entry.1.now)) stored.new f.exit }
@@ -42,4 +48,27 @@ pub fn zip_two_rows<T, U, V, F: for<'x> FnMut(&'x mut T, &'x U, &'x V)>(
             f(stored, both.0, both.1);
         },
     );
+}
+
+/// Calls a closure at the item of each index of a view and at those of the same index of two arrays of its shape, in row-major order.
+#[inline(always)]
+pub fn zip_two_view<T, U, V, D: Lengths, F: for<'x> FnMut(&'x mut T, &'x U, &'x V)>(
+    cells: &mut Cells<'_, T>,
+    view: &Strided<D>,
+    others: (LentView<'_, U>, LentView<'_, V>),
+    f: F,
+)
+    requires first { view.now.shape ≡ others.0.lens }
+    requires second { view.now.shape ≡ others.1.lens }
+    requires own_view { IsView view.now }
+    requires own { AreOwn cells.old.marks (view_places RowMajor view.now) }
+    requires callable { CallableOnEachTriple F.FnMut (items_beside cells.old.items (view_places RowMajor view.now)
+        (map (both_at others.0 others.1) (indices_in RowMajor view.now.shape))) f }
+    ensures ran { Maps (CalledAtTriple F.FnMut) f (view_places RowMajor view.now)
+        (items_beside cells.old.items (view_places RowMajor view.now)
+        (map (both_at others.entry.0 others.entry.1) (indices_in RowMajor view.now.shape))) cells.old.items cells.new.items }
+    ensures keeps_access { right_of cells.new ≡ right_of cells.old }
+{
+    let (rows, others) = rows_beside(view, others);
+    zip_two_rows(cells, rows, others, f);
 }

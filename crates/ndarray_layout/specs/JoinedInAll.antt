@@ -1,8 +1,9 @@
 -- The axes that move fastest, joined in several layouts of one shape at once.
-use Rattle.std.specs.Prelude.{◌≡◌, ℕ, ◌-◌, ◌*◌, ◌<◌, List, [], ◌∷◌, drop, length, slice_index, take, refl}
+use Rattle.std.specs.Prelude.{◌≡◌, ℕ, ◌-◌, ◌*◌, ◌<◌, ◌==◌, List, [], ◌∷◌, if◌then◌else◌, drop, length, replicate, slice_index, take, refl}
 use Rattle.nd_base.specs.declared.order.Order.{Order}
 use Rattle.nd_base.specs.declared.order.Order.TheVariants.{RowMajor, ColumnMajor}
 use Rattle.nd_base.specs.Signed.{signed}
+use Rattle.nd_base.specs.Size.{size}
 use Rattle.nd_shape.specs.Merge.{MergeFits}
 use Rattle.ndarray_layout.specs.RowsLeft.{with_item}
 use Rattle.ndarray_layout.specs.View.{View, IsView, view_of, view_places}
@@ -25,6 +26,10 @@ slower_than ColumnMajor count items = drop count items
 abbrev pub joined_view : Order → ℕ → List ℕ → List ℕ → ℕ → ℕ → ℕ → View
 joined_view order start lens strides count len stride =
     view_of start (with_item order (slower_than order count lens) len) (with_item order (slower_than order count strides) stride)
+
+-- the lengths of the rows along so many fastest axes, joined into one of this length: each row begins at a place of the slower axes
+abbrev pub row_lens : Order → List ℕ → ℕ → ℕ → List ℕ
+row_lens order lens count len = replicate (if len == 0 then 0 else size (slower_than order count lens)) len
 
 -- so many axes are one: wherever the layout starts, this view has its places
 pub record IsJoined (order : Order) (lens strides : List ℕ) (count len stride : ℕ) : Type 0 where
@@ -65,6 +70,12 @@ all_but_the_last = refl
 
 all_but_the_first : slower_than ColumnMajor 1 (2 ∷ 3 ∷ 4 ∷ []) ≡ 3 ∷ 4 ∷ []
 all_but_the_first = refl
+
+rows_of_pixels : row_lens RowMajor (4 ∷ 2 ∷ 3 ∷ []) 2 6 ≡ 6 ∷ 6 ∷ 6 ∷ 6 ∷ []
+rows_of_pixels = refl
+
+no_rows_of_none : row_lens RowMajor (4 ∷ 0 ∷ []) 1 0 ≡ []
+no_rows_of_none = refl
 
 pixels_as_rows : joined_view RowMajor 7 (4 ∷ 2 ∷ 3 ∷ []) (12 ∷ 3 ∷ 1 ∷ []) 2 6 1 ≡ view_of 7 (4 ∷ 6 ∷ []) (12 ∷ 1 ∷ [])
 pixels_as_rows = refl

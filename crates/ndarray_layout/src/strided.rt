@@ -39,11 +39,12 @@ mod stretch_left;
 mod typing;
 mod windows;
 
+pub use alike_rows::rows_along;
 pub use block_views::BlockViews;
 pub use into_places::IntoPlaces;
 pub use into_rows::StridedRows;
 pub use iter_places::Places;
-pub use joined_layouts::joined_in_all;
+pub use joined_layouts::{LayoutStrides, joined_in_all, joined_in_each};
 use nd_base::Lengths;
 pub use places_of_rows::PlacesOf;
 pub use rows::{Row, Rows};

@@ -7,7 +7,7 @@ use crate::random::{array, dimension};
 use crate::threads::arrays;
 use crate::{NUMBERS, rows_mut};
 use ndarray_layout::{
-    ArrayView, ArrayViewMut, Dimension, ErrorKind, Ix1, Ix2, Ix3, IxDyn, LayoutError, Lengths, from_kind, s,
+    ArrayView, ArrayViewMut, Dimension, ErrorKind, Ix1, Ix2, Ix3, IxDyn, LayoutError, Lengths, Zip, from_kind, s,
 };
 
 /// Asserts that each item meets that of another array, in row-major order, and returns what is written.
@@ -49,6 +49,40 @@ fn takes_two<D: Lengths>(numbers: &mut Numbers, part: ArrayViewMut<'_, usize, D>
         picked.places.iter().zip(both).map(|(place, (other, third))| (*place, WRITTEN + other, third.to_string()));
     assert!(met.iter().cloned().eq(expected), "{picked:?}");
     met.iter().map(|(item, other, third)| item + other + third.len()).collect()
+}
+
+/// Asserts that each item meets those of two to five other arrays, in row-major order, and returns what is written.
+fn takes_up_to_five<D: Lengths>(
+    numbers: &mut Numbers,
+    part: ArrayViewMut<'_, usize, D>,
+    picked: &Picked,
+) -> Vec<usize> {
+    let mut part = part;
+    let plains: Vec<Plain> = (0..5).map(|_| Plain::of(numbers, picked.shape.clone())).collect();
+    let mut items: Vec<Vec<usize>> =
+        plains.iter().zip(1..).map(|(plain, number)| (number * WRITTEN..).take(plain.len).collect()).collect();
+    let others: Vec<ArrayViewMut<'_, usize, D>> =
+        plains.iter().zip(&mut items).map(|(plain, items)| array(plain, items)).collect();
+    let [b, c, d, e, f] = [0, 1, 2, 3, 4].map(|number| others[number].view());
+    let (mut met, count) = (Vec::new(), numbers.below(4) + 2);
+    let zip = Zip::from(&mut part).and(&b).and(&c);
+    let mut meets = |item: &mut usize, others: &[usize]| {
+        met.push((*item, others.to_vec()));
+        *item += others.iter().sum::<usize>();
+    };
+    let zipped = match count {
+        2 => zip.for_each(|a, b, c| meets(a, &[*b, *c])),
+        3 => zip.and(&d).for_each(|a, b, c, d| meets(a, &[*b, *c, *d])),
+        4 => zip.and(&d).and(&e).for_each(|a, b, c, d, e| meets(a, &[*b, *c, *d, *e])),
+        _ => zip.and(&d).and(&e).and(&f).for_each(|a, b, c, d, e, f| meets(a, &[*b, *c, *d, *e, *f])),
+    };
+    assert_eq!(zipped, Ok(()));
+    let places: Vec<Vec<usize>> = plains[..count].iter().map(|plain| plain.whole().places).collect();
+    let beside =
+        |index: usize| places.iter().zip(1..).map(|(places, number)| number * WRITTEN + places[index]).collect();
+    let expected = picked.places.iter().enumerate().map(|(index, place)| (*place, beside(index)));
+    assert!(met.iter().cloned().eq(expected), "{picked:?}");
+    met.iter().map(|(item, others)| item + others.iter().sum::<usize>()).collect()
 }
 
 /// Asserts that each item meets that of another array once, in some order, and returns what is written.
@@ -156,12 +190,13 @@ fn random_parts_take_items_swap_them_and_tell_their_indices() {
     let mut written = 0;
     for _ in 0..arrays() / 2 {
         let plain = Plain::any(&mut numbers);
-        let calls = [takes, takes_two, takes_as_they_lie, is_written_of_others, swaps, indices_come::<IxDyn>];
+        let calls =
+            [takes, takes_two, takes_up_to_five, takes_as_they_lie, is_written_of_others, swaps, indices_come::<IxDyn>];
         for call in calls {
             written += whole(&mut numbers, &plain, call);
         }
         let calls: &[_] = if plain.shape.len() == 2 {
-            &[takes::<Ix2>, takes_two::<Ix2>, swaps::<Ix2>, indices_come::<Ix2>]
+            &[takes::<Ix2>, takes_two::<Ix2>, takes_up_to_five::<Ix2>, swaps::<Ix2>, indices_come::<Ix2>]
         } else {
             &[]
         };
@@ -183,6 +218,10 @@ fn an_array_of_another_shape_changes_no_item() -> Result<(), LayoutError> {
     let same = ArrayView::from_shape(Ix2(2, 3), &NUMBERS)?;
     assert_eq!(part.zip_mut_with_two(&others, &same, |_, _, _| panic!("no item is called with")), fault);
     assert_eq!(part.zip_mut_with_two(&same, &others, |_, _, _| panic!("no item is called with")), fault);
+    let zip = Zip::from(&mut part).and(&same).and(&same).and(&others);
+    assert_eq!(zip.for_each(|_, _, _, _| panic!("no item is called with")), fault);
+    let zip = Zip::from(&mut part).and(&others).and(&same);
+    assert_eq!(zip.for_each_nested(|_, _| panic!("no item is called with")), fault);
     assert_eq!(others.map_into(&mut part, |_| panic!("no item is called with")), fault);
     assert_eq!(others.map_into_nearest(&mut part, |_| panic!("no item is called with")), fault);
     assert_eq!(part.assign(&others), fault);

@@ -2,17 +2,15 @@
 use Rattle.std.proofs.Common.{◌≡◌, ◌≢◌, ℕ, ◌+◌, ◌<◌, ◌≤◌, ℤ, pos, negsuc, Option, Some, None}
 use Rattle.std.proofs.Common.{List, [], ◌∷◌, ◌++◌, length, get_or, set}
 use Rattle.std.proofs.Common.{map, take, drop, refl, sym, ap, subst, ◌∙◌, arith}
-use Rattle.std.specs.Borrow.{MutBor}
-use Rattle.std.specs.Fn.{CalledAtMut, Mut}
 use Rattle.std.specs.List.{AllPairs, Contains, FoldsTo}
 use Rattle.std.specs.Option.{option_map}
 use Rattle.std.specs.Prelude.{slice_get, zip}
-use Rattle.std.proofs.lemmas.List.{drop_more, get_or-map, length-map, length-take, map-append}
+use Rattle.std.proofs.lemmas.List.{drop_more, length-map, length-take, map-append}
 use Rattle.std.proofs.lemmas.List.{take-append-drop, take_all, take_more}
 use Rattle.std.proofs.lemmas.List.Elements.{Contains-append_left, Contains-append_right}
 use Rattle.ndarray_layout.proofs.Laws.Lists.{map_same}
 use Rattle.std.specs.Iterator.{CallableAtEachTurn, Yields}
-use Rattle.nd_access.specs.Mapped.{Makes, TakesAtMut, gives}
+use Rattle.nd_access.specs.Mapped.{Makes, gives}
 use Rattle.nd_access.specs.Items.{item_at_place}
 use Rattle.nd_access.specs.Written.{KeepsAllBut}
 use Rattle.nd_access.specs.MapsTo.{MapsTo}
@@ -167,26 +165,6 @@ module _ {F X Y : Type 0} (call : F → X → Y → F → Type 0) (Q : F → X �
   all_run {count} {now} {here} long ended so_far =
       subst (λ zs. MapsTo call f zs items old now here) (take_all count places ended)
       (subst (λ xs. MapsTo call f (take count places) xs old now here) (take_all count items (omega (arith, ended, long))) so_far.run)
-
--- ---- calls that change items in place
-module _ {F T : Type 0} (g : Mut F (MutBor T × Unit {0}) (Unit {0} × (MutBor T × Unit {0}))) (f : F) (places : List ℤ) (old : List T) where
-  -- those at the first places are made
-  abbrev pub HasMappedSoFar : ℕ → List T → F → Type 0
-  HasMappedSoFar = HasMadeSoFar (λ p x y q. CalledAtMut g p x tt q y) (TakesAtMut g) f places (map (item_at_place old) places) old
-
-  -- the item that is there before the next call is the one that was there at first
-  pub next_in_place : Distinct places → {count : ℕ} {now : List T} {here : F} {place : ℕ} {x : T} → count < length places
-      → get_or places count (pos place) ≡ pos place → place < length old → slice_get now place ≡ Some x → HasMappedSoFar count now here
-      → IsNext (λ p x y q. CalledAtMut g p x tt q y) (TakesAtMut g) f places (map (item_at_place old) places) old count place x
-  next_in_place distinct {count} {place = place} below there within item so_far = record {
-    below = below;
-    there = there;
-    within = within;
-    given = get_or-map (item_at_place old) places count (pos place) None below
-        ∙ ap (item_at_place old) there
-        ∙ sym (so_far.run.others place (place_apart places count place distinct below there))
-        ∙ item;
-  }
 
 -- places that come later are none of those before
 later_apart : (xs ys : List ℤ) → Distinct (xs ++ ys) → (z : ℤ) → Contains ys z → Contains xs z → ⊥

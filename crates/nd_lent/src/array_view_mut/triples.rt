@@ -1,51 +1,15 @@
 //! Writes to the items of a part by those of two other arrays, side by side.
-ghost use Rattle.std.specs.List.{AllZip};
-ghost use Rattle.std.specs.Prelude.{◌≡◌, ◌<◌, ◌↔◌, IsOk, OnErr, OnOk, Some, map};
+ghost use Rattle.std.specs.Prelude.{◌≡◌, ◌↔◌, IsOk, OnErr, OnOk, Some};
 ghost use Rattle.std.specs.Result.{result_err};
 ghost use Rattle.ndarray_layout.specs.declared.ErrorKind.TheVariants.{IncompatibleShape};
-ghost use Rattle.ndarray_layout.specs.declared.Order.TheVariants.{RowMajor};
-ghost use Rattle.ndarray_layout.specs.Rows.{rows_places};
-ghost use Rattle.ndarray_layout.specs.View.{view_places};
 ghost use Rattle.nd_access.specs.HasItems.{HasItemsOf, KeepsSpare};
-ghost use Rattle.nd_access.specs.Items.{item_at_place};
-ghost use Rattle.nd_access.specs.LentRow.{rows_items};
 ghost use Rattle.nd_access.specs.Mapped.{CallsMake, row_major_items};
 ghost use Rattle.nd_loops.specs.ZippedTwo.{ActsAsAtTriple, CallableOnEachTriple, CalledAtTriple, row_major_triples, zipped_two_at};
 
 use crate::array_view::ArrayView;
 use crate::array_view_mut::ArrayViewMut;
-use nd_access::LentRows;
-use nd_loops::zip_two_rows;
-use ndarray_layout::{ErrorKind, Lengths, Order, Rows, ShapeError, Strided, from_kind};
-
-/// The rows of a view and of two arrays of its shape that are joined alike, in row-major order.
-#[inline(always)]
-fn rows_of_three<'s, U, V, D: Lengths>(
-    view: &'s Strided<D>,
-    other: &'s ArrayView<'_, U, D>,
-    third: &'s ArrayView<'_, V, D>,
-) -> (Rows<'s>, LentRows<'s, U>, LentRows<'s, V>)
-    requires also { view.now.shape ≡ other.now.view.shape }
-    requires shape { view.now.shape ≡ third.now.view.shape }
-    ensures places { rows_places result.0 ≡ view_places RowMajor view.now }
-    ensures seconds { rows_items result.1
-        ≡ map (item_at_place other.now.items) (view_places RowMajor other.now.view) }
-    ensures thirds { rows_items result.2
-        ≡ map (item_at_place third.now.items) (view_places RowMajor third.now.view) }
-    ensures also { AllZip (λ row second. row.len ≡ second.row.len) result.0 result.1 }
-    ensures count { AllZip (λ row third. row.len ≡ third.row.len) result.0 result.2 }
-{
-    let (rows, seconds, thirds) = view.joined_rows_with_two(
-        other.strided(),
-        third.strided(),
-        Order::RowMajor,
-    );
-    (
-        rows,
-        LentRows::new(other.reader(), seconds),
-        LentRows::new(third.reader(), thirds),
-    )
-}
+use nd_loops::{Beside, zip_two_view};
+use ndarray_layout::{ErrorKind, Lengths, ShapeError, from_kind};
 
 impl<'a, T: Drop, D: Lengths> ArrayViewMut<'a, T, D> {
     ghost use Rattle.nd_lent.specs.Lent.{access_of, array_of};
@@ -87,14 +51,11 @@ impl<'a, T: Drop, D: Lengths> ArrayViewMut<'a, T, D> {
         ensures spare { KeepsSpare (array_of self.old) (array_of self.new) }
         ensures keeps_access { access_of self.new ≡ access_of self.old }
     {
-        if !self.view.dim().equal(other.dim()) {
+        let others = (other.beside(), third.beside());
+        if !others.have_shape(self.view.dim().slice()) {
             return Err(from_kind(ErrorKind::IncompatibleShape));
         }
-        if !self.view.dim().equal(third.dim()) {
-            return Err(from_kind(ErrorKind::IncompatibleShape));
-        }
-        let (rows, seconds, thirds) = rows_of_three(&self.view, other, third);
-        zip_two_rows(&mut self.cells, rows, seconds, thirds, f);
+        zip_two_view(&mut self.cells, &self.view, others, f);
         Ok(())
     }
 }

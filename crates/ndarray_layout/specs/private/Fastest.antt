@@ -1,11 +1,11 @@
 -- Words of private contracts alone, of the calls below `Strided::rows`: the axis of a layout that moves fastest.
-use Rattle.std.specs.Prelude.{◌≡◌, ℕ, ◌-◌, ◌≤◌, ◌==◌, List, [], ◌∷◌, if◌then◌else◌, length, nat_eq, replicate, slice_index, refl}
-use Rattle.std.proofs.Common.{ap, eq-eqb}
+use Rattle.std.specs.Prelude.{◌≡◌, ℕ, ◌-◌, ◌≤◌, ◌==◌, pos, ◌*ℤ◌, List, [], ◌∷◌, if◌then◌else◌, length, nat_eq, replicate}
+use Rattle.std.specs.Prelude.{slice_index, refl}
+use Rattle.std.proofs.Common.{ap, eq-eqb, sym, ◌∙◌}
 use Rattle.std.proofs.Math.Dec.{lit≤}
 use Rattle.std.proofs.lemmas.Bool.{both_ways}
 use Rattle.nd_base.specs.declared.order.Order.{Order}
 use Rattle.nd_base.specs.declared.order.Order.TheVariants.{RowMajor, ColumnMajor}
-use Rattle.nd_base.specs.Size.{size}
 use Rattle.ndarray_layout.specs.declared.strided.rows.Fastest.{Fastest}
 use Rattle.ndarray_layout.specs.declared.strided.rows.Row.{Row}
 use Rattle.ndarray_layout.specs.JoinedInAll.{slower_than}
@@ -52,10 +52,6 @@ abbrev pub NoLongerRow : Order → List ℕ → List ℕ → ℕ → Type 0
 NoLongerRow order lens strides len = (start : ℕ) (row : Row) → IsView (view_of start lens strides)
     → BeginsAsRow (view_places order (view_of start lens strides)) row → row.len ≤ len
 
--- the lengths of the rows along the n fastest axes, joined into one of this length: each row begins at a place of the slower axes
-abbrev pub row_lens : Order → List ℕ → ℕ → ℕ → List ℕ
-row_lens order lens count len = replicate (if len == 0 then 0 else size (slower_than order count lens)) len
-
 -- examples
 last_by_rows : EndsIn {A = ℕ} RowMajor (2 ∷ 3 ∷ 4 ∷ []) (2 ∷ 3 ∷ []) 4
 last_by_rows = record { is = refl }
@@ -71,9 +67,3 @@ first_two_by_rows = record { few = lit≤ tt; is = refl }
 
 not_the_last_by_rows : IsSlowest {A = ℕ} RowMajor (2 ∷ 3 ∷ []) (3 ∷ []) → ⊥
 not_the_last_by_rows slowest = both_ways (nat_eq 2 3) refl (eq-eqb 2 3 (ap (λ items. slice_index items 0) slowest.is))
-
-rows_of_pixels : row_lens RowMajor (4 ∷ 2 ∷ 3 ∷ []) 2 6 ≡ 6 ∷ 6 ∷ 6 ∷ 6 ∷ []
-rows_of_pixels = refl
-
-no_rows_of_none : row_lens RowMajor (4 ∷ 0 ∷ []) 1 0 ≡ []
-no_rows_of_none = refl

@@ -1,18 +1,24 @@
 //! The rows of views of one shape, joined alike.
 ghost use Rattle.std.specs.List.{All};
 ghost use Rattle.std.specs.Prelude.{◌≡◌, ◌<◌, ◌≤◌, ℕ, length, map};
-ghost use Rattle.ndarray_layout.specs.JoinedInAll.{IsJoined};
+ghost use Rattle.ndarray_layout.specs.JoinedInAll.{IsJoined, row_lens};
 ghost use Rattle.ndarray_layout.specs.Rows.{BeginsAsRow, rows_places};
 ghost use Rattle.ndarray_layout.specs.View.{IsView, view_of, view_places};
-ghost use Rattle.ndarray_layout.specs.private.Fastest.{row_lens};
 
 use crate::strided::Strided;
 use crate::strided::joined_layouts::{InLists, joined_in_each};
 use crate::strided::rows::{Rows, as_one_axis};
 use nd_base::{Lengths, Order};
 
-/// The rows of a view along its fastest axes, of which `joined` has the number, and the length as one; `stride` is theirs as one.
-fn rows_along<'a>(
+/// The rows of a layout from a place on, along its fastest axes as one: `joined` is what `joined_in_each` returns, and `stride` what it
+/// writes for the layout. So the rows of layouts that were joined in one call are alike: as many of each, and of the same lengths.
+///
+/// The caller ensures that the layout is valid from there on, and was joined so.
+///
+/// Takes no memory. A row costs as much as one of `joined_rows`.
+///
+/// `[2,3]` with `[5,1]` from 7, of which 1 axis is one of length 3 with the stride 1: 3 places from 7 and 3 from 12. The project's own.
+pub fn rows_along<'a>(
     order: Order,
     start: usize,
     lens: &'a [usize],

@@ -9,14 +9,14 @@ ghost use Rattle.ndarray_layout.specs.JoinedInAll.{AreJoined, AreJoinedBy, NoMor
 use nd_base::Order;
 use nd_shape::goes_on;
 
-/// The strides of layouts of one shape.
-pub(super) trait LayoutStrides {
+/// The strides of layouts of one shape, each of which has a number. The project's own.
+pub trait LayoutStrides {
     ghost use Rattle.std.specs.Prelude.{List};
 
     // Those of the layout of a number.
     ghost strides: { Self → ℕ → List ℕ };
 
-    /// The stride of an axis in the layout of a number.
+    /// The stride of an axis in the layout of a number. The caller ensures that there are both.
     fn stride(&self, number: usize, axis: usize) -> usize
         requires { axis < length (strides self.now number) }
         ensures { result ≡ slice_index (strides self.now number) axis };
@@ -112,9 +112,17 @@ fn begin_along<L: LayoutStrides>(joined: &mut [usize], layouts: &L, axis: usize)
 /// How many of the axes that move fastest are one in each of several layouts of a shape, and its length; writes its stride in
 /// each layout into `joined`.
 ///
-/// An axis is joined where it goes on in all layouts where the faster ones end; one of length 1 joins any.
+/// An axis is joined where it goes on in all layouts where the faster ones end; one of length 1 joins any. `joined_in_all` is this for
+/// strides in one list.
+///
+/// The caller ensures that there is a layout for each item of `joined`, one at least, and that each is valid (`span_of_lengths`).
+///
+/// Takes no memory, and time for each axis of each layout.
+///
+/// Of `[4,2,3]` with the strides `[12,3,1]` and `[6,3,1]`: 2 axes are one of length 6, with the strides 1 and 1. The project's own, for
+/// what ndarray's `Zip` does.
 #[inline(always)]
-pub(super) fn joined_in_each<L: LayoutStrides>(
+pub fn joined_in_each<L: LayoutStrides>(
     order: Order,
     lens: &[usize],
     layouts: &L,

@@ -20,6 +20,7 @@ mod slice_parts;
 mod slices;
 mod tiles;
 mod triples;
+mod zipping;
 
 use crate::lent::nd_access::Cells;
 use crate::ndarray_layout::{Axis, LayoutError, Lengths, NdIndex, Order, Strided};

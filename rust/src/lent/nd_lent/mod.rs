@@ -25,6 +25,7 @@ mod indexing;
 mod memory_range;
 mod split_views;
 mod views;
+mod zip;
 
 pub use crate::lent::nd_access::{LentRow, LentRows, RowItems};
 pub use crate::lent::nd_items::{IndexedIter, IndexedIterMut, IntoRows, Iter, IterMut, ViewIter};
@@ -34,3 +35,4 @@ pub use array_view_mut::{ArrayViewMut, AxisChunksIterMut, AxisIterMut, LanesMut,
 pub use split_views::SplitViews;
 pub use views::Views;
 pub use views::numbered::Numbered;
+pub use zip::Zip;

@@ -1,13 +1,90 @@
 // Made by `rust/erase` of `crates/nd_loops/src/beside.rt`: edit that.
-//! What stands beside the items of rows while a closure is called at them: nothing, the items of other rows, or two of these.
+//! Arrays beside another one of their shape, whose items are read while a closure is called at its items: none, one, or two of these.
 
-use crate::lent::nd_access::{LentRow, LentRows};
-use crate::ndarray_layout::Row;
+use crate::lent::nd_access::{LentRow, LentRows, Reader};
+use crate::ndarray_layout::{Lengths, Order, Row, Strided, rows_along};
 
-/// What stands beside the items of a row.
-pub(crate) trait Beside: Sized + Sized {
+/// Arrays that stand beside another one of their shape, to be read.
+pub trait Beside: Sized + Sized {
     /// What is shown beside an item.
     type Item;
+
+    /// What stands beside the rows of that one.
+    type Rows: Sized;
+
+    /// And beside the items of one of them.
+    type One: Sized;
+
+    /// Whether each array has this shape.
+    ///
+    /// <details><summary>Contract (proved)</summary>
+    ///
+    /// ```text
+    /// ensures IsTrue result ↔ have_shape self.now lens.now
+    /// ```
+    /// [How to read it](crate::contracts)
+    /// </details>
+    fn have_shape(&self, lens: &[usize]) -> bool;
+
+    /// How many arrays they are.
+    ///
+    /// <details><summary>Contract (proved)</summary>
+    ///
+    /// ```text
+    /// requires length (layouts self.now) ≤ 5
+    /// ensures count: result ≡ length (layouts self.now)
+    /// ensures valid: (lens : List ℕ) → have_shape self.now lens
+    ///     → All (λ strides. IsValidLayout lens (all_signed strides)) (layouts self.now)
+    /// ```
+    /// [How to read it](crate::contracts)
+    /// </details>
+    fn count(&self) -> usize;
+
+    /// The stride of an axis of the array of a number.
+    ///
+    /// <details><summary>Contract (proved)</summary>
+    ///
+    /// ```text
+    /// requires few: length (layouts self.now) ≤ 5
+    /// requires exists: axis < length (slice_index_or (layouts self.now) number [])
+    /// ensures result ≡ slice_index (slice_index_or (layouts self.now) number []) axis
+    /// ```
+    /// [How to read it](crate::contracts)
+    /// </details>
+    fn stride(&self, number: usize, axis: usize) -> usize;
+
+    /// The rows along joined axes, of which `along` has the stride in each array (`joined_in_each`).
+    ///
+    /// <details><summary>Contract (proved)</summary>
+    ///
+    /// ```text
+    /// requires few: length (layouts self) ≤ 5
+    /// requires count: length along.now ≡ length (layouts self)
+    /// requires shape: have_shape self lens.now
+    /// requires axes: joined.0 ≤ length lens.now
+    /// requires joined: (number : ℕ) → number < length (layouts self) → IsJoined RowMajor lens.now
+    ///     (slice_index_or (layouts self) number []) joined.0 joined.1 (slice_index along.now number)
+    /// ensures count: (rows : List Row) → map (λ row. row.len) rows ≡ row_lens RowMajor lens.now joined.0 joined.1
+    ///     → AllZip (λ row one. length (values one) ≡ row.len) rows (ones result rows)
+    /// ensures values: (rows : List Row) → map (λ row. row.len) rows ≡ row_lens RowMajor lens.now joined.0 joined.1
+    ///     → length (rows_places rows) ≡ size lens.now
+    ///     → flat_map values (ones result rows) ≡ map (at self) (indices_in RowMajor lens.now)
+    /// ```
+    /// [How to read it](crate::contracts)
+    /// </details>
+    fn into_rows(self, lens: &[usize], joined: (usize, usize), along: &[usize]) -> Self::Rows;
+
+    /// What stands beside the next row.
+    ///
+    /// <details><summary>Contract (proved)</summary>
+    ///
+    /// ```text
+    /// ensures (others : List Row) → MatchOption result (ones rows.old (row ∷ others) ≡ [])
+    ///     (λ one. ones rows.old (row ∷ others) ≡ one ∷ ones rows.new others)
+    /// ```
+    /// [How to read it](crate::contracts)
+    /// </details>
+    fn next_beside(rows: &mut Self::Rows, row: Row) -> Option<Self::One>;
 
     /// What stands beside the item of a coordinate.
     ///
@@ -19,52 +96,49 @@ pub(crate) trait Beside: Sized + Sized {
     /// <details><summary>Contract (proved)</summary>
     ///
     /// ```text
-    /// requires coordinate < length (values self.now)
-    /// ensures slice_index_or (values self.now) coordinate None ≡ Some (value result)
+    /// requires coordinate < length (values one.now)
+    /// ensures slice_index_or (values one.now) coordinate None ≡ Some (value result)
     /// ```
     /// [How to read it](crate::contracts)
     /// </details>
-    fn item(&self, coordinate: usize) -> Self::Item;
+    fn item(one: &Self::One, coordinate: usize) -> Self::Item;
 
     /// The same as slices, where the items follow one another; else `None`.
     ///
     /// <details><summary>Contract (proved)</summary>
     ///
     /// ```text
-    /// ensures IfSome result (λ row. values row ≡ values self.now)
+    /// ensures IfSome result (λ row. values row ≡ values one.now)
     /// ```
     /// [How to read it](crate::contracts)
     /// </details>
-    fn alone(&self) -> Option<Self>;
+    fn alone(one: &Self::One) -> Option<Self::One>;
 
     /// The same by the stride -1 as a number that rustc knows, where that is the stride; else `None`.
     ///
     /// <details><summary>Contract (proved)</summary>
     ///
     /// ```text
-    /// ensures IfSome result (λ row. row ≡ self.now)
+    /// ensures IfSome result (λ row. row ≡ one.now)
     /// ```
     /// [How to read it](crate::contracts)
     /// </details>
-    fn backwards(&self) -> Option<Self>;
+    fn backwards(one: &Self::One) -> Option<Self::One>;
 }
 
-/// What stands beside rows, the next one of which is asked for with the row.
-pub(crate) trait BesideRows: Sized {
-    /// What stands beside one of them.
-    type One: Beside;
-
-    /// What stands beside the next row.
-    ///
-    /// <details><summary>Contract (proved)</summary>
-    ///
-    /// ```text
-    /// ensures (others : List Row) → MatchOption result (ones self.old (row ∷ others) ≡ [])
-    ///     (λ one. ones self.old (row ∷ others) ≡ one ∷ ones self.new others)
-    /// ```
-    /// [How to read it](crate::contracts)
-    /// </details>
-    fn next_beside(&mut self, row: Row) -> Option<Self::One>;
+/// The number of an axis.
+///
+/// <details><summary>Contract (proved)</summary>
+///
+/// ```text
+/// requires axis < length numbers.now
+/// ensures result ≡ slice_index numbers.now axis
+/// ```
+/// [How to read it](crate::contracts)
+/// </details>
+#[inline(always)]
+pub(crate) fn number_at(numbers: &[usize], axis: usize) -> usize {
+    numbers[axis]
 }
 
 /// A row by the stride -1 as a number that rustc knows, where that is its stride; else `None`.
@@ -85,92 +159,187 @@ pub(crate) fn back(row: Row) -> Option<Row> {
 }
 
 /// Nothing beside the items of a row.
-pub(crate) struct Nothing {
+pub struct Nothing {
     row: Row,
 }
 
-impl Beside for Nothing {
+impl Beside for () {
     type Item = ();
 
-    #[inline(always)]
-    fn item(&self, _coordinate: usize) {}
+    type Rows = ();
 
-    #[inline(always)]
-    fn alone(&self) -> Option<Nothing> {
-        Some(Nothing { row: self.row })
-    }
-
-    #[inline(always)]
-    fn backwards(&self) -> Option<Nothing> {
-        Some(Nothing { row: self.row })
-    }
-}
-
-impl BesideRows for () {
     type One = Nothing;
 
     #[inline(always)]
-    fn next_beside(&mut self, row: Row) -> Option<Nothing> {
+    fn have_shape(&self, _lens: &[usize]) -> bool {
+        true
+    }
+
+    #[inline(always)]
+    fn count(&self) -> usize {
+        0
+    }
+
+    #[inline(always)]
+    fn stride(&self, _number: usize, _axis: usize) -> usize {
+        0
+    }
+
+    #[inline(always)]
+    fn into_rows(self, _lens: &[usize], _joined: (usize, usize), _along: &[usize]) {}
+
+    #[inline(always)]
+    fn next_beside(_rows: &mut (), row: Row) -> Option<Nothing> {
         Some(Nothing { row })
     }
+
+    #[inline(always)]
+    fn item(_one: &Nothing, _coordinate: usize) {}
+
+    #[inline(always)]
+    fn alone(one: &Nothing) -> Option<Nothing> {
+        Some(Nothing { row: one.row })
+    }
+
+    #[inline(always)]
+    fn backwards(one: &Nothing) -> Option<Nothing> {
+        Some(Nothing { row: one.row })
+    }
 }
 
-impl<'a, U> Beside for LentRow<'a, U> {
+/// An array whose items are lent to be read beside those of another one, with its lengths and strides as lists.
+pub struct LentView<'a, U> {
+    pub reader: Reader<'a, U>,
+    pub start: usize,
+    pub lens: &'a [usize],
+    pub strides: &'a [usize],
+}
+
+/// The array of these items and this view, to be read beside another one.
+///
+/// <details><summary>Contract (proved)</summary>
+///
+/// ```text
+/// requires is_view: IsView view.now
+/// requires items: All (IsInBounds (length reader.items)) (view_places RowMajor view.now)
+/// requires marked: HaveMarks reader.marks (view_places RowMajor view.now)
+/// ensures lens: result.lens ≡ view.now.shape
+/// ensures array: array_of_lent result ≡ record { items = reader.entry.items; view = view.now }
+/// ```
+/// [How to read it](crate::contracts)
+/// </details>
+#[inline(always)]
+pub fn lent_view<'a, U, D: Lengths>(reader: Reader<'a, U>, view: &'a Strided<D>) -> LentView<'a, U> {
+    LentView { reader, start: view.start(), lens: view.dim().slice(), strides: view.strides().slice() }
+}
+
+impl<'a, U> Beside for LentView<'a, U> {
     type Item = &'a U;
 
-    #[inline(always)]
-    fn item(&self, coordinate: usize) -> &'a U {
-        LentRow::item(self, coordinate)
-    }
+    type Rows = LentRows<'a, U>;
 
-    #[inline(always)]
-    fn alone(&self) -> Option<LentRow<'a, U>> {
-        LentRow::alone(self)
-    }
-
-    #[inline(always)]
-    fn backwards(&self) -> Option<LentRow<'a, U>> {
-        let row = back(self.row)?;
-        Some(LentRow { reader: self.reader.copied(), row })
-    }
-}
-
-impl<'a, U> BesideRows for LentRows<'a, U> {
     type One = LentRow<'a, U>;
 
     #[inline(always)]
-    fn next_beside(&mut self, _row: Row) -> Option<LentRow<'a, U>> {
-        self.next()
+    fn have_shape(&self, lens: &[usize]) -> bool {
+        lens == self.lens
+    }
+
+    #[inline(always)]
+    fn count(&self) -> usize {
+        // (read, so that its invariant is known)
+        let _lens = self.lens;
+        1
+    }
+
+    #[inline(always)]
+    fn stride(&self, _number: usize, axis: usize) -> usize {
+        number_at(self.strides, axis)
+    }
+
+    #[inline(always)]
+    fn into_rows(self, _lens: &[usize], joined: (usize, usize), along: &[usize]) -> LentRows<'a, U> {
+        let LentView { reader, start, lens, strides } = self;
+        let rows = rows_along(Order::RowMajor, start, lens, strides, joined, number_at(along, 0));
+        LentRows::new(reader, rows)
+    }
+
+    #[inline(always)]
+    fn next_beside(rows: &mut LentRows<'a, U>, _row: Row) -> Option<LentRow<'a, U>> {
+        rows.next()
+    }
+
+    #[inline(always)]
+    fn item(one: &LentRow<'a, U>, coordinate: usize) -> &'a U {
+        one.item(coordinate)
+    }
+
+    #[inline(always)]
+    fn alone(one: &LentRow<'a, U>) -> Option<LentRow<'a, U>> {
+        one.alone()
+    }
+
+    #[inline(always)]
+    fn backwards(one: &LentRow<'a, U>) -> Option<LentRow<'a, U>> {
+        let row = back(one.row)?;
+        Some(LentRow { reader: one.reader.copied(), row })
     }
 }
 
 impl<A: Beside, B: Beside> Beside for (A, B) {
     type Item = (A::Item, B::Item);
 
-    #[inline(always)]
-    fn item(&self, coordinate: usize) -> (A::Item, B::Item) {
-        (self.0.item(coordinate), self.1.item(coordinate))
-    }
+    type Rows = (A::Rows, B::Rows);
 
-    #[inline(always)]
-    fn alone(&self) -> Option<(A, B)> {
-        let first = self.0.alone()?;
-        Some((first, self.1.alone()?))
-    }
-
-    #[inline(always)]
-    fn backwards(&self) -> Option<(A, B)> {
-        let first = self.0.backwards()?;
-        Some((first, self.1.backwards()?))
-    }
-}
-
-impl<A: BesideRows, B: BesideRows> BesideRows for (A, B) {
     type One = (A::One, B::One);
 
     #[inline(always)]
-    fn next_beside(&mut self, row: Row) -> Option<(A::One, B::One)> {
-        let first = self.0.next_beside(row)?;
-        Some((first, self.1.next_beside(row)?))
+    fn have_shape(&self, lens: &[usize]) -> bool {
+        self.0.have_shape(lens) && self.1.have_shape(lens)
+    }
+
+    #[inline(always)]
+    fn count(&self) -> usize {
+        self.0.count() + self.1.count()
+    }
+
+    #[inline(always)]
+    fn stride(&self, number: usize, axis: usize) -> usize {
+        let first = self.0.count();
+        if number < first {
+            return self.0.stride(number, axis);
+        }
+        self.1.stride(number - first, axis)
+    }
+
+    #[inline(always)]
+    fn into_rows(self, lens: &[usize], joined: (usize, usize), along: &[usize]) -> (A::Rows, B::Rows) {
+        let (first, second) = self;
+        let (these, others) = along.split_at(first.count());
+        let first = first.into_rows(lens, joined, these);
+        (first, second.into_rows(lens, joined, others))
+    }
+
+    #[inline(always)]
+    fn next_beside(rows: &mut (A::Rows, B::Rows), row: Row) -> Option<(A::One, B::One)> {
+        let first = A::next_beside(&mut rows.0, row)?;
+        Some((first, B::next_beside(&mut rows.1, row)?))
+    }
+
+    #[inline(always)]
+    fn item(one: &(A::One, B::One), coordinate: usize) -> (A::Item, B::Item) {
+        (A::item(&one.0, coordinate), B::item(&one.1, coordinate))
+    }
+
+    #[inline(always)]
+    fn alone(one: &(A::One, B::One)) -> Option<(A::One, B::One)> {
+        let first = A::alone(&one.0)?;
+        Some((first, B::alone(&one.1)?))
+    }
+
+    #[inline(always)]
+    fn backwards(one: &(A::One, B::One)) -> Option<(A::One, B::One)> {
+        let first = A::backwards(&one.0)?;
+        Some((first, B::backwards(&one.1)?))
     }
 }

@@ -2,7 +2,7 @@
 //! Calls of a closure at each item of rows, and at what stands beside it.
 
 use crate::lent::nd_access::{Cells, place_in_row};
-use crate::lent::nd_loops::beside::{Beside, BesideRows, back};
+use crate::lent::nd_loops::beside::{Beside, back};
 use crate::lent::nd_loops::few::by_few;
 use crate::ndarray_layout::{Row, Rows};
 
@@ -13,19 +13,24 @@ use crate::ndarray_layout::{Row, Rows};
 /// ```text
 /// requires row: OwnsRow cells.old.marks row
 /// requires count: length (C.values beside.now) ≡ row.len
-/// requires callable: CallableBesideEach C.value F.FnMut
+/// requires callable: CallableBesideEach (shown_beside C.value) F.FnMut
 ///     (items_beside cells.old.items (places_of row) (C.values beside.now)) f
-/// ensures ran: MapsTo (CalledBeside C.value F.FnMut) f (places_of row)
+/// ensures ran: MapsTo (CalledBeside (shown_beside C.value) F.FnMut) f (places_of row)
 ///     (items_beside cells.old.items (places_of row) (C.values beside.now)) cells.old.items
 ///     cells.new.items result
 /// ```
 /// [How to read it](crate::contracts)
 /// </details>
 #[inline(always)]
-fn call_few<T, C: Beside, F: FnMut(&mut T, C::Item)>(cells: &mut Cells<'_, T>, row: Row, beside: &C, mut f: F) -> F {
+fn call_few<T, C: Beside, F: FnMut(&mut T, C::Item)>(
+    cells: &mut Cells<'_, T>,
+    row: Row,
+    beside: &C::One,
+    mut f: F,
+) -> F {
     for coordinate in 0..row.len {
         let place = place_in_row(row, coordinate);
-        f(cells.item_mut(place), beside.item(coordinate));
+        f(cells.item_mut(place), C::item(beside, coordinate));
     }
     f
 }
@@ -37,9 +42,9 @@ fn call_few<T, C: Beside, F: FnMut(&mut T, C::Item)>(cells: &mut Cells<'_, T>, r
 /// ```text
 /// requires row: OwnsRow cells.old.marks row
 /// requires count: length (C.values beside.now) ≡ row.len
-/// requires callable: CallableBesideEach C.value F.FnMut
+/// requires callable: CallableBesideEach (shown_beside C.value) F.FnMut
 ///     (items_beside cells.old.items (places_of row) (C.values beside.now)) f
-/// ensures ran: MapsTo (CalledBeside C.value F.FnMut) f (places_of row)
+/// ensures ran: MapsTo (CalledBeside (shown_beside C.value) F.FnMut) f (places_of row)
 ///     (items_beside cells.old.items (places_of row) (C.values beside.now)) cells.old.items
 ///     cells.new.items result
 /// ```
@@ -47,8 +52,13 @@ fn call_few<T, C: Beside, F: FnMut(&mut T, C::Item)>(cells: &mut Cells<'_, T>, r
 /// </details>
 #[inline]
 // (not `inline(always)`: by a parameter of its own rustc knows that no write changes the pointer, and the loop reads it once)
-fn call_places<T, C: Beside, F: FnMut(&mut T, C::Item)>(cells: &mut Cells<'_, T>, row: Row, beside: &C, f: F) -> F {
-    call_few(cells, row, beside, f)
+fn call_places<T, C: Beside, F: FnMut(&mut T, C::Item)>(
+    cells: &mut Cells<'_, T>,
+    row: Row,
+    beside: &C::One,
+    f: F,
+) -> F {
+    call_few::<T, C, F>(cells, row, beside, f)
 }
 
 /// Calls a closure at the item of each place of a row and at what stands beside it, one after another, and hands it back: by the stride
@@ -59,19 +69,24 @@ fn call_places<T, C: Beside, F: FnMut(&mut T, C::Item)>(cells: &mut Cells<'_, T>
 /// ```text
 /// requires row: OwnsRow cells.old.marks row
 /// requires count: length (C.values beside.now) ≡ row.len
-/// requires callable: CallableBesideEach C.value F.FnMut
+/// requires callable: CallableBesideEach (shown_beside C.value) F.FnMut
 ///     (items_beside cells.old.items (places_of row) (C.values beside.now)) f
-/// ensures ran: MapsTo (CalledBeside C.value F.FnMut) f (places_of row)
+/// ensures ran: MapsTo (CalledBeside (shown_beside C.value) F.FnMut) f (places_of row)
 ///     (items_beside cells.old.items (places_of row) (C.values beside.now)) cells.old.items
 ///     cells.new.items result
 /// ```
 /// [How to read it](crate::contracts)
 /// </details>
 #[inline(always)]
-fn call_backwards<T, C: Beside, F: FnMut(&mut T, C::Item)>(cells: &mut Cells<'_, T>, row: Row, beside: &C, f: F) -> F {
-    match (back(row), beside.backwards()) {
-        (Some(row), Some(beside)) => call_places(cells, row, &beside, f),
-        _ => call_places(cells, row, beside, f),
+fn call_backwards<T, C: Beside, F: FnMut(&mut T, C::Item)>(
+    cells: &mut Cells<'_, T>,
+    row: Row,
+    beside: &C::One,
+    f: F,
+) -> F {
+    match (back(row), C::backwards(beside)) {
+        (Some(row), Some(beside)) => call_places::<T, C, F>(cells, row, &beside, f),
+        _ => call_places::<T, C, F>(cells, row, beside, f),
     }
 }
 
@@ -84,9 +99,9 @@ fn call_backwards<T, C: Beside, F: FnMut(&mut T, C::Item)>(cells: &mut Cells<'_,
 /// requires few: 0 < FEW → FEW ≡ row.len
 /// requires row: OwnsRow cells.old.marks row
 /// requires count: length (C.values beside.now) ≡ row.len
-/// requires callable: CallableBesideEach C.value F.FnMut
+/// requires callable: CallableBesideEach (shown_beside C.value) F.FnMut
 ///     (items_beside cells.old.items (places_of row) (C.values beside.now)) f
-/// ensures ran: MapsTo (CalledBeside C.value F.FnMut) f (places_of row)
+/// ensures ran: MapsTo (CalledBeside (shown_beside C.value) F.FnMut) f (places_of row)
 ///     (items_beside cells.old.items (places_of row) (C.values beside.now)) cells.old.items
 ///     cells.new.items result
 /// ```
@@ -96,20 +111,20 @@ fn call_backwards<T, C: Beside, F: FnMut(&mut T, C::Item)>(cells: &mut Cells<'_,
 fn call_row<const FEW: usize, T, C: Beside, F: FnMut(&mut T, C::Item)>(
     cells: &mut Cells<'_, T>,
     row: Row,
-    beside: &C,
+    beside: &C::One,
     f: F,
 ) -> F {
     if FEW > 0 {
         // (by a length that is known, there is no loop)
-        return call_few(cells, by_few::<FEW>(row), beside, f);
+        return call_few::<T, C, F>(cells, by_few::<FEW>(row), beside, f);
     }
-    match beside.alone() {
+    match C::alone(beside) {
         Some(beside) if row.stride == 1 => {
             // (by strides that are known, the loop is one over slices)
             let neighbours = Row { start: row.start, stride: 1, len: row.len };
-            call_places(cells, neighbours, &beside, f)
+            call_places::<T, C, F>(cells, neighbours, &beside, f)
         }
-        _ => call_backwards(cells, row, beside, f),
+        _ => call_backwards::<T, C, F>(cells, row, beside, f),
     }
 }
 
@@ -120,26 +135,26 @@ fn call_row<const FEW: usize, T, C: Beside, F: FnMut(&mut T, C::Item)>(
 /// ```text
 /// requires few: 0 < FEW → All (λ row. FEW ≡ row.len) rows
 /// requires rows: OwnsEachRow cells.old.marks rows
-/// requires count: AllZip (λ row one. length (C.One.values one) ≡ row.len) rows (C.ones beside rows)
-/// requires callable: CallableBesideEach C.One.value F.FnMut
-///     (items_beside cells.old.items (rows_places rows) (flat_map C.One.values (C.ones beside rows))) f
-/// ensures ran: Maps (CalledBeside C.One.value F.FnMut) f (rows_places rows.entry)
-///     (items_beside cells.old.items (rows_places rows.entry) (flat_map C.One.values (C.ones beside rows.entry)))
+/// requires count: AllZip (λ row one. length (C.values one) ≡ row.len) rows (C.ones beside rows)
+/// requires callable: CallableBesideEach (shown_beside C.value) F.FnMut
+///     (items_beside cells.old.items (rows_places rows) (flat_map C.values (C.ones beside rows))) f
+/// ensures ran: Maps (CalledBeside (shown_beside C.value) F.FnMut) f (rows_places rows.entry)
+///     (items_beside cells.old.items (rows_places rows.entry) (flat_map C.values (C.ones beside rows.entry)))
 ///     cells.old.items cells.new.items
 /// ```
 /// [How to read it](crate::contracts)
 /// </details>
 #[inline]
-fn call_each<const FEW: usize, T, C: BesideRows, F: FnMut(&mut T, <C::One as Beside>::Item)>(
+fn call_each<const FEW: usize, T, C: Beside, F: FnMut(&mut T, C::Item)>(
     cells: &mut Cells<'_, T>,
     rows: Rows<'_>,
-    beside: C,
+    beside: C::Rows,
     mut f: F,
 ) {
     let mut beside = beside;
     for row in rows {
-        if let Some(beside) = beside.next_beside(row) {
-            f = call_row::<FEW, T, C::One, F>(cells, row, &beside, f);
+        if let Some(beside) = C::next_beside(&mut beside, row) {
+            f = call_row::<FEW, T, C, F>(cells, row, &beside, f);
         }
     }
 }
@@ -150,20 +165,20 @@ fn call_each<const FEW: usize, T, C: BesideRows, F: FnMut(&mut T, <C::One as Bes
 ///
 /// ```text
 /// requires rows: OwnsEachRow cells.old.marks rows
-/// requires count: AllZip (λ row one. length (C.One.values one) ≡ row.len) rows (C.ones beside rows)
-/// requires callable: CallableBesideEach C.One.value F.FnMut
-///     (items_beside cells.old.items (rows_places rows) (flat_map C.One.values (C.ones beside rows))) f
-/// ensures ran: Maps (CalledBeside C.One.value F.FnMut) f (rows_places rows.entry)
-///     (items_beside cells.old.items (rows_places rows.entry) (flat_map C.One.values (C.ones beside rows.entry)))
+/// requires count: AllZip (λ row one. length (C.values one) ≡ row.len) rows (C.ones beside rows)
+/// requires callable: CallableBesideEach (shown_beside C.value) F.FnMut
+///     (items_beside cells.old.items (rows_places rows) (flat_map C.values (C.ones beside rows))) f
+/// ensures ran: Maps (CalledBeside (shown_beside C.value) F.FnMut) f (rows_places rows.entry)
+///     (items_beside cells.old.items (rows_places rows.entry) (flat_map C.values (C.ones beside rows.entry)))
 ///     cells.old.items cells.new.items
 /// ```
 /// [How to read it](crate::contracts)
 /// </details>
 #[inline(always)]
-pub(crate) fn call_rows<T, C: BesideRows, F: FnMut(&mut T, <C::One as Beside>::Item)>(
+pub(crate) fn call_rows<T, C: Beside, F: FnMut(&mut T, C::Item)>(
     cells: &mut Cells<'_, T>,
     rows: Rows<'_>,
-    beside: C,
+    beside: C::Rows,
     f: F,
 ) {
     match rows.row_len() {

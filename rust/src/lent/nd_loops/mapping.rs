@@ -20,7 +20,7 @@ use crate::ndarray_layout::{Lengths, Order, Rows, Strided};
 /// </details>
 #[inline(always)]
 fn map_rows<T, F: FnMut(&mut T)>(cells: &mut Cells<'_, T>, rows: Rows<'_>, mut f: F) {
-    call_rows(cells, rows, (), move |stored: &mut T, _nothing: ()| {
+    call_rows::<T, (), _>(cells, rows, (), move |stored: &mut T, _nothing: ()| {
         f(stored);
     });
 }

@@ -2,9 +2,11 @@
 //! Writes to the items of a part by those of another array, side by side.
 
 use crate::lent::nd_access::{Cells, LentRows, Reader};
+use crate::lent::nd_loops::beside::{LentView, lent_view};
 use crate::lent::nd_loops::calling::call_rows;
 use crate::lent::nd_loops::nearest::nearest_views;
-use crate::ndarray_layout::{Lengths, Order, Rows, Strided};
+use crate::lent::nd_loops::zipping::rows_beside;
+use crate::ndarray_layout::{Lengths, Rows, Strided};
 
 /// Calls a closure at each item of these rows and at the next one of other rows.
 ///
@@ -12,10 +14,11 @@ use crate::ndarray_layout::{Lengths, Order, Rows, Strided};
 ///
 /// ```text
 /// requires rows: OwnsEachRow cells.old.marks rows
-/// requires count: AllZip (λ row source. row.len ≡ source.row.len) rows sources
-/// requires callable: CallableOnEachPair F.FnMut (rows_pairs cells.old.items rows sources) f
+/// requires count: AllZip (λ row source. length (row_items source) ≡ row.len) rows sources
+/// requires callable: CallableOnEachPair F.FnMut
+///     (items_beside cells.old.items (rows_places rows) (flat_map row_items sources)) f
 /// ensures ran: Maps (CalledAtPair F.FnMut) f (rows_places rows.entry)
-///     (rows_pairs cells.old.items rows.entry sources.entry) cells.old.items cells.new.items
+///     (items_beside cells.old.items (rows_places rows.entry) (flat_map row_items sources.entry)) cells.old.items cells.new.items
 /// ```
 /// [How to read it](crate::contracts)
 /// </details>
@@ -26,7 +29,7 @@ fn zip_rows<T, U, F: for<'x> FnMut(&'x mut T, &'x U)>(
     sources: LentRows<'_, U>,
     mut f: F,
 ) {
-    call_rows(cells, rows, sources, move |stored: &mut T, item: &U| {
+    call_rows::<T, LentView<'_, U>, _>(cells, rows, sources, move |stored: &mut T, item: &U| {
         f(stored, item);
     });
 }
@@ -57,8 +60,8 @@ pub fn zip_view<'a, T, U, D: Lengths, F: for<'x> FnMut(&'x mut T, &'x U)>(
     source: &'a Strided<D>,
     f: F,
 ) {
-    let (rows, sources) = view.joined_rows_with(source, Order::RowMajor);
-    zip_rows(cells, rows, LentRows::new(items, sources), f);
+    let (rows, sources) = rows_beside(view, lent_view(items, source));
+    zip_rows(cells, rows, sources, f);
 }
 
 /// Calls a closure at the item of each index of a view and at that of the same index of another view of its shape, each index once,

@@ -6,7 +6,17 @@ use crate::ndarray_layout::strided::Strided;
 use crate::ndarray_layout::strided::joined_layouts::{InLists, joined_in_each};
 use crate::ndarray_layout::strided::rows::{Rows, as_one_axis};
 
-/// The rows of a view along its fastest axes, of which `joined` has the number, and the length as one; `stride` is theirs as one.
+/// The rows of a layout from a place on, along its fastest axes as one: `joined` is what `joined_in_each` returns, and `stride` what it
+/// writes for the layout. So the rows of layouts that were joined in one call are alike: as many of each, and of the same lengths.
+///
+/// Takes no memory. A row costs as much as one of `joined_rows`.
+///
+/// `[2,3]` with `[5,1]` from 7, of which 1 axis is one of length 3 with the stride 1: 3 places from 7 and 3 from 12. The project's own.
+///
+/// # Conditions
+///
+/// The caller ensures that the layout is valid from there on, and was joined so. Otherwise this call or a later one
+/// panics or returns unspecified values.
 ///
 /// <details><summary>Contract (proved)</summary>
 ///
@@ -22,7 +32,8 @@ use crate::ndarray_layout::strided::rows::{Rows, as_one_axis};
 /// [How to read it](crate::contracts)
 /// </details>
 #[inline]
-fn rows_along<'a>(
+#[must_use]
+pub fn rows_along<'a>(
     order: Order,
     start: usize,
     lens: &'a [usize],

@@ -1,36 +1,10 @@
 // Made by `rust/erase` of `crates/nd_lent/src/array_view_mut/triples.rt`: edit that.
 //! Writes to the items of a part by those of two other arrays, side by side.
 
-use crate::lent::nd_access::LentRows;
 use crate::lent::nd_lent::array_view::ArrayView;
 use crate::lent::nd_lent::array_view_mut::ArrayViewMut;
-use crate::lent::nd_loops::zip_two_rows;
-use crate::ndarray_layout::{ErrorKind, Lengths, Order, Rows, ShapeError, Strided, from_kind};
-
-/// The rows of a view and of two arrays of its shape that are joined alike, in row-major order.
-///
-/// <details><summary>Contract (proved)</summary>
-///
-/// ```text
-/// requires also: view.now.shape ≡ other.now.view.shape
-/// requires shape: view.now.shape ≡ third.now.view.shape
-/// ensures places: rows_places result.0 ≡ view_places RowMajor view.now
-/// ensures seconds: rows_items result.1 ≡ map (item_at_place other.now.items) (view_places RowMajor other.now.view)
-/// ensures thirds: rows_items result.2 ≡ map (item_at_place third.now.items) (view_places RowMajor third.now.view)
-/// ensures also: AllZip (λ row second. row.len ≡ second.row.len) result.0 result.1
-/// ensures count: AllZip (λ row third. row.len ≡ third.row.len) result.0 result.2
-/// ```
-/// [How to read it](crate::contracts)
-/// </details>
-#[inline(always)]
-fn rows_of_three<'s, U, V, D: Lengths>(
-    view: &'s Strided<D>,
-    other: &'s ArrayView<'_, U, D>,
-    third: &'s ArrayView<'_, V, D>,
-) -> (Rows<'s>, LentRows<'s, U>, LentRows<'s, V>) {
-    let (rows, seconds, thirds) = view.joined_rows_with_two(other.strided(), third.strided(), Order::RowMajor);
-    (rows, LentRows::new(other.reader(), seconds), LentRows::new(third.reader(), thirds))
-}
+use crate::lent::nd_loops::{Beside, zip_two_view};
+use crate::ndarray_layout::{ErrorKind, Lengths, ShapeError, from_kind};
 
 impl<'a, T: Sized, D: Lengths> ArrayViewMut<'a, T, D> {
     /// Calls a closure at each item and at those of the same index of two other arrays of the same shape, in row-major order, to
@@ -101,14 +75,11 @@ impl<'a, T: Sized, D: Lengths> ArrayViewMut<'a, T, D> {
         third: &ArrayView<'_, V, D>,
         f: F,
     ) -> Result<(), ShapeError> {
-        if !self.view.dim().equal(other.dim()) {
+        let others = (other.beside(), third.beside());
+        if !others.have_shape(self.view.dim().slice()) {
             return Err(from_kind(ErrorKind::IncompatibleShape));
         }
-        if !self.view.dim().equal(third.dim()) {
-            return Err(from_kind(ErrorKind::IncompatibleShape));
-        }
-        let (rows, seconds, thirds) = rows_of_three(&self.view, other, third);
-        zip_two_rows(&mut self.cells, rows, seconds, thirds, f);
+        zip_two_view(&mut self.cells, &self.view, others, f);
         Ok(())
     }
 }

@@ -7,9 +7,8 @@ use Rattle.ndarray_layout.specs.Rows.{row_places}
 use Rattle.nd_access.specs.Items.{item_at_place}
 use Rattle.nd_access.specs.LentRow.{HasRow, row_items}
 use Rattle.nd_access.specs.Read.{IsRowRead}
-use Rattle.nd_access.proofs.Laws.PairRows.{whole_row}
 use Rattle.nd_access.proofs.Laws.Read.{row_all_read}
-use Rattle.nd_access.proofs.Laws.RowMaps.{all_neighbours}
+use Rattle.nd_access.proofs.Laws.RowMaps.{all_neighbours, whole_row}
 use Rattle.nd_access.proofs.Laws.RowsLent.{count_of_items}
 use Rattle.nd_access.proofs.rows.LentRow.alone.Given.{Over}
 use Rattle.nd_access.proofs.rows.LentRow.alone.Goals as goal

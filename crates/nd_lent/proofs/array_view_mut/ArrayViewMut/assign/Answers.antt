@@ -31,7 +31,7 @@ returns-clause-assigned g c =
     let same = same_shape g (goal.at.returns-clause-assigned g c).After-strided in
     copied _ (array_of c.args.self.now) c.zip_nearest.new.cells.items c.args.other.now same
     (zips_of_lent c.reader.ensures.items c.strided.ensures.view c.zip_nearest.ensures.ran) (λ x y f' called.
-    let says : called.left.now ≡ called.beside.now = search rules in
+    let says : called.left.now ≡ called.beside.0.now = search rules in
     (search rules, sym called.leaves ∙ says ∙ called.shows.1))
 
 pub returns-clause-count : goal.returns-clause-count
@@ -39,5 +39,5 @@ returns-clause-count g c =
     let same = same_shape g (goal.at.returns-clause-count g c).After-strided in
     copied_count _ (array_of c.args.self.now) c.zip_nearest.new.cells.items c.args.other.now same
     (zips_of_lent c.reader.ensures.items c.strided.ensures.view c.zip_nearest.ensures.ran) (λ x y f' called.
-    let says : called.left.now ≡ called.beside.now = search rules in
+    let says : called.left.now ≡ called.beside.0.now = search rules in
     (search rules, sym called.leaves ∙ says ∙ called.shows.1))

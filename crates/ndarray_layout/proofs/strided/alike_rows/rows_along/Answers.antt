@@ -4,9 +4,10 @@ use Rattle.std.specs.List.{All}
 use Rattle.std.specs.Prelude.{replicate}
 use Rattle.std.proofs.lemmas.List.{length-map}
 use Rattle.nd_base.proofs.Laws.Definitions.{signed, size}
+use Rattle.ndarray_layout.specs.JoinedInAll.{row_lens}
 use Rattle.ndarray_layout.specs.Rows.{rows_places}
 use Rattle.ndarray_layout.specs.RowsLeft.{axis_view}
-use Rattle.ndarray_layout.specs.private.Fastest.{HasPlaces, row_lens}
+use Rattle.ndarray_layout.specs.private.Fastest.{HasPlaces}
 use Rattle.ndarray_layout.proofs.AlikeRows.{lens_of_rows}
 use Rattle.ndarray_layout.proofs.JoinedInAll.{HasPlaces-joined_axes}
 use Rattle.ndarray_layout.proofs.LongestRow.{as_long}

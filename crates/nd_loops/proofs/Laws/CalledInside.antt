@@ -1,5 +1,5 @@
 -- Calls of a closure at items and what stands beside them, each of which calls another closure at a part of these.
-use Rattle.std.proofs.Common.{◌≡◌, ℤ, Option, Some, None, List, [], ◌∷◌, map, refl, sym, ap, subst, ◌∙◌}
+use Rattle.std.proofs.Common.{◌≡◌, ℤ, Option, Some, None, List, [], ◌∷◌, length, map, refl, sym, ap, subst, ◌∙◌, arith}
 use Rattle.std.specs.Borrow.{MutBor}
 use Rattle.std.specs.Fn.{Called, Mut, Takes}
 use Rattle.std.specs.Iterator.{CallableAtEachTurn, Yields}
@@ -9,7 +9,7 @@ use Rattle.std.specs.Prelude.{zip}
 use Rattle.nd_access.specs.Items.{item_at_place}
 use Rattle.nd_access.specs.Mapped.{Makes, gives}
 use Rattle.nd_access.specs.Written.{Maps}
-use Rattle.nd_loops.specs.Beside.{CallableBesideEach, CalledBeside, items_beside, nothing_beside}
+use Rattle.nd_access.specs.Zipped.{CallableBesideEach, CalledBeside, pairs_of}
 
 -- ---- the part of each
 -- all of it
@@ -23,13 +23,14 @@ item_alone : {T : Type 0} (item : Option T) → option_map (λ one. one.0) (opti
 item_alone None = refl
 item_alone (Some x) = refl
 
-pub items_alone : {T : Type 0} (items : List T) (places : List ℤ)
-    → map (option_map (λ one. one.0)) (items_beside items places (nothing_beside places)) ≡ map (item_at_place items) places
-items_alone items [] = refl
-items_alone items (place ∷ places) =
-    let alone = map (option_map (λ one. one.0)) (items_beside items places (nothing_beside places)) in
-    ap (λ item. item ∷ alone) (item_alone (item_at_place items place))
-    ∙ ap (λ rest. item_at_place items place ∷ rest) (items_alone items places)
+pub items_alone : {T X : Type 0} (items : List (Option T)) (xs : List X) → length items ≡ length xs
+    → map (option_map (λ one. one.0)) (pairs_of items (map (λ x. Some (tt {0})) xs)) ≡ items
+items_alone [] [] count = refl
+items_alone [] (x ∷ xs) count = absurd (omega arith)
+items_alone (item ∷ items) [] count = absurd (omega arith)
+items_alone (item ∷ items) (x ∷ xs) count =
+    let alone = map (option_map (λ one. one.0)) (pairs_of items (map (λ x. Some (tt {0})) xs)) in
+    ap (λ item. item ∷ alone) (item_alone item) ∙ ap (λ rest. item ∷ rest) (items_alone items xs (omega (arith, count)))
 
 yields_parts : {X Y : Type 0} (part : X → Y) (given : List (Option X)) (xs : List X) (left : List (Option X)) → Yields gives given xs left
     → Yields gives (map (option_map part) given) (map part xs) (map (option_map part) left)
@@ -38,9 +39,9 @@ yields_parts part given (x ∷ xs) left (next, first, more) =
     (map (option_map part) next, ap (map (option_map part)) first, yields_parts part next xs left more)
 
 -- ---- `inside` reads the other closure from the state of the one that calls it
-module _ {F C T X V I : Type 0} (value : I → V) (g : Mut C (MutBor T × (I × Unit {0})) (Unit {0} × (MutBor T × Unit {0})))
+module _ {F C T X V A : Type 0} (value : A → V) (g : Mut C (MutBor T × A) (Unit {0} × (MutBor T × Unit {0})))
     (call : F → X → T → F → Type 0) (inside : C → F) (part : T × V → X)
-    (says : (s t : C) (shown left : MutBor T) (beside : I) → Called g s (shown, (beside, tt)) (tt, (left, tt)) t
+    (says : (s t : C) (shown left : MutBor T) (beside : A) → Called g s (shown, beside) (tt, (left, tt)) t
     → call (inside s) (part (shown.now, value beside)) left.now (inside t)) where
   called_inside : (s t : C) (one : T × V) (y : T) → CalledBeside value g s one y t → call (inside s) (part one) y (inside t)
   called_inside s t one y called =
@@ -57,7 +58,7 @@ module _ {F C T X V I : Type 0} (value : I → V) (g : Mut C (MutBor T × (I × 
 
   -- it may be called at each where the other one may be at the part of each
   pub callable_inside : {takes : F → X → Type 0}
-      → ((s : C) (shown : MutBor T) (beside : I) → takes (inside s) (part (shown.now, value beside)) → Takes g s (shown, (beside, tt)))
+      → ((s : C) (shown : MutBor T) (beside : A) → takes (inside s) (part (shown.now, value beside)) → Takes g s (shown, beside))
       → (given : List (Option (T × V))) {parts : List (Option X)} {s : C} → map (option_map part) given ≡ parts
       → CallableAtEachTurn gives (λ p x q. (y : T) × call p x y q) takes parts (inside s) → CallableBesideEach value g given s
   callable_inside {takes} asks given {s = s} are callable = record {

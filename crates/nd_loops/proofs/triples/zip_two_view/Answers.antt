@@ -1,0 +1,23 @@
+-- The rows have the places of the view, and what stands beside them is what stands beside its indices.
+use Rattle.std.proofs.Common.{sym, subst}
+use Rattle.ndarray_layout.specs.declared.Order.TheVariants.{RowMajor}
+use Rattle.nd_loops.specs.ZippedTwo.{CallableOnEachTriple}
+use Rattle.nd_loops.proofs.Laws.RowsOwned.{rows_of_own}
+use Rattle.nd_loops.proofs.RowsBeside.{items_of_rows_beside, maps_of_rows_beside}
+use Rattle.nd_loops.proofs.triples.zip_two_view.Goals as goal
+
+pub zip_two_rows-requires-clause-rows : goal.zip_two_rows-requires-clause-rows
+zip_two_rows-requires-clause-rows g c =
+    let rows = c.rows_beside-rows in
+    rows_of_own RowMajor c.args.cells.now.marks c.args.view.now rows.result.0 rows.ensures.is_view c.requires.own rows.ensures.places
+
+pub zip_two_rows-requires-clause-callable : goal.zip_two_rows-requires-clause-callable
+zip_two_rows-requires-clause-callable g c =
+    let rows = c.rows_beside-rows.ensures in
+    subst (λ given. CallableOnEachTriple g.F.FnMut given c.args.f)
+    (sym (items_of_rows_beside c.args.cells.now.items rows.places rows.values)) c.requires.callable
+
+pub returns-clause-ran : goal.returns-clause-ran
+returns-clause-ran g c =
+    let rows = c.rows_beside-rows.ensures in
+    maps_of_rows_beside rows.places rows.values c.zip_two_rows.ensures.ran
