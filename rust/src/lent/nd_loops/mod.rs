@@ -30,6 +30,7 @@ mod searching;
 mod summing;
 mod triples;
 mod unsigned;
+mod writing;
 
 pub use comparing::{EqualTo, have_equal_rows};
 pub use copying::push_rows;
@@ -41,3 +42,4 @@ pub use searching::search_row;
 pub use summing::sum_rows;
 pub use triples::zip_two_rows;
 pub use unsigned::Unsigned;
+pub use writing::copy_view;
