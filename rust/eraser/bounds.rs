@@ -67,10 +67,21 @@ pub const CLONED: &[(&[&str], &[Replaced])] = &[
     (
         &["ArrayViewMut"],
         &[
-            (&["*", "stored", "=", "item"], "*stored = item.clone()"),
+            (&["|", "stored"], "move |stored"),
+            (&["*", "stored", "=", "item"], "stored.clone_from(&item)"),
             (&["*", "stored", "=", "*", "item"], "stored.clone_from(item)"),
         ],
     ),
+];
+
+/// Functions that the sources have for a parameter with `+ Copy`, each with what it copies, as `CLONED` has impls.
+pub const CLONED_BY: &[(&str, &[Replaced])] = &[
+    ("copy_places", &[(&["*", "stored", "=", "*", "item"], "stored.clone_from(item)")]),
+    ("copy_apart", &[]),
+    ("copy_row", &[(&["stored", ".", "copy_from_slice"], "stored.clone_from_slice")]),
+    ("copy_each", &[]),
+    ("copy_rows", &[]),
+    ("copy_view", &[]),
 ];
 
 /// Impls of slice arguments, whose shape after is any list of lengths in the sources, and a dimension in the package.
@@ -107,25 +118,32 @@ impl Eraser<'_> {
         Ok(trees.iter().position(|tree| tree.is(";")))
     }
 
-    /// An impl of a list has its bounds replaced, and the values that its source copies.
-    pub(crate) fn listed_impl(&mut self, trees: &[Tree]) -> Result<Option<usize>, Fault> {
-        if !trees[0].is("impl") || !self.replaced.is_empty() || !self.names.is_packed() {
+    /// An impl or a function of a list has its bounds replaced, and the values that its source copies.
+    pub(crate) fn listed(&mut self, trees: &[Tree]) -> Result<Option<usize>, Fault> {
+        if !self.replaced.is_empty() || !self.names.is_packed() {
             return Ok(None);
         }
-        self.replaced = replaced_in(trees);
+        self.replaced = match trees {
+            [word, ..] if word.is("impl") => replaced_in(trees),
+            [word, name, ..] if word.is("fn") => replaced_by(name.first().text),
+            _ => return Ok(None),
+        };
         if self.replaced.is_empty() {
             return Ok(None);
         }
-        let body = trees.iter().position(|tree| tree.group("{").is_some());
-        let body = body.ok_or_else(|| fault(trees[0].first(), "is an impl without a body"))?;
+        let body = (0..trees.len()).find(|at| trees[*at].group("{").is_some() && !is_clause(&trees[..*at]));
+        let body = body.ok_or_else(|| fault(trees[0].first(), "is an item without a body"))?;
         let whole = self.all(&trees[..=body]);
         self.replaced.clear();
         whole.map(|()| Some(body + 1))
     }
 
-    /// A bound or a value is replaced in an impl of a list where nothing is read of it: a bracket, a comma or a semicolon ends it.
+    /// A bound or a value is replaced in an item of a list where nothing is read of it: a bracket, a comma or a semicolon ends it. What
+    /// begins a closure or a call of what is stored is replaced as it stands.
     pub(crate) fn replacement(&mut self, trees: &[Tree]) -> Result<Option<usize>, Fault> {
-        let is_whole = |rest: &[Tree]| rest.first().is_none_or(|next| [",", ";", ">"].iter().any(|end| next.is(end)));
+        let is_begun = trees[0].is("|") || trees[0].is("stored");
+        let ends = |next: &Tree| is_begun || [",", ";", ">"].iter().any(|end| next.is(end));
+        let is_whole = |rest: &[Tree]| rest.first().is_none_or(ends);
         let is_replaced = |(texts, _): &&Replaced| begins_with(trees, texts) && is_whole(&trees[texts.len()..]);
         match self.replaced.iter().find(is_replaced).filter(|_| !self.out.ends_with('.')).copied() {
             Some((texts, other)) => {
@@ -135,6 +153,17 @@ impl Eraser<'_> {
             None => Ok(None),
         }
     }
+}
+
+/// Whether a clause comes after trees: a word of these, and its name where it has one.
+fn is_clause(before: &[Tree]) -> bool {
+    before.iter().rev().take(2).any(|tree| tree.is("requires") || tree.is("ensures"))
+}
+
+/// What is replaced in a function; nothing where no list has it.
+fn replaced_by(name: &str) -> Vec<Replaced> {
+    let listed = CLONED_BY.iter().find(|(of, _)| *of == name);
+    listed.map_or(Vec::new(), |(_, values)| [*values, &[(&["+", "Copy"], "+ Clone")]].concat())
 }
 
 /// What is replaced in an impl; nothing where no list has it.

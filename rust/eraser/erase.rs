@@ -114,7 +114,7 @@ pub(crate) struct Eraser<'a> {
     pub(crate) is_hidden: bool,
     /// Whether that is an item of a sealed trait.
     pub(crate) in_trait: bool,
-    /// What is replaced in the impl at hand.
+    /// What is replaced in the item at hand.
     pub(crate) replaced: Vec<Replaced>,
     /// The bracket in which the tree at hand stands; none at the top.
     pub(crate) bracket: &'static str,
@@ -150,7 +150,7 @@ impl<'a> Eraser<'a> {
         Self::own_crate,
         Self::seal,
         Self::type_bounds,
-        Self::listed_impl,
+        Self::listed,
         Self::replacement,
         Self::drop_bound,
         Self::clone_method,

@@ -189,6 +189,11 @@ pub const UNSAFE: &[(&str, &str, &str)] = &[
         "the place has a mark, which the caller ensures; so it is one of the slice that was lent (`all_of`), and no other `Cells` has its mark (`all` of `take_part`). While the result is in use the part is borrowed, so nothing else reads or writes the element.",
     ),
     (
+        "nd_access",
+        "slice_mut",
+        "each of these places has a mark, which the caller ensures; so they are those of the slice that was lent (`all_of`), and no other `Cells` has one of their marks (`all` of `take_part`). While the result is in use this one is borrowed, so nothing else reads or writes the elements.",
+    ),
+    (
         "nd_lent",
         "item_mut",
         "as `item_mut` of `Cells`: the place has a mark, which the caller ensures, and while the result is in use the part is borrowed.",

@@ -11,4 +11,5 @@ pub mod SameName
 pub mod Seen
 pub mod Shared
 pub mod Stretch
+pub mod StretchLends
 pub mod Taken

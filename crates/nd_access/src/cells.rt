@@ -44,7 +44,7 @@ unsafe impl<T: Send> Send for Cells<'_, T> {}
 unsafe impl<T: Sync> Sync for Cells<'_, T> {}
 
 impl<'a, T> Cells<'a, T> {
-    ghost use Rattle.nd_access.specs.LendingCells.{LendsCell};
+    ghost use Rattle.nd_access.specs.LendingCells.{LendsCell, LendsStretch};
 
     /// The right to all elements of a slice, under the name of its reference.
     ///
@@ -91,6 +91,17 @@ impl<'a, T> Cells<'a, T> {
         ensures value { (slice_get self.old.items place ≡ Some result.now) × (length self.old.items ≡ length self.old.marks) }
     {
         unsafe { &mut *self.first.add(place) }
+    }
+
+    /// So many elements from a place on, as a slice to be written. The caller ensures that each of them has a mark.
+    ///
+    /// Of 7 8 9, two from place 1 on: 8 and 9. The project's own.
+    pub fn slice_mut(&mut self, start: usize, len: usize) -> &mut [T]
+        requires { IsTrue (are_within (span_of start len self.old.marks) self.old.marks) × (start + len ≤ length self.old.marks) }
+        ensures* writes_back { sem 𝓛 (LendsStretch T.row self.entry start result) }
+        ensures value { (result.now ≡ take len (drop start self.old.items)) × (start + len ≤ length self.old.items) }
+    {
+        unsafe { from_raw_parts_mut(self.first.add(start), len) }
     }
 
     /// The right to some of the elements, for as long as the whole is lent; the right to the others stays. The caller ensures that the

@@ -24,22 +24,6 @@ use Rattle.nd_loops.proofs.Laws.Moved.{zip_of_maps}
 use Rattle.nd_lent.proofs.PartMaps.{changed, some_given}
 use Rattle.nd_access.proofs.Laws.Sets.{All-indices, Contains-indices, has_items, places_moved}
 
--- ---- a pair
-first_there : {X Y : Type 0} (x : Option X) (y : Option Y) → (option_zip x y ≡ None → ⊥) → x ≡ None → ⊥
-first_there None y some none = some refl
-first_there (Some x) y some none = none-some x (sym none)
-
-second_there : {X Y : Type 0} (x : Option X) (y : Option Y) → (option_zip x y ≡ None → ⊥) → y ≡ None → ⊥
-second_there None y some none = some refl
-second_there (Some x) None some none = some refl
-second_there (Some x) (Some y) some none = none-some y (sym none)
-
-second_of : {X Y : Type 0} (x : Option X) (y : Option Y) → (option_zip x y ≡ None → ⊥)
-    → option_map (λ (pair : X × Y). pair.1) (option_zip x y) ≡ y
-second_of None y some = absurd (some refl)
-second_of (Some x) None some = refl
-second_of (Some x) (Some y) some = refl
-
 -- ---- what they leave at the indices
 module _ {F T U : Type 0} (call : F → T × U → T → F → Type 0) {f : F} (old : ArrayValue T) (new : List T) (other : ArrayValue U)
     (same : old.view.shape ≡ other.view.shape) (has : ZipsAt call f old.view other.items other.view old.items new) where
@@ -101,33 +85,3 @@ module _ {F T U : Type 0} (call : F → T × U → T → F → Type 0) {f : F} (
         last = has.run.ran.last;
         calls = subst (λ pairs. FoldsTo (Makes call) f pairs has.run.ran.last) ran has.run.ran.calls;
       }
-
-  -- each index has an item in both
-  both_there : (index : List ℕ) → is_index old.view.shape index ≡ true → pair_at index ≡ None → ⊥
-  both_there index is missing =
-      some_given call given (map (item_at_place new) places) f has.run.ran.last as_many has.run.ran.calls
-      (subst (λ pairs. Contains pairs None) (sym given_at)
-      (subst (Contains (map pair_at indices)) missing
-      (Contains-map pair_at indices (Contains-indices old.view.shape indices has.each_once index is))))
-
--- each item is overwritten by a copy of the other one
-module _ {F T : Type 0} (call : F → T × T → T → F → Type 0) {f : F} (old : ArrayValue T) (new : List T) (other : ArrayValue T)
-    (same : old.view.shape ≡ other.view.shape) (has : ZipsAt call f old.view other.items other.view old.items new)
-    (acts : (x : T × T) (y : T) (f' : F) → call f x y f' → (f' ≡ f) × (y ≡ x.1)) where
-  there : (index : List ℕ) → is_index old.view.shape index ≡ true → option_zip (item_at old index) (item_at other index) ≡ None → ⊥
-  there = both_there call old new other same has
-
-  pub copied : HasItemsOf (item_at other) old (changed old new)
-  copied =
-      let all = zipped call old new other same has (λ pair. pair.1) acts in
-      record {
-        view = refl;
-        items = λ index is. all.items index is ∙ second_of (item_at old index) (item_at other index) (there index is);
-        spare = all.spare;
-      }
-
-  -- and there are as many as before
-  pub copied_count : length new ≡ length old.items
-  copied_count = same_count old new copied
-      (λ index is. first_there (item_at old index) (item_at other index) (there index is))
-      (λ index is. second_there (item_at old index) (item_at other index) (there index is))

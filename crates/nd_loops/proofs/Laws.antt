@@ -5,4 +5,5 @@ pub mod Moved
 pub mod PairMaps
 pub mod RowsOwned
 pub mod Searching
+pub mod SetItems
 pub mod Sums

@@ -7,6 +7,7 @@ ghost use Rattle.nd_access.specs.LentRow.{row_items, rows_items};
 ghost use Rattle.nd_access.specs.Mapped.{gives};
 ghost use Rattle.nd_access.specs.Pushed.{HasPushed};
 
+use crate::few::lent_by_stride;
 use nd_access::{LentRow, LentRows};
 
 /// Appends what a closure makes of each item of a slice to a list with room for it, and hands the closure back.
@@ -111,7 +112,10 @@ fn push_turned<T, U: Drop, F: FnMut(&T) -> U>(
 {
     match row.as_slice_backwards() {
         Some(items) => push_backwards(made, items, f),
-        None => push_apart(made, row, f),
+        None => match lent_by_stride(row, 2) {
+            Some(row) => push_apart(made, &row, f),
+            None => push_apart(made, row, f),
+        },
     }
 }
 

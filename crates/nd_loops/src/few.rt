@@ -1,5 +1,6 @@
-//! Rows of few items: their number is a constant under the loop over rows, so that one needs no loop of its own.
-ghost use Rattle.std.specs.Prelude.{◌≡◌, ◌<◌};
+//! Rows by numbers that rustc knows: few items, so that one needs no loop of its own, or a stride, of which LLVM makes a loop over
+//! vectors.
+ghost use Rattle.std.specs.Prelude.{◌≡◌, ◌<◌, IfSome};
 
 use nd_access::LentRow;
 use ndarray_layout::Row;
@@ -30,4 +31,27 @@ pub(crate) fn lent_by_few<const FEW: usize, T>(row: LentRow<'_, T>) -> LentRow<'
         reader: row.reader,
         row: by_few::<FEW>(row.row),
     }
+}
+
+/// What the first place and the length of a row are below that is gone over by a stride that rustc knows: so LLVM sees that no place of
+/// it wraps.
+const SMALL: usize = 1 << 60;
+
+/// The row by a stride that rustc knows, where that is its stride; else `None`.
+#[inline(always)]
+pub(crate) fn lent_by_stride<'a, T>(row: &LentRow<'a, T>, stride: isize) -> Option<LentRow<'a, T>>
+    ensures { IfSome result (λ known. known ≡ row.now) }
+{
+    let Row {
+        start,
+        stride: own,
+        len,
+    } = row.row;
+    if own != stride || start >= SMALL || len >= SMALL {
+        return None;
+    }
+    Some(LentRow {
+        reader: row.reader.copied(),
+        row: Row { start, stride, len },
+    })
 }

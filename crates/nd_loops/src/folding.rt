@@ -6,6 +6,7 @@ ghost use Rattle.nd_access.specs.LentRow.{row_items, rows_items};
 ghost use Rattle.nd_access.specs.Lending.{lends, lends_last};
 ghost use Rattle.nd_access.specs.Folded.{HasFolded};
 
+use crate::few::lent_by_stride;
 use nd_access::{LentRow, LentRows, RowByRow};
 
 /// Calls a function with a total and an item, and hands it back.
@@ -87,7 +88,10 @@ fn fold_turned<'a, T, B, F: FnMut(B, &'a T) -> B>(row: &LentRow<'a, T>, init: B,
             return fold_backwards(items, init, f);
         }
     }
-    fold_places(row, row.len(), init, f)
+    match lent_by_stride(row, 2) {
+        Some(row) => fold_places(&row, row.len(), init, f),
+        None => fold_places(row, row.len(), init, f),
+    }
 }
 
 /// Folds the items of a row, of `few` unless that is 0, and hands back the function.
@@ -108,6 +112,20 @@ fn fold_row<'a, T, B, F: FnMut(B, &'a T) -> B>(
     match row.as_slice() {
         Some(items) => fold_slice(items, init, f),
         None => fold_turned(row, init, f),
+    }
+}
+
+/// Folds the items of a row, and hands back the function: of 2 to 4 items by their number, which rustc knows.
+#[inline(always)]
+fn fold_any<'a, T, B, F: FnMut(B, &'a T) -> B>(row: &LentRow<'a, T>, init: B, f: F) -> (B, F)
+    requires { CallableInFold lends F.FnMut (row_items row.now) f init }
+    ensures { HasFolded F.FnMut (f, init) (row_items row.now) (result.1, result.0) }
+{
+    match row.len() {
+        2 => fold_places(row, 2, init, f),
+        3 => fold_places(row, 3, init, f),
+        4 => fold_places(row, 4, init, f),
+        _ => fold_row(row, 0, init, f),
     }
 }
 
@@ -188,7 +206,7 @@ pub fn fold_rest<'a, T: 'a, I: RowByRow<'a, T> + Drop, B, F: FnMut(B, &'a T) -> 
 {
     let (mut items, mut total, mut f) = (items, init, f);
     while let Some(row) = items.next_row() {
-        (total, f) = fold_row(&row, 0, total, f);
+        (total, f) = fold_any(&row, total, f);
     }
     total
 }

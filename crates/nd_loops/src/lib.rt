@@ -14,6 +14,7 @@ mod searching;
 mod summing;
 mod triples;
 mod unsigned;
+mod writing;
 mod zipping;
 
 pub use beside::{Beside, LentView, lent_view};
@@ -27,4 +28,5 @@ pub use searching::search_row;
 pub use summing::sum_rows;
 pub use triples::zip_two_view;
 pub use unsigned::Unsigned;
+pub use writing::copy_view;
 pub use zipping::zip_views;

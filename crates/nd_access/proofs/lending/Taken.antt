@@ -35,7 +35,7 @@ module _ {M : Type 1} {𝓤 : Ura M} (𝓛 : Logic 𝓤) (V : RattleType) (ℓ :
   pub row-length : length row ≡ len
   row-length = length-take-le len (drop_l start items) (omega (arith, fits, k.1.0, length-drop start items))
 
-  row_room : Room V (length row)
+  pub row_room : Room V (length row)
   row_room =
       let n : length row ≤ length items = omega (arith, row-length, fits, k.1.0) in
       let size : length row * s ≤ length items * s = mul-le-mul_right s n in
@@ -52,7 +52,7 @@ module _ {M : Type 1} {𝓤 : Ura M} (𝓛 : Logic 𝓤) (V : RattleType) (ℓ :
   abbrev Others : SemTy
   Others = CellsWhere V p left
 
-  back : (ws ys : List V.Denot)
+  pub back : (ws ys : List V.Denot)
       → ent 𝓤 (sep 𝓤 (sem 𝓛 (Row.own_at ws hb spot)) (sep 𝓤 (sem 𝓛 (Others.own_at ys 0 0)) (emp 𝓤)))
       (sem 𝓛 (All.own_at (written_at start ws ys) 0 0))
   back ws ys = qed 𝓛 (‵ (Row.own_at ws hb spot) ∷ ‵ (Others.own_at ys 0 0) ∷ raw (emp 𝓤) ∷ []) ∵ fsplit ! $

@@ -1,10 +1,9 @@
 //! Writes to the items of a part by those of another array, side by side.
-ghost use Rattle.std.specs.Prelude.{◌≡◌, ◌↔◌, IsOk, OnErr, OnOk, Some, length};
+ghost use Rattle.std.specs.Prelude.{◌≡◌, ◌↔◌, IsOk, OnErr, OnOk, Some};
 ghost use Rattle.std.specs.Result.{result_err};
 ghost use Rattle.ndarray_layout.specs.declared.ErrorKind.TheVariants.{IncompatibleShape};
 ghost use Rattle.nd_loops.specs.AnyOrder.{CallsMakeInSomeOrder, InAnyOrder};
 ghost use Rattle.nd_access.specs.HasItems.{HasItemsOf, KeepsSpare};
-ghost use Rattle.nd_access.specs.Items.{item_at};
 ghost use Rattle.nd_access.specs.Mapped.{CallsMake, row_major_items};
 ghost use Rattle.nd_access.specs.Zipped.{ActsAsAtPair, CallableOnEachPair, CalledAtPair, row_major_pairs, zipped_at};
 
@@ -92,48 +91,6 @@ impl<'a, T: Drop, D: Lengths> ArrayViewMut<'a, T, D> {
         }
         let source = other.strided();
         zip_nearest(&mut self.cells, &self.view, &other.reader(), source, f);
-        Ok(())
-    }
-}
-
-impl<'a, T: Drop + Copy, D: Lengths> ArrayViewMut<'a, T, D> {
-    ghost use Rattle.nd_lent.specs.Lent.{access_of, array_of};
-
-    /// Writes at each index a copy of the item that another array of the same shape has there. Other items are unchanged.
-    ///
-    /// Takes no memory. Goes over the items in the order in which they lie here: with at most 6 axes over the longest rows that the
-    /// axes of both allow once they are turned and sorted by the strides here (`Strided::nearest_with`), with more axes in row-major
-    /// order.
-    ///
-    /// # Errors
-    ///
-    /// `IncompatibleShape` where the shapes differ; the items are unchanged. (A shape that can be broadcast is an error too:
-    /// `ArrayView::broadcast` comes first.)
-    ///
-    /// 5 6 to `[2]`, `[-1]` from 1 over 7 8 9: 6 5 9. ndarray's `assign`.
-    pub fn assign(&mut self, other: &ArrayView<'_, T, D>) -> Result<(), ShapeError>
-        ensures fits { IsOk result ↔ ((array_of self.old).view.shape ≡ other.now.view.shape) }
-        ensures fault { OnErr result (result_err result ≡ Some IncompatibleShape) }
-        ensures unchanged { OnErr result (array_of self.new ≡ array_of self.old) }
-        ensures assigned { OnOk result
-            (HasItemsOf (item_at other.now) (array_of self.old) (array_of self.new)) }
-        ensures count { length (array_of self.new).items ≡ length (array_of self.old).items }
-        ensures keeps_access { access_of self.new ≡ access_of self.old }
-    {
-        if !self.view.dim().equal(other.dim()) {
-            return Err(from_kind(ErrorKind::IncompatibleShape));
-        }
-        zip_nearest(
-            &mut self.cells,
-            &self.view,
-            &other.reader(),
-            other.strided(),
-            |stored: &mut T, item: &T|
-                ensures { stored.new ≡ item.now }
-            {
-                *stored = *item;
-            },
-        );
         Ok(())
     }
 }

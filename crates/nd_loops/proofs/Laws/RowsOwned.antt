@@ -1,7 +1,9 @@
 -- Rows of a part: each of their places is the part's own, those of one row and those of the others.
-use Rattle.std.proofs.Common.{◌≡◌, ◌≢◌, ℕ, ◌+◌, ◌<◌, ◌^◌, ℤ, pos, ◌+ℤ◌, ◌*ℤ◌, true, Bool, List, ◌∷◌, ◌++◌, length}
-use Rattle.std.proofs.Common.{sym, ap, subst, arith}
+use Rattle.std.proofs.Common.{◌≡◌, ◌≢◌, ℕ, ◌+◌, ◌-◌, ◌*◌, ◌<◌, ◌≤◌, ◌^◌, ℤ, pos, ◌+ℤ◌, ◌*ℤ◌, true, false, Bool, List, ◌∷◌, ◌++◌}
+use Rattle.std.proofs.Common.{length, get_or}
+use Rattle.std.proofs.Common.{refl, sym, ap, subst, arith}
 use Rattle.std.specs.List.{All}
+use Rattle.std.specs.Prelude.{IsTrue}
 use Rattle.std.proofs.lemmas.List.{get_or-append-add, length-append}
 use Rattle.std.proofs.lemmas.List.Elements.{All-head, All-tail}
 use Rattle.ndarray_layout.specs.declared.Order.{Order}
@@ -10,12 +12,14 @@ use Rattle.ndarray_layout.specs.Bounds.{IsInBounds}
 use Rattle.ndarray_layout.specs.Rows.{row_places, rows_places}
 use Rattle.ndarray_layout.specs.View.{IsView, View, view_places}
 use Rattle.ndarray_layout.proofs.Laws.Rows.{All-first_row, get_or-row_places, length-row_places, places_fit}
+use Rattle.nd_access.specs.Cells.{are_within, span_of}
 use Rattle.nd_access.specs.Own.{AreOwn}
 use Rattle.nd_access.specs.Part.{has_mark}
 use Rattle.nd_loops.specs.OwnedRows.{OwnsEachRow, OwnsRow}
 use Rattle.nd_access.proofs.Laws.Lists.{all_first, pairs_first, pairs_second}
 use Rattle.nd_access.proofs.Laws.RowItems.{begins, coordinate_in_bounds}
 use Rattle.nd_access.proofs.Laws.RowLens.{short_rows}
+use Rattle.nd_access.proofs.Laws.SliceOfPart.{mark_in_bounds, span_within}
 
 all_second : {X : Type 0} (P : X → Type 0) (xs ys : List X) → All P (xs ++ ys) → All P ys
 all_second P xs ys all = λ k d below.
@@ -76,3 +80,14 @@ place_of_row marks row coordinate owns below = record {
   marked = subst (λ place. has_mark marks place ≡ true) (get_or-row_places row.start row.stride row.len coordinate (pos 0) below)
       (owns.own.marked coordinate (pos 0) (omega (arith, below, length-row_places row.start row.stride row.len)));
 }
+
+-- a row whose places lie side by side
+pub stretch_of_row : (marks : List Bool) (row : Row) → OwnsRow marks row → row.stride ≡ pos 1 → 0 < row.len
+    → IsTrue (are_within (span_of row.start row.len marks) marks) × (row.start + row.len ≤ length marks)
+stretch_of_row marks row owns one some =
+    let marked : (k at : ℕ) → k < row.len → row.start + k ≡ at → get_or marks at false ≡ true = λ k at below is.
+    subst (λ (n : ℕ). get_or marks n false ≡ true) (let same : row.start + k * 1 ≡ at = omega (arith, is) in same)
+    (subst (λ stride. has_mark marks (pos row.start +ℤ (pos k *ℤ stride)) ≡ true) one (place_of_row marks row k owns below).marked) in
+    let last = row.start + (row.len - 1) in
+    let end = mark_in_bounds marks last (marked (row.len - 1) last (omega (arith, some)) refl) in
+    (span_within row.start row.len marks marked, omega (arith, end, some))

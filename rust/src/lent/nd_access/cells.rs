@@ -101,6 +101,30 @@ impl<'a, T> Cells<'a, T> {
         unsafe { core::ptr::NonNull::from(&mut *self.first.add(place)).as_mut() }
     }
 
+    /// So many elements from a place on, as a slice to be written.
+    ///
+    /// Of 7 8 9, two from place 1 on: 8 and 9. The project's own.
+    ///
+    /// # Conditions
+    ///
+    /// The caller ensures that each of them has a mark. Otherwise the behaviour is undefined.
+    ///
+    /// <details><summary>Contract (proved)</summary>
+    ///
+    /// ```text
+    /// requires IsTrue (are_within (span_of start len self.old.marks) self.old.marks) × (start + len ≤ length self.old.marks)
+    /// ensures value: (result.now ≡ take len (drop start self.old.items)) × (start + len ≤ length self.old.items)
+    /// ```
+    /// [How to read it](crate::contracts)
+    /// </details>
+    #[inline]
+    pub fn slice_mut(&mut self, start: usize, len: usize) -> &mut [T] {
+        // SAFETY: each of these places has a mark, which the caller ensures; so they are those of the slice that was
+        // lent (`all_of`), and no other `Cells` has one of their marks (`all` of `take_part`). While the result is in
+        // use this one is borrowed, so nothing else reads or writes the elements.
+        unsafe { core::ptr::NonNull::from(from_raw_parts_mut(self.first.add(start), len)).as_mut() }
+    }
+
     /// The right to some of the elements, for as long as the whole is lent; the right to the others stays. Both may be
     /// used at once, and in threads.
     ///

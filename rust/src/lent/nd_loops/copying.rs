@@ -2,6 +2,7 @@
 //! New lists of what is made of the items of an array.
 
 use crate::lent::nd_access::{LentRow, LentRows};
+use crate::lent::nd_loops::few::lent_by_stride;
 use crate::memory::prelude::{FallibleVec, Vec};
 
 /// Appends what a closure makes of each item of a slice to a list with room for it, and hands the closure back.
@@ -119,7 +120,10 @@ fn push_apart<T, U: Sized, F: FnMut(&T) -> U>(made: Vec<U>, row: &LentRow<'_, T>
 fn push_turned<T, U: Sized, F: FnMut(&T) -> U>(made: Vec<U>, row: &LentRow<'_, T>, f: F) -> (Vec<U>, F) {
     match row.as_slice_backwards() {
         Some(items) => push_backwards(made, items, f),
-        None => push_apart(made, row, f),
+        None => match lent_by_stride(row, 2) {
+            Some(row) => push_apart(made, &row, f),
+            None => push_apart(made, row, f),
+        },
     }
 }
 

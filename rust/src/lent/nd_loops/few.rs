@@ -1,5 +1,6 @@
 // Made by `rust/erase` of `crates/nd_loops/src/few.rt`: edit that.
-//! Rows of few items: their number is a constant under the loop over rows, so that one needs no loop of its own.
+//! Rows by numbers that rustc knows: few items, so that one needs no loop of its own, or a stride, of which LLVM makes a loop over
+//! vectors.
 
 use crate::lent::nd_access::LentRow;
 use crate::ndarray_layout::Row;
@@ -35,4 +36,26 @@ pub(crate) fn by_few<const FEW: usize>(row: Row) -> Row {
 #[inline(always)]
 pub(crate) fn lent_by_few<const FEW: usize, T>(row: LentRow<'_, T>) -> LentRow<'_, T> {
     LentRow { reader: row.reader, row: by_few::<FEW>(row.row) }
+}
+
+/// What the first place and the length of a row are below that is gone over by a stride that rustc knows: so LLVM sees that no place of
+/// it wraps.
+const SMALL: usize = 1 << 60;
+
+/// The row by a stride that rustc knows, where that is its stride; else `None`.
+///
+/// <details><summary>Contract (proved)</summary>
+///
+/// ```text
+/// ensures IfSome result (λ known. known ≡ row.now)
+/// ```
+/// [How to read it](crate::contracts)
+/// </details>
+#[inline(always)]
+pub(crate) fn lent_by_stride<'a, T>(row: &LentRow<'a, T>, stride: isize) -> Option<LentRow<'a, T>> {
+    let Row { start, stride: own, len } = row.row;
+    if own != stride || start >= SMALL || len >= SMALL {
+        return None;
+    }
+    Some(LentRow { reader: row.reader.copied(), row: Row { start, stride, len } })
 }

@@ -2,6 +2,7 @@
 //! A function that is called at each item of an array in turn, row by row.
 
 use crate::lent::nd_access::{LentRow, LentRows, RowByRow};
+use crate::lent::nd_loops::few::lent_by_stride;
 
 /// Calls a function with a total and an item, and hands it back.
 ///
@@ -113,7 +114,10 @@ fn fold_turned<'a, T, B, F: FnMut(B, &'a T) -> B>(row: &LentRow<'a, T>, init: B,
             return fold_backwards(items, init, f);
         }
     }
-    fold_places(row, row.len(), init, f)
+    match lent_by_stride(row, 2) {
+        Some(row) => fold_places(&row, row.len(), init, f),
+        None => fold_places(row, row.len(), init, f),
+    }
 }
 
 /// Folds the items of a row, of `few` unless that is 0, and hands back the function.
@@ -135,6 +139,26 @@ fn fold_row<'a, T, B, F: FnMut(B, &'a T) -> B>(row: &LentRow<'a, T>, few: usize,
     match row.as_slice() {
         Some(items) => fold_slice(items, init, f),
         None => fold_turned(row, init, f),
+    }
+}
+
+/// Folds the items of a row, and hands back the function: of 2 to 4 items by their number, which rustc knows.
+///
+/// <details><summary>Contract (proved)</summary>
+///
+/// ```text
+/// requires CallableInFold lends F.FnMut (row_items row.now) f init
+/// ensures HasFolded F.FnMut (f, init) (row_items row.now) (result.1, result.0)
+/// ```
+/// [How to read it](crate::contracts)
+/// </details>
+#[inline(always)]
+fn fold_any<'a, T, B, F: FnMut(B, &'a T) -> B>(row: &LentRow<'a, T>, init: B, f: F) -> (B, F) {
+    match row.len() {
+        2 => fold_places(row, 2, init, f),
+        3 => fold_places(row, 3, init, f),
+        4 => fold_places(row, 4, init, f),
+        _ => fold_row(row, 0, init, f),
     }
 }
 
@@ -232,7 +256,7 @@ pub fn fold_rows<'a, T, B, F: FnMut(B, &'a T) -> B>(rows: LentRows<'a, T>, init:
 pub fn fold_rest<'a, T: 'a, I: RowByRow<'a, T> + Sized, B, F: FnMut(B, &'a T) -> B>(items: I, init: B, f: F) -> B {
     let (mut items, mut total, mut f) = (items, init, f);
     while let Some(row) = items.next_row() {
-        (total, f) = fold_row(&row, 0, total, f);
+        (total, f) = fold_any(&row, total, f);
     }
     total
 }

@@ -31,6 +31,7 @@ mod searching;
 mod summing;
 mod triples;
 mod unsigned;
+mod writing;
 mod zipping;
 
 pub use beside::{Beside, LentView, lent_view};
@@ -44,4 +45,5 @@ pub use searching::search_row;
 pub use summing::sum_rows;
 pub use triples::zip_two_view;
 pub use unsigned::Unsigned;
+pub use writing::copy_view;
 pub use zipping::zip_views;

@@ -23,3 +23,10 @@ returns-in-Some-clause-pushed g c =
 pub returns-in-Some-clause-len : goal.returns-in-Some-clause-len
 returns-in-Some-clause-len g c =
     omega (arith, c.push_backwards.ensures.len, long c.in-Some.items.now c.args.row.now c.in-Some.ensures.items)
+
+-- by a stride that is known, the row is the same one
+pub push_apart-requires-clause-callable : goal.push_apart-requires-clause-callable
+push_apart-requires-clause-callable g c = rw c.in-Some-lent_by_stride.ensures c.requires.callable
+
+pub returns-in-Some-lent_by_stride-clause-pushed : goal.returns-in-Some-lent_by_stride-clause-pushed
+returns-in-Some-lent_by_stride-clause-pushed g c = rw (← c.in-Some-lent_by_stride.ensures) c.push_apart.ensures.pushed

@@ -1,9 +1,10 @@
 // Made by `rust/erase` of `crates/nd_lent/src/array_view_mut/writing.rt`: edit that.
 //! Writes to all items of a part, and swaps of two.
 
+use crate::lent::nd_lent::array_view::ArrayView;
 use crate::lent::nd_lent::array_view_mut::ArrayViewMut;
-use crate::lent::nd_loops::map_nearest;
-use crate::ndarray_layout::{Lengths, NdIndex};
+use crate::lent::nd_loops::{copy_view, map_nearest, nearest_views};
+use crate::ndarray_layout::{ErrorKind, Lengths, NdIndex, ShapeError, from_kind};
 
 impl<'a, T: Sized, D: Lengths> ArrayViewMut<'a, T, D> {
     /// Swaps the items of two indices, and returns whether both are indices of the shape; else the part is unchanged.
@@ -87,8 +88,83 @@ impl<'a, T: Sized + Clone, D: Lengths> ArrayViewMut<'a, T, D> {
     /// </details>
     #[inline]
     pub fn fill(&mut self, item: T) {
-        map_nearest(&mut self.cells, &self.view, FEW, |stored: &mut T| {
-            *stored = item.clone();
+        map_nearest(&mut self.cells, &self.view, FEW, move |stored: &mut T| {
+            stored.clone_from(&item);
         });
+    }
+
+    /// Writes at each index a copy of the item that an array of the same shape has there.
+    ///
+    /// <details><summary>Contract (proved)</summary>
+    ///
+    /// ```text
+    /// requires (array_of self.old).view.shape ≡ other.now.view.shape
+    /// ensures copied: HasItemsOf (item_at other.now) (array_of self.old) (array_of self.new)
+    /// ensures count: length (array_of self.new).items ≡ length (array_of self.old).items
+    /// ensures keeps_access: access_of self.new ≡ access_of self.old
+    /// ```
+    /// [How to read it](crate::contracts)
+    /// </details>
+    #[inline]
+    fn copy_items(&mut self, other: &ArrayView<'_, T, D>) {
+        match nearest_views(&self.view, other.strided()) {
+            Some((nearest, beside)) => {
+                copy_view(&mut self.cells, &nearest, other.reader(), &beside);
+            }
+            None => {
+                let source = other.strided();
+                copy_view(&mut self.cells, &self.view, other.reader(), source);
+            }
+        }
+    }
+
+    /// Writes at each index a copy of the item that another array of the same shape has there. Other items are unchanged.
+    ///
+    /// Takes no memory. Goes over the items in the order in which they lie here: with at most 6 axes over the longest rows that the
+    /// axes of both allow once they are turned and sorted by the strides here (`Strided::nearest_with`), with more axes in row-major
+    /// order. Rows whose items follow one another in both are copied as slices.
+    ///
+    /// 5 6 to `[2]`, `[-1]` from 1 over 7 8 9: 6 5 9. ndarray's `assign`.
+    ///
+    /// # Errors
+    ///
+    /// `IncompatibleShape` where the shapes differ; the items are unchanged. (A shape that can be broadcast is an error too:
+    /// `ArrayView::broadcast` comes first.)
+    ///
+    /// # Examples
+    ///
+    /// ```
+    /// use ndarray_layout::{ArrayView, ArrayViewMut, ErrorKind, Ix1, Ix2, LayoutError, from_kind};
+    ///
+    /// # fn main() -> Result<(), LayoutError> {
+    /// let mut items = [1, 2, 3, 4, 5, 6];
+    /// let mut part = ArrayViewMut::from_shape(Ix2(2, 3), &mut items)?;
+    /// let others = ArrayView::from_shape(Ix1(2), &[7, 8])?;
+    /// part.column_mut(1)?.assign(&others)?;
+    /// assert_eq!(part.row_mut(1)?.assign(&others), Err(from_kind(ErrorKind::IncompatibleShape)));
+    /// assert_eq!(items, [1, 7, 3, 4, 8, 6]);
+    /// # Ok(())
+    /// # }
+    /// ```
+    ///
+    /// <details><summary>Contract (proved)</summary>
+    ///
+    /// ```text
+    /// ensures fits: IsOk result ↔ ((array_of self.old).view.shape ≡ other.now.view.shape)
+    /// ensures fault: OnErr result (result_err result ≡ Some IncompatibleShape)
+    /// ensures unchanged: OnErr result (array_of self.new ≡ array_of self.old)
+    /// ensures assigned: OnOk result (HasItemsOf (item_at other.now) (array_of self.old) (array_of self.new))
+    /// ensures count: length (array_of self.new).items ≡ length (array_of self.old).items
+    /// ensures keeps_access: access_of self.new ≡ access_of self.old
+    /// ```
+    /// [How to read it](crate::contracts)
+    /// </details>
+    #[inline]
+    pub fn assign(&mut self, other: &ArrayView<'_, T, D>) -> Result<(), ShapeError> {
+        if !self.view.dim().equal(other.dim()) {
+            return Err(from_kind(ErrorKind::IncompatibleShape));
+        }
+        self.copy_items(other);
+        Ok(())
     }
 }
