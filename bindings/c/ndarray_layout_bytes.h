@@ -1,4 +1,4 @@
-/* What ndarray_layout.h has for strides in bytes, and includes: their like in elements, and views over bytes. C89, C99, C++. */
+/* What ndarray_layout.h has for strides in bytes, and includes: their like in elements, views over bytes, planes. C89, C99, C++. */
 #ifndef NDARRAY_LAYOUT_BYTES_H
 #define NDARRAY_LAYOUT_BYTES_H
 
@@ -95,6 +95,98 @@ ND_CHECKED((8)) int32_t nd_view_from_byte_strides(const size_t *shape, size_t sh
     status = nd_layout_start(lists.shape, lists.axes, lists.strides, lists.axes, 1, nbytes, mode, &offset);
     if (status != ND_OK) return status;
     return nd_view_over_bytes(offset, shape, shape_len, byte_strides, strides_len, elem_size, nbytes, mode, view);
+}
+
+/* ---- Planes ---------------------------------------------------------------------------------------------------------- */
+
+/*
+ * A plane of samples, as codecs and drivers describe one: `rows` rows of `columns` samples. A row begins `pitch` bytes after the one
+ * above it, and a sample `step` bytes after the one to its left; both may be negative. Row 0 begins at byte `offset` of a buffer.
+ *
+ *     FFmpeg      linesize[i] of an AVFrame is `pitch`; `step` and `offset` of an AVComponentDescriptor are `step` and, of a packed
+ *                 picture, `offset`
+ *     Vulkan      rowPitch of a VkSubresourceLayout is `pitch`, offset is `offset`; `step` is the size of a texel
+ */
+typedef struct nd_plane {
+    size_t offset;
+    ptrdiff_t pitch;
+    ptrdiff_t step;
+    size_t rows;
+    size_t columns;
+} nd_plane;
+
+/* (of this header alone) The shape and the strides of a plane, in samples, and where row 0 begins: of one that has a buffer. */
+ND_CHECKED((1, 4)) int32_t nd_put_plane(const nd_plane *plane, size_t elem_size, int has_data, nd_layout *layout) {
+    int32_t status;
+    layout->start = has_data && elem_size > 0 ? plane->offset / elem_size : 0;
+    layout->axes = 2;
+    layout->shape[0] = plane->rows;
+    layout->shape[1] = plane->columns;
+    layout->strides[0] = plane->pitch;
+    layout->strides[1] = plane->step;
+    status = nd_strides_from_bytes(layout->strides, 2, elem_size, layout->strides);
+    return status == ND_OK && has_data && plane->offset % elem_size != 0 ? ND_INCOMPATIBLE_LAYOUT : status;
+}
+
+/* (of this header alone) A view of a plane over `data`; or over what it reaches from its lowest sample on, where `has_data` is 0. */
+ND_CHECKED((1, 5)) int32_t nd_view_of_plane(const nd_plane *plane, nd_data data, int has_data, int32_t mode, nd_view *view) {
+    nd_layout of;
+    size_t axis;
+    int32_t status = nd_put_plane(plane, data.elem_size, has_data, &of);
+    if (status == ND_OK && has_data) return nd_view_of(&of, data, mode, view);
+    data.len = (size_t)-1 / 2; /* (which any layout fits that is accepted at all) */
+    if (status == ND_OK) status = nd_layout_start(of.shape, 2, of.strides, 2, data.elem_size, data.len, mode, &of.start);
+    if (status != ND_OK) return status;
+    data.len = of.start + (nd_layout_size(&of) > 0);
+    for (axis = 0; axis < 2; axis++)
+        if (of.strides[axis] > 0 && of.shape[axis] > 0) data.len += (of.shape[axis] - 1) * (size_t)of.strides[axis];
+    view->layout = of;
+    nd_put_data(data, view);
+    return status;
+}
+
+/* (of this header alone) Views of planes, all or none. */
+ND_CHECKED((1, 6)) int32_t nd_views_of_planes(const nd_plane *planes, size_t count, nd_data data, int has_data, int32_t mode,
+                                              nd_view *views) {
+    nd_view view;
+    int32_t status = ND_OK;
+    size_t at;
+    for (at = 0; status == ND_OK && at < count; at++) status = nd_view_of_plane(planes + at, data, has_data, mode, &view);
+    for (at = 0; status == ND_OK && at < count; at++) status = nd_view_of_plane(planes + at, data, has_data, mode, views + at);
+    return status;
+}
+
+/*
+ * Makes the views, of rows and columns, of planes in one buffer of `nbytes` bytes, whose samples have `elem_size` bytes: one status
+ * for all planes of a picture. Places count samples, from the buffer's first byte. `views`: `count` of them.
+ *
+ * The first of these statuses of the first plane that has one, and no view has been written: ND_BAD_ARGUMENT for an `elem_size` of 0 or
+ * past the limit; ND_INCOMPATIBLE_LAYOUT where pitch, step or offset is no multiple of it; those of nd_view_of. Whether two planes share a
+ * byte is not asked: nd_views_share_element.
+ *
+ * Over 12 bytes, (2,4) with pitch 4 and (1,2) with offset 8, pitch 2; all with step 1: ND_OK. Over 9 bytes: ND_OUT_OF_BOUNDS.
+ */
+ND_CHECKED((1, 6)) int32_t nd_views_over_planes(const nd_plane *planes, size_t count, size_t elem_size, size_t nbytes, int32_t mode,
+                                                nd_view *views) {
+    nd_data data;
+    data.elem_size = elem_size;
+    data.len = elem_size > 0 ? nbytes / elem_size : 0;
+    return nd_views_of_planes(planes, count, data, 1, mode, views);
+}
+
+/*
+ * nd_views_over_planes where each plane has a pointer to its row 0, as `data[i]` of an AVFrame, and the caller vouches for the bytes
+ * that its rows take; a picture that is upside down has a negative linesize there. `offset` isn't looked at. Place 0 of a view is its
+ * lowest sample, and row 0 begins `layout.start` samples after it, so the samples of a plane of bytes begin at
+ * `frame->data[i] - views[i].layout.start`.
+ *
+ * (2,4) with pitch -6 and step 1: strides (-6,1) from 6, over 10 bytes.
+ */
+ND_CHECKED((1, 5)) int32_t nd_views_from_row0(const nd_plane *planes, size_t count, size_t elem_size, int32_t mode, nd_view *views) {
+    nd_data data;
+    data.elem_size = elem_size;
+    data.len = 0;
+    return nd_views_of_planes(planes, count, data, 0, mode, views);
 }
 
 #endif
