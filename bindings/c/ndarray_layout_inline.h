@@ -134,8 +134,8 @@ ND_CHECKED((7)) int32_t nd_view_from_strides(const size_t *shape, size_t shape_l
  * does one that writes through a view that the function has itself: made there, sliced there, or copied, `const nd_view own =
  * *view;`. Through a pointer to a view that another function has, writes of bytes cost two to four times as much: take a cursor.
  * A loop that reads neighbours of each element, as a blur does, takes a window of rows by nd_cursor_row, one row for each line
- * that it reads, as the project's bindings/c/examples/blur.c. The mean of 3x3 bytes of 1920x1080 by nd_at, through a pointer, takes
- * 2 times a loop by hand that compares nothing by gcc 12 -O2, and 24 to 29 times by -O3 or clang 14; by three rows 1.0 times.
+ * that it reads, as the project's bindings/c/examples/blur.c. The mean of 3x3 bytes of 1920x1088 by nd_at, through a pointer, takes
+ * 11 to 19 times a loop by hand that compares nothing, by gcc 12 and clang 14, -O2 and -O3; by three rows 1.0 times.
  *
  * Over 6 elements, (2,3), strides (-3,1): nd_at(&view, 1, 2) is 2, nd_at(&view, 2, 0) and nd_at(&view, 1) are ND_NO_PLACE.
  */

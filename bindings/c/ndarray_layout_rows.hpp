@@ -300,10 +300,10 @@ public:
     // make vectors of a loop over one where it takes constant lengths.
     template <class Top, class Left, class Rows, class Columns>
     [[nodiscard]] cursor crop(Top top, Left left, Rows rows, Columns columns) const {
-        const std::size_t lengths[2] = {coordinate(rows), coordinate(columns)};
-        const nd_cursor2 part = nd_cursor2_crop(as_c(), coordinate(top), coordinate(left), lengths[0], lengths[1]);
-        if (part.shape[0] != lengths[0] || part.shape[1] != lengths[1]) refuse(ND_OUT_OF_BOUNDS);
-        return {data_, part};
+        const std::size_t high = coordinate(rows), wide = coordinate(columns);
+        const nd_cursor2 part = nd_cursor2_crop(as_c(), coordinate(top), coordinate(left), high, wide);
+        if (part.shape[0] != high || part.shape[1] != wide) refuse(ND_OUT_OF_BOUNDS);
+        return {data_, nd_cursor2{part.start, {high, wide}, {part.strides[0], part.strides[1]}}}; // (lengths that compilers know)
     }
     template <class Rows, class Columns>
     [[nodiscard]] nd::tiles<T> tiles(Rows rows, Columns columns) const {
