@@ -13,7 +13,10 @@
  * ND_BAD_ARGUMENT: `elem_size` is 0 or past the limit. ND_INCOMPATIBLE_LAYOUT: a stride is no multiple of it, as one of packed
  * records may be: nd_view_over_bytes takes such strides too.
  *
- * (-12,4), of elements of 4 bytes: (-3,1). (7): ND_INCOMPATIBLE_LAYOUT.
+ *    ptrdiff_t strides[2] = {-12, 4};
+ *    nd_strides_from_bytes(strides, 2, 4, strides) == ND_OK
+ *    strides[0] == -3
+ *    nd_strides_from_bytes(strides, 2, 4, strides) == ND_INCOMPATIBLE_LAYOUT
  */
 ND_INLINE ND_USED int32_t nd_strides_from_bytes(const ptrdiff_t *byte_strides, size_t count, size_t elem_size,
                                                 ptrdiff_t *strides) {
@@ -54,7 +57,9 @@ ND_CHECKED((7)) int32_t nd_put_bytes(const size_t *shape, size_t shape_len, cons
  * length. ND_OVERFLOW: an `elem_size` past the limit. Then the statuses of nd_check_layout for the bytes of all elements:
  * owned, no two elements may share a byte. ND_OUT_OF_MEMORY may come where there are more than three axes.
  *
- * (3), strides (7), from 2, of 4 bytes: fits 20 bytes, with places 2, 9 and 16, and not 19.
+ *    view: (3), strides (7), from 2, over 20, of 4 bytes
+ *    nd_at(&view, 2) == 16
+ *    view.data.len == 17
  */
 ND_CHECKED((9)) int32_t nd_view_over_bytes(size_t offset, const size_t *shape, size_t shape_len, const ptrdiff_t *byte_strides,
                                            size_t strides_len, size_t elem_size, size_t nbytes, int32_t mode, nd_view *view) {
@@ -164,7 +169,11 @@ ND_CHECKED((1, 6)) int32_t nd_views_of_planes(const nd_plane *planes, size_t cou
  * past the limit; ND_INCOMPATIBLE_LAYOUT where pitch, step or offset is no multiple of it; those of nd_view_of. Whether two planes share a
  * byte is not asked: nd_views_share_element.
  *
- * Over 12 bytes, (2,4) with pitch 4 and (1,2) with offset 8, pitch 2; all with step 1: ND_OK. Over 9 bytes: ND_OUT_OF_BOUNDS.
+ *    const nd_plane planes[2] = {{0, 4, 1, 2, 4}, {8, 2, 1, 1, 2}};
+ *    nd_view views[2];
+ *    nd_views_over_planes(planes, 2, 1, 10, ND_OWNED, views) == ND_OK
+ *    nd_at(&views[1], 0, 1) == 9
+ *    nd_views_over_planes(planes, 2, 1, 9, ND_OWNED, views) == ND_OUT_OF_BOUNDS
  */
 ND_CHECKED((1, 6)) int32_t nd_views_over_planes(const nd_plane *planes, size_t count, size_t elem_size, size_t nbytes, int32_t mode,
                                                 nd_view *views) {
@@ -180,7 +189,11 @@ ND_CHECKED((1, 6)) int32_t nd_views_over_planes(const nd_plane *planes, size_t c
  * lowest sample, and row 0 begins `layout.start` samples after it, so the samples of a plane of bytes begin at
  * `frame->data[i] - views[i].layout.start`.
  *
- * (2,4) with pitch -6 and step 1: strides (-6,1) from 6, over 10 bytes.
+ *    const nd_plane plane = {0, -6, 1, 2, 4};
+ *    nd_view view;
+ *    nd_views_from_row0(&plane, 1, 1, ND_OWNED, &view) == ND_OK
+ *    view.layout.start == 6
+ *    nd_at(&view, 1, 0) == 0
  */
 ND_CHECKED((1, 5)) int32_t nd_views_from_row0(const nd_plane *planes, size_t count, size_t elem_size, int32_t mode, nd_view *views) {
     nd_data data;

@@ -180,10 +180,13 @@ ND_INLINE ND_USED ND_WRAPS nd_row nd_cursor_row4(nd_cursor4 at, size_t i, size_t
  * was accepted needs no second check, so this is four comparisons, inline. Where the part isn't within the cursor, the one that is
  * returned has no row: shape (0,0).
  *
- * Loops over blocks take constant lengths and a stride of 1 where they can, so that compilers make vectors of them:
- * the project's bindings/c/examples/yuv.h has blends and sums.
+ * Compilers make vectors of a loop over a block where its lengths are constants, and its stride along rows is a 1 that is compared
+ * once: the project's bindings/c/examples/yuv.h has blends and sums.
  *
- * From 0, (4,6), strides (6,1): nd_cursor2_crop(at, 1, 2, 3, 4) is from 8, (3,4), strides (6,1); from row 2 it has no row.
+ *    view: (4,6), strides (6,1), over 24
+ *    nd_view_cursor2(&view, &at) == {0, {4,6}, {6,1}}
+ *    nd_cursor2_crop(at, 1, 2, 3, 4) == {8, {3,4}, {6,1}}
+ *    nd_cursor2_crop(at, 2, 2, 3, 4).shape[0] == 0
  */
 ND_INLINE ND_USED ND_WRAPS nd_cursor2 nd_cursor2_crop(nd_cursor2 at, size_t top, size_t left, size_t rows, size_t columns) {
     const nd_cursor2 none = {0, {0, 0}, {0, 0}};
@@ -206,7 +209,12 @@ typedef struct nd_tiles2 {
  * The tiles of so many rows and columns that a cursor is cut into, for nd_next_tile2: from left to right, and from the top down. Those
  * at the right and at the bottom have what is left. A tile of no row or no column is none, so of such lengths there are none.
  *
- * (4,6) by 3 and 4: tiles of (3,4), (3,2), (1,4) and (1,2).
+ *    view: (3,6), strides (6,1), over 18
+ *    nd_view_cursor2(&view, &at) == ND_OK
+ *    nd_tiles2 tiles = nd_cursor2_tiles(at, 3, 4);
+ *    nd_next_tile2(&tiles, &tile) == {0, {3,4}, {6,1}}
+ *    nd_next_tile2(&tiles, &tile) == {4, {3,2}, {6,1}}
+ *    nd_next_tile2(&tiles, &tile) == 0
  */
 ND_INLINE ND_USED nd_tiles2 nd_cursor2_tiles(nd_cursor2 of, size_t rows, size_t columns) {
     nd_tiles2 tiles;

@@ -72,7 +72,9 @@ ND_CHECKED((1, 3)) int nd_put_lists(const nd_view *view, int32_t order, nd_lists
  * two elements may share a byte, ND_OVERFLOW counts bytes, and ND_OUT_OF_MEMORY may come where there are more than three
  * axes.
  *
- * (3), strides (3), over bytes, of 4 bytes: ND_OK read-only, ND_UNSUPPORTED owned.
+ *    view: (3), strides (3), over 10, of 4 bytes
+ *    nd_view_check(&view, ND_READ_ONLY) == ND_OK
+ *    nd_view_check(&view, ND_OWNED) == ND_UNSUPPORTED
  */
 ND_CHECKED((1)) int32_t nd_view_check(const nd_view *view, int32_t mode) {
     const nd_layout *const of = &view->layout;
@@ -137,7 +139,10 @@ ND_CHECKED((7)) int32_t nd_view_from_strides(const size_t *shape, size_t shape_l
  * that it reads, as the project's bindings/c/examples/blur.c. The mean of 3x3 bytes of 1920x1088 by nd_at, through a pointer, takes
  * 11 to 19 times a loop by hand that compares nothing, by gcc 12 and clang 14, -O2 and -O3; by three rows 1.0 times.
  *
- * Over 6 elements, (2,3), strides (-3,1): nd_at(&view, 1, 2) is 2, nd_at(&view, 2, 0) and nd_at(&view, 1) are ND_NO_PLACE.
+ *    view: (2,3), strides (-3,1), from 3, over 6
+ *    nd_at(&view, 1, 2) == 2
+ *    nd_at(&view, 2, 0) == ND_NO_PLACE
+ *    nd_at(&view, 1) == ND_NO_PLACE
  */
 ND_CHECKED((1)) ND_WRAPS size_t nd_at_n(const nd_view *view, const size_t *index, size_t count) {
     size_t place = view->layout.start, axis;
@@ -223,8 +228,13 @@ ND_CHECKED((1)) ND_WRAPS size_t nd_at4(const nd_view *view, size_t i, size_t j, 
  * in which they lie. There ND_OVERFLOW counts bytes, and ND_OUT_OF_MEMORY may come where there are more than three axes. Of
  * strides in bytes without an index nd_view_is_contiguous reads how many elements they count, rounded towards 0.
  *
- * Over bytes, (2,3), strides (12,4): of 4 bytes 0, 1, 1, 0 and the stretch from 0 to 24; of 2 bytes 0, 0, 0, 0 and none; of 5
- * bytes, read-only, 1, 0, 0, 0 and none.
+ *    view: (2,3), strides (12,4), over 24, of 4 bytes
+ *    nd_view_is_contiguous(&view, &answer) == 1
+ *    nd_view_is_layout_f(&view, &answer) == 0
+ *    less: (2,3), strides (12,4), over 24, of 2 bytes
+ *    nd_view_is_contiguous(&less, &answer) == 0
+ *    more: (2,3), strides (12,4), over 25, of 5 bytes
+ *    nd_view_has_overlap(&more, &answer) == 1
  */
 ND_CHECKED((1, 2)) int32_t nd_view_has_overlap(const nd_view *view, int32_t *answer) {
     nd_lists lists;
