@@ -17,7 +17,7 @@ KINDS = {
     "tests of Python": (r"bindings/python/\w+\.py", r"^ +def test"),
     "lines of examples of Python": (r"bindings/python/.*\.(py|md)", r"^\s*>>> "),
     "checks in tests of C": (r"bindings/c/\w+\.(c|cpp|h)", r"\bCHECK\("),
-    "examples in the header for C": (r"bindings/c/ndarray_layout\.h", r"^ \* {4}nd_\w+\(.*\) == "),
+    "examples in the headers for C": (r"bindings/c/ndarray_layout\w*\.h", r"^ \* {4}\w.* == "),
     "examples": (r"(rust|rust/over_image/src|bindings/\w+)/(examples|bin)/.*\.(rs|py|c)", None),
     "steps of the check": (STEPS, r"^.* = \{ run = "),
     "parts of steps": (r"checks/\w+", r"^ *(run|run_both|report|answers|ends|run_step) \S"),

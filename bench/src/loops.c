@@ -2,9 +2,7 @@
 #define _POSIX_C_SOURCE 199309L
 #include "loops.h"
 
-enum { SIDE = 1000, PICTURE = 500 };
-
-static unsigned char blurred[PICTURE * PICTURE];
+enum { SIDE = 1000 };
 
 /* ---- Elements over two axes, of both types ---- */
 
@@ -57,53 +55,6 @@ static size_t sum_pixels_by_hand(const nd_view *view, void *bytes) {
     return sum;
 }
 
-/* ---- A blur: the mean of 3x3 pixels ---- */
-
-/* One row of means, of three rows of pixels. */
-static inline void mean_row(const unsigned char *a, const unsigned char *b, const unsigned char *c, ptrdiff_t next, size_t count,
-                            unsigned char *means) {
-    size_t at;
-    for (at = 0; at < count; at++, a += next, b += next, c += next) {
-        const unsigned sum = a[0] + a[next] + a[2 * next] + b[0] + b[next] + b[2 * next] + c[0] + c[next] + c[2 * next];
-        means[at] = (unsigned char)(sum / 9);
-    }
-}
-
-/* Three slices of the picture, each a line further down, whose rows come in step. A stride of 1 has a loop of its own. */
-static size_t blur_rows(const nd_view *view, void *bytes) {
-    const unsigned char *const items = (const unsigned char *)bytes;
-    nd_row_iter rows[3];
-    nd_row up, row, down;
-    size_t line, written = 0;
-    for (line = 0; line < 3; line++) {
-        const nd_slice_elem lines[2] = {ND_RANGE(line, view->layout.shape[0] - 2 + line), ND_ALL};
-        nd_view part = *view;
-        must(nd_layout_slice(&view->layout, lines, 2, ND_STRICT, &part.layout));
-        must(nd_view_rows(&part, ND_ROW_MAJOR, &rows[line]));
-    }
-    while (nd_next_row(&rows[0], &up) && nd_next_row(&rows[1], &row) && nd_next_row(&rows[2], &down)) {
-        const unsigned char *a = items + up.start, *b = items + row.start, *c = items + down.start;
-        if (row.stride == 1) mean_row(a, b, c, 1, row.len - 2, blurred + written);
-        else mean_row(a, b, c, row.stride, row.len - 2, blurred + written);
-        written += row.len - 2;
-    }
-    return written + blurred[written / 2];
-}
-
-static size_t blur_by_hand(const nd_view *view, void *bytes) {
-    const unsigned char *const items = (const unsigned char *)bytes;
-    const size_t rows = view->layout.shape[0], columns = view->layout.shape[1];
-    size_t row, column, written = 0;
-    for (row = 0; row + 2 < rows; row++) {
-        const unsigned char *a = items + row * columns, *b = a + columns, *c = b + columns;
-        for (column = 0; column + 2 < columns; column++, a++, b++, c++) {
-            const unsigned sum = a[0] + a[1] + a[2] + b[0] + b[1] + b[2] + c[0] + c[1] + c[2];
-            blurred[written++] = (unsigned char)(sum / 9);
-        }
-    }
-    return written + blurred[written / 2];
-}
-
 /* The rows of one type of items, in 1000 rows of 1000 of 2000. */
 static void print_elements(const char *type, const loop *loops, const nd_view *view, void *items) {
     print_row("`nd_cursor_at`, written", type, loops[0], loops[1], view, items);
@@ -114,7 +65,7 @@ static void print_elements(const char *type, const loop *loops, const nd_view *v
 }
 
 int main(int count, char **words) {
-    const size_t square[2] = {SIDE, SIDE}, picture[2] = {PICTURE, PICTURE}, pixels[3] = {100, 800, 3};
+    const size_t square[2] = {SIDE, SIDE}, pixels[3] = {100, 800, 3};
     const nd_slice_elem cut[3] = {ND_ALL, ND_RANGE(300, 500), ND_ALL}, left[2] = {ND_ALL, ND_FROM_BY(0, -1)};
     const loop bytes[9] = {write_cursor_bytes, write_by_hand_bytes, read_cursor_bytes, read_by_hand_bytes,
                            write_copied_bytes, write_checked_by_hand_bytes, write_by_pointer_bytes, read_by_pointer_bytes, read_checked_by_hand_bytes};
@@ -135,8 +86,6 @@ int main(int count, char **words) {
     must(nd_view_from_shape(pixels, 3, ND_ROW_MAJOR, data, ND_OWNED, &view));
     must(nd_layout_slice(&view.layout, cut, 3, ND_STRICT, &view.layout));
     print_row("`nd_next_row`: a sum of 20,000 rows of 3, joined", "", sum_rows, sum_pixels_by_hand, &view, items);
-    must(nd_view_from_shape(picture, 2, ND_ROW_MAJOR, data, ND_OWNED, &view));
-    print_row("`nd_next_row`: a blur by 3x3 of 500x500", "", blur_rows, blur_by_hand, &view, items);
     must(nd_view_from_shape(lines, 2, ND_ROW_MAJOR, wide, ND_OWNED, &view));
     must(nd_layout_slice(&view.layout, half, 2, ND_STRICT, &view.layout));
     print_elements(": bytes", bytes, &view, items);

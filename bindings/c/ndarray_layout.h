@@ -825,11 +825,11 @@ ND_INLINE const char *nd_status_message(int32_t status) {
 /* ---- Layouts as one value -------------------------------------------------------------------------------------------- */
 
 /*
- * The functions below are of this header, and not of the library; ndarray_layout_inline.h, ndarray_layout_rows.h,
- * ndarray_layout_bytes.h, ndarray_layout_sharing.h and ndarray_layout_reasons.h, which it includes, have more of them. Each
- * here but the two that count makes one call from above with the fields of a layout, or several. It returns the call's status,
- * and after any but ND_OK nothing has been written. The layout that is written comes last, and may be the one that is read.
- * ND_BAD_ARGUMENT, before every other status, also says that a layout has more than ND_MAX_AXES axes, or would have.
+ * The functions below are of this header, and not of the library; ndarray_layout_inline.h, ndarray_layout_cursors.h,
+ * ndarray_layout_rows.h, ndarray_layout_bytes.h, ndarray_layout_sharing.h and ndarray_layout_reasons.h, which it includes, have
+ * more of them. Each here but the two that count makes one call from above with the fields of a layout, or several. It returns
+ * the call's status, and after any but ND_OK nothing has been written. The layout that is written comes last, and may be the one
+ * that is read. ND_BAD_ARGUMENT, before every other status, also says that a layout has more than ND_MAX_AXES axes, or would have.
  *
  * ND_MAX_AXES is 32, or what a program defines it as before it includes this header: a number from 4 on, in digits alone. With
  * another number than 32 the types that have that room end with it, and none is declared without it: with 4 they are nd_layout_4,
@@ -1068,6 +1068,7 @@ ND_CHECKED((1, 4, 5)) int32_t nd_layout_split_at(const nd_layout *layout, size_t
 }
 
 #include "ndarray_layout_inline.h"
+#include "ndarray_layout_cursors.h"
 #include "ndarray_layout_rows.h"
 #include "ndarray_layout_bytes.h"
 #include "ndarray_layout_sharing.h"

@@ -135,6 +135,19 @@ public:
         return expect(try_from_byte_strides(data, len, shape, strides));
     }
 
+    // Of rows and columns: a plane of a buffer of so many elements, or one that is known by the pointer to its row 0, as `data[i]` of
+    // an AVFrame, and whose `offset` isn't looked at: nd_views_over_planes, nd_views_from_row0.
+    [[nodiscard]] static view over_plane(T *data, std::size_t len, const nd_plane &plane) {
+        return expect(try_over_plane(data, len, plane));
+    }
+    [[nodiscard]] static result<view> try_over_plane(T *data, std::size_t len, const nd_plane &plane) {
+        return made_of(plane, {sizeof(T), len}, 1, [&](const nd_view &) { return data; });
+    }
+    [[nodiscard]] static view from_row0(T *row0, const nd_plane &plane) { return expect(try_from_row0(row0, plane)); }
+    [[nodiscard]] static result<view> try_from_row0(T *row0, const nd_plane &plane) {
+        return made_of(plane, {sizeof(T), 0}, 0, [&](const nd_view &of) { return row0 - of.layout.start; });
+    }
+
     [[nodiscard]] const nd_view &as_c() const { return view_; }
     [[nodiscard]] T *data() const { return data_; }
     [[nodiscard]] std::size_t axes() const { return view_.layout.axes; }
@@ -323,6 +336,13 @@ private:
         const auto status = nd_view_from_strides(shape.begin(), shape.size(), strides, count, buffer, mode, &to);
         if (status == ND_OK) return view(data, to);
         return refused(status, [&](nd_reason *reason) { return why(shape, strides, count, len, reason); });
+    }
+    template <class Data>
+    static result<view> made_of(const nd_plane &plane, nd_data buffer, int has_data, Data data) {
+        nd_view to;
+        const auto status = nd_views_of_planes(&plane, 1, buffer, has_data, mode, &to);
+        if (status != ND_OK) return refusal{fault{status}};
+        return view(data(to), to);
     }
     // A view over the same elements, of the layout that a call makes, or why it makes none.
     template <class Element, class Call, class Why, class... Arguments>

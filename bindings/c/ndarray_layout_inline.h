@@ -72,7 +72,9 @@ ND_CHECKED((1, 3)) int nd_put_lists(const nd_view *view, int32_t order, nd_lists
  * two elements may share a byte, ND_OVERFLOW counts bytes, and ND_OUT_OF_MEMORY may come where there are more than three
  * axes.
  *
- * (3), strides (3), over bytes, of 4 bytes: ND_OK read-only, ND_UNSUPPORTED owned.
+ *    view: (3), strides (3), over 10, of 4 bytes
+ *    nd_view_check(&view, ND_READ_ONLY) == ND_OK
+ *    nd_view_check(&view, ND_OWNED) == ND_UNSUPPORTED
  */
 ND_CHECKED((1)) int32_t nd_view_check(const nd_view *view, int32_t mode) {
     const nd_layout *const of = &view->layout;
@@ -132,12 +134,15 @@ ND_CHECKED((7)) int32_t nd_view_from_strides(const size_t *shape, size_t shape_l
  *
  * For an element alone, and loops over two axes. A loop that reads costs what one by hand does that compares each place, and so
  * does one that writes through a view that the function has itself: made there, sliced there, or copied, `const nd_view own =
- * *view;`. Through a pointer to a view that another function has, writes of bytes cost two to four times as much: see cursors
- * below. A loop that reads neighbours of each element, as a blur does, takes a window of rows by nd_cursor_row, one row for each
- * line that it reads, as the project's bindings/c/examples/blur.c. The mean of 3x3 bytes of 1920x1080 by nd_at, through a pointer,
- * takes 2 times a loop by hand that compares nothing by gcc 12 -O2, and 24 to 29 times by -O3 or clang 14; by three rows 1.0 times.
+ * *view;`. Through a pointer to a view that another function has, writes of bytes cost two to four times as much: take a cursor.
+ * A loop that reads neighbours of each element, as a blur does, takes a window of rows by nd_cursor_row, one row for each line
+ * that it reads, as the project's bindings/c/examples/blur.c. The mean of 3x3 bytes of 1920x1088 by nd_at, through a pointer, takes
+ * 11 to 19 times a loop by hand that compares nothing, by gcc 12 and clang 14, -O2 and -O3; by three rows 1.0 times.
  *
- * Over 6 elements, (2,3), strides (-3,1): nd_at(&view, 1, 2) is 2, nd_at(&view, 2, 0) and nd_at(&view, 1) are ND_NO_PLACE.
+ *    view: (2,3), strides (-3,1), from 3, over 6
+ *    nd_at(&view, 1, 2) == 2
+ *    nd_at(&view, 2, 0) == ND_NO_PLACE
+ *    nd_at(&view, 1) == ND_NO_PLACE
  */
 ND_CHECKED((1)) ND_WRAPS size_t nd_at_n(const nd_view *view, const size_t *index, size_t count) {
     size_t place = view->layout.start, axis;
@@ -195,161 +200,6 @@ ND_CHECKED((1)) ND_WRAPS size_t nd_at4(const nd_view *view, size_t i, size_t j, 
 #define ND_AT_OF(i, j, k, l, name, ...) name
 #endif
 
-/* ---- Cursors: checked access in loops -------------------------------------------------------------------------------- */
-
-/*
- * What nd_at reads of a view, by value: for loops that write, as a picture's do by bytes. A write through a `char *` may change
- * a view as far as a compiler knows, which then reads it again for each element; a local cursor is no such thing. Its view has
- * been checked as a whole, so only coordinates are compared. Over many bytes take rows, nd_cursor_row: of a loop that compares
- * each coordinate compilers seldom make vectors, so clang 14 -O2 takes 19 to 29 times as long as by hand, and a copy by two cursors
- * 8 to 20 times by -O3 as well. The fields are to be read: where they are written, what the calls return is not said.
- *
- *     nd_cursor2 at;
- *     if (nd_view_cursor2(&view, &at) != ND_OK) return;
- *     for (i = 0; i < at.shape[0]; i++)
- *         for (j = 0; j < at.shape[1]; j++) pixels[nd_cursor_at(at, i, j)] = 0;
- *
- * A function takes a cursor by value, as `static void clear(unsigned char *pixels, nd_cursor2 at)`: it is 5 numbers for two axes.
- */
-typedef struct nd_cursor1 {
-    size_t start, shape[1];
-    ptrdiff_t strides[1];
-} nd_cursor1;
-
-typedef struct nd_cursor2 {
-    size_t start, shape[2];
-    ptrdiff_t strides[2];
-} nd_cursor2;
-
-typedef struct nd_cursor3 {
-    size_t start, shape[3];
-    ptrdiff_t strides[3];
-} nd_cursor3;
-
-typedef struct nd_cursor4 {
-    size_t start, shape[4];
-    ptrdiff_t strides[4];
-} nd_cursor4;
-
-/* (of this header alone) nd_view_check, read-only, of a view of so many axes. */
-ND_CHECKED((1)) int32_t nd_check_cursor(const nd_view *view, size_t axes) {
-    const int32_t status = nd_view_check(view, ND_READ_ONLY);
-    return status == ND_OK && view->layout.axes != axes ? ND_INCOMPATIBLE_SHAPE : status;
-}
-
-/* (of this header alone) The start, and each axis, of a cursor. */
-#define ND_PUT_CURSOR(view, count, cursor) \
-    do { \
-        size_t nd_axis; \
-        const int32_t nd_status = nd_check_cursor((view), (count)); \
-        if (nd_status != ND_OK) return nd_status; \
-        (cursor)->start = (view)->layout.start; \
-        for (nd_axis = 0; nd_axis < (count); nd_axis++) { \
-            (cursor)->shape[nd_axis] = (view)->layout.shape[nd_axis]; \
-            (cursor)->strides[nd_axis] = (view)->layout.strides[nd_axis]; \
-        } \
-        return ND_OK; \
-    } while (0)
-
-/*
- * Write the cursor of a view of 1 to 4 axes. The statuses of nd_view_check, read-only; then ND_INCOMPATIBLE_SHAPE for another
- * count of axes. After an error nothing has been written.
- */
-ND_CHECKED((1, 2)) int32_t nd_view_cursor1(const nd_view *view, nd_cursor1 *cursor) { ND_PUT_CURSOR(view, 1, cursor); }
-ND_CHECKED((1, 2)) int32_t nd_view_cursor2(const nd_view *view, nd_cursor2 *cursor) { ND_PUT_CURSOR(view, 2, cursor); }
-ND_CHECKED((1, 2)) int32_t nd_view_cursor3(const nd_view *view, nd_cursor3 *cursor) { ND_PUT_CURSOR(view, 3, cursor); }
-ND_CHECKED((1, 2)) int32_t nd_view_cursor4(const nd_view *view, nd_cursor4 *cursor) { ND_PUT_CURSOR(view, 4, cursor); }
-
-/* (of this header alone) How far a coordinate moves the place, modulo 2^64. */
-#define ND_MOVED(cursor, axis, coordinate) ((coordinate) * (size_t)(cursor).strides[axis])
-
-/*
- * nd_cursor_at(cursor, i, j, ..), with as many coordinates as the cursor has axes: what nd_at returns of its view. (A place of
- * an index is in the buffer, and so is never ND_NO_PLACE: a compiler is told, so that one test serves for both.)
- */
-ND_INLINE ND_USED ND_WRAPS size_t nd_cursor_at1(nd_cursor1 at, size_t i) {
-    const size_t place = at.start + ND_MOVED(at, 0, i);
-    if (i >= at.shape[0]) return ND_NO_PLACE;
-    ND_ASSUME(place != ND_NO_PLACE);
-    return place;
-}
-
-ND_INLINE ND_USED ND_WRAPS size_t nd_cursor_at2(nd_cursor2 at, size_t i, size_t j) {
-    const size_t place = at.start + ND_MOVED(at, 0, i) + ND_MOVED(at, 1, j);
-    if (i >= at.shape[0]) return ND_NO_PLACE;
-    if (j >= at.shape[1]) return ND_NO_PLACE;
-    ND_ASSUME(place != ND_NO_PLACE);
-    return place;
-}
-
-ND_INLINE ND_USED ND_WRAPS size_t nd_cursor_at3(nd_cursor3 at, size_t i, size_t j, size_t k) {
-    const size_t place = at.start + ND_MOVED(at, 0, i) + ND_MOVED(at, 1, j) + ND_MOVED(at, 2, k);
-    if (i >= at.shape[0] || j >= at.shape[1]) return ND_NO_PLACE;
-    if (k >= at.shape[2]) return ND_NO_PLACE;
-    ND_ASSUME(place != ND_NO_PLACE);
-    return place;
-}
-
-ND_INLINE ND_USED ND_WRAPS size_t nd_cursor_at4(nd_cursor4 at, size_t i, size_t j, size_t k, size_t l) {
-    const size_t outer = at.start + ND_MOVED(at, 0, i) + ND_MOVED(at, 1, j);
-    const size_t place = outer + ND_MOVED(at, 2, k) + ND_MOVED(at, 3, l);
-    if (i >= at.shape[0] || j >= at.shape[1] || k >= at.shape[2]) return ND_NO_PLACE;
-    if (l >= at.shape[3]) return ND_NO_PLACE;
-    ND_ASSUME(place != ND_NO_PLACE);
-    return place;
-}
-
-/* Elements at the places `start`, `start + stride`, .., of which there are `len`. */
-typedef struct nd_row {
-    size_t start;
-    size_t len;
-    ptrdiff_t stride;
-} nd_row;
-
-/* (of this header alone) A row, or none: of no length. */
-ND_INLINE ND_USED nd_row nd_put_row(int is_row, size_t start, size_t len, ptrdiff_t stride) {
-    nd_row row = {0, 0, 0};
-    if (!is_row) return row;
-    row.start = start;
-    row.len = len;
-    row.stride = stride;
-    return row;
-}
-
-/*
- * nd_cursor_row(cursor, i, ..), with a coordinate less than the cursor has axes: the row along the last axis there, after one
- * test for all of its elements. Where it is no row of the cursor, `len` is 0. The loop over it is the caller's own: over 1920x1080
- * bytes fills, inversions and copies take at most 1.1 times a loop by hand with strides that are known at run time, and as many
- * instructions, by gcc 12 and clang 14, -O2 and -O3.
- *
- *     for (i = 0; i < at.shape[0]; i++) {
- *         const nd_row row = nd_cursor_row(at, i);
- *         unsigned char *const first = pixels + row.start;
- *         for (j = 0; j < row.len; j++) first[(ptrdiff_t)j * row.stride] = 0;
- *     }
- */
-ND_INLINE ND_USED ND_WRAPS nd_row nd_cursor_row2(nd_cursor2 at, size_t i) {
-    return nd_put_row(i < at.shape[0], at.start + ND_MOVED(at, 0, i), at.shape[1], at.strides[1]);
-}
-
-ND_INLINE ND_USED ND_WRAPS nd_row nd_cursor_row3(nd_cursor3 at, size_t i, size_t j) {
-    return nd_put_row(i < at.shape[0] && j < at.shape[1], at.start + ND_MOVED(at, 0, i) + ND_MOVED(at, 1, j), at.shape[2],
-                      at.strides[2]);
-}
-
-ND_INLINE ND_USED ND_WRAPS nd_row nd_cursor_row4(nd_cursor4 at, size_t i, size_t j, size_t k) {
-    const int is_row = i < at.shape[0] && j < at.shape[1] && k < at.shape[2];
-    const size_t outer = at.start + ND_MOVED(at, 0, i) + ND_MOVED(at, 1, j);
-    return nd_put_row(is_row, outer + ND_MOVED(at, 2, k), at.shape[3], at.strides[3]);
-}
-
-#ifdef nd_at
-#define nd_cursor_at(cursor, ...) \
-    ND_AT_OF(__VA_ARGS__, nd_cursor_at4, nd_cursor_at3, nd_cursor_at2, nd_cursor_at1, )((cursor), __VA_ARGS__)
-#define nd_cursor_row(cursor, ...) \
-    ND_AT_OF(__VA_ARGS__, nd_cursor_row5, nd_cursor_row4, nd_cursor_row3, nd_cursor_row2, )((cursor), __VA_ARGS__)
-#endif
-
 /* ---- Elements of slices ---------------------------------------------------------------------------------------------- */
 
 /*
@@ -378,8 +228,13 @@ ND_INLINE ND_USED ND_WRAPS nd_row nd_cursor_row4(nd_cursor4 at, size_t i, size_t
  * in which they lie. There ND_OVERFLOW counts bytes, and ND_OUT_OF_MEMORY may come where there are more than three axes. Of
  * strides in bytes without an index nd_view_is_contiguous reads how many elements they count, rounded towards 0.
  *
- * Over bytes, (2,3), strides (12,4): of 4 bytes 0, 1, 1, 0 and the stretch from 0 to 24; of 2 bytes 0, 0, 0, 0 and none; of 5
- * bytes, read-only, 1, 0, 0, 0 and none.
+ *    view: (2,3), strides (12,4), over 24, of 4 bytes
+ *    nd_view_is_contiguous(&view, &answer) == 1
+ *    nd_view_is_layout_f(&view, &answer) == 0
+ *    less: (2,3), strides (12,4), over 24, of 2 bytes
+ *    nd_view_is_contiguous(&less, &answer) == 0
+ *    more: (2,3), strides (12,4), over 25, of 5 bytes
+ *    nd_view_has_overlap(&more, &answer) == 1
  */
 ND_CHECKED((1, 2)) int32_t nd_view_has_overlap(const nd_view *view, int32_t *answer) {
     nd_lists lists;

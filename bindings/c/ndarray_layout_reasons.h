@@ -188,7 +188,10 @@ ND_CHECKED((1, 3)) int32_t nd_reason_of_layout_from(const nd_layout *layout, siz
  * writes a reason and returns ND_OK; or it writes nothing and returns ND_BAD_ARGUMENT for a mode, an order, a fit or a kind of
  * element, or ND_OUT_OF_MEMORY, as nd_layout_start_reason does.
  *
- * (2,3) sliced by `0,9`: ND_RULE_INDEX, axis 1, number 9, size 3. (1, .., 1) of 33 axes: ND_BAD_ARGUMENT, ND_RULE_ROOM, size 33.
+ *    view: (2,3), strides (3,1)
+ *    const nd_slice_elem elems[2] = {ND_INDEX(0), ND_INDEX(9)};
+ *    nd_layout_slice_reason(&view.layout, elems, 2, ND_STRICT, &reason) == ND_OUT_OF_BOUNDS, ND_RULE_INDEX, axis 1, number 9,
+ *        size 3
  */
 ND_CHECKED((1, 4)) int32_t nd_layout_check_reason(const nd_layout *layout, nd_data data, int32_t mode, nd_reason *reason) {
     if (nd_has_no_room(layout->axes, reason)) return ND_OK;
@@ -270,8 +273,12 @@ ND_CHECKED((7)) int32_t nd_view_from_strides_reason(const size_t *shape, size_t 
  * past the limit is ND_RULE_BYTES, of size 1. ND_BAD_ARGUMENT for a mode that is none, or an `elem_size` of 0; ND_OUT_OF_MEMORY
  * as nd_layout_start_reason, where there are more than three axes.
  *
- * (3), strides (7), from 2, of 4 bytes, over 19 bytes: ND_OUT_OF_BOUNDS, ND_RULE_LENGTH, size 19, other 19. (3), strides (7), of
- * 8 bytes, owned: ND_UNSUPPORTED, ND_RULE_ALIAS, axis 0, number 7, size 7.
+ *    const size_t shape[1] = {3};
+ *    const ptrdiff_t strides[1] = {7};
+ *    nd_view_over_bytes_reason(2, shape, 1, strides, 1, 4, 19, ND_READ_ONLY, &reason) == ND_OUT_OF_BOUNDS, ND_RULE_LENGTH,
+ *        unit ND_BYTES, size 19, other 19
+ *    nd_view_over_bytes_reason(0, shape, 1, strides, 1, 8, 99, ND_OWNED, &reason) == ND_UNSUPPORTED, ND_RULE_ALIAS, axis 0,
+ *        unit ND_BYTES, number 7, size 7
  */
 ND_CHECKED((9)) int32_t nd_view_over_bytes_reason(size_t offset, const size_t *shape, size_t shape_len,
                                                   const ptrdiff_t *byte_strides, size_t strides_len, size_t elem_size,

@@ -41,7 +41,8 @@ ND_CHECKED((1, 4)) int32_t nd_join_after(const nd_layout *layout, int32_t order,
  *
  * ND_BAD_ARGUMENT for the order or the axes; then the statuses of nd_has_overlap.
  *
- * (4,2,3), strides (12,3,1), row-major: (4,6), strides (12,1). (2,3), strides (3,1): (6), stride 1.
+ *    view: (4,2,3), strides (12,3,1)
+ *    nd_layout_join_axes(&view.layout, ND_ROW_MAJOR, &made) == (4,6), strides (12,1)
  */
 ND_CHECKED((1, 3)) int32_t nd_layout_join_axes(const nd_layout *layout, int32_t order, nd_layout *joined) {
     nd_layout made;
@@ -130,7 +131,12 @@ ND_CHECKED((1)) nd_joined nd_fastest(const nd_layout *layout, int32_t order) {
  * ND_BAD_ARGUMENT for the order or the axes; then the statuses of nd_view_check, read-only: an edited layout that leaves its
  * buffer is refused, and each row lies in it.
  *
- * From 3, (2,3), strides (-3,1): two rows of length 3 and stride 1, from 3 and from 0.
+ *    view: (2,3), strides (-3,1), from 3, over 6
+ *    nd_row_iter rows;
+ *    nd_view_rows(&view, ND_ROW_MAJOR, &rows) == ND_OK
+ *    nd_next_row(&rows, &row) == {3, 3, 1}
+ *    nd_next_row(&rows, &row) == {0, 3, 1}
+ *    nd_next_row(&rows, &row) == 0
  */
 ND_CHECKED((1, 3)) int32_t nd_view_rows(const nd_view *view, int32_t order, nd_row_iter *rows) {
     int32_t status = nd_is_order(order) ? ND_OK : ND_BAD_ARGUMENT;
@@ -147,7 +153,10 @@ ND_CHECKED((1, 3)) int32_t nd_view_rows(const nd_view *view, int32_t order, nd_r
  * The rows of nd_view_rows along all axes that nd_joined_in_all joins: fewer rows, with the same places in the same order. For
  * loops that don't ask where a row ends.
  *
- * (100,200,3), strides (2400,3,1): 100 rows of 600, of 20,000 of 3.
+ *    view: (100,200,3), strides (2400,3,1)
+ *    nd_row_iter rows;
+ *    nd_view_joined_rows(&view, ND_ROW_MAJOR, &rows) == ND_OK
+ *    nd_next_row(&rows, &row) == {0, 600, 1}
  */
 ND_CHECKED((1, 3)) int32_t nd_view_joined_rows(const nd_view *view, int32_t order, nd_row_iter *rows) {
     int32_t status = nd_is_order(order) ? ND_OK : ND_BAD_ARGUMENT;
@@ -293,7 +302,13 @@ ND_INLINE void nd_put_pointers(const nd_view *views, size_t count, const nd_view
  * ND_BAD_ARGUMENT for the order, the count or the axes; then the statuses of nd_view_check, read-only, of each view; then
  * ND_INCOMPATIBLE_SHAPE where a view has another shape than the first one: nd_views_reason says which.
  *
- * (100,200,3), strides (2400,3,1) and (600,3,1): 100 rows of 600; the second view alone has 1 of 60,000.
+ *    part: (100,200,3), strides (2400,3,1)
+ *    whole: (100,200,3), strides (600,3,1)
+ *    nd_rows_iter rows;
+ *    nd_views_joined_rows((const nd_view[]){part, whole}, 2, ND_ROW_MAJOR, &rows) == ND_OK
+ *    rows.len == 600
+ *    nd_views_joined_rows(&whole, 1, ND_ROW_MAJOR, &rows) == ND_OK
+ *    rows.len == 60000
  */
 ND_CHECKED((1, 4)) int32_t nd_views_joined_rows(const nd_view *views, size_t count, int32_t order, nd_rows_iter *rows) {
     const nd_view *pointers[ND_MAX_VIEWS] = {0}; /* (as compilers warn of the rest) */
@@ -307,8 +322,10 @@ ND_CHECKED((1, 4)) int32_t nd_views_joined_rows(const nd_view *views, size_t cou
  *
  * ND_BAD_ARGUMENT for the count or the axes.
  *
- * (2,3), (2,3) and (2,4): ND_INCOMPATIBLE_SHAPE, ND_RULE_OTHER_LENGTH, axis 1, number 2, size 4, other 3. (2,3) and (2):
- * ND_RULE_COUNT, ND_LIST_VIEW, number 1, size 1, other 2.
+ *    one: (2,3), strides (3,1)
+ *    wider: (2,4), strides (4,1)
+ *    nd_views_reason((const nd_view[]){one, one, wider}, 3, &reason) == ND_INCOMPATIBLE_SHAPE, ND_RULE_OTHER_LENGTH, axis 1,
+ *        number 2, size 4, other 3
  */
 ND_CHECKED((1, 3)) int32_t nd_views_reason(const nd_view *views, size_t count, nd_reason *reason) {
     const nd_view *pointers[ND_MAX_VIEWS] = {0};

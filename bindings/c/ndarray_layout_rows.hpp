@@ -241,6 +241,9 @@ private:
     bool has_row_ = false;
 };
 
+template <class T>
+class tiles;
+
 // The elements of a view of so many axes, by value: for loops that write, as a picture's do by bytes. A write through a `char *`
 // may change a view that is passed by reference as far as a compiler knows, which then reads it again for each element; a cursor
 // is no such thing. `const auto at = view.cursor<2>();`, and in the loop `at.row(y)` or `at(y, x)`; or a parameter, to which a view is
@@ -255,6 +258,10 @@ public:
             shape_[axis] = layout.shape[axis];
             strides_[axis] = layout.strides[axis];
         }
+    }
+    cursor(T *data, const nd_cursor2 &of)
+        : data_(data), start_(of.start), shape_{of.shape[0], of.shape[1]}, strides_{of.strides[0], of.strides[1]} {
+        static_assert(Axes == 2, "parts and tiles have two axes");
     }
     template <class Other, class = std::enable_if_t<std::is_same_v<const Other, T>>>
     cursor(const cursor<Other, Axes> &other)
@@ -288,10 +295,34 @@ public:
         return {data_ + start, nd_row{start, shape_[Axes - 1], strides_[Axes - 1]}};
     }
 
+    // Of two axes: the part of so many rows and columns from a row and a column on, after four comparisons; and all tiles of so
+    // many, `for (const auto tile : at.tiles(16, 16))`, of which those at the right and at the bottom have what is left. Compilers
+    // make vectors of a loop over one where it takes constant lengths.
+    template <class Top, class Left, class Rows, class Columns>
+    [[nodiscard]] cursor crop(Top top, Left left, Rows rows, Columns columns) const {
+        const std::size_t high = coordinate(rows), wide = coordinate(columns);
+        const nd_cursor2 part = nd_cursor2_crop(as_c(), coordinate(top), coordinate(left), high, wide);
+        if (part.shape[0] != high || part.shape[1] != wide) refuse(ND_OUT_OF_BOUNDS);
+        return {data_, nd_cursor2{part.start, {high, wide}, {part.strides[0], part.strides[1]}}}; // (lengths that compilers know)
+    }
+    template <class Rows, class Columns>
+    [[nodiscard]] nd::tiles<T> tiles(Rows rows, Columns columns) const {
+        return {data_, nd_cursor2_tiles(as_c(), coordinate(rows), coordinate(columns))};
+    }
+    [[nodiscard]] nd_cursor2 as_c() const {
+        static_assert(Axes == 2, "parts and tiles have two axes");
+        return {start_, {shape_[0], shape_[1]}, {strides_[0], strides_[1]}};
+    }
+
 private:
     template <class, std::size_t>
     friend class cursor;
     using axes = std::make_index_sequence<Axes>;
+    template <class Number>
+    static std::size_t coordinate(Number number) {
+        ND_EXPECT_COORDINATES(is_coordinate_v<Number>);
+        return static_cast<std::size_t>(number);
+    }
     template <std::size_t... Axis, class... Coordinates>
     bool is_index(std::index_sequence<Axis...>, Coordinates... coordinates) const {
         static_assert(sizeof...(Coordinates) == sizeof...(Axis), "one coordinate for each axis, of a row for each but the last");
@@ -311,6 +342,41 @@ private:
     std::size_t start_;
     std::array<std::size_t, Axes> shape_{};
     std::array<std::ptrdiff_t, Axes> strides_{};
+};
+
+// The tiles of a cursor of two axes, an input range.
+template <class T>
+class tiles {
+public:
+    struct sentinel {};
+    class iterator {
+    public:
+        using iterator_category = std::input_iterator_tag;
+        using value_type = cursor<T, 2>;
+        using difference_type = std::ptrdiff_t;
+        using pointer = void;
+        using reference = value_type;
+        iterator(T *data, const nd_tiles2 &left) : data_(data), left_(left) { ++*this; }
+        value_type operator*() const { return {data_, now_}; }
+        iterator &operator++() { return has_tile_ = nd_next_tile2(&left_, &now_) != 0, *this; }
+        void operator++(int) { ++*this; }
+        friend bool operator==(const iterator &at, sentinel) { return !at.has_tile_; }
+        friend bool operator!=(const iterator &at, sentinel) { return at.has_tile_; }
+
+    private:
+        T *data_;
+        nd_tiles2 left_;
+        nd_cursor2 now_{};
+        bool has_tile_ = false;
+    };
+
+    tiles(T *data, const nd_tiles2 &all_of) : data_(data), all_of_(all_of) {}
+    iterator begin() const { return {data_, all_of_}; }
+    sentinel end() const { return {}; }
+
+private:
+    T *data_;
+    nd_tiles2 all_of_;
 };
 
 ND_END_SIZED

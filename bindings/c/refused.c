@@ -26,6 +26,8 @@ static nd_cursor1 first;
 static nd_cursor2 second;
 static nd_cursor3 third;
 static nd_cursor4 fourth;
+static nd_tiles2 tiles;
+static nd_plane plane;
 static const nd_view *const both[2] = {&view, &other};
 static nd_reason reason;
 static size_t room[4];
@@ -109,10 +111,18 @@ void unused(void) {
     nd_view_cursor2(&view, &second); /* unused */
     nd_view_cursor3(&view, &third); /* unused */
     nd_view_cursor4(&view, &fourth); /* unused */
+    nd_views_cursor2(&view, 1, &second); /* unused */
     nd_cursor_at1(first, 2); /* unused */
     nd_cursor_at2(second, 2, 2); /* unused */
     nd_cursor_at3(third, 2, 2, 2); /* unused */
     nd_cursor_at4(fourth, 2, 2, 2, 2); /* unused */
+    nd_put_row(1, 2, 2, 1); /* unused */
+    nd_cursor_row2(second, 2); /* unused */
+    nd_cursor_row3(third, 2, 2); /* unused */
+    nd_cursor_row4(fourth, 2, 2, 2); /* unused */
+    nd_cursor2_crop(second, 2, 2, 2, 2); /* unused */
+    nd_cursor2_tiles(second, 2, 2); /* unused */
+    nd_next_tile2(&tiles, &second); /* unused */
     nd_view_has_overlap(&view, &number); /* unused */
     nd_view_is_contiguous(&view, &number); /* unused */
     nd_view_is_layout_c(&view, &number); /* unused */
@@ -128,6 +138,7 @@ void unused(void) {
     nd_view_rows(&view, 1, &rows); /* unused */
     nd_view_joined_rows(&view, 1, &rows); /* unused */
     nd_next_row(&rows, &row); /* unused */
+    nd_fastest(&layout, 1); /* unused */
     nd_is_order(1); /* unused */
     nd_axis_after(1, 2, 1); /* unused */
     nd_join_after(&layout, 1, 0, &axis); /* unused */
@@ -164,6 +175,11 @@ void unused(void) {
     nd_put_bytes(sizes, 2, strides, 2, 2, 2, &other); /* unused */
     nd_view_over_bytes(2, sizes, 2, strides, 2, 2, 2, 1, &other); /* unused */
     nd_view_from_byte_strides(sizes, 2, strides, 2, 2, 2, 1, &other); /* unused */
+    nd_put_plane(&plane, 2, 1, &made); /* unused */
+    nd_view_of_plane(&plane, data, 1, 1, &other); /* unused */
+    nd_views_of_planes(&plane, 1, data, 1, 1, &other); /* unused */
+    nd_views_over_planes(&plane, 1, 2, 2, 1, &other); /* unused */
+    nd_views_from_row0(&plane, 1, 2, 1, &other); /* unused */
 }
 
 size_t nulls(void) {
@@ -262,6 +278,14 @@ size_t nulls(void) {
     used += (size_t)nd_put_bytes(sizes, 2, strides, 2, 2, 2, NULL); /* null */
     used += (size_t)nd_view_over_bytes(2, sizes, 2, strides, 2, 2, 2, 1, NULL); /* null */
     used += (size_t)nd_view_from_byte_strides(sizes, 2, strides, 2, 2, 2, 1, NULL); /* null */
+    used += (size_t)nd_views_cursor2(NULL, 1, &second); /* null */
+    used += (size_t)nd_views_cursor2(&view, 1, NULL); /* null */
+    used += (size_t)nd_next_tile2(NULL, &second); /* null */
+    used += (size_t)nd_next_tile2(&tiles, NULL); /* null */
+    used += (size_t)nd_views_over_planes(NULL, 1, 2, 2, 1, &other); /* null */
+    used += (size_t)nd_views_over_planes(&plane, 1, 2, 2, 1, NULL); /* null */
+    used += (size_t)nd_views_from_row0(NULL, 1, 2, 1, &other); /* null */
+    used += (size_t)nd_views_from_row0(&plane, 1, 2, 1, NULL); /* null */
     return used;
 }
 

@@ -28,6 +28,16 @@ int coordinates(const nd::view<int> &view) {
     return sum;
 }
 
+// So are those of parts and tiles, which cursors of two axes have.
+std::size_t parts(nd::cursor<int, 2> at, nd::cursor<int, 3> cube) {
+    std::size_t sum = at.crop(0, RED, 1u, 'a').length(0);
+    sum += at.crop(0, 0.5, 1, 1).length(0);       // refused
+    sum += at.crop(0, 0, true, 1).length(0);      // refused
+    sum += (*at.tiles(2, 0.5f).begin()).length(0); // refused
+    sum += cube.crop(0, 0, 1, 1).length(0);       // refused
+    return sum;
+}
+
 // So are bounds, steps and indices of slices.
 std::ptrdiff_t elems() {
     std::ptrdiff_t sum = nd::index(1).start + nd::index(2u).start + nd::range(RED, 2LL, 'a').end + nd::from(short{1}).start;

@@ -306,7 +306,69 @@ static void test_beside_marks(void) {
     CHECK(shared > 2000 && dense[0] > 2000 && dense[1] > 2000 && ordered[0] > 1000 && ordered[1] > 200);
 }
 
+/* Planes of a buffer, and of row 0 alone: statuses in their order, and views that no status has written. */
+static void test_planes(void) {
+    const nd_plane yuv[3] = {{0, 4, 1, 2, 4}, {8, 2, 1, 1, 2}, {10, 2, 1, 1, 2}};
+    nd_plane packed[3] = {{0, 8, 2, 2, 4}, {1, 8, 4, 2, 2}, {3, 8, 4, 2, 2}}, up = {99, -6, 1, 2, 4};
+    nd_view views[3];
+    memset(views, 7, sizeof views);
+    CHECK(nd_views_over_planes(yuv, 3, 1, 11, ND_OWNED, views) == ND_OUT_OF_BOUNDS && views[0].layout.start != 0);
+    CHECK(nd_views_over_planes(yuv, 3, 0, 12, ND_OWNED, views) == ND_BAD_ARGUMENT && views[0].layout.start != 0);
+    CHECK(nd_views_over_planes(yuv, 0, 1, 0, ND_OWNED, views) == ND_OK && views[0].layout.start != 0);
+    CHECK(nd_views_over_planes(yuv, 3, 1, 12, ND_OWNED, views) == ND_OK && nd_at2(&views[2], 0, 1) == 11 && views[1].data.len == 12);
+    CHECK(nd_views_over_planes(packed, 3, 1, 16, ND_OWNED, views) == ND_OK);
+    CHECK(nd_at2(&views[0], 1, 3) == 14 && nd_at2(&views[1], 1, 1) == 13 && nd_at2(&views[2], 1, 1) == 15);
+    CHECK(nd_views_over_planes(packed, 3, 2, 32, ND_OWNED, views) == ND_INCOMPATIBLE_LAYOUT);
+    packed[0].offset = 2;
+    CHECK(nd_views_over_planes(packed, 1, 2, 18, ND_OWNED, views) == ND_OK && views[0].layout.start == 1 && views[0].data.len == 9);
+    CHECK(nd_views_over_planes(packed, 1, 2, 17, ND_OWNED, views) == ND_OUT_OF_BOUNDS && views[0].layout.start == 1);
+    packed[0].pitch = 9;
+    CHECK(nd_views_over_planes(packed, 1, 2, 99, ND_OWNED, views) == ND_INCOMPATIBLE_LAYOUT);
+    packed[0].pitch = 4;
+    CHECK(nd_views_over_planes(packed, 1, 2, 99, ND_OWNED, views) == ND_UNSUPPORTED);
+    CHECK(nd_views_over_planes(packed, 1, 2, 99, 2, views) == ND_BAD_ARGUMENT && nd_views_from_row0(&up, 1, 1, 2, views) == ND_BAD_ARGUMENT);
+    CHECK(nd_views_over_planes(&up, 1, 1, 200, ND_OWNED, views) == ND_OK && nd_at2(&views[0], 1, 0) == 93);
+    CHECK(nd_views_over_planes(&up, 1, 1, 102, ND_OWNED, views) == ND_OUT_OF_BOUNDS);
+    CHECK(nd_views_from_row0(&up, 1, 1, ND_OWNED, views) == ND_OK && views[0].layout.start == 6 && views[0].data.len == 10);
+    up.rows = 0;
+    CHECK(nd_views_from_row0(&up, 1, 1, ND_OWNED, views) == ND_OK && nd_layout_size(&views[0].layout) == 0);
+    up.rows = (size_t)-1 / 2;
+    CHECK(nd_views_from_row0(&up, 1, 1, ND_OWNED, views) == ND_OVERFLOW);
+}
+
+/* Planes of row 0 at random: all places lie in the buffer that the view says, from its first element to its last. */
+static void test_planes_from_row0(void) {
+    int round, found = 0;
+    for (round = 0; round < 20000; round++) {
+        const size_t size = 1 + below(3);
+        nd_plane plane;
+        nd_view view;
+        size_t row, column, least = (size_t)-1, greatest = 0;
+        plane.offset = below(50);
+        plane.rows = below(5);
+        plane.columns = below(5);
+        plane.pitch = (ptrdiff_t)(size * below(8)) * (below(2) == 0 ? 1 : -1);
+        plane.step = (ptrdiff_t)(size * below(4)) * (below(3) == 0 ? -1 : 1);
+        CHECK_QUIETLY(nd_views_from_row0(&plane, 1, size, ND_READ_ONLY, &view) == ND_OK && nd_view_check(&view, ND_READ_ONLY) == ND_OK);
+        for (row = 0; row < plane.rows; row++) {
+            for (column = 0; column < plane.columns; column++) {
+                const size_t place = nd_at2(&view, row, column);
+                const ptrdiff_t from = (ptrdiff_t)(place * size) - (ptrdiff_t)(view.layout.start * size);
+                CHECK_QUIETLY(from == (ptrdiff_t)row * plane.pitch + (ptrdiff_t)column * plane.step);
+                least = place < least ? place : least;
+                greatest = place > greatest ? place : greatest;
+            }
+        }
+        if (plane.rows * plane.columns == 0) continue;
+        CHECK_QUIETLY(least == 0 && greatest + 1 == view.data.len);
+        found++;
+    }
+    CHECK(found > 10000);
+}
+
 int main(void) {
+    test_planes();
+    test_planes_from_row0();
     test_bytes();
     test_bytes_beside_elements();
     test_elements();

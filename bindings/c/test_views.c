@@ -174,76 +174,6 @@ static void test_edited(void) {
     CHECK(sum == 0 && at_some > 5000 && rows_of_some > 5000);
 }
 
-/* The status of a cursor of as many axes as a view has, of 1 to 4, and what it has for an index: what `at` has of the view. */
-#define AT_CURSOR(type, of_view, at_index) \
-    do { \
-        type at; \
-        const int32_t status = of_view(view, &at); \
-        if (status == ND_OK) *place = at_index; \
-        return status; \
-    } while (0)
-
-static int32_t at_cursor(const nd_view *view, const size_t *index, size_t *place) {
-    switch (view->layout.axes) {
-    case 1: AT_CURSOR(nd_cursor1, nd_view_cursor1, nd_cursor_at1(at, index[0]));
-    case 2: AT_CURSOR(nd_cursor2, nd_view_cursor2, nd_cursor_at2(at, index[0], index[1]));
-    case 3: AT_CURSOR(nd_cursor3, nd_view_cursor3, nd_cursor_at3(at, index[0], index[1], index[2]));
-    default: AT_CURSOR(nd_cursor4, nd_view_cursor4, nd_cursor_at4(at, index[0], index[1], index[2], index[3]));
-    }
-}
-
-/* The row of a cursor of two or more axes. */
-#define ROW_OF(type, of_view, of_index) \
-    do { \
-        type at; \
-        if (of_view(view, &at) == ND_OK) row = of_index; \
-    } while (0)
-
-static nd_row cursor_row(const nd_view *view, const size_t *index) {
-    nd_row row = {7, 7, 7};
-    if (view->layout.axes == 2) ROW_OF(nd_cursor2, nd_view_cursor2, nd_cursor_row2(at, index[0]));
-    if (view->layout.axes == 3) ROW_OF(nd_cursor3, nd_view_cursor3, nd_cursor_row3(at, index[0], index[1]));
-    if (view->layout.axes == 4) ROW_OF(nd_cursor4, nd_view_cursor4, nd_cursor_row4(at, index[0], index[1], index[2]));
-    return row;
-}
-
-/* Whether the row there is what nd_at has of its first element, or none where the coordinates have no row. */
-static int is_cursor_row(const nd_view *view, size_t *index) {
-    const size_t last = view->layout.axes - 1;
-    const nd_row row = cursor_row(view, index);
-    size_t axis, len = view->layout.shape[last];
-    index[last] = 0;
-    for (axis = 0; axis < last; axis++)
-        if (index[axis] >= view->layout.shape[axis]) len = 0;
-    return row.len == len && (len == 0 || (row.start == at(view, index) && row.stride == view->layout.strides[last]));
-}
-
-static void test_cursors(void) {
-    int round, inside = 0, outside = 0;
-    nd_view view;
-    nd_cursor1 one;
-    nd_cursor2 two;
-    for (round = 0; round < 40000; round++) {
-        size_t index[4], axis, place = 7;
-        if (random_view(&view, 1, ND_READ_ONLY) != ND_OK || view.layout.axes == 0) continue;
-        for (axis = 0; axis < view.layout.axes; axis++)
-            index[axis] = below(12) == 0 ? (size_t)-1 - below(2) : below(view.layout.shape[axis] + (below(6) == 0) + 1);
-        CHECK_QUIETLY(at_cursor(&view, index, &place) == ND_OK && place == at(&view, index));
-        if (place == ND_NO_PLACE) outside++;
-        if (place != ND_NO_PLACE) inside++;
-        if (view.layout.axes > 1) CHECK_QUIETLY(is_cursor_row(&view, index));
-    }
-    CHECK(inside > 2000 && outside > 5000);
-    two.start = 7;
-    CHECK(nd_view_from_shape(LIST(two_three), ND_ROW_MAJOR, six_bytes, ND_OWNED, &view) == ND_OK);
-    CHECK(nd_view_cursor1(&view, &one) == ND_INCOMPATIBLE_SHAPE);
-    view.layout.start = 1;
-    CHECK(nd_view_cursor2(&view, &two) == ND_OUT_OF_BOUNDS && two.start == 7);
-    view.layout.start = 0;
-    CHECK(nd_view_cursor2(&view, &two) == ND_OK && two.shape[1] == 3 && nd_cursor_at2(two, 1, 2) == 5);
-    CHECK(nd_cursor_row2(two, 1).start == 3 && nd_cursor_row2(two, 1).len == 3 && nd_cursor_row2(two, 2).len == 0);
-}
-
 /* Whether the rows of a view have the places of nd_layout_places, in their order. */
 static int has_places_of_rows(const nd_view *view, int32_t order, nd_row_iter *rows) {
     size_t places[2304], count = nd_layout_size(&view->layout), at_place = 0, column;
@@ -514,7 +444,6 @@ int main(void) {
     test_at();
     test_at_beside_place();
     test_edited();
-    test_cursors();
     test_rows();
     test_rows_beside_places();
     test_elems();

@@ -101,6 +101,25 @@ static void test_cursors() {
     CHECK(cube.cursor<3>()(1, 2, 1) == 11 && cube(1, 2, 1) == 11 && five(0, 1, 0, 2, 1) == 11 && five.cursor<5>()(0, 1, 0, 2, 1) == 11);
 }
 
+// Parts and tiles of a cursor, and planes.
+static void test_parts() {
+    const nd::view<int> view(numbers.data(), 12, {3, 4});
+    const nd::cursor<const int, 2> at = view.slice({nd::from(0, -1), nd::all});
+    std::vector<int> sums, lengths;
+    CHECK(at.crop(1, 1, 2, 3)(0, 0) == 5 && at.crop(1, 1, 2, 3).row(1)[2] == 3 && at.crop(3, 4, 0, 0).length(0) == 0);
+    CHECK(refused([&] { (void)at.crop(1, 1, 3, 3); }) == ND_OUT_OF_BOUNDS && refused([&] { (void)at.crop(0, 2, 1, -1); }) == ND_OUT_OF_BOUNDS);
+    for (const nd::cursor<const int, 2> tile : at.tiles(2, 3)) {
+        sums.push_back(tile(0, 0));
+        lengths.push_back(static_cast<int>(10 * tile.length(0) + tile.length(1)));
+    }
+    CHECK((sums == std::vector{8, 11, 0, 3}) && (lengths == std::vector{23, 21, 13, 11}) && at.tiles(0, 1).begin() == at.tiles(0, 1).end());
+    const auto up = nd::view<int>::from_row0(&numbers[8], {0, -16, 4, 3, 4});
+    const auto even = nd::view<const int>::over_plane(numbers.data(), 12, {4, 16, 8, 3, 2});
+    CHECK(up(0, 1) == 9 && up(2, 0) == 0 && up.data() == numbers.data() && even(2, 1) == 11 && even(0, 0) == 1);
+    CHECK(nd::view<int>::try_over_plane(numbers.data(), 12, {8, 16, 8, 3, 3}).error().status == ND_OUT_OF_BOUNDS);
+    CHECK(nd::view<int>::try_from_row0(numbers.data(), {0, 16, 2, 3, 3}).error().status == ND_INCOMPATIBLE_LAYOUT);
+}
+
 // A view is passed as a cursor of its axes, of its elements or of const ones; a cursor of others isn't one of these.
 static int sum_of(nd::cursor<const int, 2> at) { return at(0, 1) + at(1, 0); }
 static void add_to(nd::cursor<int, 2> at, int number) { at(1, 0) += number; }
@@ -351,6 +370,7 @@ int main() {
     std::iota(numbers.begin(), numbers.end(), 0);
     test_views();
     test_cursors();
+    test_parts();
     test_views_as_cursors();
     test_elements_beside_places();
     test_elements_of_rows();
