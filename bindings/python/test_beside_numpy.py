@@ -1,6 +1,6 @@
 """`ndarray_layout` beside NumPy: random arrays, and the keys that it takes. Without NumPy it says that it is skipped.
 
-    NDARRAY_LAYOUT_LIB=.../libndarray_layout.so python3 test_beside_numpy.py
+    python3 test_beside_numpy.py
 """
 
 import random

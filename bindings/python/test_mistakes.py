@@ -65,15 +65,15 @@ class Mistakes(unittest.TestCase):
         print(f"test_texts: {len(table)} mistakes")
         self.assertGreaterEqual(len(table), 87)
 
-    def test_one_frame_is_ours(self):
-        """A traceback shows the caller's frames and one of the package, and no error that led to another."""
+    def test_at_most_one_frame_is_ours(self):
+        """A traceback shows the caller's frames and at most one of the package, and no error that led to another."""
         package = str(Path(nd.__file__).parent)
         for mistake, _ in mistakes():
             with self.subTest(mistake):
                 error = error_of(mistake)
                 frames = [frame.name for frame in traceback.extract_tb(error.__traceback__) if frame.filename.startswith(package)]
-                self.assertEqual(len(frames), 1)
-                self.assertEqual("".join(traceback.format_exception(error)).count(package), 1)
+                self.assertLessEqual(len(frames), 1)
+                self.assertLessEqual("".join(traceback.format_exception(error)).count(package), 1)
 
     def test_frames_of_callers_stay(self):
         """Where a caller's own iterator fails, its frames are shown."""

@@ -1,52 +1,29 @@
-"""The extension module `_native` beside the same calls by ctypes alone: the same results, and the same errors.
+"""What the module in C reads itself beside what it hands to the package: the same results, and the same errors.
 
     python3 test_native.py
 
-Each test asks random inputs of one kind twice, once with the functions of `_native` and once without, whichever the package uses by itself.
+Each test asks random inputs of one kind twice: as they are, and so that none is usual. Then functions of the package read them, in Python.
 """
 
 import gc
-import os
 import random
-import subprocess
 import sys
 import traceback
 import unittest
-from collections import Counter
 from types import SimpleNamespace
 
 import ndarray_layout as nd
-from ndarray_layout import Layout, Slice, _layout, _usual, _views
+from ndarray_layout import Layout, Slice, _native
 
 try:
     import numpy as np
 except ImportError:
     np = None
 
-try:
-    from ndarray_layout import _native
-except ImportError:
-    _native = None
-
 INPUTS = 10_000
-SKIPPED = "there is no _native: build_native makes it"
-PLACES = [
-    (_views, "sliced"),
-    (_layout, "intersect"),
-    (_usual, "intersect"),
-    (_usual, "share_chunk"),
-    (_usual, "_share"),
-    (_usual, "_share_keys"),
-    (_usual, "_share_place"),
-]
-"""Where the package calls a function of `_native`."""
-
-
-def setUpModule():
-    if _native is None:
-        print(SKIPPED)
-    elif _usual.native is None:
-        _native.bind(str(_usual.library_path), tuple(vars(_usual.Fields)[name] for name in _usual.FIELDS))
+SKIPPED = "NumPy is missing: its arrays are not asked"
+OTHER_WORK, OTHER_PARTS = 100_001, 1_000_001
+"""Limits that are none of the usual ones: with these Python code decides."""
 
 
 class Named(Layout):
@@ -60,16 +37,13 @@ class Number:
         self.number = number
 
     def __index__(self):
-        if isinstance(self.number, Exception):
+        if isinstance(self.number, BaseException) or isinstance(self.number, type):
             raise self.number
         return self.number
 
 
-class Interrupted:
-    """What is interrupted when its index is asked for."""
-
-    def __index__(self):
-        raise KeyboardInterrupt
+class Key(tuple):
+    """A key that the module in C doesn't read itself."""
 
 
 def outcome(call, arguments):
@@ -78,47 +52,24 @@ def outcome(call, arguments):
         found = call(*arguments)
     except Exception as error:
         said = [getattr(error, name, None) for name in ("kind", "axis", "numbers")]
-        is_ours = isinstance(error, (nd.LayoutError, TypeError))  # (others come of a caller's own code, whose frames stay)
-        return type(error), str(error), said, [frame.name for frame in traceback.extract_tb(error.__traceback__) if is_ours]
+        return type(error), str(error), said
     return type(found), found, getattr(found, "itemsize", None), getattr(found, "format", None)
 
 
-@unittest.skipIf(_native is None or np is None, SKIPPED)
-class BesideCtypes(unittest.TestCase):
+@unittest.skipIf(np is None, SKIPPED)
+class BesidePython(unittest.TestCase):
     """Calls of random inputs."""
 
-    def compare(self, call, inputs, least):
-        """Compares the calls, of which so many at least are usual."""
-        usual = Counter()
-
-        def counted(name):
-            function = getattr(_native, name.lstrip("_"))
-
-            def called(*arguments):
-                found = function(*arguments)
-                usual[found is not None] += 1
-                return found
-
-            return called
-
-        by_native = self.outcomes(call, inputs, counted)
-        by_ctypes = self.outcomes(call, inputs, lambda _: lambda *arguments: None)
-        for arguments, one, other in zip(inputs, by_native, by_ctypes):
-            self.assertEqual(one, other, arguments)
+    def compare(self, inputs, usual, other):
+        """Compares two calls of each input. More than a quarter have a result."""
+        results = 0
+        for arguments in inputs:
+            one, two = outcome(usual, arguments), outcome(other, arguments)
+            self.assertEqual(one, two, arguments)
+            results += not issubclass(one[0], Exception)
+        print(f"{self.id().rpartition('.')[2]}: {len(inputs)} inputs, {len(inputs) - results} errors")
         self.assertEqual(len(inputs), INPUTS)
-        self.assertGreaterEqual(usual[True], least)
-        errors = sum(issubclass(kind, Exception) for kind, *_ in by_native)
-        print(f"{self.id().rpartition('.')[2]}: {usual[True]} usual, {errors} errors")
-
-    def outcomes(self, call, inputs, function):
-        kept = [getattr(*place) for place in PLACES]
-        try:
-            for module, name in PLACES:
-                setattr(module, name, function(name))
-            return [outcome(call, arguments) for arguments in inputs]
-        finally:
-            for (module, name), value in zip(PLACES, kept):
-                setattr(module, name, value)
+        self.assertGreater(results, INPUTS // 4)
 
     # ---- Random arguments
 
@@ -171,35 +122,26 @@ class BesideCtypes(unittest.TestCase):
 
     # ---- Calls
 
+    def unusual(self, key):
+        return Key(key) if type(key) is tuple else Key((key,))
+
     def test_slices(self):
         numbers = random.Random("slices")
         layouts = [self.layout(numbers) for _ in range(INPUTS)]
         inputs = [(layout, self.key(numbers, layout.shape)) for layout in layouts]
-        self.compare(lambda layout, key: layout[key], inputs, INPUTS // 2)
+        self.compare(inputs, lambda layout, key: layout[key], lambda layout, key: layout[self.unusual(key)])
 
     def test_arrays(self):
         numbers, memory = random.Random("arrays"), np.zeros(1000, np.uint8)
         inputs = [(self.array(numbers, memory), self.array(numbers, memory)) for _ in range(INPUTS)]
         for at in range(0, INPUTS, 50):
             inputs[at] = inputs[at][0], numbers.choice((memory[0], [1], memory.data, Layout.of(memory), None, b"a", memory.view(np.recarray)))
-        self.compare(nd.share_element, inputs, INPUTS // 2)
-
-    def test_parts_of_one_array(self):
-        numbers, whole = random.Random("parts"), np.zeros((12, 9, 4), np.int32)
-        keys = [[self.key(numbers, whole.shape) for _ in range(2)] for _ in range(INPUTS)]
-        inputs = [tuple(numbers.choice((whole, whole.T[::-1]))[key] if self.is_basic(key) else whole for key in pair) for pair in keys]
-        self.compare(nd.shares_memory, inputs, INPUTS // 2)
-
-    def is_basic(self, key):
-        try:
-            return Layout.over(12 * 9 * 4, (12, 9, 4))[key].shape != () and Layout.over(12 * 9 * 4, (4, 9, 12))[key].shape != ()
-        except Exception:
-            return False
+        self.compare(inputs, nd.share_element, lambda a, b: nd.share_element(a, b, max_work=OTHER_WORK))
 
     def test_layouts(self):
         numbers = random.Random("layouts")
         inputs = [(self.layout(numbers), self.layout(numbers, 200 + (at % 50 == 0))) for at in range(INPUTS)]
-        self.compare(nd.share_element, inputs, INPUTS // 5)
+        self.compare(inputs, nd.share_element, lambda a, b: nd.share_element(a, b, max_work=OTHER_WORK))
 
     def test_keys_of_arrays(self):
         numbers, memory = random.Random("keys"), np.zeros(1000, np.uint8)
@@ -207,13 +149,18 @@ class BesideCtypes(unittest.TestCase):
         for at in range(INPUTS):
             array = np.zeros((5, 4, 3), "i4")[numbers.choice((..., 1, slice(None, None, -2)))] if at % 2 else self.array(numbers, memory)
             inputs.append((array, self.key(numbers, array.shape), self.key(numbers, array.shape)))
-        self.compare(nd.share_element, inputs, INPUTS // 4)
+        self.compare(inputs, nd.share_element, lambda a, first, second: nd.share_element(a, first, second, OTHER_WORK))
 
     def test_keys_of_layouts(self):
         numbers = random.Random("intersects")
         layouts = [self.layout(numbers) for _ in range(INPUTS)]
         inputs = [(layout, self.key(numbers, layout.shape), self.key(numbers, layout.shape)) for layout in layouts]
-        self.compare(Layout.intersects, inputs, INPUTS // 4)
+        self.compare(inputs, Layout.intersects, lambda layout, one, other: layout.intersects(self.unusual(one), self.unusual(other)))
+
+    def test_layouts_of_arrays(self):
+        numbers, memory = random.Random("of"), np.zeros(1000, np.uint8)
+        inputs = [(self.array(numbers, memory), memory if at % 2 else None) for at in range(INPUTS)]
+        self.compare(inputs, lambda a, base: Layout.of(a, base=base), lambda a, base: nd._layout.layout_of(Layout, a, base, None))
 
     def test_regions(self):
         numbers, inputs = random.Random("regions"), []
@@ -228,137 +175,85 @@ class BesideCtypes(unittest.TestCase):
             if numbers.random() < 0.05:
                 regions = numbers.choice((regions[:1], (*regions, 0), tuple(regions), iter(regions), {}, slice(2), [{"x": 0}, 0], 5))
             inputs.append((shape, regions if not hasattr(regions, "__next__") else (regions,), chunks))
-        self.compare(nd.first_conflict, inputs, INPUTS // 4)
+        self.compare(inputs, nd.first_conflict, lambda *asked: nd.first_conflict(*asked, max_parts=OTHER_PARTS))
 
 
-@unittest.skipIf(_native is None or np is None, SKIPPED)
+@unittest.skipIf(np is None, SKIPPED)
 class Alone(unittest.TestCase):
     """What the module itself does."""
 
-    SLOTS = tuple(vars(_usual.Fields)[name] for name in _usual.FIELDS)
-
-    def test_nothing_is_kept(self):
-        """1,000 calls keep no argument, no field of a layout and no object of their own, however they end."""
-        for name, *arguments in self.calls():
-            call, layouts = getattr(_native, name), [one for one in arguments if isinstance(one, Layout)]
-            fields = [getattr(layout, field, None) for layout in layouts for field in _usual.FIELDS]
-            watched = [value for value in (*arguments, *fields) if type(value) is not int or value > 256]  # (Python shares the others)
-            for _ in range(2):  # (what is made once is made in the first round)
-                before, blocks = [*map(sys.getrefcount, watched)], sys.getallocatedblocks()
-                for _ in range(1000):
-                    try:
-                        call(*arguments)
-                    except (TypeError, AttributeError, ImportError, KeyboardInterrupt):
-                        pass
-                after, more = [*map(sys.getrefcount, watched)], sys.getallocatedblocks() - blocks
-            self.assertEqual(before, after, (name, arguments))
-            self.assertLess(more, 500, (name, arguments))
-
     def calls(self):
-        """Calls of each function with usual arguments, with each that isn't usual, and with those that raise an error."""
-        a = np.zeros((6, 5, 4), "i4")
+        """Calls with usual arguments, with each that isn't usual, and with those that raise an error."""
+        a, wide = np.zeros((6, 5, 4), "i4"), (1,) * 45
         interface = {"version": 3, "typestr": "|u1", "shape": (0,), "data": (2**63, False)}
         nowhere = np.asarray(SimpleNamespace(__array_interface__=interface))  # (at an address without 63 bits)
         layout = Named(1000, (6, 5, 4), (20, 4, 1), length=2000, itemsize=4, format="format of items")
         keys = [(1, ..., slice(None, None, -1)), 2**70, (0, 0, 9), slice(0, "a"), (slice(2), None), (..., ...), (0,) * 4, [0], (None,) * 2000]
-        for key in (*keys, slice(Interrupted(), None)):
-            yield "sliced", layout, key
-            yield "intersect", layout.shape, 0, key
-            yield "share_chunk", layout.shape, key, 0, (2, 2, 2)
-            yield "share_keys", a, key, 0, np.ndarray
-        for shape in ([6, 5, 4], (6, -5, 4), (6, 2**70, 4), (6, "5", 4), (1,) * 40, (6, 0, 4), (6, 5)):
-            yield "intersect", shape, 0, 0
-            yield "share_chunk", layout.shape, 0, 1, shape
-        for count in range(len(self.SLOTS)):
-            yield "sliced", self.part_of(layout, count), 0
-            yield "share_place", layout, self.part_of(layout, count)
-        for one, other in ((a, a[1:]), (a, a[:0]), (a, 5), (5, a), (a, nowhere), (nowhere, a), (a, a.view(np.recarray))):
-            yield "share", one, other, np.ndarray
-        yield "share_keys", nowhere, 0, 1, np.ndarray
-        yield "share_place", layout, layout
-        yield "share_place", layout, (1, 2)
-        for path, slots in (("/nowhere.so", self.SLOTS), (str(_usual.library_path), self.SLOTS[:1]), (b"/nowhere.so", self.SLOTS), (1, ())):
-            yield "bind", path, slots
+        for key in (*keys, slice(Number(KeyboardInterrupt), None)):
+            yield layout.__getitem__, key
+            yield nd.share_element, a, key, 0
+            yield layout.intersects, key, 0
+            yield nd.first_conflict, layout.shape, [key, 0], (2, 2, 2)
+        for shape in ([6, 20], (6, -5, 4), (6, 2**70, 4), (6, "5", 4), wide, (-1, 6), (Number(120),), 7, "a"):
+            yield layout.reshape, shape
+            yield nd.default_strides, shape
+            yield nd.reshape, (6, 20), (20, 1), shape
+            yield nd.broadcast_shapes, shape, (6, 1)
+            yield Layout.over, 120, shape
+        for one, other in ((a, a[1:]), (a, a[:0]), (a, 5), (5, a), (a, nowhere), (nowhere, a), (a, a.view(np.recarray)), (layout, layout)):
+            yield nd.share_element, one, other
+        for array in (a, a[::-1, 1:], a.view("V4"), nowhere, np.zeros((1, 3)), 5, b"abc"):
+            yield Layout.of, array
+            yield nd.is_layout_c, array
+            yield nd.lay_over, array, 5
+        for call in (layout.squeeze, layout.diagonal, layout.transpose, layout.ravel, layout.swapaxes, nd.place, _native.reason):
+            yield call,
+            yield call, 1
+            yield call, 9, 9, 9
+        yield _native.address, a
+        yield _native.tensor, a
+        yield _native.reason, "slice", (2,), (1, 5, 0, 1), 0
 
-    def part_of(self, layout, count):
-        """A layout whose first fields alone are set."""
-        part = Named.__new__(Named)
-        for slot in self.SLOTS[:count]:
-            slot.__set__(part, slot.__get__(layout))
-        return part
+    def test_nothing_is_kept(self):
+        """1,000 calls keep no argument and no object of their own, however they end."""
+        for call, *arguments in self.calls():
+            watched = [value for value in arguments if type(value) is not int or value > 256]  # (Python shares the others)
+            for _ in range(2):  # (what is made once is made in the first round)
+                gc.collect()
+                before, blocks = [*map(sys.getrefcount, watched)], sys.getallocatedblocks()
+                for _ in range(1000):
+                    try:
+                        call(*arguments)
+                    except (Exception, KeyboardInterrupt):
+                        pass
+                gc.collect()
+                after, more = [*map(sys.getrefcount, watched)], sys.getallocatedblocks() - blocks
+            self.assertEqual(before, after, (call, arguments))
+            self.assertLess(more, 500, (call, arguments))
 
-    def test_keys_and_axes_past_the_room(self):
-        """There is room for 32 entries of a key and for 32 axes: with more of either no function answers, and ctypes does."""
-        a, none = np.zeros((1,) * 32), (None,)
-        for entries in (33, 100, 2_000):
-            for key in (none * entries, (*none * entries, 0), (..., *none * entries)):
-                self.assertIsNone(_native.sliced(Layout.over(9, 9), key))
-                self.assertIsNone(_native.intersect((9,), 0, key))
-                self.assertIsNone(_native.share_chunk((9,), key, 0, (2,)))
-                self.assertIsNone(_native.share_keys(a[(0,) * 31], key, 0, np.ndarray))
-        ones, wide = (1,) * 40, Layout.over(1, (1,) * 40)
-        deep = memoryview(b"a").cast("B", ones)
-        self.assertIsNone(_native.share(deep, deep, memoryview))
-        self.assertIsNone(_native.share_keys(deep, 0, 0, memoryview))
-        self.assertIsNone(_native.sliced(wide, 0))
-        self.assertIsNone(_native.share_place(wide, wide))
-        self.assertIsNone(_native.intersect(ones, 0, 0))
-        self.assertIsNone(_native.share_chunk(ones, 0, 0, ones))
-        self.assertIsNone(_native.sliced(Layout.over(1, (1,) * 32), (...,) * 32))
-        for axes, left in ((1, 32), (20, 40), (32, 64)):  # (of which the first has room: as many axes as entries)
-            found = _native.sliced(Layout.over(1, (1,) * axes), none * (left - axes))
-            self.assertEqual(found and found.shape, (1,) * left if left <= 32 else None)
-        self.assertEqual(Layout.over(9, 9)[none * 100].shape, (1,) * 100 + (9,))
-        self.assertIs(_native.share(a, a, np.ndarray), True)
-        self.assertIs(_native.share_keys(a, none * 32, 0, np.ndarray), True)
-
-    def test_counts_that_differ(self):
-        """No strides and no chunks are read past those that are there."""
-        for chunks in ((), (6, 5), (6, 5, 4, 1)):
-            self.assertIsNone(_native.share_chunk((6, 5, 4), 0, 1, chunks))
-        for strides in ((), (3,), (3, 1, 1)):
-            layout = Layout.over(6, (2, 3))
-            vars(_usual.Fields)["strides"].__set__(layout, strides)
-            self.assertIsNone(_native.sliced(layout, 0))
-            self.assertIsNone(_native.share_place(layout, Layout.over(6, 6)))
-
-    def test_arguments_of_another_count(self):
-        for name in ("sliced", "intersect", "share_chunk", "share", "share_keys", "share_place"):
-            self.assertIsNone(getattr(_native, name)())
-
-    def test_what_is_no_layout(self):
-        with self.assertRaises(TypeError):
-            _native.sliced((1, 2), 0)
-        with self.assertRaises(AttributeError):
-            _native.sliced(Layout.__new__(Layout), 0)
-        with self.assertRaises(ImportError):
-            _native.bind("/nowhere.so", tuple(vars(_usual.Fields)[name] for name in _usual.FIELDS))
-        for arguments in ((), ("a", []), (1, ())):
-            with self.assertRaises(TypeError):
-                _native.bind(*arguments)
+    def test_past_the_room(self):
+        """Lists and keys are of any length, also past the room that the module has for most."""
+        none, ones = (None,), (1,) * 70
+        for entries in (33, 41, 100, 2_000):
+            for key in (none * entries, (*none * entries, slice(1)), (..., *none * entries)):
+                self.assertEqual(Layout.over(9, 9)[key].ndim, entries + 1)
+                self.assertTrue(Layout.over(9, 9).intersects(0, key))
+        wide = Layout.over(1, ones)
+        self.assertEqual((wide[(0,) * 69].shape, wide.T.shape, wide.reshape(ones[:50]).shape), ((1,), ones, ones[:50]))
+        self.assertTrue(nd.share_element(wide, wide))
+        self.assertEqual(nd.broadcast_shapes(ones, (2,), ones[:60]), (*ones[:69], 2))
+        self.assertEqual(nd.lay_over(ones, (3,) * 70, itemsize=2, nbytes=9), 0)
 
     def test_interrupts_pass(self):
         for error in (KeyboardInterrupt, MemoryError):
-            number = Number(None)
-            type(number).__index__, kept = self.raising(error), Number.__index__
-            try:
-                with self.assertRaises(error):
-                    _native.sliced(Layout.over(9, 9), slice(number))
-            finally:
-                Number.__index__ = kept
+            with self.assertRaises(error):
+                Layout.over(9, 9)[slice(Number(error), None)]
 
-    def raising(self, error):
-        def index(_):
-            raise error
-
-        return index
-
-    def test_it_is_used_unless_forbidden(self):
-        for said, used in (("", "True"), ("0", "True"), ("1", "False")):
-            environment = {**os.environ, "NDARRAY_LAYOUT_PURE": said, "PYTHONPATH": os.path.dirname(nd.__path__[0])}
-            script = "from ndarray_layout import _usual; print(_usual.native is not None)"
-            done = subprocess.run([sys.executable, "-B", "-c", script], env=environment, capture_output=True, text=True, check=True)
-            self.assertEqual(done.stdout.strip(), used)
+    def test_what_is_no_layout(self):
+        for arguments in ((), (0, 1), (0, 1, 1), (0, 1, 1, 5)):
+            self.assertRaises(TypeError, Layout, *arguments)
+        self.assertRaises(TypeError, Layout.__new__, Layout)
+        self.assertRaises(TypeError, _native.reason, "another")
 
 
 if __name__ == "__main__":

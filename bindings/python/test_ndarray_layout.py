@@ -1,10 +1,9 @@
 """Tests of `ndarray_layout`: worked rows with values by hand, bad arguments, and the examples of the docstrings.
 
-    NDARRAY_LAYOUT_LIB=.../libndarray_layout.so python3 test_ndarray_layout.py
+    python3 test_ndarray_layout.py
 """
 
 import copy
-import ctypes
 import doctest
 import importlib
 import multiprocessing
@@ -12,11 +11,10 @@ import pickle
 import pkgutil
 import unittest
 from types import SimpleNamespace
+from unittest import mock
 
 import ndarray_layout as nd
 from ndarray_layout import Reshaped, ShapeError, Slice, View
-from ndarray_layout import _library as library
-from ndarray_layout._numbers import count_of, one_answer
 
 MAX, MIN = 2**63 - 1, -(2**63)
 ALL = Slice()
@@ -27,7 +25,7 @@ def load_tests(loader, tests, pattern):
     """Adds the examples of the docstrings."""
     parts = [importlib.import_module(f"{nd.__name__}.{part.name}") for part in pkgutil.iter_modules(nd.__path__)]
     for module in (nd, *parts):
-        tests.addTests(doctest.DocTestSuite(module, extraglobs={"Layout": nd.Layout, "Slice": Slice}))
+        tests.addTests(doctest.DocTestSuite(module, extraglobs={name: getattr(nd, name) for name in ("Layout", "Slice", "first_conflict", "rows", "waves")}))
     return tests
 
 
@@ -128,7 +126,7 @@ class WorkedRows(Case):
 
 
 class BadArguments(Case):
-    """Numbers that C's types can't have, which ctypes alone would cut short."""
+    """Numbers that C's types can't have."""
 
     def test_numbers(self):
         for shape in ((-1,), (2**64,), (2**64 + 3,)):
@@ -232,46 +230,6 @@ class Arrays(Case):
         self.assertEqual(nd.reshape_without_copy(array_of((3,), (1,)), (3, 1)), Reshaped("C", (1, 8)))
 
 
-class Strict:
-    """The type of a parameter, for ctypes: it takes what is of some types, and leaves it as it is."""
-
-    def __init__(self, *types):
-        self.types = types
-
-    def from_param(self, value):
-        if not isinstance(value, self.types):
-            raise TypeError(f"{value!r} is none of {self.types}")
-        return value
-
-
-A_LIST = [Strict(bytes, ctypes.Array, ctypes.c_void_p), Strict(ctypes.c_size_t)]
-WRITTEN = [Strict(ctypes.Array, ctypes.c_void_p), Strict(ctypes.c_size_t)]
-TYPES = {
-    **dict.fromkeys("USE", A_LIST),
-    "W": WRITTEN,
-    "z": [Strict(ctypes.c_size_t)],
-    "i": [Strict(int)],
-    "p": [Strict(ctypes.Array)],
-}
-
-
-class Checked:
-    """Runs tests while ctypes looks at the count and the types of all arguments, which it leaves out else."""
-
-    def setUp(self):
-        for call, parameters in library.exports:
-            call.argtypes = [kind for letter in parameters for kind in TYPES[letter]]
-            self.addCleanup(setattr, call, "argtypes", None)
-
-    def test_arguments_are_looked_at(self):
-        self.assertEqual(len(library.exports), 36)
-        nothing, answer = (b"", count_of(0)), one_answer()
-        library.has_overlap(*nothing, *nothing, answer)
-        self.assertRaises(TypeError, library.has_overlap, *nothing, *nothing)
-        self.assertRaises(ctypes.ArgumentError, library.has_overlap, *nothing, b"", 0, answer)
-        self.assertRaises(ctypes.ArgumentError, library.has_overlap, *nothing, *nothing, b"    ")
-
-
 NAMES = """
     Array Elem Elems Layout LayoutError NegativeIndexError Numbers OutOfBoundsError OutOfMemoryError Reshaped Row
     ShapeError SizeOverflowError Slice View aligned basic_key broadcast broadcast_shapes check_layout chunks_of
@@ -288,21 +246,11 @@ class Version(unittest.TestCase):
         self.assertEqual(nd.__all__, NAMES.split())
 
     def test_library(self):
-        library.check_version(nd.__version__)
-        with self.assertRaisesRegex(ImportError, rf"is of version {nd.__version__}, and this package of 0\.0\.9"):
-            library.check_version("0.0.9")
-
-
-class CheckedRows(Checked, WorkedRows):
-    pass
-
-
-class CheckedArguments(Checked, BadArguments):
-    pass
-
-
-class CheckedArrays(Checked, Arrays):
-    pass
+        """A module of another version than the package isn't taken."""
+        self.assertEqual(nd._native.version(), nd.__version__)
+        with mock.patch.object(nd, "__version__", "0.0.9"):
+            with self.assertRaisesRegex(ImportError, rf"is of version {nd._native.version()}, and this package of 0\.0\.9"):
+                nd._begin()
 
 
 class Errors(Case):

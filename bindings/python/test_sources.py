@@ -15,7 +15,6 @@ from collections import Counter
 
 import ndarray_layout as nd
 from ndarray_layout import Layout, LayoutError, ShapeError
-from ndarray_layout import _sources as sources
 
 try:
     import numpy as np
@@ -38,11 +37,24 @@ class Interface:
         self.__array_interface__ = interface
 
 
+class Kind(ctypes.Structure):
+    _fields_ = [("code", ctypes.c_uint8), ("bits", ctypes.c_uint8), ("lanes", ctypes.c_uint16)]
+
+
+class Declared(ctypes.Structure):
+    """`DLTensor`, as DLPack declares it."""
+
+    _fields_ = [
+        *(("data", ctypes.c_void_p), ("device", ctypes.c_int32 * 2), ("ndim", ctypes.c_int32), ("kind", Kind)),
+        *(("shape", ctypes.POINTER(ctypes.c_int64)), ("strides", ctypes.POINTER(ctypes.c_int64)), ("byte_offset", ctypes.c_uint64)),
+    ]
+
+
 class Managed(ctypes.Structure):
     """`DLManagedTensor`."""
 
     _fields_ = [
-        ("tensor", sources._Tensor),
+        ("tensor", Declared),
         ("context", ctypes.c_void_p),
         ("deleter", ctypes.CFUNCTYPE(None, ctypes.c_void_p)),
     ]

@@ -5,20 +5,16 @@
 
 import pickle
 import random
-import re
 import unittest
 from array import array
 from collections import Counter
 from itertools import product
-from pathlib import Path
 from types import SimpleNamespace
 from unittest import mock
 
 import ndarray_layout as nd
 from ndarray_layout import LayoutError, Slice
-from ndarray_layout import _loaded as loaded
 from ndarray_layout import _reasons as reasons
-from ndarray_layout import _sentences as sentences
 
 CALLS = 20_000
 
@@ -221,18 +217,6 @@ class Texts(unittest.TestCase):
         text = "BadArgument: order must be 'C', 'F' or 'A', not 'K'"
         self.assert_error(text, {}, nd.places, 0, (2,), (1,), "K")
 
-    def test_sentences_of_the_header(self):
-        """Those of Python are those of C, letter for letter, but for the rules that Python has no call for."""
-        header = (Path(__file__).parent.parent / "c" / "ndarray_layout_reasons.h").read_text()
-        cases = re.findall(r'case ND_(RULE|LIST)_(\w+):\s*return ((?:"[^"]*"\s*)+);', header)
-        found = {(group, name): "".join(re.findall('"([^"]*)"', text)) for group, name, text in cases}
-        for name in ("NONE", "COUNT", "OTHER_LENGTH", "ROOM"):
-            del found["RULE", name]
-        del found["LIST", "VIEW"]
-        named = {("RULE", rule.name): text for rule, text in sentences.SENTENCES.items()}
-        named |= {("LIST", what.name): text for what, text in sentences.COUNTS.items()}
-        self.assertEqual(named, found)
-
     def test_another_kind_says_nothing(self):
         """The status decides: a reason for another kind names no axis, and the text is the status's own."""
         wrong = reasons.Reason("Unsupported", "axis 0: wrong", 0, {"wrong": 1})
@@ -252,32 +236,39 @@ class Texts(unittest.TestCase):
     def test_no_memory_for_a_reason(self):
         """Where the library has no memory to find a reason, the error is the same without numbers."""
         calls = {
-            "slice_reason": lambda: nd.picked((3,) * 5, [3] * 5),
-            "layout_start_reason": lambda: nd.layout_start((3,) * 5, (1,) * 5, length=2),
-            "check_layout_reason": lambda: nd.place(1, (3,) * 5, (-1,) * 5, (3,) * 5),
-            "reshape_reason": lambda: nd.reshape((2, 2), (4, 1), (4,)),
-            "permuted_axes_reason": lambda: nd.permuted_axes((2, 2), (2, 1), (0, 0)),
-            "index_reason": lambda: nd.next_index((3,), (3,)),
-            "co_broadcast_reason": lambda: nd.broadcast_shapes((2,), (3,)),
-            "broadcast_reason": lambda: nd.broadcast((2,), (1,), (3,)),
-            "windows_reason": lambda: nd.windows((4,), (1,), (0,)),
-            "exact_chunks_reason": lambda: nd.exact_chunks((4,), (1,), (0,)),
-            "split_at_reason": lambda: nd.split_at(0, (3,), (1,), 0, 4),
-            "merge_axes_reason": lambda: nd.merge_axes((2, 3), (3, 1), 0, 0),
+            "slice": lambda: nd.picked((3,) * 5, [3] * 5),
+            "layout_start": lambda: nd.layout_start((3,) * 5, (1,) * 5, length=2),
+            "check_layout": lambda: nd.place(1, (3,) * 5, (-1,) * 5, (3,) * 5),
+            "reshape": lambda: nd.reshape((2, 2), (4, 1), (4,)),
+            "permuted_axes": lambda: nd.permuted_axes((2, 2), (2, 1), (0, 0)),
+            "index": lambda: nd.next_index((3,), (3,)),
+            "co_broadcast": lambda: nd.broadcast_shapes((2,), (3,)),
+            "broadcast": lambda: nd.broadcast((2,), (1,), (3,)),
+            "windows": lambda: nd.windows((4,), (1,), (0,)),
+            "exact_chunks": lambda: nd.exact_chunks((4,), (1,), (0,)),
+            "split_at": lambda: nd.split_at(0, (3,), (1,), 0, 4),
+            "merge_axes": lambda: nd.merge_axes((2, 3), (3, 1), 0, 0),
         }
-        with mock.patch.object(loaded, "export", lambda name, parameters: lambda *arguments: 8):
-            out_of_memory = loaded._reason("nd_slice_reason", "UEip")
+        find, missing = reasons._find, None
+
+        def out_of_memory(name, *arguments):
+            if name == missing:
+                raise MemoryError
+            return find(name, *arguments)
+
         for name, call in calls.items():
+            missing = name
             with self.subTest(name), self.assertRaises(LayoutError) as known:
                 call()
             self.assertTrue(known.exception.numbers or known.exception.axis is not None)
-            with self.subTest(name), mock.patch.object(loaded, name, out_of_memory):
+            with self.subTest(name), mock.patch.object(reasons, "_find", out_of_memory):
                 with self.assertRaises(type(known.exception)) as caught:
                     call()
                 self.assertEqual((caught.exception.kind, caught.exception.axis), (known.exception.kind, None))
                 self.assertEqual(caught.exception.numbers, {})
                 self.assertNotRegex(caught.exception.text, "[0-9]")
-        with mock.patch.object(loaded, "layout_start_reason", out_of_memory):
+        missing = "layout_start"
+        with mock.patch.object(reasons, "_find", out_of_memory):
             self.assert_error("out of bounds indexing", {}, nd.lay_over, 3, 4, itemsize=4, nbytes=9)
             self.assert_error("arithmetic overflow", {}, nd.share_element, array_of((2**62,), (8,)), 0, 1)
 

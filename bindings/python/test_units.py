@@ -166,7 +166,7 @@ def start_of(call):
 
 class EachCall(unittest.TestCase):
     def test_the_table_has_each(self):
-        functions = [getattr(nd, name) for name in nd.__all__ if inspect.isfunction(getattr(nd, name))]
+        functions = [getattr(nd, name) for name in nd.__all__ if inspect.isroutine(getattr(nd, name))]
         takes = {call for call in functions if {"shape", "strides"} <= {*inspect.signature(call).parameters}}
         self.assertEqual(takes, {*CALLS})
 
@@ -196,7 +196,7 @@ class EachCall(unittest.TestCase):
                 call(*start)
             with self.assertRaises(TypeError):
                 call()
-        with self.assertRaisesRegex(TypeError, "missing 1 required positional argument: 'new_shape'"):
+        with self.assertRaisesRegex(TypeError, "missing a required argument: 'new_shape'"):
             nd.reshape((2, 3), strides=(3, 1))
         with self.assertRaisesRegex(TypeError, r"^array: \(2, 3\) has no shape, strides and itemsize, and no strides are given beside it$"):
             nd.reshape((2, 3), 6)

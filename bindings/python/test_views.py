@@ -1,4 +1,4 @@
-"""What a `Layout` makes of itself and says of its places, beside NumPy; and the frames by which it calls the library.
+"""What a `Layout` makes of itself and says of its places, beside NumPy.
 
     python3 test_views.py
 """
@@ -13,8 +13,6 @@ from itertools import product
 
 import ndarray_layout as nd
 from ndarray_layout import Layout, LayoutError, Row, ShapeError, Slice
-from ndarray_layout import _frames as frames
-from ndarray_layout import _library as library
 
 try:
     import numpy as np
@@ -299,20 +297,7 @@ class Fields(unittest.TestCase):
         self.assertEqual(call(*numbers), Layout.over(6, 6))
 
 
-class Frames(unittest.TestCase):
-    """A frame gives what the function of its name gives, and `None` where that raises."""
-
-    def test_parameters(self):
-        """Each frame packs and unpacks what its export reads and writes."""
-        found = [frames.slices, frames.permuted_axes.__self__]
-        for pair in (frames.check_layout, frames.layout_start, *frames.without_gaps, frames.reshape):
-            found += [run.__self__ for run in pair]
-        for of in found:
-            letters = next(letters for call, letters in library.exports if call.__name__ == of.call.__name__)
-            self.assertEqual(of.letters, letters)
-            self.assertEqual(len(of.written), sum(letter in "pW" for letter in letters), letters)
-            self.assertEqual(len(of.options), letters.count("i"), letters)
-
+class Calls(unittest.TestCase):
     def test_threads(self):
         """Many threads at once: no one sees another's numbers."""
         wrong = []
@@ -335,7 +320,7 @@ class Frames(unittest.TestCase):
         self.assertEqual(wrong, [])
 
     def test_many_axes(self):
-        """Longer lists than a frame has go by the functions."""
+        """Lists may be longer than those that the module has room for."""
         layout = Layout.over(2, (1,) * 70 + (2,))
         self.assertEqual(layout.T.shape, (2,) + (1,) * 70)
         self.assertEqual(layout[..., ::-1].start, 1)

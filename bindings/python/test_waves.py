@@ -181,7 +181,7 @@ class Waves(unittest.TestCase):
     def test_many_steps_that_differ(self):
         """10,000 columns side by side, of which few conflict: their numbers are taken one by one, and not each two columns."""
         columns = [(slice(None), slice(begin, None, 10_000 + begin % 7)) for begin in range(10_000)]
-        with mock.patch.object(_conflicts.library, "slices_intersect", None):
+        with mock.patch.object(_conflicts.native, "share_index", None):
             waves = nd.waves((5, 30_000), columns)
         first, second = ([range(30_000)[columns[position][1]] for position in wave] for wave in waves)
         taken = {*chain(*first)}

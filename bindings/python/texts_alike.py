@@ -10,10 +10,17 @@ import random
 import subprocess
 import sys
 from collections import Counter
+from enum import IntEnum
 
 import ndarray_layout as nd
 from ndarray_layout import LayoutError, Slice
-from ndarray_layout._loaded import Rule, Unit, What
+
+RULES = """NONE COUNT INDEX BOUND STEP SIZE SPAN BYTES LOWEST HIGHEST LENGTH ALIAS OTHER_SIZE COPY MISSING
+    COORDINATE COMMON STRETCH EMPTY AXIS SAME_AXIS SPLIT"""
+Rule = IntEnum("Rule", RULES, start=0)
+What = IntEnum("What", "STRIDES SLICE INDEX AXES TARGET WINDOW CHUNK")
+Unit = IntEnum("Unit", "ELEMENTS BYTES", start=0)
+"""As the header has them, from `ND_RULE_NONE`, `ND_LIST_STRIDES` and `ND_ELEMENTS` on."""
 
 MAX = 2**63 - 1
 HUGE = (2**31, 2**40, 2**62, MAX)

@@ -1,8 +1,7 @@
 """Makes the wheel of `ndarray_layout`: the build backend that pip and `python -m build --wheel` call.
 
-The wheel holds the package, the shared library that `bindings/c/build` makes by cargo, and where `build_native` can compile
-it the extension module `_native`; NDARRAY_LAYOUT_PURE=1 in the environment leaves that out. With NDARRAY_LAYOUT_PROVED=1
-in the environment, or the setting `proved`, it holds the proved library of `bindings/c/proved`, which `build --proved`
+The wheel holds the package, with the module `_native` that `build_native` makes over the library that `bindings/c/build` makes by cargo. With
+NDARRAY_LAYOUT_PROVED=1 in the environment, or the setting `proved`, that is over the proved library of `bindings/c/proved`, which `build --proved`
 makes where the one that is there isn't of the sources as they are. With the setting `checked`, which `build_wheel` of this
 repository gives, it is a release: it holds the record of the whole check as `checked.txt`, beside METADATA, and is refused where
 the check hasn't passed on what is committed.
@@ -25,9 +24,7 @@ from typing import Any, Iterator, Mapping, Optional
 
 HERE = Path(__file__).resolve().parent.parent
 TOP = HERE.parent.parent
-LIBRARY = "libndarray_layout.so"
 NATIVE = "_native.abi3.so"
-LACKING = 3  # (the status of `build_native` where a compiler, headers or Python 3.11 are missing)
 SOURCES = "bindings/c bindings/python rust Cargo.toml Cargo.lock proved.txt LICENSE* NOTICE".split()
 MADE = (1980, 1, 1, 0, 0, 0)  # (the first moment that a zip file can state: the same files make the same wheel)
 
@@ -40,13 +37,10 @@ def build_wheel(
 ) -> str:
     """Makes the wheel in a folder, and returns its name."""
     record = _record() if "checked" in (config_settings or {}) else []
-    library = _library(_is_proved(config_settings))
     files = [(f"ndarray_layout/{path.name}", path.read_bytes()) for path in _modules()]
-    name = next(library.parent.glob(f"{LIBRARY}.*")).name  # (a file `.so` Python would take for a module)
-    files.append((f"ndarray_layout/{name}", library.read_bytes()))
     with tempfile.TemporaryDirectory() as folder:
-        if _has_native(folder):
-            files.append((f"ndarray_layout/{NATIVE}", Path(folder, NATIVE).read_bytes()))
+        _build_native(*(["--proved"] if _is_proved(config_settings) else []), folder)
+        files.append((f"ndarray_layout/{NATIVE}", Path(folder, NATIVE).read_bytes()))
     return _write_wheel(wheel_directory, files, record)
 
 
@@ -54,8 +48,7 @@ def build_editable(
     wheel_directory: str, config_settings: Settings = None, metadata_directory: Optional[str] = None
 ) -> str:
     """Makes a wheel that leads to this folder, and builds what the package takes from there."""
-    _library(proved=False)
-    _has_native()
+    _build_native()
     return _write_wheel(wheel_directory, [("ndarray_layout.pth", f"{HERE}\n".encode())], [])
 
 
@@ -83,25 +76,13 @@ def _record() -> Files:
     return [("checked.txt", record.stdout)]
 
 
-def _library(proved: bool) -> Path:
-    """The shared library, made where the one that is there isn't of the sources as they are."""
-    build = TOP / "bindings" / "c" / "build"
-    if not build.exists():
-        raise FileNotFoundError(f"no {build}: the wheel is made from a clone, by pip 21.3 or later")
-    library = build.parent / "proved" / LIBRARY if proved else build.parent / LIBRARY
-    subprocess.run([build, *(["--proved"] if proved else [])], check=True)
-    return library
-
-
-def _has_native(*folder: str) -> bool:
-    """Whether the extension module is made, in a folder or in the package. It isn't where the package can do without."""
-    if os.environ.get("NDARRAY_LAYOUT_PURE", "0") not in ("", "0"):
-        return False
+def _build_native(*words: str) -> None:
+    """Makes the module, in a folder or in the package."""
+    if not (TOP / "bindings" / "c" / "build").exists():
+        raise FileNotFoundError(f"no {TOP}/bindings/c/build: the wheel is made from a clone, by pip 21.3 or later")
     python = {**os.environ, "PYTHON": sys.executable}
-    status = subprocess.run([HERE / "build_native", *folder], env=python, stdout=sys.stderr).returncode
-    if status not in (0, LACKING):
-        raise SystemExit("_native can't be compiled; with NDARRAY_LAYOUT_PURE=1 the wheel has none, and its calls take longer")
-    return status == 0
+    if subprocess.run([HERE / "build_native", *words], env=python, stdout=sys.stderr).returncode != 0:
+        raise SystemExit("the module can't be made; what it needs is said above")
 
 
 def _modules() -> list[Path]:
@@ -119,7 +100,7 @@ def version() -> str:
 
 
 def _write_wheel(folder: str, files: Files, stated: Files) -> str:
-    tag = f"py3-none-{sysconfig.get_platform().replace('-', '_').replace('.', '_')}"
+    tag = f"cp311-abi3-{sysconfig.get_platform().replace('-', '_').replace('.', '_')}"
     name = f"ndarray_layout-{version()}-{tag}.whl"
     info = f"ndarray_layout-{version()}.dist-info"
     files = [*files, *((f"{info}/{file}", content) for file, content in [*_info(tag), *stated])]

@@ -5,12 +5,10 @@ from __future__ import annotations
 from math import gcd
 from typing import NamedTuple, Optional, SupportsIndex
 
+from . import _native as native
 from ._errors import ShapeError, SizeOverflowError, error_of_kind
-from ._layouts import order_of
-from ._numbers import FAR, Lens, Numbers, Packed, integers, not_64_bits, product, said, signed, unsigned
+from ._numbers import FAR, Array, Lens, Numbers, above_0, integer, integers, no_array, not_64_bits, product, said
 from ._reasons import of_size
-from ._shapes import reshaped
-from ._units import Array, Given, above_0, in_bytes, read_array
 
 
 class Reshaped(NamedTuple):
@@ -34,6 +32,15 @@ def element_strides(byte_strides: Numbers, itemsize: SupportsIndex) -> Lens:
     return tuple([stride // unit for stride in strides])
 
 
+def read_array(a: Array) -> tuple[Lens, Lens, int]:
+    """The shape, the strides in bytes and the item size of an array, or of a `Layout`."""
+    try:
+        shape, strides, itemsize = a.shape, a.byte_strides if isinstance(a, native.Layout) else a.strides, a.itemsize
+    except AttributeError:
+        raise no_array(a) from None
+    return integers(shape, "length"), integers(strides, "stride"), integer(itemsize, "itemsize")
+
+
 def reshape_without_copy(a: Array, new_shape: Numbers, order: Optional[str] = "C") -> Reshaped:
     """The order and the strides, in bytes, with which an array has another shape, if no element has to be moved.
 
@@ -54,23 +61,17 @@ def reshape_without_copy(a: Array, new_shape: Numbers, order: Optional[str] = "C
     (shape, strides, itemsize), wanted = read_array(a), integers(new_shape, "length")
     if -1 in wanted:
         wanted = without_minus_one(shape, wanted)
-    layout, new_lens = in_bytes(unsigned(shape), signed(strides), itemsize), unsigned(wanted)
-    if order is None:
-        number, new_strides = _reshaped_by_any(layout, new_lens)
-    else:
-        number = order_of(order, layout)
-        new_strides = reshaped(layout, new_lens, number)
-    return Reshaped("CF"[number], new_strides)
-
-
-def _reshaped_by_any(layout: Given, new_lens: Packed) -> tuple[int, Lens]:
-    """The number of the first order that has strides, and these."""
+    if order is not None:
+        strides = native.reshape(shape, strides, wanted, order, itemsize=itemsize)
+        if order in ("A", "a"):
+            order = "F" if native.is_layout_f(a) and not native.is_layout_c(a) else "C"
+        return Reshaped(order.upper(), strides)
     try:
-        return 0, reshaped(layout, new_lens, 0)
+        return Reshaped("C", native.reshape(shape, strides, wanted, "C", itemsize=itemsize))
     except ShapeError as error:
         refusal = error
     try:
-        return 1, reshaped(layout, new_lens, 1)
+        return Reshaped("F", native.reshape(shape, strides, wanted, "F", itemsize=itemsize))
     except ShapeError:
         raise refusal from None
 

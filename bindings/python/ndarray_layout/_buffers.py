@@ -9,8 +9,9 @@ from pickle import PickleBuffer
 from struct import calcsize
 from struct import error as StructError
 from types import SimpleNamespace
-from typing import TYPE_CHECKING, Any, Optional
+from typing import TYPE_CHECKING, Any, Optional, SupportsIndex
 
+from . import _native as native
 from ._errors import OutOfBoundsError, ShapeError
 from ._numbers import Lens, as_integer, written
 
@@ -159,7 +160,8 @@ def dtype_of(buffer: Any, items: memoryview) -> numpy.dtype[Any]:
         kind = numpy.dtype(items.format)
         if kind.itemsize == items.itemsize:
             return kind
-    return _as_numpy(items).dtype
+    found: numpy.dtype[Any] = _as_numpy(items).dtype
+    return found
 
 
 def _as_numpy(view: memoryview) -> numpy.ndarray[Any, Any]:
@@ -181,6 +183,20 @@ def read_dtype(dtype: Any) -> numpy.dtype[Any]:
     except Exception as error:  # (of many classes)
         raise TypeError(f"dtype: {error}") from None
     return kind
+
+
+def size_of_item(itemsize: Optional[SupportsIndex], dtype: Any) -> SupportsIndex:
+    """The size of an item, which is given or that of a dtype."""
+    if dtype is None:
+        if itemsize is None:
+            raise TypeError("itemsize is missing: itemsize= or dtype= says how many bytes an item has")
+        return itemsize
+    if itemsize is not None:
+        raise ShapeError("BadArgument", f"itemsize {written(itemsize)} beside a dtype, which says it itself")
+    kind = read_dtype(dtype)
+    if kind.hasobject:
+        raise TypeError(f"dtype: bytes can't be taken for {kind}: references to objects are no bytes")
+    return kind.itemsize
 
 
 def dtype_as(dtype: Any, buffer: Any, items: memoryview) -> numpy.dtype[Any]:
@@ -220,7 +236,4 @@ def items_before(address: int, base: memoryview) -> int:
 
 def address_of(view: memoryview) -> int:
     """Where the first element of what a `memoryview` shows lies in memory."""
-    import numpy
-
-    array = numpy.asarray(PickleBuffer(view).raw()) if view.contiguous else _as_numpy(view)
-    return int(array.__array_interface__["data"][0])
+    return native.address(view)

@@ -8,7 +8,8 @@ from math import gcd
 from typing import Any, Iterable, NamedTuple, Sequence, Union
 
 from ._errors import ShapeError, error_of_kind
-from ._numbers import Lens, Numbers, as_integer, entries, integer, listing, not_64_bits, said, unsigned, written
+from ._keys import lengths_of
+from ._numbers import Lens, Numbers, as_integer, entries, integer, listing, not_64_bits, said, written
 from ._reasons import of_chunk
 
 Chunks = Union[Numbers, Iterable[Union[int, Iterable[int]]]]
@@ -85,12 +86,6 @@ Chunking = Union[Even, Uneven]
 def _numbers(picks: range, chunk: int) -> range:
     """The numbers of the chunks of indices whose step is a multiple of the chunk, or that are one."""
     return range(picks[0] // chunk, picks[-1] // chunk + 1, max(picks.step // chunk, 1))
-
-
-def lengths_of(numbers: Numbers, name: str) -> Lens:
-    """A list of lengths, each of 64 bits."""
-    packed, count = unsigned(numbers, name)
-    return count.unpack_unsigned(packed)
 
 
 def read_chunks(shape: Lens, chunks: Chunks) -> Sequence[Chunking]:

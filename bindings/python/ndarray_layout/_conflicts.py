@@ -2,16 +2,17 @@
 
 from __future__ import annotations
 
-from array import array
 from itertools import chain, combinations_with_replacement, islice
 from math import gcd, prod
+from struct import pack
 from typing import Any, Callable, Iterable, Iterator, NamedTuple, Optional
 
-from . import _library as library
+from . import _native as native
 from ._boxes import Intervals, Pair, groups_of, pairs_of
 from ._chunks import Chunks
 from ._errors import LayoutError, of_one
-from ._numbers import LIMIT, Numbers, Packed, count_of, entries, flag, one_answer, unsigned
+from ._keys import Elems
+from ._numbers import LIMIT, Lens, Numbers, entries, flag
 from ._regions import (
     MAX_PARTS,
     Blocks,
@@ -24,8 +25,9 @@ from ._regions import (
     read_plan,
     read_store,
 )
-from ._slices import SLICE_WITH_END, Elems, intersection
-from ._usual import conflict
+
+SLICE_WITH_END = pack("=ii", 0, 1)
+"""What a slice with an end begins with, as an `nd_slice_elem`."""
 
 PIECE = 500
 """How many parts of two lists are compared in one call, in which Python hears no signal."""
@@ -90,11 +92,20 @@ def first_conflict(
     (None, None)
     """
     if blocks is dims is None and max_parts is MAX_PARTS:
-        found = conflict(shape, regions, chunks)
+        found = _usual_conflict(shape, regions, chunks)
         if found is not None:
             return (0, 1) if found else None
     plan = read_plan(shape, regions, chunks, blocks, dims, max_parts)
     return (plan.alone, plan.alone) if plan.alone is not None else first_of(plan.axes, plan.parts)
+
+
+def _usual_conflict(shape: Any, regions: Any, chunks: Any) -> Optional[bool]:
+    """Whether two regions of a shape have an index in common, or where there are chunks one of these; `None` of unusual arguments."""
+    is_list = type(regions) is list or type(regions) is tuple and tuple in map(type, regions)  # (else it may be one region)
+    if not is_list or len(regions) != 2:
+        return None
+    first, second = regions
+    return native.intersect(shape, first, second) if chunks is None else native.share_chunk(shape, first, second, chunks)
 
 
 def first_intersection(shape: Numbers, slices: Iterable[Elems], clamp: bool = False) -> Optional[Pair]:
@@ -207,7 +218,7 @@ def _first_compared(parts: list[Part]) -> Iterator[Pair]:
     """
     dimensions = range(len(parts[0][1]))
     axes = sorted(dimensions, key=lambda axis: -len({ranges[axis].start for _, ranges in parts}))
-    shape = unsigned([1 + max(ranges[axis][-1] for _, ranges in parts) for axis in axes])
+    shape = tuple([1 + max(ranges[axis][-1] for _, ranges in parts) for axis in axes])
     in_order = sorted(parts, key=lambda part: part[1][axes[0]].start)
     pieces = [_piece(axes, in_order[at : at + PIECE]) for at in range(0, len(parts), PIECE)]
     pairs = (_pair_of(shape, one, other) for one, other in combinations_with_replacement(pieces, 2))
@@ -253,32 +264,30 @@ def _numbers(numbers: range) -> Iterator[range]:
 
 def _of_pairs(parts: list[Part], pairs: Iterable[Pair]) -> Iterator[Pair]:
     """The positions of those two of some parts that share a number on each axis."""
-    axes, answer = range(len(parts[0][1])), one_answer()
-    shape, count = unsigned([1 + max(_stretches(parts, axis).highs) for axis in axes]), count_of(len(axes))
-    packed = [count_of(4 * len(axes)).pack_signed(*sum(map(_fields, ranges), ())) for _, ranges in parts]
+    axes = range(len(parts[0][1]))
+    shape = tuple([1 + max(_stretches(parts, axis).highs) for axis in axes])
+    packed = [b"".join(map(_elem, ranges)) for _, ranges in parts]
     for one, other in pairs:
-        library.slices_intersect(*shape, packed[one], count, packed[other], count, False, answer)
-        if answer[0]:
+        if native.share_index(shape, packed[one], packed[other]):
             yield parts[one][0], parts[other][0]
 
 
 def _piece(axes: list[int], parts: list[Part]) -> _Piece:
-    fields = [field for _, ranges in parts for axis in axes for field in _fields(ranges[axis])]
+    packed = b"".join([_elem(ranges[axis]) for _, ranges in parts for axis in axes])
     positions, stretches = [position for position, _ in parts], _stretches(parts, axes[0])
-    return _Piece(positions, array("q", fields).tobytes(), stretches.lows[0], max(stretches.highs))
+    return _Piece(positions, packed, stretches.lows[0], max(stretches.highs))
 
 
-def _fields(numbers: range) -> tuple[int, int, int, int]:
+def _elem(numbers: range) -> bytes:
     """A range as an element of a slice. (a step above the limit leaves one number)"""
-    return SLICE_WITH_END, numbers.start, numbers[-1] + 1, min(numbers.step, LIMIT)
+    return SLICE_WITH_END + pack("=qqq", numbers.start, numbers[-1] + 1, min(numbers.step, LIMIT))
 
 
-def _pair_of(shape: Packed, one: _Piece, other: _Piece) -> Optional[Pair]:
+def _pair_of(shape: Lens, one: _Piece, other: _Piece) -> Optional[Pair]:
     """The positions of two parts of a piece, or of two, that share a number on each axis."""
     if other.first > one.last:
         return None
     both = (one,) if one is other else (one, other)
     positions = [position for piece in both for position in piece.positions]
-    elems, counts = b"".join(piece.packed for piece in both), [shape[1].value] * len(positions)
-    pair = intersection(shape, elems, counts, False)
+    pair = native.first_shared(shape, b"".join(piece.packed for piece in both), (len(shape),) * len(positions))
     return None if pair is None else (positions[pair[0]], positions[pair[1]])

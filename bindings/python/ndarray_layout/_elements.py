@@ -4,16 +4,14 @@ from __future__ import annotations
 
 from typing import Any, NamedTuple, Optional, overload
 
-from . import _library as library
-from ._accepted import layout_start
+from . import _native as native
+from ._arrays import read_array
 from ._buffers import is_plain_array
 from ._errors import ShapeError
-from ._numbers import LIMIT, Lens, not_64_bits, one_answer, said, signed, unsigned, work_limit, written
+from ._keys import fields_of_key, lengths_of
+from ._numbers import LIMIT, Array, Lens, not_64_bits, said, work_limit, written
 from ._sharing import MAX_WORK, Part, share_byte
-from ._slices import packed_key, slice_by_key
 from ._sources import Memory, read_in_memory
-from ._units import Array, Fields, ask_of_bytes, read_array
-from ._usual import share, share_keys
 
 _NOTHING: Any = type("Nothing", (), {"__repr__": lambda self: "nothing"})()
 
@@ -70,18 +68,17 @@ def share_element(a: Any, first: Any, second: Any = _NOTHING, max_work: Optional
     """
     if second is _NOTHING:
         return _share_memory(a, first, max_work)
-    shared = share_keys(a, first, second) if _is_usual(max_work) else None
+    shared = native.share_keys(a, first, second) if _is_usual(max_work) else None
     if shared is not None:
         return shared
     max_work = work_limit(max_work)
     shape, strides, itemsize = read_array(a)
     if not 0 <= itemsize < 2**64:
         raise not_64_bits("itemsize", itemsize, True, None)
-    if ask_of_bytes(library.has_overlap, shape, strides, itemsize):
+    if native.has_overlap(shape, strides, itemsize=itemsize) if itemsize else native.has_overlap(shape, strides):
         return _share_byte((shape, strides, itemsize), first, second, max_work)
-    keys, answer = (*packed_key(shape, first), *packed_key(shape, second)), one_answer()
-    library.slices_intersect(*unsigned(shape), *keys, False, answer)
-    return bool(answer[0]) and itemsize > 0
+    whole = native.Layout(0, lengths_of(shape, "length"), (0,) * len(shape), length=1)
+    return whole._intersect(first, second) and itemsize > 0
 
 
 def shares_memory(a: Any, b: Any, max_work: Optional[int] = MAX_WORK) -> bool:
@@ -105,28 +102,33 @@ def _is_usual(max_work: Any) -> bool:
 def _share_byte(array: tuple[Lens, Lens, int], first: Any, second: Any, max_work: Optional[int]) -> bool:
     """`share_element` of an array whose elements may overlap."""
     shape, strides, itemsize = array
-    start = layout_start(shape, strides, length=LIMIT + 1)
+    start = native.layout_start(shape, strides, length=LIMIT + 1)
+    whole = native.Layout(start, shape, strides, length=LIMIT + 1, writable=False)
     refusal = f"elements of shape {written(shape)} and strides {written(strides)} in bytes may overlap"
     if max_work == 0:
         raise ShapeError("Undecided", refusal)
-    one, other = (slice_by_key(start, shape, strides, key) for key in (first, second))
+    one, other = (_part(whole[key]) for key in (first, second))
     shared = share_byte(one, other, itemsize, max_work)
     if shared is None:
         raise ShapeError("Undecided", f"{refusal}, and max_work={written(max_work)} steps don't decide whether these do")
     return shared
 
 
+def _part(of: native.Layout) -> Part:
+    return Part(of.start, of.shape, of.strides)
+
+
 def _share_memory(a: Any, b: Any, max_work: Optional[int]) -> bool:
     """`share_element` of two arrays, or of two layouts of one buffer."""
-    shared = share(a, b) if _is_usual(max_work) else None
+    shared = native.share(a, b) if _is_usual(max_work) else None
     return _share_any_memory(a, b, work_limit(max_work)) if shared is None else shared
 
 
 def _share_any_memory(a: Any, b: Any, max_work: Optional[int]) -> bool:
     """The same of any arrays and layouts."""
-    if isinstance(a, Fields) != isinstance(b, Fields):
+    if isinstance(a, native.Layout) != isinstance(b, native.Layout):
         raise TypeError("array: an array and a layout can't be compared; `Layout.of(array, base=buffer)` makes a layout of the array")
-    if isinstance(a, Fields) and isinstance(b, Fields) and (a.length, a.itemsize) != (b.length, b.itemsize):
+    if isinstance(a, native.Layout) and isinstance(b, native.Layout) and (a.length, a.itemsize) != (b.length, b.itemsize):
         raise _of_two_buffers(a, b)
     one, other = _part_of(a), _part_of(b)
     shared = share_byte(one.part, other.part, one.itemsize, max_work, other.itemsize) if max_work != 0 else None
@@ -137,7 +139,7 @@ def _share_any_memory(a: Any, b: Any, max_work: Optional[int]) -> bool:
     return shared
 
 
-def _of_two_buffers(a: Fields, b: Fields) -> ShapeError:
+def _of_two_buffers(a: native.Layout, b: native.Layout) -> ShapeError:
     """The error of layouts that were accepted over buffers of another length, or of other items."""
     one, other = f"{said(a.length)} items of size {a.itemsize}", f"{said(b.length)} of size {b.itemsize}"
     numbers = {"length": a.length, "itemsize": a.itemsize, "other_length": b.length, "other_itemsize": b.itemsize}
@@ -157,8 +159,8 @@ _NO_ITEMS = _Held(Part(0, (0,), (1,)), 1, None)
 
 def _part_of(a: Any) -> _Held:
     """An array as a part of the memory, in bytes, or a layout as one of its buffer."""
-    if isinstance(a, Fields):
-        return _Held(Part(a.start, a.shape, a.strides), 1, None)
+    if isinstance(a, native.Layout):
+        return _Held(_part(a), 1, None)
     if is_plain_array(a):  # (whose numbers are NumPy's own, and have 64 bits)
         if 0 in a.shape or a.itemsize == 0:
             return _NO_ITEMS
@@ -166,7 +168,10 @@ def _part_of(a: Any) -> _Held:
         if address != 0:
             return _Held(Part(address, a.shape, a.strides), a.itemsize, Memory(address, a))
     source = read_in_memory(a)
-    unsigned(source.shape), signed(source.strides)  # (which refuse what has no 64 bits)
+    lengths_of(source.shape, "length")
+    for axis, stride in enumerate(source.strides):
+        if not -(2**63) <= stride < 2**63:
+            raise not_64_bits("stride", stride, False, axis)
     if not 0 <= source.itemsize < 2**64:
         raise not_64_bits("itemsize", source.itemsize, True, None)
     if 0 in source.shape or source.itemsize == 0:

@@ -4,7 +4,7 @@ from __future__ import annotations
 
 from functools import update_wrapper
 from types import FunctionType
-from typing import Any, Mapping, Optional
+from typing import Any, Iterable, Mapping, Optional
 
 
 class LayoutError(Exception):
@@ -20,11 +20,27 @@ class LayoutError(Exception):
     def __init__(
         self, kind: str, text: str, axis: Optional[int] = None, numbers: Optional[Mapping[str, int]] = None
     ) -> None:
-        super().__init__(kind, text)  # (with which `pickle` and `copy` call the class, and then set its attributes)
-        self.kind = kind
-        self.text = text
-        self.axis = axis
-        self.numbers = dict(numbers or {})
+        super().__init__(kind, text, axis, dict(numbers or {}))  # (with which `pickle` and `copy` call the class)
+
+    @property
+    def kind(self) -> str:
+        """The kind's name."""
+        return self.args[0]  # type: ignore[no-any-return]
+
+    @property
+    def text(self) -> str:
+        """What is wrong."""
+        return self.args[1]  # type: ignore[no-any-return]
+
+    @property
+    def axis(self) -> Optional[int]:
+        """The axis that is to blame, where one is."""
+        return self.args[2]  # type: ignore[no-any-return]
+
+    @property
+    def numbers(self) -> dict[str, int]:
+        """What the text says of it, by name."""
+        return self.args[3]  # type: ignore[no-any-return]
 
     def __str__(self) -> str:
         return self.text
@@ -81,12 +97,13 @@ _CLASSES: Mapping[str, type[LayoutError]] = {
 }
 
 
-def _is_of_package(error: BaseException) -> bool:
+def is_own(error: BaseException) -> bool:
     """Whether an error was raised by the package, and not by what it called."""
     last = error.__traceback__
     while last is not None and last.tb_next is not None:
         last = last.tb_next
-    return last is not None and last.tb_frame.f_globals.get("__package__") == __package__
+    is_of_package = last is not None and last.tb_frame.f_globals.get("__package__") == __package__
+    return is_of_package and isinstance(error, (LayoutError, TypeError))
 
 
 def shown_once(call: Any) -> Any:
@@ -95,18 +112,29 @@ def shown_once(call: Any) -> Any:
     Where the error comes of a caller's own code, such as an iterator, its frames stay.
     """
 
-    kinds, is_of_package = (LayoutError, TypeError), _is_of_package  # (which a call in another file doesn't name)
+    kinds, hides = (LayoutError, TypeError), is_own  # (which a call in another file doesn't name)
 
     def shown(*arguments: Any, **named: Any) -> Any:
         try:
             return call(*arguments, **named)
         except kinds as error:
-            if not is_of_package(error):
+            if not hides(error):
                 raise
             raise error.with_traceback(None)
 
     code = shown.__code__.replace(co_name=call.__name__)
     return update_wrapper(FunctionType(code, call.__globals__, call.__name__, None, shown.__closure__), call)
+
+
+def show_once(public: dict[str, Any], kinds: Iterable[type] = ()) -> None:
+    """Lets the errors of public calls, and of the methods of classes, show one frame of the package."""
+    for name, call in [*public.items()]:
+        if isinstance(call, FunctionType) and call.__module__.startswith(__package__ or "") and name[0] != "_":
+            public[name] = shown_once(call)
+    for kind in kinds:
+        for name, value in [*vars(kind).items()]:
+            if isinstance(value, FunctionType) and name[0] != "_":
+                setattr(kind, name, shown_once(value))
 
 
 def error_of_kind(

@@ -2,74 +2,27 @@
 
 from __future__ import annotations
 
-from dataclasses import dataclass, field
-from math import prod
+from dataclasses import dataclass
 from operator import index as as_int
-from struct import error as StructError
 from typing import TYPE_CHECKING, Any, Iterable, Iterator, Optional, SupportsIndex, TypeVar
 
-from . import _frames as frames
-from . import _picture as picture
+from . import _native as native
 from ._arrays import element_strides
-from ._buffers import (
-    array_over,
-    count_items,
-    dtype_as,
-    dtype_of,
-    format_of,
-    is_contiguous_array,
-    items_before,
-    items_of_size,
-    no_bytes,
-    side_by_side,
-)
-from ._conflicts import first_intersection_of_keys
+from ._buffers import array_over, dtype_as, dtype_of, format_of, is_contiguous_array, items_before, items_of_size, no_bytes, side_by_side
 from ._errors import OutOfBoundsError, ShapeError
-from ._layouts import (
-    Row,
-    default_strides,
-    fortran_strides,
-    has_distinct_places,
-    has_overlap,
-    is_contiguous,
-    is_layout_c,
-    is_layout_f,
-    joined_rows,
-    place,
-    places,
-    rows,
-)
-from ._modes import accepted_as, checked, of_byte_strides, order_without, start_of, without_gaps
-from ._numbers import (
-    INTEGERS,
-    LIMIT,
-    Lens,
-    Numbers,
-    flag_or_none,
-    integer,
-    integers,
-    work_limit,
-    written,
-)
-from ._sharing import MAX_WORK, share_byte
-from ._slices import basic_key, slices_intersect
+from ._numbers import LIMIT, Lens, integer, work_limit, written
+from ._rows import Row
+from ._sharing import MAX_WORK, Part, share_byte
 from ._sources import read_in_memory, read_source
-from ._units import Fields
-from ._usual import intersect
-from ._views import Views, made, of_class
+from ._views import Views
 
 if TYPE_CHECKING:
     import numpy
 
-set_start, set_shape, set_strides, set_length, set_writable, set_itemsize, set_format = (
-    vars(Fields)[name].__set__ for name in ("start", "shape", "strides", "length", "writable", "itemsize", "format")
-)
-
-
 Made = TypeVar("Made", bound="Layout")
 
 
-@dataclass(frozen=True, init=False)
+@dataclass(frozen=True, init=False, eq=False, repr=False)
 class Layout(Views):
     """A layout that was accepted over `length` elements, so every index lies within them.
 
@@ -103,31 +56,7 @@ class Layout(Views):
     length: int
     writable: bool
     itemsize: int
-    format: Optional[str] = field(compare=False)
-
-    def __init__(
-        self,
-        start: SupportsIndex,
-        shape: Numbers,
-        strides: Numbers,
-        *,
-        length: SupportsIndex,
-        writable: Optional[bool] = None,
-        itemsize: SupportsIndex = 1,
-        format: Optional[str] = None,
-    ) -> None:
-        may_write = accepted_as(start, shape, strides, itemsize, length, writable)
-        if may_write is None:
-            shape, strides = integers(shape, "length"), integers(strides, "stride")
-            may_write = checked(start, shape, strides, itemsize, length, flag_or_none(writable, "writable"))
-            start, length, itemsize = as_int(start), as_int(length), as_int(itemsize)
-        set_start(self, start)
-        set_shape(self, shape)
-        set_strides(self, strides)
-        set_length(self, length)
-        set_writable(self, may_write)
-        set_itemsize(self, itemsize)
-        set_format(self, format)
+    format: Optional[str]
 
     def __repr__(self) -> str:
         names = ("start", "shape", "strides", "length", "writable", *["itemsize"] * (self.itemsize != 1))
@@ -142,128 +71,7 @@ class Layout(Views):
 
     __iter__ = None  # (a row is `layout[k]`; places come from `places` and `rows`)
 
-    # ---- Makers
-
-    @classmethod
-    def over(
-        cls: type[Made],
-        buffer: Any,
-        shape: Numbers,
-        strides: Optional[Numbers] = None,
-        *,
-        start: Optional[SupportsIndex] = None,
-        order: Optional[str] = None,
-        writable: Optional[bool] = None,
-    ) -> Made:
-        """Accepts a layout over a buffer, or over so many elements.
-
-        The elements of a buffer are its items, in the order of memory: those of `bytes` are bytes, those of an array
-        its numbers. Without strides the layout has no gaps, in the order 'C', or 'F' where that is given. Without a
-        start its lowest place is 0. Strides count elements: `element_strides` makes such of NumPy's, and `of` reads an
-        array. Raises what `layout_start` and `check_layout` do, and `ShapeError` where the buffer has gaps or items of 0
-        bytes, or there is an order beside strides.
-
-        >>> Layout.over(b"abcdef", (2, 3))
-        Layout(start=0, shape=(2, 3), strides=(3, 1), length=6, writable=True)
-        >>> Layout.over(6, 6, -1).start
-        5
-        """
-        length, itemsize, kind = count_items(buffer)
-        lens, number = integers(shape, "length"), order_without(strides, order)
-        writable = flag_or_none(writable, "writable")
-        if strides is None and start is None:
-            may_write = writable is not False  # (without gaps no two indices have one place)
-            steps, first = without_gaps(lens, number, itemsize, length, may_write)
-            return made(first, lens, steps, length, may_write, itemsize, kind, cls)  # type: ignore[no-any-return]
-        steps = (default_strides, fortran_strides)[number](lens) if strides is None else integers(strides, "stride")
-        try:
-            if start is None:
-                first, may_write = start_of(lens, steps, itemsize, length, writable)
-            else:
-                may_write, first = checked(start, lens, steps, itemsize, length, writable), as_int(start)
-        except OutOfBoundsError as error:
-            raise of_byte_strides(error, steps, itemsize) from None
-        return made(first, lens, steps, length, may_write, itemsize, kind, cls)  # type: ignore[no-any-return]
-
-    @classmethod
-    def of(cls: type[Made], array: Any, *, base: Any = None, writable: Optional[bool] = None) -> Made:
-        """The layout of an array, or of what a `memoryview` shows, over its elements from the lowest to the highest.
-
-        With a `base` it is one over the items of that buffer, from the lowest: what `as_array(base)` takes. Without
-        one the array's own lowest element has place 0, so `Layout.of(a[2:]).as_array(a)` shows other rows than
-        `Layout.of(a[2:], base=a).as_array(a)`. Of an array without an element all strides are 0, and it needs no items.
-
-        Raises `ShapeError` where a stride is no multiple of the item size, as of packed records, where the base has
-        gaps or items of another size, and where the layout is to be writable and breaks the no-alias rule; `IndexError`
-        where the array doesn't lie within the base. A base needs NumPy. With one a scalar of NumPy, as `x[k]`, is a
-        `TypeError`: it is a copy, and `x[k, ...]` an array.
-
-        >>> Layout.of(memoryview(b"abcdef")[::-2])
-        Layout(start=4, shape=(3,), strides=(-2,), length=5, writable=True)
-        """
-        source, writable = (read_source if base is None else read_in_memory)(array), flag_or_none(writable, "writable")
-        shape, byte_strides, itemsize, kind, _ = source
-        strides = default_strides(shape) if 0 in shape else element_strides(byte_strides, itemsize)
-        if base is None:
-            start, may_write = start_of(shape, strides, itemsize, LIMIT + 1, writable)
-            spans = [(length - 1) * abs(stride) for length, stride in zip(shape, strides)]
-            return made(start, shape, strides, 0 if 0 in shape else sum(spans) + 1, may_write, itemsize, kind, cls)  # type: ignore[no-any-return]
-        items = items_of_size(base, itemsize)
-        length = items.nbytes // itemsize
-        start = 0 if 0 in shape else items_before(source.memory().address, items)
-        may_write = checked(start, shape, strides, itemsize, length, writable)
-        return made(start, shape, strides, length, may_write, itemsize, kind, cls)  # type: ignore[no-any-return]
-
-    # ---- What it is
-
-    @property
-    def ndim(self) -> int:
-        """The count of axes."""
-        return len(self.shape)
-
-    @property
-    def size(self) -> int:
-        """How many indices there are."""
-        return prod(self.shape)
-
-    @property
-    def nbytes(self) -> int:
-        """The bytes of all its elements, each index counted: the size times the item size."""
-        return prod(self.shape) * self.itemsize
-
-    @property
-    def is_contiguous(self) -> bool:
-        """Whether no two indices have one place, and all fill a stretch of the buffer without a gap, in any order of the axes."""
-        return is_contiguous(self.shape, self.strides)
-
-    @property
-    def is_layout_c(self) -> bool:
-        """Whether the places follow one another in row-major order."""
-        return is_layout_c(self.shape, self.strides)
-
-    @property
-    def is_layout_f(self) -> bool:
-        """Whether the places follow one another in column-major order."""
-        return is_layout_f(self.shape, self.strides)
-
-    @property
-    def has_overlap(self) -> bool:
-        """Whether it breaks the no-alias rule. A writable layout never does."""
-        return not self.writable and has_overlap(self.shape, self.strides)
-
     # ---- Places
-
-    def place(self, index: Numbers) -> int:
-        """The place of an index. Raises what `place` does."""
-        if type(index) is tuple and INTEGERS.issuperset(map(type, index)):
-            axes = len(self.shape)
-            try:
-                found = frames.place((axes, axes, len(index)), (self.start, *self.shape, *self.strides, *index))
-            except StructError:  # (a coordinate that is negative, or has no 64 bits)
-                found = None
-            if found is not None:
-                return found[0]
-        return place(self.start, self.shape, self.strides, index)
 
     def index_of(self, place: SupportsIndex) -> Optional[Lens]:
         """The index that has a place, or `None` where no index has it: the other way round of `place`.
@@ -293,7 +101,7 @@ class Layout(Views):
 
     def places(self, order: str = "C") -> Lens:
         """The places of all indices, in an order. Takes time and memory for each index."""
-        return places(self.start, self.shape, self.strides, order)
+        return native.places(self.start, self.shape, self.strides, order)
 
     def rows(self, order: str = "C") -> Iterator[Row]:
         """The places along the axis that moves fastest in an order, for each index of the others, in that order.
@@ -303,7 +111,7 @@ class Layout(Views):
         >>> list(Layout.over(6, (2, 3), (-3, 1)).rows())
         [Row(start=3, stride=1, length=3), Row(start=0, stride=1, length=3)]
         """
-        return rows(self.start, self.shape, self.strides, order)
+        return native.rows(self.start, self.shape, self.strides, order)
 
     def joined_rows(self, order: str = "C") -> Iterator[Row]:
         """The places in an order in few rows: axes of one stride are one row, and so are rows that touch.
@@ -313,12 +121,12 @@ class Layout(Views):
         >>> list(Layout.over(24, (2, 3, 4))[:, 1:].joined_rows())    # (and 4 in `rows`)
         [Row(start=4, stride=1, length=8), Row(start=16, stride=1, length=8)]
         """
-        return joined_rows(self.start, self.shape, self.strides, order)
+        return native.joined_rows(self.start, self.shape, self.strides, order)
 
     def has_distinct_places(self, max_work: Optional[int] = MAX_WORK) -> bool:
         """Whether no two indices have one place: exact. A writable layout has distinct places."""
         max_work = work_limit(max_work)
-        return self.writable or has_distinct_places(self.shape, self.strides, max_work)
+        return self.writable or native.has_distinct_places(self.shape, self.strides, max_work)
 
     def first_intersection(self, keys: Iterable[Any]) -> Optional[tuple[int, int]]:
         """Two slices by NumPy's keys that share an index: their positions, the less first; `None` if no two do.
@@ -328,6 +136,8 @@ class Layout(Views):
         >>> Layout.over(6, (2, 3)).first_intersection([0, (1, 0), (..., -1)])
         (0, 2)
         """
+        from ._conflicts import first_intersection_of_keys
+
         return first_intersection_of_keys(self.shape, keys)
 
     def intersects(self, first: Any, second: Any, max_work: Optional[int] = MAX_WORK) -> bool:
@@ -341,12 +151,10 @@ class Layout(Views):
         (True, False)
         """
         max_work = work_limit(max_work)
-        shared = intersect(self.shape, first, second) if self.writable else None
-        if shared is not None:
-            return shared
         if not self.has_overlap:
-            return slices_intersect(self.shape, basic_key(self.shape, first), basic_key(self.shape, second))
-        shared = share_byte(self._view(first), self._view(second), 1, max_work) if max_work != 0 else None
+            return self._intersect(first, second)
+        one, other = (Part(part.start, part.shape, part.strides) for part in (self[first], self[second]))
+        shared = share_byte(one, other, 1, max_work) if max_work != 0 else None
         if shared is None:
             text = f"places of {self} may overlap, and max_work={written(max_work)} steps don't decide whether these do"
             raise ShapeError("Undecided", text)
@@ -360,11 +168,15 @@ class Layout(Views):
         A layout of few elements has a cell for each index and for each element, with its coordinates and its place. Of
         a larger one there are the axes, with lengths and strides, and the stretch of the elements that it reaches.
         """
-        return picture.svg_of(self)
+        from ._picture import svg_of
+
+        return svg_of(self)
 
     def _repr_html_(self) -> str:
         """What notebooks show: a table of the numbers beside the picture."""
-        return picture.html_of(self)
+        from ._picture import html_of
+
+        return html_of(self)
 
     # ---- Buffers
 
@@ -429,7 +241,7 @@ class Layout(Views):
             axis = self.shape.index(0)
             text = f"axis {axis}: a memoryview of several axes can't have the length 0"
             raise ShapeError("IncompatibleBuffer", text, axis, {"length": 0})
-        for axis, (stride, wanted) in enumerate(zip(self.strides, default_strides(self.shape))):
+        for axis, (stride, wanted) in enumerate(zip(self.strides, native.default_strides(self.shape))):
             if self.shape[axis] > 1 and stride != wanted:
                 text = f"axis {axis}: a memoryview of several axes can't have the stride {stride}, but {wanted} (in elements)"
                 raise ShapeError("IncompatibleBuffer", text, axis, {"stride": stride, "wanted": wanted})
@@ -449,7 +261,19 @@ class Layout(Views):
             raise OutOfBoundsError("OutOfBounds", text, None, numbers)
 
 
-Views.frozen = Layout
+def layout_of(kind: type[Made], array: Any, base: Any, writable: Optional[bool]) -> Made:
+    """`Layout.of` of any array."""
+    source = (read_source if base is None else read_in_memory)(array)
+    shape, byte_strides, itemsize, form, _ = source
+    strides = native.default_strides(shape) if 0 in shape else element_strides(byte_strides, itemsize)
+    if base is None:
+        length = 0 if 0 in shape else sum([(length - 1) * abs(stride) for length, stride in zip(shape, strides)]) + 1
+        start = native.layout_start(shape, strides, elem_size=itemsize, length=LIMIT + 1)
+    else:
+        items = items_of_size(base, itemsize)
+        length = items.nbytes // itemsize
+        start = 0 if 0 in shape else items_before(source.memory().address, items)
+    return kind(start, shape, strides, length=length, writable=writable, itemsize=itemsize, format=form)
 
 
 def _accepted(
@@ -463,5 +287,4 @@ def _accepted(
     format: Optional[str],
 ) -> Made:
     """`Layout`, or a class that is made of it, as `pickle` and `copy` call it."""
-    new = Layout(start, shape, strides, length=length, writable=writable, itemsize=itemsize, format=format)
-    return new if kind is Layout else of_class(kind, new)  # type: ignore[no-any-return]
+    return kind(start, shape, strides, length=length, writable=writable, itemsize=itemsize, format=format)

@@ -1,21 +1,14 @@
-"""Numbers as the exports take them: lists of 64-bit numbers as bytes, each with its count.
-
-A list is packed by a `struct` that is made once for its count. What doesn't pack is looked at again, for its error.
-"""
+"""Numbers and lists of them, as Python gives them: what isn't usual, which the module in C hands to these, and what errors say."""
 
 from __future__ import annotations
 
-import ctypes
 from collections.abc import Mapping, Set
 from math import prod
 from operator import index
 from reprlib import Repr
-from struct import Struct
-from struct import error as StructError
-from sys import byteorder
-from typing import Any, Callable, Iterable, NamedTuple, Optional, Sequence, SupportsIndex, Union
+from typing import Any, Iterable, Optional, Protocol, Sequence, SupportsIndex, Union
 
-from ._errors import NegativeIndexError, ShapeError, SizeOverflowError
+from ._errors import LayoutError, NegativeIndexError, OutOfBoundsError, ShapeError, SizeOverflowError
 
 Numbers = Union[SupportsIndex, Iterable[SupportsIndex]]
 """A list of numbers. One number alone is a list of one, as NumPy takes `5` for the shape `(5,)`."""
@@ -23,105 +16,24 @@ Numbers = Union[SupportsIndex, Iterable[SupportsIndex]]
 Lens = tuple[int, ...]
 
 
-class View(NamedTuple):
-    """A layout, and the place of its first index."""
+class Array(Protocol):
+    """What is read of an array: its strides count in bytes."""
 
-    start: int
-    shape: Lens
-    strides: Lens
+    @property
+    def shape(self) -> tuple[int, ...]:
+        ...
+
+    @property
+    def strides(self) -> tuple[int, ...]:
+        ...
+
+    @property
+    def itemsize(self) -> int:
+        ...
 
 
 LIMIT = 2**63 - 1
 """The greatest size and span of a layout."""
-
-
-class Count(ctypes.c_size_t):
-    """The count of a list as a call takes it, and what packs, holds and unpacks a list of so many numbers."""
-
-    def __init__(self, number: int) -> None:
-        self.value = number
-        unsigned_numbers, signed_numbers = Struct(f"{number}Q"), Struct(f"{number}q")
-        self.pack_unsigned = unsigned_numbers.pack
-        self.unpack_unsigned = unsigned_numbers.unpack
-        self.pack_signed = signed_numbers.pack
-        self.unpack_signed: Callable[[Any], Lens] = signed_numbers.unpack
-        self.unsigned_room: Any = ctypes.c_size_t * number
-        self.signed_room: Any = ctypes.c_ssize_t * number
-
-
-class ByteStrides(tuple[int, ...]):
-    """Strides that count bytes."""
-
-    __slots__ = ()
-
-
-class ByteCount(Count):
-    """The count of a list of strides that count bytes."""
-
-    def __init__(self, number: int) -> None:
-        Count.__init__(self, number)  # (for `super` ctypes' own classes have no place)
-        unpack = self.unpack_signed
-        self.unpack_signed = lambda numbers: ByteStrides(unpack(numbers))
-
-
-def unit_of(strides: Lens) -> str:
-    """What strides count."""
-    return "bytes" if isinstance(strides, ByteStrides) else "elements"
-
-
-Packed = tuple[bytes, Count]
-"""A list as a call takes it: its bytes, and its count."""
-
-COUNTS = [Count(number) for number in range(65)]  # (the axes of an array, or the numbers of a slice of 16 axes)
-
-
-def count_of(number: int) -> Count:
-    """The count of a list of so many numbers."""
-    return COUNTS[number] if number < 65 else Count(number)
-
-
-def _packer(typecode: str, usual: str) -> Callable[..., Packed]:
-    """What packs a list. Of a number that is none of C's it raises a `SizeOverflowError`, which calls it by a name."""
-    packs = [Struct(f"{number}{typecode}").pack for number in range(len(COUNTS))]
-
-    def pack(numbers: Numbers, name: str = usual) -> Packed:
-        if (type(numbers) is tuple or type(numbers) is list) and len(numbers) < len(packs):
-            for number in numbers:
-                if type(number) is not int:  # (also a boolean, which `struct` would pack)
-                    break
-            else:
-                try:
-                    return packs[len(numbers)](*numbers), COUNTS[len(numbers)]
-                except StructError:
-                    pass
-        return _packed(typecode, numbers, name)
-
-    return pack
-
-
-unsigned = _packer("Q", "length")
-"""A list of `size_t`, from numbers and what an error calls one of them."""
-
-signed = _packer("q", "stride")
-"""A list of `ptrdiff_t`, likewise."""
-
-
-INTEGERS = frozenset((int,))
-
-
-def _packed(typecode: str, numbers: Numbers, name: str) -> Packed:
-    """Any list, or the error of its first number without 64 bits."""
-    listed = listing(numbers, name)
-    if not INTEGERS.issuperset({*map(type, listed)}):
-        listed = integers(listed, name)
-    count = count_of(len(listed))
-    try:
-        return (count.pack_unsigned if typecode == "Q" else count.pack_signed)(*listed), count
-    except StructError:
-        pass
-    low, high = (0, 2**64) if typecode == "Q" else (-(2**63), 2**63)
-    axis = next(axis for axis, number in enumerate(listed) if not low <= number < high)
-    raise not_64_bits(name, listed[axis], typecode == "Q", axis)
 
 
 def integers(numbers: Numbers, name: str) -> Lens:
@@ -203,12 +115,36 @@ def limit(number: SupportsIndex, name: str, what_else: str = "") -> int:
     return most
 
 
-def size(number: SupportsIndex, name: str) -> ctypes.c_size_t:
-    """A number as a call takes it, where it is a `size_t`: ctypes itself would drop its upper bits."""
-    counted = integer(number, name)
-    if 0 <= counted < 2**64:
-        return ctypes.c_size_t(counted)
-    raise not_64_bits(name, counted, True, None)
+def above_0(itemsize: SupportsIndex) -> int:
+    """An item size, or its error."""
+    unit = integer(itemsize, "itemsize")
+    if unit < 1:
+        raise ShapeError("Unsupported", f"the item size {said(unit)} isn't above 0", None, {"itemsize": unit})
+    return unit
+
+
+def axis_of(axis: SupportsIndex, axes: int) -> int:
+    """An axis, counted from the end where it is negative."""
+    number = integer(axis, "axis")
+    if not -axes <= number < axes:
+        numbers = {"axis": number, "axes": axes}
+        raise OutOfBoundsError("OutOfBounds", f"axis {said(number)}: there are {axes} axes", None, numbers)
+    return number % axes
+
+
+def axis_twice(number: int) -> LayoutError:
+    return ShapeError("Unsupported", f"axis {number} is there twice", number, {"axis": number})
+
+
+def no_array(value: Any) -> TypeError:
+    """The error of what is no array, in the place of one."""
+    return TypeError(f"array: {written(value)} has no shape, strides and itemsize, and no strides are given beside it")
+
+
+def no_order(order: Any, has_layout: bool) -> LayoutError:
+    """The error of what is no order. Where there is a layout it may be 'A'."""
+    words = "'C', 'F' or 'A'" if has_layout else "'C' or 'F'"
+    return ShapeError("BadArgument", f"order must be {words}, not {written(order)}")
 
 
 def not_64_bits(name: str, number: int, is_unsigned: bool, axis: Optional[int]) -> SizeOverflowError:
@@ -296,33 +232,3 @@ def product(lengths: Sequence[int]) -> int:
         if found >= FAR:
             return FAR
     return found
-
-
-one_number: Callable[[], Any] = ctypes.c_size_t * 1
-"""Room for one `size_t`."""
-
-one_stride: Callable[[], Any] = ctypes.c_ssize_t * 1
-"""Room for one `ptrdiff_t`."""
-
-one_answer: Callable[[], Any] = ctypes.c_int32 * 1
-"""Room for yes or no."""
-
-
-ORDERS = {"C": 0, "F": 1, "c": 0, "f": 1}
-"""How the exports write an order: 0 for row-major, 1 for column-major. As in NumPy the letters may be small."""
-
-
-def order_number(order: str) -> int:
-    """How the exports write an order, where there is no layout that could say what 'A' is."""
-    if isinstance(order, str) and order in ORDERS:
-        return ORDERS[order]
-    raise ShapeError("BadArgument", f"order must be 'C' or 'F', not {written(order)}")
-
-
-SLICE, INDEX, NEW_AXIS = 0, 1, 2
-"""The kinds of elements of a slice."""
-
-
-def element_head(kind: int, has_end: bool) -> int:
-    """The kind of an element and whether it has an end, two `int32_t`, as the one number of their bytes."""
-    return kind + (has_end << 32) if byteorder == "little" else (kind << 32) + has_end

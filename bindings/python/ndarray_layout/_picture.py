@@ -11,7 +11,7 @@ from itertools import product
 from math import log, prod
 from typing import TYPE_CHECKING, Iterator, Optional
 
-from ._layouts import has_overlap
+from ._native import has_overlap
 from ._numbers import Lens
 from ._sharing import repeat_a_place
 

@@ -8,11 +8,11 @@ from math import prod
 from numbers import Integral
 from typing import Any, Callable, Iterable, NamedTuple, Optional, Sequence, TypeVar
 
-from ._chunks import Chunking, Chunks, Even, block_length, lengths_of, read_chunks
+from ._chunks import Chunking, Chunks, Even, block_length, read_chunks
 from ._errors import LayoutError, ShapeError, of_one
-from ._layouts import default_strides
+from ._keys import Elem, Elems, Slice, basic_key, lengths_of
+from ._native import default_strides, picked, slice_view
 from ._numbers import LIMIT, Lens, Numbers, entries, limit, listing, said, written
-from ._slices import Elem, Elems, Slice, basic_key, picked, slice_view
 
 MAX_PARTS = 1_000_000
 """How many parts all regions together may have, where no other number is given."""

@@ -10,7 +10,10 @@ from __future__ import annotations
 
 from itertools import accumulate
 from math import gcd
-from typing import Iterator, NamedTuple, Optional, Sequence
+from typing import Iterator, NamedTuple, Optional, Sequence, SupportsIndex
+
+from ._errors import ShapeError
+from ._numbers import few, work_limit, written
 
 MAX_WORK = 100_000
 """How many steps a comparison may take, of some 2 microseconds, where no other number is given."""
@@ -62,6 +65,23 @@ def share_byte(
     terms = [_Term(stride, number) for stride, number in sorted(greatest.items()) if stride and number]
     after = itemsize if second_itemsize is None else second_itemsize
     return _reaches_between(terms, distance - itemsize + 1, distance + after - 1, max_work)
+
+
+def most_of(max_work: Optional[SupportsIndex] = MAX_WORK) -> tuple[Optional[int]]:
+    """How many steps a comparison may take, or its error."""
+    return (work_limit(max_work),)
+
+
+def are_distinct(shape: Sequence[int], strides: Sequence[int], itemsize: Optional[int], most: tuple[Optional[int]]) -> bool:
+    """Whether no two indices of a layout that breaks the no-alias rule have one place, or its elements share a byte."""
+    (max_work,) = most
+    items = () if itemsize is None else (itemsize,)
+    repeats = None if max_work == 0 else repeat_a_place((*shape, *items), (*strides, *(1 for _ in items)), max_work)
+    if repeats is None:
+        shown = f"shape {few(shape)} and strides {few(strides)} in {'elements' if itemsize is None else 'bytes'}"
+        text = f"{shown} may have one place twice, and max_work={written(max_work)} steps don't decide"
+        raise ShapeError("Undecided", text)
+    return not repeats
 
 
 def repeat_a_place(shape: Sequence[int], strides: Sequence[int], max_work: Optional[int] = MAX_WORK) -> Optional[bool]:

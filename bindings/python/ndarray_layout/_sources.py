@@ -6,18 +6,16 @@ No element is read.
 
 from __future__ import annotations
 
-import ctypes
 from itertools import accumulate
 from operator import mul
 from sys import byteorder
 from typing import Any, Callable, NamedTuple, Optional
 
-from ._accepted import lay_over
+from . import _native as native
+from ._arrays import read_array
 from ._buffers import address_of, format_of, is_numpys, refuse_scalar, shown, side_by_side
 from ._errors import ShapeError
-from ._frames import WIDEST
 from ._numbers import Lens, as_integer, integer, integers, written
-from ._units import Fields, read_array
 
 
 class Memory(NamedTuple):
@@ -44,24 +42,6 @@ class Source(NamedTuple):
         if found.address == 0:
             raise ShapeError("IncompatibleBuffer", "array: no element lies at address 0")
         return found
-
-
-class _Kind(ctypes.Structure):
-    _fields_ = [("code", ctypes.c_uint8), ("bits", ctypes.c_uint8), ("lanes", ctypes.c_uint16)]
-
-
-class _Tensor(ctypes.Structure):
-    """`DLTensor`, as DLPack declares it. Strides count elements, and may be none."""
-
-    _fields_ = [
-        ("data", ctypes.c_void_p),
-        ("device", ctypes.c_int32 * 2),
-        ("ndim", ctypes.c_int32),
-        ("kind", _Kind),
-        ("shape", ctypes.POINTER(ctypes.c_int64)),
-        ("strides", ctypes.POINTER(ctypes.c_int64)),
-        ("byte_offset", ctypes.c_uint64),
-    ]
 
 
 _FORMATS = {
@@ -137,7 +117,7 @@ def _memory_of_numpys(array: Any) -> Memory:
 
 def _format_of(array: Any, itemsize: int) -> Optional[str]:
     """The format of an array's items, where it is a buffer that has one, or a `Layout`."""
-    if isinstance(array, Fields):
+    if isinstance(array, native.Layout):
         return array.format
     try:
         return format_of(memoryview(array), itemsize)
@@ -167,7 +147,7 @@ def _size_of(letter: str, digits: str) -> int:
     """The number of a `typestr`: that of references to objects may be left out."""
     if letter not in _LETTERS:
         raise ValueError(f"no type of items: {letter}")
-    return ctypes.sizeof(ctypes.c_void_p) if letter == "O" and not digits else int(digits)
+    return 8 if letter == "O" and not digits else int(digits)
 
 
 def _memory_of(array: Any, interface: Any, shape: Lens, strides: Lens, itemsize: int) -> Memory:
@@ -177,7 +157,7 @@ def _memory_of(array: Any, interface: Any, shape: Lens, strides: Lens, itemsize:
         return Memory(_address_of_pair(data), (array, interface))
     view = side_by_side(array if data is None else data, in_rows=True, name="array: its data")
     offset = integer(interface.get("offset", 0), "array: its offset")
-    offset = lay_over(shape, strides, itemsize=itemsize, nbytes=view.nbytes, offset=offset)  # (which refuses what leaves it)
+    offset = native.lay_over(shape, strides, itemsize=itemsize, nbytes=view.nbytes, offset=offset)  # (which refuses what leaves it)
     return Memory(address_of(view) + offset, view)
 
 
@@ -199,23 +179,18 @@ def _row_strides(shape: Lens) -> Lens:
 def _of_capsule(array: Any) -> Source:
     """An array of DLPack. The capsule is dropped as it came, and then its maker frees what it made for it."""
     capsule = array.__dlpack__() if hasattr(array, "__dlpack__") else array
-    pointer = ctypes.pythonapi.PyCapsule_GetPointer
-    pointer.restype, pointer.argtypes = ctypes.c_void_p, [ctypes.py_object, ctypes.c_char_p]
     try:
-        tensor = _Tensor.from_address(pointer(capsule, b"dltensor"))
+        tensor = native.tensor(capsule)
     except ValueError as error:
         raise TypeError(f"array: {written(capsule)} is no DLPack capsule that is there to be read: {error}") from None
-    if not 0 <= tensor.ndim <= WIDEST:
-        raise ShapeError("IncompatibleBuffer", f"a tensor of {tensor.ndim} axes", None, {"axes": tensor.ndim})
-    shape = tuple(tensor.shape[: tensor.ndim])
-    itemsize, rest = divmod(tensor.kind.bits * tensor.kind.lanes, 8)
+    if type(tensor) is int:
+        raise ShapeError("IncompatibleBuffer", f"a tensor of {tensor} axes", None, {"axes": tensor})
+    shape, strides, code, bits, lanes, address, device = tensor
+    itemsize, rest = divmod(bits * lanes, 8)
     if rest or itemsize == 0:
-        numbers = {"bits": tensor.kind.bits, "lanes": tensor.kind.lanes}
-        raise ShapeError("IncompatibleBuffer", f"items of {tensor.kind.bits} bits lie within bytes", None, numbers)
-    strides = tuple(tensor.strides[: tensor.ndim]) if tensor.strides else _row_strides(shape)
-    found = tuple([stride * itemsize for stride in strides])
-    kind = _FORMATS.get((tensor.kind.code, tensor.kind.bits)) if tensor.kind.lanes == 1 else None
-    address, device = (tensor.data + tensor.byte_offset if tensor.data else 0), int(tensor.device[0])
+        raise ShapeError("IncompatibleBuffer", f"items of {bits} bits lie within bytes", None, {"bits": bits, "lanes": lanes})
+    found = tuple([stride * itemsize for stride in (_row_strides(shape) if strides is None else strides)])
+    kind = _FORMATS.get((code, bits)) if lanes == 1 else None
     return Source(shape, found, itemsize, kind, lambda: _memory_of_tensor(address, device, capsule))
 
 

@@ -1,0 +1,653 @@
+/*
+ * The layout that was accepted: the base of the package's class, with what is asked of it most. A layout holds its numbers, and makes
+ * tuples of them where Python reads them. What is made of one lies where that one does.
+ */
+#ifndef NATIVE_LAYOUT_H
+#define NATIVE_LAYOUT_H
+
+#include <structmember.h>
+
+#define FEW 4 /* axes, whose numbers a layout holds itself */
+
+typedef struct {
+    PyObject ob_base;
+    PyObject *references;
+    PyObject *format;
+    size_t start;
+    size_t length;
+    size_t itemsize;
+    size_t axes;
+    int32_t writable;
+    size_t *numbers; /* the lengths, and then the strides */
+    size_t room[2 * FEW];
+} Layout;
+
+static PyTypeObject *LayoutBase;
+
+static const size_t *lens_of(const Layout *layout) { return layout->numbers; }
+static const ptrdiff_t *steps_of(const Layout *layout) { return (const ptrdiff_t *)layout->numbers + layout->axes; }
+static ptrdiff_t *own_steps(Layout *layout) { return (ptrdiff_t *)layout->numbers + layout->axes; }
+
+static int is_layout(PyObject *value) { return PyObject_TypeCheck(value, LayoutBase); }
+
+/* A layout of a class with room for so many axes. */
+static Layout *new_layout(PyTypeObject *kind, size_t axes) {
+    Layout *const made = (Layout *)PyType_GenericAlloc(kind, 0);
+    if (made == NULL) return NULL;
+    made->numbers = axes <= FEW ? made->room : PyMem_Malloc(2 * axes * sizeof(size_t));
+    made->axes = axes;
+    if (made->numbers != NULL) return made;
+    Py_DECREF(made);
+    PyErr_NoMemory();
+    return NULL;
+}
+
+/* A layout of the class of another one, over its elements. */
+static Layout *layout_like(const Layout *other, size_t axes) {
+    Layout *const made = new_layout(Py_TYPE((PyObject *)other), axes);
+    if (made == NULL) return NULL;
+    made->length = other->length;
+    made->itemsize = other->itemsize;
+    made->writable = other->writable;
+    made->start = other->start;
+    made->format = Py_XNewRef(other->format);
+    return made;
+}
+
+static void dealloc(PyObject *self) {
+    Layout *const layout = (Layout *)self;
+    PyTypeObject *const kind = Py_TYPE(self);
+    if (layout->references != NULL) PyObject_ClearWeakRefs(self);
+    Py_CLEAR(layout->format);
+    if (layout->numbers != layout->room) PyMem_Free(layout->numbers);
+    ((freefunc)PyType_GetSlot(kind, Py_tp_free))(self);
+    Py_DECREF(kind);
+}
+
+static PyObject *shape_of(const Layout *of) { return tuple_of(lens_of(of), of->axes, 0); }
+static PyObject *stride_tuple(const Layout *of) { return tuple_of(of->numbers + of->axes, of->axes, 1); }
+
+/* Raises the error of a call of this layout, which others of the package make as well. */
+static PyObject *fail_layout_at(int32_t status, const char *finder, const Layout *of, PyObject *others) {
+    OWNED first = Py_BuildValue("NNN", PyLong_FromSize_t(of->start), shape_of(of), stride_tuple(of));
+    OWNED more = others;
+    return first == NULL || more == NULL ? NULL : fail(status, finder, PySequence_Concat(first, more));
+}
+
+static PyObject *fail_layout_of(int32_t status, const char *finder, const Layout *of, PyObject *others) {
+    OWNED first = Py_BuildValue("NN", shape_of(of), stride_tuple(of));
+    OWNED more = others;
+    return first == NULL || more == NULL ? NULL : fail(status, finder, PySequence_Concat(first, more));
+}
+
+/* ---- What is accepted ------------------------------------------------------------------------------------------------ */
+
+/* What a layout is to be accepted as, and where: as one to be written where nothing is said and it may be. */
+typedef struct {
+    size_t start;
+    int has_start;
+    size_t itemsize;
+    size_t length;
+    int32_t writable; /* or -1 */
+} Wanted;
+
+static int32_t accept_as(const Given *of, int32_t mode, Wanted *wanted) {
+    if (wanted->has_start)
+        return nd_check_layout(wanted->start, of->lens->items, of->lens->count, STEPS(of->steps), of->steps->count, wanted->itemsize,
+                               wanted->length, mode);
+    return nd_layout_start(of->lens->items, of->lens->count, STEPS(of->steps), of->steps->count, wanted->itemsize, wanted->length, mode,
+                           &wanted->start);
+}
+
+/* Accepts a layout, and says in `wanted` whether it may be written. */
+static int32_t accept(const Given *of, Wanted *wanted) {
+    const int32_t mode = wanted->writable != 0;
+    int32_t status = accept_as(of, mode, wanted);
+    if (wanted->writable < 0 && status != ND_OK) {
+        wanted->writable = ND_READ_ONLY;
+        return accept_as(of, ND_READ_ONLY, wanted);
+    }
+    wanted->writable = mode;
+    return status;
+}
+
+/* The error of a layout that isn't accepted. Where strides may be meant to count bytes, `over` has it say so. */
+static PyObject *fail_to_accept(int32_t status, const Given *of, const Wanted *wanted, int over) {
+    PyObject *const others = Py_BuildValue("NNii", PyLong_FromSize_t(wanted->itemsize), PyLong_FromSize_t(wanted->length),
+                                           (int)(wanted->writable > 0), over);
+    return wanted->has_start ? fail_at(status, "of_accepting", wanted->start, of, others) : fail_of(status, "of_accepting_start", of, others);
+}
+
+/* The layout that was accepted, of a class. The format is dropped. */
+static PyObject *accepted(PyTypeObject *kind, const Given *of, const Wanted *wanted, PyObject *format) {
+    Layout *const made = new_layout(kind, of->lens->count);
+    if (made == NULL) {
+        Py_XDECREF(format);
+        return NULL;
+    }
+    memcpy(made->numbers, of->lens->items, of->lens->count * sizeof(size_t));
+    memcpy(made->numbers + made->axes, of->steps->items, of->steps->count * sizeof(size_t));
+    made->start = wanted->start;
+    made->length = wanted->length;
+    made->itemsize = wanted->itemsize;
+    made->writable = wanted->writable;
+    made->format = format;
+    return (PyObject *)made;
+}
+
+/* Layout(start, shape, strides, *, length, writable, itemsize, format). */
+static PyObject *new_accepted(PyTypeObject *kind, PyObject *args, PyObject *named) {
+    static char *names[] = {"start", "shape", "strides", "length", "writable", "itemsize", "format", NULL};
+    PyObject *start, *shape, *strides, *length = NULL, *writable = NULL, *itemsize = NULL, *format = Py_None;
+    Wanted wanted = {0, 1, 1, 0, -1};
+    GIVEN(of);
+    int32_t status;
+    if (!PyArg_ParseTupleAndKeywords(args, named, "OOO|$OOOO:Layout", names, &start, &shape, &strides, &length, &writable, &itemsize, &format))
+        return NULL;
+    if (length == NULL) return PyErr_Format(PyExc_TypeError, "Layout() missing required argument: 'length'");
+    if (!read_list(shape, "length", 0, of.lens) || !read_list(strides, "stride", 1, of.steps)) return NULL;
+    if (!read_writable(writable, &wanted.writable) || !read_number(start, "start", 0, &wanted.start)) return NULL;
+    if (itemsize != NULL && !read_number(itemsize, "elem_size", 0, &wanted.itemsize)) return NULL;
+    if (!read_number(length, "length", 0, &wanted.length)) return NULL;
+    status = accept(&of, &wanted);
+    return status == ND_OK ? accepted(kind, &of, &wanted, Py_NewRef(format)) : fail_to_accept(status, &of, &wanted, 0);
+}
+
+/* Reads how many items a buffer has, their size and their format. A number stands for so many items of a byte. */
+static int count_items(PyObject *buffer, Wanted *wanted, PyObject **format) {
+    if (PyLong_CheckExact(buffer)) return read_number(buffer, "length", 0, &wanted->length);
+    OWNED counted = ask("ndarray_layout._buffers", "count_items", Py_BuildValue("(O)", buffer));
+    PyObject *const length = counted == NULL ? NULL : PyTuple_GetItem(counted, 0);
+    if (length == NULL || !read_number(length, "length", 0, &wanted->length)) return 0;
+    *format = Py_NewRef(PyTuple_GetItem(counted, 2));
+    return read_number(PyTuple_GetItem(counted, 1), "itemsize", 0, &wanted->itemsize);
+}
+
+static Call call_of_over = {"over", "buffer shape strides= * start= order= writable=", -1, 0, 0, 0, 0, {NULL}};
+
+/* Layout.over(buffer, shape, strides, *, start, order, writable). */
+static PyObject *over(PyObject *kind, PyObject *const *args, Py_ssize_t count, PyObject *names) {
+    Wanted wanted = {0, 0, 1, 0, -1};
+    OWNED format = NULL;
+    GIVEN(of);
+    int32_t order = ND_ROW_MAJOR, status = ND_OK;
+    TAKEN(taken);
+    PyObject **const v = taken.values;
+    if (!take(&call_of_over, args, count, names, &taken) || !count_items(v[0], &wanted, &format)) return NULL;
+    const int has_strides = v[2] != NULL && v[2] != Py_None, has_order = v[4] != NULL && v[4] != Py_None;
+    if (!read_list(v[1], "length", 0, of.lens)) return NULL;
+    if (has_strides && has_order) return raise_by(REASONS, "order_beside_strides", Py_BuildValue("(O)", v[4]));
+    if ((has_order && !read_order(v[4], NULL, &order)) || !read_writable(v[5], &wanted.writable)) return NULL;
+    wanted.has_start = v[3] != NULL && v[3] != Py_None;
+    if (has_strides ? !read_list(v[2], "stride", 1, of.steps) : !make_room(of.steps, of.lens->count)) return NULL;
+    if (!has_strides)
+        status = (order == ND_ROW_MAJOR ? nd_default_strides : nd_fortran_strides)(of.lens->items, of.lens->count, STEPS(of.steps), of.steps->count);
+    if (status != ND_OK) return fail(status, "of_size", Py_BuildValue("(N)", lengths_of(of.lens)));
+    if (wanted.has_start && !read_number(v[3], "start", 0, &wanted.start)) return NULL;
+    status = accept(&of, &wanted);
+    if (status != ND_OK) return fail_to_accept(status, &of, &wanted, has_strides || wanted.has_start);
+    return accepted((PyTypeObject *)kind, &of, &wanted, Py_NewRef(format == NULL ? Py_None : format));
+}
+
+/* ---- Fields ---------------------------------------------------------------------------------------------------------- */
+
+enum { START, SHAPE, STRIDES, LENGTH, WRITABLE, ITEMSIZE, FORMAT, BYTE_STRIDES, NDIM, SIZE, NBYTES, TRANSPOSED };
+
+static PyObject *byte_strides(const Layout *of) {
+    OWNED itemsize = PyLong_FromSize_t(of->itemsize);
+    PyObject *const tuple = PyTuple_New((Py_ssize_t)of->axes);
+    size_t axis;
+    for (axis = 0; tuple != NULL && itemsize != NULL && axis < of->axes; axis++) {
+        OWNED stride = PyLong_FromSsize_t(steps_of(of)[axis]);
+        PyObject *const bytes = stride == NULL ? NULL : PyNumber_Multiply(stride, itemsize);
+        if (bytes == NULL) break;
+        PyTuple_SetItem(tuple, (Py_ssize_t)axis, bytes);
+    }
+    if (!PyErr_Occurred()) return tuple;
+    Py_XDECREF(tuple);
+    return NULL;
+}
+
+static PyObject *permuted(const Layout *of, const List *axes);
+
+static PyObject *transposed(const Layout *of) {
+    LIST(axes);
+    size_t at;
+    if (!make_room(&axes, of->axes)) return NULL;
+    for (at = 0; at < of->axes; at++) axes.items[at] = of->axes - 1 - at;
+    return permuted(of, &axes);
+}
+
+static PyObject *get(PyObject *self, void *name) {
+    const Layout *const of = (Layout *)self;
+    switch ((int)(intptr_t)name) {
+    case START: return PyLong_FromSize_t(of->start);
+    case SHAPE: return shape_of(of);
+    case STRIDES: return stride_tuple(of);
+    case LENGTH: return PyLong_FromSize_t(of->length);
+    case WRITABLE: return PyBool_FromLong(of->writable);
+    case ITEMSIZE: return PyLong_FromSize_t(of->itemsize);
+    case FORMAT: return Py_NewRef(of->format == NULL ? Py_None : of->format);
+    case BYTE_STRIDES: return byte_strides(of);
+    case NDIM: return PyLong_FromSize_t(of->axes);
+    case SIZE: return PyLong_FromSize_t(product_of(lens_of(of), of->axes));
+    case TRANSPOSED: return transposed(of);
+    default: {
+        OWNED size = PyLong_FromSize_t(product_of(lens_of(of), of->axes));
+        OWNED itemsize = PyLong_FromSize_t(of->itemsize);
+        return size == NULL || itemsize == NULL ? NULL : PyNumber_Multiply(size, itemsize);
+    }
+    }
+}
+
+#define FIELD(name, number) {#name, get, NULL, DOC_Layout_##name, (void *)(intptr_t)(number)}
+
+/* What a call says of the layout. */
+static PyObject *asked(PyObject *self, void *call) {
+    const Layout *const of = (Layout *)self;
+    int32_t answer = 0, status;
+    Say say_it;
+    memcpy(&say_it, call, sizeof say_it);
+    if (say_it == nd_has_overlap && of->writable) Py_RETURN_FALSE;
+    status = say_it(lens_of(of), of->axes, steps_of(of), of->axes, &answer);
+    return status == ND_OK ? PyBool_FromLong(answer) : fail_layout_of(status, "of_layout", of, PyTuple_New(0));
+}
+
+static Say say_overlap = nd_has_overlap, say_contiguous = nd_is_contiguous, say_c = nd_is_layout_c, say_f = nd_is_layout_f;
+
+/* Whether two layouts have the same numbers. */
+static int are_equal(const Layout *one, const Layout *other) {
+    return one->start == other->start && one->length == other->length && one->itemsize == other->itemsize && one->axes == other->axes &&
+           one->writable == other->writable && memcmp(one->numbers, other->numbers, 2 * one->axes * sizeof(size_t)) == 0;
+}
+
+static PyObject *compare(PyObject *self, PyObject *other, int how) {
+    if ((how != Py_EQ && how != Py_NE) || Py_TYPE(self) != Py_TYPE(other)) Py_RETURN_NOTIMPLEMENTED;
+    return PyBool_FromLong(are_equal((Layout *)self, (Layout *)other) == (how == Py_EQ));
+}
+
+static Py_hash_t hash(PyObject *self) {
+    const Layout *const of = (Layout *)self;
+    OWNED numbers = Py_BuildValue("NNNNNi", PyLong_FromSize_t(of->start), shape_of(of), stride_tuple(of), PyLong_FromSize_t(of->length),
+                                  PyLong_FromSize_t(of->itemsize), (int)of->writable);
+    return numbers == NULL ? -1 : PyObject_Hash(numbers);
+}
+
+/* ---- Keys ------------------------------------------------------------------------------------------------------------ */
+
+static void put_whole(const size_t *lens, size_t count, Elems *elems) {
+    size_t axis;
+    for (axis = 0; axis < count; axis++) put(elems, ND_SLICE, 0, 0, 0, 1);
+    (void)lens;
+}
+
+/* Reads one entry of a key, of an axis on: 1, or 0 where it is no usual one. Axes that no entry takes are in the place of `...`. */
+static int put_entry(PyObject *entry, const size_t *lens, size_t not_taken, size_t *axis, Elems *elems) {
+    Py_ssize_t start, end, step;
+    if (entry == Py_None) {
+        put(elems, ND_NEW_AXIS, 0, 0, 0, 1);
+        return 1;
+    }
+    if (entry == Py_Ellipsis) {
+        put_whole(lens, not_taken, elems);
+        *axis += not_taken;
+        return 1;
+    }
+    if (PySlice_Check(entry)) {
+        if (PySlice_Unpack(entry, &start, &end, &step) < 0) return 0;
+        PySlice_AdjustIndices((Py_ssize_t)lens[*axis], &start, &end, step);
+        put(elems, ND_SLICE, 1, step > 0 ? start : end + 1, step > 0 ? end : start + 1, step);
+    } else {
+        if (!PyLong_CheckExact(entry)) return 0;
+        start = PyLong_AsSsize_t(entry);
+        if (start == -1 && PyErr_Occurred()) return 0;
+        put(elems, ND_INDEX, 0, start, 0, 1);
+    }
+    ++*axis;
+    return 1;
+}
+
+/* How many axes a key takes; too many where it has `...` twice. */
+static size_t axes_of_key(PyObject *key, Py_ssize_t entries) {
+    Py_ssize_t at;
+    size_t axes = 0, gaps = 0;
+    for (at = 0; at < entries; at++) {
+        PyObject *const entry = PyTuple_GetItem(key, at);
+        gaps += entry == Py_Ellipsis;
+        axes += entry != Py_Ellipsis && entry != Py_None;
+    }
+    return gaps > 1 ? SIZE_MAX : axes;
+}
+
+/* Reads a usual key of NumPy: a tuple of entries, or one alone. Errors stay, and 0 is returned, where it is none. */
+static int read_usual_key(PyObject *key, const size_t *lens, size_t axes, Elems *elems) {
+    const int is_tuple = PyTuple_CheckExact(key);
+    const Py_ssize_t entries = is_tuple ? PyTuple_Size(key) : 1;
+    const size_t taken = is_tuple ? axes_of_key(key, entries) : key != Py_None && key != Py_Ellipsis;
+    Py_ssize_t at;
+    size_t axis = 0;
+    if (taken > axes || !make_elems(elems, axes + (size_t)entries)) return 0;
+    for (at = 0; at < entries; at++)
+        if (!put_entry(is_tuple ? PyTuple_GetItem(key, at) : key, lens, axes - taken, &axis, elems)) return 0;
+    put_whole(lens, axes - axis, elems);
+    return 1;
+}
+
+/* Whether an error comes again where the package reads the arguments, and is cleared; interrupts stay. */
+static int comes_again(void) {
+    if (PyErr_Occurred() && (!PyErr_ExceptionMatches(PyExc_Exception) || PyErr_ExceptionMatches(PyExc_MemoryError))) return 0;
+    PyErr_Clear();
+    return 1;
+}
+
+/* Reads a key by the package, which raises the error of one that is none. */
+static int read_any_key(PyObject *key, const size_t *lens, size_t axes, Elems *elems) {
+    OWNED fields = ask(KEYS, "fields_of_key", Py_BuildValue("NO", tuple_of(lens, axes, 0), key));
+    free_elems(elems);
+    elems->items = elems->room;
+    return read_fields(fields, elems);
+}
+
+/* Reads any key. Whether it is one; else there is an error. */
+static int read_key(PyObject *key, const size_t *lens, size_t axes, Elems *elems) {
+    return read_usual_key(key, lens, axes, elems) || (comes_again() && read_any_key(key, lens, axes, elems));
+}
+
+/* The layout that elements of a slice leave. */
+static PyObject *slice_by(const Layout *of, const Elems *elems) {
+    Layout *const made = layout_like(of, elems->axes);
+    int32_t status;
+    if (made == NULL) return NULL;
+    status = nd_slice(of->start, lens_of(of), of->axes, steps_of(of), of->axes, elems->items, elems->count, ND_STRICT, &made->start,
+                      made->numbers, made->axes, own_steps(made), made->axes);
+    if (status == ND_OK) return (PyObject *)made;
+    Py_DECREF(made);
+    return fail_layout_at(status, "of_slice", of, Py_BuildValue("Ni", fields_of(elems), 0));
+}
+
+static PyObject *subscript(PyObject *self, PyObject *key) {
+    const Layout *const of = (Layout *)self;
+    ELEMS(elems);
+    return read_key(key, lens_of(of), of->axes, &elems) ? slice_by(of, &elems) : NULL;
+}
+
+/* slice(elems, clamp): by the layer's elements. */
+static Call call_of_slice = {"slice", "elems clamp=", -1, 0, 0, 0, 0, {NULL}};
+static PyObject *slice_elems(PyObject *self, PyObject *const *args, Py_ssize_t count, PyObject *names) {
+    const Layout *const of = (Layout *)self;
+    ELEMS(elems);
+    int32_t clamp = 0, status;
+    Layout *made;
+    TAKEN(taken);
+    if (!take(&call_of_slice, args, count, names, &taken) || !read_elems(taken.values[0], &elems)) return NULL;
+    if (taken.values[1] != NULL && !read_flag(taken.values[1], "clamp", &clamp)) return NULL;
+    made = layout_like(of, elems.axes);
+    if (made == NULL) return NULL;
+    status = nd_slice(of->start, lens_of(of), of->axes, steps_of(of), of->axes, elems.items, elems.count, clamp, &made->start,
+                      made->numbers, made->axes, own_steps(made), made->axes);
+    if (status == ND_OK) return (PyObject *)made;
+    Py_DECREF(made);
+    return fail_layout_at(status, "of_slice", of, Py_BuildValue("Ni", fields_of(&elems), (int)clamp));
+}
+
+/* ---- Axes ------------------------------------------------------------------------------------------------------------ */
+
+static PyObject *permuted(const Layout *of, const List *axes) {
+    Layout *const made = layout_like(of, of->axes);
+    int32_t status;
+    if (made == NULL) return NULL;
+    status = nd_permuted_axes(lens_of(of), of->axes, steps_of(of), of->axes, axes->items, axes->count, made->numbers, made->axes,
+                              own_steps(made), made->axes);
+    if (status == ND_OK) return (PyObject *)made;
+    Py_DECREF(made);
+    return fail_layout_of(status, "of_permuted_axes", of, Py_BuildValue("(N)", lengths_of(axes)));
+}
+
+static Call call_of_permuted = {"permuted_axes", "axes", -1, 0, 0, 0, 0, {NULL}};
+static PyObject *permuted_by(PyObject *self, PyObject *const *args, Py_ssize_t count, PyObject *names) {
+    LIST(axes);
+    TAKEN(taken);
+    if (!take(&call_of_permuted, args, count, names, &taken) || !read_list(taken.values[0], "axis", 0, &axes)) return NULL;
+    return permuted((Layout *)self, &axes);
+}
+
+/* Reads an axis, counted from the end where it is negative. */
+static int read_axis(PyObject *value, size_t axes, size_t *axis) {
+    if (PyLong_CheckExact(value)) {
+        const Py_ssize_t number = PyLong_AsSsize_t(value);
+        if (number >= 0 ? (size_t)number < axes : number >= -(Py_ssize_t)axes && !PyErr_Occurred()) {
+            *axis = number < 0 ? axes - (size_t)-number : (size_t)number;
+            return 1;
+        }
+        PyErr_Clear();
+    }
+    OWNED found = ask(NUMBERS, "axis_of", Py_BuildValue("ON", value, PyLong_FromSize_t(axes)));
+    return found != NULL && read_number(found, "axis", 0, axis);
+}
+
+/* transpose(*axes): as NumPy takes them. */
+static PyObject *transpose(PyObject *self, PyObject *const *args, Py_ssize_t count) {
+    const Layout *const of = (Layout *)self;
+    LIST(axes);
+    Py_ssize_t at;
+    if (count == 0 || (count == 1 && args[0] == Py_None)) return transposed(of);
+    OWNED listed = count == 1 && !PyTuple_CheckExact(args[0]) ? ask(NUMBERS, "listing", Py_BuildValue("Os", args[0], "axis")) : NULL;
+    if (count == 1 && listed == NULL && !PyTuple_CheckExact(args[0])) return NULL;
+    PyObject *const tuple = listed != NULL ? listed : count == 1 ? args[0] : NULL;
+    if (tuple != NULL && PyTuple_Size(tuple) == 0) return transposed(of);
+    if (!make_room(&axes, (size_t)(tuple == NULL ? count : PyTuple_Size(tuple)))) return NULL;
+    for (at = 0; at < (Py_ssize_t)axes.count; at++)
+        if (!read_axis(tuple == NULL ? args[at] : PyTuple_GetItem(tuple, at), of->axes, &axes.items[at])) return NULL;
+    return permuted(of, &axes);
+}
+
+static Call call_of_swapaxes = {"swapaxes", "axis1 axis2", -1, 0, 0, 0, 0, {NULL}};
+static PyObject *swapaxes(PyObject *self, PyObject *const *args, Py_ssize_t count, PyObject *names) {
+    const Layout *const of = (Layout *)self;
+    LIST(axes);
+    size_t one, other, at;
+    TAKEN(taken);
+    if (!take(&call_of_swapaxes, args, count, names, &taken) || !make_room(&axes, of->axes)) return NULL;
+    if (!read_axis(taken.values[0], of->axes, &one) || !read_axis(taken.values[1], of->axes, &other)) return NULL;
+    for (at = 0; at < of->axes; at++) axes.items[at] = at == one ? other : at == other ? one : at;
+    return permuted(of, &axes);
+}
+
+/* squeeze(axis): without axes of length 1, by an index of each. */
+static Call call_of_squeeze = {"squeeze", "axis=", -1, 0, 0, 0, 0, {NULL}};
+static PyObject *squeeze(PyObject *self, PyObject *const *args, Py_ssize_t count, PyObject *names) {
+    const Layout *const of = (Layout *)self;
+    ELEMS(elems);
+    size_t axis;
+    TAKEN(taken);
+    if (!take(&call_of_squeeze, args, count, names, &taken)) return NULL;
+    if (taken.values[0] != NULL && taken.values[0] != Py_None)
+        return ask("ndarray_layout._views", "squeezed", Py_BuildValue("OO", self, taken.values[0]));
+    if (!make_elems(&elems, of->axes)) return NULL;
+    for (axis = 0; axis < of->axes; axis++) put(&elems, lens_of(of)[axis] == 1 ? ND_INDEX : ND_SLICE, 0, 0, 0, 1);
+    return slice_by(of, &elems);
+}
+
+/* Slices an axis from where a diagonal begins. */
+static void put_diagonal(const Layout *of, size_t axis, const size_t *two, ptrdiff_t offset, Elems *elems) {
+    const ptrdiff_t begin = axis == two[0] && offset < 0 ? -offset : axis == two[1] && offset > 0 ? offset : 0;
+    const ptrdiff_t length = (ptrdiff_t)lens_of(of)[axis];
+    put(elems, ND_SLICE, 0, begin < length ? begin : length, 0, 1);
+}
+
+/* The diagonal of two axes of a layout, which begins where it does, as the last axis. */
+static PyObject *diagonal_of(const Layout *square, const size_t *two) {
+    const size_t shape[2] = {lens_of(square)[two[0]], lens_of(square)[two[1]]};
+    const ptrdiff_t strides[2] = {steps_of(square)[two[0]], steps_of(square)[two[1]]};
+    Layout *const made = layout_like(square, square->axes - 2 + 1);
+    size_t axis, to = 0, length;
+    ptrdiff_t stride;
+    int32_t status;
+    if (made == NULL) return NULL;
+    for (axis = 0; axis < square->axes; axis++) {
+        if (axis == two[0] || axis == two[1]) continue;
+        made->numbers[to] = lens_of(square)[axis];
+        own_steps(made)[to++] = steps_of(square)[axis];
+    }
+    status = nd_diag(shape, 2, strides, 2, &length, &stride);
+    made->numbers[to] = length;
+    own_steps(made)[to] = stride;
+    if (status == ND_OK) return (PyObject *)made;
+    Py_DECREF((PyObject *)made);
+    return fail_layout_of(status, "of_layout", square, PyTuple_New(0));
+}
+
+static int read_axis_or(PyObject *value, long usual, size_t axes, size_t *axis) {
+    OWNED number = value == NULL ? PyLong_FromLong(usual) : Py_NewRef(value);
+    return number != NULL && read_axis(number, axes, axis);
+}
+
+/* diagonal(offset, axis1, axis2): two axes as one, which the library makes of both. */
+static Call call_of_diagonal = {"diagonal", "offset= axis1= axis2=", -1, 0, 0, 0, 0, {NULL}};
+static PyObject *diagonal(PyObject *self, PyObject *const *args, Py_ssize_t count, PyObject *names) {
+    const Layout *const of = (Layout *)self;
+    ELEMS(elems);
+    size_t two[2], axis, offset = 0;
+    TAKEN(taken);
+    if (!take(&call_of_diagonal, args, count, names, &taken)) return NULL;
+    if (!read_axis_or(taken.values[1], 0, of->axes, &two[0]) || !read_axis_or(taken.values[2], 1, of->axes, &two[1])) return NULL;
+    if (two[0] == two[1]) return raise_by(NUMBERS, "axis_twice", Py_BuildValue("(N)", PyLong_FromSize_t(two[0])));
+    if ((taken.values[0] != NULL && !read_number(taken.values[0], "offset", 1, &offset)) || !make_elems(&elems, of->axes)) return NULL;
+    if ((ptrdiff_t)offset == PTRDIFF_MIN) offset++; /* (which as well lies past all indices) */
+    for (axis = 0; axis < of->axes; axis++) put_diagonal(of, axis, two, (ptrdiff_t)offset, &elems);
+    OWNED square = slice_by(of, &elems);
+    return square == NULL ? NULL : diagonal_of((Layout *)square, two);
+}
+
+/* ---- Shapes ---------------------------------------------------------------------------------------------------------- */
+
+/* The rest of a size in the place of the one length -1: 1, or 0 where the package says what is wrong. */
+static int put_rest(size_t size, PyObject *shape, List *lens) {
+    Py_ssize_t at, count = PyTuple_Size(shape), open = -1;
+    size_t others = 1;
+    if (!make_room(lens, (size_t)count)) return 0;
+    for (at = 0; at < count; at++) {
+        PyObject *const number = PyTuple_GetItem(shape, at);
+        const Py_ssize_t length = PyLong_CheckExact(number) ? PyLong_AsSsize_t(number) : 0;
+        if (length == -1 && open < 0 && !PyErr_Occurred()) {
+            open = at;
+            continue;
+        }
+        if (length < 1 || __builtin_mul_overflow(others, (size_t)length, &others)) return 0;
+        lens->items[at] = (size_t)length;
+    }
+    if (open < 0 || size % others != 0) return 0;
+    lens->items[open] = size / others;
+    return 1;
+}
+
+static int has_rest(PyObject *shape) {
+    Py_ssize_t at, count = PyTuple_Size(shape);
+    for (at = 0; at < count; at++) {
+        PyObject *const number = PyTuple_GetItem(shape, at);
+        if (PyLong_CheckExact(number) && PyLong_AsSsize_t(number) == -1) {
+            if (!PyErr_Occurred()) return 1;
+            PyErr_Clear();
+        }
+    }
+    return 0;
+}
+
+/* Reads the shape of a reshape, one length of which may be -1. */
+static int read_new_shape(const Layout *of, PyObject *value, List *lens) {
+    OWNED shape = PyTuple_CheckExact(value) ? Py_NewRef(value) : PyLong_CheckExact(value) ? PyTuple_Pack(1, value) : ask(NUMBERS, "integers", Py_BuildValue("Os", value, "length"));
+    if (shape == NULL) return 0;
+    if (!has_rest(shape)) return read_list(shape, "length", 0, lens);
+    if (put_rest(product_of(lens_of(of), of->axes), shape, lens)) return 1;
+    PyErr_Clear();
+    OWNED integers = ask(NUMBERS, "integers", Py_BuildValue("Os", shape, "length"));
+    OWNED found = integers == NULL ? NULL : ask("ndarray_layout._arrays", "without_minus_one", Py_BuildValue("NO", shape_of(of), integers));
+    return found != NULL && read_list(found, "length", 0, lens);
+}
+
+static PyObject *reshaped(const Layout *of, const List *lens, PyObject *order) {
+    LIST(of_lens);
+    LIST(of_steps);
+    Given given = {&of_lens, &of_steps, 0, 1};
+    int32_t number, status;
+    Layout *made;
+    if (order == NULL) {
+        number = ND_ROW_MAJOR;
+    } else {
+        if (!make_room(&of_lens, of->axes) || !make_room(&of_steps, of->axes)) return NULL;
+        memcpy(of_lens.items, lens_of(of), of->axes * sizeof(size_t));
+        memcpy(of_steps.items, steps_of(of), of->axes * sizeof(size_t));
+        if (!read_order(order, &given, &number)) return NULL;
+    }
+    made = layout_like(of, lens->count);
+    if (made == NULL) return NULL;
+    status = nd_reshape(lens_of(of), of->axes, steps_of(of), of->axes, lens->items, lens->count, number, own_steps(made), made->axes);
+    memcpy(made->numbers, lens->items, lens->count * sizeof(size_t));
+    if (status == ND_OK) return (PyObject *)made;
+    Py_DECREF(made);
+    return fail_layout_of(status, "of_reshape", of, Py_BuildValue("Ni", lengths_of(lens), (int)number));
+}
+
+/* reshape(shape, *others, order): the shape is one list, or its numbers. */
+static Call call_of_reshape_layout = {"reshape", "shape * order=", -1, 0, 0, 0, 0, {NULL}};
+static PyObject *reshape_layout(PyObject *self, PyObject *const *args, Py_ssize_t count, PyObject *names) {
+    LIST(lens);
+    TAKEN(taken);
+    OWNED listed = NULL;
+    Py_ssize_t at;
+    PyObject *given[2] = {NULL, NULL};
+    const Py_ssize_t first = count > 1 ? count - 1 : 0; /* (of several numbers the last one is taken, and all are listed) */
+    if (!take(&call_of_reshape_layout, args + first, count - first, names, &taken)) return NULL;
+    memcpy(given, taken.values, sizeof given);
+    if (count > 1) {
+        given[0] = listed = PyTuple_New(count);
+        for (at = 0; listed != NULL && at < count; at++) PyTuple_SetItem(listed, at, Py_NewRef(args[at]));
+        if (listed == NULL) return NULL;
+    }
+    return read_new_shape((Layout *)self, given[0], &lens) ? reshaped((Layout *)self, &lens, given[1]) : NULL;
+}
+
+/* ravel(order). */
+static Call call_of_ravel = {"ravel", "order=", -1, 0, 0, 0, 0, {NULL}};
+static PyObject *ravel(PyObject *self, PyObject *const *args, Py_ssize_t count, PyObject *names) {
+    const Layout *const of = (Layout *)self;
+    LIST(lens);
+    TAKEN(taken);
+    if (!take(&call_of_ravel, args, count, names, &taken)) return NULL;
+    make_room(&lens, 1);
+    lens.items[0] = product_of(lens_of(of), of->axes);
+    return reshaped(of, &lens, taken.values[0]);
+}
+
+/* place(index). */
+static Call call_of_place_of = {"place", "index", -1, 0, 0, 0, 0, {NULL}};
+static PyObject *place_of(PyObject *self, PyObject *const *args, Py_ssize_t count, PyObject *names) {
+    const Layout *const of = (Layout *)self;
+    LIST(index);
+    size_t found;
+    int32_t status;
+    TAKEN(taken);
+    if (!take(&call_of_place_of, args, count, names, &taken) || !read_list(taken.values[0], "index", 0, &index)) return NULL;
+    status = nd_place(of->start, lens_of(of), of->axes, steps_of(of), of->axes, index.items, index.count, &found);
+    if (status == ND_OK) return PyLong_FromSize_t(found);
+    return fail_layout_at(status, "of_place", of, Py_BuildValue("(N)", lengths_of(&index)));
+}
+
+/* _kept(start, shape, strides, writable): what a call of the package made of this layout, which is accepted by that call's promise. */
+static PyObject *kept(PyObject *self, PyObject *const *args, Py_ssize_t count) {
+    LIST(lens);
+    LIST(steps);
+    size_t start;
+    Layout *made;
+    if (count != 4 || !read_number(args[0], "start", 0, &start)) return NULL;
+    if (!read_list(args[1], "length", 0, &lens) || !read_list(args[2], "stride", 1, &steps)) return NULL;
+    made = layout_like((Layout *)self, lens.count);
+    if (made == NULL) return NULL;
+    made->start = start;
+    made->writable = args[3] == Py_True;
+    memcpy(made->numbers, lens.items, lens.count * sizeof(size_t));
+    memcpy(made->numbers + made->axes, steps.items, (steps.count < lens.count ? steps.count : lens.count) * sizeof(size_t));
+    return (PyObject *)made;
+}
+
+#endif
