@@ -5,7 +5,7 @@ use Rattle.std.proofs.Common.{subst, ◌∙◌, arith, eq-eqb, eqb-true, pos_of_
 use Rattle.std.specs.List.{All}
 use Rattle.std.proofs.Math.Nat.{min-le_right, mul-le-mul_right}
 use Rattle.std.proofs.Math.Seq.{drop-append-add, drop-append_seam, take-append-add, take-append_seam}
-use Rattle.std.proofs.lemmas.Bool.{cases_lt, eqb-false, ne_eqb}
+use Rattle.std.proofs.lemmas.Bool.{cases_lt, eqb-false}
 use Rattle.std.proofs.lemmas.Grind.{flat_map-append}
 use Rattle.std.proofs.lemmas.List.{drop-append-le, drop_all, length-take-le, take-append-le, take-take}
 use Rattle.std.proofs.lemmas.List.Elements.{All-append, All-cons, All-drop, All-head, All-nil, All-tail, All-take}
@@ -19,7 +19,7 @@ use Rattle.ndarray_layout.specs.View.{IsPlace}
 use Rattle.ndarray_layout.proofs.ByRows.{row_from}
 use Rattle.ndarray_layout.proofs.NumberedRows.{lesser}
 use Rattle.ndarray_layout.proofs.LaterPlaces.{EntersRow, drop_rows, length-row, past_row}
-use Rattle.ndarray_layout.proofs.RowSteps.{after, place_bounds, start_bound}
+use Rattle.ndarray_layout.proofs.RowSteps.{after, place_bounds}
 use Rattle.ndarray_layout.proofs.Laws.Rows.{length-row_places, no_more, row_more}
 
 -- ---- lists
@@ -65,9 +65,6 @@ module _ (rows : List Row) (last : Row) where
 
   pub and_none : last.len ≡ 0 → rows_and rows last ≡ rows
   and_none none = ap (λ b. rows ++ cond b [] (last ∷ [])) (eq-eqb last.len 0 none) ∙ append-nil rows
-
-  pub and_some : 0 < last.len → rows_and rows last ≡ rows ++ last ∷ []
-  and_some some = ap (λ b. rows ++ cond b [] (last ∷ [])) (ne_eqb last.len 0 (λ none. omega (arith, some, none)))
 
   pub All-and : All (λ row. 0 < row.len) rows → All (λ row. 0 < row.len) (rows_and rows last)
   All-and all = by (nat_eq last.len 0) refl
@@ -221,18 +218,6 @@ module _ (place : ℕ) (stride : ℤ) (left : ℕ) (rows : List Row) (last : Row
     length-row_places last.start last.stride last.len,
   )
 
-pub last_of_rows : (place : ℕ) (stride : ℤ) (left : ℕ) {rows : List Row} (others : List Row) (row : Row) → rows ≡ others ++ row ∷ []
-    → places_after place stride left rows ≡ places_after place stride left others ++ row_places row.start row.stride row.len
-last_of_rows place stride left {rows} others row is =
-    let front = row_from (pos place +ℤ stride) stride left in
-    let places = row_places row.start row.stride row.len in
-    ap (places_after place stride left) is
-    ∙ after place stride left (others ++ row ∷ [])
-    ∙ ap (λ xs. front ++ xs) (flat_map-append (λ row. row_places row.start row.stride row.len) others (row ∷ []))
-    ∙ ap (λ xs. front ++ (rows_places others ++ xs)) (append-nil places)
-    ∙ sym (append_assoc front (rows_places others) places)
-    ∙ ap (λ xs. xs ++ places) (sym (after place stride left others))
-
 -- without the last places
 module _ {place left : ℕ} {stride : ℤ} {rows : List Row} (l : ArePlacesLeft place stride left rows) where
   pub left_before : {left' : ℕ} {others : List Row} (more : List ℤ) → All (λ row. 0 < row.len) others
@@ -270,9 +255,6 @@ module _ {place left : ℕ} {stride : ℤ} {rows : List Row} (l : ArePlacesLeft 
     pub row_in : All (IsInBounds (2 ^ 63)) (row_places row.start row.stride row.len)
     row_in = All-back (IsInBounds (2 ^ 63)) (places_after place stride left' others) (row_places row.start row.stride row.len)
         (subst (All (IsInBounds (2 ^ 63))) without_row l.in_bounds)
-
-    pub last_start : row.start ≤ limit
-    last_start = start_bound row.start row.stride row.len row_in some
 
     pub last_place : IsPlace (pos row.start +ℤ (pos (row.len - 1) *ℤ row.stride))
     last_place = place_bounds row.start row.stride row.len (row.len - 1) row_in (omega (arith, some))

@@ -8,7 +8,7 @@ use Rattle.std.proofs.lemmas.List.Sorted.{IsPermutation-sym}
 use Rattle.nd_base.proofs.Laws.Below.{get_or-below, length-below}
 use Rattle.nd_base.proofs.Laws.Definitions.{below}
 use Rattle.nd_dim.specs.AxesInOrder.{is_axis_order}
-use Rattle.nd_dim.proofs.Laws.AxesInOrder.{item_below, length_of_order, order_of_permutation, position_of, position_of_item}
+use Rattle.nd_dim.proofs.Laws.AxesInOrder.{item_below, order_of_permutation, position_of, position_of_item}
 use Rattle.nd_dim.proofs.Laws.Rearranged.{permutation_from_members}
 
 -- the first of the named axes are there, no two of them are one, and they alone are marked
@@ -84,10 +84,6 @@ all_marked {n} {numbers} {marks} each long =
     (z, omega (arith, length-below n), get_or-below n z z in_bounds) in
     order_of_permutation n numbers (IsPermutation-sym numbers (below n)
     (permutation_from_members numbers (below n) apart (long ∙ sym (length-below n)) members))
-
--- a list of another count is no order
-pub order_of_other_count : (n : ℕ) (numbers : List ℕ) → length numbers ≢ n → false ≡ is_axis_order n numbers
-order_of_other_count n numbers other = sym (false_from_ne_true (is_axis_order n numbers) (λ order. other (length_of_order n numbers order)))
 
 -- nor is one with an axis that isn't there, or that is marked already
 pub order_of_no_axis : (n count : ℕ) (numbers : List ℕ) → count < length numbers → n ≤ get_or numbers count 0

@@ -1,6 +1,6 @@
 -- What is left of rows of places, from one place to the next.
 use Rattle.std.proofs.Common.{◌≡◌, ℕ, zero, suc, ◌+◌, ◌-◌, ◌<◌, ◌≤◌, ◌^◌, ℤ, pos, negsuc, ◌+ℤ◌, ◌*ℤ◌, List, [], ◌∷◌, ◌++◌}
-use Rattle.std.proofs.Common.{add-one, append_assoc, drop, length, map, refl, sym, ap, subst, ◌∙◌, arith, length-append, length-drop}
+use Rattle.std.proofs.Common.{add-one, append_assoc, drop, length, map, refl, sym, ap, subst, ◌∙◌, arith, length-append}
 use Rattle.std.specs.List.{All, range_with_len}
 use Rattle.std.proofs.lemmas.Int.{ints}
 use Rattle.std.proofs.lemmas.List.Elements.{All-head, All-nil, All-tail}
@@ -144,10 +144,6 @@ module _ {place left : ℕ} {stride : ℤ} {rows : List Row} (l : ArePlacesLeft 
         fits = omega (arith, l.fits, ap length (row_begins none e steps));
       }
 
-  -- and without another one none is left
-  pub none_after : left ≡ 0 → rows ≡ [] → places_after place stride left rows ≡ []
-  none_after none end = ap (λ n. places_after place stride n rows) none ∙ ap rows_places end
-
   pub left_after_end : {others : List Row} → left ≡ 0 → others ≡ [] → ArePlacesLeft place stride left others
   left_after_end {others} none end =
       let nothing : places_after place stride left others ≡ [] = ap (λ n. places_after place stride n others) none ∙ ap rows_places end in
@@ -157,11 +153,3 @@ module _ {place left : ℕ} {stride : ℤ} {rows : List Row} (l : ArePlacesLeft 
         some = subst (All (λ row. 0 < row.len)) (sym end) (All-nil (λ row. 0 < row.len));
         fits = omega (arith, ap length nothing);
       }
-
--- as many as are left in the row, and in the rows
-pub length-places_after : (place : ℕ) (stride : ℤ) (left : ℕ) (rows : List Row)
-    → length (places_after place stride left rows) ≡ left + length (rows_places rows)
-length-places_after place stride left rows =
-    length-append (drop 1 (row_places place stride (left + 1))) (rows_places rows)
-    ∙ ap (λ n. n + length (rows_places rows))
-    (length-drop 1 (row_places place stride (left + 1)) ∙ ap (λ n. n - 1) (length-row_places place stride (left + 1)) ∙ omega arith)

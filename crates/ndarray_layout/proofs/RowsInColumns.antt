@@ -115,22 +115,25 @@ module _ {order : Order} {view : View} {len : ℕ} {columns : Columns} {front ba
     }
 
   -- what is left of the column that has begun
-  pub column_goes_on : 0 < front.left → HasRowInColumn order view len columns back end given (front, begun)
-  column_goes_on some = record { left = l; some = some; same = refl }
+  pub column_goes_on : {next : InColumn × ℕ} → next ≡ (front, begun) → 0 < front.left
+      → HasRowInColumn order view len columns back end given next
+  column_goes_on is some =
+      subst (HasRowInColumn order view len columns back end given) (sym is) (record { left = l; some = some; same = refl })
 
   -- a column of which none is left, and then the next one
-  pub column_begins : (none : front.left ≡ 0) {next : InColumn × ℕ} → (begun < end) × (pos next.0.place ≡ numbered_place order view begun)
-      × (next.0.left ≡ min columns.len (end - begun)) × (next.1 ≡ begun + next.0.left)
+  pub column_begins : {next entered : InColumn × ℕ} → next ≡ entered → front.left ≡ 0
+      → (begun < end) × (pos entered.0.place ≡ numbered_place order view begun)
+      × (entered.0.left ≡ min columns.len (end - begun)) × (entered.1 ≡ begun + entered.0.left)
       → HasRowInColumn order view len columns back end given next
-  column_begins none {next} (below, at, least, is) =
+  column_begins {next} {entered} same none (below, at, least, is) =
       let all : columns.len ≡ columns.len - begun % columns.len = omega (arith, l.whole below) in
       let rows = least ∙ ap (λ n. min n (end - begun)) all in
-      record {
-        left = subst (λ n. AreRowsInColumns order view len columns next.0 back n end) (sym is)
+      subst (HasRowInColumn order view len columns back end given) (sym same) (record {
+        left = subst (λ n. AreRowsInColumns order view len columns entered.0 back n end) (sym is)
             (left_entered (omega (arith, none)) below rows at);
         some = some_rows (omega (arith, none)) below rows;
         same = omega (arith, is, none);
-      }
+      })
 
   -- ---- all were given
   pub left_ended : (place : ℕ) → AreRowsInColumns order view len columns (record { place = place; left = 0 }) back end end

@@ -233,11 +233,6 @@ module _ {fit : Fit} {elems : List SliceInfoElem} {shape : List ℕ} {strides : 
       offset → Some kind ≡ first_fault fit shape elems
   slice_at_fault at s = ap (λ fault. option_or fault (first_fault fit lens rest)) at ∙ s.fault
 
-  pub index_at_fault : (index : ℤ) {len : ℕ} {stride : ℤ} {kind : ErrorKind} → Some kind ≡ index_fault len index
-      → SlicedSoFar fit elems shape strides (elem.Index index ∷ rest) (len ∷ lens) (stride ∷ steps) new ns nt offset
-      → Some kind ≡ first_fault fit shape elems
-  index_at_fault index at s = ap (λ fault. option_or fault (first_fault fit lens rest)) at ∙ s.fault
-
 -- ---- what fits
 pub offset_fits : {fit : Fit} {elems : List SliceInfoElem} {shape : List ℕ} {strides : List ℤ} {rest : List SliceInfoElem} {lens : List ℕ}
     {steps : List ℤ} {new : ℕ} {ns nt : List ℕ} {offset : ℤ} → IsValidLayout shape strides → SlicedSoFar fit elems shape strides rest lens

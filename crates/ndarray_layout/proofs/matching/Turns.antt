@@ -20,9 +20,6 @@ use Rattle.ndarray_layout.proofs.matching.OnesRead.{ones-none, ones-past, ones_b
 use Rattle.ndarray_layout.proofs.matching.StridesAt.{AreDecidedAlike, forced-next, forced-same}
 
 -- ---- from here to there
-pub goes-here : {both : Layouts} → CanMatch both → GoesOn both (λ ss. ss) both
-goes-here can = record { can_match = can; fault = refl; strides = λ none. refl }
-
 pub goes-through : {both middle rest : Layouts} {given others : List ℤ → List ℤ} → GoesOn both given middle → GoesOn middle others rest
     → GoesOn both (λ ss. given (others ss)) rest
 goes-through {given = given} first next = record {

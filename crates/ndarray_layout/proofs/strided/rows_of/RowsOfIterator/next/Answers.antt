@@ -14,14 +14,10 @@ pub place_after-requires : goal.place_after-requires
 place_after-requires g c =
     let p = c.self.inside in
     let l = c.self.invariant in
-    let order = g.A.SlowerAxes.order p.axes in
-    let starts = g.A.SlowerAxes.starts p.axes in
-    let given = count_given p.begun p.front.left in
-    let next : HasRowInColumn order starts p.len p.columns p.back p.end given c.if-self-gt0.begun = elim c.if-self-gt0.branch [
-      | then-self-gt0 w ↦ subst (HasRowInColumn order starts p.len p.columns p.back p.end given) (sym w.begun-is)
-          (column_goes_on l w.if-self-gt0.true)
-      | else-self-gt0+in_ok-front w ↦ subst (HasRowInColumn order starts p.len p.columns p.back p.end given) (sym w.begun-is)
-          (column_begins l (omega (arith, w.if-self-gt0.false)) w.in_ok-front.ensures)
+    let next : HasRowInColumn _ _ p.len p.columns p.back p.end (count_given p.begun p.front.left) c.if-self-gt0.begun =
+    elim c.if-self-gt0.branch [
+      | then-self-gt0 w ↦ column_goes_on l w.begun-is w.if-self-gt0.true
+      | else-self-gt0+in_ok-front w ↦ column_begins l w.begun-is (omega (arith, w.if-self-gt0.false)) w.in_ok-front.ensures
     ] in
     let fits = front_fits next.left next.some in
     omega (arith, ints, fits.1)
@@ -30,14 +26,10 @@ pub invariant_of-self : goal.invariant_of-self
 invariant_of-self g c =
     let p = c.self.inside in
     let l = c.self.invariant in
-    let order = g.A.SlowerAxes.order p.axes in
-    let starts = g.A.SlowerAxes.starts p.axes in
-    let given = count_given p.begun p.front.left in
-    let next : HasRowInColumn order starts p.len p.columns p.back p.end given c.if-self-gt0.begun = elim c.if-self-gt0.branch [
-      | then-self-gt0 w ↦ subst (HasRowInColumn order starts p.len p.columns p.back p.end given) (sym w.begun-is)
-          (column_goes_on l w.if-self-gt0.true)
-      | else-self-gt0+in_ok-front w ↦ subst (HasRowInColumn order starts p.len p.columns p.back p.end given) (sym w.begun-is)
-          (column_begins l (omega (arith, w.if-self-gt0.false)) w.in_ok-front.ensures)
+    let next : HasRowInColumn _ _ p.len p.columns p.back p.end (count_given p.begun p.front.left) c.if-self-gt0.begun =
+    elim c.if-self-gt0.branch [
+      | then-self-gt0 w ↦ column_goes_on l w.begun-is w.if-self-gt0.true
+      | else-self-gt0+in_ok-front w ↦ column_begins l w.begun-is (omega (arith, w.if-self-gt0.false)) w.in_ok-front.ensures
     ] in
     let f : FitsSigned w64 p.columns.stride = search rules in
     let is = to_z-of_z w64 p.columns.stride f in
@@ -53,10 +45,8 @@ returns-clause-steps g c =
     let starts = g.A.SlowerAxes.starts p.axes in
     let given = count_given p.begun p.front.left in
     let next : HasRowInColumn order starts p.len p.columns p.back p.end given c.if-self-gt0.begun = elim c.if-self-gt0.branch [
-      | then-self-gt0 w ↦ subst (HasRowInColumn order starts p.len p.columns p.back p.end given) (sym w.begun-is)
-          (column_goes_on l w.if-self-gt0.true)
-      | else-self-gt0+in_ok-front w ↦ subst (HasRowInColumn order starts p.len p.columns p.back p.end given) (sym w.begun-is)
-          (column_begins l (omega (arith, w.if-self-gt0.false)) w.in_ok-front.ensures)
+      | then-self-gt0 w ↦ column_goes_on l w.begun-is w.if-self-gt0.true
+      | else-self-gt0+in_ok-front w ↦ column_begins l w.begun-is (omega (arith, w.if-self-gt0.false)) w.in_ok-front.ensures
     ] in
     let row : Row = record { start = 0; stride = p.stride; len = p.len } in
     let steps : p.stride ≡ to_z w64 (of_z w64 p.stride) = omega (arith, ints) in
