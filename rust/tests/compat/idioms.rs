@@ -1,7 +1,7 @@
 //! The table of ndarray's idioms in the guide: the text of each cell that is said to compile stands here.
 
-use ndarray_layout::Order;
 use ndarray_layout::compat::prelude::*;
+use ndarray_layout::{Order, Zip};
 use std::error::Error;
 
 type Tested = Result<(), Box<dyn Error>>;
@@ -120,6 +120,9 @@ fn values_of_whole_arrays() -> Tested {
     let (mut a, b, c) = (two_rows(), two_rows(), two_rows());
     assert_eq!(a.map(|item| item * 2)?.into_stored(), [0, 2, 4, 6, 8, 10]);
     a.zip_mut_with_two(&b.view(), &c.view(), |item, other, third| *item += other * third)?;
+    assert_eq!(a.as_slice(), Some(&[0, 2, 6, 12, 20, 30][..]));
+    a.assign(&b.view())?;
+    Zip::from(&mut a.view_mut()).and(&b.view()).and(&c.view()).for_each(|a, b, c| *a += b * c)?;
     assert_eq!(a.as_slice(), Some(&[0, 2, 6, 12, 20, 30][..]));
     a.assign(&b.view())?;
     a.view_mut().map_in_place(|item| *item += 1);
