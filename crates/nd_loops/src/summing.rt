@@ -5,7 +5,7 @@ ghost use Rattle.std.specs.Prelude.{◌≡◌, ◌≤◌, length, ◌<◌, Optio
 ghost use Rattle.nd_access.specs.LentRow.{row_items, rows_items};
 ghost use Rattle.nd_loops.specs.Summed.{within_u64};
 
-use crate::few::lent_by_few;
+use crate::few::{lent_by_few, lent_by_stride};
 use crate::unsigned::Unsigned;
 use nd_access::{LentRow, LentRows};
 
@@ -62,6 +62,23 @@ fn sum_places<T: Unsigned>(row: &LentRow<'_, T>) -> Option<u64>
     u64::try_from(total).ok()
 }
 
+/// The sum of the items of a row of few, place by place; `None` where it passes the greatest `u64`. The halves of the numbers are added
+/// apart, as in `sum_few`.
+#[inline(always)]
+fn sum_few_places<T: Unsigned>(row: &LentRow<'_, T>) -> Option<u64>
+    requires { row.now.row.len ≤ 1048576 }
+    ensures { result
+        ≡ within_u64 (sum_by (λ item. option_map_or T.number item 0) (row_items row.now)) }
+{
+    let (mut low, mut high) = (0, 0);
+    for coordinate in 0..row.len() {
+        let number = row.item(coordinate).to_u64();
+        low += number % HALF;
+        high += number / HALF;
+    }
+    low.checked_add(HALF.checked_mul(high)?)
+}
+
 /// The sum of the items of a row, of `FEW` unless that is 0; `None` where it passes the greatest `u64`.
 #[inline(always)]
 fn sum_row<const FEW: usize, T: Unsigned>(row: LentRow<'_, T>) -> Option<u64>
@@ -75,7 +92,13 @@ fn sum_row<const FEW: usize, T: Unsigned>(row: LentRow<'_, T>) -> Option<u64>
             return sum_slice(items);
         }
     }
-    sum_places(&known)
+    if known.len() > UNTESTED {
+        return sum_places(&known);
+    }
+    match lent_by_stride(&known, 2) {
+        Some(row) => sum_few_places(&row),
+        None => sum_few_places(&known),
+    }
 }
 
 /// The sum of the items of rows, of `FEW` each unless that is 0; `None` where it passes the greatest `u64`.
