@@ -135,8 +135,8 @@ public:
         return expect(try_from_byte_strides(data, len, shape, strides));
     }
 
-    // Of rows and columns: a plane of a buffer of so many elements, or one that is known by the pointer to its row 0, as `data[i]` of
-    // an AVFrame, and whose `offset` isn't looked at: nd_views_over_planes, nd_views_from_row0.
+    // Of rows and columns: a plane of a buffer of `len` elements; or one by the pointer to its row 0, as `data[i]` of an AVFrame, whose
+    // `offset` isn't looked at. nd_views_over_planes, nd_views_from_row0.
     [[nodiscard]] static view over_plane(T *data, std::size_t len, const nd_plane &plane) {
         return expect(try_over_plane(data, len, plane));
     }

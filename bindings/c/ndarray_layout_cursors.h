@@ -42,7 +42,7 @@ typedef struct nd_cursor4 {
     ptrdiff_t strides[4];
 } nd_cursor4;
 
-/* (of this header alone) nd_view_check, read-only, of a view of so many axes. */
+/* (of this header alone) nd_view_check, read-only, of a view of `axes` axes. */
 ND_CHECKED((1)) int32_t nd_check_cursor(const nd_view *view, size_t axes) {
     const int32_t status = nd_view_check(view, ND_READ_ONLY);
     return status == ND_OK && view->layout.axes != axes ? ND_INCOMPATIBLE_SHAPE : status;
@@ -176,9 +176,9 @@ ND_INLINE ND_USED ND_WRAPS nd_row nd_cursor_row4(nd_cursor4 at, size_t i, size_t
 /* ---- Parts and tiles ------------------------------------------------------------------------------------------------- */
 
 /*
- * The cursor of a part of a picture, of so many rows and columns from a row and a column on: for the blocks of codecs. A part of what
+ * Returns the cursor of a part, as a block of a picture: `rows` rows from row `top` on, and `columns` columns from column `left` on. What
  * was accepted needs no second check, so this is four comparisons, inline. Where the part isn't within the cursor, the one that is
- * returned has no row: shape (0,0).
+ * returned has the shape (0,0).
  *
  * Compilers make vectors of a loop over a block where its lengths are constants, and its stride along rows is a 1 that is compared
  * once: the project's bindings/c/examples/yuv.h has blends and sums.
@@ -198,7 +198,7 @@ ND_INLINE ND_USED ND_WRAPS nd_cursor2 nd_cursor2_crop(nd_cursor2 at, size_t top,
     return at;
 }
 
-/* The tiles of a cursor that are still to come: their lengths, and where the next one begins. */
+/* An iterator over tiles: the cursor, the lengths of a tile, and where the next one begins. */
 typedef struct nd_tiles2 {
     nd_cursor2 of;
     size_t rows, columns;
@@ -206,8 +206,8 @@ typedef struct nd_tiles2 {
 } nd_tiles2;
 
 /*
- * The tiles of so many rows and columns that a cursor is cut into, for nd_next_tile2: from left to right, and from the top down. Those
- * at the right and at the bottom have what is left. A tile of no row or no column is none, so of such lengths there are none.
+ * Returns the iterator, for nd_next_tile2, over the tiles of a cursor: `rows` rows and `columns` columns each, from left to right and from
+ * the top down. The last ones at the right and at the bottom have the rest. With 0 `rows` or 0 `columns` there is no tile.
  *
  *    view: (3,6), strides (6,1), over 18
  *    nd_view_cursor2(&view, &at) == ND_OK

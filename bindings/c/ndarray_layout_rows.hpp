@@ -295,9 +295,9 @@ public:
         return {data_ + start, nd_row{start, shape_[Axes - 1], strides_[Axes - 1]}};
     }
 
-    // Of two axes: the part of so many rows and columns from a row and a column on, after four comparisons; and all tiles of so
-    // many, `for (const auto tile : at.tiles(16, 16))`, of which those at the right and at the bottom have what is left. Compilers
-    // make vectors of a loop over one where it takes constant lengths.
+    // Of two axes: a part, `rows` rows and `columns` columns from (top, left) on, after four comparisons; ND_OUT_OF_BOUNDS where it
+    // isn't within. And all tiles, `for (const auto tile : at.tiles(16, 16))`: the last ones at the right and at the bottom have the
+    // rest. Compilers make vectors of a loop over a part where its lengths are constants.
     template <class Top, class Left, class Rows, class Columns>
     [[nodiscard]] cursor crop(Top top, Left left, Rows rows, Columns columns) const {
         const std::size_t high = coordinate(rows), wide = coordinate(columns);

@@ -16,7 +16,7 @@ typedef struct yuv {
     size_t down; /* by what U and V have fewer rows than Y: 2 of 4:2:0, 1 of 4:2:2 */
 } yuv;
 
-/* How many rows, or columns, a plane has of so many of Y. */
+/* The number of rows, or of columns, that a plane has where Y has this number of them. */
 static inline size_t yuv_rows(const yuv *of, int plane, size_t rows) { return plane > 0 ? rows / of->down : rows; }
 static inline size_t yuv_columns(int plane, size_t columns) { return plane > 0 ? columns / 2 : columns; }
 
@@ -62,7 +62,7 @@ static inline int32_t yuv_crop(const yuv *of, size_t top, size_t left, size_t ro
     return yuv_keep(status, &made, picture);
 }
 
-/* Blends so many rows and columns of a plane over those of another; compilers make vectors where the numbers are constant. */
+/* Blends rows and columns of a plane over those of another; compilers make vectors where their numbers are constants. */
 static inline void yuv_blend_part(uint8_t *under, nd_cursor2 to, const uint8_t *over, nd_cursor2 from, size_t rows, size_t columns,
                                   ptrdiff_t right, ptrdiff_t beside, int alpha) {
     for (size_t row = 0; row < rows; row++) {
