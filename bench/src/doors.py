@@ -5,7 +5,7 @@ an image are made in the timed call, as they are written in one.
 
 usage: doors.py ROUNDS
 """
-import sys, timeit
+import subprocess, sys, timeit
 
 import ndarray_layout as nd
 import numpy as np
@@ -17,6 +17,7 @@ ODD, EVEN = (slice(1, None, 2), 3), (slice(0, None, 2), slice(None))
 IMAGE = np.zeros((480, 640, 3), np.uint8)
 PICTURE = nd.Layout.over(IMAGE, IMAGE.shape)
 TOP_ROWS, BOTTOM_ROWS, CHUNKS = (slice(0, 240), slice(0, 640), 0), (slice(240, 480), slice(0, 640), 0), (64, 64, 3)
+TOP, NUMBERS = IMAGE[:240], [np.arange(length) for length in IMAGE.shape]
 CUBE = np.lib.stride_tricks.as_strided(np.zeros(1, np.uint8), (10**6,) * 3, (10**12, 10**6, 1))
 ONE, OTHER = CUBE[::6, 1::4, ::9], CUBE[2::4, 0::6, 3::6]
 
@@ -36,6 +37,19 @@ def in_chunks(key):
     return *(slice(along.start // chunk, -(-along.stop // chunk)) for along, chunk in zip((rows, columns), CHUNKS)), channel // CHUNKS[2]
 
 
+def error_of(call, *arguments):
+    try:
+        call(*arguments)
+    except IndexError as error:
+        return error
+
+
+def imported(name):
+    """The nanoseconds that an import takes, the least of some processes, where NumPy is imported before."""
+    program = f"import numpy, time; began = time.perf_counter_ns(); import {name}; print(time.perf_counter_ns() - began)"
+    return min(int(subprocess.run([sys.executable, "-c", program], capture_output=True, text=True, check=True).stdout) for _ in range(ROUNDS))
+
+
 def of_many(count):
     shape, keys = (count, 8), [(row, slice(None)) for row in range(count)]
     layout = nd.Layout.over(count * 8, shape, writable=True)
@@ -52,6 +66,19 @@ ROWS = [
     ("place", lambda: LAYOUT.place((5, 7)), lambda: np.ravel_multi_index((5, 7), (SIDE, SIDE)), 1),
     ("slice", lambda: LAYOUT[ODD], lambda: ARRAY[ODD], 1),
     ("axes in reverse", lambda: LAYOUT.T, lambda: ARRAY.T, 1),
+    ("a layout of an array", lambda: nd.Layout.of(IMAGE), lambda: IMAGE.view(), 1),
+    ("a layout of a part, over its base", lambda: nd.Layout.of(TOP, base=IMAGE), lambda: TOP.view(), 1),
+    ("reshape", lambda: PICTURE.reshape(480, 1920), lambda: IMAGE.reshape(480, 1920), 1),
+    ("squeeze", lambda: PICTURE.squeeze(), lambda: IMAGE.squeeze(), 1),
+    ("diagonal", lambda: LAYOUT.diagonal(), lambda: ARRAY.diagonal(), 1),
+    ("swapaxes", lambda: PICTURE.swapaxes(0, 1), lambda: IMAGE.swapaxes(0, 1), 1),
+    ("ravel", lambda: PICTURE.ravel(), lambda: IMAGE.ravel(), 1),
+    ("is_layout_c of an array", lambda: nd.is_layout_c(IMAGE), lambda: IMAGE.flags.c_contiguous, 1),
+    ("default_strides", lambda: nd.default_strides((480, 640, 3)), lambda: np.empty((480, 640, 3), np.uint8).strides, 1),
+    ("windows", lambda: PICTURE.windows((3, 3, 3)), lambda: np.lib.stride_tricks.sliding_window_view(IMAGE, (3, 3, 3)), 1),
+    ("lay_over of a header", lambda: nd.lay_over((480, 640), (1920, 3), itemsize=1, nbytes=921600, offset=0), lambda: np.ndarray((480, 640), np.uint8, IMAGE, 0, (1920, 3)), 1),
+    ("an error: an index out of bounds", lambda: error_of(PICTURE.__getitem__, 480), lambda: error_of(IMAGE.__getitem__, 480), 1),
+    ("the chunks of a region", lambda: nd.chunks_of(IMAGE.shape, TOP_ROWS, CHUNKS), lambda: [np.unique(NUMBERS[axis][key] // chunk) for axis, (key, chunk) in enumerate(zip(TOP_ROWS, CHUNKS))], 1),
     ("slice with `...`", lambda: PICTURE[..., 0], lambda: IMAGE[..., 0], 1),
     ("slice by three bounds and steps", lambda: PICTURE[1:-1, ::2, ::-1], lambda: IMAGE[1:-1, ::2, ::-1], 1),
     ("an array of a layout", lambda: PICTURE.as_array(IMAGE), lambda: np.ndarray(IMAGE.shape, IMAGE.dtype, IMAGE, 0, IMAGE.strides), 1),
@@ -86,3 +113,4 @@ def ns(call, parts):
 
 for name, ours, theirs, parts in ROWS:
     print(name, ns(ours, parts), ns(theirs, parts), sep="\t")
+print("import, after NumPy", imported("ndarray_layout"), imported("numpy.lib.stride_tricks"), sep="\t")

@@ -96,6 +96,14 @@ class Mistakes(unittest.TestCase):
             self.assertIsInstance(caught.exception, OverflowError)
             self.assertEqual((caught.exception.kind, caught.exception.axis), ("OutOfBounds", 1))
 
+    def test_chunks_by_names(self):
+        """Chunks as xarray writes them: what is left out is one chunk."""
+        regions = [{"y": slice(0, 3)}, {"y": slice(3, 6)}]
+        self.assertEqual(nd.first_conflict((6, 6), regions, {"y": 2}, dims=("y", "x")), (0, 1))
+        self.assertEqual(nd.chunks_of((6, 6), regions[1], {"y": 3}, dims=("y", "x")), (range(1, 2), range(1)))
+        for wrong, dims in (({"z": 2}, ("y", "x")), ({"y": 2}, None)):
+            self.assertRaises((TypeError, ValueError), nd.chunks_of, (6, 6), 0, wrong, dims=dims)
+
     def test_dasks_whole_axis(self):
         """-1 and `None` are the whole length of an axis."""
         for whole in (-1, None, 6, np.int64(-1)):

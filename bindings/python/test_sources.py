@@ -11,6 +11,7 @@ import tempfile
 import time
 import unittest
 import weakref
+from types import SimpleNamespace
 from collections import Counter
 
 import ndarray_layout as nd
@@ -78,6 +79,25 @@ class Tensor:
         new = ctypes.pythonapi.PyCapsule_New
         new.restype, new.argtypes = ctypes.py_object, [ctypes.c_void_p, ctypes.c_char_p, ctypes.c_void_p]
         return new(ctypes.addressof(self.managed), ctypes.cast(self.name, ctypes.c_char_p), None)
+
+
+@unittest.skipIf(np is None, SKIPPED)
+class ArraysOfSources(unittest.TestCase):
+    def test_as_array(self):
+        """An array over what has an interface or is a tensor; its owner lives as long. That of a device is refused by its name."""
+        items = np.arange(24, dtype="f4")
+        layout, owner = Layout.over(items, (4, 6)), Interface(items.__array_interface__)
+        array, left = layout.as_array(owner), weakref.ref(owner)
+        del owner
+        self.assertIsNotNone(left())
+        self.assertEqual(array.tolist(), items.reshape(4, 6).tolist())
+        tensor = Tensor(items.ctypes.data, (24,), (1,))
+        for device, name in ((2, "CUDA"), (10, "ROCm")):
+            tensor.__dlpack_device__ = lambda: (device, 0)
+            with self.assertRaisesRegex(ShapeError, rf"on a device {device} \({name}\) has no address here"):
+                layout.as_array(tensor)
+        with self.assertRaisesRegex(TypeError, "it is on a CUDA device"):
+            layout.as_array(SimpleNamespace(__cuda_array_interface__={}))
 
 
 class DLPack(unittest.TestCase):

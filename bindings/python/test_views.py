@@ -339,6 +339,15 @@ class Calls(unittest.TestCase):
         for key in (-3, 2, 2**63, -(2**63), -(2**70), (0, 0, 0), (0, 0, slice(None)), (slice(None), 3), (0, -4)):
             self.assertRaises(IndexError, layout.__getitem__, key)
 
+    def test_habits(self):
+        """What has an index is one, an empty layout has no gaps, and no window is longer than its axis, as in NumPy."""
+        index, layout = type("Index", (), {"__index__": lambda self: 1})(), Layout.over(6, (2, 3))
+        self.assertEqual((layout[index], layout[index, index:]), (layout[1], layout[1, 1:]))
+        self.assertTrue(layout[:0].is_contiguous and layout.is_contiguous and not layout[:, 1:].is_contiguous)
+        with self.assertRaisesRegex(ValueError, "axis 1: a window of length 4 is longer than the axis, of length 3"):
+            layout.windows((2, 4))
+        self.assertEqual(layout.windows((2, 3)).shape, (1, 1, 2, 3))
+
     def test_refusals(self):
         """Errors are those of the functions, in kind, text and numbers, and the next call is as ever."""
         layout = Layout.over(6, (2, 3))

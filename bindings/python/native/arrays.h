@@ -83,6 +83,25 @@ static int read_plain_array(PyObject *array, Py_buffer *buffer, const Given *of,
     return 1;
 }
 
+/* Reads the shape and the strides in bytes of an array of NumPy's own: 1, or 0 where it isn't one with items. */
+static int read_bytes_of(PyObject *array, Given *of) {
+    BUFFER(buffer);
+    int axis;
+    if (!is_plain(array) || PyObject_GetBuffer(array, &buffer, PyBUF_STRIDED_RO) < 0) {
+        PyErr_Clear();
+        return 0;
+    }
+    if (buffer.ndim > ROOM || buffer.itemsize < 1) return 0;
+    of->lens->count = of->steps->count = (size_t)buffer.ndim;
+    for (axis = 0; axis < buffer.ndim; axis++) {
+        of->lens->items[axis] = (size_t)buffer.shape[axis];
+        STEPS(of->steps)[axis] = buffer.strides[axis];
+    }
+    of->in_bytes = 1;
+    of->itemsize = (size_t)buffer.itemsize;
+    return 1;
+}
+
 /* How many elements a layout covers from its lowest to its highest. */
 static size_t extent_of(const Given *of) {
     size_t extent = 1, axis;

@@ -14,8 +14,6 @@
     (void)self; \
     if (!take(&call_of_##name, args, count, names, &taken)) return NULL
 
-static PyObject *View; /* the package's classes, which `bind` keeps */
-
 static PyObject *view_of(size_t start, const List *lens, const List *steps) {
     return PyObject_CallFunction(View, "NNN", PyLong_FromSize_t(start), lengths_of(lens), strides_of(steps));
 }
@@ -45,12 +43,16 @@ static PyObject *fail_to_say(int32_t status, const Given *of) {
     return of->in_bytes ? fail_bytes(status, of) : fail_layout(status, of);
 }
 
+static int read_bytes_of(PyObject *array, Given *of);
+
 static PyObject *said(Call *call, PyObject *const *args, Py_ssize_t count, PyObject *names, Say say_it, int items_first) {
     TAKEN(taken);
     GIVEN(of);
     int32_t answer, status;
-    if (!take(call, args, count, names, &taken)) return NULL;
-    if (!read_given(taken.values[0], taken.values[1], taken.values[2], &of)) return NULL;
+    if (count != 1 || names != NULL || !read_bytes_of(args[0], &of)) {
+        if (!take(call, args, count, names, &taken)) return NULL;
+        if (!read_given(taken.values[0], taken.values[1], taken.values[2], &of)) return NULL;
+    }
     status = say(say_it, &of, items_first, &answer);
     return status == ND_OK ? PyBool_FromLong(answer) : fail_to_say(status, &of);
 }

@@ -249,6 +249,7 @@ static PyObject *asked(PyObject *self, void *call) {
     Say say_it;
     memcpy(&say_it, call, sizeof say_it);
     if (say_it == nd_has_overlap && of->writable) Py_RETURN_FALSE;
+    if (say_it == nd_is_contiguous && product_of(lens_of(of), of->axes) == 0) Py_RETURN_TRUE; /* (as NumPy says of what is empty) */
     status = say_it(lens_of(of), of->axes, steps_of(of), of->axes, &answer);
     return status == ND_OK ? PyBool_FromLong(answer) : fail_layout_of(status, "of_layout", of, PyTuple_New(0));
 }
@@ -294,6 +295,7 @@ static int put_entry(PyObject *entry, const size_t *lens, size_t not_taken, size
         return 1;
     }
     if (PySlice_Check(entry)) {
+        if (lens[*axis] > PTRDIFF_MAX) return 0;
         if (PySlice_Unpack(entry, &start, &end, &step) < 0) return 0;
         PySlice_AdjustIndices((Py_ssize_t)lens[*axis], &start, &end, step);
         put(elems, ND_SLICE, 1, step > 0 ? start : end + 1, step > 0 ? end : start + 1, step);
@@ -356,12 +358,15 @@ static int read_key(PyObject *key, const size_t *lens, size_t axes, Elems *elems
 /* The layout that elements of a slice leave. */
 static PyObject *slice_by(const Layout *of, const Elems *elems) {
     Layout *const made = layout_like(of, elems->axes);
+    nd_reason why;
     int32_t status;
     if (made == NULL) return NULL;
     status = nd_slice(of->start, lens_of(of), of->axes, steps_of(of), of->axes, elems->items, elems->count, ND_STRICT, &made->start,
                       made->numbers, made->axes, own_steps(made), made->axes);
     if (status == ND_OK) return (PyObject *)made;
     Py_DECREF(made);
+    if (nd_slice_reason(lens_of(of), of->axes, elems->items, elems->count, ND_STRICT, &why) == ND_OK && why.rule == ND_RULE_INDEX)
+        return raise_index(&why, PyLong_FromSsize_t(why.number), why.size);
     return fail_layout_at(status, "of_slice", of, Py_BuildValue("Ni", fields_of(elems), 0));
 }
 
@@ -625,11 +630,14 @@ static PyObject *place_of(PyObject *self, PyObject *const *args, Py_ssize_t coun
     const Layout *const of = (Layout *)self;
     LIST(index);
     size_t found;
+    nd_reason why;
     int32_t status;
     TAKEN(taken);
     if (!take(&call_of_place_of, args, count, names, &taken) || !read_list(taken.values[0], "index", 0, &index)) return NULL;
     status = nd_place(of->start, lens_of(of), of->axes, steps_of(of), of->axes, index.items, index.count, &found);
     if (status == ND_OK) return PyLong_FromSize_t(found);
+    if (nd_index_reason(lens_of(of), of->axes, index.items, index.count, &why) == ND_OK && why.rule == ND_RULE_COORDINATE)
+        return raise_index(&why, PyLong_FromSize_t(why.size), why.other);
     return fail_layout_at(status, "of_place", of, Py_BuildValue("(N)", lengths_of(&index)));
 }
 

@@ -13,6 +13,9 @@
 #include "native_docs.h"
 
 #include "numbers.h"
+
+static PyObject *View, *OutOfBoundsError; /* the package's classes, which `bind` keeps */
+
 #include "reasons.h"
 #include "calls.h"
 #include "layout.h"
@@ -76,11 +79,12 @@ static PyType_Spec spec = {"ndarray_layout._native.Layout", sizeof(Layout), 0, P
 
 /* ---- The module ------------------------------------------------------------------------------------------------------ */
 
-/* bind(View): the class of views. It comes first, and once. */
-static PyObject *bind(PyObject *self, PyObject *view) {
+/* bind(View, OutOfBoundsError): the package's classes. It comes first, and once. */
+static PyObject *bind(PyObject *self, PyObject *const *args, Py_ssize_t count) {
     (void)self;
-    Py_XDECREF(View);
-    View = Py_NewRef(view);
+    if (count != 2) return PyErr_Format(PyExc_TypeError, "bind() takes 2 arguments");
+    View = Py_NewRef(args[0]);
+    OutOfBoundsError = Py_NewRef(args[1]);
     Py_RETURN_NONE;
 }
 
@@ -101,7 +105,7 @@ static PyMethodDef functions[] = {
     {"broadcast_shapes", FAST(broadcast_shapes), METH_FASTCALL, DOC_broadcast_shapes},
     FUNCTION(first_shared), FUNCTION(share_index), FUNCTION(share), FUNCTION(share_keys), FUNCTION(intersect), FUNCTION(share_chunk),
     FUNCTION(reason), {"reason_text", reason_text, METH_O, NULL}, {"address", address, METH_O, NULL}, {"tensor", tensor, METH_O, NULL},
-    {"bind", bind, METH_O, NULL}, {"version", version, METH_NOARGS, NULL}, {NULL, NULL, 0, NULL},
+    FUNCTION(bind), {"version", version, METH_NOARGS, NULL}, {NULL, NULL, 0, NULL},
 };
 
 static PyModuleDef module = {PyModuleDef_HEAD_INIT, "ndarray_layout._native", NULL, -1, functions, NULL, NULL, NULL, NULL};

@@ -122,6 +122,15 @@ static PyObject *text_of_reason(const nd_reason *of) {
     return PyUnicode_FromStringAndSize(text, (Py_ssize_t)nd_reason_text(of, text, sizeof text));
 }
 
+/* Raises the error of an index that lies outside of its axis, which is made here since it is the most usual one. */
+static PyObject *raise_index(const nd_reason *of, PyObject *index, size_t length) {
+    OWNED numbers = Py_BuildValue("{sNsN}", "index", index, "length", PyLong_FromSize_t(length));
+    OWNED arguments = numbers == NULL ? NULL : Py_BuildValue("sNNO", "OutOfBounds", text_of_reason(of), PyLong_FromSize_t(of->axis), numbers);
+    OWNED error = arguments == NULL ? NULL : ((newfunc)PyType_GetSlot((PyTypeObject *)OutOfBoundsError, Py_tp_new))((PyTypeObject *)OutOfBoundsError, arguments, NULL);
+    if (error != NULL) PyErr_SetObject(OutOfBoundsError, error);
+    return NULL;
+}
+
 /* reason_text(fields): the sentence of a reason. */
 static PyObject *reason_text(PyObject *self, PyObject *fields) {
     int status, rule, list, unit;

@@ -24,11 +24,46 @@ def shown(buffer: Any, name: str = "buffer") -> memoryview:
     try:
         return memoryview(buffer)
     except TypeError:
-        raise TypeError(f"{name}: {_no_memory(buffer)}") from None
+        array = _array_of(buffer, name)
+        if array is None:
+            raise TypeError(f"{name}: {_no_memory(buffer)}") from None
+        return shown(array, name)
     except (BufferError, ValueError) as error:
         if not is_numpys(buffer) or is_scalar(buffer):
             raise ShapeError("IncompatibleBuffer", str(error)) from None
     return memoryview(_without_format(buffer))
+
+
+_CPU, _CUDA_HOST = 1, 3
+"""DLPack's devices whose memory has addresses of this process."""
+
+DEVICES = {2: "CUDA", 4: "OpenCL", 7: "Vulkan", 8: "Metal", 10: "ROCm", 13: "CUDA managed", 14: "oneAPI"}
+"""The names of others."""
+
+
+def check_device(device: int, name: str) -> None:
+    """Raises `ShapeError` for the memory of a device that has no addresses of this process."""
+    if device not in (_CPU, _CUDA_HOST):
+        text = f"{name}: the memory of a tensor on a device {device} has no address here"
+        text = text.replace(f"device {device}", f"device {device} ({DEVICES[device]})") if device in DEVICES else text
+        raise ShapeError("IncompatibleBuffer", text, None, {"device": device})
+
+
+def _array_of(value: Any, name: str) -> Any:
+    """An array of NumPy over the memory of what is no buffer and says by a protocol where it is, which it holds; else `None`."""
+    if is_numpys(value) or not any(hasattr(value, protocol) for protocol in ("__array_interface__", "__array_struct__", "__dlpack__")):
+        return None
+    import numpy
+
+    try:
+        if not hasattr(value, "__dlpack__") or hasattr(value, "__array_interface__"):
+            return numpy.asarray(value)
+        check_device(int(value.__dlpack_device__()[0]), name)
+        return numpy.from_dlpack(value)
+    except ShapeError:
+        raise
+    except (AttributeError, BufferError, RuntimeError, TypeError, ValueError):
+        return None
 
 
 def _no_memory(value: Any) -> str:
@@ -36,6 +71,8 @@ def _no_memory(value: Any) -> str:
     kind = type(value)
     name = kind.__name__ if kind.__module__ == "builtins" else f"{kind.__module__.partition('.')[0]}.{kind.__name__}"
     text = f"{name} has no memory that can be read: it is no buffer, array or tensor"
+    if hasattr(value, "__cuda_array_interface__"):
+        return f"{name} has no memory with an address here: it is on a CUDA device"
     if hasattr(value, "chunks"):
         return f"{text}, but one in chunks; `numpy.asarray` copies it, and `first_conflict` takes its shape and chunks"
     if isinstance(value, (list, tuple)) or hasattr(value, "to_numpy"):

@@ -5,15 +5,17 @@ from __future__ import annotations
 from bisect import bisect_right
 from itertools import accumulate
 from math import gcd
-from typing import Any, Iterable, NamedTuple, Sequence, Union
+from typing import Any, Iterable, Mapping, NamedTuple, Sequence, Union
 
 from ._errors import ShapeError, error_of_kind
 from ._keys import lengths_of
 from ._numbers import Lens, Numbers, as_integer, entries, integer, listing, not_64_bits, said, written
 from ._reasons import of_chunk
 
-Chunks = Union[Numbers, Iterable[Union[int, Iterable[int]]]]
-"""The length of a chunk along each axis, -1 or `None` for the whole axis, or a list of the lengths of all its chunks."""
+Chunks = Union[Numbers, Iterable[Union[int, None, Iterable[int]]], Mapping[Any, Any]]
+"""The length of a chunk along each axis, -1 or `None` for the whole axis, or a list of the lengths of all its chunks; also by
+the names of the axes.
+"""
 
 
 class Even(NamedTuple):

@@ -86,6 +86,8 @@ def first_conflict(
     (0, 2)
     >>> first_conflict((6, 6), [{"x": 0}, {"y": slice(2, 4)}], dims=("y", "x"))
     (0, 1)
+    >>> first_conflict((6, 6), halves, {"y": 2}, dims=("y", "x"))
+    (0, 1)
     >>> first_conflict((6, 6), halves, (3, 6), blocks=[((3,), (6,)), ((2, 1), (6,))])    # rows 3, 4 and row 5
     (1, 1)
     >>> first_conflict(9, [slice(0, 4), slice(4, 9)], chunks=((4, 3, 2),)), first_conflict(9, [3, 4], chunks=4)

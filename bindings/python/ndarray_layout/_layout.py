@@ -185,6 +185,8 @@ class Layout(Views):
 
         The items have the size of the layout's elements, and any size where that is over a count. Place k is the k-th item in
         memory, from the lowest, also where the buffer is an array in another order.
+        The buffer may be all that `of` reads whose memory has an address here: also what has `__array_interface__`, as a picture of PIL,
+        which is a copy, or a tensor of DLPack. An array holds it, and so keeps its owner alive.
         A layout that isn't writable gives an array that is only to be read, as `numpy.broadcast_to` does. While the array
         lives the buffer can't be closed or resized: its own methods raise `BufferError`, as after `numpy.frombuffer`.
 

@@ -471,7 +471,7 @@ def split_at(
 
 # ---- What the package alone calls
 
-def bind(view: type[View], /) -> None: ...
+def bind(view: type[View], out_of_bounds: type[Exception], /) -> None: ...
 def version() -> str: ...
 def reason(name: str, /, *arguments: Any) -> tuple[int, int, int, int, int, int, int, int]: ...
 def reason_text(fields: tuple[int, int, int, int, int, int, int, int], /) -> str: ...
@@ -635,7 +635,10 @@ class Layout:
 
     @property
     def is_contiguous(self) -> bool:
-        """Whether no two indices have one place, and all fill a stretch of the buffer without a gap, in any order of the axes."""
+        """Whether no two indices have one place, and all fill a stretch of the buffer without a gap, in any order of the axes.
+
+        It is true of a layout without an index, as of an array of NumPy.
+        """
 
     @property
     def is_layout_c(self) -> bool:

@@ -68,8 +68,20 @@ def read_store(
     """The shape, the chunks along each axis and the names of the axes."""
     lens = lengths_of(shape, "length")
     default_strides(lens)  # (which refuses a size above the limit)
-    chunk = (Even(1),) * len(lens) if chunks is None else read_chunks(lens, chunks)
-    return lens, chunk, _names_of(len(lens), dims)
+    names = _names_of(len(lens), dims)
+    if isinstance(chunks, Mapping):
+        chunks = _chunks_by_names(chunks, names)
+    return lens, (Even(1),) * len(lens) if chunks is None else read_chunks(lens, chunks), names
+
+
+def _chunks_by_names(chunks: Mapping[Any, Any], names: Optional[Sequence[Any]]) -> Chunks:
+    """The chunks along each axis of those by names, as xarray has them: of a name that is left out the whole axis."""
+    if names is None:
+        raise TypeError(f"chunk: {written(chunks)} has names: dims= has those of all axes in their order")
+    unknown = next((name for name in chunks if name not in names), None)
+    if unknown is not None:
+        raise ShapeError("IncompatibleShape", f"chunk: {written(unknown)} is none of the dims {written(tuple(names))}")
+    return tuple([chunks.get(name, -1) for name in names])
 
 
 def _names_of(axes: int, dims: Optional[Iterable[Any]]) -> Optional[Sequence[Any]]:

@@ -13,7 +13,7 @@ from typing import Any, Callable, NamedTuple, Optional
 
 from . import _native as native
 from ._arrays import read_array
-from ._buffers import address_of, format_of, is_numpys, refuse_scalar, shown, side_by_side
+from ._buffers import address_of, check_device, format_of, is_numpys, refuse_scalar, shown, side_by_side
 from ._errors import ShapeError
 from ._numbers import Lens, as_integer, integer, integers, written
 
@@ -58,10 +58,6 @@ _CODES = {"i": 0, "u": 1, "f": 2, "c": 5, "b": 6}
 
 _LETTERS = {*_CODES, *"mMOSUV"}
 """All letters of a `typestr` whose number counts bytes, or characters of four."""
-
-_CPU, _CUDA_HOST = 1, 3
-"""Devices whose memory has addresses of this process."""
-
 
 def read_source(array: Any) -> Source:
     """What an array says of itself. Raises `TypeError` for what says nothing, and what the array itself raises."""
@@ -196,7 +192,5 @@ def _of_capsule(array: Any) -> Source:
 
 def _memory_of_tensor(address: int, device: int, capsule: Any) -> Memory:
     """The memory of a tensor. Raises `ShapeError` where its device has no addresses of this process."""
-    if device in (_CPU, _CUDA_HOST):
-        return Memory(address, capsule)
-    text = f"array: the memory of a tensor on a device {device} has no address here"
-    raise ShapeError("IncompatibleBuffer", text, None, {"device": device})
+    check_device(device, "array")
+    return Memory(address, capsule)

@@ -94,12 +94,17 @@ class Views(native.Layout):
     def windows(self, window: Numbers) -> Self:
         """All windows of a shape: first the index of the window, then the index in it. Raises what `windows` does.
 
-        It isn't writable: windows overlap.
+        It isn't writable: windows overlap. A window longer than its axis is a `ShapeError`, as a `ValueError` in NumPy.
 
         >>> Layout.over(5, 5).windows(3)
         Layout(start=0, shape=(3, 3), strides=(1, 1), length=5, writable=False)
         """
-        return self._kept(self.start, *native.windows(self.shape, self.strides, window), False)
+        shape, strides = native.windows(self.shape, self.strides, window)
+        for axis, (length, block) in enumerate(zip(self.shape, shape[self.ndim :])):
+            if block > length:
+                text = f"axis {axis}: a window of length {said(block)} is longer than the axis, of length {said(length)}"
+                raise ShapeError("IncompatibleShape", text, axis, {"window": block, "length": length})
+        return self._kept(self.start, shape, strides, False)
 
     def exact_chunks(self, chunk: Numbers) -> Self:
         """The chunks of a shape that lie side by side: first the number of the chunk, then the index in it.

@@ -4,13 +4,20 @@ from __future__ import annotations
 
 from collections.abc import Mapping
 from itertools import chain, count, groupby
-from typing import Any, Iterable, NamedTuple, Optional, Sequence, Union
+from types import EllipsisType
+from typing import Any, Iterable, NamedTuple, Optional, Sequence, SupportsIndex, TypeVar, Union, overload
 
 from ._chunks import Chunking, Chunks
 from ._conflicts import conflicts_of, each_compared
 from ._errors import ShapeError
 from ._numbers import Lens, Numbers, written
 from ._regions import MAX_PARTS, Blocks, Part, Plan, key_of, parts_of_slices, picks_of, read_plan, read_store
+
+
+_Name = TypeVar("_Name")
+
+Key = Union[SupportsIndex, slice, EllipsisType, None, tuple[Any, ...]]
+"""A region as NumPy writes it."""
 
 
 def waves(
@@ -143,6 +150,20 @@ def _numbers(ranges: list[range]) -> Sequence[int]:
     numbers = sorted(chain(*ranges))
     evenly = range(numbers[0], numbers[-1] + 1, numbers[1] - numbers[0])
     return evenly if len(evenly) == len(numbers) and [*evenly] == numbers else tuple(numbers)
+
+
+@overload
+def aligned(
+    shape: Numbers, region: Mapping[_Name, Any], chunks: Chunks, *, dims: Iterable[_Name]
+) -> dict[_Name, slice]:
+    ...
+
+
+@overload
+def aligned(
+    shape: Numbers, region: Key, chunks: Chunks, *, dims: Optional[Iterable[Any]] = None
+) -> tuple[slice, ...]:
+    ...
 
 
 def aligned(
