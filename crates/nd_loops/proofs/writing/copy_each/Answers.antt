@@ -4,7 +4,7 @@ use Rattle.std.specs.List.{All, AllZip}
 use Rattle.std.proofs.lemmas.List.Elements.{All-tail}
 use Rattle.ndarray_layout.specs.declared.Row.{Row}
 use Rattle.ndarray_layout.specs.Rows.{rows_places}
-use Rattle.nd_access.specs.LentRow.{RowValue, places_of, row_items, rows_items}
+use Rattle.nd_access.specs.LentRow.{RowValue, places_of, rows_items}
 use Rattle.nd_access.specs.Written.{HasSet}
 use Rattle.nd_access.proofs.Laws.MapsTo.{Distinct}
 use Rattle.nd_loops.specs.OwnedRows.{OwnsEachRow, OwnsRow}

@@ -1,5 +1,5 @@
 -- One more item is copied, over that of the next coordinate.
-use Rattle.std.proofs.Common.{◌≡◌, false, pos, length, get_or, refl, sym, ap, ◌∙◌, arith}
+use Rattle.std.proofs.Common.{false, pos, get_or, refl, sym, ap, ◌∙◌, arith}
 use Rattle.std.proofs.lemmas.List.{length-map, length-set}
 use Rattle.ndarray_layout.proofs.Laws.Rows.{get_or-row_places, length-row_places}
 use Rattle.nd_access.specs.Items.{item_at_place}

@@ -1,5 +1,5 @@
 -- A slice is copied over the places of a row that lie side by side.
-use Rattle.std.proofs.Common.{rules, ◌≡◌, pos, Some, List, length, map, take, drop, ap, sym, subst, ◌∙◌, arith}
+use Rattle.std.proofs.Common.{rules, ◌≡◌, pos, Some, List, length, map, drop, ap, sym, subst, arith}
 use Rattle.std.proofs.lemmas.List.{length-drop, length-map, length-take-le}
 use Rattle.ndarray_layout.specs.Rows.{row_places}
 use Rattle.nd_access.specs.Cells.{written_at}

@@ -1,6 +1,6 @@
 -- The nearest views have the places of both, in another order, alike.
 use Rattle.std.proofs.Common.{◌≡◌, ℤ, true, List, length, map, refl, sym, ap, subst, ◌∙◌}
-use Rattle.std.specs.List.{All, zip}
+use Rattle.std.specs.List.{All}
 use Rattle.std.specs.List.Sorted.{IsPermutation}
 use Rattle.std.proofs.lemmas.List.Sorted.{All-permutation, IsPermutation-refl, IsPermutation-sym}
 use Rattle.ndarray_layout.specs.declared.Order.TheVariants.{RowMajor}
@@ -8,7 +8,7 @@ use Rattle.ndarray_layout.specs.Bounds.{IsInBounds}
 use Rattle.ndarray_layout.specs.Indices.{is_index}
 use Rattle.ndarray_layout.specs.Nearest.{pairs_of_places}
 use Rattle.ndarray_layout.specs.Size.{size}
-use Rattle.ndarray_layout.specs.View.{View, place_at, view_places}
+use Rattle.ndarray_layout.specs.View.{View, view_places}
 use Rattle.ndarray_layout.proofs.Laws.View.{length-view_places, places_lie_within}
 use Rattle.nd_access.specs.HasItems.{HasItemsOf}
 use Rattle.nd_access.specs.Items.{ArrayValue, item_at, item_at_place}
