@@ -1,5 +1,5 @@
 -- Each place of the view has an item.
-use Rattle.std.proofs.Common.{◌≡◌, length, ap, ◌∙◌}
+use Rattle.std.proofs.Common.{length}
 use Rattle.ndarray_layout.specs.declared.Order.TheVariants.{RowMajor}
 use Rattle.ndarray_layout.proofs.Laws.View.{places_lie_within}
 use Rattle.nd_access.proofs.Laws.Read.{places_marked}

@@ -1,12 +1,12 @@
 -- The rows are as long as those of any layout of the shape that is joined so, and have the items of the array.
-use Rattle.std.proofs.Common.{◌≡◌, List, map, sym, ap, subst, ◌∙◌}
+use Rattle.std.proofs.Common.{◌≡◌, map, sym, ap, subst, ◌∙◌}
 use Rattle.std.specs.List.{AllZip, flat_map}
 use Rattle.ndarray_layout.specs.declared.Order.TheVariants.{RowMajor}
 use Rattle.ndarray_layout.specs.Indices.{indices_in}
 use Rattle.ndarray_layout.specs.JoinedInAll.{row_lens}
 use Rattle.ndarray_layout.specs.View.{view_of}
 use Rattle.nd_access.specs.Items.{item_at}
-use Rattle.nd_access.specs.LentRow.{row_items, row_of}
+use Rattle.nd_access.specs.LentRow.{row_items}
 use Rattle.nd_access.proofs.Laws.IndexItems.{items_in}
 use Rattle.nd_access.proofs.Laws.Permuted.{permuted}
 use Rattle.nd_access.proofs.Laws.Read.{rows_of_view_read}
