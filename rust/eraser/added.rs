@@ -24,7 +24,8 @@ impl Eraser<'_> {
         self.put(word.first().lead, "struct");
         self.all(&trees[1..=at])?;
         let generics = &trees[2..2 + length_of_generics(&trees[2..])];
-        let (head, of) = (text_of(generics), names_in(generics).join(", "));
+        let (head, names) = (text_of(generics), names_in(generics));
+        let of = names.join(", ");
         if POINTERS.contains(&name) {
             self.out.push_str(&format!(
                 "\n\n/// Not proved.\nimpl{head} Clone for {name}<{of}> {{\n    fn clone(&self) -> Self {{\n        *self\n    }}\n}}\n\n\
@@ -34,9 +35,11 @@ impl Eraser<'_> {
         }
         let fields = fields_of(&body.trees);
         let copies: String = fields.iter().map(|field| format!("{field}: Clone::clone(&self.{field}), ")).collect();
+        // (what has the places is copied, and so has to be what can be)
+        let asked = if names.contains(&"A") { " where A: Clone" } else { "" };
         self.out.push_str(&format!(
             "\n\n/// A copy, of which neither moves the other. Panics where an allocation fails, never for at most 4 axes. Not proved.\n\
-             impl{head} Clone for {name}<{of}> {{\n    fn clone(&self) -> Self {{\n        {name} {{ {copies}}}\n    }}\n}}",
+             impl{head} Clone for {name}<{of}>{asked} {{\n    fn clone(&self) -> Self {{\n        {name} {{ {copies}}}\n    }}\n}}",
         ));
         Ok(Some(at + 1))
     }

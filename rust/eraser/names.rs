@@ -228,7 +228,6 @@ pub const SOUND_BY_CONDITIONS: &[(&str, &str)] = &[
     ("nd_items", "into_rows"),
     ("nd_items", "items"),
     ("nd_items", "iterating"),
-    ("nd_items", "view_iter"),
     ("nd_lent", "array_view"),
     ("nd_lent", "array_view_mut"),
 ];
@@ -304,7 +303,7 @@ pub const DERIVED: &[(&str, &[&str])] = &[
 ];
 
 /// Iterators and rows over items that they lend, which the package copies, whether items are copied or not.
-pub const LENDING: &[&str] = &["LentRow", "Reader", "RowItems", "ViewIter"];
+pub const LENDING: &[&str] = &["IterOf", "LentRow", "Reader", "RowItems"];
 
 /// Those of them that are a pointer and no more: they are `Copy` as well.
 pub const POINTERS: &[&str] = &["LentRow", "Reader"];
@@ -314,18 +313,16 @@ pub const POINTERS: &[&str] = &["LentRow", "Reader"];
 /// an `rfold` is `rfold_rest`.
 pub const FOLDED: &[(&str, &str, &str)] = &[
     ("Iterator", "Items", "fold_items"),
-    ("Iterator", "Iter", "fold_lent"),
-    ("DoubleEndedIterator", "Iter", "rfold_lent"),
     ("Iterator", "PlacesOf", "fold_by_rest"),
     ("DoubleEndedIterator", "PlacesOf", "skip_back"),
     ("Iterator", "IterMut", "fold_by_rest"),
     ("DoubleEndedIterator", "IterMut", "skip_back"),
+    ("Iterator", "IterOf", "fold_lent"),
+    ("DoubleEndedIterator", "IterOf", "rfold_lent"),
     ("Iterator", "LanesMut", "skip"),
     ("DoubleEndedIterator", "LanesMut", "skip_back"),
     ("Iterator", "RowItems", "fold_lent"),
     ("DoubleEndedIterator", "RowItems", "rfold_lent"),
-    ("Iterator", "ViewIter", "fold_lent"),
-    ("DoubleEndedIterator", "ViewIter", "rfold_lent"),
 ];
 
 /// Structs whose `Debug` files of `rust/src` have, for what is derived prints strides without their signs.

@@ -133,3 +133,6 @@ pub use crate::nd_owned::{
     SplitViews, Unsigned, ViewIter,
 };
 pub use crate::ndarray_layout::*;
+// (what only the types of iterators name, so that no caller can)
+#[allow(unused_imports, hidden_glob_reexports)]
+use crate::ndarray_layout::{KeptAxes, LentAxes, SlowerAxes};

@@ -7,7 +7,6 @@ pub mod HasItems
 pub mod Items
 pub mod Lending
 pub mod LendingCells
-pub mod LentPlaces
 pub mod LentRow
 pub mod Mapped
 pub mod MapsTo

@@ -7,7 +7,6 @@ use Rattle.ndarray_layout.specs.Bounds.{IsInBounds}
 use Rattle.ndarray_layout.specs.Rows.{rows_places}
 use Rattle.ndarray_layout.specs.View.{View}
 use Rattle.nd_access.specs.ArrayView.{HasItems}
-use Rattle.nd_access.specs.LentPlaces.{ArePlacesOf}
 use Rattle.nd_access.specs.LentRow.{HasRow, places_of}
 use Rattle.nd_access.specs.Part.{has_mark, AreMarked}
 use Rattle.nd_access.specs.RowItemsLeft.{HasRowLeft}
@@ -39,11 +38,6 @@ pub record AreRowsRead (marks : List Bool) (count : ℕ) (rows : List Row) : Typ
 -- those that an iterator has still to come to
 pub record AreRead (marks : List Bool) (count : ℕ) (places : List ℤ) : Type 0 where
   pub within : All (IsInBounds count) places
-  pub marked : HaveMarks marks places
-
--- and those of one that has the view
-pub record ArePlacesRead (marks : List Bool) (count : ℕ) (places : List ℤ) : Type 0 where
-  pub are : ArePlacesOf count places
   pub marked : HaveMarks marks places
 
 -- examples

@@ -3,8 +3,8 @@ ghost use Rattle.std.specs.List.{All};
 ghost use Rattle.std.specs.Prelude.{◌≡◌, IfErr, IfOk, IsOk, MatchOption, Some, [], ◌∷◌, length, zip};
 ghost use Rattle.ndarray_layout.specs.Memory.{NeedsNoMemory};
 
+use crate::iterating::ViewIter;
 use crate::next_index::NextIndex;
-use crate::view_iter::ViewIter;
 use ndarray_layout::{Dimension, Lengths};
 use std::alloc::{AllocError, Global};
 use std::marker::Model;

@@ -9,19 +9,27 @@ ghost use Rattle.nd_access.specs.Items.{item_at_place};
 ghost use Rattle.nd_access.specs.Read.{AreRead};
 
 use nd_access::{LentRow, Reader, RowByRow};
-use ndarray_layout::{Lengths, Order, Places, Strided};
+use ndarray_layout::{KeptAxes, Lengths, LentAxes, Order, PlacesOf, SlowerAxes, Strided};
 use std::iter::FusedIterator;
 use std::marker::Model;
 
-/// The items of an array that are still to come, in row-major order of their indices, from both ends, each lent. A contract
-/// sees the list of them.
+/// The items of an array that are still to come, in row-major order of their indices, from both ends, each lent: `Iter` where the view
+/// is borrowed, `ViewIter` where the iterator has it. A contract sees the list of them.
 #[derive(Drop)]
-pub struct Iter<'a, T> {
+pub struct IterOf<'a, T, A: SlowerAxes> {
     reader: Reader<'a, T>,
-    places: Places<'a>,
+    places: PlacesOf<A>,
 }
 
-impl<'a, T> Model for Iter<'a, T> {
+/// The items of an array that are still to come, in row-major order of their indices, from both ends, each lent. A contract
+/// sees the list of them.
+pub type Iter<'a, T> = IterOf<'a, T, LentAxes<'a>>;
+
+/// The items of an array that are still to come, in row-major order of their indices, from both ends, each lent for as long as
+/// the data is: a function that is handed an `ArrayView` may return this. A contract sees the list of them. ndarray's `Iter`.
+pub type ViewIter<'a, T, D> = IterOf<'a, T, KeptAxes<D>>;
+
+impl<'a, T, A: SlowerAxes> Model for IterOf<'a, T, A> {
     ghost use Rattle.std.specs.Prelude.{List, Option, length, map};
     ghost use Rattle.nd_access.specs.Items.{item_at_place};
     ghost use Rattle.nd_access.specs.Read.{AreRead};
@@ -41,24 +49,24 @@ impl<'a, T> Iter<'a, T> {
         requires { HasItems (length items.now) view.now }
         ensures { result ≡ map (item_at_place items.now) (view_places RowMajor view.now) }
     {
-        Iter {
-            reader: Reader::of_slice(items),
-            places: view.iter_places(Order::RowMajor),
-        }
+        IterOf::of_reader(Reader::of_slice(items), view.iter_places(Order::RowMajor))
     }
+}
 
+impl<'a, T, A: SlowerAxes> IterOf<'a, T, A> {
     /// The items at places, which the caller ensures to have marks.
     #[doc(hidden)]
-    pub fn of_reader(reader: Reader<'a, T>, places: Places<'a>) -> Self
+    #[inline]
+    pub fn of_reader(reader: Reader<'a, T>, places: PlacesOf<A>) -> Self
         requires { AreRead reader.marks (length reader.items) places }
-        ensures { result ≡ map (item_at_place reader.entry.items) places.entry }
+        ensures { result ≡ map (item_at_place reader.entry.items) places }
     {
-        Iter { reader, places }
+        IterOf { reader, places }
     }
 
     /// Skips the next `count` items, or all that remain.
     ///
-    /// Takes no memory, and no time for each item (`Places::advance`).
+    /// Takes no memory, and no time for each item (`PlacesOf::advance`).
     ///
     /// Of 8 7, after one item: 7. What `nth` of std's iterators skips one by one.
     pub fn advance(&mut self, count: usize)
@@ -69,7 +77,7 @@ impl<'a, T> Iter<'a, T> {
 
     /// Skips the last `count` items, or all that remain.
     ///
-    /// Takes no memory, and no time for each item (`Places::advance_back`).
+    /// Takes no memory, and no time for each item (`PlacesOf::advance_back`).
     ///
     /// Of 8 7, without the last item: 8. What `nth_back` of std's iterators skips one by one.
     pub fn advance_back(&mut self, count: usize)
@@ -79,7 +87,7 @@ impl<'a, T> Iter<'a, T> {
     }
 }
 
-impl<'a, T> RowByRow<'a, T> for Iter<'a, T> {
+impl<'a, T, A: SlowerAxes> RowByRow<'a, T> for IterOf<'a, T, A> {
     ghost left = { λ left. left };
 
     #[inline]
@@ -101,7 +109,7 @@ impl<'a, T> RowByRow<'a, T> for Iter<'a, T> {
     }
 }
 
-impl<'a, T> Iterator for Iter<'a, T> {
+impl<'a, T, A: SlowerAxes> Iterator for IterOf<'a, T, A> {
     type Item = &'a T;
 
     ghost next_gives = { YieldsFirstBy (λ item. Some item.now) (λ left. left) };
@@ -114,16 +122,18 @@ impl<'a, T> Iterator for Iter<'a, T> {
         Some(self.reader.get(place))
     }
 
+    #[inline]
     fn size_hint(&self) -> (usize, Option<usize>)
         ensures lower { IsWithinCount result.0 (item_count (λ left. left) self.now) }
         ensures upper { IfSome result.1 (UpTo (item_count (λ left. left) self.now)) }
         ensures exact { (result.0 ≡ length self.now) × (result.1 ≡ Some (length self.now)) }
     {
-        self.places.size_hint()
+        let left = self.len();
+        (left, Some(left))
     }
 }
 
-impl<'a, T> DoubleEndedIterator for Iter<'a, T> {
+impl<'a, T, A: SlowerAxes> DoubleEndedIterator for IterOf<'a, T, A> {
     ghost next_back_gives = { YieldsLastBy (λ item. Some item.now) (λ left. left) };
 
     #[inline]
@@ -133,10 +143,11 @@ impl<'a, T> DoubleEndedIterator for Iter<'a, T> {
     }
 }
 
-impl<T> ExactSizeIterator for Iter<'_, T> {
+impl<T, A: SlowerAxes> ExactSizeIterator for IterOf<'_, T, A> {
+    #[inline]
     fn len(&self) -> usize {
         self.places.len()
     }
 }
 
-impl<T> FusedIterator for Iter<'_, T> {}
+impl<T, A: SlowerAxes> FusedIterator for IterOf<'_, T, A> {}

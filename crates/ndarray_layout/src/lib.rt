@@ -47,6 +47,6 @@ pub use reshape::reshape_dim;
 // Views, and runs of steps from one to the next.
 pub use runs::{Step, Stopped, run};
 pub use strided::{
-    BlockViews, IntoPlaces, Places, PlacesOf, Row, Rows, RowsOf, Strided, StridedRows,
-    joined_in_all,
+    BlockViews, IntoPlaces, KeptAxes, LentAxes, Places, PlacesOf, Row, Rows, RowsOf, SlowerAxes,
+    Strided, StridedRows, joined_in_all,
 };

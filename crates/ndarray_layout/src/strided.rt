@@ -48,6 +48,7 @@ use nd_base::Lengths;
 pub use places_of_rows::PlacesOf;
 pub use rows::{Row, Rows};
 pub use rows_of::RowsOf;
+pub use slower_axes::{KeptAxes, LentAxes, SlowerAxes};
 use std::marker::Model;
 
 /// A view of data: a shape, a stride for each axis, and the place of the first index. The place of

@@ -50,6 +50,7 @@ pub use joined_layouts::joined_in_all;
 pub use places_of_rows::PlacesOf;
 pub use rows::{Row, Rows};
 pub use rows_of::RowsOf;
+pub use slower_axes::{KeptAxes, LentAxes, SlowerAxes};
 
 /// A view of data: a shape, a stride for each axis, and the place of the first index. The place of
 /// an index is its buffer index, its number of elements from the start of the data, from 0 to

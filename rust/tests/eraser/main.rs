@@ -178,22 +178,22 @@ fn what_the_package_adds_is_made_of_a_source() {
             "pub struct Other<'a, T> { /// A. a: &'a [T], }",
         ),
         (
-            "pub struct ViewIter<'a, T, D: A<B>> { // It.\n rest: Rest<'a, T, D>, to: usize, }",
-            "pub struct ViewIter<'a, T, D: A<B>> { // It. rest: Rest<'a, T, D>, to: usize, } \
+            "pub struct IterOf<'a, T, A: B<C>> { // It.\n rest: Rest<'a, T, A>, to: usize, }",
+            "pub struct IterOf<'a, T, A: B<C>> { // It. rest: Rest<'a, T, A>, to: usize, } \
              /// A copy, of which neither moves the other. Panics where an allocation fails, never for at most 4 axes. Not proved. \
-             impl<'a, T, D: A<B>> Clone for ViewIter<'a, T, D> { fn clone(&self) -> Self { \
-             ViewIter { rest: Clone::clone(&self.rest), to: Clone::clone(&self.to), } } }",
+             impl<'a, T, A: B<C>> Clone for IterOf<'a, T, A> where A: Clone { fn clone(&self) -> Self { \
+             IterOf { rest: Clone::clone(&self.rest), to: Clone::clone(&self.to), } } }",
         ),
         (
-            "impl<T> Iterator for Iter<'_, T> { fn next(&mut self) {} } fn f();",
-            "impl<T> Iterator for Iter<'_, T> { fn next(&mut self) {} crate::arrays::fold_lent!(); } fn f();",
+            "impl<T> Iterator for IterOf<'_, T> { fn next(&mut self) {} } fn f();",
+            "impl<T> Iterator for IterOf<'_, T> { fn next(&mut self) {} crate::arrays::fold_lent!(); } fn f();",
         ),
         (
             "impl DoubleEndedIterator for PlacesOf<R> { fn next_back() {} }",
             "impl DoubleEndedIterator for PlacesOf<R> { fn next_back() {} crate::arrays::skip_back!(); }",
         ),
         ("impl Iterator for Other { fn next() {} }", "impl Iterator for Other { fn next() {} }"),
-        ("impl ExactSizeIterator for Iter<'_> {}", "impl ExactSizeIterator for Iter<'_> {}"),
+        ("impl ExactSizeIterator for IterOf<'_> {}", "impl ExactSizeIterator for IterOf<'_> {}"),
         (
             "fn index(&self, index: I) -> &T { self.get(&index).unwrap() } fn f();",
             "#[track_caller] fn index(&self, index: I) -> &T { match self.get(&index) \

@@ -1,10 +1,9 @@
 -- Items that are read by their places: which of these have marks.
 use Rattle.std.proofs.Common.{◌≡◌, ℕ, ◌+◌, ◌-◌, ◌<◌, ◌≤◌, ℤ, pos, negsuc, ◌+ℤ◌, ◌*ℤ◌, Bool, true, false, Some, None, List, [], ◌∷◌}
-use Rattle.std.proofs.Common.{◌++◌, Result, Ok, Err, length, get_or, drop, take, map, refl, sym, ap, subst, ◌∙◌, arith}
+use Rattle.std.proofs.Common.{◌++◌, length, get_or, drop, take, map, sym, ap, subst, ◌∙◌, arith}
 use Rattle.std.specs.List.{All}
 use Rattle.std.specs.List.Sorted.{IsPermutation}
-use Rattle.std.specs.Prelude.{IsTrue, OnErr, OnOk, replicate, slice_get}
-use Rattle.std.proofs.lemmas.Bool.{false≢true}
+use Rattle.std.specs.Prelude.{replicate, slice_get}
 use Rattle.std.proofs.lemmas.Int.{ints}
 use Rattle.std.proofs.lemmas.Grind.{flat_map-append}
 use Rattle.std.proofs.lemmas.List.{get_or-map, map_push, take-append-drop}
@@ -16,9 +15,8 @@ use Rattle.ndarray_layout.specs.declared.Row.{Row}
 use Rattle.ndarray_layout.specs.Bounds.{IsInBounds}
 use Rattle.ndarray_layout.specs.Descends.{Descends, IsViewOf}
 use Rattle.ndarray_layout.specs.Indices.{is_index, indices_in}
-use Rattle.ndarray_layout.specs.KeepsPlaces.{KeepsPlaces}
 use Rattle.ndarray_layout.specs.Rows.{row_places, row_view, rows_places}
-use Rattle.ndarray_layout.specs.View.{View, place_at, view_places}
+use Rattle.ndarray_layout.specs.View.{View, IsView, place_at, view_places}
 use Rattle.ndarray_layout.proofs.Laws.Indices.{All-indices_in}
 use Rattle.ndarray_layout.proofs.Laws.Rows.{get_or-row_places, length-row_places}
 use Rattle.nd_access.specs.ArrayView.{HasItems}
@@ -26,12 +24,13 @@ use Rattle.nd_access.specs.Cells.{are_within, span_of}
 use Rattle.nd_access.specs.Items.{item_at_place}
 use Rattle.nd_access.specs.LentRow.{HasRow, is_contiguous, places_of, row_items, row_of}
 use Rattle.nd_access.specs.Part.{has_mark, AreMarked}
-use Rattle.nd_access.specs.Read.{ArePlacesRead, AreRead, AreRowsRead, HaveMarks, IsRead, IsRowRead}
-use Rattle.nd_access.proofs.Laws.BothEnds.{all_second, places_of_view}
+use Rattle.nd_access.specs.Read.{AreRead, AreRowsRead, HaveMarks, IsRead, IsRowRead}
+use Rattle.nd_access.proofs.Laws.BothEnds.{all_second}
 use Rattle.nd_access.proofs.Laws.ItemPlaces.{are_in_bounds}
 use Rattle.nd_access.proofs.Laws.Lists.{all_first}
 use Rattle.nd_access.proofs.Laws.Marks.{in_bounds_marked, marked_step}
 use Rattle.nd_access.proofs.Laws.OwnRows.{marked_row, places_and}
+use Rattle.nd_access.proofs.Laws.RestOfRow.{row_that_is_view}
 use Rattle.nd_access.proofs.Laws.RowArrays.{row_has_items}
 use Rattle.nd_access.proofs.Laws.RowsLent.{contiguous_places, rows_have_items}
 use Rattle.nd_access.proofs.Laws.SliceOfPart.{mark_in_bounds, span_within}
@@ -196,38 +195,33 @@ places_read {marks} view read are = record {
   marked = subst (HaveMarks marks) (sym are) (places_marked marks RowMajor view read.marked);
 }
 
-pub all_places_read : {marks : List Bool} {count : ℕ} (view : View) {places : List ℤ} → IsRead marks count view
-    → places ≡ view_places RowMajor view → ArePlacesRead marks count places
-all_places_read {marks} view read are = record {
-  are = places_of_view view read.has.is_view read.has.within are;
-  marked = subst (HaveMarks marks) (sym are) (places_marked marks RowMajor view read.marked);
-}
+-- ---- of those in two parts, those of each
+module _ {marks : List Bool} {count : ℕ} (xs ys : List ℤ) {left : List ℤ} (is : left ≡ xs ++ ys) (read : AreRead marks count left) where
+  in_parts : AreRead marks count (xs ++ ys)
+  in_parts = subst (AreRead marks count) is read
 
--- the first of them or the last, and the others
-pub record IsOneRead (marks : List Bool) (place : ℕ) (others : List ℤ) : Type 0 where
-  pub one : get_or marks place false ≡ true
-  pub left : HaveMarks marks others
+  pub front_read : AreRead marks count xs
+  front_read = record {
+    within = all_first (IsInBounds count) xs ys in_parts.within;
+    marked = all_first (λ place. has_mark marks place ≡ true) xs ys in_parts.marked;
+  }
 
-pub first_marked : {marks : List Bool} {place : ℕ} {left others : List ℤ} → left ≡ pos place ∷ others → HaveMarks marks left
-    → IsOneRead marks place others
-first_marked {marks} {place} {others = others} first marked =
-    let all = subst (HaveMarks marks) first marked in
-    record {
-      one = All-head (λ place. has_mark marks place ≡ true) (pos place) others all;
-      left = All-tail (λ place. has_mark marks place ≡ true) (pos place) others all;
-    }
+  pub back_read : AreRead marks count ys
+  back_read = record {
+    within = all_second (IsInBounds count) xs ys in_parts.within;
+    marked = all_second (λ place. has_mark marks place ≡ true) xs ys in_parts.marked;
+  }
 
-pub last_marked : {marks : List Bool} {place : ℕ} {left others : List ℤ} → left ≡ others ++ pos place ∷ [] → HaveMarks marks left
-    → IsOneRead marks place others
-last_marked {marks} {place} {others = others} last marked =
-    let all = subst (HaveMarks marks) last marked in
-    record {
-      one = All-head (λ place. has_mark marks place ≡ true) (pos place) []
-          (all_second (λ place. has_mark marks place ≡ true) others (pos place ∷ []) all);
-      left = all_first (λ place. has_mark marks place ≡ true) others (pos place ∷ []) all;
-    }
+-- a place among them has a mark
+pub one_read : {marks : List Bool} {count place : ℕ} → AreRead marks count (pos place ∷ []) → get_or marks place false ≡ true
+one_read {marks} {place = place} read = All-head (λ place. has_mark marks place ≡ true) (pos place) [] read.marked
 
--- its item comes before theirs, or after them
+-- a row of them that has some, where its view is accepted
+pub row_of_places_read : {marks : List Bool} {count : ℕ} (row : Row) → 0 < row.len → IsView (row_view row)
+    → AreRead marks count (places_of row) → IsRowRead marks count row
+row_of_places_read row some is read = record { has = row_that_is_view row some is read.within; marked = read.marked }
+
+-- the item of the first comes before those of the others, that of the last after them
 module _ {T : Type 0} (items : List T) {item : T} (place : ℕ) (got : slice_get items place ≡ Some item) where
   pub first_is : {left others : List ℤ} → left ≡ pos place ∷ others
       → map (item_at_place items) left ≡ Some item ∷ map (item_at_place items) others
@@ -239,10 +233,3 @@ module _ {T : Type 0} (items : List T) {item : T} (place : ℕ) (got : slice_get
       ap (map (item_at_place items)) last
       ∙ map_push (item_at_place items) others (pos place)
       ∙ ap (λ one. map (item_at_place items) others ++ one ∷ []) got
-
--- a row of them, in two parts of which it is one
-pub front_marked : (marks : List Bool) (xs ys : List ℤ) {left : List ℤ} → left ≡ xs ++ ys → HaveMarks marks left → HaveMarks marks xs
-front_marked marks xs ys is have = all_first (λ place. has_mark marks place ≡ true) xs ys (subst (HaveMarks marks) is have)
-
-pub back_marked : (marks : List Bool) (xs ys : List ℤ) {left : List ℤ} → left ≡ xs ++ ys → HaveMarks marks left → HaveMarks marks ys
-back_marked marks xs ys is have = all_second (λ place. has_mark marks place ≡ true) xs ys (subst (HaveMarks marks) is have)

@@ -11,7 +11,7 @@ ghost use Rattle.ndarray_layout.specs.View.{view_places};
 ghost use Rattle.ndarray_layout.specs.declared.Order.TheVariants.{RowMajor};
 
 use crate::array_view::ArrayView;
-use nd_items::{IndexedIter, Iter, NextIndex, ViewIter};
+use nd_items::{IndexedIter, Iter, IterOf, NextIndex, ViewIter};
 use ndarray_layout::{Lengths, Order};
 use std::alloc::{AllocError, Global};
 
@@ -32,7 +32,7 @@ impl<'a, T, D: Lengths> ArrayView<'a, T, D> {
             (YieldsFirstBy (λ (item : Bor T). Some item.now) (λ (left : List (Option T)). left))
             (λ turns. ItemsMapTo turns (λ (item : Bor T). Some item.now) turns.from) }
     {
-        Iter::of_reader(self.reader(), self.strided().iter_places(Order::RowMajor))
+        IterOf::of_reader(self.reader(), self.strided().iter_places(Order::RowMajor))
     }
 }
 
@@ -54,7 +54,7 @@ impl<'a, T, D: Lengths> IntoIterator for ArrayView<'a, T, D> {
     #[inline]
     fn into_iter(self) -> ViewIter<'a, T, D> {
         let ArrayView { reader, view } = self;
-        ViewIter::of_reader(reader, view)
+        IterOf::of_reader(reader, view.into_places(Order::RowMajor))
     }
 }
 

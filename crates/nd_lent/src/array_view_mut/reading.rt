@@ -13,7 +13,7 @@ ghost use Rattle.nd_access.specs.Items.{item_at_place};
 
 use crate::array_view::ArrayView;
 use crate::array_view_mut::ArrayViewMut;
-use nd_items::Iter;
+use nd_items::{Iter, IterOf};
 use ndarray_layout::{Lengths, Order};
 use std::alloc::{AllocError, Global};
 
@@ -69,6 +69,6 @@ impl<'a, T: Drop, D: Lengths> ArrayViewMut<'a, T, D> {
             (YieldsFirstBy (λ (item : Bor T). Some item.now) (λ (left : List (Option T)). left))
             (λ turns. ItemsMapTo turns (λ (item : Bor T). Some item.now) turns.from) }
     {
-        Iter::of_reader(self.cells.shared(), self.view.iter_places(Order::RowMajor))
+        IterOf::of_reader(self.cells.shared(), self.view.iter_places(Order::RowMajor))
     }
 }

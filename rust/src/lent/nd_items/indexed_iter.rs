@@ -1,8 +1,8 @@
 // Made by `rust/erase` of `crates/nd_items/src/indexed_iter.rt`: edit that.
 //! The items of an array with their indices one after another, lent for as long as the data is.
 
+use crate::lent::nd_items::iterating::ViewIter;
 use crate::lent::nd_items::next_index::NextIndex;
-use crate::lent::nd_items::view_iter::ViewIter;
 use crate::memory::AllocError;
 use crate::ndarray_layout::{Dimension, Lengths};
 

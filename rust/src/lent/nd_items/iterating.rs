@@ -3,14 +3,32 @@
 
 use crate::lent::nd_access::{LentRow, Reader, RowByRow};
 use crate::memory::prelude::Vec;
-use crate::ndarray_layout::{Lengths, Order, Places, Strided};
+use crate::ndarray_layout::{KeptAxes, Lengths, LentAxes, Order, PlacesOf, SlowerAxes, Strided};
 use core::iter::FusedIterator;
 
-/// The items of an array that are still to come, in row-major order of their indices, from both ends, each lent.
-pub struct Iter<'a, T> {
+/// The items of an array that are still to come, in row-major order of their indices, from both ends, each lent: `Iter`
+/// where the view is borrowed, `ViewIter` where the iterator has it.
+pub struct IterOf<'a, T, A: SlowerAxes> {
     reader: Reader<'a, T>,
-    places: Places<'a>,
+    places: PlacesOf<A>,
 }
+
+/// A copy, of which neither moves the other. Panics where an allocation fails, never for at most 4 axes. Not proved.
+impl<'a, T, A: SlowerAxes> Clone for IterOf<'a, T, A>
+where
+    A: Clone,
+{
+    fn clone(&self) -> Self {
+        IterOf { reader: Clone::clone(&self.reader), places: Clone::clone(&self.places) }
+    }
+}
+
+/// The items of an array that are still to come, in row-major order of their indices, from both ends, each lent.
+pub type Iter<'a, T> = IterOf<'a, T, LentAxes<'a>>;
+
+/// The items of an array that are still to come, in row-major order of their indices, from both ends, each lent for as
+/// long as the data is: a function that is handed an `ArrayView` may return this. ndarray's `Iter`.
+pub type ViewIter<'a, T, D> = IterOf<'a, T, KeptAxes<D>>;
 
 impl<'a, T> Iter<'a, T> {
     /// The items of all indices of a view, in row-major order.
@@ -48,27 +66,29 @@ impl<'a, T> Iter<'a, T> {
     #[must_use]
     pub fn new<D: Lengths>(view: &'a Strided<D>, items: &'a [T]) -> Self {
         assert!(crate::arrays::has_items(view, items.len()), "an index of the view is past the items");
-        Iter { reader: Reader::of_slice(items), places: view.iter_places(Order::RowMajor) }
+        IterOf::of_reader(Reader::of_slice(items), view.iter_places(Order::RowMajor))
     }
+}
 
+impl<'a, T, A: SlowerAxes> IterOf<'a, T, A> {
     /// The items at places, which the caller ensures to have marks.
     ///
     /// <details><summary>Contract (proved)</summary>
     ///
     /// ```text
     /// requires AreRead reader.marks (length reader.items) places
-    /// ensures result ≡ map (item_at_place reader.entry.items) places.entry
+    /// ensures result ≡ map (item_at_place reader.entry.items) places
     /// ```
     /// [How to read it](crate::contracts)
     /// </details>
     #[inline]
-    pub(in crate::lent) fn of_reader(reader: Reader<'a, T>, places: Places<'a>) -> Self {
-        Iter { reader, places }
+    pub(in crate::lent) fn of_reader(reader: Reader<'a, T>, places: PlacesOf<A>) -> Self {
+        IterOf { reader, places }
     }
 
     /// Skips the next `count` items, or all that remain.
     ///
-    /// Takes no memory, and no time for each item (`Places::advance`).
+    /// Takes no memory, and no time for each item (`PlacesOf::advance`).
     ///
     /// Of 8 7, after one item: 7. What `nth` of std's iterators skips one by one.
     ///
@@ -80,6 +100,17 @@ impl<'a, T> Iter<'a, T> {
     /// # fn main() -> Result<(), LayoutError> {
     /// let table = ArrayView::from_shape(Ix2(2, 2), &[5, 6, 7, 8])?;
     /// let mut left = table.iter();
+    /// left.advance(3);
+    /// assert_eq!((left.next(), left.next()), (Some(&8), None));
+    /// # Ok(())
+    /// # }
+    /// ```
+    /// ```
+    /// use ndarray_layout::{ArrayView, Ix2, LayoutError};
+    ///
+    /// # fn main() -> Result<(), LayoutError> {
+    /// let table = ArrayView::from_shape(Ix2(2, 2), &[5, 6, 7, 8])?;
+    /// let mut left = table.into_iter();
     /// left.advance(3);
     /// assert_eq!((left.next(), left.next()), (Some(&8), None));
     /// # Ok(())
@@ -100,7 +131,7 @@ impl<'a, T> Iter<'a, T> {
 
     /// Skips the last `count` items, or all that remain.
     ///
-    /// Takes no memory, and no time for each item (`Places::advance_back`).
+    /// Takes no memory, and no time for each item (`PlacesOf::advance_back`).
     ///
     /// Of 8 7, without the last item: 8. What `nth_back` of std's iterators skips one by one.
     ///
@@ -112,6 +143,17 @@ impl<'a, T> Iter<'a, T> {
     /// # fn main() -> Result<(), LayoutError> {
     /// let table = ArrayView::from_shape(Ix2(2, 2), &[5, 6, 7, 8])?;
     /// let mut left = table.iter();
+    /// left.advance_back(3);
+    /// assert_eq!((left.next_back(), left.next_back()), (Some(&5), None));
+    /// # Ok(())
+    /// # }
+    /// ```
+    /// ```
+    /// use ndarray_layout::{ArrayView, Ix2, LayoutError};
+    ///
+    /// # fn main() -> Result<(), LayoutError> {
+    /// let table = ArrayView::from_shape(Ix2(2, 2), &[5, 6, 7, 8])?;
+    /// let mut left = table.into_iter();
     /// left.advance_back(3);
     /// assert_eq!((left.next_back(), left.next_back()), (Some(&5), None));
     /// # Ok(())
@@ -131,7 +173,7 @@ impl<'a, T> Iter<'a, T> {
     }
 }
 
-impl<'a, T> RowByRow<'a, T> for Iter<'a, T> {
+impl<'a, T, A: SlowerAxes> RowByRow<'a, T> for IterOf<'a, T, A> {
     #[inline]
     fn next_row(&mut self) -> Option<LentRow<'a, T>> {
         let row = self.places.next_row()?;
@@ -145,7 +187,7 @@ impl<'a, T> RowByRow<'a, T> for Iter<'a, T> {
     }
 }
 
-impl<'a, T> Iterator for Iter<'a, T> {
+impl<'a, T, A: SlowerAxes> Iterator for IterOf<'a, T, A> {
     type Item = &'a T;
 
     #[inline(always)]
@@ -156,13 +198,14 @@ impl<'a, T> Iterator for Iter<'a, T> {
 
     #[inline]
     fn size_hint(&self) -> (usize, Option<usize>) {
-        self.places.size_hint()
+        let left = self.len();
+        (left, Some(left))
     }
 
     crate::arrays::fold_lent!();
 }
 
-impl<'a, T> DoubleEndedIterator for Iter<'a, T> {
+impl<'a, T, A: SlowerAxes> DoubleEndedIterator for IterOf<'a, T, A> {
     #[inline]
     fn next_back(&mut self) -> Option<&'a T> {
         let place = self.places.next_back()?;
@@ -172,11 +215,11 @@ impl<'a, T> DoubleEndedIterator for Iter<'a, T> {
     crate::arrays::rfold_lent!();
 }
 
-impl<T> ExactSizeIterator for Iter<'_, T> {
+impl<T, A: SlowerAxes> ExactSizeIterator for IterOf<'_, T, A> {
     #[inline]
     fn len(&self) -> usize {
         self.places.len()
     }
 }
 
-impl<T> FusedIterator for Iter<'_, T> {}
+impl<T, A: SlowerAxes> FusedIterator for IterOf<'_, T, A> {}

@@ -24,12 +24,10 @@ mod into_rows;
 mod items;
 mod iterating;
 mod next_index;
-mod view_iter;
 
 pub use indexed_iter::IndexedIter;
 pub use indexed_iter_mut::IndexedIterMut;
 pub use into_rows::IntoRows;
 pub use items::IterMut;
-pub use iterating::Iter;
+pub use iterating::{Iter, IterOf, ViewIter};
 pub use next_index::NextIndex;
-pub use view_iter::ViewIter;

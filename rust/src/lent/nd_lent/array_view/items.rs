@@ -1,7 +1,7 @@
 // Made by `rust/erase` of `crates/nd_lent/src/array_view/items.rt`: edit that.
 //! The items of an array one after another, with or without their indices, each lent, without a list of them.
 
-use crate::lent::nd_items::{IndexedIter, Iter, NextIndex, ViewIter};
+use crate::lent::nd_items::{IndexedIter, Iter, IterOf, NextIndex, ViewIter};
 use crate::lent::nd_lent::array_view::ArrayView;
 use crate::memory::AllocError;
 use crate::memory::prelude::Vec;
@@ -44,7 +44,7 @@ impl<'a, T, D: Lengths> ArrayView<'a, T, D> {
     #[inline]
     #[must_use]
     pub fn iter(&self) -> Iter<'_, T> {
-        Iter::of_reader(self.reader(), self.strided().iter_places(Order::RowMajor))
+        IterOf::of_reader(self.reader(), self.strided().iter_places(Order::RowMajor))
     }
 }
 
@@ -61,7 +61,7 @@ impl<'a, T, D: Lengths> IntoIterator for ArrayView<'a, T, D> {
     #[inline]
     fn into_iter(self) -> ViewIter<'a, T, D> {
         let ArrayView { reader, view } = self;
-        ViewIter::of_reader(reader, view)
+        IterOf::of_reader(reader, view.into_places(Order::RowMajor))
     }
 }
 

@@ -1,7 +1,7 @@
 // Made by `rust/erase` of `crates/nd_lent/src/array_view_mut/reading.rt`: edit that.
 //! The items of a part one after another, each lent to be read, without a list of them.
 
-use crate::lent::nd_items::Iter;
+use crate::lent::nd_items::{Iter, IterOf};
 use crate::lent::nd_lent::array_view::ArrayView;
 use crate::lent::nd_lent::array_view_mut::ArrayViewMut;
 use crate::memory::AllocError;
@@ -118,6 +118,6 @@ impl<'a, T: Sized, D: Lengths> ArrayViewMut<'a, T, D> {
     #[inline]
     #[must_use]
     pub fn iter(&self) -> Iter<'_, T> {
-        Iter::of_reader(self.cells.shared(), self.view.iter_places(Order::RowMajor))
+        IterOf::of_reader(self.cells.shared(), self.view.iter_places(Order::RowMajor))
     }
 }

@@ -4,7 +4,7 @@ use Rattle.std.proofs.lemmas.List.{length-append}
 use Rattle.nd_access.specs.LentRow.{row_items}
 use Rattle.nd_items.proofs.Copied.{row_copied}
 use Rattle.nd_access.proofs.Laws.Pushed.{length-row_items}
-use Rattle.nd_items.proofs.iterating.Iter.into_list.Goals as goal
+use Rattle.nd_items.proofs.copying.Iter+T.into_list.Goals as goal
 
 pub loop-row-smaller-in-Continue-branch-2 : goal.loop-row-smaller-in-Continue-branch-2
 loop-row-smaller-in-Continue-branch-2 g c = omega (

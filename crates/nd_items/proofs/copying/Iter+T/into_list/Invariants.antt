@@ -1,6 +1,6 @@
 -- What is copied and what is left are all, and for what is left there is room.
 use Rattle.std.proofs.Common.{◌≡◌, ◌+◌, ◌≤◌, ◌++◌, Some, length, map, vec_capacity, vec_len}
-use Rattle.nd_items.proofs.iterating.Iter.into_list.Given as goal
+use Rattle.nd_items.proofs.copying.Iter+T.into_list.Given as goal
 
 abbrev pub invariant-loop-row : goal.invariant-loop-row
 invariant-loop-row g l = record {
