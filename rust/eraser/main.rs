@@ -78,6 +78,7 @@ const ALLOWED: &[(&str, &[&str])] = &[
     ("what the kit has no form for", &["clippy::unused_unit"]),
     ("a sequence is never asked whether it is empty", &["clippy::len_without_is_empty"]),
     ("the package has the trait beside what is proved", &["clippy::should_implement_trait"]),
+    ("what comes with its index is lent", &["clippy::type_complexity"]),
 ];
 
 /// Those that programs and tests don't keep to either.
@@ -91,7 +92,6 @@ const ALLOWED_IN_TESTS: &[(&str, &[&str])] = &[
             "clippy::needless_lifetimes",
             "clippy::question_mark",
             "clippy::redundant_pattern_matching",
-            "clippy::type_complexity",
         ],
     ),
     (

@@ -133,6 +133,7 @@ pub const OPEN: &[&str] = &[
     "EqualTo",
     "IntoDimension",
     "IterOrder",
+    "LentItems",
     "Numbers",
     "ShapeArg",
     "ShapeBuilder",
@@ -223,8 +224,7 @@ pub const SOUND_BY_CONDITIONS: &[(&str, &str)] = &[
     ("nd_access", "cells"),
     ("nd_access", "row_items"),
     ("nd_access", "rows"),
-    ("nd_items", "indexed_iter"),
-    ("nd_items", "indexed_iter_mut"),
+    ("nd_items", "indexed_of"),
     ("nd_items", "into_rows"),
     ("nd_items", "items"),
     ("nd_items", "iterating"),
@@ -237,7 +237,7 @@ pub const IN_ROOM: &[&str] = &["nd_access", "nd_items", "nd_loops", "nd_lent", "
 pub const ROOM: &str = "lent";
 
 /// Types and traits of these crates that no user can name.
-pub const UNNAMED: &[&str] = &["Cells", "Reader", "RowByRow"];
+pub const UNNAMED: &[&str] = &["Cells", "LentItems", "Reader", "RowByRow"];
 
 /// Calls that these crates hide, which files of `rust/src` make. None has a condition.
 pub const SEEN: &[&str] = &["into_items_at", "into_list", "list_by_index", "take", "try_item", "try_item_mut"];

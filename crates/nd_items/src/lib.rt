@@ -2,15 +2,13 @@
 #![tactic(auto)]
 
 mod copying;
-mod indexed_iter;
-mod indexed_iter_mut;
+mod indexed_of;
 mod into_rows;
 mod items;
 mod iterating;
 mod next_index;
 
-pub use indexed_iter::IndexedIter;
-pub use indexed_iter_mut::IndexedIterMut;
+pub use indexed_of::{IndexedIter, IndexedIterMut, IndexedOf, LentItems};
 pub use into_rows::IntoRows;
 pub use items::IterMut;
 pub use iterating::{Iter, IterOf, ViewIter};

@@ -5,13 +5,14 @@ ghost use Rattle.std.specs.Iterator.Runs.{EveryRun, ItemsMapTo};
 ghost use Rattle.std.specs.Prelude.{◌≡◌, ◌-◌, List, Option, Some, length, map, IfOk, IsOk};
 ghost use Rattle.nd_access.specs.Items.{item_at_place};
 ghost use Rattle.nd_items.specs.IndexedItems.{indexed_items};
+ghost use Rattle.nd_items.specs.IndexedLeft.{indexed_left};
 ghost use Rattle.ndarray_layout.specs.Memory.{NeedsNoMemory};
 ghost use Rattle.ndarray_layout.specs.Size.{size};
 ghost use Rattle.ndarray_layout.specs.View.{view_places};
 ghost use Rattle.ndarray_layout.specs.declared.Order.TheVariants.{RowMajor};
 
 use crate::array_view::ArrayView;
-use nd_items::{IndexedIter, Iter, IterOf, NextIndex, ViewIter};
+use nd_items::{IndexedIter, IndexedOf, Iter, IterOf, NextIndex, ViewIter};
 use ndarray_layout::{Lengths, Order};
 use std::alloc::{AllocError, Global};
 
@@ -70,10 +71,10 @@ impl<'a, T, D: Lengths> ArrayView<'a, T, D> {
     ///
     /// `a.into_indexed_iter()` gives 8 at 0 and 7 at 1. ndarray's `indexed_iter`.
     pub fn into_indexed_iter(self, alloc: Global) -> Result<IndexedIter<'a, T, D>, AllocError>
-        ensures items { IfOk result (λ left. left ≡ indexed_items self.entry) }
+        ensures items { IfOk result (λ left. indexed_left left ≡ indexed_items self.entry) }
         ensures memory { NeedsNoMemory D.NDIM (length self.entry.view.shape) → IsOk result }
     {
         let index = NextIndex::first(alloc, self.dim(), self.len())?;
-        Ok(IndexedIter::of_items(self.into_iter(), index))
+        Ok(IndexedOf::of_items(self.into_iter(), index))
     }
 }

@@ -8,7 +8,7 @@ ghost use Rattle.ndarray_layout.specs.View.{view_places};
 ghost use Rattle.ndarray_layout.specs.declared.Order.TheVariants.{RowMajor};
 
 use crate::array_view_mut::ArrayViewMut;
-use nd_items::{IndexedIterMut, IterMut, NextIndex};
+use nd_items::{IndexedIterMut, IndexedOf, IterMut, NextIndex};
 use ndarray_layout::{Ix1, Lengths};
 use std::alloc::{AllocError, Global};
 
@@ -96,6 +96,6 @@ impl<'a, T: Drop, D: Lengths> ArrayViewMut<'a, T, D> {
         ensures memory { NeedsNoMemory D.NDIM (length (array_of self.entry).view.shape) → IsOk result }
     {
         let index = NextIndex::first(alloc, self.dim(), self.len())?;
-        Ok(IndexedIterMut::of_items(self.into_items(), index))
+        Ok(IndexedOf::of_items(self.into_items(), index))
     }
 }

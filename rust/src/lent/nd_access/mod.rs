@@ -17,6 +17,7 @@
 #![allow(clippy::unused_unit, reason = "what the kit has no form for")]
 #![allow(clippy::len_without_is_empty, reason = "a sequence is never asked whether it is empty")]
 #![allow(clippy::should_implement_trait, reason = "the package has the trait beside what is proved")]
+#![allow(clippy::type_complexity, reason = "what comes with its index is lent")]
 
 mod cells;
 mod row_by_row;

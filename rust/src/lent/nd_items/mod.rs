@@ -16,17 +16,16 @@
 #![allow(clippy::unused_unit, reason = "what the kit has no form for")]
 #![allow(clippy::len_without_is_empty, reason = "a sequence is never asked whether it is empty")]
 #![allow(clippy::should_implement_trait, reason = "the package has the trait beside what is proved")]
+#![allow(clippy::type_complexity, reason = "what comes with its index is lent")]
 
 mod copying;
-mod indexed_iter;
-mod indexed_iter_mut;
+mod indexed_of;
 mod into_rows;
 mod items;
 mod iterating;
 mod next_index;
 
-pub use indexed_iter::IndexedIter;
-pub use indexed_iter_mut::IndexedIterMut;
+pub use indexed_of::{IndexedIter, IndexedIterMut, IndexedOf, LentItems};
 pub use into_rows::IntoRows;
 pub use items::IterMut;
 pub use iterating::{Iter, IterOf, ViewIter};

@@ -17,6 +17,7 @@
 #![allow(clippy::unused_unit, reason = "what the kit has no form for")]
 #![allow(clippy::len_without_is_empty, reason = "a sequence is never asked whether it is empty")]
 #![allow(clippy::should_implement_trait, reason = "the package has the trait beside what is proved")]
+#![allow(clippy::type_complexity, reason = "what comes with its index is lent")]
 #![allow(dead_code, reason = "what one test or program calls, and not each")]
 #![allow(clippy::incompatible_msrv, reason = "what the package's least rustc hasn't: programs and tests aren't packed")]
 #![allow(
@@ -24,7 +25,6 @@
     clippy::needless_lifetimes,
     clippy::question_mark,
     clippy::redundant_pattern_matching,
-    clippy::type_complexity,
     reason = "a form that is proved with less"
 )]
 #![allow(

@@ -1,7 +1,7 @@
 // Made by `rust/erase` of `crates/nd_lent/src/array_view/items.rt`: edit that.
 //! The items of an array one after another, with or without their indices, each lent, without a list of them.
 
-use crate::lent::nd_items::{IndexedIter, Iter, IterOf, NextIndex, ViewIter};
+use crate::lent::nd_items::{IndexedIter, IndexedOf, Iter, IterOf, NextIndex, ViewIter};
 use crate::lent::nd_lent::array_view::ArrayView;
 use crate::memory::AllocError;
 use crate::memory::prelude::Vec;
@@ -93,7 +93,7 @@ impl<'a, T, D: Lengths> ArrayView<'a, T, D> {
     /// <details><summary>Contract (proved)</summary>
     ///
     /// ```text
-    /// ensures items: IfOk result (λ left. left ≡ indexed_items self.entry)
+    /// ensures items: IfOk result (λ left. indexed_left left ≡ indexed_items self.entry)
     /// ensures memory: NeedsNoMemory D.NDIM (length self.entry.view.shape) → IsOk result
     /// ```
     /// [How to read it](crate::contracts)
@@ -101,6 +101,6 @@ impl<'a, T, D: Lengths> ArrayView<'a, T, D> {
     #[inline]
     pub fn into_indexed_iter(self) -> Result<IndexedIter<'a, T, D>, AllocError> {
         let index = NextIndex::first(self.dim(), self.len())?;
-        Ok(IndexedIter::of_items(self.into_iter(), index))
+        Ok(IndexedOf::of_items(self.into_iter(), index))
     }
 }

@@ -1,7 +1,7 @@
 // Made by `rust/erase` of `crates/nd_lent/src/array_view_mut/items.rt`: edit that.
 //! The items of a part one after another, with or without their indices, each lent to be written, without a list of them.
 
-use crate::lent::nd_items::{IndexedIterMut, IterMut, NextIndex};
+use crate::lent::nd_items::{IndexedIterMut, IndexedOf, IterMut, NextIndex};
 use crate::lent::nd_lent::array_view_mut::ArrayViewMut;
 use crate::memory::AllocError;
 use crate::ndarray_layout::{Ix1, Lengths};
@@ -139,6 +139,6 @@ impl<'a, T: Sized, D: Lengths> ArrayViewMut<'a, T, D> {
     #[inline]
     pub fn into_indexed_items(self) -> Result<IndexedIterMut<'a, T, D>, AllocError> {
         let index = NextIndex::first(self.dim(), self.len())?;
-        Ok(IndexedIterMut::of_items(self.into_items(), index))
+        Ok(IndexedOf::of_items(self.into_items(), index))
     }
 }

@@ -18,5 +18,5 @@ of_items-requires g c =
 
 pub returns-clause-items : goal.returns-clause-items
 returns-clause-items g c =
-    c.of_items.ensures ∙ ap (λ left. zip left c.into_iter.result) (indices g (goal.at.returns-clause-items g c).After-into_iter)
+    c.of_items.ensures.items ∙ ap (λ left. zip left c.into_iter.result) (indices g (goal.at.returns-clause-items g c).After-into_iter)
     ∙ all_at_first c.args.self c.into_iter.ensures.into_iter_gives.0
