@@ -122,6 +122,7 @@ struct MustUse;
 
 pub use crate::arrays::MultiSliceArg;
 pub use crate::convenience::*;
+pub use crate::lent::nd_items::{IndexedOf, IterOf};
 #[doc(inline)]
 pub use crate::memory::AllocError;
 pub use crate::nd_lent::{
