@@ -23,7 +23,6 @@ pub use Rattle.nd_access.specs.HasItems
 pub use Rattle.nd_access.specs.Items
 pub use Rattle.nd_access.specs.Lending
 pub use Rattle.nd_access.specs.LendingCells
-pub use Rattle.nd_access.specs.LentPlaces
 pub use Rattle.nd_access.specs.LentRow
 pub use Rattle.nd_access.specs.Mapped
 pub use Rattle.nd_access.specs.Own

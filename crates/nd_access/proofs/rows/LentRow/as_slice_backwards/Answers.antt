@@ -1,5 +1,5 @@
 -- Such a row is a stretch of the items, which ends with its first one.
-use Rattle.std.proofs.Common.{rules, ◌≡◌, ◌+◌, ◌-◌, ◌≤◌, ◌<◌, ◌^◌, negsuc, map, reverse, Some, refl, ap, ◌∙◌, arith}
+use Rattle.std.proofs.Common.{◌≡◌, ◌+◌, ◌-◌, ◌<◌, ◌^◌, negsuc, map, reverse, Some, refl, ap, ◌∙◌, arith}
 use Rattle.std.proofs.lemmas.Int.{ints}
 use Rattle.nd_access.proofs.Backwards.{backwards_items, lies_backwards}
 use Rattle.nd_access.proofs.Laws.RowItems.{begins}

@@ -1,5 +1,5 @@
 -- A coordinate of the row has a place among the items, which has a mark.
-use Rattle.std.proofs.Common.{sym, ◌<◌, ◌∙◌, subst}
+use Rattle.std.proofs.Common.{sym, ◌<◌, subst}
 use Rattle.nd_access.proofs.Laws.Read.{mark_of_coordinate, read_of_coordinate}
 use Rattle.nd_access.proofs.Laws.RowsLent.{place_of_coordinate}
 use Rattle.nd_access.proofs.rows.LentRow.item.Goals as goal
