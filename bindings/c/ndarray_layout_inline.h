@@ -137,7 +137,7 @@ ND_CHECKED((7)) int32_t nd_view_from_strides(const size_t *shape, size_t shape_l
  * *view;`. Through a pointer to a view that another function has, writes of bytes cost two to four times as much: take a cursor.
  * A loop that reads neighbours of each element, as a blur does, takes a window of rows by nd_cursor_row, one row for each line
  * that it reads, as the project's bindings/c/examples/blur.c. The mean of 3x3 bytes of 1920x1088 by nd_at, through a pointer, takes
- * 11 to 19 times a loop by hand that compares nothing, by gcc 12 and clang 14, -O2 and -O3; by three rows 1.0 times.
+ * 10 to 18 times a loop by hand that compares nothing, by gcc 12 and clang 14, -O2 and -O3; by three rows 1.0 times.
  *
  *    view: (2,3), strides (-3,1), from 3, over 6
  *    nd_at(&view, 1, 2) == 2
