@@ -18,7 +18,9 @@ static PyObject *View, *OutOfBoundsError; /* the package's classes, which `bind`
 
 #include "reasons.h"
 #include "calls.h"
+#include "accepted.h"
 #include "layout.h"
+#include "axes.h"
 #include "arrays.h"
 #include "chunks.h"
 
