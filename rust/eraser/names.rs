@@ -379,6 +379,7 @@ pub const OF_CLOSURES: &[&str] = &[
     "(array_of self.old).view.shape ≡ other.now.view.shape → (array_of self.old).view.shape ≡ third.now.view.shape → CallableOnEachTriple ",
     "(array_of self.old).view.shape ≡ other.now.view.shape → InAnyOrder (λ pairs. CallableOnEachPair ",
     "self.now.view.shape ≡ (array_of to.old).view.shape → CallableOnAllAt ",
+    "self.now.view.shape ≡ other.now.view.shape → CallableInFoldOfPairs ",
     "self.now.view.shape ≡ (array_of to.old).view.shape → InAnyOrder (λ items. CallableOnAllAt ",
 ];
 
@@ -387,6 +388,10 @@ pub const CONDITIONS: &[(&str, &str)] = &[
     (
         "CallableAtIndices",
         "The function may be called with any index of the shape, whatever it was called with before. Where it panics, so does this call.",
+    ),
+    (
+        "CallableInFoldOfPairs",
+        "The function may be called with any item of the array and any of the other one, after any result that it has returned. Where it panics, so does this call.",
     ),
     (
         "CallableInFold",

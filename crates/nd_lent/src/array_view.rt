@@ -19,6 +19,7 @@ mod comparing;
 mod copying;
 mod extremes;
 mod folding;
+mod folding_with;
 mod items;
 mod making;
 mod memory_order;

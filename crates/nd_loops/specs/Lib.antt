@@ -1,6 +1,7 @@
 pub mod AnyOrder
 pub mod Beside
 pub mod Equal
+pub mod FoldedPairs
 pub mod LentLayout
 pub mod OwnedRows
 pub mod Searched

@@ -132,6 +132,7 @@ fn values_of_whole_arrays() -> Tested {
     a.fill(7);
     a.assign(&b.view())?;
     assert_eq!(a.view().to_array()?.into_stored(), [0, 1, 2, 3, 4, 5]);
+    assert_eq!(a.view().fold_with(&b.view(), 0, |sum, x, y| sum + x * y)?, 55);
     assert_eq!((a.view().fold(0, |sum, item| sum + item), a.view().diag().to_vec()?), (15, vec![0, 4]));
     assert_eq!((a == b, a.to_string()), (true, "[[0, 1, 2],\n [3, 4, 5]]".into()));
     assert_eq!((a.to_owned(), a.to_vec()?), (b, vec![0, 1, 2, 3, 4, 5]));
@@ -154,7 +155,7 @@ fn each_row_of_the_guide_is_compiled_here() {
     let (guide, tests) = (include_str!("../../GUIDE.md"), [include_str!("idioms.rs"), include_str!("most_used.rs")]);
     let (_, table) = guide.split_once("| ndarray | here |\n|---|---|\n").expect("the table");
     let rows: Vec<&str> = table.lines().take_while(|line| line.starts_with("| ")).collect();
-    assert_eq!(rows.len(), 82);
+    assert_eq!(rows.len(), 83);
     for row in rows {
         let (theirs, here) = row.trim_matches(['|', ' ']).split_once(" | ").expect("two cells");
         let compiled = if here.starts_with("the same") { codes(theirs) } else { codes(here) };

@@ -1,7 +1,9 @@
 //! What is known of all items at once: sums, the least and the greatest, and whether some or all pass a test.
 
 use crate::{ROWS, lists, two_rows};
-use ndarray_layout::{ArrayView, Axis, Fit, Ix1, Ix2, LayoutError, ShapeBuilder, s, unsigned};
+use ndarray_layout::{
+    ArrayView, Axis, ErrorKind, Fit, Ix1, Ix2, IxDyn, LayoutError, Lengths, ShapeBuilder, ShapeError, s, unsigned,
+};
 
 #[test]
 fn items_are_added_as_often_as_they_have_an_index() -> Result<(), LayoutError> {
@@ -95,5 +97,45 @@ fn arrays_are_equal_where_shapes_and_items_are() -> Result<(), LayoutError> {
     let words = ArrayView::from_shape(Ix1(2), &words)?;
     let turned = ArrayView::from_shape(Ix1(2).strides(Ix1(unsigned(-1)))?, &others)?;
     assert!(ArrayView::eq(&words, &turned) && !ArrayView::eq(&words, &ArrayView::from_shape(Ix1(2), &others)?));
+    Ok(())
+}
+
+/// The pairs of items that `fold_with` is called at, in order.
+fn pairs<D: Lengths>(a: &ArrayView<'_, u8, D>, b: &ArrayView<'_, i16, D>) -> Result<Vec<(u8, i16)>, ShapeError> {
+    a.fold_with(b, Vec::new(), |mut pairs, x, y| {
+        pairs.push((*x, *y));
+        pairs
+    })
+}
+
+#[test]
+fn two_arrays_of_one_shape_are_folded_in_step() -> Result<(), LayoutError> {
+    let items: Vec<i16> = (10..16).collect();
+    let (rows, others) = (two_rows(), ArrayView::from_shape(ROWS, &items)?);
+    assert_eq!(pairs(&rows, &others)?, [(0, 10), (1, 11), (2, 12), (3, 13), (4, 14), (5, 15)]);
+    let turned = ArrayView::from_shape(Ix2(3, 2), &items)?.reversed_axes();
+    assert_eq!(pairs(&rows, &turned)?, [(0, 10), (1, 12), (2, 14), (3, 11), (4, 13), (5, 15)]);
+    let [left, right] = [s![.., ..2], s![..;-1, 1..]];
+    let [left, right] = [rows.slice_with::<Ix2, _>(&left, Fit::Strict)?, rows.slice_with(&right, Fit::Strict)?];
+    assert_eq!(left.fold_with(&right, 0, |sum, x, y| 100 * sum + 10 * u32::from(*x) + u32::from(*y))?, 4_153_142);
+    assert_eq!(left.fold_with(&left, 0, |sum, x, y| sum + x * y)?, 26);
+    let none = rows.slice_with::<Ix2, _>(&s![..0, ..], Fit::Strict)?;
+    assert_eq!(none.fold_with(&none, 7, |_, _, _| 8)?, 7);
+    for shape in [Ix2(3, 2), Ix2(1, 6), Ix2(2, 2)] {
+        let fault = pairs(&rows, &ArrayView::from_shape(shape, &items)?).err();
+        assert_eq!(fault.map(|fault| fault.kind()), Some(ErrorKind::IncompatibleShape));
+    }
+    Ok(())
+}
+
+#[test]
+fn arrays_of_more_than_four_axes_are_folded_in_step() -> Result<(), LayoutError> {
+    let items: Vec<u32> = (0..720).collect();
+    let shape = IxDyn(&[2, 3, 4, 5, 6]);
+    let a = ArrayView::from_shape(shape, &items)?;
+    let turned = ArrayView::from_shape(IxDyn(&[6, 5, 4, 3, 2]), &items)?.reversed_axes();
+    let told = a.fold_with(&turned, (0, 0), |(count, sum), x, y| (count + 1, sum + count * u64::from(x * y)))?;
+    let each = a.iter().zip(turned.iter()).enumerate();
+    assert_eq!(told, (720, each.map(|(count, (x, y))| count as u64 * u64::from(x * y)).sum()));
     Ok(())
 }

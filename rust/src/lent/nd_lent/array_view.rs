@@ -12,6 +12,7 @@ mod blocks_iter;
 mod comparing;
 mod copying;
 mod extremes;
+mod folding_with;
 mod items;
 mod memory_order;
 mod searching;
