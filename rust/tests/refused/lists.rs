@@ -7,8 +7,8 @@ use crate::written::Written;
 use Fit::Strict;
 use ndarray_layout::{
     CanIndexCheckMode, Dimension, Fit, IndexCursor, IndexCursorF, IntoDimension, Ix1, IxDyn, IxDynImpl, Lengths,
-    ShapeArg, ShapeError, SliceInfoElem, Strided, all_indices, co_broadcast, first_elems_intersection_sorted,
-    first_intersection_sorted, indices_iter_f, new_dim, new_ixdyn,
+    ShapeArg, ShapeError, SliceInfoElem, Strided, all_indices, any_elems_intersection, co_broadcast,
+    first_elems_intersection_sorted, first_intersection_sorted, indices_iter_f, new_dim, new_ixdyn,
 };
 
 /// What a call answers, by the group of its name.
@@ -49,6 +49,7 @@ fn of_coordinates_as_slices(call: &Call, coordinates: &[usize]) -> Option<String
     Some(match call.name {
         "first_intersection_sorted" => pair(call.makes(|| first_intersection_sorted(&dim, &slices, Strict))),
         "Strided::first_intersection_sorted" => pair(call.makes(|| view.first_intersection_sorted(&slices, Strict))),
+        "any_elems_intersection" => pair(call.makes(|| Ok(any_elems_intersection(dim.slice(), &slices, Strict)))),
         "first_elems_intersection_sorted" => call.told(|| {
             first_elems_intersection_sorted(dim.slice(), &slices, Strict).map(|found| found.is_some() as usize)
         }),
