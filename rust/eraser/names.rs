@@ -316,8 +316,8 @@ pub const LENDING: &[&str] = &["IterOf", "LentRow", "Reader", "RowItems"];
 pub const POINTERS: &[&str] = &["LentRow", "Reader"];
 
 /// Iterators whose `fold` and `nth`, or `nth_back`, are more than calls of the `next` or `next_back` that is proved: the
-/// trait, the iterator, and the macro of `rust/src/arrays` that adds them. A `fold` of items that are lent is a proved call, `fold_rest`, and
-/// an `rfold` is `rfold_rest`.
+/// trait, the iterator, and the macro of `rust/src/arrays` that adds them. A `fold` of items that are lent is a proved call, `fold_rest`, or
+/// `fold_rows_left` of the proved `into_rows_left`; an `rfold` is `rfold_rest`.
 pub const FOLDED: &[(&str, &str, &str)] = &[
     ("Iterator", "Items", "fold_items"),
     ("Iterator", "PlacesOf", "fold_by_rest"),
@@ -328,7 +328,7 @@ pub const FOLDED: &[(&str, &str, &str)] = &[
     ("DoubleEndedIterator", "IterOf", "rfold_lent"),
     ("Iterator", "LanesMut", "skip"),
     ("DoubleEndedIterator", "LanesMut", "skip_back"),
-    ("Iterator", "RowItems", "fold_lent"),
+    ("Iterator", "RowItems", "fold_row"),
     ("DoubleEndedIterator", "RowItems", "rfold_lent"),
 ];
 

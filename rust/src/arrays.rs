@@ -36,7 +36,7 @@ mod writing;
 mod zip;
 
 pub(crate) use axis_iter::{check_axis, check_chunks};
-pub(crate) use folding::{fold_by_rest, fold_indexed, fold_items, fold_lent, rfold_lent};
+pub(crate) use folding::{fold_by_rest, fold_indexed, fold_items, fold_lent, fold_row, rfold_lent};
 pub(crate) use from::fitting;
 pub(crate) use indexing::no_such_index;
 pub use multi_slice::MultiSliceArg;

@@ -127,7 +127,7 @@ pub use crate::lent::nd_items::{IndexedOf, IterOf};
 pub use crate::memory::AllocError;
 pub use crate::nd_lent::{
     Arrays, AxisChunksIter, AxisChunksIterMut, AxisIter, AxisIterMut, BlocksIter, IndexedIter, IndexedIterMut, IterMut,
-    LanesMut, Parts, SliceParts, TilesMut, Zip,
+    LanesMut, LentRowsOf, Parts, SliceParts, TilesMut, Zip,
 };
 pub use crate::nd_owned::{
     ArrayView, ArrayViewMut, EqualTo, IntoRows, Items, Iter, LentRow, LentRows, OwnedArray, ReadySlice, RowItems,

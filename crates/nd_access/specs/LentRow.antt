@@ -1,5 +1,6 @@
 -- What a contract sees of a row of items that are lent.
-use Rattle.std.specs.Prelude.{◌≡◌, ℕ, ℤ, ◌<◌, ◌||◌, ◌^◌, pos, negsuc, Bool, true, false, Option, Some, List, [], ◌∷◌, map, nat_le, refl}
+use Rattle.std.specs.Prelude.{◌≡◌, ℕ, ℤ, ◌<◌, ◌||◌, ◌^◌, pos, negsuc, Bool, true, false, Option, Some, None, List, [], ◌∷◌, map}
+use Rattle.std.specs.Prelude.{nat_le, refl}
 use Rattle.std.specs.List.{All, flat_map}
 use Rattle.std.specs.Ordering.{int_eq}
 use Rattle.std.proofs.Math.Dec.{lt→ltb}
@@ -26,6 +27,11 @@ row_items value = map (item_at_place value.items) (places_of value.row)
 abbrev pub rows_items : {T : Type 0} → List (RowValue T) → List (Option T)
 rows_items values = flat_map row_items values
 
+-- those of a row, or of none
+abbrev pub items_of_row : {T : Type 0} → Option (RowValue T) → List (Option T)
+items_of_row None = []
+items_of_row (Some value) = row_items value
+
 -- the row of these places among items
 abbrev pub row_of : {T : Type 0} → List T → Row → RowValue T
 row_of items row = record { items = items; row = row }
@@ -47,6 +53,12 @@ backwards = row_of (7 ∷ 8 ∷ 9 ∷ []) (record { start = 2; stride = negsuc 1
 
 last_one_first : row_items backwards ≡ Some 9 ∷ Some 7 ∷ []
 last_one_first = refl
+
+of_no_row : items_of_row {T = ℕ} None ≡ []
+of_no_row = refl
+
+of_one_row : items_of_row (Some backwards) ≡ Some 9 ∷ Some 7 ∷ []
+of_one_row = refl
 
 one_row_after_another : rows_items (backwards ∷ backwards ∷ []) ≡ Some 9 ∷ Some 7 ∷ Some 9 ∷ Some 7 ∷ []
 one_row_after_another = refl

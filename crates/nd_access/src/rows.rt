@@ -9,7 +9,7 @@ ghost use Rattle.nd_access.specs.LentRow.{RowValue, is_contiguous, row_items, ro
 ghost use Rattle.nd_access.specs.Read.{AreRowsRead};
 
 use crate::cells::Reader;
-use ndarray_layout::{Row, Rows};
+use ndarray_layout::{LentAxes, Row, RowsOf, SlowerAxes};
 use std::iter::FusedIterator;
 use std::marker::Model;
 
@@ -140,14 +140,18 @@ impl<'a, T> LentRow<'a, T> {
     }
 }
 
-/// The rows of an array that are still to come, in row-major order, from both ends, each lent. A contract sees the list of them.
+/// Rows of an array that are still to come, in row-major order, from both ends, each lent: `LentRows` where the view is borrowed. A
+/// contract sees the list of them.
 #[derive(Drop)]
-pub struct LentRows<'a, T> {
+pub struct LentRowsOf<'a, T, A: SlowerAxes> {
     reader: Reader<'a, T>,
-    rows: Rows<'a>,
+    rows: RowsOf<A>,
 }
 
-impl<'a, T> Model for LentRows<'a, T> {
+/// The rows of an array that are still to come, in row-major order, from both ends, each lent. A contract sees the list of them.
+pub type LentRows<'a, T> = LentRowsOf<'a, T, LentAxes<'a>>;
+
+impl<'a, T, A: SlowerAxes> Model for LentRowsOf<'a, T, A> {
     ghost use Rattle.std.specs.Prelude.{List, length, map};
     ghost use Rattle.nd_access.specs.LentRow.{RowValue, row_of};
     ghost use Rattle.nd_access.specs.Read.{AreRowsRead};
@@ -159,14 +163,14 @@ impl<'a, T> Model for LentRows<'a, T> {
     ghost invariant = { λ rows. AreRowsRead rows.reader.marks (length rows.reader.items) rows.rows };
 }
 
-impl<'a, T> LentRows<'a, T> {
+impl<'a, T, A: SlowerAxes> LentRowsOf<'a, T, A> {
     /// These rows, each lent. The caller ensures that each has an item at each place.
     #[doc(hidden)]
-    pub fn new(reader: Reader<'a, T>, rows: Rows<'a>) -> Self
+    pub fn new(reader: Reader<'a, T>, rows: RowsOf<A>) -> Self
         requires { AreRowsRead reader.marks (length reader.items) rows }
-        ensures { result ≡ map (row_of reader.entry.items) rows.entry }
+        ensures { result ≡ map (row_of reader.entry.items) rows }
     {
-        LentRows { reader, rows }
+        LentRowsOf { reader, rows }
     }
 
     /// How many items each row has; unspecified where none is left.
@@ -179,7 +183,7 @@ impl<'a, T> LentRows<'a, T> {
     }
 }
 
-impl<'a, T> Iterator for LentRows<'a, T> {
+impl<'a, T, A: SlowerAxes> Iterator for LentRowsOf<'a, T, A> {
     type Item = LentRow<'a, T>;
 
     ghost next_gives = { YieldsFirst (λ left. left) };
@@ -204,7 +208,7 @@ impl<'a, T> Iterator for LentRows<'a, T> {
     }
 }
 
-impl<'a, T> DoubleEndedIterator for LentRows<'a, T> {
+impl<'a, T, A: SlowerAxes> DoubleEndedIterator for LentRowsOf<'a, T, A> {
     ghost next_back_gives = { YieldsLast (λ left. left) };
 
     #[inline]
@@ -217,10 +221,10 @@ impl<'a, T> DoubleEndedIterator for LentRows<'a, T> {
     }
 }
 
-impl<T> ExactSizeIterator for LentRows<'_, T> {
+impl<T, A: SlowerAxes> ExactSizeIterator for LentRowsOf<'_, T, A> {
     fn len(&self) -> usize {
         self.rows.len()
     }
 }
 
-impl<T> FusedIterator for LentRows<'_, T> {}
+impl<T, A: SlowerAxes> FusedIterator for LentRowsOf<'_, T, A> {}

@@ -1,15 +1,17 @@
 //! The items of an array one after another, each lent, without a list of them.
 ghost use Rattle.std.specs.Iterator.{UpTo, YieldsFirstBy, YieldsLastBy, item_count};
 ghost use Rattle.std.specs.Iterator.SizeHint.{IsWithinCount};
-ghost use Rattle.std.specs.Prelude.{◌≡◌, ◌-◌, IfSome, List, Option, Some, drop, length, map, take};
+ghost use Rattle.std.specs.Prelude.{◌≡◌, ◌-◌, ◌++◌, IfSome, List, Option, Some, drop, length, map, take};
 ghost use Rattle.ndarray_layout.specs.declared.Order.TheVariants.{RowMajor};
 ghost use Rattle.ndarray_layout.specs.View.{view_places};
 ghost use Rattle.nd_access.specs.ArrayView.{HasItems};
 ghost use Rattle.nd_access.specs.Items.{item_at_place};
-ghost use Rattle.nd_access.specs.Read.{AreRead};
+ghost use Rattle.nd_access.specs.LentRow.{items_of_row, row_of, rows_items};
+ghost use Rattle.nd_access.specs.Read.{AreRead, IsRowRead};
+ghost use Rattle.std.specs.Option.{option_map};
 
-use nd_access::{LentRow, Reader, RowByRow};
-use ndarray_layout::{KeptAxes, Lengths, LentAxes, Order, PlacesOf, SlowerAxes, Strided};
+use nd_access::{LentRow, LentRowsOf, Reader, RowByRow};
+use ndarray_layout::{KeptAxes, Lengths, LentAxes, Order, PlacesOf, Row, SlowerAxes, Strided};
 use std::iter::FusedIterator;
 use std::marker::Model;
 
@@ -53,6 +55,19 @@ impl<'a, T> Iter<'a, T> {
     }
 }
 
+/// A row, lent; `None` of none. The caller ensures that it has an item at each place.
+#[inline(always)]
+fn lent_row<'a, T>(reader: &Reader<'a, T>, row: Option<Row>) -> Option<LentRow<'a, T>>
+    requires { IfSome row (IsRowRead reader.now.marks (length reader.now.items)) }
+    ensures { result ≡ option_map (row_of reader.now.items) row }
+{
+    let row = row?;
+    Some(LentRow {
+        reader: reader.copied(),
+        row,
+    })
+}
+
 impl<'a, T, A: SlowerAxes> IterOf<'a, T, A> {
     /// The items at places, which the caller ensures to have marks.
     #[doc(hidden)]
@@ -84,6 +99,25 @@ impl<'a, T, A: SlowerAxes> IterOf<'a, T, A> {
         ensures { self.new ≡ take (length self.old - count) self.old }
     {
         self.places.advance_back(count);
+    }
+
+    /// The items that are left as rows: what is left of the row in progress, the rows that haven't begun, and what is left of the row
+    /// in progress at the back.
+    #[doc(hidden)]
+    #[inline(always)]
+    pub fn into_rows_left(
+        self,
+    ) -> (
+        Option<LentRow<'a, T>>,
+        LentRowsOf<'a, T, A>,
+        Option<LentRow<'a, T>>,
+    )
+        ensures { self.entry ≡ (items_of_row result.0 ++ rows_items result.1) ++ items_of_row result.2 }
+    {
+        let IterOf { reader, places } = self;
+        let (first, rows, last) = places.into_rows_left();
+        let (first, last) = (lent_row(&reader, first), lent_row(&reader, last));
+        (first, LentRowsOf::new(reader, rows), last)
     }
 }
 

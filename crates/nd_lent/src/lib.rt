@@ -16,7 +16,7 @@ pub use array_view::{ArrayView, Arrays, AxisChunksIter, AxisIter, BlocksIter, In
 pub use array_view_mut::{
     ArrayViewMut, AxisChunksIterMut, AxisIterMut, LanesMut, Parts, RowParts, SliceParts, TilesMut,
 };
-pub use nd_access::{LentRow, LentRows, RowItems, Taken};
+pub use nd_access::{LentRow, LentRows, LentRowsOf, RowItems, Taken};
 pub use nd_items::{IndexedIter, IndexedIterMut, IntoRows, Iter, IterMut, ViewIter};
 pub use nd_loops::{EqualTo, Unsigned};
 pub use rest::Rest;

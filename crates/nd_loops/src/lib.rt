@@ -20,7 +20,7 @@ mod zipping;
 pub use beside::{Beside, LentView, lent_view};
 pub use comparing::{EqualTo, have_equal_rows};
 pub use copying::push_rows;
-pub use folding::{fold_rest, fold_rows, rfold_rest};
+pub use folding::{fold_rest, fold_rows, fold_rows_left, rfold_rest};
 pub use mapping::{map_nearest, map_view};
 pub use nearest::{nearest_rows, nearest_rows_with, nearest_view, nearest_views};
 pub use pairs::{zip_nearest, zip_view};

@@ -1,9 +1,12 @@
 //! What the iterators of the sources get beside their `next`: a fold that takes row after row, and an `nth` that leaves out rows. Items that are
-//! lent are folded by `fold_rest` and `rfold_rest` of the sources, which are proved.
+//! lent are folded by `fold_rows_left`, `fold_rest` and `rfold_rest` of the sources, which are proved.
 
-/// Of the iterators over items that are lent.
+/// Of the iterators over items that are lent: what folds them, of what is asked of the iterator first.
 macro_rules! fold_lent {
     () => {
+        crate::arrays::fold_lent!(fold_rows_left into_rows_left);
+    };
+    ($fold:ident $($left:ident)?) => {
         crate::arrays::skip!();
 
         #[inline]
@@ -18,11 +21,19 @@ macro_rules! fold_lent {
 
         #[inline(always)]
         fn fold<B, F: FnMut(B, &'a T) -> B>(self, init: B, f: F) -> B {
-            crate::lent::nd_loops::fold_rest(self, init, f)
+            crate::lent::nd_loops::$fold(self$(.$left())?, init, f)
         }
     };
 }
 pub(crate) use fold_lent;
+
+/// Of those of one row.
+macro_rules! fold_row {
+    () => {
+        crate::arrays::fold_lent!(fold_rest);
+    };
+}
+pub(crate) use fold_row;
 
 /// Of the same, from the back.
 macro_rules! rfold_lent {

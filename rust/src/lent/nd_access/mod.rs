@@ -27,4 +27,4 @@ mod rows;
 pub use cells::{Cells, Reader};
 pub use row_by_row::RowByRow;
 pub use row_items::RowItems;
-pub use rows::{LentRow, LentRows, is_contiguous, place_in_row};
+pub use rows::{LentRow, LentRows, LentRowsOf, is_contiguous, place_in_row};

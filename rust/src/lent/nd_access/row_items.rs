@@ -148,7 +148,7 @@ impl<'a, T> Iterator for RowItems<'a, T> {
         (left, Some(left))
     }
 
-    crate::arrays::fold_lent!();
+    crate::arrays::fold_row!();
 }
 
 impl<'a, T> DoubleEndedIterator for RowItems<'a, T> {

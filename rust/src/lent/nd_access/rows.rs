@@ -3,7 +3,7 @@
 
 use crate::lent::nd_access::cells::Reader;
 use crate::memory::prelude::Vec;
-use crate::ndarray_layout::{Row, Rows};
+use crate::ndarray_layout::{LentAxes, Row, RowsOf, SlowerAxes};
 use core::iter::FusedIterator;
 
 /// A row of an array: items that lie evenly among those that are lent. There is at least one. ndarray's one-dimensional
@@ -219,13 +219,17 @@ impl<'a, T> LentRow<'a, T> {
     }
 }
 
-/// The rows of an array that are still to come, in row-major order, from both ends, each lent.
-pub struct LentRows<'a, T> {
+/// Rows of an array that are still to come, in row-major order, from both ends, each lent: `LentRows` where the view is
+/// borrowed.
+pub struct LentRowsOf<'a, T, A: SlowerAxes> {
     reader: Reader<'a, T>,
-    rows: Rows<'a>,
+    rows: RowsOf<A>,
 }
 
-impl<'a, T> LentRows<'a, T> {
+/// The rows of an array that are still to come, in row-major order, from both ends, each lent.
+pub type LentRows<'a, T> = LentRowsOf<'a, T, LentAxes<'a>>;
+
+impl<'a, T, A: SlowerAxes> LentRowsOf<'a, T, A> {
     /// These rows, each lent.
     ///
     /// # Conditions
@@ -236,13 +240,13 @@ impl<'a, T> LentRows<'a, T> {
     ///
     /// ```text
     /// requires AreRowsRead reader.marks (length reader.items) rows
-    /// ensures result ≡ map (row_of reader.entry.items) rows.entry
+    /// ensures result ≡ map (row_of reader.entry.items) rows
     /// ```
     /// [How to read it](crate::contracts)
     /// </details>
     #[inline]
-    pub(in crate::lent) fn new(reader: Reader<'a, T>, rows: Rows<'a>) -> Self {
-        LentRows { reader, rows }
+    pub(in crate::lent) fn new(reader: Reader<'a, T>, rows: RowsOf<A>) -> Self {
+        LentRowsOf { reader, rows }
     }
 
     /// How many items each row has; unspecified where none is left.
@@ -260,7 +264,7 @@ impl<'a, T> LentRows<'a, T> {
     }
 }
 
-impl<'a, T> Iterator for LentRows<'a, T> {
+impl<'a, T, A: SlowerAxes> Iterator for LentRowsOf<'a, T, A> {
     type Item = LentRow<'a, T>;
 
     #[inline]
@@ -275,7 +279,7 @@ impl<'a, T> Iterator for LentRows<'a, T> {
     }
 }
 
-impl<'a, T> DoubleEndedIterator for LentRows<'a, T> {
+impl<'a, T, A: SlowerAxes> DoubleEndedIterator for LentRowsOf<'a, T, A> {
     #[inline]
     fn next_back(&mut self) -> Option<LentRow<'a, T>> {
         let row = self.rows.next_back()?;
@@ -283,11 +287,11 @@ impl<'a, T> DoubleEndedIterator for LentRows<'a, T> {
     }
 }
 
-impl<T> ExactSizeIterator for LentRows<'_, T> {
+impl<T, A: SlowerAxes> ExactSizeIterator for LentRowsOf<'_, T, A> {
     #[inline]
     fn len(&self) -> usize {
         self.rows.len()
     }
 }
 
-impl<T> FusedIterator for LentRows<'_, T> {}
+impl<T, A: SlowerAxes> FusedIterator for LentRowsOf<'_, T, A> {}

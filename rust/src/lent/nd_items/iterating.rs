@@ -1,9 +1,9 @@
 // Made by `rust/erase` of `crates/nd_items/src/iterating.rt`: edit that.
 //! The items of an array one after another, each lent, without a list of them.
 
-use crate::lent::nd_access::{LentRow, Reader, RowByRow};
+use crate::lent::nd_access::{LentRow, LentRowsOf, Reader, RowByRow};
 use crate::memory::prelude::Vec;
-use crate::ndarray_layout::{KeptAxes, Lengths, LentAxes, Order, PlacesOf, SlowerAxes, Strided};
+use crate::ndarray_layout::{KeptAxes, Lengths, LentAxes, Order, PlacesOf, Row, SlowerAxes, Strided};
 use core::iter::FusedIterator;
 
 /// The items of an array that are still to come, in row-major order of their indices, from both ends, each lent: `Iter`
@@ -68,6 +68,26 @@ impl<'a, T> Iter<'a, T> {
         assert!(crate::arrays::has_items(view, items.len()), "an index of the view is past the items");
         IterOf::of_reader(Reader::of_slice(items), view.iter_places(Order::RowMajor))
     }
+}
+
+/// A row, lent; `None` of none.
+///
+/// # Conditions
+///
+/// The caller ensures that it has an item at each place. Otherwise the behaviour is undefined.
+///
+/// <details><summary>Contract (proved)</summary>
+///
+/// ```text
+/// requires IfSome row (IsRowRead reader.now.marks (length reader.now.items))
+/// ensures result ≡ option_map (row_of reader.now.items) row
+/// ```
+/// [How to read it](crate::contracts)
+/// </details>
+#[inline(always)]
+fn lent_row<'a, T>(reader: &Reader<'a, T>, row: Option<Row>) -> Option<LentRow<'a, T>> {
+    let row = row?;
+    Some(LentRow { reader: reader.copied(), row })
 }
 
 impl<'a, T, A: SlowerAxes> IterOf<'a, T, A> {
@@ -170,6 +190,26 @@ impl<'a, T, A: SlowerAxes> IterOf<'a, T, A> {
     #[inline]
     pub fn advance_back(&mut self, count: usize) {
         self.places.advance_back(count);
+    }
+
+    /// The items that are left as rows: what is left of the row in progress, the rows that haven't begun, and what is left of the row
+    /// in progress at the back.
+    ///
+    /// <details><summary>Contract (proved)</summary>
+    ///
+    /// ```text
+    /// ensures self.entry ≡ (items_of_row result.0 ++ rows_items result.1) ++ items_of_row result.2
+    /// ```
+    /// [How to read it](crate::contracts)
+    /// </details>
+    #[inline(always)]
+    pub(in crate::lent) fn into_rows_left(
+        self,
+    ) -> (Option<LentRow<'a, T>>, LentRowsOf<'a, T, A>, Option<LentRow<'a, T>>) {
+        let IterOf { reader, places } = self;
+        let (first, rows, last) = places.into_rows_left();
+        let (first, last) = (lent_row(&reader, first), lent_row(&reader, last));
+        (first, LentRowsOf::new(reader, rows), last)
     }
 }
 

@@ -27,7 +27,7 @@ mod split_views;
 mod views;
 mod zip;
 
-pub use crate::lent::nd_access::{LentRow, LentRows, RowItems};
+pub use crate::lent::nd_access::{LentRow, LentRows, LentRowsOf, RowItems};
 pub use crate::lent::nd_items::{IndexedIter, IndexedIterMut, IntoRows, Iter, IterMut, ViewIter};
 pub use crate::lent::nd_loops::{EqualTo, Unsigned};
 pub use array_view::{ArrayView, Arrays, AxisChunksIter, AxisIter, BlocksIter};

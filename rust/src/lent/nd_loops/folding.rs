@@ -1,8 +1,9 @@
 // Made by `rust/erase` of `crates/nd_loops/src/folding.rt`: edit that.
 //! A function that is called at each item of an array in turn, row by row.
 
-use crate::lent::nd_access::{LentRow, LentRows, RowByRow};
+use crate::lent::nd_access::{LentRow, LentRows, LentRowsOf, RowByRow};
 use crate::lent::nd_loops::few::lent_by_stride;
+use crate::ndarray_layout::SlowerAxes;
 
 /// Calls a function with a total and an item, and hands it back.
 ///
@@ -208,17 +209,60 @@ fn rfold_row<'a, T, B, F: FnMut(B, &'a T) -> B>(row: &LentRow<'a, T>, init: B, f
 /// ```text
 /// requires few: 0 < few → All (λ row. few ≡ row.row.len) rows
 /// requires callable: CallableInFold lends F.FnMut (rows_items rows) f init
-/// ensures FoldsItems lends F.FnMut (rows_items rows.entry) f init result
+/// ensures HasFolded F.FnMut (f, init) (rows_items rows.entry) (result.1, result.0)
 /// ```
 /// [How to read it](crate::contracts)
 /// </details>
 #[inline(always)]
-fn fold_each<'a, T, B, F: FnMut(B, &'a T) -> B>(rows: LentRows<'a, T>, few: usize, init: B, f: F) -> B {
+fn fold_each<'a, T, A: SlowerAxes, B, F: FnMut(B, &'a T) -> B>(
+    rows: LentRowsOf<'a, T, A>,
+    few: usize,
+    init: B,
+    f: F,
+) -> (B, F) {
     let (mut total, mut f) = (init, f);
     for row in rows {
         (total, f) = fold_row(&row, few, total, f);
     }
-    total
+    (total, f)
+}
+
+/// Folds the items of rows, one row after another, and hands back the function: rows of 2 to 4 items by their number, which rustc knows.
+///
+/// <details><summary>Contract (proved)</summary>
+///
+/// ```text
+/// requires CallableInFold lends F.FnMut (rows_items rows) f init
+/// ensures HasFolded F.FnMut (f, init) (rows_items rows.entry) (result.1, result.0)
+/// ```
+/// [How to read it](crate::contracts)
+/// </details>
+#[inline(always)]
+fn fold_all<'a, T, A: SlowerAxes, B, F: FnMut(B, &'a T) -> B>(rows: LentRowsOf<'a, T, A>, init: B, f: F) -> (B, F) {
+    match rows.row_len() {
+        2 => fold_each(rows, 2, init, f),
+        3 => fold_each(rows, 3, init, f),
+        4 => fold_each(rows, 4, init, f),
+        _ => fold_each(rows, 0, init, f),
+    }
+}
+
+/// Folds the items of a row, and hands back the function; of no row there are none.
+///
+/// <details><summary>Contract (proved)</summary>
+///
+/// ```text
+/// requires CallableInFold lends F.FnMut (items_of_row row) f init
+/// ensures HasFolded F.FnMut (f, init) (items_of_row row.entry) (result.1, result.0)
+/// ```
+/// [How to read it](crate::contracts)
+/// </details>
+#[inline(always)]
+fn fold_end<'a, T, B, F: FnMut(B, &'a T) -> B>(row: Option<LentRow<'a, T>>, init: B, f: F) -> (B, F) {
+    match row {
+        Some(row) => fold_row(&row, 0, init, f),
+        None => (init, f),
+    }
 }
 
 /// Folds the items of rows, one row after another.
@@ -233,12 +277,30 @@ fn fold_each<'a, T, B, F: FnMut(B, &'a T) -> B>(rows: LentRows<'a, T>, few: usiz
 /// </details>
 #[inline(always)]
 pub fn fold_rows<'a, T, B, F: FnMut(B, &'a T) -> B>(rows: LentRows<'a, T>, init: B, f: F) -> B {
-    match rows.row_len() {
-        2 => fold_each(rows, 2, init, f),
-        3 => fold_each(rows, 3, init, f),
-        4 => fold_each(rows, 4, init, f),
-        _ => fold_each(rows, 0, init, f),
-    }
+    fold_all(rows, init, f).0
+}
+
+/// What `fold` of std's iterators returns of items that are left as rows: what is left of one, rows that haven't begun, and what is left
+/// of one at the back.
+///
+/// <details><summary>Contract (proved)</summary>
+///
+/// ```text
+/// requires callable: CallableInFold lends F.FnMut ((items_of_row left.0 ++ rows_items left.1) ++ items_of_row left.2) f init
+/// ensures ran: FoldsItems lends F.FnMut ((items_of_row left.entry.0 ++ rows_items left.entry.1) ++ items_of_row left.entry.2) f init result
+/// ```
+/// [How to read it](crate::contracts)
+/// </details>
+#[inline(always)]
+pub fn fold_rows_left<'a, T, A: SlowerAxes, B, F: FnMut(B, &'a T) -> B>(
+    left: (Option<LentRow<'a, T>>, LentRowsOf<'a, T, A>, Option<LentRow<'a, T>>),
+    init: B,
+    f: F,
+) -> B {
+    let (first, rows, last) = left;
+    let (total, f) = fold_end(first, init, f);
+    let (total, f) = fold_all(rows, total, f);
+    fold_end(last, total, f).0
 }
 
 /// What `fold` of std's iterators returns of the items that are left, row by row: one whose items follow one another is a loop over a

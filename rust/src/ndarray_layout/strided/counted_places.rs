@@ -164,6 +164,9 @@ impl<A: SlowerAxes> CountedPlaces<A> {
     /// ```text
     /// ensures places: self ≡ (places_of_row result.0 ++ rows_places result.1) ++ places_of_row result.2
     /// ensures some: All (λ row. 0 < row.len) result.1
+    /// ensures views: All (λ row. IsView (row_view row)) result.1
+    /// ensures first: IfSome result.0 (λ row. (0 < row.len) × IsView (row_view row))
+    /// ensures last: IfSome result.2 (λ row. (0 < row.len) × IsView (row_view row))
     /// ```
     /// [How to read it](crate::contracts)
     /// </details>

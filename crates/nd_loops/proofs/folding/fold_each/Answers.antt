@@ -5,7 +5,7 @@ use Rattle.nd_loops.proofs.Laws.Few.{first_few, others_few}
 use Rattle.nd_access.specs.LentRow.{row_items, rows_items}
 use Rattle.nd_access.specs.Lending.{lends}
 use Rattle.nd_access.specs.Folded.{HasFolded}
-use Rattle.nd_access.proofs.Laws.Folding.{all_folded, both_called, callable_after, callable_in_part, none_called}
+use Rattle.nd_access.proofs.Laws.Folding.{both_called, callable_after, callable_in_part, none_called}
 use Rattle.nd_loops.proofs.folding.fold_each.Goals as goal
 
 pub fold_row-requires : goal.fold_row-requires
@@ -30,6 +30,6 @@ loop-row-preserved g c =
 
 pub returns : goal.returns
 returns g c =
-    all_folded (c.loop-row.invariant.folded c.loop-row.f c.loop-row.total
+    c.loop-row.invariant.folded c.loop-row.f c.loop-row.total
     (subst (λ items. HasFolded g.F.FnMut (c.loop-row.f, c.loop-row.total) items (c.loop-row.f, c.loop-row.total))
-    (sym (ap rows_items c.in-None.ensures.steps.0)) none_called))
+    (sym (ap rows_items c.in-None.ensures.steps.0)) none_called)

@@ -1,6 +1,6 @@
 -- What is left is a row in progress, rows, and a row in progress at the back.
 use Rattle.std.proofs.Common.{◌≡◌, ℕ, ◌-◌, ◌<◌, ◌++◌, pos, ◌+ℤ◌, ℤ, of_z, to_z, w64, Option, Some, None, subst, sym, ap, ◌∙◌, arith}
-use Rattle.std.specs.Prelude.{MatchOption}
+use Rattle.std.specs.Prelude.{IfSome, MatchOption}
 use Rattle.std.proofs.lemmas.Int.{ints}
 use Rattle.ndarray_layout.specs.declared.strided.rows.Row.{Row}
 use Rattle.ndarray_layout.specs.PlacesLeft.{places_of_row}
@@ -8,12 +8,25 @@ use Rattle.ndarray_layout.specs.Rows.{row_places, rows_places}
 use Rattle.ndarray_layout.specs.View.{IsPlace}
 use Rattle.ndarray_layout.proofs.BothEnds.{All-rows, parts}
 use Rattle.ndarray_layout.proofs.ByRows.{row_from}
+use Rattle.ndarray_layout.proofs.RowViews.{back_is_view, between_are_views, front_is_view}
 use Rattle.ndarray_layout.proofs.RowSteps.{bounds_of_place, next_in_bounds}
 use Rattle.ndarray_layout.proofs.strided.counted_places.CountedPlaces.into_rows_left.Goals as goal
 
--- the places of what is left of a row, and of one that is taken
-rest_places : (place left : ℕ) (stride : ℤ) (rest : Option Row) → MatchOption rest (left ≡ 1) (λ row. (1 < left)
-    × (pos row.start ≡ pos place +ℤ stride) × (row.stride ≡ stride) × (row.len ≡ left - 1))
+abbrev IsRest : ℕ → ℕ → ℤ → Option Row → Type 0
+IsRest place left stride rest = MatchOption rest (left ≡ 1) (λ row. (1 < left) × (pos row.start ≡ pos place +ℤ stride)
+    × (row.stride ≡ stride) × (row.len ≡ left - 1))
+
+-- the places of what is left of a row, and of one that is taken, each of which has some
+rest_has_some : (place left : ℕ) (stride : ℤ) (rest : Option Row) → IsRest place left stride rest → IfSome rest (λ row. 0 < row.len)
+rest_has_some place left stride None one = tt
+rest_has_some place left stride (Some row) (more, _, _, count) = omega (arith, more, count)
+
+taken_has_some : (last : Row) (taken : Option Row) → MatchOption taken (last.len ≡ 0) (λ row. (0 < row.len) × (row ≡ last))
+    → IfSome taken (λ row. 0 < row.len)
+taken_has_some last None none = tt
+taken_has_some last (Some row) (some, _) = some
+
+rest_places : (place left : ℕ) (stride : ℤ) (rest : Option Row) → IsRest place left stride rest
     → places_of_row rest ≡ row_from (pos place +ℤ stride) stride (left - 1)
 rest_places place left stride None one =
     let none : 0 ≡ left - 1 = omega (arith, one) in
@@ -48,3 +61,19 @@ returns-clause-places g c =
 
 pub returns-clause-some : goal.returns-clause-some
 returns-clause-some g c = All-rows c.self.inside.rows c.self.inside.back (λ row. 0 < row.len) c.self.invariant.1.some
+
+pub returns-clause-views : goal.returns-clause-views
+returns-clause-views g c =
+    between_are_views c.rest_of_row.result c.self.inside.rows c.take.result (c.self.view_is ∙ returns-clause-places g c)
+    c.self.invariant.1.in_bounds c.self.invariant.1.fits (returns-clause-some g c)
+
+pub returns-clause-first : goal.returns-clause-first
+returns-clause-first g c =
+    front_is_view c.rest_of_row.result c.self.inside.rows c.take.result (c.self.view_is ∙ returns-clause-places g c)
+    c.self.invariant.1.in_bounds c.self.invariant.1.fits (rest_has_some c.self.inside.place c.self.inside.left
+    (to_z w64 (of_z w64 c.self.inside.stride)) c.rest_of_row.result c.rest_of_row.ensures)
+
+pub returns-clause-last : goal.returns-clause-last
+returns-clause-last g c =
+    back_is_view c.rest_of_row.result c.self.inside.rows c.take.result (c.self.view_is ∙ returns-clause-places g c)
+    c.self.invariant.1.in_bounds c.self.invariant.1.fits (taken_has_some c.self.inside.back c.take.result c.take.ensures.row)

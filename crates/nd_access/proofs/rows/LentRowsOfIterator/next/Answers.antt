@@ -1,6 +1,6 @@
 -- The row has its items, and so have the other rows.
 use Rattle.nd_access.proofs.Laws.Read.{first_row_read, other_rows_read}
-use Rattle.nd_access.proofs.rows.LentRowsIterator.next.Goals as goal
+use Rattle.nd_access.proofs.rows.LentRowsOfIterator.next.Goals as goal
 
 pub invariant_of-result : goal.invariant_of-result
 invariant_of-result g c =

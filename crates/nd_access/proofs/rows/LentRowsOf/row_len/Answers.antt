@@ -3,7 +3,7 @@ use Rattle.std.proofs.Common.{◌≡◌, subst}
 use Rattle.std.specs.List.{All}
 use Rattle.std.proofs.lemmas.List.Elements.{All-map}
 use Rattle.nd_access.specs.LentRow.{RowValue, row_of}
-use Rattle.nd_access.proofs.rows.LentRows.row_len.Goals as goal
+use Rattle.nd_access.proofs.rows.LentRowsOf.row_len.Goals as goal
 
 pub returns : goal.returns
 returns g c =

@@ -1,6 +1,6 @@
 -- The row has its items, and so have the other rows.
 use Rattle.nd_access.proofs.Laws.Read.{last_row_read, rows_before_read}
-use Rattle.nd_access.proofs.rows.LentRowsDoubleEndedIterator.next_back.Goals as goal
+use Rattle.nd_access.proofs.rows.LentRowsOfDoubleEndedIterator.next_back.Goals as goal
 
 pub invariant_of-result : goal.invariant_of-result
 invariant_of-result g c =
