@@ -113,4 +113,4 @@ def ns(call, parts):
 
 for name, ours, theirs, parts in ROWS:
     print(name, ns(ours, parts), ns(theirs, parts), sep="\t")
-print("import, after NumPy", imported("ndarray_layout"), imported("numpy.lib.stride_tricks"), sep="\t")
+print("import, after NumPy", imported("ndarray_layout"), sep="\t")
