@@ -65,11 +65,11 @@ pub trait Beside: Sized + Drop {
         ensures valid { (lens : List ℕ) → have_shape self.now lens
             → All (λ strides. IsValidLayout lens (all_signed strides)) (layouts self.now) };
 
-    /// The stride of an axis of the array of a number.
+    /// The stride of an axis of the array of a number; any number where there is no such axis.
     fn stride(&self, number: usize, axis: usize) -> usize
-        requires few { length (layouts self.now) ≤ 5 }
-        requires exists { axis < length (slice_index_or (layouts self.now) number []) }
-        ensures { result ≡ slice_index (slice_index_or (layouts self.now) number []) axis };
+        requires { length (layouts self.now) ≤ 5 }
+        ensures { axis < length (slice_index_or (layouts self.now) number []) →
+            result ≡ slice_index (slice_index_or (layouts self.now) number []) axis };
 
     /// The rows along joined axes, of which `along` has the stride in each array (`joined_in_each`).
     fn into_rows(self, lens: &[usize], joined: (usize, usize), along: &[usize]) -> Self::Rows
@@ -111,6 +111,18 @@ pub(crate) fn number_at(numbers: &[usize], axis: usize) -> usize
     ensures { result ≡ slice_index numbers.now axis }
 {
     numbers[axis]
+}
+
+/// The number of an axis; 0 where there is no such axis.
+#[inline(always)]
+fn number_or_zero(numbers: &[usize], axis: usize) -> usize
+    ensures { axis < length numbers.now → result ≡ slice_index numbers.now axis }
+{
+    if axis < numbers.len() {
+        numbers[axis]
+    } else {
+        0
+    }
 }
 
 /// A row by the stride -1 as a number that rustc knows, where that is its stride; else `None`.
@@ -272,7 +284,7 @@ impl<'a, U> Beside for LentView<'a, U> {
 
     #[inline(always)]
     fn stride(&self, _number: usize, axis: usize) -> usize {
-        number_at(self.strides, axis)
+        number_or_zero(self.strides, axis)
     }
 
     #[inline(always)]

@@ -40,14 +40,14 @@ pub trait Beside: Sized + Sized {
     /// </details>
     fn count(&self) -> usize;
 
-    /// The stride of an axis of the array of a number.
+    /// The stride of an axis of the array of a number; any number where there is no such axis.
     ///
     /// <details><summary>Contract (proved)</summary>
     ///
     /// ```text
-    /// requires few: length (layouts self.now) ≤ 5
-    /// requires exists: axis < length (slice_index_or (layouts self.now) number [])
-    /// ensures result ≡ slice_index (slice_index_or (layouts self.now) number []) axis
+    /// requires length (layouts self.now) ≤ 5
+    /// ensures axis < length (slice_index_or (layouts self.now) number []) →
+    ///     result ≡ slice_index (slice_index_or (layouts self.now) number []) axis
     /// ```
     /// [How to read it](crate::contracts)
     /// </details>
@@ -139,6 +139,20 @@ pub trait Beside: Sized + Sized {
 #[inline(always)]
 pub(crate) fn number_at(numbers: &[usize], axis: usize) -> usize {
     numbers[axis]
+}
+
+/// The number of an axis; 0 where there is no such axis.
+///
+/// <details><summary>Contract (proved)</summary>
+///
+/// ```text
+/// ensures axis < length numbers.now → result ≡ slice_index numbers.now axis
+/// ```
+/// [How to read it](crate::contracts)
+/// </details>
+#[inline(always)]
+fn number_or_zero(numbers: &[usize], axis: usize) -> usize {
+    if axis < numbers.len() { numbers[axis] } else { 0 }
 }
 
 /// A row by the stride -1 as a number that rustc knows, where that is its stride; else `None`.
@@ -254,7 +268,7 @@ impl<'a, U> Beside for LentView<'a, U> {
 
     #[inline(always)]
     fn stride(&self, _number: usize, axis: usize) -> usize {
-        number_at(self.strides, axis)
+        number_or_zero(self.strides, axis)
     }
 
     #[inline(always)]
