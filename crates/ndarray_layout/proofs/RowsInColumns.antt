@@ -13,7 +13,7 @@ use Rattle.ndarray_layout.specs.View.{View, IsPlace}
 use Rattle.ndarray_layout.proofs.NumberedRows.{left_between, lesser}
 use Rattle.ndarray_layout.proofs.RowColumns.{after_fits, left_of_column, next_fits, next_of_column}
 
--- a row of a column is left, and so many were given before
+-- a row of a column is left, after that number of rows
 pub record HasRowInColumn (order : Order) (view : View) (len : ℕ) (columns : Columns) (back : InColumn) (end given : ℕ)
     (next : InColumn × ℕ) : Type 0 where
   pub left : AreRowsInColumns order view len columns next.0 back next.1 end

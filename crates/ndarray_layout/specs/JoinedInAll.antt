@@ -27,7 +27,7 @@ abbrev pub joined_view : Order → ℕ → List ℕ → List ℕ → ℕ → ℕ
 joined_view order start lens strides count len stride =
     view_of start (with_item order (slower_than order count lens) len) (with_item order (slower_than order count strides) stride)
 
--- the lengths of the rows along so many fastest axes, joined into one of this length: each row begins at a place of the slower axes
+-- the lengths of the rows along the `count` fastest axes, joined into one of this length: each row begins at a place of the slower axes
 abbrev pub row_lens : Order → List ℕ → ℕ → ℕ → List ℕ
 row_lens order lens count len = replicate (if len == 0 then 0 else size (slower_than order count lens)) len
 

@@ -1,4 +1,4 @@
--- So far both halves make up the sum, and neither is more than so many halves.
+-- Both halves make up the sum of the items so far, each at most 2 ^ 32 for each item.
 use Rattle.std.proofs.Common.{◌≡◌, ◌+◌, ◌*◌, ◌≤◌, ◌^◌, take}
 use Rattle.std.specs.List.{sum_by}
 use Rattle.nd_loops.proofs.summing.sum_few.Given as goal

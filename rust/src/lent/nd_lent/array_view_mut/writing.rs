@@ -51,7 +51,7 @@ impl<'a, T: Sized, D: Lengths> ArrayViewMut<'a, T, D> {
     }
 }
 
-/// How many indices a part has at most whose axes aren't sorted to fill it: that takes longer than to write so many items.
+/// A part of at most this many indices is filled without a sort of its axes, which takes longer than to write its items.
 const FEW: usize = 16;
 
 impl<'a, T: Sized + Clone, D: Lengths> ArrayViewMut<'a, T, D> {
